@@ -1,0 +1,191 @@
+-- "Measured examples": the starred rows and some of our own as one table, and the test of a row. Assumes nothing.
+use mathlib.Core.Bool.{Bool, true, false, not, _&&_, Bool·beq}
+use mathlib.Core.List.{List, [], _∷_, _++_, map}
+use mathlib.Core.Option.{Option}
+use Prim.Native.Nat.{ℕ, _+_, _^_}
+use Prim.Native.String.{String}
+use lib.Dec.{eqb}
+use Rattle.aiger.specs.Lists.{same, upto}
+use Rattle.aiger.specs.Text.{bytes, digits}
+use Rattle.aiger.specs.Circuit.{Circuit}
+use Rattle.aiger.specs.Load.{Answer, refused, gives, load}
+use Rattle.aiger.specs.Frames.{run, freeBits}
+use Rattle.aiger.specs.Search.{Outcome, found, none, spent, permitted}
+use Rattle.aiger.specs.Write.{write}
+use Rattle.aiger.specs.Fold.{folds}
+use Rattle.aiger.specs.Witness.{readWitness, witness, confirms}
+use Rattle.aiger.specs.Operations.{searchTests, foldTests}
+
+-- what the search program prints for an outcome
+unfoldable pub report : Circuit → ℕ → Outcome → List ℕ
+report c b (found t x) = bytes "found " ++ digits t ++ bytes "\n" ++ witness b (run c t x)
+report c b (none k) = bytes "none " ++ digits k ++ bytes "\n"
+report c b (spent t) = bytes "spent " ++ digits t ++ bytes "\n"
+
+unfoldable pub keep : {A : Type 0} → (A → Bool) → List A → List A
+keep p [] = []
+keep p (x ∷ xs) = elim (p x) [ true ↦ x ∷ keep p xs | false ↦ keep p xs ]
+
+unfoldable pub join : {A B : Type 0} → (A → List B) → List A → List B
+join f [] = []
+join f (x ∷ xs) = f x ++ join f xs
+
+-- every outcome that a bound k leaves
+unfoldable pub outcomes : Circuit → ℕ → List Outcome
+outcomes c k =
+    join (λ t. map (found t) (upto (2 ^ freeBits c t))) (upto (k + 1)) ++ (none k ∷ []) ++ map spent (upto (k + 1))
+
+-- the texts are the same, one by one
+unfoldable pub sameTexts : List (List ℕ) → List String → Bool
+sameTexts [] [] = true
+sameTexts [] (y ∷ ys) = false
+sameTexts (x ∷ xs) [] = false
+sameTexts (x ∷ xs) (y ∷ ys) = same x (bytes y) && sameTexts xs ys
+
+-- the number of a refusal, 0 where there is none
+unfoldable pub refusalOf : {A : Type 0} → Answer A → ℕ
+refusalOf (refused n) = n
+refusalOf (gives a) = 0
+
+pub data Example : Type 0 where
+  -- file, b, k, D, and what may be answered: these answers and no others
+  searched : String → ℕ → ℕ → ℕ → List String → Example
+  -- file, b, k, D, the words of working memory, the bytes of output, and the number of the refusal, 0 for none
+  searchRefused : String → ℕ → ℕ → ℕ → ℕ → ℕ → ℕ → Example
+  -- file, witness, and yes or no
+  replayed : String → String → Bool → Example
+  -- file, and a text that is no witness
+  noWitness : String → String → Example
+  -- file, b, t, a text, and whether fold may write it
+  folded : String → ℕ → ℕ → String → Bool → Example
+  -- file, b, t, the words of working memory, the bytes of output, and the number of the refusal, 0 for none
+  foldRefused : String → ℕ → ℕ → ℕ → ℕ → ℕ → Example
+  -- file, and what write gives
+  written : String → String → Example
+  -- words of circuit memory, file, and the number of the refusal, 0 for none
+  refusal : ℕ → String → ℕ → Example
+
+unfoldable pub onLoaded : String → (Circuit → Bool) → Bool
+onLoaded f p = elim (load 8192 (bytes f)) [ refused n ↦ false | gives c ↦ p c ]
+
+unfoldable pub holds : Example → Bool
+holds (searched f b k D answers) = onLoaded f (λ c. sameTexts (map (report c b) (keep (permitted c b k D) (outcomes c k))) answers)
+holds (searchRefused f b k D room len n) = onLoaded f (λ c. eqb (refusalOf (searchTests c b k D room len)) n)
+holds (replayed f w says) = onLoaded f (λ c. elim (readWitness c (bytes w)) [ Option.none ↦ false | Option.some x ↦ Bool·beq (confirms c x) says ])
+holds (noWitness f w) = onLoaded f (λ c. elim (readWitness c (bytes w)) [ Option.none ↦ true | Option.some x ↦ false ])
+holds (folded f b t w says) = onLoaded f (λ c. onLoaded w (λ d. same (write d) (bytes w) && Bool·beq (folds c b t d) says))
+holds (foldRefused f b t room len n) = onLoaded f (λ c. eqb (refusalOf (foldTests c b t room len)) n)
+holds (written f w) = onLoaded f (λ c. same (write c) (bytes w))
+holds (refusal room f n) = eqb (refusalOf (load room (bytes f))) n
+
+-- document 01's shift register: two latches after one input, bad when both are true
+abbrev S : String
+S = "aag 4 1 2 0 1 1\n2\n4 2\n6 4\n8\n8 4 6\n"
+
+-- an input and a free latch; bad is the latch, the constraint forbids the input
+abbrev F : String
+F = "aag 2 1 1 0 0 1 1\n2\n4 4 4\n4\n3\n"
+
+-- a free latch that keeps its value, and an input; bad when the input is true and the latch false
+abbrev G : String
+G = "aag 3 1 1 0 1 1\n2\n4 4 4\n6\n6 2 5\n"
+
+-- two inputs; bad when they differ, by three gates
+abbrev X : String
+X = "aag 5 2 0 0 3 1\n2\n4\n11\n6 2 5\n8 3 4\n10 7 9\n"
+
+-- the rows that document 01 stars, in its order
+unfoldable pub starred : List Example
+starred =
+    searched S 0 3 16 ("found 2\n1\nb0\n00\n1\n1\n0\n.\n" ∷ [])
+    ∷ searched S 0 1 16 ("none 1\n" ∷ [])
+    ∷ searched S 0 2 7 ("found 2\n1\nb0\n00\n1\n1\n0\n.\n" ∷ [])
+    ∷ searched S 0 2 6 ("found 2\n1\nb0\n00\n1\n1\n0\n.\n" ∷ "spent 2\n" ∷ [])
+    ∷ replayed S "1\nb0\n00\n0\n1\n0\n.\n" false
+    ∷ replayed S "1\nb0\n10\n1\n1\n0\n.\n" false
+    ∷ folded S 0 2 "aag 4 3 0 1 1 0 0\n2\n4\n6\n8\n8 4 2\n" true
+    ∷ searched "aag 2 1 0 0 1 1\n2\n4\n4 2 3\n" 0 0 2 ("none 0\n" ∷ [])
+    ∷ searched "aag 1 0 1 0 0 1\n2 2 2\n2\n" 0 0 2 ("found 0\n1\nb0\n1\n\n.\n" ∷ [])
+    ∷ refusal 8192 "aag 1 1 0 0 0\n3\n" 6
+    ∷ refusal 8192 "aag 1 0 0 1 0\n2\n" 7
+    ∷ refusal 8192 "aag 2 0 0 0 2\n2 4 4\n4 2 2\n" 8
+    ∷ []
+
+-- rows of our own: each catches a mistake that the starred ones let pass
+unfoldable pub further : List Example
+further =
+    -- constraints, resets and free starts
+    searched "aag 1 1 0 0 0 1 1\n2\n2\n3\n" 0 0 2 ("none 0\n" ∷ [])
+    ∷ searched "aag 1 0 1 0 0 1\n2 2 1\n2\n" 0 0 2 ("found 0\n1\nb0\n1\n\n.\n" ∷ [])
+    ∷ searched F 0 0 2 ("found 0\n1\nb0\n1\n0\n.\n" ∷ "spent 0\n" ∷ [])
+    ∷ searched G 0 0 4 ("found 0\n1\nb0\n0\n1\n.\n" ∷ [])
+    ∷ searched X 0 0 1 ("found 0\n1\nb0\n\n01\n.\n" ∷ "spent 0\n" ∷ [])
+    -- a constraint counts in the frame of the hit alone
+    ∷ searched "aag 3 1 1 0 0 1 1\n2\n4 2\n4\n3\n" 0 1 4 ("found 1\n1\nb0\n0\n1\n0\n.\n" ∷ [])
+    -- the second of two bad lines
+    ∷ searched "aag 1 1 0 0 0 2\n2\n2\n3\n" 1 0 2 ("found 0\n1\nb1\n\n0\n.\n" ∷ [])
+    -- numbers 10 to 13: S at bound 254 has size 511, at 255 513
+    ∷ searchRefused S 1 256 0 0 0 10
+    ∷ searchRefused S 0 256 16 8192 2048 11
+    ∷ searchRefused S 0 254 0 8192 2048 11
+    ∷ searchRefused S 0 254 4294967297 8192 2048 11
+    ∷ searchRefused S 0 255 16 8192 2048 12
+    ∷ searchRefused S 0 254 16 8175 2048 12
+    ∷ searchRefused S 0 254 4294967296 8176 520 0
+    ∷ searchRefused S 0 254 16 8176 519 13
+    ∷ searchRefused "aag 0 0 0 0 0\n" 0 0 1 8192 2048 10
+    ∷ foldRefused S 1 256 0 0 10
+    ∷ foldRefused S 0 256 8192 2048 11
+    ∷ foldRefused S 0 255 8192 99999 12
+    ∷ foldRefused S 0 2 112 232 0
+    ∷ foldRefused S 0 2 111 232 12
+    ∷ foldRefused S 0 2 112 231 13
+    -- replay
+    ∷ replayed S "1\nb0\n00\n1\n1\n0\n.\n" true
+    ∷ replayed S "1\nb0\n00\n1\n1\n0\n0\n.\n" false
+    ∷ replayed "aag 1 0 1 0 0 1\n2 2 1\n2\n" "1\nb0\n1\n\n.\n" true
+    ∷ replayed "aag 1 0 1 0 0 1\n2 2 1\n3\n" "1\nb0\n0\n\n.\n" false
+    ∷ replayed F "1\nb0\n1\n0\n.\n" true
+    ∷ replayed F "1\nb0\n1\n1\n.\n" false
+    ∷ noWitness S "1\nb1\n00\n1\n1\n0\n.\n"
+    ∷ noWitness S "1\nb0\n00\n.\n"
+    ∷ noWitness S "1\nb0\n00\n1\n1\n0\n"
+    ∷ noWitness S "1\nb0\n00\n1\n1\n0\n.\n\n"
+    ∷ noWitness S "1\nb0\n0\n1\n1\n0\n.\n"
+    ∷ noWitness S "1\nb0\n00\nx\n.\n"
+    ∷ noWitness S "1\nb0 \n00\n1\n.\n"
+    -- fold: each text breaks one rule
+    ∷ folded S 0 2 "aag 4 3 0 1 1 0 0\n2\n4\n6\n8\n8 2 4\n" false
+    ∷ folded S 0 2 "aag 4 3 0 1 1 0 0\n2\n4\n6\n9\n8 4 2\n" false
+    ∷ folded S 0 2 "aag 5 3 0 1 2 0 0\n2\n4\n6\n8\n8 4 2\n10 6 4\n" false
+    ∷ folded S 0 2 "aag 5 3 0 1 2 0 0\n2\n4\n6\n10\n8 4 2\n10 8 4\n" false
+    ∷ folded S 0 2 "aag 5 3 0 1 1 0 0\n2\n4\n6\n8\n8 4 2\n" false
+    ∷ folded S 0 1 "aag 2 2 0 1 0 0 0\n2\n4\n0\n" true
+    ∷ folded S 0 1 "aag 3 2 0 1 1 0 0\n2\n4\n6\n6 3 2\n" false
+    ∷ folded X 0 0 "aag 5 2 0 1 3 0 0\n2\n4\n11\n6 5 2\n8 4 3\n10 9 7\n" true
+    ∷ folded X 0 0 "aag 5 2 0 1 3 0 0\n2\n4\n10\n6 4 2\n8 5 3\n10 9 7\n" true
+    ∷ folded F 0 0 "aag 3 2 0 1 1 0 0\n2\n4\n6\n6 5 2\n" true
+    ∷ folded G 0 0 "aag 3 2 0 1 1 0 0\n2\n4\n6\n6 4 3\n" true
+    -- load, cause by cause, and write
+    ∷ refusal 8192 "" 1
+    ∷ refusal 8192 "aag 1 1 0 0 1" 2
+    ∷ refusal 8192 "aag 1 1 0 0\n" 2
+    ∷ refusal 8192 "aag 0 0 0 0 0 0 0 0 0 0\n" 2
+    ∷ refusal 8192 "aag 00 0 0 0 0\n" 2
+    ∷ refusal 8192 "aag 10000000000 0 0 0 0\n" 2
+    ∷ refusal 8192 "aag 9999999999 0 0 0 0\n" 3
+    ∷ refusal 8192 "aag 1 1 0 0 1\n" 3
+    ∷ refusal 8192 "aag 0 0 0 0 0 0 0 1\n" 3
+    ∷ refusal 8192 "aag 992 0 0 0 0\n" 4
+    ∷ refusal 8192 "aag 991 0 0 0 0\n" 0
+    ∷ refusal 8192 "aag 1 1 0 0 0\n" 5
+    ∷ refusal 8192 "aag 1 1 0 0 0\n2" 5
+    ∷ refusal 8192 "aag 1 1 0 0 0\n2\nc" 5
+    ∷ refusal 8192 "aag 1 1 0 0 0\n2\nc\nanything" 0
+    ∷ refusal 8192 "aag 1 1 0 0 0\n2\ni0 x\n" 5
+    ∷ refusal 8192 "aag 1 1 0 0 0\n4294967298\n" 6
+    ∷ refusal 8192 "aag 2 2 0 0 0\n2\n2\n" 6
+    ∷ refusal 8192 "aag 2 1 1 0 0\n2\n4 2 2\n" 6
+    ∷ refusal 8192 "aag 2 1 0 0 1\n2\n4 4 2\n" 8
+    ∷ written "aag 4 1 2 0 1 1\n2\n4 2 0\n6 4 1\n8\n8 4 6\nc\n" "aag 4 1 2 0 1 1 0\n2\n4 2\n6 4 1\n8\n8 4 6\n"
+    ∷ []

@@ -1,0 +1,15 @@
+pub mod Lists
+pub mod Bits
+pub mod Text
+pub mod Circuit
+pub mod File
+pub mod Load
+pub mod Frames
+pub mod Search
+pub mod Witness
+pub mod Write
+pub mod Memory
+pub mod Fold
+pub mod Signature
+pub mod Operations
+pub mod Examples

@@ -1,0 +1,91 @@
+-- What each operation answers, and what it leaves in the lent memories. A circuit memory m, a file f, a working memory w, an output
+-- out and a witness text are the lists of their words or bytes; w′ and out′ are those that the operation leaves. Assumes nothing.
+use mathlib.Core.Path.{_≡_}
+use mathlib.Core.Bool.{Bool, _&&_}
+use mathlib.Core.List.{List, _++_}
+use Prim.Native.Nat.{ℕ, _+_, _*_}
+use lib.Dec.{T, leb, ltb}
+use lib.ListN.{length, drop}
+use Rattle.aiger.specs.Circuit.{Circuit}
+use Rattle.aiger.specs.File.{Header, headerOf}
+use Rattle.aiger.specs.Load.{Answer, refused, gives, test, read, load, _>>=_, _>>_}
+use Rattle.aiger.specs.Frames.{size, run}
+use Rattle.aiger.specs.Search.{Outcome, permitted}
+use Rattle.aiger.specs.Witness.{witness, witnessLength, readWitness, confirms}
+use Rattle.aiger.specs.Write.{write}
+use Rattle.aiger.specs.Memory.{Holds, image}
+use Rattle.aiger.specs.Fold.{folds}
+
+-- a text at the front, everything after it as it was
+abbrev pub front : List ℕ → List ℕ → List ℕ
+front text out = text ++ drop (length text) out
+
+-- number 9: "the needed words of circuit memory are not what an accepted load of some file leaves"
+abbrev pub HoldsNone : List ℕ → Type 0
+HoldsNone m = (c : Circuit) → Holds m c → ⊥
+
+-- load: "An accepted load returns M, I, L, O, A, B, C and changes no word past those needed."
+pub data Loaded (m f : List ℕ) : Answer Header → List ℕ → Type 0 where
+  refuses : {n : ℕ} → load (length m) f ≡ refused n → Loaded m f (refused n) m
+  stores : (c : Circuit) → load (length m) f ≡ gives c → Loaded m f (gives (headerOf c)) (front (image c) m)
+
+-- number 10: "b not below B"
+abbrev pub badTest : Circuit → ℕ → Answer (Unit {0})
+badTest c b = test 10 (ltb b (length (c .bads)))
+
+-- number 12: "size above 65,536, or working memory too short", which has `room` words.
+-- "Working memory needs 16 words of 32 bits for each unit of size."
+abbrev pub sizeTest : Circuit → ℕ → ℕ → Answer (Unit {0})
+sizeTest c k room = test 12 (leb (size c k) 65536 && leb (16 * size c k) room)
+
+-- search's tests 10 to 13, where working memory has `room` words and the output `len` bytes
+unfoldable pub searchTests : Circuit → ℕ → ℕ → ℕ → ℕ → ℕ → Answer (Unit {0})
+searchTests c b k D room len = do
+  badTest c b
+  test 11 (leb k 255 && leb 1 D && leb D 4294967296)
+  sizeTest c k room
+  test 13 (leb (witnessLength c b k) len)
+
+-- what search says
+pub data Said : Type 0 where
+  refusal : ℕ → Said
+  found : ℕ → Said
+  none : ℕ → Said
+  spent : ℕ → Said
+
+-- search: "Found writes the witness at the front. None and spent write no output byte."
+pub data Searched (m : List ℕ) (b k D : ℕ) (w out : List ℕ) : Said → List ℕ → List ℕ → Type 0 where
+  noCircuit : HoldsNone m → Searched m b k D w out (refusal 9) w out
+  refuses : (c : Circuit) {n : ℕ} → Holds m c → searchTests c b k D (length w) (length out) ≡ refused n → Searched m b k D w out (refusal n) w out
+  finds : (c : Circuit) {t : ℕ} (x : ℕ) {w′ : List ℕ} → Holds m c → searchTests c b k D (length w) (length out) ≡ gives tt
+      → T (permitted c b k D (Outcome.found t x)) → Searched m b k D w out (found t) w′ (front (witness b (run c t x)) out)
+  findsNone : (c : Circuit) {w′ : List ℕ} → Holds m c → searchTests c b k D (length w) (length out) ≡ gives tt
+      → T (permitted c b k D (Outcome.none k)) → Searched m b k D w out (none k) w′ out
+  stops : (c : Circuit) {t : ℕ} {w′ : List ℕ} → Holds m c → searchTests c b k D (length w) (length out) ≡ gives tt
+      → T (permitted c b k D (Outcome.spent t)) → Searched m b k D w out (spent t) w′ out
+
+-- fold's tests 10 to 13: "fold, 24 × size + 64 bytes, size taken at bound t"
+unfoldable pub foldTests : Circuit → ℕ → ℕ → ℕ → ℕ → Answer (Unit {0})
+foldTests c b t room len = do
+  badTest c b
+  test 11 (leb t 255)
+  sizeTest c t room
+  test 13 (leb (24 * size c t + 64) len)
+
+-- fold: the length of the text, which is that of a permitted circuit
+pub data Folded (m : List ℕ) (b t : ℕ) (w out : List ℕ) : Answer ℕ → List ℕ → List ℕ → Type 0 where
+  noCircuit : HoldsNone m → Folded m b t w out (refused 9) w out
+  refuses : (c : Circuit) {n : ℕ} → Holds m c → foldTests c b t (length w) (length out) ≡ refused n → Folded m b t w out (refused n) w out
+  writes : (c d : Circuit) {w′ : List ℕ} → Holds m c → foldTests c b t (length w) (length out) ≡ gives tt → T (folds c b t d)
+      → Folded m b t w out (gives (length (write d))) w′ (front (write d) out)
+
+-- replay: yes, no, 9 or 14
+pub data Replayed (m text : List ℕ) : Answer Bool → Type 0 where
+  noCircuit : HoldsNone m → Replayed m text (refused 9)
+  says : (c : Circuit) → Holds m c → Replayed m text (read 14 (readWitness c text) >>= λ x. gives (confirms c x))
+
+-- write: the length of the text, 9 or 13; "Bytes past the text stay."
+pub data Written (m out : List ℕ) : Answer ℕ → List ℕ → Type 0 where
+  noCircuit : HoldsNone m → Written m out (refused 9) out
+  short : (c : Circuit) → Holds m c → T (ltb (length out) (length (write c))) → Written m out (refused 13) out
+  writes : (c : Circuit) → Holds m c → T (leb (length (write c)) (length out)) → Written m out (gives (length (write c))) (front (write c) out)
