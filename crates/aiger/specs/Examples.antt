@@ -12,7 +12,7 @@ use Rattle.aiger.specs.Load.{Answer, refused, gives, load}
 use Rattle.aiger.specs.Frames.{run, freeBits}
 use Rattle.aiger.specs.Search.{Outcome, found, none, spent, permitted}
 use Rattle.aiger.specs.Write.{write}
-use Rattle.aiger.specs.Fold.{folds}
+use Rattle.aiger.specs.Fold.{plain, folds}
 use Rattle.aiger.specs.Witness.{readWitness, witness, confirms}
 use Rattle.aiger.specs.Operations.{searchTests, foldTests}
 
@@ -58,6 +58,8 @@ pub data Example : Type 0 where
   noWitness : String → String → Example
   -- file, b, t, a text, and whether fold may write it
   folded : String → ℕ → ℕ → String → Bool → Example
+  -- two operands, and whether a folded gate may have them, whatever n is
+  operandPair : ℕ → ℕ → Bool → Example
   -- file, b, t, the words of working memory, the bytes of output, and the number of the refusal, 0 for none
   foldRefused : String → ℕ → ℕ → ℕ → ℕ → ℕ → Example
   -- file, and what write gives
@@ -74,6 +76,7 @@ holds (searchRefused f b k D room len n) = onLoaded f (λ c. eqb (refusalOf (sea
 holds (replayed f w says) = onLoaded f (λ c. elim (readWitness c (bytes w)) [ Option.none ↦ false | Option.some x ↦ Bool·beq (confirms c x) says ])
 holds (noWitness f w) = onLoaded f (λ c. elim (readWitness c (bytes w)) [ Option.none ↦ true | Option.some x ↦ false ])
 holds (folded f b t w says) = onLoaded f (λ c. onLoaded w (λ d. same (write d) (bytes w) && Bool·beq (folds c b t d) says))
+holds (operandPair l r says) = Bool·beq (plain (record { lit = 0; left = l; right = r })) says
 holds (foldRefused f b t room len n) = onLoaded f (λ c. eqb (refusalOf (foldTests c b t room len)) n)
 holds (written f w) = onLoaded f (λ c. same (write c) (bytes w))
 holds (refusal room f n) = eqb (refusalOf (load room (bytes f))) n
@@ -166,6 +169,11 @@ further =
     ∷ folded X 0 0 "aag 5 2 0 1 3 0 0\n2\n4\n10\n6 4 2\n8 5 3\n10 9 7\n" true
     ∷ folded F 0 0 "aag 3 2 0 1 1 0 0\n2\n4\n6\n6 5 2\n" true
     ∷ folded G 0 0 "aag 3 2 0 1 1 0 0\n2\n4\n6\n6 4 3\n" true
+    ∷ operandPair 5 2 true
+    ∷ operandPair 3 2 false
+    ∷ operandPair 2 2 false
+    ∷ operandPair 2 1 false
+    ∷ operandPair 0 2 false
     -- load, cause by cause, and write
     ∷ refusal 8192 "" 1
     ∷ refusal 8192 "aag 1 1 0 0 1" 2
