@@ -1,39 +1,37 @@
 -- "Measured examples": the starred rows and some of our own as one table, and the test of a row. Assumes nothing.
-use mathlib.Core.Bool.{Bool, true, false, not, _&&_, Bool·beq}
+use mathlib.Core.Bool.{Bool, true, false, not, cond, _&&_, Bool·beq}
 use mathlib.Core.List.{List, [], _∷_, _++_, map}
 use mathlib.Core.Option.{Option}
 use Prim.Native.Nat.{ℕ, _+_, _^_}
 use Prim.Native.String.{String}
 use lib.Dec.{eqb}
+use lib.ListN.{length, take, replicate}
 use Rattle.aiger.specs.Lists.{same, upto}
-use Rattle.aiger.specs.Text.{bytes, digits}
+use Rattle.aiger.specs.Text.{bytes}
 use Rattle.aiger.specs.Circuit.{Circuit}
-use Rattle.aiger.specs.Load.{Answer, refused, gives, load}
-use Rattle.aiger.specs.Frames.{run, freeBits}
+use Rattle.aiger.specs.Load.{Answer, refused, gives, load, needed}
+use Rattle.aiger.specs.Frames.{freeBits}
 use Rattle.aiger.specs.Search.{Outcome, found, none, spent, permitted}
 use Rattle.aiger.specs.Write.{write}
-use Rattle.aiger.specs.Fold.{plain, folds}
-use Rattle.aiger.specs.Witness.{readWitness, witness, confirms}
+use Rattle.aiger.specs.Fold.{plain, alike, folds}
+use Rattle.aiger.specs.Witness.{readWitness, confirms}
+use Rattle.aiger.specs.Memory.{image}
+use Rattle.aiger.specs.Signature.{draw, patternBit}
 use Rattle.aiger.specs.Operations.{searchTests, foldTests}
-
--- what the search program prints for an outcome
-unfoldable pub report : Circuit → ℕ → Outcome → List ℕ
-report c b (found t x) = bytes "found " ++ digits t ++ bytes "\n" ++ witness b (run c t x)
-report c b (none k) = bytes "none " ++ digits k ++ bytes "\n"
-report c b (spent t) = bytes "spent " ++ digits t ++ bytes "\n"
+use Rattle.aiger.specs.Program.{report}
 
 unfoldable pub keep : {A : Type 0} → (A → Bool) → List A → List A
 keep p [] = []
-keep p (x ∷ xs) = elim (p x) [ true ↦ x ∷ keep p xs | false ↦ keep p xs ]
+keep p (x ∷ xs) = cond (p x) (x ∷ keep p xs) (keep p xs)
 
 unfoldable pub join : {A B : Type 0} → (A → List B) → List A → List B
 join f [] = []
 join f (x ∷ xs) = f x ++ join f xs
 
--- every outcome that a bound k leaves
+-- every outcome that a bound k leaves, and those just past it
 unfoldable pub outcomes : Circuit → ℕ → List Outcome
 outcomes c k =
-    join (λ t. map (found t) (upto (2 ^ freeBits c t))) (upto (k + 1)) ++ (none k ∷ []) ++ map spent (upto (k + 1))
+    join (λ t. map (found t) (upto (2 ^ freeBits c t + 1))) (upto (k + 2)) ++ map none (upto (k + 2)) ++ map spent (upto (k + 2))
 
 -- the texts are the same, one by one
 unfoldable pub sameTexts : List (List ℕ) → List String → Bool
@@ -54,18 +52,30 @@ pub data Example : Type 0 where
   searchRefused : String → ℕ → ℕ → ℕ → ℕ → ℕ → ℕ → Example
   -- file, witness, and yes or no
   replayed : String → String → Bool → Example
+  -- file, a text's first lines, how many empty lines and then a line `.` follow, and whether that is a witness
+  witnessed : String → String → ℕ → Bool → Example
   -- file, and a text that is no witness
   noWitness : String → String → Example
   -- file, b, t, a text, and whether fold may write it
   folded : String → ℕ → ℕ → String → Bool → Example
   -- two operands, and whether a folded gate may have them, whatever n is
   operandPair : ℕ → ℕ → Bool → Example
+  -- the operands of two gates, and whether they are the same
+  operandPairs : ℕ → ℕ → ℕ → ℕ → Bool → Example
   -- file, b, t, the words of working memory, the bytes of output, and the number of the refusal, 0 for none
   foldRefused : String → ℕ → ℕ → ℕ → ℕ → ℕ → Example
   -- file, and what write gives
   written : String → String → Example
+  -- file, and the first words that its load leaves
+  stored : String → List ℕ → Example
   -- words of circuit memory, file, and the number of the refusal, 0 for none
   refusal : ℕ → String → ℕ → Example
+  -- file, how many bytes follow it, and the number of the refusal, 0 for none
+  longFile : String → ℕ → ℕ → Example
+  -- draw i
+  drawn : ℕ → ℕ → Example
+  -- free bit j in pattern p
+  patterned : ℕ → ℕ → Bool → Example
 
 unfoldable pub onLoaded : String → (Circuit → Bool) → Bool
 onLoaded f p = elim (load 8192 (bytes f)) [ refused n ↦ false | gives c ↦ p c ]
@@ -77,8 +87,14 @@ holds (replayed f w says) = onLoaded f (λ c. elim (readWitness c (bytes w)) [ O
 holds (noWitness f w) = onLoaded f (λ c. elim (readWitness c (bytes w)) [ Option.none ↦ true | Option.some x ↦ false ])
 holds (folded f b t w says) = onLoaded f (λ c. onLoaded w (λ d. same (write d) (bytes w) && Bool·beq (folds c b t d) says))
 holds (operandPair l r says) = Bool·beq (plain (record { lit = 0; left = l; right = r })) says
+holds (operandPairs l r m s says) = Bool·beq (alike (record { lit = 0; left = l; right = r }) (record { lit = 0; left = m; right = s })) says
 holds (foldRefused f b t room len n) = onLoaded f (λ c. eqb (refusalOf (foldTests c b t room len)) n)
 holds (written f w) = onLoaded f (λ c. same (write c) (bytes w))
+holds (witnessed f w n says) = onLoaded f (λ c. elim (readWitness c (bytes w ++ replicate n 10 ++ bytes ".\n")) [ Option.none ↦ not says | Option.some x ↦ says ])
+holds (stored f words) = onLoaded f (λ c. same (take (length words) (image c)) words && eqb (length (image c)) (needed (c .maxVar)))
+holds (longFile f more n) = eqb (refusalOf (load 8192 (bytes f ++ replicate more 0))) n
+holds (drawn i w) = eqb (draw i) w
+holds (patterned j p says) = Bool·beq (patternBit j p) says
 holds (refusal room f n) = eqb (refusalOf (load room (bytes f))) n
 
 -- document 01's shift register: two latches after one input, bad when both are true
@@ -97,6 +113,10 @@ G = "aag 3 1 1 0 1 1\n2\n4 4 4\n6\n6 2 5\n"
 abbrev X : String
 X = "aag 5 2 0 0 3 1\n2\n4\n11\n6 2 5\n8 3 4\n10 7 9\n"
 
+-- a latch that starts at 1 and stays there, and no input; bad is the latch
+abbrev H : String
+H = "aag 1 0 1 0 0 1\n2 2 1\n2\n"
+
 -- the rows that document 01 stars, in its order
 unfoldable pub starred : List Example
 starred =
@@ -114,19 +134,30 @@ starred =
     ∷ refusal 8192 "aag 2 0 0 0 2\n2 4 4\n4 2 2\n" 8
     ∷ []
 
--- rows of our own: each catches a mistake that the starred ones let pass
+-- rows of our own, for mistakes that the starred ones let pass
 unfoldable pub further : List Example
 further =
     -- constraints, resets and free starts
     searched "aag 1 1 0 0 0 1 1\n2\n2\n3\n" 0 0 2 ("none 0\n" ∷ [])
-    ∷ searched "aag 1 0 1 0 0 1\n2 2 1\n2\n" 0 0 2 ("found 0\n1\nb0\n1\n\n.\n" ∷ [])
+    ∷ searched H 0 0 2 ("found 0\n1\nb0\n1\n\n.\n" ∷ [])
     ∷ searched F 0 0 2 ("found 0\n1\nb0\n1\n0\n.\n" ∷ "spent 0\n" ∷ [])
     ∷ searched G 0 0 4 ("found 0\n1\nb0\n0\n1\n.\n" ∷ [])
     ∷ searched X 0 0 1 ("found 0\n1\nb0\n\n01\n.\n" ∷ "spent 0\n" ∷ [])
+    -- frames before a spent one have no hit
+    ∷ searched S 0 3 6 ("found 2\n1\nb0\n00\n1\n1\n0\n.\n" ∷ "spent 2\n" ∷ [])
+    -- lines in the order outputs, bad lines, constraints
+    ∷ searched "aag 2 2 0 1 0 2 1\n2\n4\n0\n2\n4\n5\n" 0 0 4 ("found 0\n1\nb0\n\n10\n.\n" ∷ [])
+    -- inputs frame by frame, gates in any order
+    ∷ searched "aag 6 2 2 0 2 1\n2\n4\n6 4\n8 1\n12\n12 11 8\n10 7 3\n" 0 1 16 ("found 1\n1\nb0\n00\n00\n10\n.\n" ∷ [])
     -- a constraint counts in the frame of the hit alone
     ∷ searched "aag 3 1 1 0 0 1 1\n2\n4 2\n4\n3\n" 0 1 4 ("found 1\n1\nb0\n0\n1\n0\n.\n" ∷ [])
     -- the second of two bad lines
     ∷ searched "aag 1 1 0 0 0 2\n2\n2\n3\n" 1 0 2 ("found 0\n1\nb1\n\n0\n.\n" ∷ [])
+    -- size counts free starts and constraints; the output counts b's digits
+    ∷ searchRefused F 0 0 1 64 2048 0
+    ∷ searchRefused F 0 0 1 63 2048 12
+    ∷ searchRefused "aag 0 0 0 0 0 11\n0\n0\n0\n0\n0\n0\n0\n0\n0\n0\n0\n" 10 0 1 8192 10 0
+    ∷ searchRefused "aag 0 0 0 0 0 11\n0\n0\n0\n0\n0\n0\n0\n0\n0\n0\n0\n" 10 0 1 8192 9 13
     -- numbers 10 to 13: S at bound 254 has size 511, at 255 513
     ∷ searchRefused S 1 256 0 0 0 10
     ∷ searchRefused S 0 256 16 8192 2048 11
@@ -146,7 +177,7 @@ further =
     -- replay
     ∷ replayed S "1\nb0\n00\n1\n1\n0\n.\n" true
     ∷ replayed S "1\nb0\n00\n1\n1\n0\n0\n.\n" false
-    ∷ replayed "aag 1 0 1 0 0 1\n2 2 1\n2\n" "1\nb0\n1\n\n.\n" true
+    ∷ replayed H "1\nb0\n1\n\n.\n" true
     ∷ replayed "aag 1 0 1 0 0 1\n2 2 1\n3\n" "1\nb0\n0\n\n.\n" false
     ∷ replayed F "1\nb0\n1\n0\n.\n" true
     ∷ replayed F "1\nb0\n1\n1\n.\n" false
@@ -157,6 +188,9 @@ further =
     ∷ noWitness S "1\nb0\n0\n1\n1\n0\n.\n"
     ∷ noWitness S "1\nb0\n00\nx\n.\n"
     ∷ noWitness S "1\nb0 \n00\n1\n.\n"
+    ∷ witnessed H "1\nb0\n1\n" 0 false
+    ∷ witnessed H "1\nb0\n1\n" 256 true
+    ∷ witnessed H "1\nb0\n1\n" 257 false
     -- fold: each text breaks one rule
     ∷ folded S 0 2 "aag 4 3 0 1 1 0 0\n2\n4\n6\n8\n8 2 4\n" false
     ∷ folded S 0 2 "aag 4 3 0 1 1 0 0\n2\n4\n6\n9\n8 4 2\n" false
@@ -169,6 +203,13 @@ further =
     ∷ folded X 0 0 "aag 5 2 0 1 3 0 0\n2\n4\n10\n6 4 2\n8 5 3\n10 9 7\n" true
     ∷ folded F 0 0 "aag 3 2 0 1 1 0 0\n2\n4\n6\n6 5 2\n" true
     ∷ folded G 0 0 "aag 3 2 0 1 1 0 0\n2\n4\n6\n6 4 3\n" true
+    ∷ folded "aag 2 2 0 0 0 1\n2\n4\n2\n" 0 0 "aag 2 2 0 1 0 0 0\n2\n4\n2\n" true
+    ∷ folded "aag 2 2 0 0 0 1\n2\n4\n2\n" 0 0 "aag 5 2 0 1 3 0 0\n2\n4\n11\n6 4 2\n8 5 2\n10 9 7\n" false
+    ∷ folded S 0 1 "aag 5 2 0 1 3 0 0\n2\n4\n10\n6 4 2\n8 5 3\n10 8 6\n" false
+    ∷ folded S 0 2 "aag 5 3 0 1 1 0 0\n2\n4\n6\n10\n10 4 2\n" false
+    ∷ operandPairs 5 2 5 2 true
+    ∷ operandPairs 5 2 5 4 false
+    ∷ operandPairs 5 2 4 2 false
     ∷ operandPair 5 2 true
     ∷ operandPair 3 2 false
     ∷ operandPair 2 2 false
@@ -183,7 +224,21 @@ further =
     ∷ refusal 8192 "aag 10000000000 0 0 0 0\n" 2
     ∷ refusal 8192 "aag 9999999999 0 0 0 0\n" 3
     ∷ refusal 8192 "aag 1 1 0 0 1\n" 3
-    ∷ refusal 8192 "aag 0 0 0 0 0 0 0 1\n" 3
+    ∷ refusal 33032 "aag 4096 0 0 0 0\n" 0
+    ∷ refusal 40000 "aag 4097 0 0 0 0\n" 3
+    ∷ refusal 33032 "aag 4096 256 1024 64 2816 16 16 0 0\n" 5
+    ∷ refusal 33032 "aag 4096 257 0 0 0\n" 3
+    ∷ refusal 33032 "aag 4096 0 1025 0 0\n" 3
+    ∷ refusal 33032 "aag 4096 0 0 65 0\n" 3
+    ∷ refusal 33032 "aag 4096 0 0 0 3072\n" 5
+    ∷ refusal 33032 "aag 4096 0 0 0 3073\n" 3
+    ∷ refusal 33032 "aag 4096 0 0 0 0 17\n" 3
+    ∷ refusal 33032 "aag 4096 0 0 0 0 0 17\n" 3
+    ∷ refusal 33032 "aag 4096 0 0 0 0 0 0 1\n" 3
+    ∷ refusal 33032 "aag 4096 0 0 0 0 0 0 0 1\n" 3
+    ∷ refusal 33032 "aag 4095 0 1024 0 3072\n" 3
+    ∷ refusal 33032 "aag 4096 0 1024 0 3072\n" 5
+    ∷ refusal 33031 "aag 4096 0 0 0 0\n" 4
     ∷ refusal 8192 "aag 992 0 0 0 0\n" 4
     ∷ refusal 8192 "aag 991 0 0 0 0\n" 0
     ∷ refusal 8192 "aag 1 1 0 0 0\n" 5
@@ -194,6 +249,36 @@ further =
     ∷ refusal 8192 "aag 1 1 0 0 0\n4294967298\n" 6
     ∷ refusal 8192 "aag 2 2 0 0 0\n2\n2\n" 6
     ∷ refusal 8192 "aag 2 1 1 0 0\n2\n4 2 2\n" 6
+    ∷ refusal 8192 "aag 2 2 0 0 0\n2\n6\n" 6
+    ∷ refusal 8192 "aag 1 1 0 1 0\n2\n4\n" 6
+    ∷ refusal 8192 "aag 2 1 0 0 1\n2\n2 2 2\n" 6
+    ∷ refusal 8192 "aag 1 1 0 0 0\n0\n" 6
+    ∷ refusal 8192 "aag 2 1 0 0 1\n2\n5 2 2\n" 6
+    ∷ refusal 8192 "aag 2 0 1 0 0\n2 4\n" 7
+    ∷ refusal 8192 "aag 2 0 0 1 0\n4\n" 7
+    ∷ refusal 8192 "aag 2 0 0 0 0 1\n4\n" 7
+    ∷ refusal 8192 "aag 2 0 0 0 0 0 1\n5\n" 7
+    ∷ refusal 8192 "aag 2 0 0 0 1\n2 4 0\n" 7
+    ∷ refusal 8192 "aag 2 0 0 0 1\n2 1 5\n" 7
+    -- 5 before 6, 6 before 7, 7 before 8, each over the whole file
+    ∷ refusal 8192 "aag 2 1 0 0 1\n3\n4 2\n" 5
+    ∷ refusal 8192 "aag 2 0 0 1 1\n2\n5 0 0\n" 6
+    ∷ refusal 8192 "aag 3 0 0 1 1\n4\n2 2 2\n" 7
     ∷ refusal 8192 "aag 2 1 0 0 1\n2\n4 4 2\n" 8
-    ∷ written "aag 4 1 2 0 1 1\n2\n4 2 0\n6 4 1\n8\n8 4 6\nc\n" "aag 4 1 2 0 1 1 0\n2\n4 2\n6 4 1\n8\n8 4 6\n"
+    ∷ refusal 8192 "aag 3 0 0 0 3\n2 1 4\n4 6 0\n6 1 2\n" 8
+    ∷ refusal 8192 "aag 3 0 0 0 3\n2 1 4\n4 6 0\n6 1 0\n" 0
+    ∷ longFile "aag 0 0 0 0 0\nc\n" 65520 0
+    ∷ longFile "aag 0 0 0 0 0\nc\n" 65521 1
+    ∷ written "aag 5 1 3 0 1 1\n2\n4 2 0\n6 4 1\n10 1 10\n8\n8 4 6\nc\n" "aag 5 1 3 0 1 1 0\n2\n4 2\n6 4 1\n10 1 10\n8\n8 4 6\n"
+    -- circuit memory and signature words
+    ∷ stored "aag 5 1 2 1 1 1 1\n2\n4 2 1\n6 4\n8\n9\n3\n8 4 6\n"
+    (5 ∷ 1 ∷ 2 ∷ 1 ∷ 1 ∷ 1 ∷ 1 ∷ 2 ∷ 4 ∷ 2 ∷ 1 ∷ 6 ∷ 4 ∷ 0 ∷ 8 ∷ 9 ∷ 3 ∷ 8 ∷ 4 ∷ 6 ∷ 0 ∷ 0 ∷ [])
+    ∷ drawn 1 7806831264735756412
+    ∷ drawn 2 9396908728118811419
+    ∷ patterned 0 1 true
+    ∷ patterned 5 31 false
+    ∷ patterned 5 32 true
+    ∷ patterned 6 0 false
+    ∷ patterned 6 2 true
+    ∷ patterned 7 0 true
     ∷ []

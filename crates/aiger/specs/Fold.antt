@@ -4,7 +4,7 @@ use mathlib.Core.List.{List, [], _∷_, map}
 use Prim.Native.Nat.{ℕ, zero, suc, _+_, _*_, _^_}
 use lib.Dec.{leb, ltb, eqb}
 use lib.ListN.{length, getD}
-use Rattle.aiger.specs.Lists.{every, pairwise, everyBelow, member, same, upto}
+use Rattle.aiger.specs.Lists.{every, any, pairwise, everyBelow, member, same, upto}
 use Rattle.aiger.specs.Circuit.{Circuit, Gate, var}
 use Rattle.aiger.specs.Frames.{valueAt, freeBits, freeBit}
 use Rattle.aiger.specs.Search.{reaches}
@@ -37,8 +37,7 @@ alike g h = eqb (g .left) (h .left) && eqb (g .right) (h .right)
 -- "Every gate leads to the output": v is the output's variable, or an operand of a gate that leads to it, within n gates
 unfoldable pub leads : Circuit → ℕ → ℕ → Bool
 leads d zero v = eqb v (var (output d))
-leads d (suc n) v =
-    eqb v (var (output d)) || not (every (λ g. not (member v (var (g .left) ∷ var (g .right) ∷ []) && leads d n (var (g .lit)))) (d .gates))
+leads d (suc n) v = eqb v (var (output d)) || any (λ g. member v (var (g .left) ∷ var (g .right) ∷ []) && leads d n (var (g .lit))) (d .gates)
 
 -- literals l and m are equal in function, or opposite
 unfoldable pub twins : Circuit → ℕ → ℕ → ℕ → Bool

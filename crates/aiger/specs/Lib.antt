@@ -12,4 +12,5 @@ pub mod Memory
 pub mod Fold
 pub mod Signature
 pub mod Operations
+pub mod Program
 pub mod Examples

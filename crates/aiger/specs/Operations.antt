@@ -1,18 +1,18 @@
 -- What each operation answers, and what it leaves in the lent memories. A circuit memory m, a file f, a working memory w, an output
--- out and a witness text are the lists of their words or bytes; w′ and out′ are those that the operation leaves. Assumes nothing.
+-- out and a witness text are the lists of their words or bytes; m′, w′ and out′ are those that the operation leaves. What has no such
+-- second list is lent to be read only: "Of these operations only load changes circuit memory." Assumes nothing.
 use mathlib.Core.Path.{_≡_}
 use mathlib.Core.Bool.{Bool, _&&_}
-use mathlib.Core.List.{List, _++_}
+use mathlib.Core.List.{List, _∷_, _++_}
 use Prim.Native.Nat.{ℕ, _+_, _*_}
 use lib.Dec.{T, leb, ltb}
 use lib.ListN.{length, drop}
 use Rattle.aiger.specs.Circuit.{Circuit}
-use Rattle.aiger.specs.File.{Header, headerOf}
 use Rattle.aiger.specs.Load.{Answer, refused, gives, test, read, load, _>>=_, _>>_}
 use Rattle.aiger.specs.Frames.{size, run}
 use Rattle.aiger.specs.Search.{Outcome, permitted}
 use Rattle.aiger.specs.Witness.{witness, witnessLength, readWitness, confirms}
-use Rattle.aiger.specs.Write.{write}
+use Rattle.aiger.specs.Write.{countRow, write}
 use Rattle.aiger.specs.Memory.{Holds, image}
 use Rattle.aiger.specs.Fold.{folds}
 
@@ -25,9 +25,9 @@ abbrev pub HoldsNone : List ℕ → Type 0
 HoldsNone m = (c : Circuit) → Holds m c → ⊥
 
 -- load: "An accepted load returns M, I, L, O, A, B, C and changes no word past those needed."
-pub data Loaded (m f : List ℕ) : Answer Header → List ℕ → Type 0 where
+pub data Loaded (m f : List ℕ) : Answer (List ℕ) → List ℕ → Type 0 where
   refuses : {n : ℕ} → load (length m) f ≡ refused n → Loaded m f (refused n) m
-  stores : (c : Circuit) → load (length m) f ≡ gives c → Loaded m f (gives (headerOf c)) (front (image c) m)
+  stores : (c : Circuit) → load (length m) f ≡ gives c → Loaded m f (gives (c .maxVar ∷ countRow c)) (front (image c) m)
 
 -- number 10: "b not below B"
 abbrev pub badTest : Circuit → ℕ → Answer (Unit {0})
@@ -53,16 +53,25 @@ pub data Said : Type 0 where
   none : ℕ → Said
   spent : ℕ → Said
 
--- search: "Found writes the witness at the front. None and spent write no output byte."
-pub data Searched (m : List ℕ) (b k D : ℕ) (w out : List ℕ) : Said → List ℕ → List ℕ → Type 0 where
-  noCircuit : HoldsNone m → Searched m b k D w out (refusal 9) w out
-  refuses : (c : Circuit) {n : ℕ} → Holds m c → searchTests c b k D (length w) (length out) ≡ refused n → Searched m b k D w out (refusal n) w out
-  finds : (c : Circuit) {t : ℕ} (x : ℕ) {w′ : List ℕ} → Holds m c → searchTests c b k D (length w) (length out) ≡ gives tt
-      → T (permitted c b k D (Outcome.found t x)) → Searched m b k D w out (found t) w′ (front (witness b (run c t x)) out)
-  findsNone : (c : Circuit) {w′ : List ℕ} → Holds m c → searchTests c b k D (length w) (length out) ≡ gives tt
-      → T (permitted c b k D (Outcome.none k)) → Searched m b k D w out (none k) w′ out
-  stops : (c : Circuit) {t : ℕ} {w′ : List ℕ} → Holds m c → searchTests c b k D (length w) (length out) ≡ gives tt
-      → T (permitted c b k D (Outcome.spent t)) → Searched m b k D w out (spent t) w′ out
+abbrev pub saidOf : Outcome → Said
+saidOf (Outcome.found t x) = found t
+saidOf (Outcome.none k) = none k
+saidOf (Outcome.spent t) = spent t
+
+-- "Found writes the witness at the front. None and spent write no output byte."
+abbrev pub shown : Circuit → ℕ → Outcome → List ℕ → List ℕ
+shown c b (Outcome.found t x) out = front (witness b (run c t x)) out
+shown c b (Outcome.none k) out = out
+shown c b (Outcome.spent t) out = out
+
+-- search: where several outcomes are permitted the program's choice is a function of the circuit, b, k and D alone, so that
+-- "earlier contents of working memory never matter"
+pub data Searched (chosen : Circuit → ℕ → ℕ → ℕ → Outcome) (m : List ℕ) (b k D : ℕ) (w out : List ℕ) : Said → List ℕ → List ℕ → Type 0 where
+  noCircuit : HoldsNone m → Searched chosen m b k D w out (refusal 9) w out
+  refuses : (c : Circuit) {n : ℕ} → Holds m c → searchTests c b k D (length w) (length out) ≡ refused n
+      → Searched chosen m b k D w out (refusal n) w out
+  answers : (c : Circuit) {w′ : List ℕ} → Holds m c → searchTests c b k D (length w) (length out) ≡ gives tt → T (permitted c b k D (chosen c b k D))
+      → Searched chosen m b k D w out (saidOf (chosen c b k D)) w′ (shown c b (chosen c b k D) out)
 
 -- fold's tests 10 to 13: "fold, 24 × size + 64 bytes, size taken at bound t"
 unfoldable pub foldTests : Circuit → ℕ → ℕ → ℕ → ℕ → Answer (Unit {0})
@@ -72,14 +81,14 @@ foldTests c b t room len = do
   sizeTest c t room
   test 13 (leb (24 * size c t + 64) len)
 
--- fold: the length of the text, which is that of a permitted circuit
+-- fold: a permitted circuit's text at the front of the output, and as the answer its length
 pub data Folded (m : List ℕ) (b t : ℕ) (w out : List ℕ) : Answer ℕ → List ℕ → List ℕ → Type 0 where
   noCircuit : HoldsNone m → Folded m b t w out (refused 9) w out
   refuses : (c : Circuit) {n : ℕ} → Holds m c → foldTests c b t (length w) (length out) ≡ refused n → Folded m b t w out (refused n) w out
   writes : (c d : Circuit) {w′ : List ℕ} → Holds m c → foldTests c b t (length w) (length out) ≡ gives tt → T (folds c b t d)
       → Folded m b t w out (gives (length (write d))) w′ (front (write d) out)
 
--- replay: yes, no, 9 or 14
+-- replay: yes or no, 9, or 14 where the text is no witness of the circuit
 pub data Replayed (m text : List ℕ) : Answer Bool → Type 0 where
   noCircuit : HoldsNone m → Replayed m text (refused 9)
   says : (c : Circuit) → Holds m c → Replayed m text (read 14 (readWitness c text) >>= λ x. gives (confirms c x))
@@ -87,5 +96,6 @@ pub data Replayed (m text : List ℕ) : Answer Bool → Type 0 where
 -- write: the length of the text, 9 or 13; "Bytes past the text stay."
 pub data Written (m out : List ℕ) : Answer ℕ → List ℕ → Type 0 where
   noCircuit : HoldsNone m → Written m out (refused 9) out
-  short : (c : Circuit) → Holds m c → T (ltb (length out) (length (write c))) → Written m out (refused 13) out
-  writes : (c : Circuit) → Holds m c → T (leb (length (write c)) (length out)) → Written m out (gives (length (write c))) (front (write c) out)
+  short : (c : Circuit) → Holds m c → test 13 (leb (length (write c)) (length out)) ≡ refused 13 → Written m out (refused 13) out
+  writes : (c : Circuit) → Holds m c → test 13 (leb (length (write c)) (length out)) ≡ gives tt
+      → Written m out (gives (length (write c))) (front (write c) out)

@@ -9,7 +9,7 @@ use Rattle.aiger.specs.Bits.{bit}
 unfoldable pub step : ℕ → ℕ
 step s = (s * 6364136223846793005 + 1442695040888963407) % 2 ^ 64
 
--- "from state 1. A draw is the state after its step": draw i, the first one being draw 1, is the state after i steps
+-- "from state 1. A draw is the state after its step": draw i is the state after i steps, so that the first draw is draw 1
 unfoldable pub draw : ℕ → ℕ
 draw zero = 1
 draw (suc i) = step (draw i)
@@ -18,6 +18,11 @@ draw (suc i) = step (draw i)
 -- and its bit p serves pattern p."
 unfoldable pub patternBit : ℕ → ℕ → Bool
 patternBit j p = cond (ltb j 6) (bit p j) (bit (draw (j - 5)) p)
+
+-- w is the 64-pattern word of a function of the patterns
+pub record PatternWord (value : ℕ → Bool) (w : ℕ) : Type 0 where
+  pub fits : w < 2 ^ 64
+  pub bits : (p : ℕ) → p < 64 → bit w p ≡ value p
 
 -- "Where two words differ, the lowest differing pattern is the one reported ..; 64 for equal ones": r of words a and b of w bits
 pub record FirstDifference (w a b r : ℕ) : Type 0 where

@@ -1,0 +1,50 @@
+-- The search program: standard input, and what it prints. Assumes nothing.
+use mathlib.Core.Path.{_≡_}
+use mathlib.Core.Bool.{Bool}
+use mathlib.Core.List.{List, _++_}
+use mathlib.Core.Option.{Option, none, some}
+use Prim.Native.Nat.{ℕ, _≤_, _<_}
+use lib.Dec.{T, eqb}
+use lib.ListN.{length, getD, take, drop}
+use Rattle.aiger.specs.Lists.{same}
+use Rattle.aiger.specs.Text.{bytes, digits, row, _>>=_, _>>_, when}
+use Rattle.aiger.specs.Circuit.{Circuit}
+use Rattle.aiger.specs.Load.{refused, gives, load}
+use Rattle.aiger.specs.Frames.{run}
+use Rattle.aiger.specs.Search.{Outcome, found, permitted}
+use Rattle.aiger.specs.Witness.{witness}
+use Rattle.aiger.specs.Operations.{searchTests}
+
+pub record Request : Type 0 where
+  pub b : ℕ
+  pub k : ℕ
+  pub D : ℕ
+  pub file : List ℕ
+
+-- "a line `search b k D`, then the file". "Its numbers have the file's form."
+unfoldable pub request : List ℕ → Option Request
+request f = do
+  when (same (take 7 f) (bytes "search "))
+  r ← row 3 (drop 7 f)
+  when (eqb (length (r .0)) 3)
+  some (record { b = getD (r .0) 0 0; k = getD (r .0) 1 0; D = getD (r .0) 2 0; file = r .1 })
+
+-- "It prints `found t`, `none k`, `spent t` or `refused number`, then the witness if found."
+unfoldable pub report : Circuit → ℕ → Outcome → List ℕ
+report c b (found t x) = bytes "found " ++ digits t ++ bytes "\n" ++ witness b (run c t x)
+report c b (Outcome.none k) = bytes "none " ++ digits k ++ bytes "\n"
+report c b (Outcome.spent t) = bytes "spent " ++ digits t ++ bytes "\n"
+
+unfoldable pub refusalLine : ℕ → List ℕ
+refusalLine n = bytes "refused " ++ digits n ++ bytes "\n"
+
+-- what may be printed: "65,536 bytes in all (more: 1, judged first; a malformed first line: 11, before loading)".
+-- "It lends 8,192 words of circuit memory and 8,192 words of working memory" and "2,048 output bytes"
+pub data Prints (input : List ℕ) : List ℕ → Type 0 where
+  tooLong : 65536 < length input → Prints input (refusalLine 1)
+  noRequest : length input ≤ 65536 → request input ≡ none → Prints input (refusalLine 11)
+  notLoaded : length input ≤ 65536 → (q : Request) → request input ≡ some q → {n : ℕ} → load 8192 (q .file) ≡ refused n → Prints input (refusalLine n)
+  notSearched : length input ≤ 65536 → (q : Request) → request input ≡ some q → (c : Circuit) → load 8192 (q .file) ≡ gives c
+      → {n : ℕ} → searchTests c (q .b) (q .k) (q .D) 8192 2048 ≡ refused n → Prints input (refusalLine n)
+  answers : length input ≤ 65536 → (q : Request) → request input ≡ some q → (c : Circuit) → load 8192 (q .file) ≡ gives c
+      → searchTests c (q .b) (q .k) (q .D) 8192 2048 ≡ gives tt → (o : Outcome) → T (permitted c (q .b) (q .k) (q .D) o) → Prints input (report c (q .b) o)
