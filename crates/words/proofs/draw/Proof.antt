@@ -1,0 +1,48 @@
+-- `words::draw` meets its contract. The loop's invariant: the state is draw k. Assumes nothing.
+use Prim.Native.Nat.{ℕ, _+_, _-_, _≤_}
+use mathlib.Core.Path.{_≡_, refl, _∙_, sym, ap}
+use native.Mathlib.Numerals.{add-one}
+use native.Mathlib.Omega.{arith}
+use borrow.Author.Needs.{needs}
+use Rattle.aiger.specs.Signature as Signature
+use Rattle.words.proofs.draw.Statement.{statement}
+use Rattle.words.proofs.draw.Tie as tie
+
+abbrev Inv-loop : tie.InvT-loop
+Inv-loop i state₀ k₀ state k = (k ≤ i) × (state ≡ Signature.draw k)
+
+abbrev μ-loop : tie.MeasureT-loop
+μ-loop i state₀ k₀ state k = i - k
+
+loop-holds : tie.Need-loop-holds Inv-loop μ-loop
+unfolding Signature.draw
+loop-holds c = (omega arith, refl)
+
+step-requires : tie.Need-step-requires Inv-loop μ-loop
+step-requires c κs = search needs
+
+add-k : tie.Need-add-k Inv-loop μ-loop
+add-k c = omega arith
+
+loop-less : tie.Need-loop-less Inv-loop μ-loop
+loop-less c = omega arith
+
+next : (k : ℕ) → Signature.step (Signature.draw k) ≡ Signature.draw (k + 1)
+unfolding Signature.draw
+next k = ap Signature.draw (sym (add-one k))
+
+loop-again : tie.Need-loop-again Inv-loop μ-loop
+loop-again c =
+    let at = c .before .before .loop in (
+      omega arith,
+      c .step .ensures ∙ ap Signature.step (at .inv .1) ∙ next (at .k),
+    )
+
+returns : tie.Need-returns Inv-loop μ-loop
+returns c =
+    let at = c .before .loop in
+    let e : at .k ≡ c .before .before .args .i = omega arith in
+    at .inv .1 ∙ ap Signature.draw e
+
+pub draw-spec : {M : Type 1} → statement M
+draw-spec = tie.close (tie.spec Inv-loop μ-loop loop-holds step-requires add-k loop-less loop-again returns)
