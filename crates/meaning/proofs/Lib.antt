@@ -1,0 +1,7 @@
+pub mod Lists
+pub mod Defined
+pub mod Cycles
+pub mod Values
+pub mod Outcomes
+pub mod Bits
+pub mod Sequences

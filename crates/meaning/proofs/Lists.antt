@@ -1,0 +1,143 @@
+-- Laws of lists: elements by position and by membership, and an element that stands twice. Assumes nothing.
+use mathlib.Core.Path.{_≡_, refl, sym, ap, _∙_, subst}
+use mathlib.Core.Bool.{Bool, true, false, _&&_, _||_}
+use mathlib.Core.List.{List, [], _∷_, map, List·Memᴰ, List·Memᴰ·head, List·Memᴰ·tail, List·Memᴰ·not-nil, List·Memᴰ·cases-cons, Memᴰ·cast}
+use mathlib.Core.Logic.{_⊎_, inl, inr, ⊎-elim}
+use Prim.Native.Nat.{ℕ, zero, suc, _+_, _≤_, _<_}
+use native.Mathlib.Nat.{not-suc-le-zero, le-of-suc-le-suc}
+use native.Mathlib.Decide.{ℕ-discrete}
+use native.Mathlib.Omega.{arith}
+use lib.Dec.{T, eqb, eqb→eq}
+use lib.ListN.{length, getD}
+use Rattle.aiger.specs.Lists.{every, pairwise, member, from, upto}
+use Rattle.aiger.proofs.Tests.{and-left, and-right, or-cases}
+
+-- a list's element at a position is in the list
+pub mem-getD : {A : Type 0} (xs : List A) (i : ℕ) (d : A) → i < length xs → List·Memᴰ (getD xs i d) xs
+mem-getD [] i d h = absurd (not-suc-le-zero h)
+mem-getD (x ∷ xs) zero d h = List·Memᴰ·head refl
+mem-getD (x ∷ xs) (suc i) d h = List·Memᴰ·tail (mem-getD xs i d (le-of-suc-le-suc h))
+
+-- what is in a list stands at some position
+pub mem-at : {A : Type 0} {x : A} {xs : List A} (d : A) → List·Memᴰ x xs → (i : ℕ) × (i < length xs) × (getD xs i d ≡ x)
+mem-at d (List·Memᴰ·head e) = (0, omega arith, sym e)
+mem-at d (List·Memᴰ·tail m) = let r = mem-at d m in (suc (r .0), omega (arith, r .1), r .2)
+
+-- what holds of the default and of every element holds at every position
+pub getD-all : {A : Type 0} (P : A → Type 0) (xs : List A) (d : A) → P d → ((x : A) → List·Memᴰ x xs → P x) → (i : ℕ) → P (getD xs i d)
+getD-all P [] d z h i = z
+getD-all P (x ∷ xs) d z h zero = h x (List·Memᴰ·head refl)
+getD-all P (x ∷ xs) d z h (suc i) = getD-all P xs d z (λ y m. h y (List·Memᴰ·tail m)) i
+
+pub getD-map : {A B : Type 0} (f : A → B) (xs : List A) (i : ℕ) (a : A) (b : B) → i < length xs → getD (map f xs) i b ≡ f (getD xs i a)
+getD-map f [] i a b h = absurd (not-suc-le-zero h)
+getD-map f (x ∷ xs) zero a b h = refl
+getD-map f (x ∷ xs) (suc i) a b h = getD-map f xs i a b (le-of-suc-le-suc h)
+
+pub length-from : (i n : ℕ) → length (from i n) ≡ n
+length-from i zero = refl
+length-from i (suc n) = ap suc (length-from (suc i) n)
+
+getD-from : (i n j d : ℕ) → j < n → getD (from i n) j d ≡ i + j
+getD-from i zero j d h = absurd (not-suc-le-zero h)
+getD-from i (suc n) zero d h = omega arith
+getD-from i (suc n) (suc j) d h = getD-from (suc i) n j d (le-of-suc-le-suc h) ∙ omega arith
+
+-- number j of the numbers below n is j
+pub getD-upto : (n j d : ℕ) → j < n → getD (upto n) j d ≡ j
+getD-upto n j d h = getD-from 0 n j d h ∙ omega arith
+
+pub from-in : (n i j : ℕ) → i ≤ j → j < i + n → List·Memᴰ j (from i n)
+from-in zero i j h l = absurd (omega arith)
+from-in (suc n) i j h l = elim (ℕ-discrete j i) [ yes e ↦ List·Memᴰ·head e | no k ↦ List·Memᴰ·tail (from-in n (suc i) j (omega arith) (omega arith)) ]
+
+-- a number below n is among the numbers below n
+pub upto-in : (n j : ℕ) → j < n → List·Memᴰ j (upto n)
+upto-in n j h = from-in n 0 j (omega arith) (omega arith)
+
+-- ---- tests
+
+pub every-mem : {A : Type 0} (p : A → Bool) {x : A} {xs : List A} → List·Memᴰ x xs → T (every p xs) → T (p x)
+every-mem p (List·Memᴰ·head {x = y} {xs = ys} e) t = subst (λ z. T (p z)) (sym e) (and-left (p y) (every p ys) t)
+every-mem p (List·Memᴰ·tail {x = y} {xs = ys} m) t = every-mem p m (and-right (p y) (every p ys) t)
+
+pub every-at : {A : Type 0} (p : A → Bool) (xs : List A) (i : ℕ) (d : A) → i < length xs → T (every p xs) → T (p (getD xs i d))
+every-at p xs i d h t = every-mem p (mem-getD xs i d h) t
+
+pub or-left : (a b : Bool) → T a → T (a || b)
+or-left true b t = tt
+or-left false b t = absurd t
+
+pub or-right : (a b : Bool) → T b → T (a || b)
+or-right true b t = tt
+or-right false b t = t
+
+-- a test holds if it holds where it does not hold
+pub by-contradiction : (b : Bool) → ((T b → ⊥) → T b) → T b
+by-contradiction true h = tt
+by-contradiction false h = h (λ t. t)
+
+-- a test that does not hold of every element fails for one
+pub every-fails : {A : Type 0} (p : A → Bool) (xs : List A) → (T (every p xs) → ⊥) → (x : A) × List·Memᴰ x xs × (T (p x) → ⊥)
+every-fails p [] h = absurd (h tt)
+every-fails {A} p (x ∷ xs) h = go (p x) refl h (every-fails p xs)
+  where
+    go : (b : Bool) → p x ≡ b → (T (b && every p xs) → ⊥) → ((T (every p xs) → ⊥) → (y : A) × List·Memᴰ y xs × (T (p y) → ⊥))
+        → (y : A) × List·Memᴰ y (x ∷ xs) × (T (p y) → ⊥)
+    go true e k r = let s = r k in (s .0, List·Memᴰ·tail (s .1), s .2)
+    go false e k r = (x, List·Memᴰ·head refl, λ t. subst T e t)
+
+-- a test that holds pairwise holds of the elements at two positions, the first one before the other
+pub pairwise-at : {A : Type 0} (p : A → A → Bool) (xs : List A) (i j : ℕ) (d : A) → i < j → j < length xs → T (pairwise p xs) → T (p (getD xs i d) (getD xs j d))
+pairwise-at p [] i j d h l t = absurd (not-suc-le-zero l)
+pairwise-at p (x ∷ xs) i zero d h l t = absurd (not-suc-le-zero h)
+pairwise-at p (x ∷ xs) zero (suc j) d h l t = every-at (p x) xs j d (le-of-suc-le-suc l) (and-left (every (p x) xs) (pairwise p xs) t)
+pairwise-at p (x ∷ xs) (suc i) (suc j) d h l t =
+    pairwise-at p xs i j d (le-of-suc-le-suc h) (le-of-suc-le-suc l) (and-right (every (p x) xs) (pairwise p xs) t)
+
+pub member-mem : (x : ℕ) (xs : List ℕ) → T (member x xs) → List·Memᴰ x xs
+member-mem x [] t = absurd t
+member-mem x (y ∷ ys) t =
+    ⊎-elim (λ e. List·Memᴰ·head (eqb→eq x y e)) (λ m. List·Memᴰ·tail (member-mem x ys m)) (or-cases (eqb x y) (member x ys) t)
+
+-- ---- an element that stands twice
+
+-- some element stands twice
+pub data Repeats : List ℕ → Type 0 where
+  here : {x : ℕ} {xs : List ℕ} → List·Memᴰ x xs → Repeats (x ∷ xs)
+  later : {x : ℕ} {xs : List ℕ} → Repeats xs → Repeats (x ∷ xs)
+
+mem-or : (x : ℕ) (xs : List ℕ) → List·Memᴰ x xs ⊎ (List·Memᴰ x xs → ⊥)
+mem-or x [] = inr List·Memᴰ·not-nil
+mem-or x (y ∷ ys) = go (ℕ-discrete x y) (mem-or x ys)
+  where
+    go : Dec (x ≡ y) → List·Memᴰ x ys ⊎ (List·Memᴰ x ys → ⊥) → List·Memᴰ x (y ∷ ys) ⊎ (List·Memᴰ x (y ∷ ys) → ⊥)
+    go (yes e) r = inl (List·Memᴰ·head e)
+    go (no n) (inl m) = inl (List·Memᴰ·tail m)
+    go (no n) (inr k) = inr (λ m. ⊎-elim n k (List·Memᴰ·cases-cons m))
+
+-- a list without one of its elements
+record Without (x : ℕ) (ys : List ℕ) : Type 0 where
+  rest : List ℕ
+  shorter : suc (length rest) ≡ length ys
+  others : (u : ℕ) → (u ≡ x → ⊥) → List·Memᴰ u ys → List·Memᴰ u rest
+
+without : {x : ℕ} {ys : List ℕ} → List·Memᴰ x ys → Without x ys
+without {x} (List·Memᴰ·head {x = y} {xs = ys} e) =
+    record { rest = ys; shorter = refl; others = λ u n m. ⊎-elim (λ k. absurd (n (k ∙ sym e))) (λ k. k) (List·Memᴰ·cases-cons m) }
+without {x} (List·Memᴰ·tail {x = y} {xs = ys} m) =
+    let r = without m in
+    record {
+      rest = y ∷ r .rest;
+      shorter = ap suc (r .shorter);
+      others = λ u n k. ⊎-elim (λ e. List·Memᴰ·head e) (λ q. List·Memᴰ·tail (r .others u n q)) (List·Memᴰ·cases-cons k);
+    }
+
+-- pigeonhole: where all elements of a list are in a shorter one, some element stands twice
+pub pigeonhole : (xs ys : List ℕ) → length ys < length xs → ((x : ℕ) → List·Memᴰ x xs → List·Memᴰ x ys) → Repeats xs
+pigeonhole [] ys l h = absurd (not-suc-le-zero l)
+pigeonhole (x ∷ xs) ys l h =
+    let r = without (h x (List·Memᴰ·head refl)) in
+    ⊎-elim here
+    (λ n. later (pigeonhole xs (r .rest) (omega (arith, r .shorter)) (λ y m. r .others y (λ e. n (Memᴰ·cast (sym e) m)) (h y (List·Memᴰ·tail m)))))
+    (mem-or x xs)
