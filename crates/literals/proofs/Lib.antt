@@ -1,0 +1,2 @@
+-- The laws of `literals`. Assumes nothing.
+pub mod Words

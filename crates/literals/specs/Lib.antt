@@ -1,0 +1,2 @@
+-- What the contracts of `literals` cite. Assumes nothing.
+pub mod Literal

@@ -1,0 +1,7 @@
+-- The laws of `numbers`. Assumes nothing.
+pub mod Digits
+pub mod ReadBack
+pub mod Run
+pub mod Gather
+pub mod Reading
+pub mod Writing
