@@ -1,0 +1,6 @@
+pub mod Tests
+pub mod Reading
+pub mod Storing
+pub mod Lines
+pub mod Heading
+pub mod Tail

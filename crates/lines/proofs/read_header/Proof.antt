@@ -1,0 +1,87 @@
+-- `lines::read_header` meets its contract: the numbers stand in a buffer of zeros. Assumes nothing.
+use mathlib.Core.Path.{_≡_, sym, _∙_, subst}
+use mathlib.Core.Bool.{true}
+use mathlib.Core.List.{List}
+use Prim.Native.Nat.{ℕ, _≤_}
+use native.Mathlib.Omega.{arith}
+use lib.ListN.{length, replicate}
+use Rattle.lines.specs.Lines.{RowAt}
+use Rattle.lines.specs.Header.{HeaderAt, namedAag}
+use Rattle.lines.specs.declared.Counts.{Counts}
+use Rattle.lines.specs.declared.Row.{Row}
+use Rattle.lines.specs.declared.Header.the-variants.{Read}
+use Rattle.lines.proofs.Storing.{zeros}
+use Rattle.lines.proofs.Heading.{not-named, no-row, few, enough}
+use borrow.Author.Needs.{needs}
+use Rattle.lines.proofs.read_header.Statement.{statement}
+use Rattle.lines.proofs.read_header.Tie as tie
+
+abbrev S : tie.After-read-row → List ℕ
+S n = n .before .before .before .before .before .args .s .now
+
+abbrev list : tie.After-read-row → List ℕ
+list n = n .read-row .last .1 .1 .1 .0
+
+named : (n : tie.After-read-row) → namedAag (S n) ≡ true
+named n = sym (n .before .before .before .is-named .ensures) ∙ n .before .before .if1 .taken
+
+room : (n : tie.After-read-row) → 9 ≤ length (list n)
+room n = omega (arith, n .read-row .kept .1 .1 .1 .0)
+
+-- the answer of the call is the variant that the match found
+found : (n : tie.After-read-row) (r : Row) → n .read-row .result ≡ r → RowAt (S n) 4 9 (replicate 9 0) (list n) r
+found n r e = subst (RowAt (S n) 4 9 (replicate 9 0) (list n)) e (n .read-row .ensures)
+
+is-named-requires : tie.Need-is-named-requires
+is-named-requires c κs = search needs
+
+slice-aggregate-read-row : tie.Need-slice-aggregate-read-row
+slice-aggregate-read-row c = search needs
+
+read-row-requires : tie.Need-read-row-requires
+read-row-requires c κs = search needs
+
+enum-known-count : tie.Need-enum-known-count
+enum-known-count c = search needs
+
+returns : tie.Need-returns
+returns c =
+    let n = c .before .before .before .before .before in
+    few (S n) (named n) (replicate 9 0) (list n) _ _ (room n) (found n _ (c .before .before .count .given .1)) (omega arith)
+
+counts-of-requires : tie.Need-counts-of-requires
+counts-of-requires c κs = search needs
+
+returns-2 : tie.Need-returns-2
+returns-2 c =
+    let e = c .before .before in
+    let n = e .before .before .before .before .before in
+    let next = e .before .before .count .given .0 .1 .0 in
+    subst (λ (h : Counts). HeaderAt (S n) (Read h next)) (sym (c .counts-of .ensures))
+    (enough (S n) (named n) (replicate 9 0) (list n) _ _ (room n) (found n _ (e .before .before .count .given .1)) (zeros 9) (omega arith))
+
+enum-told : tie.Need-enum-told
+enum-told c = search needs
+
+returns-3 : tie.Need-returns-3
+returns-3 c =
+    let n = c .before .before .before in
+    no-row (S n) (named n) (found n _ (c .enum-told .given .1))
+
+returns-4 : tie.Need-returns-4
+returns-4 c = not-named (c .before .before .before .args .s .now) (sym (c .before .is-named .ensures) ∙ c .if1 .left)
+
+pub read-header-spec : {M : Type 1} → statement M
+read-header-spec =
+    tie.close
+    (tie.spec
+    is-named-requires
+    slice-aggregate-read-row
+    read-row-requires
+    enum-known-count
+    returns
+    counts-of-requires
+    returns-2
+    enum-told
+    returns-3
+    returns-4)
