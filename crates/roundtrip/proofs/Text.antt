@@ -1,104 +1,20 @@
 -- Numbers and lines: what is written is read back, and how long it is. Assumes nothing.
-use mathlib.Core.Path.{_≡_, refl, sym, _∙_}
+use mathlib.Core.Path.{_≡_, refl}
 use mathlib.Core.Bool.{Bool, true, false, _&&_}
 use mathlib.Core.List.{List, [], _∷_, _++_, append-assoc}
 use mathlib.Core.Option.{some}
-use mathlib.Core.Logic.{_≢_}
-use Prim.Native.Nat.{ℕ, zero, suc, _+_, _-_, _*_, _/_, _%_, _^_, _≤_, _<_}
-use native.Mathlib.Nat.{not-suc-le-zero, pow-suc, mul-suc, mul-le-mul-left}
+use Prim.Native.Nat.{ℕ, zero, suc, _+_, _*_, _^_, _≤_, _<_}
+use native.Mathlib.Nat.{not-suc-le-zero, mul-suc, mul-le-mul-left}
 use native.Mathlib.Omega.{arith}
-use native.Mathlib.Decide.{decLt}
 use lib.Dec.{T, leb, ltb, leb→le, le→leb, ltb→lt, lt→ltb}
-use borrow.Author.Tests.{lt-ltb, le-ltb, le-leb, ne-eqb}
-use lib.ListN.{length, getD, length-append, List·getD-append}
+use borrow.Author.Tests.{le-leb}
+use lib.ListN.{length, length-append}
 use Rattle.aiger.specs.Lists.{every}
-use Rattle.aiger.specs.Text.{spaced, ended, bytes, isDigit, isNumber, decimal, span, endedBy, token, row, rows, digitsUpTo, digits}
+use Rattle.aiger.specs.Text.{bytes, row, rows, digits}
 use Rattle.aiger.specs.Write.{lineOf, linesOf}
-use Rattle.aiger.proofs.Tests.{and, and-left, and-right, true-T, every-imp}
-use Rattle.roundtrip.proofs.Lists.{every-append}
-
-decimal-snoc : (a d : ℕ) (w : List ℕ) → decimal a (w ++ (d ∷ [])) ≡ decimal a w * 10 + (d - 48)
-unfolding decimal
-decimal-snoc a d [] = refl
-decimal-snoc a d (c ∷ w) = decimal-snoc (a * 10 + (c - 48)) d w
-
--- the digit of a number below 10
-one-digit : (n : ℕ) → n < 10 → T (isDigit (48 + n))
-one-digit n h = and (leb 48 (48 + n)) (leb (48 + n) 57) (le→leb 48 (48 + n) (omega arith)) (le→leb (48 + n) 57 (omega arith))
-
--- what holds of the digits of n
-pub record Digits (k n : ℕ) (w : List ℕ) : Type 0 where
-  pub all : T (every isDigit w)
-  pub some-one : 1 ≤ length w
-  pub few : length w ≤ k + 1
-  pub lead : 0 < n → getD w 0 0 ≢ 48
-  pub value : decimal 0 w ≡ n
-
-single : (k n : ℕ) → n < 10 → Digits k n ((48 + n) ∷ [])
-unfolding decimal
-single k n h =
-    record {
-      all = and (isDigit (48 + n)) true (one-digit n h) tt;
-      some-one = omega arith;
-      few = omega arith;
-      lead = λ l e. omega arith;
-      value = omega arith;
-    }
-
-snoc : (k n : ℕ) (w : List ℕ) → 10 ≤ n → Digits k (n / 10) w → Digits (suc k) n (w ++ ((48 + n % 10) ∷ []))
-snoc k n w h d =
-    record {
-      all = every-append isDigit w ((48 + n % 10) ∷ []) (d .all) (and (isDigit (48 + n % 10)) true (one-digit (n % 10) (omega arith)) tt);
-      some-one = omega (arith, length-append w ((48 + n % 10) ∷ []), d .some-one);
-      few = omega (arith, length-append w ((48 + n % 10) ∷ []), d .few);
-      lead = λ l e. d .lead (omega arith) (sym (List·getD-append w ((48 + n % 10) ∷ []) 0 0 (d .some-one)) ∙ e);
-      value = decimal-snoc 0 (48 + n % 10) w ∙ omega (arith, d .value);
-    }
-
--- the digits of a number below ten to the power k + 1
-pub digits-are : (k n : ℕ) → n < 10 ^ suc k → Digits k n (digitsUpTo k n)
-unfolding digitsUpTo
-digits-are zero n h = single zero n h
-digits-are (suc k) n h =
-    elim (decLt n 10) [
-      | yes l ↦ simp (lt-ltb n 10 l) (single (suc k) n l)
-      | no l ↦
-          let less : n / 10 < 10 ^ suc k = omega (arith, pow-suc 10 (suc k)) in
-          simp (le-ltb n 10 (omega arith)) (snoc k n (digitsUpTo k (n / 10)) (omega arith) (digits-are k (n / 10) less))
-    ]
-
--- the digits of a number are a number
-pub digits-number : (n : ℕ) → n < 10 ^ 10 → isNumber (digits n) ≡ true
-unfolding isNumber digitsUpTo
-digits-number zero h = refl
-digits-number (suc m) h =
-    let w = digits (suc m) in
-    let d = digits-are 9 (suc m) h in
-    simp (true-T (every isDigit w) (d .all), le-leb 1 (length w) (d .some-one), le-leb (length w) 10 (d .few), ne-eqb (getD w 0 0) 48 (d .lead (omega arith)))
-
--- digits before something else are the digits at the front
-pub span-digits : (w f : List ℕ) (c : ℕ) → T (every isDigit w) → isDigit c ≡ false → span (w ++ c ∷ f) ≡ (w, c ∷ f)
-unfolding span
-span-digits [] f c h e = rw e
-span-digits (d ∷ w) f c h e =
-    simp (true-T (isDigit d) (and-left (isDigit d) (every isDigit w) h), span-digits w f c (and-right (isDigit d) (every isDigit w) h) e)
-
--- the digits of n are read back as n, with what follows them
-pub token-digits : (n c : ℕ) (f : List ℕ) → n < 10 ^ 10 → isDigit c ≡ false → token (digits n ++ c ∷ f) ≡ endedBy n (c ∷ f)
-unfolding token
-token-digits n c f h e =
-    let d = digits-are 9 n h in
-    simp (span-digits (digits n) f c (d .all) e, digits-number n h, d .value)
-
--- the digits of n before a space
-pub token-spaced : (n : ℕ) (f : List ℕ) → n < 10 ^ 10 → token (digits n ++ 32 ∷ f) ≡ spaced n f
-unfolding endedBy
-token-spaced n f h = token-digits n 32 f h refl
-
--- the digits of n before a line feed
-pub token-ended : (n : ℕ) (f : List ℕ) → n < 10 ^ 10 → token (digits n ++ 10 ∷ f) ≡ ended n f
-unfolding endedBy
-token-ended n f h = token-digits n 10 f h refl
+use Rattle.aiger.proofs.Tests.{and-left, and-right, every-imp}
+use Rattle.numbers.proofs.Digits.{digits-short}
+use Rattle.numbers.proofs.ReadBack.{digits-spaced, digits-ended}
 
 -- n is below the bound
 abbrev pub below : ℕ → ℕ → Bool
@@ -109,12 +25,12 @@ pub row-line : (most n : ℕ) (ns : List ℕ) → length ns < most → T (every 
     → row most (lineOf n ns ++ f) ≡ some (n ∷ ns, f)
 unfolding row lineOf
 row-line zero n ns l h f = absurd (not-suc-le-zero l)
-row-line (suc most) n [] l h f = simp (append-assoc, token-ended n f (ltb→lt n (10 ^ 10) (and-left (below (10 ^ 10) n) true h)))
+row-line (suc most) n [] l h f = simp (append-assoc, digits-ended n f (ltb→lt n (10 ^ 10) (and-left (below (10 ^ 10) n) true h)))
 row-line (suc most) n (m ∷ ns) l h f =
     let b = below (10 ^ 10) in
     simp (
       append-assoc,
-      token-spaced n (lineOf m ns ++ f) (ltb→lt n (10 ^ 10) (and-left (b n) (every b (m ∷ ns)) h)),
+      digits-spaced n (lineOf m ns ++ f) (ltb→lt n (10 ^ 10) (and-left (b n) (every b (m ∷ ns)) h)),
       row-line most m ns (omega arith) (and-right (b n) (every b (m ∷ ns)) h) f,
     )
 
@@ -163,19 +79,6 @@ rows-lines bound least most b ((n ∷ ns) ∷ ls) h f =
       le-leb least (suc (length ns)) (r .long),
       rows-lines bound least most b ls (and-right (p (n ∷ ns)) (every p ls) h) f,
     )
-
--- a number below ten to the power j + 1 has at most j + 1 digits
-pub digits-short : (k j n : ℕ) → n < 10 ^ suc j → length (digitsUpTo k n) ≤ suc j
-unfolding digitsUpTo
-digits-short zero j n h = omega arith
-digits-short (suc k) zero n h = simp (lt-ltb n 10 h) (omega arith)
-digits-short (suc k) (suc j) n h =
-    elim (decLt n 10) [
-      | yes l ↦ simp (lt-ltb n 10 l) (omega arith)
-      | no l ↦
-          let less : n / 10 < 10 ^ suc j = omega (arith, pow-suc 10 (suc j)) in
-          simp (le-ltb n 10 (omega arith)) (omega (arith, length-append (digitsUpTo k (n / 10)) ((48 + n % 10) ∷ []), digits-short k j (n / 10) less))
-    ]
 
 -- a number below ten to the power j + 1 takes at most j + 2 bytes of its line
 pub line-short : (j n : ℕ) (ns : List ℕ) → T (every (below (10 ^ suc j)) (n ∷ ns)) → length (lineOf n ns) ≤ (j + 2) * suc (length ns)

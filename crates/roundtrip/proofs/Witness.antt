@@ -16,7 +16,7 @@ use Rattle.aiger.specs.Frames.{Run, starts, run, isFree}
 use Rattle.aiger.specs.Witness.{bitLine, bitLines, witness, witnessLength, bits, bitRows, readRun, readWitness}
 use Rattle.aiger.proofs.Tests.{and-left, and-right, T-true}
 use Rattle.roundtrip.proofs.Lists.{upto-length, every-made, cond-length}
-use Rattle.roundtrip.proofs.Text.{token-ended}
+use Rattle.numbers.proofs.ReadBack.{digits-ended}
 
 -- a row of n values
 abbrev pub wide : ℕ → List Bool → Bool
@@ -82,7 +82,7 @@ module _ (c : Circuit) (b t : ℕ) (r : Run) (s : Shaped c t r) where
       let first : bits (length (c .latches)) f ≡ some (r .start, w) = rw (← s .start) (bits-line (r .start) w) in
       simp (
         append-assoc,
-        token-ended b f small,
+        digits-ended b f small,
         lt-ltb b (length (c .bads)) h,
         first,
         bits-lines (length (c .inputs)) 256 (r .rows) (s .inputs) few,
