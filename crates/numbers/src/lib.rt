@@ -95,7 +95,7 @@ pub fn read_number(s: &[u8], at: usize) -> Number
 }
 
 // How many digits n is written with.
-fn digit_count(n: u32) -> usize
+pub fn digit_count(n: u32) -> usize
     ensures { λ r. ⌜ r ≡ length (digits n) ⌝ }
 {
     let mut count: usize = 1;

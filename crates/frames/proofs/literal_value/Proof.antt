@@ -1,0 +1,30 @@
+-- `frames::literal_value` meets its contract. Assumes nothing.
+use Prim.Native.Nat.{_/_, _%_}
+use native.Mathlib.Omega.{arith}
+use lib.ListN.{getD}
+use Rattle.frames.proofs.Bits.{sign-bit}
+use borrow.Author.Needs.{needs}
+use Rattle.frames.proofs.literal_value.Statement.{statement}
+use Rattle.frames.proofs.literal_value.Tie as tie
+
+cast-v : tie.Need-cast-v
+cast-v c = search needs
+
+cast-s : tie.Need-cast-s
+cast-s c = search needs
+
+mul-result : tie.Need-mul-result
+mul-result c = search needs
+
+shared-slice-read-result : tie.Need-shared-slice-read-result
+shared-slice-read-result c = search needs
+
+mul-result-2 : tie.Need-mul-result-2
+mul-result-2 c = search needs
+
+returns : tie.Need-returns
+returns c = λ p h. sign-bit (getD (c .before .args .values .now) (c .before .args .l / 2) 0) (c .before .args .l % 2) p (omega arith) h
+
+pub literal-value-spec : {M : Type 1} → statement M
+literal-value-spec =
+    tie.close (tie.spec cast-v cast-s mul-result shared-slice-read-result mul-result-2 returns)

@@ -1,0 +1,91 @@
+-- `frames::next_state` meets its contract. Assumes nothing.
+use mathlib.Core.Path.{_≡_, refl, _∙_}
+use Prim.Native.Nat.{ℕ, _+_, _-_, _*_, _≤_, _<_}
+use native.Mathlib.Omega.{arith}
+use lib.ListN.{length, getD, length-set}
+use Rattle.aiger.specs.Bits.{bit}
+use Rattle.aiger.specs.Frames.{value}
+use Rattle.roundtrip.specs.Words.{word}
+use Rattle.frames.specs.Lanes.{lane}
+use Rattle.frames.proofs.Stores.{next-more}
+use Rattle.frames.proofs.next_state.Statement.{statement}
+use Rattle.frames.proofs.next_state.Tie as tie
+
+abbrev Inv-loop : tie.InvT-loop
+Inv-loop m values state₀ count latches j₀ state j =
+    (j ≤ count) × (length state ≡ length state₀)
+    × ((i : ℕ) → i < j → (p : ℕ) → p < 64 → bit (getD state i 0) p ≡ value (lane values p) (word m (latches + 3 * i + 1)))
+
+abbrev μ-loop : tie.MeasureT-loop
+μ-loop m values state₀ count latches j₀ state j = count - j
+
+loop-holds : tie.Need-loop-holds Inv-loop μ-loop
+loop-holds c = (omega arith, refl, λ i l. absurd (omega arith))
+
+mul-literal-value : tie.Need-mul-literal-value Inv-loop μ-loop
+mul-literal-value c = omega arith
+
+add-literal-value : tie.Need-add-literal-value Inv-loop μ-loop
+add-literal-value c = omega arith
+
+add-literal-value-2 : tie.Need-add-literal-value-2 Inv-loop μ-loop
+add-literal-value-2 c = omega arith
+
+mul-literal-value-2 : tie.Need-mul-literal-value-2 Inv-loop μ-loop
+mul-literal-value-2 c = omega arith
+
+shared-slice-read-literal-value : tie.Need-shared-slice-read-literal-value Inv-loop μ-loop
+shared-slice-read-literal-value c = omega arith
+
+literal-value-requires : tie.Need-literal-value-requires Inv-loop μ-loop
+literal-value-requires c κs = c .before .before .before .before .before .before .pre .1 (c .before .before .loop .j) (c .before .loop-test .taken)
+
+mul-state : tie.Need-mul-state Inv-loop μ-loop
+mul-state c = omega arith
+
+slice-write-state : tie.Need-slice-write-state Inv-loop μ-loop
+slice-write-state c = omega arith
+
+add-j : tie.Need-add-j Inv-loop μ-loop
+add-j c = omega arith
+
+loop-less : tie.Need-loop-less Inv-loop μ-loop
+loop-less c = omega arith
+
+loop-again : tie.Need-loop-again Inv-loop μ-loop
+loop-again c =
+    let L = c .before .before .before .loop in
+    let S = c .before .before .before .before .before .before .before in (
+      omega arith,
+      length-set (L .state) _ _ ∙ L .inv .1,
+      next-more
+          (λ i x. (p : ℕ) → p < 64 → bit x p ≡ value (lane (S .args .values .now) p) (word (S .args .m .now) (S .args .layout .latches + 3 * i + 1)))
+          (L .state) (L .j) (c .literal-value .result) (omega (arith, L .inv .1)) (L .inv .2) (c .literal-value .ensures),
+    )
+
+same-length : tie.Need-same-length Inv-loop μ-loop
+same-length c = c .before .loop .inv .1
+
+returns : tie.Need-returns Inv-loop μ-loop
+returns c = λ j l. c .before .loop .inv .2 j (omega arith)
+
+pub next-state-spec : {M : Type 1} → statement M
+next-state-spec =
+    tie.close
+    (tie.spec
+    Inv-loop
+    μ-loop
+    loop-holds
+    mul-literal-value
+    add-literal-value
+    add-literal-value-2
+    mul-literal-value-2
+    shared-slice-read-literal-value
+    literal-value-requires
+    mul-state
+    slice-write-state
+    add-j
+    loop-less
+    loop-again
+    same-length
+    returns)

@@ -1,0 +1,105 @@
+// The values of a frame, for 64 runs at a time: the word of a variable has its value in run p as bit p.
+use layout::Layout;
+ghost use mathlib.Core.Path.{_≡_};
+ghost use Prim.Native.Nat.{ℕ, _+_, _*_, _/_, _≤_, _<_};
+ghost use lib.ListN.{length, getD};
+ghost use Rattle.aiger.specs.Bits.{bit};
+ghost use Rattle.aiger.specs.Circuit.{var};
+ghost use Rattle.aiger.specs.Frames.{value};
+ghost use Rattle.roundtrip.specs.Words.{word, gateIn, circuitIn};
+ghost use Rattle.frames.specs.Lanes.{lane, Ready, Evaluated, Advanced, hitIn, GateRoom, Gated, Apart, Stored};
+
+// The word of literal l.
+pub fn literal_value(values: &[u64], l: u32) -> u64
+    requires { ⌜ l / 2 < length (now values) ⌝ }
+    ensures { λ r. ⌜ ((p : ℕ) → p < 64 → bit r p ≡ value (lane (now (values .entry)) p) l) ⌝ }
+{
+    let v = (l / 2) as usize;
+    let s = (l % 2) as u64;
+    values[v] ^ (s * 0xffff_ffff_ffff_ffff)
+}
+
+// Evaluates the gate whose words stand at `at`.
+fn eval_gate(m: &[u32], at: usize, values: &mut [u64])
+    requires { ⌜ GateRoom (now m) at (length (now values)) ⌝ }
+    ensures { λ _. ⌜ Gated (gateIn (now (m .entry)) at) (now (values .entry)) (now (values .exit)) ⌝ }
+{
+    let x = literal_value(values, m[at + 1]);
+    let y = literal_value(values, m[at + 2]);
+    let v = (m[at] / 2) as usize;
+    values[v] = x & y;
+}
+
+// Evaluates all gates, where the constant, the inputs and the latches have their words.
+pub fn eval_gates(m: &[u32], layout: Layout, order: &[u32], values: &mut [u64])
+    requires { ⌜ Ready (now m) layout (now order) (length (now values)) ⌝ }
+    ensures { λ _. ⌜ Evaluated (circuitIn (now (m .entry))) (now (values .entry)) (now (values .exit)) ⌝ }
+{
+    let count = layout.a;
+    let gates = layout.gates;
+    let mut k = 0;
+    while k < count {
+        let g = order[k] as usize;
+        eval_gate(m, gates + 3 * g, values);
+        k += 1;
+    }
+}
+
+// In which runs the frame is a hit of bad line b: every constraint is true, and the bad line is.
+pub fn hit_word(m: &[u32], layout: Layout, order: &[u32], b: usize, values: &[u64]) -> u64
+    requires { ⌜ Ready (now m) layout (now order) (length (now values)) ⌝ }
+    requires { ⌜ b < word (now m) 5 ⌝ }
+    ensures { λ r. ⌜ ((p : ℕ) → p < 64 → bit r p ≡ hitIn (circuitIn (now (m .entry))) b (lane (now (values .entry)) p)) ⌝ }
+{
+    let bads = layout.bads;
+    let count = layout.c;
+    let constraints = layout.constraints;
+    let mut hit = literal_value(values, m[bads + b]);
+    let mut k = 0;
+    while k < count {
+        hit = hit & literal_value(values, m[constraints + k]);
+        k += 1;
+    }
+    hit
+}
+
+// The words of the next literals.
+fn next_state(m: &[u32], layout: Layout, values: &[u64], state: &mut [u64])
+    requires { ⌜ (layout .latches + 3 * layout .l ≤ length (now m)) × (layout .l ≤ length (now state)) ⌝ }
+    requires { ⌜ ((j : ℕ) → j < layout .l → var (word (now m) (layout .latches + 3 * j + 1)) < length (now values)) ⌝ }
+    ensures { λ _. ⌜ ((j : ℕ) → j < layout .l → (p : ℕ) → p < 64 → bit (getD (now (state .exit)) j 0) p ≡ value (lane (now (values .entry)) p) (word (now (m .entry)) (layout .latches + 3 * j + 1))) ⌝ }
+{
+    let count = layout.l;
+    let latches = layout.latches;
+    let mut j = 0;
+    while j < count {
+        state[j] = literal_value(values, m[latches + 3 * j + 1]);
+        j += 1;
+    }
+}
+
+// Gives each latch its word.
+fn put_state(m: &[u32], layout: Layout, state: &[u64], values: &mut [u64])
+    requires { ⌜ (layout .latches + 3 * layout .l ≤ length (now m)) × (layout .l ≤ length (now state)) ⌝ }
+    requires { ⌜ Apart (λ j. var (word (now m) (layout .latches + 3 * j))) (layout .l) (length (now values)) ⌝ }
+    ensures { λ _. ⌜ Stored (λ j. var (word (now (m .entry)) (layout .latches + 3 * j))) (λ j. getD (now (state .entry)) j 0) (layout .l) (now (values .entry)) (now (values .exit)) ⌝ }
+{
+    let count = layout.l;
+    let latches = layout.latches;
+    let mut j = 0;
+    while j < count {
+        let v = (m[latches + 3 * j] / 2) as usize;
+        values[v] = state[j];
+        j += 1;
+    }
+}
+
+// Gives each latch the word of its next literal, all of them read before the first is written. state is scratch.
+pub fn advance(m: &[u32], layout: Layout, order: &[u32], values: &mut [u64], state: &mut [u64])
+    requires { ⌜ Ready (now m) layout (now order) (length (now values)) ⌝ }
+    requires { ⌜ 1024 ≤ length (now state) ⌝ }
+    ensures { λ _. ⌜ Advanced (circuitIn (now (m .entry))) (now (values .entry)) (now (values .exit)) ⌝ }
+{
+    next_state(m, layout, values, state);
+    put_state(m, layout, state, values);
+}

@@ -1,0 +1,5 @@
+pub mod Validity
+pub mod Columns
+pub mod Table
+pub mod Gates
+pub mod Search

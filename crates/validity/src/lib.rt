@@ -1,0 +1,33 @@
+// Whether the circuit that words say is right: the causes 6, 7 and 8. A right one has its gates put in an order for evaluation.
+ghost use Prim.Native.Nat.{_≤_};
+ghost use lib.ListN.{length};
+ghost use Rattle.roundtrip.specs.Words.{circuitIn};
+ghost use Rattle.validity.specs.Validity.{Counted, Checks};
+
+mod columns;
+mod order;
+mod table;
+
+pub enum Checked {
+    Right,
+    Refused(u32),
+}
+
+// The first cause from 6 to 8 that refuses the circuit of w; or none, and the gates in an order of evaluation.
+pub fn check(w: &[u32], order: &mut [u32]) -> Checked
+    requires { ⌜ Counted (now w) ⌝ }
+    requires { ⌜ 3072 ≤ length (now order) ⌝ }
+    ensures { λ r. ⌜ Checks (circuitIn (now (w .entry))) (now (order .exit)) r ⌝ }
+{
+    let mut table = [0u32; 4097];
+    if !table::literals(w, &mut table) {
+        return Checked::Refused(6);
+    }
+    if !table::uses(w, &table) {
+        return Checked::Refused(7);
+    }
+    if !order::ordered(w, &table, order) {
+        return Checked::Refused(8);
+    }
+    Checked::Right
+}
