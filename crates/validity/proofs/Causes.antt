@@ -60,7 +60,8 @@ module _ (w : List ℕ) where
   unfolding definition
   distinct-in D =
       pairwise-in other (defined (circuitIn w)) 0
-      (λ i j h l. not-T (eqb (getD (defined (circuitIn w)) i 0) (getD (defined (circuitIn w)) j 0)) (λ t. D .apart i j h (omega (arith, length-defined w)) (ap (λ (x : ℕ). x / 2) (eqb→eq _ _ t))))
+      (λ i j h l. not-T (eqb (getD (defined (circuitIn w)) i 0) (getD (defined (circuitIn w)) j 0))
+      (λ t. D .apart i j h (omega (arith, length-defined w)) (ap (λ (x : ℕ). x / 2) (eqb→eq _ _ t))))
 
   distinct-out : T (pairwise other (defined (circuitIn w))) → (i j : ℕ) → i < j → j < total w → definition w i ≡ definition w j → ⊥
   unfolding definition
@@ -77,7 +78,8 @@ module _ (w : List ℕ) where
   unfolding circuitIn
   resets-in r =
       every-in reset-right (map latch (upto (word w 2))) (latch 0)
-      (λ j l. let k : j < word w 2 = omega (arith, length-range latch (word w 2)) in subst (λ (x : Latch). T (reset-right x)) (sym (getD-range latch (word w 2) j (latch 0) k)) (r j k))
+      (λ j l. let k : j < word w 2 = omega (arith, length-range latch (word w 2)) in subst (λ (x : Latch). T (reset-right x))
+      (sym (getD-range latch (word w 2) j (latch 0) k)) (r j k))
 
   resets-out : T (every reset-right (circuitIn w .latches)) → Resets w
   unfolding circuitIn

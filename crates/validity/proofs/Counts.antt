@@ -48,6 +48,7 @@ module _ (w : List ℕ) where
         gates = omega (arith, gate-count w, leb→le (length (c .gates)) 3072 (test 4));
         bads = omega (arith, bads, leb→le (length (c .bads)) 16 (test 5));
         constraints = omega (arith, constraints, leb→le (length (c .constraints)) 16 (test 6));
-        sum = omega (arith, max-var w, inputs, latches, gate-count w, leb→le (length (c .inputs) + length (c .latches) + length (c .gates)) (c .maxVar) (test 9));
+        sum = omega
+            (arith, max-var w, inputs, latches, gate-count w, leb→le (length (c .inputs) + length (c .latches) + length (c .gates)) (c .maxVar) (test 9));
         held = held;
       }

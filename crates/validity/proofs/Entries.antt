@@ -49,7 +49,8 @@ module _ (w : List ℕ) where
         record {
           room = omega (arith, length-set t v (n + 1), E .room);
           right = λ i l. right′ i (ℕ-discrete i n) l;
-          has = λ i l. ⊎-elim (λ r. r .1 ∙ same i (r .0) l (ℕ-discrete i n)) (λ r. r .1 ∙ E .has i (less i (r .0) l (ℕ-discrete i n))) (reads t v (n + 1) (definition w i / 2) here);
+          has = λ i l. ⊎-elim (λ r. r .1 ∙ same i (r .0) l (ℕ-discrete i n)) (λ r. r .1 ∙ E .has i (less i (r .0) l (ℕ-discrete i n)))
+              (reads t v (n + 1) (definition w i / 2) here);
           only = λ u i e.
               ⊎-elim (λ r. let k : i ≡ n = omega arith in (omega arith, rw k (sym (r .0))))
               (λ r. let q = E .only u i (sym (r .1) ∙ e) in (omega (arith, q .0), q .1))
@@ -88,7 +89,8 @@ module _ (w : List ℕ) where
 
 -- ---- a column is entered
 
-module _ (w : List ℕ) (c : Column) (m base : ℕ) (t₀ : List ℕ) (D : Defining w c m base t₀) (i : ℕ) (h : i < c .n) (t : List ℕ) (E : Entered w (base + i) t) where
+module _ (w : List ℕ) (c : Column) (m base : ℕ) (t₀ : List ℕ) (D : Defining w c m base t₀) (i : ℕ) (h : i < c .n) (t : List ℕ)
+    (E : Entered w (base + i) t) where
   pub define-more : (u : List ℕ) → Enters m (at w c i) (base + i + 1) t u true → Entered w (base + (i + 1)) u
   define-more u e =
       let k : base + (i + 1) ≡ base + i + 1 = omega arith in

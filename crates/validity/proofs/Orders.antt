@@ -75,8 +75,10 @@ module _ (w : List ℕ) where
       record {
         room = omega (arith, length-drop (gatesAt w) w, C .held);
         small = omega (arith, C .sum, C .maxVar);
-        left = λ g l. rw (operand-at g 1) (let e : gatesAt w + 1 + 3 * g ≡ gatesAt w + 3 * g + 1 = omega arith in omega (arith, rw e at (u .lefts g l), E .room));
-        right = λ g l. rw (operand-at g 2) (let e : gatesAt w + 2 + 3 * g ≡ gatesAt w + 3 * g + 2 = omega arith in omega (arith, rw e at (u .rights g l), E .room));
+        left = λ g l. rw (operand-at g 1)
+            (let e : gatesAt w + 1 + 3 * g ≡ gatesAt w + 3 * g + 1 = omega arith in omega (arith, rw e at (u .lefts g l), E .room));
+        right = λ g l. rw (operand-at g 2)
+            (let e : gatesAt w + 2 + 3 * g ≡ gatesAt w + 3 * g + 2 = omega arith in omega (arith, rw e at (u .rights g l), E .room));
         bound = λ v. bound v (ℕ-discrete (getD t v 0) 0);
         drives = λ g l. ap (λ (x : ℕ). getD t (x / 2) 0) (lit-at g ∙ gate-place w g l) ∙ E .has (word w 1 + word w 2 + g) (omega arith);
         only = λ v g e. let q = E .only v (word w 1 + word w 2 + g) e in ap (λ (x : ℕ). x / 2) (lit-at g ∙ gate-place w g (omega (arith, q .0))) ∙ q .1;
@@ -115,7 +117,8 @@ module _ (w : List ℕ) where
     rank-gate a g (yes z) e = absurd (omega arith)
     rank-gate a g (no z) e = ap (λ (x : ℕ). getD pos x 0) (omega arith)
 
-    rank-less : (v k : ℕ) (d : Dec (getD t v 0 ≤ base)) → 0 < k → ((h : ℕ) → h < m → getD lits (3 * h) 0 / 2 ≡ v → getD pos h 0 < k) → rank-of (getD t v 0) d < k
+    rank-less : (v k : ℕ) (d : Dec (getD t v 0 ≤ base)) → 0 < k → ((h : ℕ) → h < m → getD lits (3 * h) 0 / 2 ≡ v → getD pos h 0 < k)
+        → rank-of (getD t v 0) d < k
     unfolding rank-of
     rank-less v k (yes z) p f = p
     rank-less v k (no z) p f = let h : ℕ = getD t v 0 - base - 1 in f h (omega (arith, L .bound v)) (L .only v h (omega arith))
@@ -124,9 +127,11 @@ module _ (w : List ℕ) where
     unfolding rank
     acyclic-order order I = ranked c rank (λ g l. below g (omega (arith, gate-count)))
       where
-        below : (g : ℕ) → g < m → (rank (var (gateAt c g .left)) < rank (var (gateAt c g .lit))) × (rank (var (gateAt c g .right)) < rank (var (gateAt c g .lit)))
+        below : (g : ℕ) → g < m
+            → (rank (var (gateAt c g .left)) < rank (var (gateAt c g .lit))) × (rank (var (gateAt c g .right)) < rank (var (gateAt c g .lit)))
         below g l =
-            let here : rank (word w (gatesAt w + 3 * g) / 2) ≡ getD pos g 0 = rank-gate _ g (decLe (getD t (word w (gatesAt w + 3 * g) / 2) 0) base) (ap (λ (x : ℕ). getD t (x / 2) 0) (sym (lit-at g)) ∙ L .drives g l) in
+            let v : ℕ = word w (gatesAt w + 3 * g) / 2 in
+            let here : rank v ≡ getD pos g 0 = rank-gate _ g (decLe (getD t v 0) base) (ap (λ (x : ℕ). getD t (x / 2) 0) (sym (lit-at g)) ∙ L .drives g l) in
             let under : (v : ℕ) → ((h : ℕ) → h < m → getD lits (3 * h) 0 / 2 ≡ v → Edge lits m g h) → rank v < getD pos g 0 =
             λ v f. rank-less v (getD pos g 0) (decLe (getD t v 0) base) (I .placed g l .0) (λ h hm e. I .before g h l (f h hm e))
             in

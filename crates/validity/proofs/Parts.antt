@@ -83,7 +83,10 @@ module _ (w : List ℕ) where
       let z : 0 + i ≡ i = omega arith in
       let k : i < length (cells (inputsOf w)) = omega (arith, length-cells (inputsOf w)) in
       rw (z, defined-cells)
-      (sym (List·getD-append (cells (inputsOf w) ++ cells (latchesOf w)) (cells (gatesOf w)) 0 i (simp length-append (omega arith)) ∙ List·getD-append (cells (inputsOf w)) (cells (latchesOf w)) 0 i k ∙ getD-range (at w (inputsOf w)) (word w 1) i 0 h))
+      (sym
+      (List·getD-append (cells (inputsOf w) ++ cells (latchesOf w)) (cells (gatesOf w)) 0 i (simp length-append (omega arith))
+      ∙ List·getD-append (cells (inputsOf w)) (cells (latchesOf w)) 0 i k
+      ∙ getD-range (at w (inputsOf w)) (word w 1) i 0 h))
 
   pub latch-place : (j : ℕ) → j < word w 2 → at w (latchesOf w) j ≡ definition w (word w 1 + j)
   unfolding definition
@@ -124,7 +127,8 @@ module _ (w : List ℕ) where
         (every-six p nextCells (cells outputsOf) (cells badsOf) (cells constraintsOf) leftCells rightCells
         (range-every (third (latchesAt w) 1) (word w 2) (λ i l. move (latchesAt w + 1 + 3 * i) (latchesAt w + 3 * i + 1) (omega arith) (u .nexts i l)))
         (range-every (at w outputsOf) (word w 3) (λ i l. u .roots i (omega arith)))
-        (range-every (at w badsOf) (word w 5) (λ i l. move (outputsAt w + 1 * (word w 3 + i)) (badsAt w + 1 * i) (omega arith) (u .roots (word w 3 + i) (omega arith))))
+        (range-every (at w badsOf) (word w 5)
+        (λ i l. move (outputsAt w + 1 * (word w 3 + i)) (badsAt w + 1 * i) (omega arith) (u .roots (word w 3 + i) (omega arith))))
         (range-every (at w constraintsOf) (word w 6)
         (λ i l. move (outputsAt w + 1 * (word w 3 + word w 5 + i)) (constraintsAt w + 1 * i) (omega arith) (u .roots (word w 3 + word w 5 + i) (omega arith))))
         (range-every (third (gatesAt w) 1) (word w 4) (λ i l. move (gatesAt w + 1 + 3 * i) (gatesAt w + 3 * i + 1) (omega arith) (u .lefts i l)))

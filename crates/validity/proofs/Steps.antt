@@ -267,7 +267,8 @@ finish lits m pos order stack sp done S z all =
 
 -- the stack from place k up to its top, and then an edge
 along : (lits : List ℕ) (m : ℕ) (stack : List ℕ) (sp k d x : ℕ)
-    → ((j : ℕ) → j + 1 < sp → Edge lits m (getD stack j 0) (getD stack (j + 1) 0)) → k + d < sp → Edge lits m (getD stack (k + d) 0) x → Reach lits m (getD stack k 0) x
+    → ((j : ℕ) → j + 1 < sp → Edge lits m (getD stack j 0) (getD stack (j + 1) 0)) → k + d < sp → Edge lits m (getD stack (k + d) 0) x
+    → Reach lits m (getD stack k 0) x
 along lits m stack sp k zero x path l e =
     let z : k + 0 ≡ k = omega arith in
     one (rw z at e)

@@ -40,8 +40,14 @@ module _ {A : Type 0} (p : A → Bool) (a b c d e f : List A) where
       let u = every-left p (a ++ b ++ c ++ d ++ e) f t in
       let v = every-left p (a ++ b ++ c ++ d) e u in
       let w = every-left p (a ++ b ++ c) d v in
-      let x = every-left p (a ++ b) c w in
-      (every-left p a b x, every-right p a b x, every-right p (a ++ b) c w, every-right p (a ++ b ++ c) d v, every-right p (a ++ b ++ c ++ d) e u, every-right p (a ++ b ++ c ++ d ++ e) f t)
+      let x = every-left p (a ++ b) c w in (
+        every-left p a b x,
+        every-right p a b x,
+        every-right p (a ++ b) c w,
+        every-right p (a ++ b ++ c) d v,
+        every-right p (a ++ b ++ c ++ d) e u,
+        every-right p (a ++ b ++ c ++ d ++ e) f t,
+      )
 
 pub every-in : {A : Type 0} (p : A → Bool) (xs : List A) (d : A) → ((i : ℕ) → i < length xs → T (p (getD xs i d))) → T (every p xs)
 every-in p [] d h = tt

@@ -45,7 +45,8 @@ module _ (w : List ℕ) (C : Counted w) where
     pub inputs-next : Same c (inputsOf w) → word w 0 < length t → ((v : ℕ) → getD t v 0 ≡ 0) → Defining w c (word w 0) 0 t
     inputs-next s room z =
         rw (same-column c (inputsOf w) s)
-        (record { inside = λ i l. omega (arith, C .held); most = refl; within = omega arith; small = small; part = input-place w; before = entered-none w t room z })
+        (record
+        { inside = λ i l. omega (arith, C .held); most = refl; within = omega arith; small = small; part = input-place w; before = entered-none w t room z })
 
     pub latches-next : Same c (latchesOf w) → (n : ℕ) → n ≡ word w 1 → Entered w (0 + n) t → Defining w c (word w 0) (word w 1) t
     latches-next s n e E =
@@ -73,7 +74,8 @@ module _ (w : List ℕ) (P : ℕ → Type 0) where
   pub column-holds : (c d : Column) → Same c d → (r : Bool) → not r ≡ false → Says r (Each w c P) → Each w d P
   column-holds c d s r e h = each-same c d s (subst (λ (x : Bool). Says x (Each w c P)) (not-false r e) h)
 
-  pub columns-hold : (c : Column) → Same c (rightsOf w) → (r : Bool) → Says r (Each w c P) → Each w (nextsOf w) P → Each w (rootsOf w) P → Each w (leftsOf w) P → Says r (Used w P)
+  pub columns-hold : (c : Column) → Same c (rightsOf w) → (r : Bool) → Says r (Each w c P) → Each w (nextsOf w) P → Each w (rootsOf w) P
+      → Each w (leftsOf w) P → Says r (Used w P)
   columns-hold c s true h n o l = record { nexts = n; roots = o; lefts = l; rights = each-same c (rightsOf w) s h }
   columns-hold c s false h n o l = λ u. h (same-each c (rightsOf w) s (u .rights))
 

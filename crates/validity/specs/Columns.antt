@@ -16,6 +16,7 @@ Says false P = P → ⊥
 abbrev pub at : List ℕ → Column → ℕ → ℕ
 at w c i = word w (c .at + c .stride * i)
 
+-- the words have the column
 abbrev pub Inside : List ℕ → Column → Type 0
 Inside w c = (i : ℕ) → i < c .n → c .at + c .stride * i < length w
 

@@ -60,6 +60,7 @@ pub record State (lits : List ℕ) (m : ℕ) (pos order stack : List ℕ) (sp do
   pub on-back : (g : ℕ) → g < m → m < getD pos g 0 → (getD pos g 0 < m + 1 + sp) × (getD stack (getD pos g 0 - (m + 1)) 0 ≡ g)
   pub path : (k : ℕ) → k + 1 < sp → Edge lits m (getD stack k 0) (getD stack (k + 1) 0)
 
+-- the search's invariant, with room for m gates in each list
 pub record Search (lits : List ℕ) (m : ℕ) (pos order stack : List ℕ) (sp done : ℕ) : Type 0 where
   pub pos-room : m ≤ length pos
   pub order-room : m ≤ length order

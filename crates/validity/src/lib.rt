@@ -8,6 +8,7 @@ mod columns;
 mod order;
 mod table;
 
+// Refused has the number of the cause.
 pub enum Checked {
     Right,
     Refused(u32),

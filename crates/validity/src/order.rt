@@ -12,19 +12,21 @@ ghost use Rattle.validity.specs.Table.{Entered, total};
 ghost use Rattle.validity.specs.Gates.{Answered};
 ghost use Rattle.validity.specs.Search.{Linked, Looked, NextOf, Search, Stepped, Sorted};
 
+// A gate that is not met; one on the stack; or one in the order, or none.
 pub enum Next {
     Fresh(usize),
     Open,
     Done,
 }
 
+// A gate went on the stack; the one on top went to the order; or the stack has a cycle.
 pub enum Step {
     Deeper,
     Placed,
     Cycle,
 }
 
-// The gate that defines variable v.
+// How far the search is with the gate that defines variable v.
 pub fn look(table: &[u32], pos: &[u32], base: usize, m: usize, v: usize) -> Next
     requires { ⌜ v < length (now table) ⌝ }
     requires { ⌜ m ≤ length (now pos) ⌝ }

@@ -12,7 +12,7 @@ ghost use Rattle.validity.specs.Validity.{Counted};
 ghost use Rattle.validity.specs.Columns.{Says, Inside, Each, Used};
 ghost use Rattle.validity.specs.Table.{Known, Defining, Enters, Defined, Resets, total, Literals};
 
-// Enters a literal that defines its variable. False where it is none, or where the variable is in the table.
+// Enters the variable of a literal under a label. False where the literal cannot define one, or where the table has it already.
 pub fn enter(table: &mut [u32], m: u32, l: u32, label: u32) -> bool
     requires { ⌜ m < length (now table) ⌝ }
     ensures { λ r. ⌜ Enters m l label (now (table .entry)) (now (table .exit)) r ⌝ }

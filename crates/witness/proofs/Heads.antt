@@ -1,5 +1,5 @@
 -- Reading the first two lines of a witness. Assumes nothing.
-use mathlib.Core.Path.{_≡_, refl, sym, ap, _∙_}
+use mathlib.Core.Path.{_≡_, refl, sym, ap, _∙_, subst}
 use mathlib.Core.Bool.{Bool, true, false, _&&_}
 use mathlib.Core.List.{List, [], _∷_}
 use mathlib.Core.Option.{Option, none, some}
@@ -16,7 +16,8 @@ use Rattle.numbers.specs.Number.{NumberAt}
 use Rattle.numbers.specs.declared.Number.{Number}
 use Rattle.numbers.specs.declared.Number.the-variants.{Ended}
 use Rattle.numbers.proofs.Reading.{NotEnded, not-ended, on-ended}
-use Rattle.witness.specs.Top.{heading, HeadingAt}
+use Rattle.witness.specs.Heading.{heading, meant, Within, Placed, HeadingAt}
+use Rattle.witness.specs.declared.Heading.{Heading}
 use Rattle.witness.specs.declared.Heading.the-variants.{Read, Malformed}
 
 abbrev both : ℕ → List ℕ → Option (ℕ × List ℕ)
@@ -88,3 +89,14 @@ module _ (w : List ℕ) (h : 3 ≤ length w) where
 -- text that is no heading
 pub no-answer : {w : List ℕ} → none ≡ heading w → HeadingAt w Malformed
 no-answer e = record { meaning = e; place = tt }
+
+-- what a caller learns from an answer
+module _ {text : List ℕ} {r : Heading} (h : HeadingAt text r) (c : Circuit) where
+  pub on-read : {b next : ℕ} → r ≡ Read b next → (readWitness c text ≡ readRun c b (drop next text)) × Within text b next
+  on-read e = (
+    heading-read c text ∙ ap (λ (o : Option (ℕ × List ℕ)). o >>= λ x. readRun c (x .0) (x .1)) (sym (h .meaning) ∙ ap (meant text) e),
+    subst (Placed text) e (h .place),
+  )
+
+  pub on-malformed : r ≡ Malformed → readWitness c text ≡ none
+  on-malformed e = heading-read c text ∙ ap (λ (o : Option (ℕ × List ℕ)). o >>= λ x. readRun c (x .0) (x .1)) (sym (h .meaning) ∙ ap (meant text) e)

@@ -1,5 +1,5 @@
 -- Reading a line of bits, and the line that ends a witness, by position. Assumes nothing.
-use mathlib.Core.Path.{_≡_, refl, sym, ap, _∙_}
+use mathlib.Core.Path.{_≡_, refl, sym, ap, _∙_, subst}
 use mathlib.Core.Bool.{Bool, true, false, _&&_, _||_}
 use mathlib.Core.List.{List, [], _∷_}
 use mathlib.Core.Logic.{_⊎_, inl, inr}
@@ -11,13 +11,18 @@ use native.Mathlib.Decide.{ℕ-discrete}
 use native.Mathlib.Omega.{arith}
 use borrow.Author.Tests.{eq-eqb, ne-eqb}
 use lib.Dec.{eqb}
-use lib.ListN.{length, drop, getD, length-drop, drop-of-length-le}
+use lib.ListN.{length, drop, getD, length-map, length-drop, drop-of-length-le}
 use lib.Seq.{drop-cons}
-use Rattle.aiger.specs.Lists.{same}
+use Rattle.aiger.specs.Lists.{same, from}
 use Rattle.aiger.specs.Text.{bytes, when, _>>_}
 use Rattle.aiger.specs.Witness.{bits}
-use Rattle.witness.specs.Line.{values, LineAt}
+use Rattle.roundtrip.proofs.Lists.{from-length}
+use Rattle.witness.specs.Line.{values, meant, Within, Placed, LineAt}
+use Rattle.witness.specs.declared.Bits.{Bits}
 use Rattle.witness.specs.declared.Bits.the-variants.{Read, Malformed}
+
+pub values-length : (text : List ℕ) (at count : ℕ) → length (values text at count) ≡ count
+values-length text at count = length-map (from at count) (λ p. eqb (getD text p 0) 49) ∙ from-length at count
 
 -- bit i of a line that was read
 pub value-at : (text : List ℕ) (at count i : ℕ) → i < count → getD (values text at count) i false ≡ eqb (getD text (at + i) 0) 49
@@ -93,6 +98,14 @@ no-answer e = record { meaning = sym e; place = tt }
 pub answer : (text : List ℕ) (at count : ℕ) → at + count < length text → ((i : ℕ) → i < count → IsBit (getD text (at + i) 0)) → getD text (at + count) 0 ≡ 10
     → LineAt text at count (Read (at + count + 1))
 answer text at count l h e = record { meaning = line text at count l h e; place = record { past = refl; inside = omega arith } }
+
+-- what a caller learns from an answer
+module _ {text : List ℕ} {at count : ℕ} {r : Bits} (h : LineAt text at count r) where
+  pub on-read : {next : ℕ} → r ≡ Read next → (bits count (drop at text) ≡ some (values text at count, drop next text)) × Within text at count next
+  on-read e = (sym (h .meaning) ∙ ap (meant text at count) e, subst (Placed text at count) e (h .place))
+
+  pub on-malformed : r ≡ Malformed → bits count (drop at text) ≡ none
+  on-malformed e = sym (h .meaning) ∙ ap (meant text at count) e
 
 -- ---- the line that ends a witness
 

@@ -12,7 +12,7 @@ ghost use Rattle.aiger.specs.Operations.{front};
 ghost use Rattle.roundtrip.specs.Words.{circuitIn};
 ghost use Rattle.witness.specs.Writing.{freeAt, rowOf, headingText, SequenceIn, StartsFit, WitnessFits};
 ghost use Rattle.witness.specs.Line.{LineAt};
-ghost use Rattle.witness.specs.Top.{HeadingAt};
+ghost use Rattle.witness.specs.Heading.{HeadingAt};
 use layout::Layout;
 use numbers::Number;
 use numbers::Put;

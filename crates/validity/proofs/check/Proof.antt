@@ -38,7 +38,8 @@ returns-2 c =
     let B = c .before in
     let S = c .before .before .before .before .before .before .before .before .before in
     let six = rw (not-false (A .literals .result) (c .before .before .before .if1 .left)) at (A .literals .ensures) in
-    judged-seven _ (six .0) (λ t. (rw (not-true (B .uses .result) (c .if2 .taken)) at (B .uses .ensures)) (uses-out (S .args .w .now) (A .literals .last .1 .0) (six .1) t))
+    judged-seven _ (six .0)
+    (λ t. (rw (not-true (B .uses .result) (c .if2 .taken)) at (B .uses .ensures)) (uses-out (S .args .w .now) (A .literals .last .1 .0) (six .1) t))
 
 slice-aggregate-ordered : tie.Need-slice-aggregate-ordered
 slice-aggregate-ordered c = search needs

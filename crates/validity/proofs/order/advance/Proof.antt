@@ -30,8 +30,13 @@ push-requires : tie.Need-push-requires
 push-requires c κs =
     let K = c .before .before .before .before .before in
     let S = K .before .before .before .before .before .before .before .before in
-    let n = rw (c .before .before .before .h .given .1) at (K .operand .ensures) in
-    (omega (arith, S .pre .0 .small), n .0 .0, omega (arith, search-room _ _ _ _ _ _ _ (S .pre .1 .0) _ (n .0 .0) (n .1)), S .pre .1 .0 .pos-room, S .pre .1 .0 .stack-room)
+    let n = rw (c .before .before .before .h .given .1) at (K .operand .ensures) in (
+      omega (arith, S .pre .0 .small),
+      n .0 .0,
+      omega (arith, search-room _ _ _ _ _ _ _ (S .pre .1 .0) _ (n .0 .0) (n .1)),
+      S .pre .1 .0 .pos-room,
+      S .pre .1 .0 .stack-room,
+    )
 
 enum-told : tie.Need-enum-told
 enum-told c = search needs
@@ -41,8 +46,13 @@ enum-told-2 c = search needs
 
 place-requires : tie.Need-place-requires
 place-requires c κs =
-    let S = c .before .before .before .before .before .before .before .before .before .before .before .before in
-    (omega (arith, S .pre .0 .small), top-gate _ _ _ _ _ _ _ (S .pre .1 .0) (S .pre .1 .1), omega (arith, counts _ _ _ _ _ _ _ (S .pre .1 .0), S .pre .1 .1), S .pre .1 .0 .pos-room, S .pre .1 .0 .order-room)
+    let S = c .before .before .before .before .before .before .before .before .before .before .before .before in (
+      omega (arith, S .pre .0 .small),
+      top-gate _ _ _ _ _ _ _ (S .pre .1 .0) (S .pre .1 .1),
+      omega (arith, counts _ _ _ _ _ _ _ (S .pre .1 .0), S .pre .1 .1),
+      S .pre .1 .0 .pos-room,
+      S .pre .1 .0 .order-room,
+    )
 
 same-length : tie.Need-same-length
 same-length c = search needs
@@ -56,7 +66,8 @@ returns c =
     let K = A .before .before .before .before .before .before in
     let S = K .before .before .before .before .before .before .before .before in
     let n = rw (A .before .before .before .before .h .given .1) at (K .operand .ensures) in
-    search-push _ _ _ _ _ _ _ (S .pre .1 .0) _ (n .0 .0) (n .1) _ _ (A .push .ensures .0) (A .push .ensures .1) (top-edge _ _ _ _ _ _ _ (S .pre .1 .0) (S .pre .1 .1) _ (n .0))
+    search-push _ _ _ _ _ _ _ (S .pre .1 .0) _ (n .0 .0) (n .1) _ _ (A .push .ensures .0) (A .push .ensures .1)
+    (top-edge _ _ _ _ _ _ _ (S .pre .1 .0) (S .pre .1 .1) _ (n .0))
 
 same-length-3 : tie.Need-same-length-3
 same-length-3 c = search needs

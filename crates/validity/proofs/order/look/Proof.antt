@@ -42,8 +42,12 @@ returns-2 c = let S = c .before .before .before .before in omega (arith, S .pre 
 
 returns-3 : tie.Need-returns-3
 returns-3 c =
-    let S = c .before .before .before .before .before in
-    (getD (S .args .table .now) (S .args .v) 0 - S .args .base - 1, omega (arith, S .pre .1 .1 (S .args .v)), omega (arith, S .pre .1 .1 (S .args .v)), c .if3 .taken)
+    let S = c .before .before .before .before .before in (
+      getD (S .args .table .now) (S .args .v) 0 - S .args .base - 1,
+      omega (arith, S .pre .1 .1 (S .args .v)),
+      omega (arith, S .pre .1 .1 (S .args .v)),
+      c .if3 .taken,
+    )
 
 returns-4 : tie.Need-returns-4
 returns-4 c =

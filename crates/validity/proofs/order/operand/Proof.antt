@@ -60,19 +60,22 @@ returns : tie.Need-returns
 returns c =
     let K = c .before .before .before in
     let S = K .before .before .before .before .before .before in
-    first-fresh (S .args .lits .now) (S .args .base) _ (S .args .table .now) (S .args .pos .now) _ (S .pre .0) _ (rw (c .before .h .given .1) at (K .look .ensures))
+    first-fresh (S .args .lits .now) (S .args .base) _ (S .args .table .now) (S .args .pos .now) _ (S .pre .0) _
+    (rw (c .before .h .given .1) at (K .look .ensures))
 
 returns-2 : tie.Need-returns-2
 returns-2 c =
     let K = c .before .before in
     let S = K .before .before .before .before .before .before in
-    first-open (S .args .lits .now) (S .args .base) _ (S .args .table .now) (S .args .pos .now) _ (S .pre .0) (rw (c .enum-told .given .1) at (K .look .ensures))
+    first-open (S .args .lits .now) (S .args .base) _ (S .args .table .now) (S .args .pos .now) _ (S .pre .0)
+    (rw (c .enum-told .given .1) at (K .look .ensures))
 
 returns-3 : tie.Need-returns-3
 returns-3 c =
     let K = c .before .before .before in
     let S = K .before .before .before .before .before .before in
-    second (S .args .lits .now) (S .args .base) _ (S .args .table .now) (S .args .pos .now) _ (S .pre .0) (rw (c .before .enum-told2 .given .1) at (K .look .ensures)) (c .look2 .result) (c .look2 .ensures)
+    second (S .args .lits .now) (S .args .base) _ (S .args .table .now) (S .args .pos .now) _ (S .pre .0)
+    (rw (c .before .enum-told2 .given .1) at (K .look .ensures)) (c .look2 .result) (c .look2 .ensures)
 
 pub operand-spec : {M : Type 1} → statement M
 operand-spec =

@@ -51,8 +51,10 @@ slice-aggregate-sort-2 c = search needs
 
 sort-requires : tie.Need-sort-requires
 sort-requires c κs =
-    let S = c .before .before .before .before .before .before .before .before .before .before .before in
-    (linked-part (S .args .w .now) (S .pre .0) (S .pre .1 .0) (S .args .table .now) (S .pre .1 .1 .0) _ (c .before .before .before .before .before .before .before .gates-at .ensures), ((omega arith, omega arith, omega arith), λ g l. zeros 3072 g))
+    let S = c .before .before .before .before .before .before .before .before .before .before .before in (
+      linked-part (S .args .w .now) (S .pre .0) (S .pre .1 .0) (S .args .table .now) (S .pre .1 .1 .0) _ (c .before .before .before .before .before .before .before .gates-at .ensures),
+      ((omega arith, omega arith, omega arith), λ g l. zeros 3072 g),
+    )
 
 same-length : tie.Need-same-length
 same-length c = search needs
@@ -61,7 +63,9 @@ returns : tie.Need-returns
 returns c =
     let A = c .before .before .before .before in
     let S = c .before .before .before .before .before .before .before .before .before .before .before .before .before .before .before .before in
-    sorted-part (S .args .w .now) (S .pre .0) (S .pre .1 .0) (S .args .table .now) (S .pre .1 .1 .0) _ (c .before .before .before .before .before .before .before .before .before .before .before .before .gates-at .ensures) _ _ (A .sort .result) (A .sort .ensures)
+    sorted-part (S .args .w .now) (S .pre .0) (S .pre .1 .0) (S .args .table .now) (S .pre .1 .1 .0) _
+    (c .before .before .before .before .before .before .before .before .before .before .before .before .gates-at .ensures) _ _ (A .sort .result)
+    (A .sort .ensures)
 
 pub ordered-spec : {M : Type 1} → statement M
 ordered-spec =

@@ -18,8 +18,12 @@ abbrev μ-loop : tie.MeasureT-loop
 
 loop-holds : tie.Need-loop-holds Inv-loop μ-loop
 loop-holds c =
-    let S = c .before .before .before .before .before in
-    (run-start _ _ (S .args .pos .now) (S .args .order .now) (S .args .stack .now) (S .pre .1 .0 .0) (S .pre .1 .0 .1) (S .pre .1 .0 .2) (S .pre .1 .1), refl, refl, refl)
+    let S = c .before .before .before .before .before in (
+      run-start _ _ (S .args .pos .now) (S .args .order .now) (S .args .stack .now) (S .pre .1 .0 .0) (S .pre .1 .0 .1) (S .pre .1 .0 .2) (S .pre .1 .1),
+      refl,
+      refl,
+      refl,
+    )
 
 advance-requires : tie.Need-advance-requires Inv-loop μ-loop
 advance-requires c κs =
@@ -46,8 +50,12 @@ loop-again : tie.Need-loop-again Inv-loop μ-loop
 loop-again c =
     let A = c .before .before .before .before .before .before .before .before in
     let L = A .before .before .before .before .before .before in
-    let n = rw (c .enum-told .given .1) at (A .advance .ensures) in
-    (run-step _ _ _ _ _ _ _ _ (L .loop .inv .0) _ _ _ _ _ (A .before .before .before .before .before .loop-test .taken) n, A .advance .kept .1 .1 .1 .1 .0 ∙ L .loop .inv .1, A .advance .kept .1 .1 .1 .1 .1 .0 ∙ L .loop .inv .2, A .advance .kept .1 .1 .1 .1 .1 .1 .0 ∙ L .loop .inv .3)
+    let n = rw (c .enum-told .given .1) at (A .advance .ensures) in (
+      run-step _ _ _ _ _ _ _ _ (L .loop .inv .0) _ _ _ _ _ (A .before .before .before .before .before .loop-test .taken) n,
+      A .advance .kept .1 .1 .1 .1 .0 ∙ L .loop .inv .1,
+      A .advance .kept .1 .1 .1 .1 .1 .0 ∙ L .loop .inv .2,
+      A .advance .kept .1 .1 .1 .1 .1 .1 .0 ∙ L .loop .inv .3,
+    )
 
 enum-told-2 : tie.Need-enum-told-2 Inv-loop μ-loop
 enum-told-2 c = search needs
@@ -65,14 +73,19 @@ loop-less-2 : tie.Need-loop-less-2 Inv-loop μ-loop
 loop-less-2 c =
     let A = c .before .before .before .before .before .before .before .before in
     let L = A .before .before .before .before .before .before in
-    omega (arith, counts _ _ _ _ _ _ _ (L .loop .inv .0 .search), A .before .before .before .before .if1 .taken, A .before .before .before .before .before .loop-test .taken)
+    omega
+    (arith, counts _ _ _ _ _ _ _ (L .loop .inv .0 .search), A .before .before .before .before .if1 .taken, A .before .before .before .before .before .loop-test .taken)
 
 loop-again-2 : tie.Need-loop-again-2 Inv-loop μ-loop
 loop-again-2 c =
     let A = c .before .before .before .before .before .before .before .before in
     let L = A .before .before .before .before .before .before in
-    let n = rw (c .enum-told2 .given .1) at (A .advance .ensures) in
-    (run-step _ _ _ _ _ _ _ _ (L .loop .inv .0) _ _ _ _ _ (A .before .before .before .before .before .loop-test .taken) n, A .advance .kept .1 .1 .1 .1 .0 ∙ L .loop .inv .1, A .advance .kept .1 .1 .1 .1 .1 .0 ∙ L .loop .inv .2, A .advance .kept .1 .1 .1 .1 .1 .1 .0 ∙ L .loop .inv .3)
+    let n = rw (c .enum-told2 .given .1) at (A .advance .ensures) in (
+      run-step _ _ _ _ _ _ _ _ (L .loop .inv .0) _ _ _ _ _ (A .before .before .before .before .before .loop-test .taken) n,
+      A .advance .kept .1 .1 .1 .1 .0 ∙ L .loop .inv .1,
+      A .advance .kept .1 .1 .1 .1 .1 .0 ∙ L .loop .inv .2,
+      A .advance .kept .1 .1 .1 .1 .1 .1 .0 ∙ L .loop .inv .3,
+    )
 
 enum-told-3 : tie.Need-enum-told-3 Inv-loop μ-loop
 enum-told-3 c = search needs
@@ -108,15 +121,22 @@ slice-read-if2 c = omega (arith, c .before .before .before .loop .inv .0 .search
 push-requires : tie.Need-push-requires Inv-loop μ-loop
 push-requires c κs =
     let L = c .before .before .before .before .before .before in
-    let S = L .before .before .before .before .before .before in
-    (omega (arith, S .pre .0 .small), c .before .before .before .before .before .loop-test .taken, omega (arith, c .before .before .before .before .if1 .left, c .before .before .before .before .before .loop-test .taken), L .loop .inv .0 .search .pos-room, L .loop .inv .0 .search .stack-room)
+    let S = L .before .before .before .before .before .before in (
+      omega (arith, S .pre .0 .small),
+      c .before .before .before .before .before .loop-test .taken,
+      omega (arith, c .before .before .before .before .if1 .left, c .before .before .before .before .before .loop-test .taken),
+      L .loop .inv .0 .search .pos-room,
+      L .loop .inv .0 .search .stack-room,
+    )
 
 add-sp-2 : tie.Need-add-sp-2 Inv-loop μ-loop
 add-sp-2 c = omega (arith, c .before .before .before .before .before .before .before .before .before .if1 .left)
 
 loop-less-3 : tie.Need-loop-less-3 Inv-loop μ-loop
 loop-less-3 c =
-    let L = c .before .before .before .before .before .before .before .before .before .before .before in omega (arith, counts _ _ _ _ _ _ _ (L .loop .inv .0 .search), c .before .before .before .before .before .before .before .before .before .if1 .left, c .before .before .before .before .before .before .before .before .before .before .loop-test .taken)
+    let L = c .before .before .before .before .before .before .before .before .before .before .before in
+    let empty = c .before .before .before .before .before .before .before .before .before .if1 .left in
+    omega (arith, counts _ _ _ _ _ _ _ (L .loop .inv .0 .search), empty, c .before .before .before .before .before .before .before .before .before .before .loop-test .taken)
 
 loop-again-3 : tie.Need-loop-again-3 Inv-loop μ-loop
 loop-again-3 c =
@@ -124,7 +144,13 @@ loop-again-3 c =
     let L = A .before .before .before .before .before .before .before in
     let sm = A .before .before .before .before .before .before .loop-test .taken in
     let empty = A .before .before .before .before .before .if1 .left in
-    (run-step _ _ _ _ _ _ _ _ (L .loop .inv .0) _ _ _ _ _ sm (search-push _ _ _ _ _ _ _ (L .loop .inv .0 .search) _ sm (A .before .before .before .if2 .taken) _ _ (A .push .ensures .0) (A .push .ensures .1) (λ k e. absurd (omega arith))), A .push .kept .0 ∙ L .loop .inv .1, L .loop .inv .2, A .push .kept .1 .0 ∙ L .loop .inv .3)
+    let new = A .before .before .before .if2 .taken in
+    let pushed = search-push _ _ _ _ _ _ _ (L .loop .inv .0 .search) _ sm new _ _ (A .push .ensures .0) (A .push .ensures .1) (λ k e. absurd (omega arith)) in (
+      run-step _ _ _ _ _ _ _ _ (L .loop .inv .0) _ _ _ _ _ sm pushed,
+      A .push .kept .0 ∙ L .loop .inv .1,
+      L .loop .inv .2,
+      A .push .kept .1 .0 ∙ L .loop .inv .3,
+    )
 
 add-s : tie.Need-add-s Inv-loop μ-loop
 add-s c = omega arith
@@ -135,8 +161,12 @@ loop-less-4 c =
 
 loop-again-4 : tie.Need-loop-again-4 Inv-loop μ-loop
 loop-again-4 c =
-    let L = c .before .before .before .before in
-    (run-skip _ _ _ _ _ _ _ _ (L .loop .inv .0) (c .before .before .before .loop-test .taken) (c .before .before .if1 .left) (c .if2 .left), L .loop .inv .1, L .loop .inv .2, L .loop .inv .3)
+    let L = c .before .before .before .before in (
+      run-skip _ _ _ _ _ _ _ _ (L .loop .inv .0) (c .before .before .before .loop-test .taken) (c .before .before .if1 .left) (c .if2 .left),
+      L .loop .inv .1,
+      L .loop .inv .2,
+      L .loop .inv .3,
+    )
 
 same-length-4 : tie.Need-same-length-4 Inv-loop μ-loop
 same-length-4 c = c .before .loop .inv .1

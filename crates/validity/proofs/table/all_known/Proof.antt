@@ -38,7 +38,8 @@ known-requires c κs = let L = c .before .before in L .before .before .before .p
 
 returns : tie.Need-returns Inv-loop μ-loop
 returns c =
-    λ all. rw (not-true (c .before .known .result) (c .if1 .taken)) at (c .before .known .ensures) (all (c .before .before .before .before .loop .i) (c .before .before .before .loop-test .taken))
+    λ all. rw (not-true (c .before .known .result) (c .if1 .taken)) at (c .before .known .ensures)
+    (all (c .before .before .before .before .loop .i) (c .before .before .before .loop-test .taken))
 
 add-i : tie.Need-add-i Inv-loop μ-loop
 add-i c = omega arith
@@ -47,8 +48,10 @@ loop-less : tie.Need-loop-less Inv-loop μ-loop
 loop-less c = omega arith
 
 loop-again : tie.Need-loop-again Inv-loop μ-loop
-loop-again c =
-    (omega arith, below-more _ _ (c .before .before .before .before .loop .inv .1) (rw (not-false (c .before .known .result) (c .if1 .left)) at (c .before .known .ensures)))
+loop-again c = (
+  omega arith,
+  below-more _ _ (c .before .before .before .before .loop .inv .1) (rw (not-false (c .before .known .result) (c .if1 .left)) at (c .before .known .ensures)),
+)
 
 returns-2 : tie.Need-returns-2 Inv-loop μ-loop
 returns-2 c = λ k l. c .before .loop .inv .1 k (omega arith)

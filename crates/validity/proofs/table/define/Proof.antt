@@ -60,7 +60,8 @@ returns c =
     let A = c .before .before .before in
     let L = A .before .before .before .before in
     let S = L .before .before .before in
-    define-not _ _ _ _ _ (S .pre) (L .loop .i) (A .before .before .before .loop-test .taken) _ (L .loop .inv .2) (A .enter .last .0) (rw (not-true (A .enter .result) (c .if1 .taken)) at (A .enter .ensures))
+    define-not _ _ _ _ _ (S .pre) (L .loop .i) (A .before .before .before .loop-test .taken) _ (L .loop .inv .2) (A .enter .last .0)
+    (rw (not-true (A .enter .result) (c .if1 .taken)) at (A .enter .ensures))
 
 add-i : tie.Need-add-i Inv-loop μ-loop
 add-i c = omega arith
@@ -75,7 +76,8 @@ loop-again c =
     let S = L .before .before .before in (
       omega arith,
       A .enter .kept .0 ∙ L .loop .inv .1,
-      define-more _ _ _ _ _ (S .pre) (L .loop .i) (A .before .before .before .loop-test .taken) _ (L .loop .inv .2) (A .enter .last .0) (rw (not-false (A .enter .result) (c .if1 .left)) at (A .enter .ensures)),
+      define-more _ _ _ _ _ (S .pre) (L .loop .i) (A .before .before .before .loop-test .taken) _ (L .loop .inv .2) (A .enter .last .0)
+          (rw (not-false (A .enter .result) (c .if1 .left)) at (A .enter .ensures)),
     )
 
 same-length-2 : tie.Need-same-length-2 Inv-loop μ-loop

@@ -33,7 +33,8 @@ define-requires-2 : tie.Need-define-requires-2
 define-requires-2 c κs =
     let A = c .before .before .before .before .before .before in
     let S = c .before .before .before .before .before .before .before .before .before .before .before .before in
-    latches-next (S .args .w .now) (S .pre .0) (c .latches .result) (A .define .last .1 .0) (c .latches .ensures) (A .before .inputs .result .n) (A .before .inputs .ensures .2)
+    latches-next (S .args .w .now) (S .pre .0) (c .latches .result) (A .define .last .1 .0) (c .latches .ensures) (A .before .inputs .result .n)
+    (A .before .inputs .ensures .2)
     (rw (not-false (A .define .result) (c .before .before .before .if1 .left)) at (A .define .ensures))
 
 same-length-2 : tie.Need-same-length-2
@@ -56,7 +57,8 @@ define-requires-3 : tie.Need-define-requires-3
 define-requires-3 c κs =
     let A = c .before .before .before .before .before .before in
     let S = c .before .before .before .before .before .before .before .before .before .before .before .before .before .before .before .before .before .before .before in
-    gates-next (S .args .w .now) (S .pre .0) (c .before .gates .result) (A .define2 .last .1 .0) (c .before .gates .ensures) (A .before .latches .result .n) (A .before .latches .ensures .2)
+    gates-next (S .args .w .now) (S .pre .0) (c .before .gates .result) (A .define2 .last .1 .0) (c .before .gates .ensures)
+    (A .before .latches .result .n) (A .before .latches .ensures .2)
     (rw (not-false (A .define2 .result) (c .before .before .before .if2 .left)) at (A .define2 .ensures))
 
 same-length-3 : tie.Need-same-length-3

@@ -23,7 +23,8 @@ returns : tie.Need-returns
 returns c =
     let A = c .before in
     let S = c .before .before .before .before .before in
-    column-fails (S .args .w .now) (λ l. l / 2 ≤ word (S .args .w .now) 0) _ (nextsOf (S .args .w .now)) (A .before .nexts .ensures) (λ u. u .nexts) (A .bounded .result) (c .if1 .taken) (A .bounded .ensures)
+    column-fails (S .args .w .now) (λ l. l / 2 ≤ word (S .args .w .now) 0) _ (nextsOf (S .args .w .now)) (A .before .nexts .ensures) (λ u. u .nexts)
+    (A .bounded .result) (c .if1 .taken) (A .bounded .ensures)
 
 roots-requires : tie.Need-roots-requires
 roots-requires c κs = search needs
@@ -37,7 +38,8 @@ returns-2 : tie.Need-returns-2
 returns-2 c =
     let A = c .before in
     let S = c .before .before .before .before .before .before .before .before in
-    column-fails (S .args .w .now) (λ l. l / 2 ≤ word (S .args .w .now) 0) _ (rootsOf (S .args .w .now)) (A .before .roots .ensures) (λ u. u .roots) (A .bounded2 .result) (c .if2 .taken) (A .bounded2 .ensures)
+    column-fails (S .args .w .now) (λ l. l / 2 ≤ word (S .args .w .now) 0) _ (rootsOf (S .args .w .now)) (A .before .roots .ensures) (λ u. u .roots)
+    (A .bounded2 .result) (c .if2 .taken) (A .bounded2 .ensures)
 
 lefts-requires : tie.Need-lefts-requires
 lefts-requires c κs = search needs
@@ -51,7 +53,8 @@ returns-3 : tie.Need-returns-3
 returns-3 c =
     let A = c .before in
     let S = c .before .before .before .before .before .before .before .before .before .before .before in
-    column-fails (S .args .w .now) (λ l. l / 2 ≤ word (S .args .w .now) 0) _ (leftsOf (S .args .w .now)) (A .before .lefts .ensures) (λ u. u .lefts) (A .bounded3 .result) (c .if3 .taken) (A .bounded3 .ensures)
+    column-fails (S .args .w .now) (λ l. l / 2 ≤ word (S .args .w .now) 0) _ (leftsOf (S .args .w .now)) (A .before .lefts .ensures) (λ u. u .lefts)
+    (A .bounded3 .result) (c .if3 .taken) (A .bounded3 .ensures)
 
 rights-requires : tie.Need-rights-requires
 rights-requires c κs = search needs
@@ -63,11 +66,17 @@ bounded-requires-4 c κs =
 
 returns-4 : tie.Need-returns-4
 returns-4 c =
-    let S = c .before .before .before .before .before .before .before .before .before .before .before .before .before in
+    let X = c .before .before .before in
+    let Y = X .before .before .before in
+    let Z = Y .before .before .before in
+    let S = Z .before .before .before .before in
     columns-hold (S .args .w .now) (λ l. l / 2 ≤ word (S .args .w .now) 0) _ (c .before .rights .ensures) (c .bounded4 .result) (c .bounded4 .ensures)
-    (column-holds (S .args .w .now) (λ l. l / 2 ≤ word (S .args .w .now) 0) _ (nextsOf (S .args .w .now)) (c .before .before .before .before .before .before .before .before .before .before .nexts .ensures) (c .before .before .before .before .before .before .before .before .before .bounded .result) (c .before .before .before .before .before .before .before .before .if1 .left) (c .before .before .before .before .before .before .before .before .before .bounded .ensures))
-    (column-holds (S .args .w .now) (λ l. l / 2 ≤ word (S .args .w .now) 0) _ (rootsOf (S .args .w .now)) (c .before .before .before .before .before .before .before .roots .ensures) (c .before .before .before .before .before .before .bounded2 .result) (c .before .before .before .before .before .if2 .left) (c .before .before .before .before .before .before .bounded2 .ensures))
-    (column-holds (S .args .w .now) (λ l. l / 2 ≤ word (S .args .w .now) 0) _ (leftsOf (S .args .w .now)) (c .before .before .before .before .lefts .ensures) (c .before .before .before .bounded3 .result) (c .before .before .if3 .left) (c .before .before .before .bounded3 .ensures))
+    (column-holds (S .args .w .now) (λ l. l / 2 ≤ word (S .args .w .now) 0) _ (nextsOf (S .args .w .now)) (Z .before .nexts .ensures) (Z .bounded .result)
+    (Y .before .before .if1 .left) (Z .bounded .ensures))
+    (column-holds (S .args .w .now) (λ l. l / 2 ≤ word (S .args .w .now) 0) _ (rootsOf (S .args .w .now)) (Y .before .roots .ensures) (Y .bounded2 .result)
+    (X .before .before .if2 .left) (Y .bounded2 .ensures))
+    (column-holds (S .args .w .now) (λ l. l / 2 ≤ word (S .args .w .now) 0) _ (leftsOf (S .args .w .now)) (X .before .lefts .ensures) (X .bounded3 .result)
+    (c .before .before .if3 .left) (X .bounded3 .ensures))
 
 pub used-bounded-spec : {M : Type 1} → statement M
 used-bounded-spec =

@@ -1,0 +1,133 @@
+-- A block of 64 sequences, frame by frame: the words of the variables are the values of 64 runs. Assumes nothing.
+use mathlib.Core.Path.{_≡_, sym, ap, ap₂, _∙_, subst}
+use mathlib.Core.Bool.{Bool, false}
+use mathlib.Core.List.{List, []}
+use Prim.Native.Nat.{ℕ, suc, _+_, _-_, _*_, _≤_, _<_}
+use native.Mathlib.Nat.{mul-suc, mul-le-mul-left, mul-le-mul-right}
+use native.Mathlib.Numerals.{add-one}
+use native.Mathlib.Omega.{arith}
+use lib.Dec.{T}
+use lib.ListN.{length, getD}
+use Rattle.aiger.specs.Bits.{bit}
+use Rattle.aiger.specs.Circuit.{Circuit, var, literalsRight, usedDefined, acyclic}
+use Rattle.aiger.specs.Frames.{freeStarts, freeBits, freeBit, run, state}
+use Rattle.aiger.specs.Search.{reaches}
+use Rattle.roundtrip.specs.Words.{word}
+use Rattle.layout.specs.declared.Layout.{Layout}
+use Rattle.words.proofs.Bits.{bit-none}
+use Rattle.meaning.proofs.Defined.{inputAt, latchAt, input-in, latch-in, definition, input-latch}
+use Rattle.meaning.proofs.Values.{Valuation, state-start}
+use Rattle.meaning.proofs.Sequences.{run-input}
+use Rattle.frames.specs.Lanes.{lane, Ready, Evaluated, Advanced, hitIn}
+use Rattle.frames.proofs.Laws.{hit-of-run, next-leaves}
+use Rattle.enumeration.specs.Blocks.{startBit, Given}
+use Rattle.enumeration.proofs.Starts.{start-of-run}
+
+-- a circuit that is ready is so with another number of words, if they suffice
+pub ready-with : {m : List ℕ} {layout : Layout} {order : List ℕ} {count n : ℕ} → Ready m layout order count → word m 0 < n → Ready m layout order n
+ready-with r h = record { held = r .held; layout-of = r .layout-of; ordered = r .ordered; ranks = r .ranks; room = h }
+
+-- the inputs have the free bits from top - 1 down; the latches have their start values
+abbrev pub InputsGiven : Circuit → ℕ → ℕ → List ℕ → List ℕ → Type 0
+InputsGiven c top block before after = Given (λ i. var (inputAt c i)) (λ i p. freeBit top (block * 64 + p) i) (length (c .inputs)) before after
+
+abbrev pub StartsGiven : Circuit → ℕ → ℕ → List ℕ → List ℕ → Type 0
+StartsGiven c n block before after =
+    Given (λ j. var (latchAt c j .lit)) (λ j p. startBit c n (block * 64 + p) j) (length (c .latches)) before after
+
+-- the words are the values of frame u in the runs of the block's sequences
+abbrev pub Valued : Circuit → ℕ → ℕ → ℕ → List ℕ → Type 0
+Valued c t block u values =
+    (p : ℕ) → p < 64
+    → Valuation c (getD (run c t (block * 64 + p) .rows) u []) (state c (run c t (block * 64 + p)) u) (lane values p)
+
+-- top free bits remain before the inputs of frame u are given theirs
+abbrev pub Remaining : Circuit → ℕ → ℕ → ℕ → Type 0
+Remaining c t u top = freeStarts c + length (c .inputs) * u + top ≡ freeBits c t
+
+-- the number of free bits, and that it is small
+pub bits-are : (c : Circuit) (t : ℕ) {free i : ℕ} → free ≡ freeStarts c → i ≡ length (c .inputs) → free + i * (t + 1) ≡ freeBits c t
+unfolding freeBits
+bits-are c t e f = ap₂ (λ (x y : ℕ). x + y * (t + 1)) e f
+
+pub bits-few : (i t : ℕ) → i ≤ 256 → t ≤ 255 → i * (t + 1) ≤ 65536
+bits-few i t h l =
+    let a : i * (t + 1) ≤ 256 * (t + 1) = mul-le-mul-right (t + 1) h in
+    omega arith
+
+-- the latches' free bits are among the free bits; the inputs' remain after them
+pub latches-room : (c : Circuit) (t : ℕ) → freeStarts c ≤ freeBits c t
+unfolding freeBits
+latches-room c t = omega arith
+
+pub row-first : (c : Circuit) (t n free : ℕ) → n ≡ freeBits c t → free ≡ freeStarts c → Remaining c t 0 (n - free)
+row-first c t n free e f = omega (arith, latches-room c t)
+
+-- the free bits of frame u are there
+pub row-room : (c : Circuit) (t u top : ℕ) → u ≤ t → Remaining c t u top → length (c .inputs) ≤ top
+unfolding freeBits
+row-room c t u top l e =
+    let I = length (c .inputs) in
+    let m : I * suc u ≤ I * (t + 1) = mul-le-mul-left I (omega arith) in
+    omega (arith, mul-suc I u)
+
+-- those of the next frame remain after them
+pub row-next : (c : Circuit) (t u top : ℕ) → u ≤ t → Remaining c t u top → Remaining c t (u + 1) (top - length (c .inputs))
+row-next c t u top l e =
+    let I = length (c .inputs) in
+    let q : I * (u + 1) ≡ I * u + I = ap (λ (n : ℕ). I * n) (add-one u) ∙ mul-suc I u in
+    omega (arith, row-room c t u top l e)
+
+module _ (c : Circuit) (right : T (literalsRight c)) where
+  input-nonzero : (i : ℕ) → i < length (c .inputs) → var (inputAt c i) ≡ 0 → ⊥
+  input-nonzero i l e = omega (arith, definition c right (inputAt c i) (input-in c i l) .0)
+
+  latch-nonzero : (j : ℕ) → j < length (c .latches) → var (latchAt c j .lit) ≡ 0 → ⊥
+  latch-nonzero j l e = omega (arith, definition c right (latchAt c j .lit) (latch-in c j l) .0)
+
+  module _ (top block : ℕ) {before after : List ℕ} (g : InputsGiven c top block before after) (p : ℕ) where
+    -- the inputs' words leave the constant and the latches as they are
+    kept-constant : lane after p 0 ≡ lane before p 0
+    kept-constant = ap (λ (w : ℕ). bit w p) (g .others 0 input-nonzero)
+
+    kept-latch : (j : ℕ) → j < length (c .latches) → lane after p (var (latchAt c j .lit)) ≡ lane before p (var (latchAt c j .lit))
+    kept-latch j l = ap (λ (w : ℕ). bit w p) (g .others (var (latchAt c j .lit)) (λ i k e. input-latch c right i j k l e))
+
+    -- and are the row of frame u
+    given-row : (t u : ℕ) → u ≤ t → Remaining c t u top → p < 64 → (i : ℕ) → i < length (c .inputs)
+        → lane after p (var (inputAt c i)) ≡ getD (getD (run c t (block * 64 + p) .rows) u []) i false
+    given-row t u l e hp i k =
+        let I = length (c .inputs) in
+        let d : top - (i + 1) ≡ freeBits c t - (freeStarts c + I * u + i + 1) = omega arith in
+        g .new i k p hp ∙ ap (bit (block * 64 + p)) d ∙ sym (run-input c t (block * 64 + p) u i (omega arith) k)
+
+  -- frame 0
+  pub valued-start : (t block top : ℕ) (cleared started filled values : List ℕ) → getD cleared 0 0 ≡ 0 → StartsGiven c (freeBits c t) block cleared started
+      → Remaining c t 0 top → InputsGiven c top block started filled → Evaluated c filled values → Valued c t block 0 values
+  valued-start t block top cleared started filled values z s e g v p hp =
+      let r = run c t (block * 64 + p) in
+      v .values p hp (getD (r .rows) 0 []) (state c r 0)
+      (record {
+        constant = kept-constant top block g p ∙ ap (λ (w : ℕ). bit w p) (s .others 0 latch-nonzero ∙ z) ∙ bit-none p;
+        input = given-row top block g p t 0 (omega arith) e hp;
+        latch = λ j l.
+            kept-latch top block g p j l ∙ s .new j l p hp ∙ start-of-run c t (block * 64 + p) j l ∙ ap (λ (st : List Bool). getD st j false) (sym (state-start c r));
+      })
+
+  module _ (known : T (usedDefined c)) (a : T (acyclic c)) where
+    -- the frame after u
+    pub valued-next : (t block u top : ℕ) (old moved filled values : List ℕ) → Valued c t block u old → Advanced c old moved → u < t
+        → Remaining c t (u + 1) top → InputsGiven c top block moved filled → Evaluated c filled values → Valued c t block (u + 1) values
+    valued-next t block u top old moved filled values w d l e g v =
+        subst (λ (n : ℕ). Valued c t block n values) (sym (add-one u))
+        (λ p hp.
+        let r = run c t (block * 64 + p) in
+        let q = subst (λ (n : ℕ). Remaining c t n top) (add-one u) e in
+        v .values p hp (getD (r .rows) (suc u) []) (state c r (suc u))
+        (next-leaves right known a r u d p hp (w p hp) (kept-constant top block g p) (kept-latch top block g p) (given-row top block g p t (suc u) (omega arith) q hp)))
+
+    -- the hits of frame t
+    pub valued-hits : (t block b : ℕ) (values : List ℕ) (hits : ℕ) → Valued c t block t values
+        → ((p : ℕ) → p < 64 → bit hits p ≡ hitIn c b (lane values p)) → (p : ℕ) → p < 64 → bit hits p ≡ reaches c b t (block * 64 + p)
+    unfolding reaches
+    valued-hits t block b values hits w h p hp = h p hp ∙ hit-of-run right known a (run c t (block * 64 + p)) t (w p hp) b

@@ -1,0 +1,254 @@
+// The first hit of one frame: its sequences are tried in counting order, 64 at a time.
+use layout::Layout;
+ghost use mathlib.Core.Path.{_≡_};
+ghost use mathlib.Core.Bool.{cond};
+ghost use Prim.Native.Nat.{ℕ, _+_, _*_, _^_, _≤_, _<_, min};
+ghost use lib.Dec.{eqb, leb};
+ghost use lib.ListN.{length};
+ghost use Rattle.aiger.specs.Bits.{nonzero, bit};
+ghost use Rattle.aiger.specs.Circuit.{var};
+ghost use Rattle.aiger.specs.Frames.{freeBits, freeStarts, freeBit};
+ghost use Rattle.aiger.specs.Search.{reaches};
+ghost use Rattle.aiger.specs.Memory.{Holds};
+ghost use Rattle.roundtrip.specs.Words.{word, circuitIn};
+ghost use Rattle.layout.specs.Layout.{LayoutOf};
+ghost use Rattle.meaning.proofs.Defined.{inputAt, latchAt};
+ghost use Rattle.frames.specs.Lanes.{Ready};
+ghost use Rattle.enumeration.specs.Blocks.{startBit, Given, First};
+ghost use Rattle.enumeration.specs.Frame.{FreeBits, FrameIs};
+
+// What a frame has: a first hit; no hit; or more sequences than the budget, of which the first ones do not hit.
+pub enum Frame {
+    Hit,
+    Clear,
+    Spent,
+}
+
+// 1 for a latch with a free start, else 0.
+fn free_start(lit: u32, reset: u32) -> usize
+    ensures { λ r. ⌜ r ≡ cond (eqb reset lit) 1 0 ⌝ }
+{
+    if reset == lit { 1 } else { 0 }
+}
+
+// The number of latches with a free start.
+pub fn free_starts(m: &[u32], layout: Layout) -> usize
+    requires { ⌜ Holds (now m) (circuitIn (now m)) ⌝ }
+    requires { ⌜ LayoutOf (now m) layout ⌝ }
+    ensures { λ r. ⌜ r ≡ freeStarts (circuitIn (now (m .entry))) ⌝ }
+{
+    let count = layout.l;
+    let latches = layout.latches;
+    let mut free = 0;
+    let mut j = 0;
+    while j < count {
+        free += free_start(m[latches + 3 * j], m[latches + 3 * j + 2]);
+        j += 1;
+    }
+    free
+}
+
+// The start values of a latch in a block of 64 sequences. Where its start is free it has bit k of each sequence.
+fn start_word(lit: u32, reset: u32, k: usize, block: u64) -> u64
+    ensures { λ r. ⌜ ((p : ℕ) → p < 64 → bit r p ≡ cond (eqb reset lit) (bit (block * 64 + p) k) (eqb reset 1)) ⌝ }
+{
+    if reset == lit {
+        return words::counting_word(k, block);
+    }
+    if reset == 1 { 0xffff_ffff_ffff_ffff } else { 0 }
+}
+
+// Gives each latch its start values. The free bits of a sequence are its bits from n - 1 down.
+fn put_starts(m: &[u32], layout: Layout, n: usize, block: u64, values: &mut [u64])
+    requires { ⌜ Holds (now m) (circuitIn (now m)) ⌝ }
+    requires { ⌜ LayoutOf (now m) layout ⌝ }
+    requires { ⌜ (word (now m) 0 < length (now values)) × (freeStarts (circuitIn (now m)) ≤ n) ⌝ }
+    ensures { λ _. ⌜ Given (λ j. var (latchAt (circuitIn (now (m .entry))) j .lit)) (λ j p. startBit (circuitIn (now (m .entry))) n (block * 64 + p) j) (length (circuitIn (now (m .entry)) .latches)) (now (values .entry)) (now (values .exit)) ⌝ }
+{
+    let count = layout.l;
+    let latches = layout.latches;
+    let mut left = n;
+    let mut j = 0;
+    while j < count {
+        let lit = m[latches + 3 * j];
+        let reset = m[latches + 3 * j + 2];
+        left -= free_start(lit, reset);
+        let v = (lit / 2) as usize;
+        values[v] = start_word(lit, reset, left, block);
+        j += 1;
+    }
+}
+
+// Gives each input its values in a frame: the bits of each sequence from top - 1 down.
+fn put_inputs(m: &[u32], layout: Layout, top: usize, block: u64, values: &mut [u64])
+    requires { ⌜ Holds (now m) (circuitIn (now m)) ⌝ }
+    requires { ⌜ LayoutOf (now m) layout ⌝ }
+    requires { ⌜ (word (now m) 0 < length (now values)) × (layout .i ≤ top) ⌝ }
+    ensures { λ _. ⌜ Given (λ i. var (inputAt (circuitIn (now (m .entry))) i)) (λ i p. freeBit top (block * 64 + p) i) (length (circuitIn (now (m .entry)) .inputs)) (now (values .entry)) (now (values .exit)) ⌝ }
+{
+    let count = layout.i;
+    let mut i = 0;
+    while i < count {
+        let v = (m[7 + i] / 2) as usize;
+        values[v] = words::counting_word(top - (i + 1), block);
+        i += 1;
+    }
+}
+
+// Which of the 64 sequences of a block hit b at frame t. n is the number of free bits, free that of the latches.
+fn block_hits(
+    m: &[u32],
+    layout: Layout,
+    order: &[u32],
+    b: usize,
+    t: usize,
+    n: usize,
+    free: usize,
+    block: u64,
+    values: &mut [u64],
+    state: &mut [u64],
+) -> u64
+    requires { ⌜ Ready (now m) layout (now order) (length (now values)) ⌝ }
+    requires { ⌜ (b < word (now m) 5) × (1024 ≤ length (now state)) ⌝ }
+    requires { ⌜ (n ≡ freeBits (circuitIn (now m)) t) × (free ≡ freeStarts (circuitIn (now m))) ⌝ }
+    ensures { λ r. ⌜ ((p : ℕ) → p < 64 → bit r p ≡ reaches (circuitIn (now (m .entry))) b t (block * 64 + p)) ⌝ }
+{
+    let inputs = layout.i;
+    let mut top = n - free;
+    values[0] = 0;
+    put_starts(m, layout, n, block, values);
+    put_inputs(m, layout, top, block, values);
+    frames::eval_gates(m, layout, order, values);
+    let mut u = 0;
+    while u < t {
+        frames::advance(m, layout, order, values, state);
+        top -= inputs;
+        put_inputs(m, layout, top, block, values);
+        frames::eval_gates(m, layout, order, values);
+        u += 1;
+    }
+    frames::hit_word(m, layout, order, b, values)
+}
+
+// The smaller of 2 to the power n and d.
+fn tries(n: usize, d: u64) -> u64
+    requires { ⌜ d ≤ 4294967296 ⌝ }
+    ensures { λ r. ⌜ r ≡ min (2 ^ n) d ⌝ }
+{
+    if 32 < n {
+        return d;
+    }
+    let all = 1u64 << n;
+    if all < d { all } else { d }
+}
+
+// Whether a budget of d covers 2 to the power n sequences.
+fn covers(n: usize, d: u64) -> bool
+    requires { ⌜ d ≤ 4294967296 ⌝ }
+    ensures { λ r. ⌜ r ≡ leb (2 ^ n) d ⌝ }
+{
+    if 32 < n {
+        return false;
+    }
+    1u64 << n <= d
+}
+
+// Bit k of x.
+fn bit_of(x: u64, k: usize) -> u32
+    ensures { λ r. ⌜ nonzero r ≡ bit x k ⌝ }
+{
+    if 63 < k {
+        return 0;
+    }
+    let y = x >> k;
+    (y % 2) as u32
+}
+
+// Writes the free bits of sequence x.
+fn put_free(x: u64, n: usize, free: &mut [u32])
+    requires { ⌜ n ≤ length (now free) ⌝ }
+    ensures { λ _. ⌜ FreeBits n x (now (free .exit)) ⌝ }
+{
+    let mut j = 0;
+    while j < n {
+        free[j] = bit_of(x, n - (j + 1));
+        j += 1;
+    }
+}
+
+// The first sequence below total that hits, or total.
+fn first_below(
+    m: &[u32],
+    layout: Layout,
+    order: &[u32],
+    b: usize,
+    t: usize,
+    n: usize,
+    free: usize,
+    total: u64,
+    values: &mut [u64],
+    state: &mut [u64],
+) -> u64
+    requires { ⌜ Ready (now m) layout (now order) (length (now values)) ⌝ }
+    requires { ⌜ (b < word (now m) 5) × (1024 ≤ length (now state)) × (total ≤ 4294967296) ⌝ }
+    requires { ⌜ (n ≡ freeBits (circuitIn (now m)) t) × (free ≡ freeStarts (circuitIn (now m))) ⌝ }
+    ensures { λ r. ⌜ First (reaches (circuitIn (now (m .entry))) b t) total r ⌝ }
+{
+    let mut block = 0;
+    while 64 * block < total {
+        let hits = block_hits(m, layout, order, b, t, n, free, block, values, state);
+        let p = words::first_difference(hits, 0) as u64;
+        if p < 64 {
+            let x = 64 * block + p;
+            if x < total {
+                return x;
+            }
+            return total;
+        }
+        block += 1;
+    }
+    total
+}
+
+// The first hit of b at frame t. Where there is one its free bits are left at the front of working memory.
+pub fn first_hit(
+    m: &[u32],
+    layout: Layout,
+    order: &[u32],
+    b: usize,
+    t: usize,
+    d: u64,
+    work: &mut [u32],
+) -> Frame
+    requires { ⌜ Ready (now m) layout (now order) 4097 ⌝ }
+    requires { ⌜ (b < word (now m) 5) × (t ≤ 255) × (1 ≤ d) × (d ≤ 4294967296) ⌝ }
+    requires { ⌜ freeBits (circuitIn (now m)) t ≤ length (now work) ⌝ }
+    ensures { λ r. ⌜ FrameIs (circuitIn (now (m .entry))) b t d (now (work .exit)) r ⌝ }
+{
+    let mut values = [0u64; 4097];
+    let mut state = [0u64; 1024];
+    let free = free_starts(m, layout);
+    let n = free + layout.i * (t + 1);
+    let total = tries(n, d);
+    let x = first_below(
+        m,
+        layout,
+        order,
+        b,
+        t,
+        n,
+        free,
+        total,
+        &mut values,
+        &mut state,
+    );
+    if x < total {
+        put_free(x, n, work);
+        return Frame::Hit;
+    }
+    if covers(n, d) {
+        Frame::Clear
+    } else {
+        Frame::Spent
+    }
+}

@@ -1,0 +1,221 @@
+-- Laws of load as a whole: its tests, what the words say once the lines are stored, and what is left. Assumes nothing.
+use mathlib.Core.Path.{_≡_, refl, sym, ap, _∙_}
+use mathlib.Core.Bool.{Bool, true, false}
+use mathlib.Core.List.{List, [], _∷_, _++_}
+use mathlib.Core.Option.{Option, none, some}
+use Prim.Native.Nat.{ℕ, _+_, _*_, _≤_, _<_}
+use native.Mathlib.Omega.{arith}
+use borrow.Author.Tests.{le-leb, lt-leb}
+use lib.Dec.{leb→le, eqb→eq}
+use lib.ListN.{length, take, drop}
+use Rattle.aiger.specs.Circuit.{Circuit, literalsRight, usedDefined, acyclic}
+use Rattle.aiger.specs.File.{Header, header, countsFit, countTests, body}
+use Rattle.aiger.specs.Load as spec
+use Rattle.aiger.specs.Load.{Answer, refused, gives, test, read, needed, _>>=_, _>>_}
+use Rattle.aiger.specs.Write.{countRow}
+use Rattle.aiger.specs.Memory.{content, image}
+use Rattle.aiger.specs.Operations.{front, Loaded}
+use Rattle.aiger.proofs.Tests.{T-true, all-at}
+use Rattle.roundtrip.specs.Words.{word, contentEnd, circuitIn}
+use Rattle.roundtrip.proofs.Lists.{upto-length}
+use Rattle.roundtrip.proofs.LoadValid.{body-counted}
+use Rattle.roundtrip.proofs.Content.{words-take, circuit-in}
+use Rattle.lines.specs.Header.{countsMeant}
+use Rattle.lines.specs.declared.Counts as lines
+use Rattle.validity.specs.Validity.{Counted, judged}
+use Rattle.load.specs.declared.Counts.{Counts}
+use Rattle.load.specs.Answers.{numbers}
+use Rattle.load.specs.Steps.{narrowed, headerMeant, headerAt, accepts, loadBody, Leaves, refuses, stores}
+
+-- the greatest counts
+pub record Limits (k : Counts) : Type 0 where
+  pub m : k .m ≤ 4096
+  pub i : k .i ≤ 256
+  pub l : k .l ≤ 1024
+  pub o : k .o ≤ 64
+  pub a : k .a ≤ 3072
+  pub b : k .b ≤ 16
+  pub c : k .c ≤ 16
+  pub sum : k .i + k .l + k .a ≤ k .m
+
+limits-of : (h : Header) → countsFit h ≡ true
+    → Limits (record { m = h .M; i = h .I; l = h .L; o = h .O; a = h .A; b = h .B; c = h .C })
+unfolding countsFit
+limits-of h e =
+    let at = all-at (countTests h) (T-true e) in
+    record {
+      m = leb→le (h .M) 4096 (at 0);
+      i = leb→le (h .I) 256 (at 1);
+      l = leb→le (h .L) 1024 (at 2);
+      o = leb→le (h .O) 64 (at 3);
+      a = leb→le (h .A) 3072 (at 4);
+      b = leb→le (h .B) 16 (at 5);
+      c = leb→le (h .C) 16 (at 6);
+      sum = leb→le (h .I + h .L + h .A) (h .M) (at 9);
+    }
+
+pub limits : (k : Counts) → countsFit (headerMeant k) ≡ true → Limits k
+limits k e = limits-of (headerMeant k) e
+
+pub limits-read : (h : lines.Counts) → countsFit (countsMeant h) ≡ true → Limits (narrowed h)
+limits-read h e = limits-of (countsMeant h) e
+
+-- counts within their limits have no justice and no fairness
+pub fit-narrowed : (h : lines.Counts) → countsFit (countsMeant h) ≡ true → countsFit (headerMeant (narrowed h)) ≡ true
+unfolding countsFit
+fit-narrowed h e =
+    let at = all-at (countTests (countsMeant h)) (T-true e) in
+    let same : headerMeant (narrowed h) ≡ countsMeant h =
+    λ t. record {
+      M = h .m;
+      I = h .i;
+      L = h .l;
+      O = h .o;
+      A = h .a;
+      B = h .b;
+      C = h .c;
+      J = sym (eqb→eq (h .j) 0 (at 7)) t;
+      F = sym (eqb→eq (h .f) 0 (at 8)) t;
+    } in
+    ap countsFit same ∙ e
+
+-- the counts in the first seven words
+
+module _ (k : Counts) (w : List ℕ) (r : List ℕ) (e : w ≡ numbers k ++ r) where
+  pub header-stored : headerAt w ≡ headerMeant k
+  header-stored = rw e
+
+  pub limit-stored : 2 * k .m + 1 ≡ 2 * word w 0 + 1
+  limit-stored = rw e
+
+  pub room-stored : countsFit (headerMeant k) ≡ true → 12391 ≤ length w → contentEnd w ≤ length w
+  room-stored f h = rw e (omega (arith, limits k f, ap length (sym e)))
+
+-- the content of a circuit with the counts k
+
+module _ (k : Counts) (g : List ℕ) (c : Circuit) (b : body (headerMeant k) g ≡ some c) where
+  same-counts : numbers k ≡ c .maxVar ∷ countRow c
+  same-counts =
+      let n = body-counted (headerMeant k) g c b in
+      λ t.
+      sym (n .maxVar) t ∷ sym (n .inputs) t ∷ sym (n .latches) t ∷ sym (n .outputs) t ∷ sym (n .gates) t ∷ sym (n .bads) t
+      ∷ sym (n .constraints) t ∷ []
+
+  module _ (w r : List ℕ) (e : w ≡ content c ++ r) where
+    pub numbers-stored : numbers k ≡ take 7 w
+    unfolding content
+    numbers-stored = same-counts ∙ sym (ap (take 7) e)
+
+    pub counts-stored : countsFit (headerMeant k) ≡ true → 12391 ≤ length w → Counted w
+    unfolding content
+    counts-stored f h =
+        let n = body-counted (headerMeant k) g c b in
+        let l = limits k f in
+        let m0 : word w 0 ≡ k .m = ap (λ (x : List ℕ). word x 0) e ∙ n .maxVar in
+        let m1 : word w 1 ≡ k .i = ap (λ (x : List ℕ). word x 1) e ∙ n .inputs in
+        let m2 : word w 2 ≡ k .l = ap (λ (x : List ℕ). word x 2) e ∙ n .latches in
+        let m3 : word w 3 ≡ k .o = ap (λ (x : List ℕ). word x 3) e ∙ n .outputs in
+        let m4 : word w 4 ≡ k .a = ap (λ (x : List ℕ). word x 4) e ∙ n .gates in
+        let m5 : word w 5 ≡ k .b = ap (λ (x : List ℕ). word x 5) e ∙ n .bads in
+        let m6 : word w 6 ≡ k .c = ap (λ (x : List ℕ). word x 6) e ∙ n .constraints in
+        record {
+          maxVar = omega arith;
+          inputs = omega arith;
+          latches = omega arith;
+          outputs = omega arith;
+          gates = omega arith;
+          bads = omega arith;
+          constraints = omega arith;
+          sum = omega arith;
+          held = omega arith;
+        }
+
+    pub top-stored : word w 0 ≡ k .m
+    unfolding content
+    top-stored = ap (λ (x : List ℕ). word x 0) e ∙ body-counted (headerMeant k) g c b .maxVar
+
+    -- load of the lines accepts what the words say
+    pub body-accepts : accepts (circuitIn w) ≡ loadBody (headerMeant k) g
+    unfolding loadBody
+    body-accepts = ap (λ (x : List ℕ). accepts (circuitIn x)) e ∙ ap accepts (circuit-in c r) ∙ rw b
+
+  -- a circuit whose literals are not right
+  pub body-large : literalsRight c ≡ false → loadBody (headerMeant k) g ≡ refused 6
+  unfolding loadBody accepts judged
+  body-large e = rw (b, e)
+
+-- no circuit
+pub body-malformed : (h : Header) (g : List ℕ) → body h g ≡ none → loadBody h g ≡ refused 5
+unfolding loadBody
+body-malformed h g e = rw e
+
+-- the causes 6 to 8, and what is stored
+
+pub accepts-refused : (c : Circuit) {n : ℕ} → judged c ≡ refused n → accepts c ≡ refused n
+unfolding accepts
+accepts-refused c e = rw e
+
+accepts-right : (c : Circuit) → judged c ≡ gives tt → accepts c ≡ gives c
+unfolding accepts
+accepts-right c e = rw e
+
+heads-in : (w : List ℕ) → 7 ≤ length w → take 7 w ≡ circuitIn w .maxVar ∷ countRow (circuitIn w)
+unfolding circuitIn
+heads-in w h = sym (words-take w 0 7 h) ∙ simp upto-length
+
+pub finished : (k : Counts) (w m m′ : List ℕ) → 7 ≤ length w → numbers k ≡ take 7 w → judged (circuitIn w) ≡ gives tt
+    → m′ ≡ front (image (circuitIn w)) m → Leaves (accepts (circuitIn w)) m (gives (numbers k)) m′
+finished k w m m′ h n j e =
+    rw (n, heads-in w h, e) (stores (circuitIn w) (accepts-right (circuitIn w) j))
+
+-- load as a whole
+
+chain : (c : Circuit) (x y z : Bool) → (test 6 x >> (test 7 y >> (test 8 z >> gives c))) ≡ (test 6 x >> test 7 y >> test 8 z >> gives c)
+chain c true true true = refl
+chain c true true false = refl
+chain c true false z = refl
+chain c false y z = refl
+
+after-body : (o : Option Circuit)
+    → (read 5 o >>= λ c. test 6 (literalsRight c) >> (test 7 (usedDefined c) >> (test 8 (acyclic c) >> gives c))) ≡ (read 5 o >>= accepts)
+unfolding accepts judged
+after-body none = refl
+after-body (some c) = chain c (literalsRight c) (usedDefined c) (acyclic c)
+
+module _ (room : ℕ) (f : List ℕ) where
+  pub refused-empty : length f < 1 → spec.load room f ≡ refused 1
+  unfolding spec.load
+  refused-empty h = rw (lt-leb 1 (length f) h)
+
+  pub refused-long : 65536 < length f → spec.load room f ≡ refused 1
+  unfolding spec.load
+  refused-long h =
+      let a : 1 ≤ length f = omega arith in
+      rw (le-leb 1 (length f) a, lt-leb (length f) 65536 h)
+
+  module _ (some-byte : 1 ≤ length f) (short : length f ≤ 65536) where
+    pub refused-header : header f ≡ none → spec.load room f ≡ refused 2
+    unfolding spec.load
+    refused-header e = rw (le-leb 1 (length f) some-byte, le-leb (length f) 65536 short, e)
+
+    module _ (h : lines.Counts) (at : ℕ) (e : header f ≡ some (countsMeant h, drop at f)) where
+      pub refused-counts : countsFit (countsMeant h) ≡ false → spec.load room f ≡ refused 3
+      unfolding spec.load
+      refused-counts n = rw (le-leb 1 (length f) some-byte, le-leb (length f) 65536 short, e, n)
+
+      module _ (n : countsFit (countsMeant h) ≡ true) where
+        pub refused-room : room < needed (h .m) → spec.load room f ≡ refused 4
+        unfolding spec.load
+        refused-room l =
+            rw (le-leb 1 (length f) some-byte, le-leb (length f) 65536 short, e, n, lt-leb (needed (h .m)) room l)
+
+        pub load-rest : needed (h .m) ≤ room → spec.load room f ≡ loadBody (headerMeant (narrowed h)) (drop at f)
+        unfolding spec.load loadBody body
+        load-rest l =
+            rw (le-leb 1 (length f) some-byte, le-leb (length f) 65536 short, e, n, le-leb (needed (h .m)) room l)
+            (after-body (body (countsMeant h) (drop at f)))
+
+-- what a part of load leaves, load leaves
+pub loaded : {a : Answer Circuit} (m f m′ : List ℕ) (r : Answer (List ℕ)) → spec.load (length m) f ≡ a → Leaves a m r m′ → Loaded m f r m′
+loaded m f m′ (refused n) e (refuses x) = Loaded.refuses (e ∙ x)
+loaded m f m′ (gives v) e (stores c x) = Loaded.stores c (e ∙ x)

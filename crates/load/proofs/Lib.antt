@@ -1,0 +1,5 @@
+pub mod Copying
+pub mod Literals
+pub mod Lines
+pub mod Parts
+pub mod Finishing

@@ -1,0 +1,168 @@
+-- `load::load_with` meets its contract: the counts, the lines, and then the circuit that the words say. Assumes nothing.
+use mathlib.Core.Path.{_≡_, subst}
+use mathlib.Core.List.{List, _++_}
+use Prim.Native.Nat.{ℕ, _≤_}
+use native.Mathlib.Omega.{arith}
+use borrow.Author.Needs.{needs}
+use lib.ListN.{length, drop}
+use Rattle.aiger.specs.Circuit.{Circuit}
+use Rattle.aiger.specs.File.{Header}
+use Rattle.aiger.specs.Load.{Answer}
+use Rattle.load.specs.Answers.{answered, numbers}
+use Rattle.load.specs.Steps.{headerMeant, headerAt, Leaves, refuses, BodyAt}
+use Rattle.load.specs.declared.Body.{Body}
+use Rattle.load.proofs.Finishing.{limits, header-stored, limit-stored, room-stored, numbers-stored, counts-stored, top-stored, body-accepts, body-large, body-malformed}
+use Rattle.load.proofs.load_with.Statement.{statement}
+use Rattle.load.proofs.load_with.Tie as tie
+
+-- the function's entry
+abbrev S : tie.After-store-counts → tie.Start
+S t = t .before .before .before .before .before .before
+
+-- the words with the counts
+abbrev W : tie.After-store-counts → List ℕ
+W t = t .store-counts .last .0
+
+counts : (t : tie.After-store-counts) → W t ≡ numbers (S t .args .k) ++ drop 7 (S t .args .words .now)
+counts t = t .store-counts .ensures
+
+size : (t : tie.After-store-counts) → length (W t) ≡ length (S t .args .words .now)
+size t = t .store-counts .kept .0
+
+-- the place where the counts were stored
+abbrev at : tie.After-read-body → tie.After-store-counts
+at n = n .before .before .before .before .before .before .before
+
+-- the words with the lines
+abbrev lined : tie.After-read-body → List ℕ
+lined n = n .read-body .last .1 .1 .1 .1 .0
+
+-- the lines after the header
+abbrev rest : tie.After-read-body → List ℕ
+rest n = drop (S (at n) .args .at) (S (at n) .args .s .now)
+
+room : (n : tie.After-read-body) → 12391 ≤ length (lined n)
+room n = omega (arith, n .read-body .kept .1 .1 .1 .1 .0, size (at n), S (at n) .pre .1 .1 .0)
+
+-- the answer of the call is the variant that the match found
+found : (n : tie.After-read-body) (r : Body) → n .read-body .result ≡ r → BodyAt (headerMeant (S (at n) .args .k)) (rest n) (lined n) r
+found n r e =
+    let t = at n in
+    subst (λ (h : Header). BodyAt h (rest n) (lined n) r) (header-stored (S t .args .k) (W t) (drop 7 (S t .args .words .now)) (counts t))
+    (subst (BodyAt (headerAt (W t)) (rest n) (lined n)) e (n .read-body .ensures))
+
+store-counts-requires : tie.Need-store-counts-requires
+store-counts-requires c κs = search needs
+
+layout-of-requires : tie.Need-layout-of-requires
+layout-of-requires c κs = search needs
+
+mul-read-body : tie.Need-mul-read-body
+mul-read-body c =
+    let s = S (c .before .before .before .before .before) in
+    omega (arith, limits (s .args .k) (s .pre .1 .0))
+
+add-read-body : tie.Need-add-read-body
+add-read-body c =
+    let s = S (c .before .before .before .before .before) in
+    omega (arith, limits (s .args .k) (s .pre .1 .0))
+
+read-body-requires : tie.Need-read-body-requires
+read-body-requires c κs =
+    let t = c .before .before .before .before .before .before in
+    let s = S t in
+    let k = s .args .k in
+    let r = drop 7 (s .args .words .now) in (
+      s .pre .0,
+      (
+        c .before .before .layout-of .ensures,
+        (
+          room-stored k (W t) r (counts t) (s .pre .1 .0) (omega (arith, size t, s .pre .1 .1 .0)),
+          limit-stored k (W t) r (counts t),
+        ),
+      ),
+    )
+
+enum-told : tie.Need-enum-told
+enum-told c = search needs
+
+enum-told-2 : tie.Need-enum-told-2
+enum-told-2 c = search needs
+
+enum-told-3 : tie.Need-enum-told-3
+enum-told-3 c = search needs
+
+finish-requires : tie.Need-finish-requires
+finish-requires c κs =
+    let e = c .before .before .before in
+    let n = e .before .before .before .before in
+    let s = S (at n) in
+    let k = s .args .k in
+    let f = found n _ (e .enum-told3 .given .1) in (
+      counts-stored k (rest n) (f .0) (f .1) (lined n) (f .2) (f .3) (s .pre .1 .0) (room n),
+      (
+        numbers-stored k (rest n) (f .0) (f .1) (lined n) (f .2) (f .3),
+        (
+          s .pre .1 .1 .1 .0,
+          omega (arith, s .pre .1 .1 .1 .1, top-stored k (rest n) (f .0) (f .1) (lined n) (f .2) (f .3)),
+        ),
+      ),
+    )
+
+same-length : tie.Need-same-length
+same-length c = search needs
+
+returns : tie.Need-returns
+returns c =
+    let n = c .before .before .before .before in
+    refuses (body-malformed (headerMeant (S (at n) .args .k)) (rest n) (found n _ (c .enum-told .given .1)))
+
+same-length-2 : tie.Need-same-length-2
+same-length-2 c = search needs
+
+returns-2 : tie.Need-returns-2
+returns-2 c =
+    let n = c .before .before .before .before in
+    let f = found n _ (c .enum-told2 .given .1) in
+    refuses (body-large (S (at n) .args .k) (rest n) (f .0) (f .1) (f .2))
+
+same-length-3 : tie.Need-same-length-3
+same-length-3 c = search needs
+
+same-length-4 : tie.Need-same-length-4
+same-length-4 c = search needs
+
+same-length-5 : tie.Need-same-length-5
+same-length-5 c = search needs
+
+returns-3 : tie.Need-returns-3
+returns-3 c =
+    let y = c .before .before .before .before in
+    let e = y .before .before .before .before in
+    let n = e .before .before .before .before in
+    let s = S (at n) in
+    let f = found n _ (e .enum-told3 .given .1) in
+    subst (λ (a : Answer Circuit). Leaves a (s .args .m .now) (answered (y .finish .result)) (y .finish .last .1 .1 .1 .0))
+    (body-accepts (s .args .k) (rest n) (f .0) (f .1) (lined n) (f .2) (f .3)) (y .finish .ensures)
+
+pub load-with-spec : {M : Type 1} → statement M
+load-with-spec =
+    tie.close
+    (tie.spec
+    store-counts-requires
+    layout-of-requires
+    mul-read-body
+    add-read-body
+    read-body-requires
+    enum-told
+    enum-told-2
+    enum-told-3
+    finish-requires
+    same-length
+    returns
+    same-length-2
+    returns-2
+    same-length-3
+    same-length-4
+    same-length-5
+    returns-3)

@@ -1,0 +1,5 @@
+pub mod Output
+pub mod Rows
+pub mod Sections
+pub mod RoundTrip
+pub mod Answers
