@@ -10,17 +10,19 @@ use lib.Dec.{leb→le}
 use lib.ListN.{length}
 use Rattle.aiger.specs.Circuit.{literalsRight, usedDefined, acyclic}
 use Rattle.aiger.specs.Circuit as circuit
-use Rattle.aiger.specs.File.{Header, countsFit, countTests, headerOf}
+use Rattle.aiger.specs.File.{countsFit, countTests, headerOf}
 use Rattle.aiger.specs.Load.{Answer, refused, gives, test, needed, _>>_}
 use Rattle.aiger.specs.Operations.{HoldsNone}
 use Rattle.aiger.proofs.Tests.{T-true, all-at}
 use Rattle.roundtrip.specs.Words.{word, circuitIn}
-use Rattle.roundtrip.proofs.LoadWrite.{Valid}
-use Rattle.roundtrip.proofs.Holding.{Sound, header-in, unsound}
+use Rattle.roundtrip.proofs.Content.{content-length}
+use Rattle.roundtrip.proofs.LoadWrite.{Valid, counts-fit}
+use Rattle.roundtrip.proofs.Holding.{Sound, content-size, header-in, unsound}
 use Rattle.lines.specs.Header.{countsMeant}
 use Rattle.layout.specs.declared.Layout.{Layout}
 use Rattle.layout.specs.Layout.{LayoutOf}
 use Rattle.validity.specs.Validity.{Counted, judged}
+use Rattle.validity.proofs.Counts.{counted}
 use Rattle.circuit.specs.Held.{Says, Zeros, Shaped, countsIn, Tested, HeldIs}
 use Rattle.circuit.specs.declared.Held.{Held}
 use Rattle.circuit.specs.declared.Held.the-variants.{Circuit, Nothing}
@@ -29,35 +31,12 @@ use Rattle.circuit.specs.declared.Held.the-variants.{Circuit, Nothing}
 pub zeros-more : (m : List ℕ) (a i : ℕ) → Zeros m a i → word m i ≡ 0 → Zeros m a (i + 1)
 zeros-more m a i z e k l h = ⊎-elim (λ s. ap (word m) s ∙ e) (λ b. z k l b) (eq-or-lt-of-le (omega arith))
 
--- the counts that the first seven words say
-abbrev pub headerAt : List ℕ → Header
-headerAt m =
-    record { M = word m 0; I = word m 1; L = word m 2; O = word m 3; A = word m 4; B = word m 5; C = word m 6; J = 0; F = 0 }
-
 -- counts within their limits, and the needed words, leave room for the content
-pub counted : {m : List ℕ} → Shaped m → Counted m
-unfolding countsFit
-counted {m} s =
-    let at = all-at (countTests (headerAt m)) (T-true (ap countsFit (sym (header-in m)) ∙ s .fit)) in
-    let maxVar : word m 0 ≤ 4096 = leb→le (word m 0) 4096 (at 0) in
-    let inputs : word m 1 ≤ 256 = leb→le (word m 1) 256 (at 1) in
-    let latches : word m 2 ≤ 1024 = leb→le (word m 2) 1024 (at 2) in
-    let outputs : word m 3 ≤ 64 = leb→le (word m 3) 64 (at 3) in
-    let gates : word m 4 ≤ 3072 = leb→le (word m 4) 3072 (at 4) in
-    let bads : word m 5 ≤ 16 = leb→le (word m 5) 16 (at 5) in
-    let constraints : word m 6 ≤ 16 = leb→le (word m 6) 16 (at 6) in
-    let sum : word m 1 + word m 2 + word m 4 ≤ word m 0 = leb→le (word m 1 + word m 2 + word m 4) (word m 0) (at 9) in
-    record {
-      maxVar = maxVar;
-      inputs = inputs;
-      latches = latches;
-      outputs = outputs;
-      gates = gates;
-      bads = bads;
-      constraints = constraints;
-      sum = sum;
-      held = omega (arith, s .room);
-    }
+pub shaped-counted : {m : List ℕ} → Shaped m → Counted m
+unfolding circuitIn
+shaped-counted {m} s =
+    counted m (T-true (s .fit))
+    (omega (arith, s .room, content-length m, content-size (circuitIn m), counts-fit (circuitIn m) (s .fit)))
 
 module _ (m : List ℕ) (p : Layout) (q : LayoutOf m p) where
   -- the counts of the layout are those of the circuit that the words say

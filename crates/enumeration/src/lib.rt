@@ -176,8 +176,8 @@ fn put_free(x: u64, n: usize, free: &mut [u32])
     }
 }
 
-// The first sequence below total that hits, or total.
-fn first_below(
+// The first sequence below total that hits, or total. values and state are scratch.
+fn scan_blocks(
     m: &[u32],
     layout: Layout,
     order: &[u32],
@@ -210,6 +210,38 @@ fn first_below(
     total
 }
 
+// The first sequence below total that hits, or total.
+fn first_below(
+    m: &[u32],
+    layout: Layout,
+    order: &[u32],
+    b: usize,
+    t: usize,
+    n: usize,
+    free: usize,
+    total: u64,
+) -> u64
+    requires { ⌜ Ready (now m) layout (now order) 4097 ⌝ }
+    requires { ⌜ (b < word (now m) 5) × (total ≤ 4294967296) ⌝ }
+    requires { ⌜ (n ≡ freeBits (circuitIn (now m)) t) × (free ≡ freeStarts (circuitIn (now m))) ⌝ }
+    ensures { λ r. ⌜ First (reaches (circuitIn (now (m .entry))) b t) total r ⌝ }
+{
+    let mut values = [0u64; 4097];
+    let mut state = [0u64; 1024];
+    scan_blocks(
+        m,
+        layout,
+        order,
+        b,
+        t,
+        n,
+        free,
+        total,
+        &mut values,
+        &mut state,
+    )
+}
+
 // The first hit of b at frame t. Where there is one its free bits are left at the front of working memory.
 pub fn first_hit(
     m: &[u32],
@@ -225,23 +257,10 @@ pub fn first_hit(
     requires { ⌜ freeBits (circuitIn (now m)) t ≤ length (now work) ⌝ }
     ensures { λ r. ⌜ FrameIs (circuitIn (now (m .entry))) b t d (now (work .exit)) r ⌝ }
 {
-    let mut values = [0u64; 4097];
-    let mut state = [0u64; 1024];
     let free = free_starts(m, layout);
     let n = free + layout.i * (t + 1);
     let total = tries(n, d);
-    let x = first_below(
-        m,
-        layout,
-        order,
-        b,
-        t,
-        n,
-        free,
-        total,
-        &mut values,
-        &mut state,
-    );
+    let x = first_below(m, layout, order, b, t, n, free, total);
     if x < total {
         put_free(x, n, work);
         return Frame::Hit;

@@ -7,9 +7,9 @@ use Prim.Native.Nat.{ℕ, _+_, _*_, _≤_, _<_}
 use native.Mathlib.Omega.{arith}
 use borrow.Author.Tests.{le-leb, lt-leb}
 use lib.Dec.{leb→le, eqb→eq}
-use lib.ListN.{length, take, drop}
+use lib.ListN.{length, take, drop, length-append}
 use Rattle.aiger.specs.Circuit.{Circuit, literalsRight, usedDefined, acyclic}
-use Rattle.aiger.specs.File.{Header, header, countsFit, countTests, body}
+use Rattle.aiger.specs.File.{Header, header, countsFit, countTests, headerOf, body}
 use Rattle.aiger.specs.Load as spec
 use Rattle.aiger.specs.Load.{Answer, refused, gives, test, read, needed, _>>=_, _>>_}
 use Rattle.aiger.specs.Write.{countRow}
@@ -18,11 +18,12 @@ use Rattle.aiger.specs.Operations.{front, Loaded}
 use Rattle.aiger.proofs.Tests.{T-true, all-at}
 use Rattle.roundtrip.specs.Words.{word, contentEnd, circuitIn}
 use Rattle.roundtrip.proofs.Lists.{upto-length}
-use Rattle.roundtrip.proofs.LoadValid.{body-counted}
-use Rattle.roundtrip.proofs.Content.{words-take, circuit-in}
+use Rattle.roundtrip.proofs.LoadValid.{body-counted, same-header}
+use Rattle.roundtrip.proofs.Content.{words-take, content-length, circuit-in}
 use Rattle.lines.specs.Header.{countsMeant}
 use Rattle.lines.specs.declared.Counts as lines
 use Rattle.validity.specs.Validity.{Counted, judged}
+use Rattle.validity.proofs.Counts.{counted}
 use Rattle.load.specs.declared.Counts.{Counts}
 use Rattle.load.specs.Answers.{numbers}
 use Rattle.load.specs.Steps.{narrowed, headerMeant, headerAt, accepts, loadBody, Leaves, refuses, stores}
@@ -106,29 +107,16 @@ module _ (k : Counts) (g : List ℕ) (c : Circuit) (b : body (headerMeant k) g �
     unfolding content
     numbers-stored = same-counts ∙ sym (ap (take 7) e)
 
-    pub counts-stored : countsFit (headerMeant k) ≡ true → 12391 ≤ length w → Counted w
-    unfolding content
-    counts-stored f h =
-        let n = body-counted (headerMeant k) g c b in
-        let l = limits k f in
-        let m0 : word w 0 ≡ k .m = ap (λ (x : List ℕ). word x 0) e ∙ n .maxVar in
-        let m1 : word w 1 ≡ k .i = ap (λ (x : List ℕ). word x 1) e ∙ n .inputs in
-        let m2 : word w 2 ≡ k .l = ap (λ (x : List ℕ). word x 2) e ∙ n .latches in
-        let m3 : word w 3 ≡ k .o = ap (λ (x : List ℕ). word x 3) e ∙ n .outputs in
-        let m4 : word w 4 ≡ k .a = ap (λ (x : List ℕ). word x 4) e ∙ n .gates in
-        let m5 : word w 5 ≡ k .b = ap (λ (x : List ℕ). word x 5) e ∙ n .bads in
-        let m6 : word w 6 ≡ k .c = ap (λ (x : List ℕ). word x 6) e ∙ n .constraints in
-        record {
-          maxVar = omega arith;
-          inputs = omega arith;
-          latches = omega arith;
-          outputs = omega arith;
-          gates = omega arith;
-          bads = omega arith;
-          constraints = omega arith;
-          sum = omega arith;
-          held = omega arith;
-        }
+    same-circuit : circuitIn w ≡ c
+    same-circuit = ap circuitIn e ∙ circuit-in c r
+
+    pub counts-stored : countsFit (headerMeant k) ≡ true → Counted w
+    counts-stored f =
+        let fit : countsFit (headerOf (circuitIn w)) ≡ true =
+        ap (λ (d : Circuit). countsFit (headerOf d)) same-circuit
+        ∙ ap countsFit (same-header (headerMeant k) c (body-counted (headerMeant k) g c b) f) ∙ f in
+        let end : contentEnd w ≡ length (content c) = sym (content-length w) ∙ ap (λ (d : Circuit). length (content d)) same-circuit in
+        counted w (T-true fit) (omega (arith, ap length e, length-append (content c) r))
 
     pub top-stored : word w 0 ≡ k .m
     unfolding content
@@ -137,7 +125,7 @@ module _ (k : Counts) (g : List ℕ) (c : Circuit) (b : body (headerMeant k) g �
     -- load of the lines accepts what the words say
     pub body-accepts : accepts (circuitIn w) ≡ loadBody (headerMeant k) g
     unfolding loadBody
-    body-accepts = ap (λ (x : List ℕ). accepts (circuitIn x)) e ∙ ap accepts (circuit-in c r) ∙ rw b
+    body-accepts = ap accepts same-circuit ∙ rw b
 
   -- a circuit whose literals are not right
   pub body-large : literalsRight c ≡ false → loadBody (headerMeant k) g ≡ refused 6

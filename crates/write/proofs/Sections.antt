@@ -63,6 +63,7 @@ abbrev pub partsFrom : List ℕ → Layout → ℕ → List ℕ
 partsFrom m p k = joined (drop k (parts m p))
 
 module _ {m : List ℕ} {p : Layout} (h : Holds m (circuitIn m)) (l : LayoutOf m p) where
+  -- the sections of a held circuit stand in its memory
   pub sections : Sections m p
   sections =
       let v = held-valid h in
@@ -114,24 +115,32 @@ module _ {m : List ℕ} {p : Layout} (h : Holds m (circuitIn m)) (l : LayoutOf m
   pub text-small : length (write (circuitIn m)) ≤ 65536
   text-small = text-short (held-valid h)
 
-  -- the text is written but for the sections from k on
-  abbrev pub Left : List ℕ → List ℕ → ℕ → ℕ → Type 0
-  Left out out′ end k = Rest out 0 (write (circuitIn m)) out′ end (partsFrom m p k)
+-- a held circuit, its layout, and an output with room for its text
+abbrev pub Fitting : List ℕ → Layout → List ℕ → Type 0
+Fitting m p out = Holds m (circuitIn m) × LayoutOf m p × (length (write (circuitIn m)) ≤ length out)
 
-  module _ (out : List ℕ) (fits : length (write (circuitIn m)) ≤ length out) where
-    pub left-all : Left out out 0 0
-    left-all = rw text-parts (rest-start out 0 (partsFrom m p 0))
+-- the text is written but for the sections from k on
+abbrev pub Left : List ℕ → Layout → List ℕ → List ℕ → ℕ → ℕ → Type 0
+Left m p out out′ end k = Rest out 0 (write (circuitIn m)) out′ end (partsFrom m p k)
 
-    pub left-room : {out₁ : List ℕ} {e₁ : ℕ} (k : ℕ) → k < 8 → Left out out₁ e₁ k → Room out₁ e₁ (part m p k)
-    left-room k b r = rest-room (part m p k) (partsFrom m p (suc k)) (omega arith) (rw (joined-from (parts m p) k b) at r)
+module _ {m : List ℕ} {p : Layout} (out : List ℕ) (g : Fitting m p out) where
+  -- before anything is written
+  pub left-all : Left m p out out 0 0
+  left-all = rw (text-parts (g .0) (g .1)) (rest-start out 0 (partsFrom m p 0))
 
-    pub left-next : {out₁ out₂ : List ℕ} {e₁ e₂ : ℕ} (k : ℕ) → k < 8 → Left out out₁ e₁ k → Placed out₁ e₁ (part m p k) e₂ out₂ → Left out out₂ e₂ (suc k)
-    left-next k b r q = rest-more (part m p k) (partsFrom m p (suc k)) (omega arith) (rw (joined-from (parts m p) k b) at r) q
+  -- there is room for section k
+  pub left-room : {out₁ : List ℕ} {e₁ : ℕ} (k : ℕ) → k < 8 → Left m p out out₁ e₁ k → Room out₁ e₁ (part m p k)
+  left-room k b r = rest-room (part m p k) (partsFrom m p (suc k)) (omega arith) (rw (joined-from (parts m p) k b) at r)
 
-    pub left-none : {out₁ : List ℕ} {e₁ : ℕ} → Left out out₁ e₁ 8 → out₁ ≡ front (write (circuitIn m)) out
-    left-none r = rest-end r .contents ∙ put-front out (write (circuitIn m))
+  -- section k is written
+  pub left-next : {out₁ out₂ : List ℕ} {e₁ e₂ : ℕ} (k : ℕ) → k < 8 → Left m p out out₁ e₁ k → Placed out₁ e₁ (part m p k) e₂ out₂ → Left m p out out₂ e₂ (suc k)
+  left-next k b r q = rest-more (part m p k) (partsFrom m p (suc k)) (omega arith) (rw (joined-from (parts m p) k b) at r) q
 
-    -- the name of the format is stored
-    pub left-head : Left out (sets out 0 (bytes "aag ")) 4 1
-    unfolding putText
-    left-head = left-next 0 (omega arith) left-all (record { past = refl; contents = sets-eq (bytes "aag ") out 0 (omega (arith, text-size)) })
+  -- all sections are written
+  pub left-none : {out₁ : List ℕ} {e₁ : ℕ} → Left m p out out₁ e₁ 8 → out₁ ≡ front (write (circuitIn m)) out
+  left-none r = rest-end r .contents ∙ put-front out (write (circuitIn m))
+
+  -- the name of the format is stored
+  pub left-head : Left m p out (sets out 0 (bytes "aag ")) 4 1
+  unfolding putText
+  left-head = left-next 0 (omega arith) left-all (record { past = refl; contents = sets-eq (bytes "aag ") out 0 (omega (arith, text-size (g .0) (g .1), g .2)) })

@@ -7,7 +7,7 @@ use Rattle.roundtrip.proofs.Holding.{sound-holds}
 use Rattle.validity.specs.Validity.{Checks}
 use Rattle.validity.specs.declared.Checked.{Checked}
 use Rattle.circuit.specs.Held.{Says, Shaped}
-use Rattle.circuit.proofs.Testing.{counted, sound, none-short, none-unshaped, none-refused}
+use Rattle.circuit.proofs.Testing.{shaped-counted, sound, none-short, none-unshaped, none-refused}
 use Rattle.circuit.proofs.held_in.Statement.{statement}
 use Rattle.circuit.proofs.held_in.Tie as tie
 
@@ -38,7 +38,7 @@ returns-2 c =
     none-unshaped (subst (λ b. Says b (Shaped m)) (not-true (c .before .is-shaped .result) (c .if2 .taken)) (c .before .is-shaped .ensures))
 
 check-requires : tie.Need-check-requires
-check-requires c κs = (counted (well (c .before)), c .before .before .before .before .before .before .before .pre)
+check-requires c κs = (shaped-counted (well (c .before)), c .before .before .before .before .before .before .before .pre)
 
 enum-told : tie.Need-enum-told
 enum-told c = search needs

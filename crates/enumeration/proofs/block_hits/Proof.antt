@@ -8,6 +8,7 @@ use Rattle.roundtrip.specs.Words.{word, circuitIn}
 use Rattle.frames.proofs.Facts.{right, known, no-cycle}
 use Rattle.enumeration.proofs.Facts.{inputs-are}
 use Rattle.enumeration.proofs.Blocks.{ready-with, StartsGiven, Valued, Remaining, latches-room, row-first, row-room, row-next, valued-start, valued-next, valued-hits}
+use borrow.Author.Needs.{needs}
 use Rattle.enumeration.proofs.block_hits.Statement.{statement}
 use Rattle.enumeration.proofs.block_hits.Tie as tie
 
@@ -32,21 +33,23 @@ slice-write-values c =
 put-starts-requires : tie.Need-put-starts-requires Inv-loop μ-loop
 put-starts-requires c κs =
     let S = c .before .before .before .before .before in
-    (S .pre .0 .held, (S .pre .0 .layout-of, (omega (arith, length-set (S .args .values .now) 0 0, S .pre .0 .room), omega (arith, S .pre .1 .1, latches-room (circuitIn (S .args .m .now)) (S .args .t)))))
+    (S .pre .0 .held, (S .pre .0 .layout-of, (simp length-set (S .pre .0 .room), omega (arith, S .pre .1 .1, latches-room (circuitIn (S .args .m .now)) (S .args .t)))))
 
 put-inputs-requires : tie.Need-put-inputs-requires Inv-loop μ-loop
 put-inputs-requires c κs =
     let S = c .before .before .before .before .before .before .before .before .before in
     let W = c .before .before .before .put-starts in
+    let Z : length (W .last .1 .1 .1 .1 .0) ≡ length (S .args .values .now) = W .kept .1 .1 .1 .1 .0 ∙ simp length-set in
     let R = S .pre .0 in
-    (R .held, (R .layout-of, (omega (arith, W .kept .1 .1 .1 .1 .0, length-set (S .args .values .now) 0 0, R .room), omega (arith, inputs-are (R .held) (R .layout-of), row-room (circuitIn (S .args .m .now)) (S .args .t) 0 (S .args .n - S .args .free) (omega arith) (row-first (circuitIn (S .args .m .now)) (S .args .t) (S .args .n) (S .args .free) (S .pre .1 .1 .0) (S .pre .1 .1 .1))))))
+    (R .held, (R .layout-of, (omega (arith, Z, R .room), omega (arith, inputs-are (R .held) (R .layout-of), row-room (circuitIn (S .args .m .now)) (S .args .t) 0 (S .args .n - S .args .free) (omega arith) (row-first (circuitIn (S .args .m .now)) (S .args .t) (S .args .n) (S .args .free) (S .pre .1 .1 .0) (S .pre .1 .1 .1))))))
 
 eval-gates-requires : tie.Need-eval-gates-requires Inv-loop μ-loop
 eval-gates-requires c κs =
     let S = c .before .before .before .before .before .before .before .before .before .before .before .before .before in
     let G = c .before .before .before .put-inputs in
     let W = c .before .before .before .before .before .before .before .put-starts in
-    ready-with (S .pre .0) (omega (arith, G .kept .1 .1 .1 .1 .0, W .kept .1 .1 .1 .1 .0, length-set (S .args .values .now) 0 0, S .pre .0 .room))
+    let Z : length (W .last .1 .1 .1 .1 .0) ≡ length (S .args .values .now) = W .kept .1 .1 .1 .1 .0 ∙ simp length-set in
+    ready-with (S .pre .0) (omega (arith, G .kept .1 .1 .1 .1 .0, Z, S .pre .0 .room))
 
 loop-holds : tie.Need-loop-holds Inv-loop μ-loop
 loop-holds c =
@@ -54,17 +57,19 @@ loop-holds c =
     let E = c .before .before .eval-gates in
     let G = c .before .before .before .before .before .before .put-inputs in
     let W = c .before .before .before .before .before .before .before .before .before .before .put-starts in
+    let Z : length (W .last .1 .1 .1 .1 .0) ≡ length (S .args .values .now) = W .kept .1 .1 .1 .1 .0 ∙ simp length-set in
     let R = S .pre .0 in
-    let values = S .args .values .now in (
+    let values = S .args .values .now in
+    let first = (row-first (circuitIn (S .args .m .now)) (S .args .t) (S .args .n) (S .args .free) (S .pre .1 .1 .0) (S .pre .1 .1 .1)) in (
       omega arith,
       refl,
       refl,
-      omega (arith, E .kept .1 .1 .1 .0, G .kept .1 .1 .1 .1 .0, W .kept .1 .1 .1 .1 .0, length-set (S .args .values .now) 0 0, R .room),
-      (row-first (circuitIn (S .args .m .now)) (S .args .t) (S .args .n) (S .args .free) (S .pre .1 .1 .0) (S .pre .1 .1 .1)),
+      omega (arith, E .kept .1 .1 .1 .0, G .kept .1 .1 .1 .1 .0, Z, R .room),
+      first,
       valued-start (circuitIn (S .args .m .now)) (right (R .held)) (S .args .t) (S .args .block) (S .args .n - S .args .free) (set values 0 0) (W .last .1 .1 .1 .1 .0)
           (G .last .1 .1 .1 .1 .0) (E .last .1 .1 .1 .0) (getD-set-same values 0 0 0 (omega (arith, R .room)))
           (subst (λ (n : ℕ). StartsGiven (circuitIn (S .args .m .now)) n (S .args .block) (set values 0 0) (W .last .1 .1 .1 .1 .0)) (S .pre .1 .1 .0) (W .ensures))
-          (row-first (circuitIn (S .args .m .now)) (S .args .t) (S .args .n) (S .args .free) (S .pre .1 .1 .0) (S .pre .1 .1 .1)) (G .ensures) (E .ensures),
+          first (G .ensures) (E .ensures),
     )
 
 advance-requires : tie.Need-advance-requires Inv-loop μ-loop
@@ -136,7 +141,8 @@ same-length c =
     let E = c .before .before .before .before .before .before .eval-gates in
     let G = c .before .before .before .before .before .before .before .before .before .before .put-inputs in
     let W = c .before .before .before .before .before .before .before .before .before .before .before .before .before .before .put-starts in
-    L .inv .1 ∙ E .kept .1 .1 .1 .0 ∙ G .kept .1 .1 .1 .1 .0 ∙ W .kept .1 .1 .1 .1 .0 ∙ length-set (S .args .values .now) 0 0
+    let Z : length (W .last .1 .1 .1 .1 .0) ≡ length (S .args .values .now) = W .kept .1 .1 .1 .1 .0 ∙ simp length-set in
+    L .inv .1 ∙ E .kept .1 .1 .1 .0 ∙ G .kept .1 .1 .1 .1 .0 ∙ Z
 
 same-length-2 : tie.Need-same-length-2 Inv-loop μ-loop
 same-length-2 c = c .before .before .before .loop .inv .2

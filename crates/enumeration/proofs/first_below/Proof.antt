@@ -1,146 +1,28 @@
 -- `enumeration::first_below` meets its contract. Assumes nothing.
-use mathlib.Core.Path.{_≡_, refl, _∙_}
-use Prim.Native.Nat.{ℕ, _+_, _-_, _*_, _≤_, _<_}
 use native.Mathlib.Omega.{arith}
-use lib.Dec.{T}
-use lib.ListN.{length}
-use Rattle.aiger.specs.Search.{reaches}
-use Rattle.roundtrip.specs.Words.{circuitIn}
-use Rattle.enumeration.proofs.Blocks.{ready-with}
-use Rattle.enumeration.proofs.Least.{block-before, block-here}
+use borrow.Author.Needs.{needs}
 use Rattle.enumeration.proofs.first_below.Statement.{statement}
 use Rattle.enumeration.proofs.first_below.Tie as tie
 
-abbrev Inv-loop : tie.InvT-loop
-Inv-loop m layout order b t n free total values₀ state₀ block₀ values state block =
-    (64 * block ≤ total + 63) × (length values ≡ length values₀) × (length state ≡ length state₀)
-    × ((y : ℕ) → y < 64 * block → T (reaches (circuitIn m) b t y) → ⊥)
+slice-aggregate-scan-blocks : tie.Need-slice-aggregate-scan-blocks
+slice-aggregate-scan-blocks c = search needs
 
-abbrev μ-loop : tie.MeasureT-loop
-μ-loop m layout order b t n free total values₀ state₀ block₀ values state block = total - 64 * block
+slice-aggregate-scan-blocks-2 : tie.Need-slice-aggregate-scan-blocks-2
+slice-aggregate-scan-blocks-2 c = search needs
 
-loop-holds : tie.Need-loop-holds Inv-loop μ-loop
-loop-holds c = (omega arith, refl, refl, λ y l e. omega arith)
+scan-blocks-requires : tie.Need-scan-blocks-requires
+scan-blocks-requires c κs =
+    let S = c .before .before .before .before in
+    (S .pre .0, ((S .pre .1 .0 .0, omega arith, S .pre .1 .0 .1), S .pre .1 .1))
 
-mul-loop : tie.Need-mul-loop Inv-loop μ-loop
-mul-loop c =
-    let S = c .before .before .before .before .before in
-    omega (arith, S .pre .1 .0)
-
-block-hits-requires : tie.Need-block-hits-requires Inv-loop μ-loop
-block-hits-requires c κs =
-    let S = c .before .before .before .before .before .before .before .before in
-    let L = c .before .before .before .loop in
-    (ready-with (S .pre .0) (omega (arith, L .inv .1, S .pre .0 .room)), ((S .pre .1 .0 .0, omega (arith, L .inv .2, S .pre .1 .0)), S .pre .1 .1))
-
-first-difference-requires : tie.Need-first-difference-requires Inv-loop μ-loop
-first-difference-requires c κs = tt
-
-cast-p : tie.Need-cast-p Inv-loop μ-loop
-cast-p c = omega (arith, c .first-difference .ensures .within)
-
-mul-x : tie.Need-mul-x Inv-loop μ-loop
-mul-x c =
-    let S = c .before .before .before .before .before .before .before .before .before .before .before .before .before .before .before in
-    omega (arith, c .before .before .before .before .before .before .before .before .before .loop-test .taken, S .pre .1 .0)
-
-add-x : tie.Need-add-x Inv-loop μ-loop
-add-x c =
-    let S = c .before .before .before .before .before .before .before .before .before .before .before .before .before .before .before in
-    omega (arith, c .if1 .taken, c .before .before .before .before .before .before .before .before .before .loop-test .taken, S .pre .1 .0)
-
-same-length : tie.Need-same-length Inv-loop μ-loop
-same-length c = c .before .before .before .before .before .before .before .block-hits .kept .1 .1 .1 .1 .1 .1 .1 .1 .0 ∙ c .before .before .before .before .before .before .before .before .before .before .before .loop .inv .1
-
-same-length-2 : tie.Need-same-length-2 Inv-loop μ-loop
-same-length-2 c = c .before .before .before .before .before .before .before .block-hits .kept .1 .1 .1 .1 .1 .1 .1 .1 .1 .0 ∙ c .before .before .before .before .before .before .before .before .before .before .before .loop .inv .2
-
-returns : tie.Need-returns Inv-loop μ-loop
-returns c =
-    let S = c .before .before .before .before .before .before .before .before .before .before .before .before .before .before .before .before in
-    let L = c .before .before .before .before .before .before .before .before .before .before .before .loop in
-    let H = c .before .before .before .before .before .before .before .block-hits in
-    let F = c .before .before .first-difference in
-    record {
-      within = omega (arith, c .if2 .taken);
-      before = block-before (reaches (circuitIn (S .args .m .now)) (S .args .b) (S .args .t)) (L .block) (H .result) (F .result) (L .inv .3) (H .ensures) (F .ensures);
-      here = λ l. block-here (reaches (circuitIn (S .args .m .now)) (S .args .b) (S .args .t)) (L .block) (H .result) (F .result) (L .inv .3) (H .ensures) (F .ensures) (omega (arith, c .before .if1 .taken));
-    }
-
-same-length-3 : tie.Need-same-length-3 Inv-loop μ-loop
-same-length-3 c = c .before .before .before .before .before .before .before .block-hits .kept .1 .1 .1 .1 .1 .1 .1 .1 .0 ∙ c .before .before .before .before .before .before .before .before .before .before .before .loop .inv .1
-
-same-length-4 : tie.Need-same-length-4 Inv-loop μ-loop
-same-length-4 c = c .before .before .before .before .before .before .before .block-hits .kept .1 .1 .1 .1 .1 .1 .1 .1 .1 .0 ∙ c .before .before .before .before .before .before .before .before .before .before .before .loop .inv .2
-
-returns-2 : tie.Need-returns-2 Inv-loop μ-loop
-returns-2 c =
-    let S = c .before .before .before .before .before .before .before .before .before .before .before .before .before .before .before .before in
-    let L = c .before .before .before .before .before .before .before .before .before .before .before .loop in
-    let H = c .before .before .before .before .before .before .before .block-hits in
-    let F = c .before .before .first-difference in
-    record {
-      within = omega arith;
-      before = λ y l. block-before (reaches (circuitIn (S .args .m .now)) (S .args .b) (S .args .t)) (L .block) (H .result) (F .result) (L .inv .3) (H .ensures) (F .ensures) y (omega (arith, c .if2 .left));
-      here = λ l. absurd (omega arith);
-    }
-
-add-block : tie.Need-add-block Inv-loop μ-loop
-add-block c =
-    let S = c .before .before .before .before .before .before .before .before .before .before .before .before .before .before .before in
-    omega (arith, c .before .before .before .before .before .before .before .before .before .loop-test .taken, S .pre .1 .0)
-
-loop-less : tie.Need-loop-less Inv-loop μ-loop
-loop-less c = omega (arith, c .before .before .before .before .before .before .before .before .before .loop-test .taken)
-
-loop-again : tie.Need-loop-again Inv-loop μ-loop
-loop-again c =
-    let S = c .before .before .before .before .before .before .before .before .before .before .before .before .before .before .before in
-    let L = c .before .before .before .before .before .before .before .before .before .before .loop in
-    let H = c .before .before .before .before .before .before .block-hits in
-    let F = c .before .first-difference in (
-      omega (arith, c .before .before .before .before .before .before .before .before .before .loop-test .taken),
-      H .kept .1 .1 .1 .1 .1 .1 .1 .1 .0 ∙ L .inv .1,
-      H .kept .1 .1 .1 .1 .1 .1 .1 .1 .1 .0 ∙ L .inv .2,
-      λ y l. block-before (reaches (circuitIn (S .args .m .now)) (S .args .b) (S .args .t)) (L .block) (H .result) (F .result) (L .inv .3) (H .ensures) (F .ensures) y (omega (arith, c .if1 .left)),
-    )
-
-same-length-5 : tie.Need-same-length-5 Inv-loop μ-loop
-same-length-5 c = c .before .loop .inv .1
-
-same-length-6 : tie.Need-same-length-6 Inv-loop μ-loop
-same-length-6 c = c .before .loop .inv .2
-
-returns-3 : tie.Need-returns-3 Inv-loop μ-loop
-returns-3 c =
-    record {
-      within = omega arith;
-      before = λ y l. c .before .loop .inv .3 y (omega (arith, c .loop-test .left));
-      here = λ l. absurd (omega arith);
-    }
+returns : tie.Need-returns
+returns c = search needs
 
 pub first-below-spec : {M : Type 1} → statement M
 first-below-spec =
     tie.close
     (tie.spec
-    Inv-loop
-    μ-loop
-    loop-holds
-    mul-loop
-    block-hits-requires
-    first-difference-requires
-    cast-p
-    mul-x
-    add-x
-    same-length
-    same-length-2
-    returns
-    same-length-3
-    same-length-4
-    returns-2
-    add-block
-    loop-less
-    loop-again
-    same-length-5
-    same-length-6
-    returns-3)
+    slice-aggregate-scan-blocks
+    slice-aggregate-scan-blocks-2
+    scan-blocks-requires
+    returns)

@@ -34,24 +34,18 @@ add-n-2 c =
 tries-requires : tie.Need-tries-requires
 tries-requires c κs = search needs
 
-slice-aggregate-first-below : tie.Need-slice-aggregate-first-below
-slice-aggregate-first-below c = search needs
-
-slice-aggregate-first-below-2 : tie.Need-slice-aggregate-first-below-2
-slice-aggregate-first-below-2 c = search needs
-
 first-below-requires : tie.Need-first-below-requires
 first-below-requires c κs =
-    let S = c .before .before .before .before .before .before .before .before in
-    let U = c .before .before .before .before .free-starts in
-    let N = c .before .before .tries in
+    let S = c .before .before .before .before .before .before in
+    let U = c .before .before .free-starts in
+    let N = c .tries in
     let R = S .pre .0 in
-    (R, ((S .pre .1 .0 .0, omega arith, omega (arith, N .ensures, S .pre .1 .0)), ((bits-are (circuitIn (S .args .m .now)) (S .args .t) (U .ensures) (inputs-are (R .held) (R .layout-of))), U .ensures)))
+    (R, ((S .pre .1 .0 .0, omega (arith, N .ensures, S .pre .1 .0)), ((bits-are (circuitIn (S .args .m .now)) (S .args .t) (U .ensures) (inputs-are (R .held) (R .layout-of))), U .ensures)))
 
 put-free-requires : tie.Need-put-free-requires
 put-free-requires c κs =
-    let S = c .before .before .before .before .before .before .before .before .before .before .before .before .before in
-    let U = c .before .before .before .before .before .before .before .before .before .free-starts in
+    let S = c .before .before .before .before .before .before .before .before .before in
+    let U = c .before .before .before .before .before .free-starts in
     let R = S .pre .0 in
     omega (arith, (bits-are (circuitIn (S .args .m .now)) (S .args .t) (U .ensures) (inputs-are (R .held) (R .layout-of))), S .pre .1 .1)
 
@@ -60,10 +54,10 @@ same-length c = search needs
 
 returns : tie.Need-returns
 returns c =
-    let S = c .before .before .before .before .before .before .before .before .before .before .before .before .before .before .before .before in
-    let U = c .before .before .before .before .before .before .before .before .before .before .before .before .free-starts in
-    let N = c .before .before .before .before .before .before .before .before .before .before .tries in
-    let F = c .before .before .before .before .before .before .before .first-below in
+    let S = c .before .before .before .before .before .before .before .before .before .before .before .before in
+    let U = c .before .before .before .before .before .before .before .before .free-starts in
+    let N = c .before .before .before .before .before .before .tries in
+    let F = c .before .before .before .before .before .first-below in
     let W = c .before .before .put-free in
     let R = S .pre .0 in
     (F .result, decision-hit (circuitIn (S .args .m .now)) (S .args .b) (S .args .t) (S .args .d) (bits-are (circuitIn (S .args .m .now)) (S .args .t) (U .ensures) (inputs-are (R .held) (R .layout-of))) (N .ensures) (F .ensures) (c .before .before .before .before .if1 .taken), subst (λ (n : ℕ). FreeBits n (F .result) (W .last .1 .1 .0)) (bits-are (circuitIn (S .args .m .now)) (S .args .t) (U .ensures) (inputs-are (R .held) (R .layout-of))) (W .ensures))
@@ -73,20 +67,20 @@ covers-requires c κs = search needs
 
 returns-2 : tie.Need-returns-2
 returns-2 c =
-    let S = c .before .before .before .before .before .before .before .before .before .before .before .before .before .before in
-    let U = c .before .before .before .before .before .before .before .before .before .before .free-starts in
-    let N = c .before .before .before .before .before .before .before .before .tries in
-    let F = c .before .before .before .before .before .first-below in
+    let S = c .before .before .before .before .before .before .before .before .before .before in
+    let U = c .before .before .before .before .before .before .free-starts in
+    let N = c .before .before .before .before .tries in
+    let F = c .before .before .before .first-below in
     let W = c .before .covers in
     let R = S .pre .0 in
     decision-clear (circuitIn (S .args .m .now)) (S .args .b) (S .args .t) (S .args .d) (bits-are (circuitIn (S .args .m .now)) (S .args .t) (U .ensures) (inputs-are (R .held) (R .layout-of))) (N .ensures) (F .ensures) (c .before .before .if1 .left) (sym (W .ensures) ∙ c .if2 .taken)
 
 returns-3 : tie.Need-returns-3
 returns-3 c =
-    let S = c .before .before .before .before .before .before .before .before .before .before .before .before .before .before in
-    let U = c .before .before .before .before .before .before .before .before .before .before .free-starts in
-    let N = c .before .before .before .before .before .before .before .before .tries in
-    let F = c .before .before .before .before .before .first-below in
+    let S = c .before .before .before .before .before .before .before .before .before .before in
+    let U = c .before .before .before .before .before .before .free-starts in
+    let N = c .before .before .before .before .tries in
+    let F = c .before .before .before .first-below in
     let W = c .before .covers in
     let R = S .pre .0 in
     decision-spent (circuitIn (S .args .m .now)) (S .args .b) (S .args .t) (S .args .d) (bits-are (circuitIn (S .args .m .now)) (S .args .t) (U .ensures) (inputs-are (R .held) (R .layout-of))) (N .ensures) (F .ensures) (c .before .before .if1 .left) (sym (W .ensures) ∙ c .if2 .left)
@@ -100,8 +94,6 @@ first-hit-spec =
     mul-n
     add-n-2
     tries-requires
-    slice-aggregate-first-below
-    slice-aggregate-first-below-2
     first-below-requires
     put-free-requires
     same-length

@@ -1,7 +1,7 @@
 -- `load::load_with` meets its contract: the counts, the lines, and then the circuit that the words say. Assumes nothing.
 use mathlib.Core.Path.{_≡_, subst}
 use mathlib.Core.List.{List, _++_}
-use Prim.Native.Nat.{ℕ, _≤_}
+use Prim.Native.Nat.{ℕ}
 use native.Mathlib.Omega.{arith}
 use borrow.Author.Needs.{needs}
 use lib.ListN.{length, drop}
@@ -40,9 +40,6 @@ lined n = n .read-body .last .1 .1 .1 .1 .0
 -- the lines after the header
 abbrev rest : tie.After-read-body → List ℕ
 rest n = drop (S (at n) .args .at) (S (at n) .args .s .now)
-
-room : (n : tie.After-read-body) → 12391 ≤ length (lined n)
-room n = omega (arith, n .read-body .kept .1 .1 .1 .1 .0, size (at n), S (at n) .pre .1 .1 .0)
 
 -- the answer of the call is the variant that the match found
 found : (n : tie.After-read-body) (r : Body) → n .read-body .result ≡ r → BodyAt (headerMeant (S (at n) .args .k)) (rest n) (lined n) r
@@ -99,7 +96,7 @@ finish-requires c κs =
     let s = S (at n) in
     let k = s .args .k in
     let f = found n _ (e .enum-told3 .given .1) in (
-      counts-stored k (rest n) (f .0) (f .1) (lined n) (f .2) (f .3) (s .pre .1 .0) (room n),
+      counts-stored k (rest n) (f .0) (f .1) (lined n) (f .2) (f .3) (s .pre .1 .0),
       (
         numbers-stored k (rest n) (f .0) (f .1) (lined n) (f .2) (f .3),
         (

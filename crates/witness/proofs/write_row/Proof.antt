@@ -56,7 +56,7 @@ slice-write-part-2 : tie.Need-slice-write-part-2 Inv-loop μ-loop
 slice-write-part-2 c = omega arith
 
 same-length : tie.Need-same-length Inv-loop μ-loop
-same-length c = let l = c .before in length-set (l .loop .part) (l .before .before .before .args .count) 10 ∙ l .loop .inv .0
+same-length c = simp length-set (c .before .loop .inv .0)
 
 returns : tie.Need-returns Inv-loop μ-loop
 returns c =

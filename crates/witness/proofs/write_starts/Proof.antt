@@ -51,7 +51,7 @@ add-count-at : tie.Need-add-count-at Inv-loop μ-loop
 add-count-at c = omega (arith, within (c .before))
 
 count-at-requires-2 : tie.Need-count-at-requires-2 Inv-loop μ-loop
-count-at-requires-2 c κs = within (c .before)
+count-at-requires-2 c κs = omega (arith, within (c .before))
 
 start-of-requires : tie.Need-start-of-requires Inv-loop μ-loop
 start-of-requires c κs =
@@ -100,7 +100,7 @@ slice-write-part-2 : tie.Need-slice-write-part-2 Inv-loop μ-loop
 slice-write-part-2 c = let l = c .before in omega (arith, room l, fit l .layout .l-is, l .loop .inv .size)
 
 same-length : tie.Need-same-length Inv-loop μ-loop
-same-length c = let l = c .before in length-set (l .loop .part) (l .before .before .before .before .args .layout .l) 10 ∙ l .loop .inv .size
+same-length c = simp length-set (c .before .loop .inv .size)
 
 returns : tie.Need-returns Inv-loop μ-loop
 returns c =

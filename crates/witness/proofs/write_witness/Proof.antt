@@ -5,8 +5,7 @@ use mathlib.Core.List.{List, _++_}
 use Prim.Native.Nat.{ℕ, _+_, _-_, _*_, _≤_}
 use native.Mathlib.Omega.{arith}
 use borrow.Rule.Slice.PartMut.{putMid}
-use lib.ListN.{length, drop, set, length-append, length-drop, length-set}
-use lib.Seq.{length-take-le}
+use lib.ListN.{length, length-append, length-take, length-drop, length-set}
 use Rattle.aiger.specs.Frames.{starts}
 use Rattle.aiger.specs.Witness.{bitLine}
 use Rattle.aiger.specs.Operations.{front}
@@ -106,15 +105,18 @@ module _ (n : tie.In-loop Inv-loop μ-loop) where
   abbrev h : tie.After-write-heading Inv-loop μ-loop
   h = H (n .before .before)
 
+  in-frames : n .before .loop .frame ≤ T h
+  in-frames = omega (arith, n .loop-test .taken)
+
   row-room : rows (n .before) + n .before .loop .frame * (I h + 1) + (I h + 1) + 2 ≤ length (n .before .loop .out)
-  row-room = omega (arith, rows-room (n .before), row-inside (T h) (n .before .loop .frame) (I h + 1) (n .loop-test .taken))
+  row-room = omega (arith, rows-room (n .before), row-inside (T h) (n .before .loop .frame) (I h + 1) in-frames)
 
   row-bits : used (n .before .before) + I h * n .before .loop .frame + I h ≤ length (F h)
   row-bits =
       omega (
         arith,
         sizes h .bits,
-        bits-inside (T h) (n .before .loop .frame) (I h) (n .loop-test .taken),
+        bits-inside (T h) (n .before .loop .frame) (I h) in-frames,
         n .before .before .before .before .before .write-starts .ensures .0,
       )
 
@@ -134,13 +136,11 @@ write-starts-requires : tie.Need-write-starts-requires Inv-loop μ-loop
 write-starts-requires c κs =
     let h = c .before .before .before in
     let p = h .before .before .before .before .before .pre in
-    let one = h .write-heading .last .0 in
-    let size = length-take-le (length one - start h) (drop (start h) one) (omega (arith, length-drop (start h) one)) in
     record {
       holds = p .holds;
       layout = p .layout;
       bits = omega (arith, sizes h .bits);
-      room = omega (arith, size, room h, same-out h, sizes h .latches);
+      room = simp (length-take, length-drop) (omega (arith, room h, same-out h, sizes h .latches));
     }
 
 add-rows : tie.Need-add-rows Inv-loop μ-loop
@@ -179,11 +179,7 @@ add-write-row : tie.Need-add-write-row Inv-loop μ-loop
 add-write-row c = omega (arith, row-bits (c .before), (h (c .before)) .before .before .before .before .before .good)
 
 write-row-requires : tie.Need-write-row-requires Inv-loop μ-loop
-write-row-requires c κs =
-    let n = c .before in
-    let out = n .before .loop .out in
-    let at = rows (n .before) + n .before .loop .frame * (I (h n) + 1) in
-    (omega (arith, row-room n, length-take-le (length out - at) (drop at out) (omega (arith, length-drop at out)), length-drop at out), row-bits n)
+write-row-requires c κs = (simp (length-take, length-drop) (omega (arith, row-room (c .before))), row-bits (c .before))
 
 add-frame : tie.Need-add-frame Inv-loop μ-loop
 add-frame c = let n = c .before .before .before .before in omega (arith, n .loop-test .taken, (h n) .before .before .before .before .before .pre .frame)
@@ -197,7 +193,7 @@ loop-again c =
     let l = n .before in
     let k = l .before in
     let r =
-    frame-more (F (H k)) (used k) (I (H k)) (T (H k)) (rows l) (l .loop .out) (l .loop .frame) (rows-room l) (n .loop-test .taken)
+    frame-more (F (H k)) (used k) (I (H k)) (T (H k)) (rows l) (l .loop .out) (l .loop .frame) (rows-room l) (in-frames n)
     (c .before .before .write-row .last .0) (c .before .before .write-row .ensures) in
     (r .0 ∙ l .loop .inv .0, omega (arith, n .loop-test .taken), r .1 ∙ l .loop .inv .2)
 
@@ -234,9 +230,7 @@ slice-write-out-2 : tie.Need-slice-write-out-2 Inv-loop μ-loop
 slice-write-out-2 c = simp length-set (omega (arith, end-room c))
 
 same-length : tie.Need-same-length Inv-loop μ-loop
-same-length c =
-    let at = rows (c .before) + c .before .loop .frame * (I (e c) + 1) in
-    length-set (set (c .before .loop .out) at 46) (at + 1) 10 ∙ length-set (c .before .loop .out) at 46 ∙ same-end c
+same-length c = simp length-set (same-end c)
 
 returns : tie.Need-returns Inv-loop μ-loop
 returns c = λ x s.
