@@ -1,0 +1,5 @@
+pub mod Sizes
+pub mod Refusals
+pub mod Choice
+pub mod Answers
+pub mod Theorems

@@ -1,0 +1,36 @@
+-- `search::size` meets its contract: the product is small, and the value is the size. Assumes nothing.
+use Prim.Native.Nat.{_+_, _*_, _≤_}
+use native.Mathlib.Omega.{arith}
+use borrow.Author.Needs.{needs}
+use Rattle.search.proofs.Sizes.{product-small, size-is}
+use Rattle.search.proofs.size.Statement.{statement}
+use Rattle.search.proofs.size.Tie as tie
+
+small : (s : tie.Start) → (s .args .k + 1) * (s .args .layout .i + s .args .layout .a + s .args .layout .c) ≤ 856064
+small s = product-small (s .args .k) (s .args .layout .i + s .args .layout .a + s .args .layout .c) (omega (arith, s .pre .2)) (omega (arith, s .pre .0))
+
+add-result : tie.Need-add-result
+add-result c = search needs
+
+add-result-2 : tie.Need-add-result-2
+add-result-2 c = search needs
+
+add-result-3 : tie.Need-add-result-3
+add-result-3 c = search needs
+
+mul-result : tie.Need-mul-result
+mul-result c = omega (arith, small (c .before .before))
+
+add-result-4 : tie.Need-add-result-4
+add-result-4 c = omega (arith, small (c .before .before), c .before .before .pre .1)
+
+add-result-5 : tie.Need-add-result-5
+add-result-5 c = omega (arith, small (c .before .before), c .before .before .pre .1)
+
+returns : tie.Need-returns
+returns c = λ x e s. omega (arith, size-is e (c .before .before .args .free) (c .before .before .args .k) s)
+
+pub size-spec : {M : Type 1} → statement M
+size-spec =
+    tie.close
+    (tie.spec add-result add-result-2 add-result-3 mul-result add-result-4 add-result-5 returns)

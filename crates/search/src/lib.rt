@@ -1,0 +1,117 @@
+// The search: frame after frame from 0 up, until one has a hit, one is spent, or the bound is passed.
+use circuit::Held;
+use enumeration::Frame;
+use layout::Layout;
+ghost use mathlib.Core.Path.{_≡_};
+ghost use Prim.Native.Nat.{_≤_, _<_};
+ghost use Rattle.aiger.specs.Circuit.{Circuit};
+ghost use Rattle.aiger.specs.Frames.{freeStarts, size};
+ghost use Rattle.aiger.specs.Witness.{witnessLength};
+ghost use Rattle.aiger.specs.Operations.{Searched, searchTests};
+ghost use Rattle.roundtrip.specs.Words.{circuitIn};
+ghost use Rattle.search.specs.Chosen.{chosen, said};
+ghost use Rattle.search.specs.Steps.{Limited, CountsOf, told, SearchFits, Answered};
+
+// What a search answers: the first frame with a hit; no frame up to the bound has one; the frame whose budget is spent; a number.
+pub enum SearchAnswer {
+    Found(u32),
+    Nothing(u32),
+    Spent(u32),
+    Refused(u32),
+}
+
+// (k+1) × (I+A+C) + U + 1, where U is free.
+fn size(layout: Layout, free: usize, k: usize) -> usize
+    requires { ⌜ Limited layout × (free ≤ 1024) × (k ≤ 255) ⌝ }
+    ensures { λ r. ⌜ ((c : Circuit) → CountsOf c layout → free ≡ freeStarts c → r ≡ size c k) ⌝ }
+{
+    (k + 1) * (layout.i + layout.a + layout.c) + free + 1
+}
+
+// The length of a witness for b of k + 1 frames.
+fn witness_length(layout: Layout, b: u32, k: usize) -> usize
+    requires { ⌜ Limited layout × (k ≤ 255) ⌝ }
+    ensures { λ r. ⌜ ((c : Circuit) → CountsOf c layout → r ≡ witnessLength c b k) ⌝ }
+{
+    let number = numbers::digit_count(b);
+    3 + number + 1 + (layout.l + 1) + (k + 1) * (layout.i + 1) + 2
+}
+
+// The number of the first of the tests 10 to 13 that fails, or 0. free is the number of latches with a free start, room the words of
+// working memory and len the bytes of output.
+fn refusal(layout: Layout, free: usize, b: u64, k: u64, d: u64, room: usize, len: usize) -> u32
+    requires { ⌜ Limited layout × (free ≤ 1024) ⌝ }
+    ensures { λ r. ⌜ ((c : Circuit) → CountsOf c layout → free ≡ freeStarts c → searchTests c b k d room len ≡ told r) ⌝ }
+{
+    if layout.b as u64 <= b {
+        return 10;
+    }
+    if 255 < k {
+        return 11;
+    }
+    if d == 0 {
+        return 11;
+    }
+    if 4294967296 < d {
+        return 11;
+    }
+    let units = size(layout, free, k as usize);
+    if 65536 < units {
+        return 12;
+    }
+    if room < 16 * units {
+        return 12;
+    }
+    if len < witness_length(layout, b as u32, k as usize) {
+        return 13;
+    }
+    0
+}
+
+// The search of frames 0 to k of a circuit that is ready.
+fn search_frames(
+    m: &[u32],
+    layout: Layout,
+    order: &[u32],
+    b: usize,
+    k: usize,
+    d: u64,
+    work: &mut [u32],
+    out: &mut [u8],
+) -> SearchAnswer
+    requires { ⌜ SearchFits (now m) layout (now order) b k d (now work) (now out) ⌝ }
+    ensures { λ r. ⌜ Answered (circuitIn (now (m .entry))) b k d (now (out .entry)) (said r) (now (out .exit)) ⌝ }
+{
+    let mut t = 0;
+    while t <= k {
+        match enumeration::first_hit(m, layout, order, b, t, d, work) {
+            Frame::Hit => {
+                witness::write_witness(out, m, layout, b as u32, t, work);
+                return SearchAnswer::Found(t as u32);
+            }
+            Frame::Clear => {
+                t += 1;
+            }
+            Frame::Spent => {
+                return SearchAnswer::Spent(t as u32);
+            }
+        }
+    }
+    SearchAnswer::Nothing(k as u32)
+}
+
+// Whether bad line b can be reached within bound k, with a budget of d sequences for each frame.
+pub fn search(m: &[u32], b: u64, k: u64, d: u64, work: &mut [u32], out: &mut [u8]) -> SearchAnswer
+    ensures { λ r. ⌜ Searched chosen (now (m .entry)) b k d (now (work .entry)) (now (out .entry)) (said r) (now (work .exit)) (now (out .exit)) ⌝ }
+{
+    let mut order = [0u32; 3072];
+    let Held::Circuit(layout) = circuit::held_in(m, &mut order) else {
+        return SearchAnswer::Refused(9);
+    };
+    let free = enumeration::free_starts(m, layout);
+    let number = refusal(layout, free, b, k, d, work.len(), out.len());
+    if number != 0 {
+        return SearchAnswer::Refused(number);
+    }
+    search_frames(m, layout, &order, b as usize, k as usize, d, work, out)
+}
