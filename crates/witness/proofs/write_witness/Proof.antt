@@ -179,7 +179,7 @@ add-write-row : tie.Need-add-write-row Inv-loop μ-loop
 add-write-row c = omega (arith, row-bits (c .before), (h (c .before)) .before .before .before .before .before .good)
 
 write-row-requires : tie.Need-write-row-requires Inv-loop μ-loop
-write-row-requires c κs = (simp (length-take, length-drop) (omega (arith, row-room (c .before))), row-bits (c .before))
+write-row-requires c κs = (simp (length-take, length-drop) (omega (arith, row-room (c .before))), omega (arith, row-bits (c .before)))
 
 add-frame : tie.Need-add-frame Inv-loop μ-loop
 add-frame c = let n = c .before .before .before .before in omega (arith, n .loop-test .taken, (h n) .before .before .before .before .before .pre .frame)
