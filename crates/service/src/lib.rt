@@ -1,0 +1,62 @@
+// The public operations for programs in C and Rust: numbers and slices only. A slice is a pointer and a length.
+use circuit::Held;
+use load::LoadAnswer;
+use search::SearchAnswer;
+use write::WriteAnswer;
+ghost use mathlib.Core.Path.{_≡_};
+ghost use Rattle.aiger.specs.Operations.{Searched, Written};
+ghost use Rattle.search.specs.Chosen.{chosen};
+ghost use Rattle.service.specs.Codes.{LoadCode, TestCode, SearchCode, WriteCode};
+
+// Loads a file: 0, and the counts M I L O A B C are words 0 to 6 of circuit memory; or the number of the refusal.
+#[no_mangle]
+pub extern "C" fn yunverok_load(file: &[u8], memory: &mut [u32]) -> u32
+    ensures { λ r. ⌜ LoadCode (now (memory .entry)) (now (file .entry)) r (now (memory .exit)) ⌝ }
+{
+    match load::load(file, memory) {
+        LoadAnswer::Loaded(_) => 0,
+        LoadAnswer::Refused(n) => n,
+    }
+}
+
+// The test for number 9: 0 where circuit memory holds a circuit, else 9.
+#[no_mangle]
+pub extern "C" fn yunverok_test(memory: &[u32]) -> u32
+    ensures { λ r. ⌜ TestCode (now (memory .entry)) r ⌝ }
+{
+    match circuit::test(memory) {
+        Held::Circuit(_) => 0,
+        Held::Nothing => 9,
+    }
+}
+
+// Searches: t for found t, 2^32 + k for none k, 2 * 2^32 + t for spent t, 3 * 2^32 + number for a refusal.
+#[no_mangle]
+pub extern "C" fn yunverok_search(
+    memory: &[u32],
+    b: u64,
+    k: u64,
+    d: u64,
+    work: &mut [u32],
+    out: &mut [u8],
+) -> u64
+    ensures { λ r. ⌜ SearchCode (now (memory .entry)) b k d (now (work .entry)) (now (out .entry)) r (now (work .exit)) (now (out .exit)) ⌝ }
+{
+    match search::search(memory, b, k, d, work, out) {
+        SearchAnswer::Found(t) => t as u64,
+        SearchAnswer::Nothing(k) => 0x1_0000_0000 + k as u64,
+        SearchAnswer::Spent(t) => 0x2_0000_0000 + t as u64,
+        SearchAnswer::Refused(n) => 0x3_0000_0000 + n as u64,
+    }
+}
+
+// Writes: the length of the text, or 2^32 + number for a refusal.
+#[no_mangle]
+pub extern "C" fn yunverok_write(memory: &[u32], out: &mut [u8]) -> u64
+    ensures { λ r. ⌜ WriteCode (now (memory .entry)) (now (out .entry)) r (now (out .exit)) ⌝ }
+{
+    match write::write(memory, out) {
+        WriteAnswer::Length(n) => n as u64,
+        WriteAnswer::Refused(n) => 0x1_0000_0000 + n as u64,
+    }
+}
