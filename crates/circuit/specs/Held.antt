@@ -35,7 +35,7 @@ pub record Shaped (m : List ℕ) : Type 0 where
 abbrev pub countsIn : Layout → Counts
 countsIn p = record { m = p .m; i = p .i; l = p .l; o = p .o; a = p .a; b = p .b; c = p .c; j = 0; f = 0 }
 
--- the memory holds the circuit that its words say, laid out so, or none
+-- the memory holds the circuit that its words encode, laid out so, or none
 abbrev pub Tested : List ℕ → Held → Type 0
 Tested m (Circuit p) = LayoutOf m p × Holds m (circuitIn m)
 Tested m Nothing = HoldsNone m

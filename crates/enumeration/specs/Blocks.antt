@@ -8,7 +8,7 @@ use lib.ListN.{getD, take}
 use Rattle.aiger.specs.Lists.{tally}
 use Rattle.aiger.specs.Circuit.{Circuit}
 use Rattle.aiger.specs.Frames.{isFree, freeBit}
-use Rattle.meaning.proofs.Defined.{latchAt}
+use Rattle.meaning.specs.Frame.{latchAt}
 use Rattle.frames.specs.Lanes.{lane}
 
 -- the number of latches with a free start before latch j

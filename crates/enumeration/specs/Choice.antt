@@ -1,5 +1,6 @@
 -- What the search of one frame decides. Document 01 leaves it to the program whether it is spent or decides beyond its budget; here
--- it tries the first D sequences and no others. Assumes nothing.
+-- it tries the first D sequences and no others. What holds of a decision, and all that the search knows of it, are the laws `hit-first`,
+-- `clear-none` and `spent-first`. Assumes nothing.
 use mathlib.Core.Bool.{Bool, cond}
 use mathlib.Core.Option.{Option, none, some}
 use Prim.Native.Nat.{ℕ, zero, suc, _^_, min}

@@ -12,7 +12,7 @@ ghost use Rattle.aiger.specs.Search.{reaches};
 ghost use Rattle.aiger.specs.Memory.{Holds};
 ghost use Rattle.roundtrip.specs.Words.{word, circuitIn};
 ghost use Rattle.layout.specs.Layout.{LayoutOf};
-ghost use Rattle.meaning.proofs.Defined.{inputAt, latchAt};
+ghost use Rattle.meaning.specs.Frame.{inputAt, latchAt};
 ghost use Rattle.frames.specs.Lanes.{Ready};
 ghost use Rattle.enumeration.specs.Blocks.{startBit, Given, First};
 ghost use Rattle.enumeration.specs.Frame.{FreeBits, FrameIs};

@@ -13,8 +13,7 @@ use Rattle.roundtrip.specs.Words.{word, circuitIn}
 use Rattle.layout.specs.Order.{Ordered}
 use Rattle.layout.specs.Layout.{LayoutOf}
 use Rattle.layout.specs.declared.Layout.{Layout}
-use Rattle.meaning.proofs.Defined.{inputAt, latchAt}
-use Rattle.meaning.proofs.Values.{Valuation}
+use Rattle.meaning.specs.Frame.{inputAt, latchAt, Valuation}
 
 -- the values of the variables in run p
 abbrev pub lane : List ℕ → ℕ → ℕ → Bool

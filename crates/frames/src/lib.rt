@@ -10,7 +10,7 @@ ghost use Rattle.roundtrip.specs.Words.{word, gateIn, circuitIn};
 ghost use Rattle.frames.specs.Lanes.{lane, Ready, Evaluated, Advanced, hitIn, GateRoom, Gated, Apart, Stored};
 
 // The word of literal l.
-pub fn literal_value(values: &[u64], l: u32) -> u64
+fn literal_value(values: &[u64], l: u32) -> u64
     requires { ⌜ l / 2 < length (now values) ⌝ }
     ensures { λ r. ⌜ ((p : ℕ) → p < 64 → bit r p ≡ value (lane (now (values .entry)) p) l) ⌝ }
 {

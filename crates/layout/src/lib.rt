@@ -31,7 +31,7 @@ pub fn count_at(m: &[u32], i: usize) -> usize
     m[i] as usize
 }
 
-// The layout that the first seven words say.
+// The layout that the first seven words encode.
 pub fn layout_of(m: &[u32]) -> Layout
     requires { ⌜ 7 ≤ length (now m) ⌝ }
     ensures { λ r. ⌜ LayoutOf (now (m .entry)) r ⌝ }

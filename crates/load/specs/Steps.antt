@@ -25,7 +25,7 @@ abbrev pub headerMeant : Counts → Header
 headerMeant k =
     record { M = k .m; I = k .i; L = k .l; O = k .o; A = k .a; B = k .b; C = k .c; J = 0; F = 0 }
 
--- the counts that the first seven words say
+-- the counts that the first seven words encode
 abbrev pub headerAt : List ℕ → Header
 headerAt w =
     record { M = word w 0; I = word w 1; L = word w 2; O = word w 3; A = word w 4; B = word w 5; C = word w 6; J = 0; F = 0 }

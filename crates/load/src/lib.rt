@@ -137,7 +137,7 @@ fn clear(m: &mut [u32], from: usize, to: usize)
     }
 }
 
-// Stores the circuit that words say in the needed words of m.
+// Stores the circuit that words encode in the needed words of m.
 fn store(words: &[u32], m: &mut [u32])
     requires { ⌜ Counted (now words) ⌝ }
     requires { ⌜ needed (word (now words) 0) ≤ length (now m) ⌝ }
@@ -148,7 +148,7 @@ fn store(words: &[u32], m: &mut [u32])
     clear(m, p.end, 8 * (p.m + 1) + 256);
 }
 
-// Tests the circuit that words say, and stores it.
+// Tests the circuit that words encode, and stores it.
 fn finish(k: Counts, words: &[u32], order: &mut [u32], m: &mut [u32]) -> LoadAnswer
     requires { ⌜ Counted (now words) ⌝ }
     requires { ⌜ numbers k ≡ take 7 (now words) ⌝ }
@@ -190,7 +190,7 @@ fn load_with(
     }
 }
 
-// The same, with the words for it.
+// Reads, tests and stores the lines after the header, with local memory for their words and for the order of the gates.
 fn load_body(s: &[u8], at: usize, k: Counts, m: &mut [u32]) -> LoadAnswer
     requires { ⌜ at ≤ length (now s) ⌝ }
     requires { ⌜ countsFit (headerMeant k) ≡ true ⌝ }

@@ -15,24 +15,8 @@ use Rattle.aiger.specs.Lists.{member}
 use Rattle.aiger.specs.Bits.{nonzero, odd}
 use Rattle.aiger.specs.Circuit.{Circuit, Latch, Gate, var, defined, used, literalTests, literalsRight, usedDefined, gateOf}
 use Rattle.aiger.proofs.Tests.{and-left, and-right, not-both, all-at}
+pub use Rattle.meaning.specs.Frame.{noLatch, noGate, inputAt, latchAt, gateAt}
 use Rattle.meaning.proofs.Lists.{mem-getD, mem-at, getD-all, every-mem, pairwise-at, member-mem}
-
--- what stands past the end of the latches and of the gates
-abbrev pub noLatch : Latch
-noLatch = record { lit = 0; next = 0; reset = 0 }
-
-abbrev pub noGate : Gate
-noGate = record { lit = 0; left = 0; right = 0 }
-
--- the literal of the i-th input; the j-th latch; the i-th gate
-abbrev pub inputAt : Circuit → ℕ → ℕ
-inputAt c i = getD (c .inputs) i 0
-
-abbrev pub latchAt : Circuit → ℕ → Latch
-latchAt c j = getD (c .latches) j noLatch
-
-abbrev pub gateAt : Circuit → ℕ → Gate
-gateAt c i = getD (c .gates) i noGate
 
 -- variable v is 0, or an input, a latch or a gate defines it
 pub data Known (c : Circuit) (v : ℕ) : Type 0 where

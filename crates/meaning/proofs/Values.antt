@@ -13,6 +13,7 @@ use lib.ListN.{length, getD, length-map, List·getD-map}
 use Rattle.aiger.specs.Bits.{nonzero, odd}
 use Rattle.aiger.specs.Circuit.{Circuit, Gate, var, defined, literalsRight, usedDefined, gateOf, operands, settles, acyclic}
 use Rattle.aiger.specs.Frames.{Run, value, conjunction, through, look, leaf, frame, state, valueAt}
+pub use Rattle.meaning.specs.Frame.{Valuation}
 use Rattle.meaning.proofs.Lists.{mem-at, getD-map}
 use Rattle.meaning.proofs.Defined.{noLatch, noGate, inputAt, latchAt, gateAt, Known, constant, input, latch, gate, Apart, input-in, latch-in, gate-in, definition, apart-inputs, apart-latches, apart-gates, input-latch, input-gate, latch-gate, left-known, right-known, gateOf-none, gateOf-at}
 use Rattle.meaning.proofs.Cycles.{operands-at, all-settle}
@@ -74,13 +75,6 @@ stable : (gs : List Gate) (w : ℕ → Bool) (n v : ℕ) → T (settles gs n v) 
 unfolding settles through
 stable gs w zero v t = no-gate (gateOf gs v) (w v) w t
 stable gs w (suc n) v t = conjunction-eq (gateOf gs v) (w v) (settles gs n) (through gs w (suc n)) (through gs w n) t (stable gs w n)
-
--- the values w of the variables satisfy the equations of a frame with these inputs and latches
-pub record Valuation (c : Circuit) (row st : List Bool) (w : ℕ → Bool) : Type 0 where
-  pub constant : w 0 ≡ false
-  pub input : (i : ℕ) → i < length (c .inputs) → w (var (inputAt c i)) ≡ getD row i false
-  pub latch : (j : ℕ) → j < length (c .latches) → w (var (latchAt c j .lit)) ≡ getD st j false
-  pub gate : (i : ℕ) → i < length (c .gates) → w (var (gateAt c i .lit)) ≡ (value w (gateAt c i .left) && value w (gateAt c i .right))
 
 module _ (c : Circuit) where
   -- in an acyclic circuit a gate's variable has the conjunction, any other the value of the leaf

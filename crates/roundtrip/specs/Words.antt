@@ -38,7 +38,7 @@ latchIn m at = record { lit = word m at; next = word m (at + 1); reset = word m 
 abbrev pub gateIn : List ℕ → ℕ → Gate
 gateIn m at = record { lit = word m at; left = word m (at + 1); right = word m (at + 2) }
 
--- the circuit that words say, if they say one
+-- the circuit that words encode, if they encode one
 unfoldable pub circuitIn : List ℕ → Circuit
 circuitIn m =
     record {

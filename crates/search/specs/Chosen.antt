@@ -21,7 +21,7 @@ chosenFrom c b k D t (suc n) = outcomeOf (decision c b t D) t (chosenFrom c b k 
 unfoldable pub chosen : Circuit → ℕ → ℕ → ℕ → Outcome
 chosen c b k D = chosenFrom c b k D 0 (k + 1)
 
--- this paper's answer for each case of the enum
+-- document 01's answer for each case of the enum
 abbrev pub said : SearchAnswer → op.Said
 said (Found t) = op.found t
 said (Nothing k) = op.none k

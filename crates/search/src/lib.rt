@@ -12,7 +12,8 @@ ghost use Rattle.roundtrip.specs.Words.{circuitIn};
 ghost use Rattle.search.specs.Chosen.{chosen, said};
 ghost use Rattle.search.specs.Steps.{Limited, CountsOf, told, SearchFits, Answered};
 
-// What a search answers: the first frame with a hit; no frame up to the bound has one; the frame whose budget is spent; a number.
+// What a search answers: the first frame with a hit; no frame up to the bound has one; the frame whose budget is spent; the number of a
+// refusal.
 pub enum SearchAnswer {
     Found(u32),
     Nothing(u32),
@@ -29,7 +30,7 @@ fn size(layout: Layout, free: usize, k: usize) -> usize
 }
 
 // The length of a witness for b of k + 1 frames.
-fn witness_length(layout: Layout, b: u32, k: usize) -> usize
+pub fn witness_length(layout: Layout, b: u32, k: usize) -> usize
     requires { ⌜ Limited layout × (k ≤ 255) ⌝ }
     ensures { λ r. ⌜ ((c : Circuit) → CountsOf c layout → r ≡ witnessLength c b k) ⌝ }
 {

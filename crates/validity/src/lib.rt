@@ -1,4 +1,4 @@
-// Whether the circuit that words say is right: the causes 6, 7 and 8. A right one has its gates put in an order for evaluation.
+// Whether the circuit that words encode is right: the causes 6, 7 and 8. A right one has its gates put in an order for evaluation.
 ghost use Prim.Native.Nat.{_≤_};
 ghost use lib.ListN.{length};
 ghost use Rattle.roundtrip.specs.Words.{circuitIn};

@@ -50,7 +50,7 @@ fn bit_at(words: &[u32], i: usize) -> bool
 }
 
 // Writes count bits, those of free from `from` on, and a line feed to the front of part.
-pub fn write_row(part: &mut [u8], free: &[u32], from: usize, count: usize)
+fn write_row(part: &mut [u8], free: &[u32], from: usize, count: usize)
     requires { ⌜ (count < length (now part)) × (from + count ≤ length (now free)) ⌝ }
     ensures { λ _. ⌜ now (part .exit) ≡ front (bitLine (rowOf (now (free .entry)) from count)) (now (part .entry)) ⌝ }
 {
@@ -84,7 +84,7 @@ fn start_of(lit: usize, reset: usize, free: &[u32], used: usize) -> Start
 
 // Writes the line of start values to the front of part: a latch's reset, or the next free bit where its start is free. The answer is
 // the number of free starts.
-pub fn write_starts(part: &mut [u8], m: &[u32], layout: Layout, free: &[u32]) -> usize
+fn write_starts(part: &mut [u8], m: &[u32], layout: Layout, free: &[u32]) -> usize
     requires { ⌜ StartsFit (now part) (now m) layout (now free) ⌝ }
     ensures { λ r. ⌜
         (r ≡ freeStarts (circuitIn (now (m .entry))))

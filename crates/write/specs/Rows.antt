@@ -1,4 +1,4 @@
--- The text of the lines that words say: numbers and rows of numbers by their positions in circuit memory. Assumes nothing.
+-- The text of the lines that words encode: numbers and rows of numbers by their positions in circuit memory. Assumes nothing.
 use mathlib.Core.Bool.{cond}
 use mathlib.Core.List.{List, [], _∷_, _++_}
 use Prim.Native.Nat.{ℕ, zero, suc, _+_, _-_, _*_, _≤_, _<_}

@@ -74,7 +74,7 @@ fn rows_length(m: &[u32], first: usize, n: usize, least: usize, most: usize) -> 
 }
 
 // The length of the text of the circuit in m.
-pub fn text_length(m: &[u32], layout: Layout) -> usize
+fn text_length(m: &[u32], layout: Layout) -> usize
     requires { ⌜ Holds (now m) (circuitIn (now m)) × LayoutOf (now m) layout ⌝ }
     ensures { λ r. ⌜ r ≡ length (write (circuitIn (now (m .entry)))) ⌝ }
 {
@@ -142,7 +142,7 @@ fn write_rows(
 }
 
 // Writes the text of the circuit in m at the front of out.
-pub fn write_text(m: &[u32], layout: Layout, out: &mut [u8])
+fn write_text(m: &[u32], layout: Layout, out: &mut [u8])
     requires { ⌜ Holds (now m) (circuitIn (now m)) × LayoutOf (now m) layout × (length (write (circuitIn (now m))) ≤ length (now out)) ⌝ }
     ensures { λ _. ⌜ now (out .exit) ≡ front (write (circuitIn (now (m .entry)))) (now (out .entry)) ⌝ }
 {

@@ -1,0 +1,4 @@
+pub mod Requests
+pub mod Lines
+pub mod Replying
+pub mod Printing

@@ -1,0 +1,54 @@
+-- `job::reply` meets its contract. Assumes nothing.
+use lib.ListN.{length}
+use Rattle.roundtrip.specs.Words.{circuitIn}
+use Rattle.job.proofs.Replying.{judged, shown-fits, printed}
+use borrow.Author.Needs.{needs}
+use Rattle.job.proofs.reply.Statement.{statement}
+use Rattle.job.proofs.reply.Tie as tie
+
+search-requires : tie.Need-search-requires
+search-requires c κs = search needs
+
+shown-length-requires : tie.Need-shown-length-requires
+shown-length-requires c κs =
+    let n = c .before .before .before .before in
+    let s = n .before .before .before .before .before .before .before in
+    let a = s .args in
+    shown-fits (a .m .now) (a .q .b) (a .q .k) (a .q .d) (length (a .work .now)) (a .out .now) (s .pre .0) (n .search .result)
+    (judged (s .pre .0) (n .search .ensures))
+
+write-answer-requires : tie.Need-write-answer-requires
+write-answer-requires c κs = search needs
+
+same-length : tie.Need-same-length
+same-length c = search needs
+
+same-length-2 : tie.Need-same-length-2
+same-length-2 c = search needs
+
+same-length-3 : tie.Need-same-length-3
+same-length-3 c = search needs
+
+returns : tie.Need-returns
+returns c =
+    let w = c .before .before in
+    let l = w .before .before in
+    let n = l .before .before .before .before .before in
+    let s = n .before .before .before .before .before .before .before in
+    let a = s .args in
+    let p =
+    printed (circuitIn (a .m .now)) (a .q) (length (a .work .now)) (a .out .now) (w .write-answer .last .0) (w .write-answer .result)
+    (l .shown-length .result) (judged (s .pre .0) (n .search .ensures)) (w .write-answer .ensures) (l .shown-length .ensures) in
+    record { text = p .0; line-inside = w .write-answer .ensures .inside; witness-inside = p .1 }
+
+pub reply-spec : {M : Type 1} → statement M
+reply-spec =
+    tie.close
+    (tie.spec
+    search-requires
+    shown-length-requires
+    write-answer-requires
+    same-length
+    same-length-2
+    same-length-3
+    returns)

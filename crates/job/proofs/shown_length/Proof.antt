@@ -1,0 +1,51 @@
+-- `job::shown_length` meets its contract. Assumes nothing.
+use native.Mathlib.Omega.{arith}
+use Rattle.roundtrip.specs.Words.{circuitIn}
+use Rattle.frames.proofs.Facts.{valid, counts}
+use Rattle.search.proofs.Sizes.{counts-of, limited}
+use Rattle.job.specs.Replies.{FoundFits}
+use Rattle.job.proofs.Replying.{other-length}
+use borrow.Author.Needs.{needs}
+use Rattle.job.proofs.shown_length.Statement.{statement}
+use Rattle.job.proofs.shown_length.Tie as tie
+
+-- the answer is the variant that was matched
+fits : (k : tie.After-known-told) → let s = k .before .before .before .before .args in FoundFits (s .m .now) (s .b) (k .before .answer .given .0 .0)
+fits k = rw (k .before .answer .given .1) at (k .before .before .before .before .pre)
+
+enum-known-answer : tie.Need-enum-known-answer
+enum-known-answer c = search needs
+
+returns : tie.Need-returns
+returns c = let s = c .before .before .args in other-length (circuitIn (s .m .now)) (s .b) (s .answer) (c .match .keys2)
+
+layout-of-requires : tie.Need-layout-of-requires
+layout-of-requires c κs = omega (arith, valid (fits c .holds) .held)
+
+cast-witness-length : tie.Need-cast-witness-length
+cast-witness-length c = omega (arith, fits (c .before) .bad, counts (fits (c .before) .holds) .bads)
+
+cast-witness-length-2 : tie.Need-cast-witness-length-2
+cast-witness-length-2 c = search needs
+
+witness-length-requires : tie.Need-witness-length-requires
+witness-length-requires c κs = (limited (fits (c .before) .holds) (c .layout-of .ensures), omega (arith, fits (c .before) .frame))
+
+returns-2 : tie.Need-returns-2
+returns-2 c =
+    let l = c .before in
+    let k = l .before in
+    let m = k .before .before .before .before .args .m .now in
+    rw (k .before .answer .given .1) (c .witness-length .ensures (circuitIn m) (counts-of (fits k .holds) (l .layout-of .ensures)))
+
+pub shown-length-spec : {M : Type 1} → statement M
+shown-length-spec =
+    tie.close
+    (tie.spec
+    enum-known-answer
+    returns
+    layout-of-requires
+    cast-witness-length
+    cast-witness-length-2
+    witness-length-requires
+    returns-2)

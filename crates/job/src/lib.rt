@@ -1,0 +1,159 @@
+// The work of the search program: from what standard input holds to what is printed.
+use lines::Row;
+use load::LoadAnswer;
+use numbers::Put;
+use search::SearchAnswer;
+ghost use mathlib.Core.Path.{_≡_};
+ghost use mathlib.Core.List.{_++_};
+ghost use Prim.Native.Nat.{_+_, _≤_};
+ghost use lib.ListN.{length, take};
+ghost use Rattle.aiger.specs.Lists.{same};
+ghost use Rattle.aiger.specs.Text.{bytes, digits};
+ghost use Rattle.aiger.specs.Memory.{Holds};
+ghost use Rattle.aiger.specs.Program.{refusalLine, Prints};
+ghost use Rattle.roundtrip.specs.Words.{circuitIn};
+ghost use Rattle.search.specs.Chosen.{said};
+ghost use Rattle.job.specs.Replies.{Shows, saidText, shownLength, ShownFits, Replies, Refuses};
+ghost use Rattle.job.specs.Query.{queryOf, FirstLineIs};
+
+// How many bytes of the line and of the output are to be printed.
+pub struct Report {
+    pub line: usize,
+    pub witness: usize,
+}
+
+// A request: a bad line, a bound, a budget, and the position of the file.
+struct Query {
+    b: u64,
+    k: u64,
+    d: u64,
+    file: usize,
+}
+
+// What the first line of the input is.
+enum FirstLine {
+    Search(Query),
+    Malformed,
+}
+
+// Whether the input begins with `search` and a space.
+fn is_search(input: &[u8]) -> bool
+    ensures { λ r. ⌜ r ≡ same (take 7 (now (input .entry))) (bytes "search ") ⌝ }
+{
+    if input.len() < 7 {
+        return false;
+    }
+    check::same(&input[..7], b"search ")
+}
+
+fn query_of(list: &[u64; 3], file: usize) -> Query
+    ensures { λ r. ⌜ r ≡ queryOf (now (list .entry)) file ⌝ }
+{
+    Query {
+        b: list[0],
+        k: list[1],
+        d: list[2],
+        file,
+    }
+}
+
+// Reads the line `search b k D`.
+fn read_request(input: &[u8]) -> FirstLine
+    ensures { λ r. ⌜ FirstLineIs (now (input .entry)) r ⌝ }
+{
+    if !is_search(input) {
+        return FirstLine::Malformed;
+    }
+    let mut list = [0u64; 3];
+    let Row::Read(count, next) = lines::read_row(input, 7, 3, &mut list) else {
+        return FirstLine::Malformed;
+    };
+    if count < 3 {
+        return FirstLine::Malformed;
+    }
+    FirstLine::Search(query_of(&list, next))
+}
+
+// Writes a word, n and a line feed to the front of line. The answer is their length.
+fn write_line(line: &mut [u8], word: &[u8], n: u32) -> usize
+    requires { ⌜ length (now word) + 11 ≤ length (now line) ⌝ }
+    ensures { λ r. ⌜ Shows (now (line .exit)) r (now (word .entry) ++ digits n ++ bytes "\n") ⌝ }
+{
+    let at = bytes::copy(word, line);
+    let Put::At(end) = numbers::write_number(line, at, n) else {
+        return 0;
+    };
+    line[end] = b'\n';
+    end + 1
+}
+
+// Writes what a search says to the front of line.
+fn write_answer(line: &mut [u8], answer: SearchAnswer) -> usize
+    requires { ⌜ 32 ≤ length (now line) ⌝ }
+    ensures { λ r. ⌜ Shows (now (line .exit)) r (saidText (said answer)) ⌝ }
+{
+    match answer {
+        SearchAnswer::Found(t) => write_line(line, b"found ", t),
+        SearchAnswer::Nothing(k) => write_line(line, b"none ", k),
+        SearchAnswer::Spent(t) => write_line(line, b"spent ", t),
+        SearchAnswer::Refused(n) => write_line(line, b"refused ", n),
+    }
+}
+
+// Writes the line of a refusal.
+fn refuse(line: &mut [u8], n: u32) -> Report
+    requires { ⌜ 32 ≤ length (now line) ⌝ }
+    ensures { λ r. ⌜ Refuses (now (line .exit)) n r ⌝ }
+{
+    let length = write_line(line, b"refused ", n);
+    Report {
+        line: length,
+        witness: 0,
+    }
+}
+
+// The length of the witness that a search for b leaves: 0 where it finds no hit.
+fn shown_length(m: &[u32], b: u64, answer: SearchAnswer) -> usize
+    requires { ⌜ ShownFits (now m) b answer ⌝ }
+    ensures { λ r. ⌜ r ≡ shownLength (circuitIn (now (m .entry))) b (said answer) ⌝ }
+{
+    let SearchAnswer::Found(t) = answer else {
+        return 0;
+    };
+    let layout = layout::layout_of(m);
+    search::witness_length(layout, b as u32, t as usize)
+}
+
+// Searches the circuit in m.
+fn reply(m: &[u32], q: Query, work: &mut [u32], out: &mut [u8], line: &mut [u8]) -> Report
+    requires { ⌜ Holds (now m) (circuitIn (now m)) ⌝ }
+    requires { ⌜ 32 ≤ length (now line) ⌝ }
+    ensures { λ r. ⌜ Replies (circuitIn (now (m .entry))) q (length (now (work .entry))) (length (now (out .entry))) (now (line .exit)) (now (out .exit)) r ⌝ }
+{
+    let answer = search::search(m, q.b, q.k, q.d, work, out);
+    let witness = shown_length(m, q.b, answer);
+    let length = write_answer(line, answer);
+    Report {
+        line: length,
+        witness,
+    }
+}
+
+// Reads the request, loads the file and searches. What is to be printed is left at the fronts of line and out.
+pub fn run(input: &[u8], m: &mut [u32], work: &mut [u32], out: &mut [u8], line: &mut [u8]) -> Report
+    requires { ⌜ (length (now m) ≡ 8192) × (length (now work) ≡ 8192) × (length (now out) ≡ 2048) × (32 ≤ length (now line)) ⌝ }
+    ensures prints { λ r. ⌜ Prints (now (input .entry)) (take (r .line) (now (line .exit)) ++ take (r .witness) (now (out .exit))) ⌝ }
+    ensures within { λ r. ⌜ (r .line ≤ length (now (line .exit))) × (r .witness ≤ length (now (out .exit))) ⌝ }
+{
+    if 65536 < input.len() {
+        return refuse(line, 1);
+    }
+    let FirstLine::Search(q) = read_request(input) else {
+        return refuse(line, 11);
+    };
+    let at = q.file;
+    match load::load(&input[at..], m) {
+        LoadAnswer::Refused(n) => refuse(line, n),
+        LoadAnswer::Loaded(_) => reply(m, q, work, out, line),
+    }
+}
