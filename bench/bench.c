@@ -1,0 +1,151 @@
+/* Times load, the test for number 9 and write per gate, and the search beside a plain C enumeration of 64 sequences a pass. */
+#include "yunverok.h"
+#include <stdio.h>
+#include <stdlib.h>
+#include <string.h>
+#include <time.h>
+
+static double now(void)
+{
+    struct timespec t;
+    clock_gettime(CLOCK_MONOTONIC, &t);
+    return t.tv_sec + t.tv_nsec * 1e-9;
+}
+
+static uint32_t seed = 1;
+static uint32_t draw(uint32_t n)
+{
+    seed = seed * 1664525u + 1013904223u;
+    return (seed >> 8) % n;
+}
+
+static uint32_t memory[33040];
+static uint8_t text[70000], back[70000];
+
+/* A chain of gates as deep as it is long, in file order or reversed. */
+static size_t chain(int gates, int reversed)
+{
+    char *p = (char *)text;
+    p += sprintf(p, "aag %d 2 0 1 %d 1 0\n2\n4\n%d\n%d\n", gates + 2, gates, 2 * (gates + 2), 2 * (gates + 2));
+    for (int i = 0; i < gates; i++) {
+        int g = reversed ? gates - 1 - i : i;
+        p += sprintf(p, "%d %d %d\n", 2 * (g + 3), 2 * (g + 2), 2 + (g & 1));
+    }
+    return p - (char *)text;
+}
+
+static void loads(void)
+{
+    static const int sizes[] = {384, 768, 1536, 3072};
+    printf("per gate, in nanoseconds (the best of 20 runs)\n%-9s %6s %8s %8s %8s\n", "order", "gates", "load", "test", "write");
+    for (int reversed = 0; reversed < 2; reversed++)
+        for (int i = 0; i < 4; i++) {
+            size_t n = chain(sizes[i], reversed);
+            double load = 1e9, test = 1e9, write = 1e9;
+            for (int r = 0; r < 20; r++) {
+                double a = now();
+                for (int k = 0; k < 20; k++)
+                    if (yunverok_load(text, n, memory, 33040)) abort();
+                double b = now();
+                for (int k = 0; k < 20; k++)
+                    if (yunverok_test(memory, 33040)) abort();
+                double c = now();
+                for (int k = 0; k < 20; k++)
+                    if (yunverok_write(memory, 33040, back, sizeof back) != n) abort();
+                double d = now();
+                if ((b - a) / 20 < load) load = (b - a) / 20;
+                if ((c - b) / 20 < test) test = (c - b) / 20;
+                if ((d - c) / 20 < write) write = (d - c) / 20;
+            }
+            if (memcmp(text, back, n)) abort();
+            printf("%-9s %6d %8.1f %8.1f %8.1f", reversed ? "reversed" : "file", sizes[i], load / sizes[i] * 1e9, test / sizes[i] * 1e9, write / sizes[i] * 1e9);
+            printf("   load %.3f ms\n", load * 1e3);
+        }
+}
+
+/* The same enumeration in plain C. */
+struct gate { uint32_t lit, left, right; };
+static struct gate gates[3072];
+static struct { uint32_t lit, next; } latches[64];
+static uint64_t values[4097], state[64];
+static const uint64_t patterns[6] = {0xaaaaaaaaaaaaaaaaull, 0xccccccccccccccccull, 0xf0f0f0f0f0f0f0f0ull,
+                                     0xff00ff00ff00ff00ull, 0xffff0000ffff0000ull, 0xffffffff00000000ull};
+static uint64_t value(uint32_t l) { return values[l >> 1] ^ -(uint64_t)(l & 1); }
+
+static int plain(int a, int free, int k, uint32_t bad, uint64_t *found)
+{
+    for (int t = 0; t <= k; t++)
+        for (uint64_t block = 0; block < (1ull << free) / 64; block++) {
+            values[0] = 0;
+            for (int j = 0; j < free; j++) {
+                int bit = free - 1 - j;
+                values[latches[j].lit >> 1] = bit < 6 ? patterns[bit] : (block >> (bit - 6)) & 1 ? ~0ull : 0;
+            }
+            for (int u = 0;; u++) {
+                for (int g = 0; g < a; g++) values[gates[g].lit >> 1] = value(gates[g].left) & value(gates[g].right);
+                if (u == t) break;
+                for (int j = 0; j < free; j++) state[j] = value(latches[j].next);
+                for (int j = 0; j < free; j++) values[latches[j].lit >> 1] = state[j];
+            }
+            uint64_t hit = value(bad);
+            if (hit) {
+                *found = block * 64 + __builtin_ctzll(hit);
+                return t;
+            }
+        }
+    return -1;
+}
+
+/* Free latches only, so that every frame has the same 2^free sequences; the bad line is never true. */
+static size_t random_circuit(int a, int free)
+{
+    char *p = (char *)text;
+    p += sprintf(p, "aag %d 0 %d 0 %d 1\n", free + a, free, a);
+    for (int j = 0; j < free; j++) {
+        latches[j].lit = 2 * (j + 1);
+        latches[j].next = draw(2 * (free + a + 1));
+        p += sprintf(p, "%u %u %u\n", latches[j].lit, latches[j].next, latches[j].lit);
+    }
+    for (int g = 0; g < a; g++) {
+        gates[g].lit = 2 * (free + 1 + g);
+        gates[g].left = g + 1 == a ? 2 : draw(gates[g].lit - 2) + 2;
+        gates[g].right = g + 1 == a ? 3 : draw(gates[g].lit - 2) + 2;
+    }
+    p += sprintf(p, "%u\n", gates[a - 1].lit);
+    for (int g = 0; g < a; g++) p += sprintf(p, "%u %u %u\n", gates[g].lit, gates[g].left, gates[g].right);
+    return p - (char *)text;
+}
+
+static void searches(void)
+{
+    static const int sizes[] = {20, 200, 2000}, bounds[] = {0, 7, 31}, bits[] = {18, 16, 12};
+    static uint32_t work[16 * 65536];
+    printf("\nsearch of frames 0 to k, million sequences a second (the best of 5 runs)\n%6s %6s %10s %10s %7s\n", "gates", "bound", "yunverok", "plain C", "ratio");
+    for (int i = 0; i < 3; i++)
+        for (int j = 0; j < 3; j++) {
+            int free = bits[i] - (bounds[j] ? 2 : 0);
+            size_t n = random_circuit(sizes[i], free);
+            if (yunverok_load(text, n, memory, 33040)) abort();
+            double ours = 1e9, theirs = 1e9;
+            for (int r = 0; r < 5; r++) {
+                uint64_t x;
+                double a = now();
+                uint64_t s = yunverok_search(memory, 33040, 0, bounds[j], 1ull << 32, work, sizeof work / 4, back, sizeof back);
+                double b = now();
+                int t = plain(sizes[i], free, bounds[j], gates[sizes[i] - 1].lit, &x);
+                double c = now();
+                if (t >= 0 || s != (1ull << 32) + bounds[j]) abort();
+                if (b - a < ours) ours = b - a;
+                if (c - b < theirs) theirs = c - b;
+            }
+            double count = (double)(1ull << free) * (bounds[j] + 1) / 1e6;
+            printf("%6d %6d %10.2f %10.2f %7.2f\n", sizes[i], bounds[j], count / ours, count / theirs, theirs / ours);
+        }
+}
+
+int main(void)
+{
+    loads();
+    searches();
+    return 0;
+}
