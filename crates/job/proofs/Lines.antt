@@ -9,7 +9,7 @@ use Rattle.aiger.specs.Text.{bytes, digits}
 use Rattle.aiger.specs.Operations.{front}
 use Rattle.numbers.proofs.Digits.{digits-most}
 use Rattle.numbers.proofs.Writing.{Written}
-use Rattle.witness.proofs.Put.{put, put-is, put-byte, front-append, front-length}
+use Rattle.witness.proofs.Put.{put-is, put-byte, front-append, front-length}
 use Rattle.job.specs.Replies.{Shows}
 
 -- the word is copied

@@ -1,6 +1,6 @@
 -- What a search answers, as it is printed. Assumes nothing.
 use mathlib.Core.Path.{_≡_, refl, subst}
-use mathlib.Core.List.{List, [], _++_, append-nil}
+use mathlib.Core.List.{List, _++_, append-nil}
 use mathlib.Core.Logic.{_⊎_, inl, inr}
 use Prim.Native.Nat.{ℕ, _≤_, _<_}
 use native.Mathlib.Omega.{arith}
@@ -16,7 +16,7 @@ use Rattle.aiger.specs.Search.{Outcome, permitted}
 use Rattle.aiger.specs.Witness.{witness, witnessLength}
 use Rattle.aiger.specs.Memory.{Holds}
 use Rattle.aiger.specs.Operations.{Said, saidOf, shown, front, Searched, searchTests}
-use Rattle.aiger.specs.Program.{report, refusalLine}
+use Rattle.aiger.specs.Program.{report}
 use Rattle.roundtrip.specs.Words.{circuitIn}
 use Rattle.roundtrip.proofs.Holding.{one-circuit}
 use Rattle.roundtrip.proofs.Witness.{run-length}
@@ -29,8 +29,7 @@ use Rattle.search.proofs.SearchAnswer.{the-type}
 use Rattle.search.proofs.Sizes.{length-within}
 use Rattle.search.proofs.Refusals.{passed}
 use Rattle.job.specs.declared.Query.{Query}
-use Rattle.job.specs.declared.Report.{Report}
-use Rattle.job.specs.Replies.{Shows, saidText, shownLength, ShownFits, Printed, Replies}
+use Rattle.job.specs.Replies.{Shows, saidText, shownLength, ShownFits, Printed}
 
 -- what a search of the held circuit says and leaves
 pub data Judged (c : Circuit) (b k D room : ℕ) (out : List ℕ) : Said → List ℕ → Type 0 where

@@ -10,7 +10,7 @@ ghost use lib.ListN.{length, take};
 ghost use Rattle.aiger.specs.Lists.{same};
 ghost use Rattle.aiger.specs.Text.{bytes, digits};
 ghost use Rattle.aiger.specs.Memory.{Holds};
-ghost use Rattle.aiger.specs.Program.{refusalLine, Prints};
+ghost use Rattle.aiger.specs.Program.{Prints};
 ghost use Rattle.roundtrip.specs.Words.{circuitIn};
 ghost use Rattle.search.specs.Chosen.{said};
 ghost use Rattle.job.specs.Replies.{Shows, saidText, shownLength, ShownFits, Replies, Refuses};

@@ -3,17 +3,17 @@ use mathlib.Core.Path.{_≡_, refl, sym, ap, ap₂, _∙_, subst}
 use mathlib.Core.Bool.{Bool, true, false, _&&_}
 use mathlib.Core.List.{List, [], _∷_}
 use mathlib.Core.Option.{Option, none, some}
-use Prim.Native.Nat.{ℕ, zero, suc, _+_, _-_, _*_, _≤_, _<_}
+use Prim.Native.Nat.{ℕ, _+_, _-_, _≤_, _<_}
 use native.Mathlib.Omega.{arith}
 use borrow.Author.Tests.{lt-ltb, le-ltb, le-leb}
-use lib.ListN.{length, drop, getD}
+use lib.ListN.{length, drop}
 use Rattle.aiger.specs.Circuit.{Circuit}
 use Rattle.aiger.specs.Load.{refused, gives, read, _>>=_}
 use Rattle.aiger.specs.Frames.{Run, hits}
 use Rattle.aiger.specs.Memory.{Holds}
 use Rattle.aiger.specs.Witness.{Witness, bits, bitRows, readRun, readWitness, agrees, confirms}
 use Rattle.aiger.specs.Operations.{Replayed, says}
-use Rattle.roundtrip.specs.Words.{word, circuitIn}
+use Rattle.roundtrip.specs.Words.{circuitIn}
 use Rattle.layout.specs.Layout.{LayoutOf}
 use Rattle.layout.specs.declared.Layout.{Layout}
 use Rattle.frames.proofs.Facts.{bad-count}

@@ -2,3 +2,5 @@ pub mod Starts
 pub mod Rows
 pub mod Runs
 pub mod Answers
+pub mod Reading
+pub mod Theorems

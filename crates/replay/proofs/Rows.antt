@@ -1,8 +1,7 @@
 -- Rows of bits read one after the other. Assumes nothing.
-use mathlib.Core.Path.{_≡_, refl, sym, ap, _∙_, subst}
+use mathlib.Core.Path.{_≡_, refl, sym, ap, _∙_}
 use mathlib.Core.Bool.{Bool, true, false}
 use mathlib.Core.List.{List, [], _∷_}
-use mathlib.Core.Logic.{⊎-elim}
 use mathlib.Core.Option.{Option, none, some}
 use Prim.Native.Nat.{ℕ, zero, suc, _+_, _-_, _*_, _≤_, _<_}
 use native.Mathlib.Nat.{not-suc-le-zero, suc-mul, add-zero}
@@ -14,12 +13,12 @@ use Rattle.aiger.specs.Lists.{same}
 use Rattle.aiger.specs.Text.{bytes, _>>=_}
 use Rattle.aiger.specs.Witness.{bits, bitRows}
 use Rattle.witness.specs.Line.{values, Within}
-use Rattle.replay.specs.Texts.{RowsAt, Counted, malformed, wellFormed}
+use Rattle.replay.specs.Texts.{Counted, malformed, wellFormed}
 
 -- ---- what is read, by the first line that is left
 
 module _ (n : ℕ) (w : List ℕ) where
-  rows-end : (most : ℕ) → same w (bytes ".\n") ≡ true → bitRows n most w ≡ some []
+  pub rows-end : (most : ℕ) → same w (bytes ".\n") ≡ true → bitRows n most w ≡ some []
   unfolding bitRows
   rows-end zero e = rw e
   rows-end (suc most) e = simp (bitRows, e)
@@ -28,11 +27,11 @@ module _ (n : ℕ) (w : List ℕ) where
   unfolding bitRows
   rows-full e = rw e
 
-  rows-malformed : (most : ℕ) → same w (bytes ".\n") ≡ false → bits n w ≡ none → bitRows n (suc most) w ≡ none
+  pub rows-malformed : (most : ℕ) → same w (bytes ".\n") ≡ false → bits n w ≡ none → bitRows n (suc most) w ≡ none
   unfolding bitRows
   rows-malformed most e b = simp (bitRows, e, b)
 
-  rows-more : (most : ℕ) (v : List Bool) (rest : List ℕ) → same w (bytes ".\n") ≡ false → bits n w ≡ some (v, rest)
+  pub rows-more : (most : ℕ) (v : List Bool) (rest : List ℕ) → same w (bytes ".\n") ≡ false → bits n w ≡ some (v, rest)
       → bitRows n (suc most) w ≡ (bitRows n most rest >>= λ rs. some (v ∷ rs))
   unfolding bitRows
   rows-more most v rest e b = simp (bitRows, e, b)

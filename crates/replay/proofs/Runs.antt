@@ -1,8 +1,8 @@
 -- The frames of the run that a text shows, one after the other: the words of the variables are the values of a frame. Assumes nothing.
-use mathlib.Core.Path.{_≡_, refl, sym, ap, _∙_, subst}
+use mathlib.Core.Path.{_≡_, refl, sym, ap, _∙_}
 use mathlib.Core.Bool.{Bool, true, false, cond}
 use mathlib.Core.List.{List, []}
-use Prim.Native.Nat.{ℕ, zero, suc, _+_, _-_, _*_, _%_, _≤_, _<_}
+use Prim.Native.Nat.{ℕ, zero, suc, _+_, _*_, _%_, _≤_, _<_}
 use native.Mathlib.Nat.{suc-mul, mul-le-mul-right}
 use native.Mathlib.Omega.{arith}
 use lib.Dec.{eqb}
@@ -10,7 +10,7 @@ use lib.ListN.{length, getD}
 use Rattle.aiger.specs.Bits.{nonzero, bit}
 use Rattle.aiger.specs.Circuit.{Circuit, var}
 use Rattle.aiger.specs.Frames.{Run, state, hits}
-use Rattle.roundtrip.specs.Words.{word, circuitIn}
+use Rattle.roundtrip.specs.Words.{circuitIn}
 use Rattle.layout.specs.declared.Layout.{Layout}
 use Rattle.words.proofs.Bits.{bit-zero, bit-all, bit-none}
 use Rattle.meaning.proofs.Defined.{inputAt, latchAt, input-in, latch-in, definition, input-latch}

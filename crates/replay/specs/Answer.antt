@@ -1,6 +1,5 @@
--- This paper's answer for each case of replay's enum. Assumes nothing.
+-- Document 01's answer for each case of replay's enum. Assumes nothing.
 use mathlib.Core.Bool.{Bool, true, false}
-use Prim.Native.Nat.{ℕ}
 use Rattle.aiger.specs.Load.{Answer, refused, gives}
 use Rattle.replay.specs.declared.ReplayAnswer.{ReplayAnswer}
 use Rattle.replay.specs.declared.ReplayAnswer.the-variants.{Yes, No, Refused}

@@ -5,7 +5,7 @@ use witness::Bits;
 use witness::Heading;
 ghost use mathlib.Core.Path.{_≡_};
 ghost use mathlib.Core.Bool.{cond, _||_};
-ghost use Prim.Native.Nat.{ℕ, _+_, _-_, _*_, _≤_, _<_};
+ghost use Prim.Native.Nat.{_+_, _-_, _*_, _≤_, _<_};
 ghost use lib.Dec.{eqb};
 ghost use lib.ListN.{length};
 ghost use Rattle.aiger.specs.Frames.{Run, hits};
@@ -148,6 +148,38 @@ fn last_hits(
     frames::hit_word(m, layout, order, b, values) % 2 == 1
 }
 
+// The same, with memory of its own for the words.
+fn shows_hit(
+    m: &[u32],
+    layout: Layout,
+    order: &[u32],
+    b: usize,
+    text: &[u8],
+    start: usize,
+    rows: usize,
+    frames: usize,
+) -> bool
+    requires { ⌜ Ready (now m) layout (now order) 4097 ⌝ }
+    requires { ⌜ b < word (now m) 5 ⌝ }
+    requires { ⌜ TextFits layout (now text) start rows frames ⌝ }
+    ensures { λ x. ⌜ ((r : Run) → RunAt (circuitIn (now (m .entry))) (now (text .entry)) start rows frames r → x ≡ hits (circuitIn (now (m .entry))) b r (frames - 1)) ⌝ }
+{
+    let mut values = [0u64; 4097];
+    let mut state = [0u64; 1024];
+    last_hits(
+        m,
+        layout,
+        order,
+        b,
+        text,
+        start,
+        rows,
+        frames,
+        &mut values,
+        &mut state,
+    )
+}
+
 // Whether a text is a witness of the circuit in m, and if so whether it shows a hit.
 pub fn replay(m: &[u32], text: &[u8]) -> ReplayAnswer
     ensures { λ r. ⌜ Replayed (now (m .entry)) (now (text .entry)) (answered r) ⌝ }
@@ -172,20 +204,7 @@ pub fn replay(m: &[u32], text: &[u8]) -> ReplayAnswer
     if !agrees_all(m, layout, text, start) {
         return ReplayAnswer::No;
     }
-    let mut values = [0u64; 4097];
-    let mut state = [0u64; 1024];
-    if last_hits(
-        m,
-        layout,
-        &order,
-        b as usize,
-        text,
-        start,
-        rows,
-        frames,
-        &mut values,
-        &mut state,
-    ) {
+    if shows_hit(m, layout, &order, b as usize, text, start, rows, frames) {
         return ReplayAnswer::Yes;
     }
     ReplayAnswer::No

@@ -4,14 +4,12 @@ use mathlib.Core.List.{List}
 use Prim.Native.Nat.{ℕ, _≤_}
 use native.Mathlib.Omega.{arith}
 use lib.ListN.{length}
-use Rattle.aiger.specs.Load.{gives}
 use Rattle.aiger.specs.Memory.{Holds}
 use Rattle.aiger.specs.Operations.{Said, saidOf, Searched, searchTests}
 use Rattle.roundtrip.specs.Words.{circuitIn}
 use Rattle.layout.specs.Layout.{LayoutOf}
 use Rattle.layout.specs.Order.{Ordered}
 use Rattle.layout.specs.declared.Layout.{Layout}
-use Rattle.frames.specs.Lanes.{Ready}
 use Rattle.frames.proofs.Facts.{counts, top-is, bad-count}
 use Rattle.search.specs.Chosen.{chosen}
 use Rattle.search.specs.Steps.{told, SearchFits, Answered}

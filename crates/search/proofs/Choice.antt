@@ -9,7 +9,7 @@ use lib.Dec.{T}
 use Rattle.aiger.specs.Circuit.{Circuit}
 use Rattle.aiger.specs.Frames.{freeBits}
 use Rattle.aiger.specs.Search.{Outcome, found, none, spent, permitted}
-use Rattle.aiger.specs.Operations.{Said, saidOf, shown}
+use Rattle.aiger.specs.Operations.{saidOf, shown}
 use Rattle.meaning.proofs.Outcomes.{Clear, Quiet, found-in, none-in, spent-in}
 use Rattle.enumeration.specs.Choice.{Decision, decision}
 use Rattle.enumeration.proofs.Laws.{hit-first, clear-none, spent-first}

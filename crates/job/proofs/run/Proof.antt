@@ -1,11 +1,9 @@
 -- `job::run` meets its contract: each way of the work is one of those that may be printed. Assumes nothing.
-use mathlib.Core.Path.{_≡_, ap, subst}
+use mathlib.Core.Path.{_≡_, ap}
 use mathlib.Core.Option.{some}
-use mathlib.Core.List.{List}
-use Prim.Native.Nat.{ℕ, _≤_}
+use Prim.Native.Nat.{_≤_}
 use native.Mathlib.Omega.{arith}
 use lib.ListN.{length, drop}
-use Rattle.aiger.specs.Load.{Answer}
 use Rattle.aiger.specs.Operations.{Loaded}
 use Rattle.aiger.specs.Program.{request}
 use Rattle.load.specs.Answers.{answered}
@@ -39,7 +37,7 @@ returns : tie.Need-returns
 returns c =
     let f = c .before .before .refuse .ensures in
     let s = c .before .before .before .before .before .before .before .before .before .before .args in
-    (too-long (s .input .now) (c .before .before .before .before .if1 .taken) (s .out .now) f, (f .line-is .inside, omega (arith, f .no-witness)))
+    (too-long (s .input .now) (omega (arith, c .before .before .before .before .if1 .taken)) (s .out .now) f, (f .line-is .inside, omega (arith, f .no-witness)))
 
 read-request-requires : tie.Need-read-request-requires
 read-request-requires c κs = search needs
@@ -61,7 +59,7 @@ returns-2 c =
     let f = c .before .before .refuse2 .ensures in
     let e = c .before .before .before .before in
     let s = c .before .before .before .before .before .before .before .before .before .before .before .before .before .args in (
-      no-request (s .input .now) (c .before .before .before .before .before .before .before .if1 .left) (rw (e .enum-told .given .1) at (e .before .before .read-request .ensures)) (s .out .now) f,
+      no-request (s .input .now) (omega (arith, c .before .before .before .before .before .before .before .if1 .left)) (rw (e .enum-told .given .1) at (e .before .before .read-request .ensures)) (s .out .now) f,
       (f .line-is .inside, omega (arith, f .no-witness)),
     )
 
@@ -104,7 +102,7 @@ returns-3 c =
     let k = n .before .before .before in
     let s = c .before .before .before .before .before .before .before .before .before .before .before .before .before .before .before .before .before .before .before .before .before .before in
     let a = s .args in (
-      refused-load (a .input .now) (c .before .before .before .before .before .before .before .before .before .before .before .before .before .before .before .before .if1 .left) (k .before .q .given .0 .0) (asked k .0) (a .m .now) (s .pre .0)
+      refused-load (a .input .now) (omega (arith, c .before .before .before .before .before .before .before .before .before .before .before .before .before .before .before .before .if1 .left)) (k .before .q .given .0 .0) (asked k .0) (a .m .now) (s .pre .0)
           (not-loaded (load-of n) (ap answered (c .before .before .before .before .before .n .given .1))) (a .out .now) f,
       (f .line-is .inside, omega (arith, f .no-witness)),
     )
@@ -128,7 +126,7 @@ returns-4 c =
     let k = n .before .before .before in
     let s = c .before .before .before .before .before .before .before .before .before .before .before .before .before .before .before .before .before .before .before .before .before .before .before .before .before .before .before .before in
     let a = s .args in (
-      replied (a .input .now) (c .before .before .before .before .before .before .before .before .before .before .before .before .before .before .before .before .before .before .before .before .before .before .if1 .left) (k .before .q .given .0 .0) (asked k .0) (a .m .now) (s .pre .0)
+      replied (a .input .now) (omega (arith, c .before .before .before .before .before .before .before .before .before .before .before .before .before .before .before .before .before .before .before .before .before .before .if1 .left)) (k .before .q .given .0 .0) (asked k .0) (a .m .now) (s .pre .0)
           (stored (load-of n) (ap answered (c .before .before .before .before .before .before .before .before .before .before .before .enum-told2 .given .1))) (s .pre .1) (s .pre .2) r,
       (r .line-inside, r .witness-inside),
     )

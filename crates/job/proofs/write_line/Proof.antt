@@ -1,6 +1,5 @@
 -- `job::write_line` meets its contract: the number has room, and what the stores leave is the line. Assumes nothing.
 use mathlib.Core.Path.{_≡_, _∙_}
-use mathlib.Core.List.{List}
 use native.Mathlib.Omega.{arith}
 use lib.ListN.{length-set}
 use Rattle.aiger.specs.Text.{digits}

@@ -1,5 +1,4 @@
 -- `replay::agrees_one` meets its contract. Assumes nothing.
-use mathlib.Core.Path.{refl}
 use native.Mathlib.Omega.{arith}
 use borrow.Author.Tests.{eq-eqb, ne-eqb}
 use Rattle.replay.proofs.agrees_one.Statement.{statement}

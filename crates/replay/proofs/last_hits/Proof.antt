@@ -57,7 +57,7 @@ loop-holds c =
     let R = S .pre .0 in
     let a = S .args in (
       omega arith,
-      S .pre .1 .1 .some-frame,
+      omega (arith, S .pre .1 .1 .some-frame),
       refl,
       refl,
       omega (arith, E .kept .1 .1 .1 .0, G .kept .1 .1 .1 .1 .0, W .kept .1 .1 .1 .1 .0, length-set (S .args .values .now) 0 0, R .room),
@@ -77,7 +77,7 @@ add-put-row c =
     let L = c .before .before .before .before .before .before .before .before .loop in
     let I = c .before .before .before .before .before .before .before .loop-test in
     let F = S .pre .1 .1 in
-    omega (arith, F .rows-inside, row-fits (S .args .frames) (L .u) (S .args .layout .i + 1) (I .taken))
+    omega (arith, F .rows-inside, row-fits (S .args .frames) (L .u) (S .args .layout .i + 1) (omega (arith, I .taken, L .inv .0)))
 
 mul-put-row : tie.Need-mul-put-row Inv-loop μ-loop
 mul-put-row c =
@@ -85,7 +85,7 @@ mul-put-row c =
     let L = c .before .before .before .before .before .before .before .before .loop in
     let I = c .before .before .before .before .before .before .before .loop-test in
     let F = S .pre .1 .1 in
-    omega (arith, F .rows-inside, row-fits (S .args .frames) (L .u) (S .args .layout .i + 1) (I .taken))
+    omega (arith, F .rows-inside, row-fits (S .args .frames) (L .u) (S .args .layout .i + 1) (omega (arith, I .taken, L .inv .0)))
 
 add-put-row-2 : tie.Need-add-put-row-2 Inv-loop μ-loop
 add-put-row-2 c =
@@ -93,7 +93,7 @@ add-put-row-2 c =
     let L = c .before .before .before .before .before .before .before .before .loop in
     let I = c .before .before .before .before .before .before .before .loop-test in
     let F = S .pre .1 .1 in
-    omega (arith, F .rows-inside, row-fits (S .args .frames) (L .u) (S .args .layout .i + 1) (I .taken))
+    omega (arith, F .rows-inside, row-fits (S .args .frames) (L .u) (S .args .layout .i + 1) (omega (arith, I .taken, L .inv .0)))
 
 put-row-requires-2 : tie.Need-put-row-requires-2 Inv-loop μ-loop
 put-row-requires-2 c κs =
@@ -104,7 +104,7 @@ put-row-requires-2 c κs =
     let R = S .pre .0 in
     let F = S .pre .1 .1 in
     let l : word (S .args .m .now) 0 < length (D .last .1 .1 .1 .0) = omega (arith, D .kept .1 .1 .1 .0, L .inv .4) in
-    ((inputs-inside (R .held) (R .layout-of), omega (arith, F .rows-inside, row-fits (S .args .frames) (L .u) (S .args .layout .i + 1) (I .taken))), inputs-apart (ready-with R l))
+    ((inputs-inside (R .held) (R .layout-of), omega (arith, F .rows-inside, row-fits (S .args .frames) (L .u) (S .args .layout .i + 1) (omega (arith, I .taken, L .inv .0)))), inputs-apart (ready-with R l))
 
 eval-gates-requires-2 : tie.Need-eval-gates-requires-2 Inv-loop μ-loop
 eval-gates-requires-2 c κs =

@@ -1,11 +1,10 @@
 -- `replay::replay` meets its contract: each answer by what was read of the text. Assumes nothing.
-use mathlib.Core.Path.{_≡_, sym, _∙_}
+use Prim.Native.Nat.{_<_}
 use native.Mathlib.Omega.{arith}
 use borrow.Author.Needs.{needs}
 use borrow.Author.Tests.{not-true, not-false}
 use Rattle.aiger.specs.Operations.{Replayed}
-use Rattle.roundtrip.specs.Words.{circuitIn}
-use Rattle.frames.specs.Lanes.{Ready}
+use Rattle.roundtrip.specs.Words.{word, circuitIn}
 use Rattle.frames.proofs.Facts.{top-is, counts}
 use Rattle.enumeration.proofs.Facts.{latches-inside}
 use Rattle.witness.proofs.Lines.{on-read, on-malformed}
@@ -41,19 +40,19 @@ enum-told-2 c = search needs
 
 returns-2 : tie.Need-returns-2
 returns-2 c =
-    let S = c .before .before .before .before .before .before .before .before .before .before .before in
-    let text = S .args .text .now in
-    let t = rw (c .before .before .before .before .layout .given .1) at (c .before .before .before .before .before .before .before .held-in .ensures) in
-    refuses (t .1) (t .0) text (on-no-heading (c .before .before .read-heading .ensures) (circuitIn (S .args .m .now)) (c .enum-told2 .given .1))
+    let a = c .before .before .before .before .before .before .before .before .before .before .before .args in
+    let K = c .before .before .before .before .layout .given in
+    let t = rw (K .1) at (c .before .before .before .before .before .before .before .held-in .ensures) in
+    refuses (t .1) (t .0) (a .text .now) (on-no-heading (c .before .before .read-heading .ensures) (circuitIn (a .m .now)) (c .enum-told2 .given .1))
 
 returns-3 : tie.Need-returns-3
 returns-3 c =
-    let S = c .before .before .before .before .before .before .before .before .before .before .before .before .before in
-    let text = S .args .text .now in
-    let t = rw (c .before .before .before .before .before .before .layout .given .1) at (c .before .before .before .before .before .before .before .before .before .held-in .ensures) in
-    let B = c .before .before .b .given .0 in
-    let h = on-heading (c .before .before .before .before .read-heading .ensures) (circuitIn (S .args .m .now)) (c .before .before .b .given .1) in
-    no-bad (t .1) (t .0) text (B .0) (B .1 .0) (h .0) (c .if1 .taken)
+    let a = c .before .before .before .before .before .before .before .before .before .before .before .before .before .args in
+    let K = c .before .before .before .before .before .before .layout .given in
+    let t = rw (K .1) at (c .before .before .before .before .before .before .before .before .before .held-in .ensures) in
+    let B = c .before .before .b .given in
+    let h = on-heading (c .before .before .before .before .read-heading .ensures) (circuitIn (a .m .now)) (B .1) in
+    no-bad (t .1) (t .0) (a .text .now) (B .0 .0) (B .0 .1 .0) (h .0) (omega (arith, c .if1 .taken))
 
 read-bits-requires : tie.Need-read-bits-requires
 read-bits-requires c κs = search needs
@@ -66,118 +65,103 @@ enum-told-3 c = search needs
 
 returns-4 : tie.Need-returns-4
 returns-4 c =
-    let S = c .before .before .before .before .before .before .before .before .before .before .before .before .before .before .before .before in
-    let text = S .args .text .now in
-    let t = rw (c .before .before .before .before .before .before .before .before .before .layout .given .1) at (c .before .before .before .before .before .before .before .before .before .before .before .before .held-in .ensures) in
-    let B = c .before .before .before .before .before .b .given .0 in
-    let h = on-heading (c .before .before .before .before .before .before .before .read-heading .ensures) (circuitIn (S .args .m .now)) (c .before .before .before .before .before .b .given .1) in
-    let l = c .before .before .before .if1 .left in
-    no-start (t .1) (t .0) text (B .0) (B .1 .0) (h .0) l (on-malformed (c .before .before .read-bits .ensures) (c .enum-told3 .given .1))
+    let a = c .before .before .before .before .before .before .before .before .before .before .before .before .before .before .before .before .args in
+    let K = c .before .before .before .before .before .before .before .before .before .layout .given in
+    let t = rw (K .1) at (c .before .before .before .before .before .before .before .before .before .before .before .before .held-in .ensures) in
+    let B = c .before .before .before .before .before .b .given in
+    let h = on-heading (c .before .before .before .before .before .before .before .read-heading .ensures) (circuitIn (a .m .now)) (B .1) in
+    let l : B .0 .0 < K .0 .0 .b = omega (arith, c .before .before .before .if1 .left) in
+    no-start (t .1) (t .0) (a .text .now) (B .0 .0) (B .0 .1 .0) (h .0) l (on-malformed (c .before .before .read-bits .ensures) (c .enum-told3 .given .1))
 
 count-rows-requires : tie.Need-count-rows-requires
 count-rows-requires c κs =
-    let S = c .before .before .before .before .before .before .before .before .before .before .before .before .before .before .before .before .before in
-    let text = S .args .text .now in
-    let t = rw (c .before .before .before .before .before .before .before .before .before .before .layout .given .1) at (c .before .before .before .before .before .before .before .before .before .before .before .before .before .held-in .ensures) in
-    let B = c .before .before .before .before .before .before .b .given .0 in
-    let h = on-heading (c .before .before .before .before .before .before .before .before .read-heading .ensures) (circuitIn (S .args .m .now)) (c .before .before .before .before .before .before .b .given .1) in
-    let l = c .before .before .before .before .if1 .left in
-    let Q = c .before .rows .given .0 in
-    let s = on-read (c .before .before .before .read-bits .ensures) (c .before .rows .given .1) in
-    s .1 .inside
+    on-read (c .before .before .before .read-bits .ensures) (c .before .rows .given .1) .1 .inside
 
 returns-5 : tie.Need-returns-5
 returns-5 c =
-    let S = c .before .before .before .before .before .before .before .before .before .before .before .before .before .before .before .before .before .before .before in
-    let text = S .args .text .now in
-    let t = rw (c .before .before .before .before .before .before .before .before .before .before .before .before .layout .given .1) at (c .before .before .before .before .before .before .before .before .before .before .before .before .before .before .before .held-in .ensures) in
-    let B = c .before .before .before .before .before .before .before .before .b .given .0 in
-    let h = on-heading (c .before .before .before .before .before .before .before .before .before .before .read-heading .ensures) (circuitIn (S .args .m .now)) (c .before .before .before .before .before .before .before .before .b .given .1) in
-    let l = c .before .before .before .before .before .before .if1 .left in
-    let Q = c .before .before .before .rows .given .0 in
-    let s = on-read (c .before .before .before .before .before .read-bits .ensures) (c .before .before .before .rows .given .1) in
+    let a = c .before .before .before .before .before .before .before .before .before .before .before .before .before .before .before .before .before .before .before .args in
+    let K = c .before .before .before .before .before .before .before .before .before .before .before .before .layout .given in
+    let t = rw (K .1) at (c .before .before .before .before .before .before .before .before .before .before .before .before .before .before .before .held-in .ensures) in
+    let B = c .before .before .before .before .before .before .before .before .b .given in
+    let h = on-heading (c .before .before .before .before .before .before .before .before .before .before .read-heading .ensures) (circuitIn (a .m .now)) (B .1) in
+    let l : B .0 .0 < K .0 .0 .b = omega (arith, c .before .before .before .before .before .before .if1 .left) in
+    let Q = c .before .before .before .rows .given in
+    let s = on-read (c .before .before .before .before .before .read-bits .ensures) (Q .1) in
     let n = c .before .count-rows .ensures in
-    no-rows (t .1) (t .0) text (B .0) (B .1 .0) (h .0) l (Q .0) (s .0) n (c .if2 .taken)
+    no-rows (t .1) (t .0) (a .text .now) (B .0 .0) (B .0 .1 .0) (h .0) l (Q .0 .0) (s .0) n (c .if2 .taken)
 
 agrees-all-requires : tie.Need-agrees-all-requires
 agrees-all-requires c κs =
-    let S = c .before .before .before .before .before .before .before .before .before .before .before .before .before .before .before .before .before .before .before in
-    let text = S .args .text .now in
-    let t = rw (c .before .before .before .before .before .before .before .before .before .before .before .before .layout .given .1) at (c .before .before .before .before .before .before .before .before .before .before .before .before .before .before .before .held-in .ensures) in
-    let B = c .before .before .before .before .before .before .before .before .b .given .0 in
-    let h = on-heading (c .before .before .before .before .before .before .before .before .before .before .read-heading .ensures) (circuitIn (S .args .m .now)) (c .before .before .before .before .before .before .before .before .b .given .1) in
-    let l = c .before .before .before .before .before .before .if1 .left in
-    let Q = c .before .before .before .rows .given .0 in
+    let a = c .before .before .before .before .before .before .before .before .before .before .before .before .before .before .before .before .before .before .before .args in
+    let K = c .before .before .before .before .before .before .before .before .before .before .before .before .layout .given in
+    let t = rw (K .1) at (c .before .before .before .before .before .before .before .before .before .before .before .before .before .before .before .held-in .ensures) in
     let s = on-read (c .before .before .before .before .before .read-bits .ensures) (c .before .before .before .rows .given .1) in
     (t .0, (latches-inside (t .1) (t .0), omega (arith, s .1 .past, s .1 .inside)))
 
 returns-6 : tie.Need-returns-6
 returns-6 c =
-    let S = c .before .before .before .before .before .before .before .before .before .before .before .before .before .before .before .before .before .before .before .before .before in
-    let text = S .args .text .now in
-    let t = rw (c .before .before .before .before .before .before .before .before .before .before .before .before .before .before .layout .given .1) at (c .before .before .before .before .before .before .before .before .before .before .before .before .before .before .before .before .before .held-in .ensures) in
-    let B = c .before .before .before .before .before .before .before .before .before .before .b .given .0 in
-    let h = on-heading (c .before .before .before .before .before .before .before .before .before .before .before .before .read-heading .ensures) (circuitIn (S .args .m .now)) (c .before .before .before .before .before .before .before .before .before .before .b .given .1) in
-    let l = c .before .before .before .before .before .before .before .before .if1 .left in
-    let Q = c .before .before .before .before .before .rows .given .0 in
-    let s = on-read (c .before .before .before .before .before .before .before .read-bits .ensures) (c .before .before .before .before .before .rows .given .1) in
+    let a = c .before .before .before .before .before .before .before .before .before .before .before .before .before .before .before .before .before .before .before .before .before .args in
+    let K = c .before .before .before .before .before .before .before .before .before .before .before .before .before .before .layout .given in
+    let t = rw (K .1) at (c .before .before .before .before .before .before .before .before .before .before .before .before .before .before .before .before .before .held-in .ensures) in
+    let B = c .before .before .before .before .before .before .before .before .before .before .b .given in
+    let h = on-heading (c .before .before .before .before .before .before .before .before .before .before .before .before .read-heading .ensures) (circuitIn (a .m .now)) (B .1) in
+    let l : B .0 .0 < K .0 .0 .b = omega (arith, c .before .before .before .before .before .before .before .before .if1 .left) in
+    let Q = c .before .before .before .before .before .rows .given in
+    let s = on-read (c .before .before .before .before .before .before .before .read-bits .ensures) (Q .1) in
     let n = c .before .before .before .count-rows .ensures in
     let o = c .before .before .if2 .left in
-    wrong-start (t .1) (t .0) text (B .0) (B .1 .0) (h .0) l (Q .0) (s .0) n o (c .before .agrees-all .ensures) (not-true (c .before .agrees-all .result) (c .if3 .taken))
+    let A = c .before .agrees-all in
+    wrong-start (t .1) (t .0) (a .text .now) (B .0 .0) (B .0 .1 .0) (h .0) l (Q .0 .0) (s .0) n o (A .ensures) (not-true (A .result) (c .if3 .taken))
 
-slice-aggregate-last-hits : tie.Need-slice-aggregate-last-hits
-slice-aggregate-last-hits c = search needs
+slice-aggregate-shows-hit : tie.Need-slice-aggregate-shows-hit
+slice-aggregate-shows-hit c = search needs
 
-slice-aggregate-last-hits-2 : tie.Need-slice-aggregate-last-hits-2
-slice-aggregate-last-hits-2 c = search needs
-
-slice-aggregate-last-hits-3 : tie.Need-slice-aggregate-last-hits-3
-slice-aggregate-last-hits-3 c = search needs
-
-last-hits-requires : tie.Need-last-hits-requires
-last-hits-requires c κs =
-    let S = c .before .before .before .before .before .before .before .before .before .before .before .before .before .before .before .before .before .before .before .before .before .before .before .before in
-    let text = S .args .text .now in
-    let t = rw (c .before .before .before .before .before .before .before .before .before .before .before .before .before .before .before .before .before .layout .given .1) at (c .before .before .before .before .before .before .before .before .before .before .before .before .before .before .before .before .before .before .before .before .held-in .ensures) in
-    let B = c .before .before .before .before .before .before .before .before .before .before .before .before .before .b .given .0 in
-    let h = on-heading (c .before .before .before .before .before .before .before .before .before .before .before .before .before .before .before .read-heading .ensures) (circuitIn (S .args .m .now)) (c .before .before .before .before .before .before .before .before .before .before .before .before .before .b .given .1) in
-    let l = c .before .before .before .before .before .before .before .before .before .before .before .if1 .left in
-    let Q = c .before .before .before .before .before .before .before .before .rows .given .0 in
-    let s = on-read (c .before .before .before .before .before .before .before .before .before .before .read-bits .ensures) (c .before .before .before .before .before .before .before .before .rows .given .1) in
-    let n = c .before .before .before .before .before .before .count-rows .ensures in
-    let o = c .before .before .before .before .before .if2 .left in
-    let R : Ready (S .args .m .now) _ _ 4097 = record { held = t .1; layout-of = t .0; ordered = t .2; ranks = search needs; room = omega (arith, counts (t .1) .maxVar, top-is (S .args .m .now)) } in
-    (R, ((omega (arith, l, t .0 .b-is), search needs), fits (t .1) (t .0) text (B .0) (B .1 .0) (h .0) l (Q .0) (s .0) n o (s .1 .past) (s .1 .inside)))
+shows-hit-requires : tie.Need-shows-hit-requires
+shows-hit-requires c κs =
+    let a = c .before .before .before .before .before .before .before .before .before .before .before .before .before .before .before .before .before .before .before .before .before .before .args in
+    let K = c .before .before .before .before .before .before .before .before .before .before .before .before .before .before .before .layout .given in
+    let t = rw (K .1) at (c .before .before .before .before .before .before .before .before .before .before .before .before .before .before .before .before .before .before .held-in .ensures) in
+    let B = c .before .before .before .before .before .before .before .before .before .before .before .b .given in
+    let h = on-heading (c .before .before .before .before .before .before .before .before .before .before .before .before .before .read-heading .ensures) (circuitIn (a .m .now)) (B .1) in
+    let l : B .0 .0 < K .0 .0 .b = omega (arith, c .before .before .before .before .before .before .before .before .before .if1 .left) in
+    let Q = c .before .before .before .before .before .before .rows .given in
+    let s = on-read (c .before .before .before .before .before .before .before .before .read-bits .ensures) (Q .1) in
+    let n = c .before .before .before .before .count-rows .ensures in
+    let o = c .before .before .before .if2 .left in
+    let top : word (a .m .now) 0 < 4097 = omega (arith, counts (t .1) .maxVar, top-is (a .m .now)) in (
+      record { held = t .1; layout-of = t .0; ordered = t .2; ranks = search needs; room = top },
+      (omega (arith, t .0 .b-is), fits (t .1) (t .0) (a .text .now) (B .0 .0) (B .0 .1 .0) (h .0) l (Q .0 .0) (s .0) n o (s .1 .past) (s .1 .inside)),
+    )
 
 returns-7 : tie.Need-returns-7
 returns-7 c =
-    let S = c .before .before .before .before .before .before .before .before .before .before .before .before .before .before .before .before .before .before .before .before .before .before .before .before .before .before .before .before in
-    let text = S .args .text .now in
-    let t = rw (c .before .before .before .before .before .before .before .before .before .before .before .before .before .before .before .before .before .before .before .before .before .layout .given .1) at (c .before .before .before .before .before .before .before .before .before .before .before .before .before .before .before .before .before .before .before .before .before .before .before .before .held-in .ensures) in
-    let B = c .before .before .before .before .before .before .before .before .before .before .before .before .before .before .before .before .before .b .given .0 in
-    let h = on-heading (c .before .before .before .before .before .before .before .before .before .before .before .before .before .before .before .before .before .before .before .read-heading .ensures) (circuitIn (S .args .m .now)) (c .before .before .before .before .before .before .before .before .before .before .before .before .before .before .before .before .before .b .given .1) in
-    let l = c .before .before .before .before .before .before .before .before .before .before .before .before .before .before .before .if1 .left in
-    let Q = c .before .before .before .before .before .before .before .before .before .before .before .before .rows .given .0 in
-    let s = on-read (c .before .before .before .before .before .before .before .before .before .before .before .before .before .before .read-bits .ensures) (c .before .before .before .before .before .before .before .before .before .before .before .before .rows .given .1) in
-    let n = c .before .before .before .before .before .before .before .before .before .before .count-rows .ensures in
-    let o = c .before .before .before .before .before .before .before .before .before .if2 .left in
-    let A = c .before .before .before .before .before .before .before .before .agrees-all in
-    judged (t .1) (t .0) text (B .0) (B .1 .0) (h .0) l (Q .0) (s .0) n o (A .ensures) (not-false (A .result) (c .before .before .before .before .before .before .before .if3 .left)) (c .before .before .before .last-hits .ensures) (c .if4 .taken)
+    let a = c .before .before .before .before .before .before .before .before .before .before .before .before .before .before .before .before .before .before .before .before .before .before .before .before .args in
+    let K = c .before .before .before .before .before .before .before .before .before .before .before .before .before .before .before .before .before .layout .given in
+    let t = rw (K .1) at (c .before .before .before .before .before .before .before .before .before .before .before .before .before .before .before .before .before .before .before .before .held-in .ensures) in
+    let B = c .before .before .before .before .before .before .before .before .before .before .before .before .before .b .given in
+    let h = on-heading (c .before .before .before .before .before .before .before .before .before .before .before .before .before .before .before .read-heading .ensures) (circuitIn (a .m .now)) (B .1) in
+    let l : B .0 .0 < K .0 .0 .b = omega (arith, c .before .before .before .before .before .before .before .before .before .before .before .if1 .left) in
+    let Q = c .before .before .before .before .before .before .before .before .rows .given in
+    let s = on-read (c .before .before .before .before .before .before .before .before .before .before .read-bits .ensures) (Q .1) in
+    let n = c .before .before .before .before .before .before .count-rows .ensures in
+    let o = c .before .before .before .before .before .if2 .left in
+    let A = c .before .before .before .before .agrees-all in
+    judged (t .1) (t .0) (a .text .now) (B .0 .0) (B .0 .1 .0) (h .0) l (Q .0 .0) (s .0) n o (A .ensures) (not-false (A .result) (c .before .before .before .if3 .left)) (c .before .shows-hit .ensures) (c .if4 .taken)
 
 returns-8 : tie.Need-returns-8
 returns-8 c =
-    let S = c .before .before .before .before .before .before .before .before .before .before .before .before .before .before .before .before .before .before .before .before .before .before .before .before .before .before .before .before in
-    let text = S .args .text .now in
-    let t = rw (c .before .before .before .before .before .before .before .before .before .before .before .before .before .before .before .before .before .before .before .before .before .layout .given .1) at (c .before .before .before .before .before .before .before .before .before .before .before .before .before .before .before .before .before .before .before .before .before .before .before .before .held-in .ensures) in
-    let B = c .before .before .before .before .before .before .before .before .before .before .before .before .before .before .before .before .before .b .given .0 in
-    let h = on-heading (c .before .before .before .before .before .before .before .before .before .before .before .before .before .before .before .before .before .before .before .read-heading .ensures) (circuitIn (S .args .m .now)) (c .before .before .before .before .before .before .before .before .before .before .before .before .before .before .before .before .before .b .given .1) in
-    let l = c .before .before .before .before .before .before .before .before .before .before .before .before .before .before .before .if1 .left in
-    let Q = c .before .before .before .before .before .before .before .before .before .before .before .before .rows .given .0 in
-    let s = on-read (c .before .before .before .before .before .before .before .before .before .before .before .before .before .before .read-bits .ensures) (c .before .before .before .before .before .before .before .before .before .before .before .before .rows .given .1) in
-    let n = c .before .before .before .before .before .before .before .before .before .before .count-rows .ensures in
-    let o = c .before .before .before .before .before .before .before .before .before .if2 .left in
-    let A = c .before .before .before .before .before .before .before .before .agrees-all in
-    judged (t .1) (t .0) text (B .0) (B .1 .0) (h .0) l (Q .0) (s .0) n o (A .ensures) (not-false (A .result) (c .before .before .before .before .before .before .before .if3 .left)) (c .before .before .before .last-hits .ensures) (c .if4 .left)
+    let a = c .before .before .before .before .before .before .before .before .before .before .before .before .before .before .before .before .before .before .before .before .before .before .before .before .args in
+    let K = c .before .before .before .before .before .before .before .before .before .before .before .before .before .before .before .before .before .layout .given in
+    let t = rw (K .1) at (c .before .before .before .before .before .before .before .before .before .before .before .before .before .before .before .before .before .before .before .before .held-in .ensures) in
+    let B = c .before .before .before .before .before .before .before .before .before .before .before .before .before .b .given in
+    let h = on-heading (c .before .before .before .before .before .before .before .before .before .before .before .before .before .before .before .read-heading .ensures) (circuitIn (a .m .now)) (B .1) in
+    let l : B .0 .0 < K .0 .0 .b = omega (arith, c .before .before .before .before .before .before .before .before .before .before .before .if1 .left) in
+    let Q = c .before .before .before .before .before .before .before .before .rows .given in
+    let s = on-read (c .before .before .before .before .before .before .before .before .before .before .read-bits .ensures) (Q .1) in
+    let n = c .before .before .before .before .before .before .count-rows .ensures in
+    let o = c .before .before .before .before .before .if2 .left in
+    let A = c .before .before .before .before .agrees-all in
+    judged (t .1) (t .0) (a .text .now) (B .0 .0) (B .0 .1 .0) (h .0) l (Q .0 .0) (s .0) n o (A .ensures) (not-false (A .result) (c .before .before .before .if3 .left)) (c .before .shows-hit .ensures) (c .if4 .left)
 
 pub replay-spec : {M : Type 1} → statement M
 replay-spec =
@@ -201,9 +185,7 @@ replay-spec =
     returns-5
     agrees-all-requires
     returns-6
-    slice-aggregate-last-hits
-    slice-aggregate-last-hits-2
-    slice-aggregate-last-hits-3
-    last-hits-requires
+    slice-aggregate-shows-hit
+    shows-hit-requires
     returns-7
     returns-8)

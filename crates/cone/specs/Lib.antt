@@ -1,0 +1,3 @@
+-- What the contracts of `cone` cite. Assumes nothing.
+pub mod Cone
+pub mod Store

@@ -1,0 +1,7 @@
+-- The laws of `graph`. Assumes nothing.
+pub mod Rules
+pub mod Growth
+pub mod Outcomes
+pub mod Signed
+pub mod Empty
+pub mod Operands

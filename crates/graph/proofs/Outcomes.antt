@@ -1,0 +1,200 @@
+-- What is made of two operands: an edge that is there, or a new gate. Assumes nothing.
+use mathlib.Core.Path.{_≡_, refl, sym, ap, ap₂, _∙_, subst}
+use mathlib.Core.Bool.{Bool, false, _&&_}
+use mathlib.Core.List.{List, [], _∷_, _++_}
+use Prim.Native.Nat.{ℕ, _+_, _-_, _*_, _^_, _≤_, _<_}
+use native.Mathlib.Omega.{arith}
+use lib.ListN.{length}
+use Rattle.aiger.specs.Circuit.{var}
+use Rattle.aiger.specs.Frames.{freeBit}
+use Rattle.nodes.specs.Graph.{Pair, nodeValues, edgeValue, nodes, pairAt, Built, Extends, same, more}
+use Rattle.nodes.specs.Store.{pairsOf, oneMore}
+use Rattle.nodes.specs.Last.{lastBefore}
+use Rattle.nodes.specs.Edges.{edgeOf, wordEdge, edgeWord}
+use Rattle.nodes.specs.declared.Graph.{Graph}
+use Rattle.nodes.specs.declared.Edge.{Edge}
+use Rattle.nodes.proofs.Laws.{node-constant, edge-new, edge-gate, edge-word, nodes-pairsOf, length-pairsOf, pairsOf-same}
+use Rattle.pairs.specs.Store.{isPair, PairStore}
+use Rattle.pairs.proofs.Buckets.{SamePairs, store-same}
+use Rattle.pairs.proofs.Found.{found-gate, found-holds, found-none}
+use Rattle.signatures.specs.Store.{SignatureStore}
+use Rattle.graph.specs.Rules.{simplified}
+use Rattle.graph.specs.Stored.{Stored, Operands, Conjoined, Proper, New, Twinless}
+use Rattle.graph.specs.declared.Made.{Made}
+use Rattle.graph.specs.declared.Simple.the-variants.{Known, Gate}
+use Rattle.graph.proofs.Rules.{ruled, ruled-value, ruled-edge, ruled-nonconstant-gate, ruled-larger}
+use Rattle.graph.proofs.Growth.{built-more}
+
+-- the value of the conjunction of a and b under sequence x
+abbrev pub both : List ℕ → Graph → ℕ → ℕ → ℕ → Bool
+both work g a b x = edgeValue (g .free) (pairsOf work g) (freeBit (g .free) x) a && edgeValue (g .free) (pairsOf work g) (freeBit (g .free) x) b
+
+abbrev pub madeOf : Graph → Edge → Made
+madeOf g e = record { graph = g; edge = e }
+
+-- ---- an edge that is there
+
+module _ (work last : List ℕ) (g : Graph) (a b : ℕ) (stored : Stored last g) (kept : pairsOf last g ≡ pairsOf work g) where
+  pub edge-made : (w : ℕ) (e : Edge) → e .0 .0 ≡ var w → edgeWord e ≡ w → var w < g .nodes
+      → ((x : ℕ) → x < 2 ^ (g .free) → edgeValue (g .free) (pairsOf work g) (freeBit (g .free) x) w ≡ both work g a b x)
+      → Conjoined work last g a b (madeOf g e)
+  edge-made w e n q l v =
+      record {
+        stored = stored;
+        free = refl;
+        room = refl;
+        extends = subst (λ (hs : List Pair). Extends (pairsOf work g) hs) (sym kept) same;
+        node = omega arith;
+        value = λ x u. ap₂ (λ (hs : List Pair) (y : ℕ). edgeValue (g .free) hs (freeBit (g .free) x) y) kept q ∙ v x u;
+      }
+
+  -- the edge that a word stands for
+  pub word-made : (w : ℕ) (e : Edge) → e ≡ wordEdge w → var w < g .nodes
+      → ((x : ℕ) → x < 2 ^ (g .free) → edgeValue (g .free) (pairsOf work g) (freeBit (g .free) x) w ≡ both work g a b x)
+      → Conjoined work last g a b (madeOf g e)
+  word-made w e q l v = edge-made w e (ap (λ (z : Edge). z .0 .0) q) (ap edgeWord q ∙ edge-word w) l v
+
+-- ---- the rules
+
+module _ (work : List ℕ) (g : Graph) (left right : ℕ) (ready : Operands work g left right) (order : right ≤ left) where
+  pub known-made : (w : ℕ) (e : Edge) → e ≡ wordEdge w → simplified left right ≡ Known w → Conjoined work work g left right (madeOf g e)
+  known-made w e q s =
+      word-made work work g left right (ready .stored) refl w e q (ruled-edge (g .nodes) (ready .left) (ruled left right) w s)
+      (λ x u. ruled-value (nodeValues (g .free) (pairsOf work g) (freeBit (g .free) x)) (node-constant (g .free) (pairsOf work g) (freeBit (g .free) x)) left right order (ruled left right) w s)
+
+  pub gate-proper : simplified left right ≡ Gate → Proper work g left right
+  gate-proper s =
+      record {
+        stored = ready .stored;
+        room = ready .room;
+        earlier = ready .left;
+        larger = ruled-larger (ruled left right) s order;
+        nonconstant = ruled-nonconstant-gate (ruled left right) s;
+      }
+
+-- ---- a gate that is there
+
+module _ (work : List ℕ) (g : Graph) (left right : ℕ) (ready : Proper work g left right) (r : ℕ) (e : r ≡ lastBefore (isPair work g left right) (g .nodes)) where
+  gate-value : 0 < r → (f : ℕ → Bool) → edgeValue (g .free) (pairsOf work g) f (2 * (r - 1))
+      ≡ (edgeValue (g .free) (pairsOf work g) f left && edgeValue (g .free) (pairsOf work g) f right)
+  gate-value h f =
+      let n = g .free in
+      let gs = pairsOf work g in
+      let i = r - (g .free + 2) in
+      let d = found-holds work g left right r e h in
+      let m = found-gate work g left right r e h in
+      let z : 2 * (r - 1) ≡ 2 * (n + 1 + i) = omega arith in
+      ap (edgeValue n gs f) z
+      ∙ edge-gate n gs f i (d .below) (pairAt gs i) refl (ready .stored .built .earlier i (d .below))
+      (omega (arith, ready .stored .built .earlier i (d .below), ready .stored .built .larger i (d .below)))
+      ∙ ap₂ (λ (x y : ℕ). edgeValue n gs f x && edgeValue n gs f y) (d .first) (d .second)
+
+  found-below : 0 < r → r ≤ g .nodes
+  found-below h =
+      let d = found-holds work g left right r e h in
+      omega (arith, found-gate work g left right r e h, d .below, length-pairsOf work g)
+
+  pub found-bound : 0 < r → r - 1 < 65536
+  found-bound h = omega (arith, found-below h, ready .stored .sized .nodes, ready .stored .sized .room)
+
+  pub found-made : 0 < r → Conjoined work work g left right (madeOf g (edgeOf (r - 1) false))
+  found-made h =
+      edge-made work work g left right (ready .stored) refl (2 * (r - 1)) (edgeOf (r - 1) false) (omega arith) (omega arith) (omega (arith, found-below h))
+      (λ x u. gate-value h (freeBit (g .free) x))
+
+  pub found-new : r ≡ 0 → New work g left right
+  found-new z = record { proper = ready; fresh = found-none work g left right r e z }
+
+-- ---- a new gate
+
+module _ (work last : List ℕ) (g : Graph) (left right : ℕ) (ready : New work g left right)
+    (long : length last ≡ length work) (added : pairsOf last (oneMore g) ≡ pairsOf work g ++ (record { left = left; right = right } ∷ []))
+    (pairs : PairStore last (oneMore g)) (signatures : g .free ≤ 12 → SignatureStore last (oneMore g))
+    (twinless : g .free ≤ 12 → Twinless (g .free) (pairsOf work g) left right) where
+  pair : Pair
+  pair = record { left = left; right = right }
+
+  node-count : nodes (g .free) (pairsOf work g) ≡ g .nodes
+  node-count = nodes-pairsOf work g (ready .proper .stored .sized .leaves)
+
+  larger-built : Built (g .free) (pairsOf work g ++ (pair ∷ []))
+  unfolding pair
+  larger-built =
+      built-more (g .free) (pairsOf work g) (record { left = left; right = right }) (ready .proper .stored .built) (omega (arith, node-count, ready .proper .earlier))
+      (ready .proper .larger) (ready .proper .nonconstant) (ready .fresh) twinless
+
+  larger-stored : Stored last (oneMore g)
+  unfolding pair
+  larger-stored =
+      record {
+        sized =
+            record {
+              leaves = omega (arith, ready .proper .stored .sized .leaves);
+              nodes = omega (arith, ready .proper .room);
+              room = ready .proper .stored .sized .room;
+              held = omega (arith, ready .proper .stored .sized .held);
+            };
+        pairs = pairs;
+        signatures = signatures;
+        built = subst (λ (hs : List Pair). Built (g .free) hs) (sym added) larger-built;
+      }
+
+  new-made : Conjoined work last g left right (madeOf (oneMore g) (edgeOf (g .nodes) false))
+  unfolding pair
+  new-made =
+      record {
+        stored = larger-stored;
+        free = refl;
+        room = refl;
+        extends = subst (λ (hs : List Pair). Extends (pairsOf work g) hs) (sym added) (more pair);
+        node = omega arith;
+        value = λ x u.
+            let z : 2 * g .nodes + 0 ≡ 2 * nodes (g .free) (pairsOf work g) = omega (arith, node-count) in
+            ap₂ (λ (hs : List Pair) (y : ℕ). edgeValue (g .free) hs (freeBit (g .free) x) y) added z
+            ∙ edge-new (g .free) (pairsOf work g) pair (freeBit (g .free) x);
+      }
+
+  pub added-made : (h : Graph) → h ≡ oneMore g → Conjoined work last g left right (madeOf h (edgeOf (g .nodes) false))
+  added-made h e = subst (λ (z : Graph). Conjoined work last g left right (madeOf z (edgeOf (g .nodes) false))) (sym e) new-made
+
+-- ---- a memory in which other words were changed
+
+pub pairs-same : (work last : List ℕ) (g : Graph) → SamePairs work last → pairsOf last g ≡ pairsOf work g
+pairs-same work last g s = pairsOf-same work last g (λ k l u. (s .first k, s .second k))
+
+pub stored-same : (work last : List ℕ) (g : Graph) → length last ≡ length work → SamePairs work last → (g .free ≤ 12 → SignatureStore last g) → Stored work g → Stored last g
+stored-same work last g long s t d =
+    record {
+      sized =
+          record { leaves = d .sized .leaves; nodes = d .sized .nodes; room = d .sized .room; held = omega (arith, d .sized .held) };
+      pairs = store-same work last g s (d .pairs);
+      signatures = t;
+      built = subst (λ (hs : List Pair). Built (g .free) hs) (sym (pairs-same work last g s)) (d .built);
+    }
+
+pub new-same : (work last : List ℕ) (g : Graph) (left right : ℕ) → Stored last g → pairsOf last g ≡ pairsOf work g → New work g left right → New last g left right
+new-same work last g left right d q w =
+    record {
+      proper =
+          record {
+            stored = d;
+            room = w .proper .room;
+            earlier = w .proper .earlier;
+            larger = w .proper .larger;
+            nonconstant = w .proper .nonconstant;
+          };
+      fresh = rw q (w .fresh);
+    }
+
+pub conjoined-same : (work now last : List ℕ) (g : Graph) (left right : ℕ) (made : Made) → pairsOf now g ≡ pairsOf work g → Conjoined now last g left right made
+    → Conjoined work last g left right made
+conjoined-same work now last g left right made q c =
+    record {
+      stored = c .stored;
+      free = c .free;
+      room = c .room;
+      extends = rw q at (c .extends);
+      node = c .node;
+      value = λ x u.
+          c .value x u ∙ ap (λ (hs : List Pair). edgeValue (g .free) hs (freeBit (g .free) x) left && edgeValue (g .free) hs (freeBit (g .free) x) right) q;
+    }

@@ -1,0 +1,153 @@
+// Gates of a folded frame: a conjunction is an edge that is there already, or a new gate.
+use literals::Node;
+use nodes::Edge;
+use nodes::Graph;
+ghost use mathlib.Core.Path.{_≡_};
+ghost use Prim.Native.Nat.{_≤_, _<_};
+ghost use lib.ListN.{length};
+ghost use Rattle.nodes.specs.Store.{pairsOf};
+ghost use Rattle.nodes.specs.Edges.{edgeWord};
+ghost use Rattle.graph.specs.Rules.{simplified};
+ghost use Rattle.graph.specs.Stored.{Stored, emptyGraph, Enough, Operands, Conjoined, Proper, New, Twinless};
+
+// A graph, and an edge of it.
+pub struct Made {
+    pub graph: Graph,
+    pub edge: Edge,
+}
+
+// What the rules say of two operands: the conjunction is an edge that is known, or it wants a gate.
+enum Simple {
+    Known(u32),
+    Gate,
+}
+
+// The rules for a constant operand, and for equal and opposite operands. The larger operand is the left one.
+fn simplify(left: u32, right: u32) -> Simple
+    ensures { λ r. ⌜ r ≡ simplified left right ⌝ }
+{
+    if right == 0 {
+        return Simple::Known(0);
+    }
+    if right == 1 {
+        return Simple::Known(left);
+    }
+    if left == right {
+        return Simple::Known(left);
+    }
+    if left / 2 == right / 2 {
+        return Simple::Known(0);
+    }
+    Simple::Gate
+}
+
+// A graph over so many free bits, without gates.
+pub fn start(work: &mut [u32], free: usize, room: usize) -> Graph
+    requires { ⌜ Enough free room (length (now work)) ⌝ }
+    ensures { λ r. ⌜ (r ≡ emptyGraph free room) × Stored (now (work .exit)) r ⌝ }
+{
+    let g = Graph {
+        free,
+        nodes: free + 1,
+        room,
+    };
+    pairs::start_pairs(work, g);
+    if 12 < free {
+        return g;
+    }
+    signatures::start_signatures(work, g);
+    g
+}
+
+// Adds a gate. There are more than twelve free bits, so that signatures are not kept.
+fn append_plain(work: &mut [u32], g: Graph, left: u32, right: u32) -> Made
+    requires { ⌜ New (now work) g left right ⌝ }
+    requires { ⌜ 12 < g .free ⌝ }
+    ensures { λ r. ⌜ Conjoined (now (work .entry)) (now (work .exit)) g left right r ⌝ }
+{
+    let k = g.nodes as u32;
+    let graph = pairs::append_pair(work, g, left, right);
+    Made {
+        graph,
+        edge: Edge(Node(k), false),
+    }
+}
+
+// Adds a gate with its signature.
+fn append_signed(work: &mut [u32], g: Graph, left: u32, right: u32) -> Made
+    requires { ⌜ New (now work) g left right ⌝ }
+    requires { ⌜ g .free ≤ 12 ⌝ }
+    requires { ⌜ Twinless (g .free) (pairsOf (now work) g) left right ⌝ }
+    ensures { λ r. ⌜ Conjoined (now (work .entry)) (now (work .exit)) g left right r ⌝ }
+{
+    let k = g.nodes as u32;
+    let s = signatures::signature(work, left) & signatures::signature(work, right);
+    let graph = pairs::append_pair(work, g, left, right);
+    signatures::append_signature(work, graph, s);
+    Made {
+        graph,
+        edge: Edge(Node(k), false),
+    }
+}
+
+// An edge that is equal in function, or a new gate.
+fn merge(work: &mut [u32], g: Graph, left: u32, right: u32) -> Made
+    requires { ⌜ New (now work) g left right ⌝ }
+    requires { ⌜ g .free ≤ 12 ⌝ }
+    ensures { λ r. ⌜ Conjoined (now (work .entry)) (now (work .exit)) g left right r ⌝ }
+{
+    let twin = signatures::find_twin(work, g, left, right);
+    if 0 < twin {
+        return Made {
+            graph: g,
+            edge: Edge::from_word((twin - 1) as u32),
+        };
+    }
+    append_signed(work, g, left, right)
+}
+
+// The gate with these operands, or what is made where there is none.
+fn make_gate(work: &mut [u32], g: Graph, left: u32, right: u32) -> Made
+    requires { ⌜ Proper (now work) g left right ⌝ }
+    ensures { λ r. ⌜ Conjoined (now (work .entry)) (now (work .exit)) g left right r ⌝ }
+{
+    let found = pairs::find_pair(work, g, left, right);
+    if 0 < found {
+        return Made {
+            graph: g,
+            edge: Edge(Node((found - 1) as u32), false),
+        };
+    }
+    if 12 < g.free {
+        return append_plain(work, g, left, right);
+    }
+    merge(work, g, left, right)
+}
+
+// The conjunction of two edges, of which left is the larger.
+fn make_ordered(work: &mut [u32], g: Graph, left: u32, right: u32) -> Made
+    requires { ⌜ Operands (now work) g left right ⌝ }
+    requires { ⌜ right ≤ left ⌝ }
+    ensures { λ r. ⌜ Conjoined (now (work .entry)) (now (work .exit)) g left right r ⌝ }
+{
+    match simplify(left, right) {
+        Simple::Known(e) => Made {
+            graph: g,
+            edge: Edge::from_word(e),
+        },
+        Simple::Gate => make_gate(work, g, left, right),
+    }
+}
+
+// The conjunction of two edges.
+pub fn make(work: &mut [u32], g: Graph, a: Edge, b: Edge) -> Made
+    requires { ⌜ Operands (now work) g (edgeWord a) (edgeWord b) ⌝ }
+    ensures { λ r. ⌜ Conjoined (now (work .entry)) (now (work .exit)) g (edgeWord a) (edgeWord b) r ⌝ }
+{
+    let p = a.word() as u32;
+    let q = b.word() as u32;
+    if p < q {
+        return make_ordered(work, g, q, p);
+    }
+    make_ordered(work, g, p, q)
+}

@@ -1,0 +1,3 @@
+-- The laws of `nodes`. Assumes nothing.
+pub mod Laws
+pub mod Last

@@ -1,0 +1,37 @@
+// Graphs of folded frames: nodes, edges, and the record of a node in working memory.
+use literals::Node;
+ghost use mathlib.Core.Path.{_≡_};
+ghost use Rattle.nodes.specs.Edges.{wordEdge, edgeWord, opposite};
+
+// How many free bits a graph has, how many nodes it has now, and for how many there is room.
+pub struct Graph {
+    pub free: usize,
+    pub nodes: usize,
+    pub room: usize,
+}
+
+// A node, or its complement.
+pub struct Edge(pub Node, pub bool);
+
+impl Edge {
+    // Word 2k is node k and 2k + 1 its complement.
+    pub fn from_word(w: u32) -> Edge
+        ensures { λ r. ⌜ r ≡ wordEdge w ⌝ }
+    {
+        Edge(Node(w / 2), w % 2 == 1)
+    }
+
+    pub fn word(self) -> u64
+        ensures { λ r. ⌜ r ≡ edgeWord self ⌝ }
+    {
+        let k = self.0.0 as u64;
+        if self.1 { 2 * k + 1 } else { 2 * k }
+    }
+
+    pub fn complement(self) -> Edge
+        ensures { λ r. ⌜ r ≡ opposite self ⌝ }
+    {
+        let k = self.0;
+        Edge(k, !self.1)
+    }
+}

@@ -1,0 +1,3 @@
+-- What the contracts of `pairs` cite. Assumes nothing.
+pub mod Bucket
+pub mod Store

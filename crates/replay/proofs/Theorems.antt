@@ -1,0 +1,125 @@
+-- Replay and search: replay says yes to every witness that a search shows, and what replay says yes to is a hit. Assumes nothing.
+use mathlib.Core.Path.{_≡_, refl, sym, ap, _∙_, subst}
+use mathlib.Core.Bool.{Bool, true, _&&_}
+use mathlib.Core.List.{List, [], _∷_}
+use mathlib.Core.Option.{Option, none, some}
+use Prim.Native.Nat.{ℕ, zero, suc, _+_, _-_, _^_, _≤_, _<_}
+use native.Mathlib.Nat.{not-suc-le-zero, le-of-suc-le-suc}
+use native.Mathlib.Decide.{decLt}
+use native.Mathlib.Omega.{arith}
+use lib.Dec.{T}
+use lib.ListN.{length, getD}
+use Rattle.aiger.specs.Circuit.{Circuit}
+use Rattle.aiger.specs.Load.{Answer, gives, read, _>>=_}
+use Rattle.aiger.specs.Frames.{Run, freeBits, run, hits, allowed, valueAt}
+use Rattle.aiger.specs.Search.{Outcome, reaches, permitted}
+use Rattle.aiger.specs.Witness.{Witness, witness, readWitness, agrees, confirms}
+use Rattle.aiger.specs.Memory.{Holds}
+use Rattle.aiger.specs.Operations.{Replayed, noCircuit, says}
+use Rattle.aiger.proofs.Tests.{and-left, and-right, true-T, T-true}
+use Rattle.roundtrip.proofs.LoadWrite.{counts-fit}
+use Rattle.roundtrip.proofs.Holding.{one-circuit, held-valid}
+use Rattle.roundtrip.proofs.Witness.{run-back}
+use Rattle.meaning.proofs.Values.{zero-value}
+use Rattle.meaning.proofs.Outcomes.{found-out, none-out}
+use Rattle.meaning.proofs.Sequences.{run-shaped, run-agrees, every-run}
+use Rattle.replay.proofs.Reading.{read-shaped}
+
+-- the answer for a circuit and what was read
+abbrev judgement : Circuit → Option Witness → Answer Bool
+judgement c w = read 14 w >>= λ x. gives (confirms c x)
+
+-- replay's answer is the one for the circuit that the memory holds
+judged : {m text : List ℕ} {a : Answer Bool} (c : Circuit) → Holds m c → Replayed m text a → a ≡ judgement c (readWitness c text)
+judged c h (noCircuit n) = absurd (n c h)
+judged {text = text} c h (says d k) = ap (λ (x : Circuit). judgement x (readWitness x text)) (one-circuit k h)
+
+-- ---- yes to what a search shows
+
+-- a bad line that is not there is never hit
+getD-past : (xs : List ℕ) (i : ℕ) → length xs ≤ i → getD xs i 0 ≡ 0
+getD-past [] i h = refl
+getD-past (x ∷ xs) zero h = absurd (not-suc-le-zero h)
+getD-past (x ∷ xs) (suc i) h = getD-past xs i (le-of-suc-le-suc h)
+
+module _ {m : List ℕ} (c : Circuit) (h : Holds m c) where
+  bad-below : (b : ℕ) (r : Run) (t : ℕ) → T (hits c b r t) → b < length (c .bads)
+  unfolding hits
+  bad-below b r t p =
+      let v = held-valid h in
+      elim (decLt b (length (c .bads))) [
+        | yes l ↦ l
+        | no n ↦
+            let e : getD (c .bads) b 0 ≡ 0 = getD-past (c .bads) b (omega arith) in
+            absurd
+            (subst T (ap (valueAt c r t) e ∙ zero-value c r t (T-true (v .literals)) (T-true (v .order)))
+            (and-right (allowed c r t) (valueAt c r t (getD (c .bads) b 0)) p))
+      ]
+
+  -- the run of a sequence that hits is confirmed
+  confirms-run : (b t x : ℕ) → T (reaches c b t x) → confirms c (record { bad = b; run = run c t x }) ≡ true
+  unfolding confirms reaches
+  confirms-run b t x p =
+      let e : t + 1 - 1 ≡ t = omega arith in
+      let n : length (run c t x .rows) - 1 ≡ t = ap (λ (k : ℕ). k - 1) (run-shaped c t x .frames) ∙ e in
+      rw (true-T (agrees (c .latches) (run c t x .start)) (run-agrees c t x (T-true (held-valid h .literals))), n, true-T (hits c b (run c t x) t) p)
+
+  reach-hit : (b t x : ℕ) → T (reaches c b t x) → T (hits c b (run c t x) t)
+  unfolding reaches
+  reach-hit b t x p = p
+
+  -- replay says yes to every witness that a search shows
+  pub shown-yes : {a : Answer Bool} (b k D t x : ℕ) → T (permitted c b k D (Outcome.found t x)) → t ≤ 255 → Replayed m (witness b (run c t x)) a
+      → a ≡ gives true
+  shown-yes b k D t x p l r =
+      let f = found-out c b k D t x p in
+      judged c h r
+      ∙ ap (judgement c) (run-back c b t x (bad-below b (run c t x) t (reach-hit b t x (f .hit))) (counts-fit c (held-valid h .fit) .bads) l)
+      ∙ ap gives (confirms-run b t x (f .hit))
+
+-- ---- yes only to a hit
+
+-- the text is a witness of bad line b and of a sequence x of frame t that hits there
+pub record Hit (c : Circuit) (text : List ℕ) : Type 0 where
+  pub bad : ℕ
+  pub frame : ℕ
+  pub sequence : ℕ
+  pub few : frame ≤ 255
+  pub fits : sequence < 2 ^ freeBits c frame
+  pub reached : T (reaches c bad frame sequence)
+  pub text-is : readWitness c text ≡ some (record { bad = bad; run = run c frame sequence })
+
+module _ (c : Circuit) (text : List ℕ) where
+  -- a witness that is confirmed is one of a sequence that hits
+  confirmed-hit : (w : Witness) → readWitness c text ≡ some w → confirms c w ≡ true → Hit c text
+  unfolding confirms reaches
+  confirmed-hit w e k =
+      let s = read-shaped c text e in
+      let t = s .frame in
+      let both : T (agrees (c .latches) (w .run .start) && hits c (w .bad) (w .run) (length (w .run .rows) - 1)) = T-true k in
+      let x = every-run c t (w .run) (s .shaped) (and-left (agrees (c .latches) (w .run .start)) (hits c (w .bad) (w .run) (length (w .run .rows) - 1)) both) in
+      let last : length (w .run .rows) - 1 ≡ t = omega (arith, s .shaped .frames) in
+      let hit : T (hits c (w .bad) (w .run) t) =
+      subst (λ (n : ℕ). T (hits c (w .bad) (w .run) n)) last
+      (and-right (agrees (c .latches) (w .run .start)) (hits c (w .bad) (w .run) (length (w .run .rows) - 1)) both) in
+      record {
+        bad = w .bad;
+        frame = t;
+        sequence = x .0;
+        few = s .few;
+        fits = x .1;
+        reached = subst (λ (r : Run). T (hits c (w .bad) r t)) (sym (x .2)) hit;
+        text-is = e ∙ ap (λ (r : Run). some (record { bad = w .bad; run = r })) (sym (x .2));
+      }
+
+  by-witness : (o : Option Witness) → readWitness c text ≡ o → gives true ≡ judgement c o → Hit c text
+  by-witness none e q = let z : _≡_ {A = ℕ} 0 1 = cc in absurd (omega arith)
+  by-witness (some w) e q = confirmed-hit w e (cc)
+
+  -- what replay says yes to is a hit
+  pub yes-hit : {m : List ℕ} → Holds m c → Replayed m text (gives true) → Hit c text
+  yes-hit h r = by-witness (readWitness c text) refl (judged c h r)
+
+  -- and no search for it up to that frame or further may answer none
+  pub hit-not-none : (y : Hit c text) (k D j : ℕ) → y .frame ≤ k → T (permitted c (y .bad) k D (Outcome.none j)) → ⊥
+  hit-not-none y k D j l p = none-out c (y .bad) k D j p .quiet (y .frame) (omega arith) (y .sequence) (y .fits) (y .reached)

@@ -1,0 +1,20 @@
+-- `signatures::signature` meets its contract. Assumes nothing.
+use mathlib.Core.Path.{_∙_}
+use native.Mathlib.Omega.{arith}
+use denote.Ref.{now}
+use Rattle.signatures.proofs.Stores.{store-edge}
+use borrow.Author.Needs.{needs}
+use Rattle.signatures.proofs.signature.Statement.{statement}
+use Rattle.signatures.proofs.signature.Tie as tie
+
+edge-word-requires : tie.Need-edge-word-requires
+edge-word-requires c κs = search needs
+
+returns : tie.Need-returns
+returns c =
+    λ g s h.
+    let a = c .before .before .args in
+    record { fits = omega arith; bits = λ p l. c .edge-word .ensures p l ∙ store-edge (now (a .work)) g s (a .edge) h p l }
+
+pub signature-spec : {M : Type 1} → statement M
+signature-spec = tie.close (tie.spec edge-word-requires returns)

@@ -1,0 +1,5 @@
+-- What the contracts over signatures cite. Assumes nothing.
+pub mod Words
+pub mod Bucket
+pub mod Store
+pub mod Twin

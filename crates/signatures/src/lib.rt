@@ -1,0 +1,261 @@
+// Signatures of nodes, and the search for an edge that is equal in function to a conjunction. A signature is a 64-bit word whose bit p is
+// the node's value in pattern p.
+use nodes::Graph;
+ghost use mathlib.Core.Path.{_≡_};
+ghost use Prim.Native.Nat.{ℕ, _+_, _*_, _≤_, _<_};
+ghost use lib.ListN.{length, getD};
+ghost use Rattle.aiger.specs.Bits.{bit};
+ghost use Rattle.aiger.specs.Circuit.{var};
+ghost use Rattle.aiger.specs.Frames.{value};
+ghost use Rattle.aiger.specs.Signature.{PatternWord};
+ghost use Rattle.nodes.specs.Store.{field, pairsOf, Sized};
+ghost use Rattle.signatures.specs.Words.{wordAt, Put};
+ghost use Rattle.signatures.specs.Bucket.{normal as normalOf, halves as halvesOf, scrambled, bucketOf};
+ghost use Rattle.signatures.specs.Store.{patternValue, SignatureStore, Linked, Appended, Signed, SignedLast};
+ghost use Rattle.signatures.specs.Twin as Twin;
+
+// The same number, as a 64-bit one.
+fn wide(x: u32) -> u64
+    ensures { λ r. ⌜ r ≡ x ⌝ }
+{
+    x as u64
+}
+
+// The 64-bit word in words f and f + 1 of record k.
+fn word_at(work: &[u32], k: usize, f: usize) -> u64
+    requires { ⌜ (16 * k + (f + 1) < length (now work)) × (f < 16) ⌝ }
+    ensures { λ r. ⌜ r ≡ wordAt (now (work .entry)) k f ⌝ }
+{
+    wide(work[16 * k + f]) + wide(work[16 * k + (f + 1)]) * 4294967296
+}
+
+// Stores w in words f and f + 1 of record k.
+fn put_word(work: &mut [u32], k: usize, f: usize, w: u64)
+    requires { ⌜ (16 * k + (f + 1) < length (now work)) × (f < 16) ⌝ }
+    ensures { λ r. ⌜ Put (now (work .entry)) (now (work .exit)) k f w ⌝ }
+{
+    work[16 * k + f] = (w % 4294967296) as u32;
+    work[16 * k + (f + 1)] = (w / 4294967296) as u32;
+}
+
+// The word of an edge: that of its node in words f and f + 1, or the complement.
+fn edge_word(work: &[u32], edge: u32, f: usize) -> u64
+    requires { ⌜ (16 * var edge + (f + 1) < length (now work)) × (f < 16) ⌝ }
+    ensures { λ r. ⌜ ((p : ℕ) → p < 64 → bit r p ≡ value (λ k. bit (wordAt (now (work .entry)) k f) p) edge) ⌝ }
+{
+    let k = (edge / 2) as usize;
+    words::literal_word(word_at(work, k, f), edge % 2 == 1)
+}
+
+// The signature of an edge.
+pub fn signature(work: &[u32], edge: u32) -> u64
+    requires { ⌜ 16 * var edge + 3 < length (now work) ⌝ }
+    ensures { λ r. ⌜ ((g : Graph) → SignatureStore (now (work .entry)) g → var edge < g .nodes → PatternWord (patternValue (g .free) (pairsOf (now (work .entry)) g) edge) r) ⌝ }
+{
+    edge_word(work, edge, 2)
+}
+
+// A signature, or its complement where bit 0 is set.
+fn normal(s: u64) -> u64
+    ensures { λ r. ⌜ r ≡ normalOf s ⌝ }
+{
+    if s % 2 == 1 { !s } else { s }
+}
+
+// The halves of a normal form, times two factors and added.
+fn halves(s: u64) -> u64
+    ensures { λ r. ⌜ (r ≡ halvesOf s) × (r < 9223372036854775808) ⌝ }
+{
+    (s % 4294967296) * 625341585 + (s / 4294967296) * 461845907
+}
+
+// A hash of a normal form: the halves of that number, added, times a third factor, without the lowest digits.
+fn scramble(s: u64) -> u64
+    ensures { λ r. ⌜ r ≡ scrambled s ⌝ }
+{
+    let h = halves(s);
+    (h % 4294967296 + h / 4294967296) * 1481765933 / 1048576
+}
+
+// The bucket of a signature. A signature and its complement have the same bucket.
+fn bucket(s: u64, room: usize) -> usize
+    requires { ⌜ 0 < room ⌝ }
+    ensures { λ r. ⌜ (r ≡ bucketOf room s) × (r < room) ⌝ }
+{
+    (scramble(normal(s)) % (room as u64)) as usize
+}
+
+// Empties the buckets.
+fn clear_heads(work: &mut [u32], room: usize)
+    requires { ⌜ 16 * room ≤ length (now work) ⌝ }
+    ensures { λ r. ⌜ ((h : ℕ) → h < room → field (now (work .exit)) h 7 ≡ 0) × ((i : ℕ) → ((h : ℕ) → h < room → i ≡ 16 * h + 7 → ⊥) → getD (now (work .exit)) i 0 ≡ getD (now (work .entry)) i 0) ⌝ }
+{
+    let mut h = 0;
+    while h < room {
+        work[16 * h + 7] = 0;
+        h += 1;
+    }
+}
+
+// Stores the signature of node k, and puts the node in front of its bucket.
+fn link(work: &mut [u32], room: usize, k: usize, s: u64)
+    requires { ⌜ (k < room) × (room ≤ 65536) × (16 * room ≤ length (now work)) ⌝ }
+    ensures { λ r. ⌜ Linked (now (work .entry)) (now (work .exit)) room k s ⌝ }
+{
+    let h = bucket(s, room);
+    put_word(work, k, 2, s);
+    work[16 * k + 5] = work[16 * h + 7];
+    work[16 * h + 7] = (k + 1) as u32;
+}
+
+// Gives the constant and the free bits their signatures, and puts them in their buckets.
+pub fn start_signatures(work: &mut [u32], g: Graph)
+    requires { ⌜ Sized g (length (now work)) ⌝ }
+    requires { ⌜ g .nodes ≡ g .free + 1 ⌝ }
+    ensures { λ r. ⌜ Signed (now (work .entry)) (now (work .exit)) g ⌝ }
+{
+    let free = g.free;
+    let room = g.room;
+    clear_heads(work, room);
+    link(work, room, 0, 0);
+    let mut j = 0;
+    while j < free {
+        let w = words::pattern_word(j as u16);
+        link(work, room, j + 1, w);
+        j += 1;
+    }
+}
+
+// Gives the last node, a gate, its signature s, and puts it in its bucket.
+pub fn append_signature(work: &mut [u32], g: Graph, s: u64)
+    requires { ⌜ Sized g (length (now work)) ⌝ }
+    requires { ⌜ Appended (now work) g s ⌝ }
+    ensures { λ r. ⌜ SignedLast (now (work .entry)) (now (work .exit)) g s ⌝ }
+{
+    let nodes = g.nodes;
+    let room = g.room;
+    link(work, room, nodes - 1, s)
+}
+
+// Gives the constant and the free bits their values in block q of 64 sequences.
+fn set_leaves(work: &mut [u32], free: usize, q: u64)
+    requires { ⌜ 16 * free + 16 ≤ length (now work) ⌝ }
+    ensures { λ r. ⌜ Twin.LeavesSet (now (work .entry)) (now (work .exit)) free q ⌝ }
+{
+    put_word(work, 0, 8, 0);
+    let mut j = 0;
+    while j < free {
+        let w = words::counting_word(free - (j + 1), q);
+        put_word(work, j + 1, 8, w);
+        j += 1;
+    }
+}
+
+// The values of a gate: the conjunction of those of its operands.
+fn eval_gate(work: &mut [u32], k: usize)
+    requires { ⌜ (16 * k + 16 ≤ length (now work)) × (var (field (now work) k 0) < k) × (var (field (now work) k 1) < k) ⌝ }
+    ensures { λ r. ⌜ Twin.GateSet (now (work .entry)) (now (work .exit)) k ⌝ }
+{
+    let left = work[16 * k];
+    let right = work[16 * k + 1];
+    let w = edge_word(work, left, 8) & edge_word(work, right, 8);
+    put_word(work, k, 8, w);
+}
+
+// The values of all gates.
+fn eval_gates(work: &mut [u32], g: Graph)
+    requires { ⌜ Twin.Simulable (now work) g ⌝ }
+    ensures { λ r. ⌜ Twin.Evaluated (now (work .entry)) (now (work .exit)) g ⌝ }
+{
+    let mut k = g.free + 1;
+    while k < g.nodes {
+        eval_gate(work, k);
+        k += 1;
+    }
+}
+
+// The first sequence of block q in which edge e differs from the conjunction of a and b, or 64.
+fn compare_block(work: &mut [u32], g: Graph, a: u32, b: u32, e: u32, q: u64) -> u32
+    requires { ⌜ Twin.Simulable (now work) g ⌝ }
+    requires { ⌜ (var a < g .nodes) × (var b < g .nodes) × (var e < g .nodes) ⌝ }
+    ensures { λ r. ⌜ Twin.Compared (now (work .entry)) (now (work .exit)) g a b e q r ⌝ }
+{
+    let free = g.free;
+    set_leaves(work, free, q);
+    eval_gates(work, g);
+    let both = edge_word(work, a, 8) & edge_word(work, b, 8);
+    words::first_difference(edge_word(work, e, 8), both)
+}
+
+// Whether edge e is equal in function to the conjunction of a and b: all sequences are tried, 64 at a time.
+fn check_blocks(work: &mut [u32], g: Graph, a: u32, b: u32, e: u32) -> bool
+    requires { ⌜ Twin.Simulable (now work) g ⌝ }
+    requires { ⌜ (var a < g .nodes) × (var b < g .nodes) × (var e < g .nodes) ⌝ }
+    requires { ⌜ (6 ≤ g .free) × (g .free ≤ 12) ⌝ }
+    ensures { λ r. ⌜ Twin.Checked (now (work .entry)) (now (work .exit)) g a b e r ⌝ }
+{
+    let blocks = 1u64 << (g.free - 6);
+    let mut q = 0;
+    while q < blocks {
+        if compare_block(work, g, a, b, e, q) < 64 {
+            return false;
+        }
+        q += 1;
+    }
+    true
+}
+
+// One more than the edge of node k whose signature is s, where t is that of the node; else 0.
+fn candidate(k: u32, t: u64, s: u64) -> u32
+    requires { ⌜ k < 65536 ⌝ }
+    ensures { λ r. ⌜ Twin.Candidate k t s r ⌝ }
+{
+    if t == s {
+        return 2 * k + 1;
+    }
+    if t == !s {
+        return 2 * k + 2;
+    }
+    0
+}
+
+// One more than the edge of node k that is equal in function to the conjunction of a and b, whose signature is s; else 0.
+fn try_node(work: &mut [u32], g: Graph, a: u32, b: u32, s: u64, k: u32) -> u32
+    requires { ⌜ Twin.Ready (now work) g a b ⌝ }
+    requires { ⌜ (k < g .nodes) × Twin.Both (now work) g a b s ⌝ }
+    ensures { λ r. ⌜ Twin.Tried (now (work .entry)) (now (work .exit)) g a b k r ⌝ }
+{
+    let i = k as usize;
+    let e = candidate(k, word_at(work, i, 2), s);
+    if e == 0 {
+        return 0;
+    }
+    if g.free <= 6 {
+        return e;
+    }
+    if check_blocks(work, g, a, b, e - 1) {
+        return e;
+    }
+    0
+}
+
+// One more than an edge that is equal in function to the conjunction of a and b, or 0 where there is none.
+pub fn find_twin(work: &mut [u32], g: Graph, a: u32, b: u32) -> u64
+    requires { ⌜ Twin.Ready (now work) g a b ⌝ }
+    ensures { λ r. ⌜ Twin.Searched (now (work .entry)) (now (work .exit)) g a b r ⌝ }
+{
+    let room = g.room;
+    let s = signature(work, a) & signature(work, b);
+    let h = bucket(s, room);
+    let mut next = work[16 * h + 7];
+    while 0 < next {
+        let k = next - 1;
+        let e = try_node(work, g, a, b, s, k);
+        if 0 < e {
+            return wide(e);
+        }
+        let i = k as usize;
+        next = work[16 * i + 5];
+    }
+    0
+}

@@ -1,0 +1,209 @@
+-- Frames in a graph: the leaves of frame 0 and of the frame after another, and the hits of the last one. Assumes nothing.
+use mathlib.Core.Path.{_≡_, sym, ap, ap₂, _∙_, subst}
+use mathlib.Core.Bool.{Bool, false, cond}
+use mathlib.Core.List.{List, []}
+use Prim.Native.Nat.{ℕ, suc, _+_, _*_, _^_, _≤_, _<_}
+use native.Mathlib.Numerals.{add-one}
+use native.Mathlib.Omega.{arith}
+use lib.Dec.{eqb}
+use lib.ListN.{length, getD}
+use Rattle.aiger.specs.Circuit.{Circuit, Latch, var}
+use Rattle.aiger.specs.Frames.{value, isFree, freeBit, freeBits, freeStarts, run, state}
+use Rattle.aiger.specs.Search.{reaches}
+use Rattle.roundtrip.specs.Words.{word, circuitIn}
+use Rattle.layout.specs.declared.Layout.{Layout}
+use Rattle.meaning.proofs.Defined.{inputAt, latchAt, input-latch, next-known}
+use Rattle.meaning.proofs.Values.{Valuation, valuation-value, state-start, state-next-at}
+use Rattle.meaning.proofs.Sequences.{run-input, input-number}
+use Rattle.frames.specs.Lanes.{Ready, Leaves}
+use Rattle.frames.proofs.Facts.{right, known, no-cycle, gates-are}
+use Rattle.frames.proofs.Laws.{hit-of-run}
+use Rattle.enumeration.specs.Blocks.{freeBefore, startBit}
+use Rattle.enumeration.proofs.Facts.{inputs-are, latches-are, input-var, latch-var, latch-place}
+use Rattle.enumeration.proofs.Starts.{count-part, start-of-run}
+use Rattle.enumeration.proofs.Blocks.{latches-room}
+use Rattle.literals.specs.Literal.{literal}
+use Rattle.nodes.specs.Graph.{Pair, edgeValue}
+use Rattle.nodes.specs.Store.{pairsOf}
+use Rattle.nodes.specs.Edges.{edgeWord}
+use Rattle.nodes.specs.declared.Graph.{Graph}
+use Rattle.nodes.proofs.Laws.{edge-false}
+use Rattle.graph.specs.Stored.{Stored}
+use Rattle.graph.specs.declared.Made.{Made}
+use Rattle.unroll.specs.Map.{Written, latchVar, inputVar, startWord, nextWord, inputWord, Blank, Edges, Valued, Extensible, GatesMapped, FirstMapped, NextMapped, FramesMapped, HitMapped, FramesFit}
+use Rattle.unroll.proofs.Edges.{literal-edge, free-node, start-node, literal-value, free-value, start-value}
+use Rattle.unroll.proofs.Stores.{written-edges}
+use Rattle.unroll.proofs.Facts.{input-nonzero, latch-nonzero, product-next, product-le}
+use Rattle.unroll.proofs.Growth.{grown-none, grown-more, grown-count}
+
+module _ {m : List ℕ} {layout : Layout} {order : List ℕ} {count : ℕ} (r : Ready m layout order count) where
+  -- ---- the inputs
+
+  module _ (first : ℕ) {before after : List ℕ} (g : Written (inputVar m) (inputWord first) (layout .i) before after) where
+    kept-constant : getD after 0 0 ≡ getD before 0 0
+    kept-constant = g .others 0 (input-nonzero r)
+
+    kept-latch : (j : ℕ) → j < length (circuitIn m .latches)
+        → getD after (var (latchAt (circuitIn m) j .lit)) 0 ≡ getD before (var (latchAt (circuitIn m) j .lit)) 0
+    kept-latch j l =
+        g .others _
+        (λ i k e.
+        input-latch (circuitIn m) (right (r .held)) i j (omega (arith, inputs-are (r .held) (r .layout-of))) l (input-var (r .held) (r .layout-of) i k ∙ e))
+
+    -- their edges are those of free bits
+    input-edges : (h : Graph) → h .free + 1 ≤ h .nodes → first + layout .i ≤ h .free → Edges h before → Edges h after
+    input-edges h p q s = written-edges (h .nodes) g s (λ i l. omega (arith, free-node (first + i)))
+
+    module _ (t u n : ℕ) (bits : n ≡ freeBits (circuitIn m) t) (within : u ≤ t) (at : first ≡ freeStarts (circuitIn m) + length (circuitIn m .inputs) * u)
+        (gs : List Pair) (x : ℕ) where
+      -- their values are the row of frame u
+      given-row : (i : ℕ) → i < length (circuitIn m .inputs)
+          → edgeValue n gs (freeBit n x) (getD after (var (inputAt (circuitIn m) i)) 0) ≡ getD (getD (run (circuitIn m) t x .rows) u []) i false
+      given-row i l =
+          let c = circuitIn m in
+          let k : i < layout .i = omega (arith, inputs-are (r .held) (r .layout-of)) in
+          let e : first + i ≡ freeStarts c + length (c .inputs) * u + i = omega arith in
+          ap (λ (v : ℕ). edgeValue n gs (freeBit n x) (getD after v 0)) (input-var (r .held) (r .layout-of) i k)
+          ∙ ap (edgeValue n gs (freeBit n x)) (g .new i k)
+          ∙ free-value n gs (freeBit n x) (first + i) (omega (arith, input-number c t u i (omega arith) l))
+          ∙ ap₂ (λ (a b : ℕ). freeBit a x b) bits e ∙ sym (run-input c t x u i (omega arith) l)
+
+      -- with the constant and the latches, they are the leaves of frame u
+      row-leaves : (st : List Bool) → edgeValue n gs (freeBit n x) (getD before 0 0) ≡ false
+          → ((j : ℕ) → j < length (circuitIn m .latches) → edgeValue n gs (freeBit n x) (getD before (var (latchAt (circuitIn m) j .lit)) 0) ≡ getD st j false)
+          → Leaves (circuitIn m) (getD (run (circuitIn m) t x .rows) u []) st (λ v. edgeValue n gs (freeBit n x) (getD after v 0))
+      row-leaves st z f =
+          record {
+            constant = ap (edgeValue n gs (freeBit n x)) kept-constant ∙ z;
+            input = given-row;
+            latch = λ j l. ap (edgeValue n gs (freeBit n x)) (kept-latch j l) ∙ f j l;
+          }
+
+  -- ---- frame 0
+
+  module _ {blank started : List ℕ} (empty : Blank blank) (s : Written (latchVar m (layout .latches)) (startWord m (layout .latches)) (layout .l) blank started) where
+    start-edges : (h : Graph) → h .free + 1 ≤ h .nodes → freeStarts (circuitIn m) ≤ h .free → Edges h started
+    start-edges h p q =
+        written-edges (h .nodes) s (λ v. omega (arith, empty v))
+        (λ j l.
+        omega (
+          arith,
+          start-node (word m (layout .latches + 3 * j)) (word m (layout .latches + 3 * j + 2)) (freeBefore (circuitIn m) j) (freeStarts (circuitIn m))
+              (count-part (r .held) (r .layout-of) j l),
+        ))
+
+    start-bit : (n x j : ℕ) → j < layout .l
+        → cond (eqb (word m (layout .latches + 3 * j + 2)) (word m (layout .latches + 3 * j))) (freeBit n x (freeBefore (circuitIn m) j)) (eqb (word m (layout .latches + 3 * j + 2)) 1)
+        ≡ startBit (circuitIn m) n x j
+    unfolding startBit
+    start-bit n x j l =
+        ap (λ (y : Latch). cond (isFree y) (freeBit n x (freeBefore (circuitIn m) j)) (eqb (y .reset) 1)) (sym (latch-place (r .held) (r .layout-of) j l))
+
+    start-latch : (t n : ℕ) → n ≡ freeBits (circuitIn m) t → (gs : List Pair) (x j : ℕ) → j < length (circuitIn m .latches)
+        → edgeValue n gs (freeBit n x) (getD started (var (latchAt (circuitIn m) j .lit)) 0) ≡ getD (state (circuitIn m) (run (circuitIn m) t x) 0) j false
+    start-latch t n bits gs x j l =
+        let c = circuitIn m in
+        let k : j < layout .l = omega (arith, latches-are (r .held) (r .layout-of)) in
+        ap (λ (v : ℕ). edgeValue n gs (freeBit n x) (getD started v 0)) (latch-var (r .held) (r .layout-of) j k)
+        ∙ ap (edgeValue n gs (freeBit n x)) (s .new j k)
+        ∙ start-value n gs (freeBit n x) (word m (layout .latches + 3 * j)) (word m (layout .latches + 3 * j + 2)) (freeBefore c j)
+        (omega (arith, count-part (r .held) (r .layout-of) j k, latches-room c t))
+        ∙ start-bit n x j k ∙ ap (λ (a : ℕ). startBit c a x j) bits ∙ start-of-run c t x j l
+        ∙ ap (λ (st : List Bool). getD st j false) (sym (state-start c (run c t x)))
+
+    pub first-edges : (first : ℕ) {filled : List ℕ} → Written (inputVar m) (inputWord first) (layout .i) started filled → (h : Graph) → h .free + 1 ≤ h .nodes
+        → first ≡ freeStarts (circuitIn m) → first + layout .i ≤ h .free → Edges h filled
+    first-edges first g h p e q = input-edges first g h p q (start-edges h p (omega arith))
+
+    pub first-mapped : (first : ℕ) {n : ℕ} {work filled last after : List ℕ} {g h : Graph} → Written (inputVar m) (inputWord first) (layout .i) started filled
+        → first ≡ freeStarts (circuitIn m) → GatesMapped (circuitIn m) n work g filled last h after → FirstMapped (circuitIn m) n work g last h after
+    first-mapped first {n} {work} {filled} {last} {after} {g} i e w =
+        record {
+          grown = w .grown;
+          edges = w .edges;
+          values = λ t bits x l.
+              let gs = pairsOf work g in
+              w .values x l _ _
+              (row-leaves first i t 0 n bits (omega arith) (omega arith) gs x (state (circuitIn m) (run (circuitIn m) t x) 0)
+              (ap (edgeValue n gs (freeBit n x)) (s .others 0 (latch-nonzero r) ∙ empty 0) ∙ edge-false n gs (freeBit n x)) (start-latch t n bits gs x));
+        }
+
+  -- ---- the next frame
+
+  module _ (states : List ℕ) {old moved : List ℕ} (next : (j : ℕ) → j < layout .l → getD states j 0 ≡ nextWord m (layout .latches) old j)
+      (s : Written (latchVar m (layout .latches)) (λ j. getD states j 0) (layout .l) old moved) where
+    next-edges : (h : Graph) → Edges h old → Edges h moved
+    next-edges h b =
+        written-edges (h .nodes) s b
+        (λ j l.
+        let w = word m (layout .latches + 3 * j + 1) in
+        subst (λ (y : ℕ). var y < h .nodes) (sym (next j l)) (omega (arith, literal-edge old (literal w), b (var w))))
+
+    next-latch : (t u n : ℕ) (gs : List Pair) (x : ℕ)
+        → Valuation (circuitIn m) (getD (run (circuitIn m) t x .rows) u []) (state (circuitIn m) (run (circuitIn m) t x) u) (λ v. edgeValue n gs (freeBit n x) (getD old v 0))
+        → (j : ℕ) → j < length (circuitIn m .latches)
+        → edgeValue n gs (freeBit n x) (getD moved (var (latchAt (circuitIn m) j .lit)) 0) ≡ getD (state (circuitIn m) (run (circuitIn m) t x) (suc u)) j false
+    next-latch t u n gs x v j l =
+        let c = circuitIn m in
+        let k : j < layout .l = omega (arith, latches-are (r .held) (r .layout-of)) in
+        ap (λ (v : ℕ). edgeValue n gs (freeBit n x) (getD moved v 0)) (latch-var (r .held) (r .layout-of) j k)
+        ∙ ap (edgeValue n gs (freeBit n x)) (s .new j k ∙ next j k)
+        ∙ literal-value n gs (freeBit n x) old (word m (layout .latches + 3 * j + 1))
+        ∙ ap (λ (y : Latch). value (λ v. edgeValue n gs (freeBit n x) (getD old v 0)) (y .next)) (sym (latch-place (r .held) (r .layout-of) j k))
+        ∙ valuation-value c (right (r .held)) (known (r .held)) (no-cycle (r .held)) (run c t x) u v (latchAt c j .next) (next-known c (known (r .held)) j)
+        ∙ sym (state-next-at c (run c t x) u j l)
+
+    pub moved-edges : (first : ℕ) {filled : List ℕ} → Written (inputVar m) (inputWord first) (layout .i) moved filled → (h : Graph) → h .free + 1 ≤ h .nodes
+        → first + layout .i ≤ h .free → Edges h old → Edges h filled
+    moved-edges first g h p q b = input-edges first g h p q (next-edges h b)
+
+    pub next-mapped : (first : ℕ) {n : ℕ} {work filled last after : List ℕ} {g h : Graph} → Written (inputVar m) (inputWord first) (layout .i) moved filled
+        → GatesMapped (circuitIn m) n work g filled last h after → NextMapped (circuitIn m) n first work g old last h after
+    next-mapped first {n} {work} {filled} {last} {after} {g} {h} i w =
+        record {
+          grown = w .grown;
+          edges = w .edges;
+          values = λ t u bits l at v.
+              subst (λ (k : ℕ). Valued (circuitIn m) t k n last h after) (sym (add-one u))
+              (λ x b.
+              let gs = pairsOf work g in
+              w .values x b _ _
+              (row-leaves first i t (suc u) n bits l (at ∙ ap (λ (k : ℕ). freeStarts (circuitIn m) + length (circuitIn m .inputs) * k) (add-one u)) gs x
+              (state (circuitIn m) (run (circuitIn m) t x) (suc u))
+              (ap (edgeValue n gs (freeBit n x)) (s .others 0 (latch-nonzero r)) ∙ v x b .constant) (next-latch t u n gs x (v x b))));
+        }
+
+  -- ---- the frames up to u
+
+  pub frames-extensible : {t starts u n : ℕ} {work : List ℕ} {g : Graph} {map last : List ℕ} {h : Graph} {after : List ℕ} → FramesFit m layout t starts work g map → u + 1 ≤ t
+      → FramesMapped (circuitIn m) t u n work g map last h after → Extensible (layout .a) last h after
+  frames-extensible {t} {starts} {u} f l w =
+      let a = length (circuitIn m .gates) in
+      record {
+        stored = w .grown .stored;
+        room = omega (arith, w .grown .most, w .grown .room, f .extensible .room, ap (λ (k : ℕ). k * t) (gates-are r), gates-are r, product-next a u, product-le a l);
+        edges = w .edges;
+      }
+
+  -- ---- the hits of the last frame
+
+  pub reached : (b t n : ℕ) (work : List ℕ) (g : Graph) (map last : List ℕ) (made : Made) → Valued (circuitIn m) t t n work g map
+      → HitMapped (circuitIn m) b n work g map last made → (x : ℕ) → x < 2 ^ n
+      → edgeValue n (pairsOf last (made .graph)) (freeBit n x) (edgeWord (made .edge)) ≡ reaches (circuitIn m) b t x
+  unfolding reaches
+  reached b t n work g map last made v w x l =
+      w .hit x l ∙ hit-of-run (right (r .held)) (known (r .held)) (no-cycle (r .held)) (run (circuitIn m) t x) t (v x l) b
+
+-- ---- frame after frame
+
+pub frames-start : (c : Circuit) (t : ℕ) (work : List ℕ) (g : Graph) (map : List ℕ) → Stored work g → Edges g map → FramesMapped c t 0 (g .free) work g map work g map
+frames-start c t work g map s b = record { grown = grown-count (omega arith) (grown-none work g s); edges = b; values = λ e v. v }
+
+pub frames-more : {c : Circuit} {n : ℕ} {work mid last : List ℕ} {g h i : Graph} {map middle after : List ℕ} (t u : ℕ) → u < t → FramesMapped c t u n work g map mid h middle
+    → (first : ℕ) → first ≡ freeStarts c + length (c .inputs) * (u + 1) → NextMapped c n first mid h middle last i after → FramesMapped c t (u + 1) n work g map last i after
+frames-more {c} t u l f first at s =
+    record {
+      grown = grown-count (sym (product-next (length (c .gates)) u)) (grown-more (f .grown) (s .grown));
+      edges = s .edges;
+      values = λ bits v. s .values t u bits l at (f .values bits v);
+    }

@@ -1,0 +1,177 @@
+-- Gates in an order in which operands come first: the values of one sequence, and the graph and the map. Assumes nothing.
+use mathlib.Core.Path.{_≡_, refl, sym, ap, ap₂, _∙_, subst}
+use mathlib.Core.Bool.{Bool, _&&_}
+use mathlib.Core.List.{List, map}
+use mathlib.Core.Logic.{inl, inr}
+use Prim.Native.Nat.{ℕ, _+_, _^_, _≤_, _<_}
+use native.Mathlib.Decide.{decLt}
+use native.Mathlib.Omega.{arith}
+use borrow.Author.Count.{below-none, below-more}
+use lib.Dec.{T}
+use lib.ListN.{length, getD, set, length-map, List·getD-map}
+use lib.Seq.{getD-set-same, getD-set-other}
+use Rattle.aiger.specs.Circuit.{Circuit, Gate, var, literalsRight}
+use Rattle.aiger.specs.Frames.{value, freeBit}
+use Rattle.layout.specs.Order.{Feeds, Ordered}
+use Rattle.meaning.proofs.Defined.{noGate, gateAt, gate-in, definition, apart-gates, input-gate, latch-gate}
+use Rattle.meaning.proofs.Values.{Valuation, value-eq}
+use Rattle.frames.specs.Lanes.{Leaves}
+use Rattle.frames.proofs.Gates.{gateOn}
+use Rattle.literals.specs.Literal.{literal}
+use Rattle.literals.specs.declared.Lit.{Lit}
+use Rattle.nodes.specs.Graph.{edgeValue}
+use Rattle.nodes.specs.Store.{pairsOf}
+use Rattle.nodes.specs.Edges.{edgeWord}
+use Rattle.nodes.specs.declared.Graph.{Graph}
+use Rattle.nodes.specs.declared.Edge.{Edge}
+use Rattle.nodes.proofs.Laws.{word-node}
+use Rattle.graph.specs.Stored.{Stored, Operands, Conjoined}
+use Rattle.graph.specs.declared.Made.{Made}
+use Rattle.unroll.specs.Map.{literalEdge, Edges, mapped, Extensible, Grown, Computed, GateMapped, GatesMapped}
+use Rattle.unroll.proofs.Edges.{literal-edge, literal-value}
+use Rattle.unroll.proofs.Growth.{grown-none, grown-made, grown-more, mapped-kept}
+use Rattle.unroll.proofs.Stores.{set-edges}
+
+-- ---- one gate
+
+-- the conjunction of the operands' edges, given to the gate's variable
+pub gate-mapped : (gate : Gate) (work : List ℕ) (g : Graph) (maps last : List ℕ) (made : Made) → Stored work g → Edges g maps → var (gate .lit) < length maps
+    → Conjoined work last g (edgeWord (literalEdge maps (literal (gate .left)))) (edgeWord (literalEdge maps (literal (gate .right)))) made
+    → GateMapped gate (g .free) work g maps last (made .graph) (set maps (var (gate .lit)) (edgeWord (made .edge)))
+gate-mapped gate work g maps last made s b l c =
+    let v : ℕ = var (gate .lit) in
+    let e : ℕ = edgeWord (made .edge) in
+    let p = grown-made work last g made s c in
+    record {
+      grown = p;
+      edges = set-edges maps v e (made .graph .nodes) l (λ u. omega (arith, b u, p .least)) (omega (arith, word-node (made .edge), c .node));
+      values = λ x h.
+          record {
+            result = ap (edgeValue (g .free) (pairsOf last (made .graph)) (freeBit (g .free) x)) (getD-set-same maps v e 0 l) ∙ c .value x h
+                ∙ ap₂ (λ (a b : Bool). a && b)
+                (literal-value (g .free) (pairsOf work g) (freeBit (g .free) x) maps (gate .left))
+                (literal-value (g .free) (pairsOf work g) (freeBit (g .free) x) maps (gate .right));
+            others = λ u n.
+                ap (edgeValue (g .free) (pairsOf last (made .graph)) (freeBit (g .free) x)) (getD-set-other maps v u e 0 (λ q. n (sym q)))
+                ∙ mapped-kept maps p b x u;
+          };
+    }
+
+-- the same, where what is given is known by equations
+pub gate-put : (gate : Gate) (work : List ℕ) (g : Graph) (maps last : List ℕ) (made : Made) → Stored work g → Edges g maps → var (gate .lit) < length maps
+    → {a b : Edge} → a ≡ literalEdge maps (literal (gate .left)) → b ≡ literalEdge maps (literal (gate .right)) → Conjoined work last g (edgeWord a) (edgeWord b) made
+    → (after : List ℕ) (v : ℕ) → v ≡ var (gate .lit) → after ≡ set maps v (edgeWord (made .edge)) → GateMapped gate (g .free) work g maps last (made .graph) after
+gate-put gate work g maps last made s e l {a} {b} p q c after v k w =
+    subst (λ (y : List ℕ). GateMapped gate (g .free) work g maps last (made .graph) y) (sym (w ∙ ap (λ (u : ℕ). set maps u (edgeWord (made .edge))) k))
+    (gate-mapped gate work g maps last made s e l
+    (subst (λ (y : Edge). Conjoined work last g (edgeWord (literalEdge maps (literal (gate .left)))) (edgeWord y) made) q
+    (subst (λ (y : Edge). Conjoined work last g (edgeWord y) (edgeWord b) made) p c)))
+
+-- edges of the map are operands
+pub gate-operands : (work : List ℕ) (g : Graph) (maps : List ℕ) → Extensible 1 work g maps → {a b : Edge} (p q : Lit) → a ≡ literalEdge maps p → b ≡ literalEdge maps q
+    → Operands work g (edgeWord a) (edgeWord b)
+gate-operands work g maps f p q d e =
+    record {
+      stored = f .stored;
+      room = omega (arith, f .room);
+      left = omega (arith, ap (λ (y : Edge). var (edgeWord y)) d, literal-edge maps p, f .edges (p .0 .0));
+      right = omega (arith, ap (λ (y : Edge). var (edgeWord y)) e, literal-edge maps q, f .edges (q .0 .0));
+    }
+
+-- ---- the values of one sequence
+
+-- after the first k gates of the order: each of them has the conjunction of its operands, all other values are as before
+pub record Upto (c : Circuit) (order : List ℕ) (k : ℕ) (before after : ℕ → Bool) : Type 0 where
+  pub others : (v : ℕ) → ((j : ℕ) → j < k → var (gateOn c order j .lit) ≡ v → ⊥) → after v ≡ before v
+  pub gate : (j : ℕ) → j < k → after (var (gateOn c order j .lit)) ≡ (value after (gateOn c order j .left) && value after (gateOn c order j .right))
+
+pub upto-start : (c : Circuit) (order : List ℕ) (w : ℕ → Bool) → Upto c order 0 w w
+upto-start c order w = record { others = λ v h. refl; gate = below-none _ }
+
+module _ {c : Circuit} (right : T (literalsRight c)) {order : List ℕ} (o : Ordered c order) where
+  -- two gates define two variables
+  gates-differ : (g h : ℕ) → g < length (c .gates) → h < length (c .gates) → (g ≡ h → ⊥) → var (gateAt c g .lit) ≡ var (gateAt c h .lit) → ⊥
+  gates-differ g h lg lh n e = go (decLt g h)
+    where
+      lit-at : (i : ℕ) → var (getD (map (λ x. x .lit) (c .gates)) i 0) ≡ var (gateAt c i .lit)
+      lit-at i = ap var (List·getD-map (λ (x : Gate). x .lit) (c .gates) i noGate)
+
+      go : Dec (g < h) → ⊥
+      go (yes l) = apart-gates c right g h l (simp length-map lh) (lit-at g ∙ e ∙ sym (lit-at h))
+      go (no l) = apart-gates c right h g (omega arith) (simp length-map lg) (lit-at h ∙ sym e ∙ sym (lit-at g))
+
+  -- the gates at two places define two variables
+  places-differ : (j k : ℕ) → j < k → k < length (c .gates) → var (gateOn c order k .lit) ≡ var (gateOn c order j .lit) → ⊥
+  places-differ j k l h e =
+      let there : (getD order j 0 ≡ getD order k 0) → ⊥ =
+      λ q. omega (arith, ap (o .place) q, o .there j (omega arith), o .there k h) in
+      gates-differ (getD order j 0) (getD order k 0) (o .gate j (omega arith)) (o .gate k h) there (sym e)
+
+  -- a gate feeds no gate at its place or before
+  feeds-later : (j k : ℕ) → j ≤ k → k < length (c .gates) → Feeds c (getD order k 0) (getD order j 0) → ⊥
+  feeds-later j k l h f =
+      omega (arith, o .before (getD order j 0) (getD order k 0) (o .gate j (omega arith)) f, o .there j (omega arith), o .there k h)
+
+  -- one gate more
+  module _ (k : ℕ) (h : k < length (c .gates)) {before mid after : ℕ → Bool} (u : Upto c order k before mid) (g : Computed (gateOn c order k) mid after) where
+    -- the operands of the gates up to there keep their values
+    operands-kept : (j : ℕ) → j ≤ k
+        → (value mid (gateOn c order j .left) && value mid (gateOn c order j .right))
+        ≡ (value after (gateOn c order j .left) && value after (gateOn c order j .right))
+    operands-kept j l =
+        ap₂ (λ (x y : Bool). x && y)
+        (value-eq mid after (gateOn c order j .left) (sym (g .others _ (λ e. feeds-later j k l h (o .gate k h, inl e)))))
+        (value-eq mid after (gateOn c order j .right) (sym (g .others _ (λ e. feeds-later j k l h (o .gate k h, inr e)))))
+
+    pub upto-more : Upto c order (k + 1) before after
+    upto-more =
+        record {
+          others = λ v n. g .others v (n k (omega arith)) ∙ u .others v (λ j l e. n j (omega arith) e);
+          gate = below-more _ k
+              (λ j l. g .others _ (places-differ j k l h) ∙ u .gate j l ∙ operands-kept j (omega arith))
+              (g .result ∙ operands-kept k (omega arith));
+        }
+
+  -- all gates
+  pub upto-end : {before after : ℕ → Bool} → Upto c order (length (c .gates)) before after → (row st : List Bool) → Leaves c row st before → Valuation c row st after
+  upto-end {before} {after} u row st leaves =
+      let kept : (v : ℕ) → ((i : ℕ) → i < length (c .gates) → var (gateAt c i .lit) ≡ v → ⊥) → after v ≡ before v =
+      λ v n. u .others v (λ j l e. n (getD order j 0) (o .gate j l) e) in
+      record {
+        constant = kept 0 (λ i l e. omega (arith, definition c right (gateAt c i .lit) (gate-in c i l) .0)) ∙ leaves .constant;
+        input = λ i l. kept _ (λ g k e. input-gate c right i g l k (sym e)) ∙ leaves .input i l;
+        latch = λ j l. kept _ (λ g k e. latch-gate c right j g l k (sym e)) ∙ leaves .latch j l;
+        gate = λ i l.
+            let q = o .placed i l in
+            subst (λ (g : ℕ). after (var (gateAt c g .lit)) ≡ (value after (gateAt c g .left) && value after (gateAt c g .right))) (q .1)
+            (u .gate (o .place i) (q .0));
+      }
+
+-- ---- the graph and the map
+
+-- after the first k gates of the order
+pub record MadeUpto (c : Circuit) (order : List ℕ) (k n : ℕ) (work : List ℕ) (g : Graph) (maps last : List ℕ) (h : Graph) (after : List ℕ) : Type 0 where
+  pub grown : Grown n k work g last h
+  pub edges : Edges h after
+  pub values : (x : ℕ) → x < 2 ^ n → Upto c order k (mapped n work g maps x) (mapped n last h after x)
+
+pub made-start : (c : Circuit) (order work : List ℕ) (g : Graph) (maps : List ℕ) → Stored work g → Edges g maps → MadeUpto c order 0 (g .free) work g maps work g maps
+made-start c order work g maps s b = record { grown = grown-none work g s; edges = b; values = λ x h. upto-start c order _ }
+
+-- there is room for the next gate
+pub made-extensible : {c : Circuit} {order : List ℕ} {k n : ℕ} {work : List ℕ} {g : Graph} {maps last : List ℕ} {h : Graph} {after : List ℕ} {count : ℕ}
+    → Extensible count work g maps → k < count → MadeUpto c order k n work g maps last h after → Extensible 1 last h after
+made-extensible f l u = record { stored = u .grown .stored; room = omega (arith, u .grown .most, u .grown .room, f .room); edges = u .edges }
+
+module _ {c : Circuit} (right : T (literalsRight c)) {order : List ℕ} (o : Ordered c order) {n : ℕ} {work : List ℕ} {g : Graph} {maps : List ℕ} where
+  pub made-more : (k : ℕ) → k < length (c .gates) → {mid last middle after : List ℕ} {h i : Graph} → MadeUpto c order k n work g maps mid h middle
+      → GateMapped (gateOn c order k) n mid h middle last i after → MadeUpto c order (k + 1) n work g maps last i after
+  made-more k l u s =
+      record {
+        grown = grown-more (u .grown) (s .grown);
+        edges = s .edges;
+        values = λ x b. upto-more right o k l (u .values x b) (s .values x b);
+      }
+
+  pub made-end : {last after : List ℕ} {h : Graph} → MadeUpto c order (length (c .gates)) n work g maps last h after → GatesMapped c n work g maps last h after
+  made-end u = record { grown = u .grown; edges = u .edges; values = λ x b. upto-end right o (u .values x b) }

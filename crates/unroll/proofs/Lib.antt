@@ -1,0 +1,9 @@
+-- The laws of `unroll`. Assumes nothing.
+pub mod Edges
+pub mod Growth
+pub mod Stores
+pub mod Gates
+pub mod Facts
+pub mod Hits
+pub mod Frames
+pub mod Unrolling

@@ -1,0 +1,57 @@
+-- `unroll::edge_of` meets its contract. Assumes nothing.
+use mathlib.Core.Path.{sym, ap, _∙_}
+use native.Mathlib.Omega.{arith}
+use Rattle.literals.specs.declared.Var.{Var}
+use Rattle.unroll.proofs.Edges.{literal-taken, literal-left}
+use borrow.Author.Needs.{needs}
+use Rattle.unroll.proofs.edge_of.Statement.{statement}
+use Rattle.unroll.proofs.edge_of.Tie as tie
+
+var-requires : tie.Need-var-requires
+var-requires c κs = search needs
+
+cast-at : tie.Need-cast-at
+cast-at c = search needs
+
+mul-from-word : tie.Need-mul-from-word
+mul-from-word c = search needs
+
+shared-slice-read-from-word : tie.Need-shared-slice-read-from-word
+shared-slice-read-from-word c = omega (arith, ap (λ (v : Var). v .0) (c .before .before .var .ensures), c .before .before .before .before .pre)
+
+from-word-requires : tie.Need-from-word-requires
+from-word-requires c κs = search needs
+
+is-complement-requires : tie.Need-is-complement-requires
+is-complement-requires c κs = search needs
+
+complement-requires : tie.Need-complement-requires
+complement-requires c κs = search needs
+
+returns : tie.Need-returns
+returns c =
+    let S = c .before .before .before .before .before .before .before .before in
+    let W = c .before .before .before .before .before .before .var in
+    literal-taken (S .args .map .now) (S .args .l) (W .ensures) (sym (c .before .before .is-complement .ensures) ∙ c .before .if1 .taken) (c .before .before .before .from-word .ensures)
+    (c .complement .ensures) (omega (arith, c .before .before .before .before .shared-slice-known2 .given (W .result .0)))
+
+returns-2 : tie.Need-returns-2
+returns-2 c =
+    let S = c .before .before .before .before .before .before .before in
+    let W = c .before .before .before .before .before .var in
+    literal-left (S .args .map .now) (S .args .l) (W .ensures) (sym (c .before .is-complement .ensures) ∙ c .if1 .left) (c .before .before .from-word .ensures)
+    (omega (arith, c .before .before .before .shared-slice-known2 .given (W .result .0)))
+
+pub edge-of-spec : {M : Type 1} → statement M
+edge-of-spec =
+    tie.close
+    (tie.spec
+    var-requires
+    cast-at
+    mul-from-word
+    shared-slice-read-from-word
+    from-word-requires
+    is-complement-requires
+    complement-requires
+    returns
+    returns-2)

@@ -1,0 +1,112 @@
+-- `unroll::put_frames` meets its contract. Assumes nothing.
+use mathlib.Core.Path.{_≡_, refl, ap₂, _∙_, subst}
+use Prim.Native.Nat.{ℕ, _+_, _-_, _*_, _≤_}
+use native.Mathlib.Omega.{arith}
+use lib.ListN.{length}
+use Rattle.roundtrip.specs.Words.{circuitIn}
+use Rattle.enumeration.proofs.Facts.{inputs-are}
+use Rattle.unroll.specs.Map.{NextMapped, FramesMapped}
+use Rattle.unroll.proofs.Facts.{ready-with, row-within}
+use Rattle.unroll.proofs.Frames.{frames-start, frames-extensible, frames-more}
+use Rattle.unroll.proofs.put_frames.Statement.{statement}
+use Rattle.unroll.proofs.put_frames.Tie as tie
+
+abbrev Inv-loop : tie.InvT-loop
+Inv-loop work₀ m layout order t starts map₀ state₀ inputs graph₀ u₀ work map state graph u =
+    (u ≤ t) × (length work ≡ length work₀) × (length map ≡ length map₀) × (length state ≡ length state₀)
+    × FramesMapped (circuitIn m) t u (graph₀ .free) work₀ graph₀ map₀ work graph map
+
+abbrev μ-loop : tie.MeasureT-loop
+μ-loop work₀ m layout order t starts map₀ state₀ inputs graph₀ u₀ work map state graph u = t - u
+
+loop-holds : tie.Need-loop-holds Inv-loop μ-loop
+loop-holds c =
+    let S = c .before .before .before .before .before in
+    let F = S .pre .1 .0 .extensible in
+    (omega arith, refl, refl, refl, frames-start (circuitIn (S .args .m .now)) (S .args .t) (S .args .work .now) (S .args .g) (S .args .map .now) (F .stored) (F .edges))
+
+add-u : tie.Need-add-u Inv-loop μ-loop
+add-u c = omega arith
+
+mul-put-next : tie.Need-mul-put-next Inv-loop μ-loop
+mul-put-next c =
+    let S = c .before .before .before .before .before .before .before .before in
+    let F = S .pre .1 .0 in
+    let z = F .extensible .stored .sized in
+    omega (arith, row-within (S .args .layout .i) (c .before .before .loop .u) (S .args .t) (omega arith), F .bits, z .leaves, z .nodes, z .room)
+
+add-put-next : tie.Need-add-put-next Inv-loop μ-loop
+add-put-next c =
+    let S = c .before .before .before .before .before .before .before .before in
+    let F = S .pre .1 .0 in
+    let z = F .extensible .stored .sized in
+    omega (arith, row-within (S .args .layout .i) (c .before .before .loop .u) (S .args .t) (omega arith), F .bits, z .leaves, z .nodes, z .room)
+
+put-next-requires : tie.Need-put-next-requires Inv-loop μ-loop
+put-next-requires c κs =
+    let S = c .before .before .before .before .before .before .before .before .before .before in
+    let L = c .before .before .before .before .loop in
+    let F = S .pre .1 .0 in
+    let h : L .u + 1 ≤ S .args .t = omega arith in (
+      ready-with (S .pre .0) (L .inv .2),
+      (
+        frames-extensible (S .pre .0) F h (L .inv .4),
+        (omega (arith, row-within (S .args .layout .i) (L .u) (S .args .t) h, F .bits, L .inv .4 .grown .free), omega (arith, L .inv .3, S .pre .1 .1)),
+      ),
+    )
+
+loop-less : tie.Need-loop-less Inv-loop μ-loop
+loop-less c = omega arith
+
+loop-again : tie.Need-loop-again Inv-loop μ-loop
+loop-again c =
+    let S = c .before .before .before .before .before .before .before .before .before .before .before .before .before .before .before .before .before in
+    let L = c .before .before .before .before .before .before .before .before .before .before .before .loop in
+    let P = c .before .before .before .before .before .before .put-next in
+    let r = S .pre .0 in
+    let C = circuitIn (S .args .m .now) in
+    let first = S .args .starts + S .args .layout .i * (L .u + 1) in
+    let l : L .u + 1 ≤ S .args .t = omega (arith, c .before .before .before .before .before .before .before .before .before .before .loop-test .taken) in (
+      l,
+      P .kept .0 ∙ L .inv .1,
+      P .kept .1 .1 .1 .1 .1 .1 .0 ∙ L .inv .2,
+      P .kept .1 .1 .1 .1 .1 .1 .1 .0 ∙ L .inv .3,
+      frames-more (S .args .t) (L .u) (omega arith) (L .inv .4) first (ap₂ (λ (s i : ℕ). s + i * (L .u + 1)) (S .pre .1 .0 .starts-are) (inputs-are (r .held) (r .layout-of)))
+          (subst (λ (n : ℕ). NextMapped C n first (L .work) (L .graph) (L .map) (P .last .0) (P .result) (P .last .1 .1 .1 .1 .1 .1 .0)) (L .inv .4 .grown .free) (P .ensures)),
+    )
+
+same-length : tie.Need-same-length Inv-loop μ-loop
+same-length c = c .before .loop .inv .1
+
+same-length-2 : tie.Need-same-length-2 Inv-loop μ-loop
+same-length-2 c = c .before .loop .inv .2
+
+same-length-3 : tie.Need-same-length-3 Inv-loop μ-loop
+same-length-3 c = c .before .loop .inv .3
+
+returns : tie.Need-returns Inv-loop μ-loop
+returns c =
+    let S = c .before .before .before .before .before .before .before in
+    let L = c .before .loop in
+    let e : L .u ≡ S .args .t = omega arith in
+    subst
+    (λ (u : ℕ). FramesMapped (circuitIn (S .args .m .now)) (S .args .t) u (S .args .g .free) (S .args .work .now) (S .args .g) (S .args .map .now) (L .work) (L .graph) (L .map))
+    e (L .inv .4)
+
+pub put-frames-spec : {M : Type 1} → statement M
+put-frames-spec =
+    tie.close
+    (tie.spec
+    Inv-loop
+    μ-loop
+    loop-holds
+    add-u
+    mul-put-next
+    add-put-next
+    put-next-requires
+    loop-less
+    loop-again
+    same-length
+    same-length-2
+    same-length-3
+    returns)

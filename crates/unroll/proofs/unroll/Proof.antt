@@ -1,0 +1,88 @@
+-- `unroll::unroll` meets its contract. Assumes nothing.
+use mathlib.Core.Path.{_∙_}
+use native.Mathlib.Omega.{arith}
+use Rattle.unroll.proofs.Facts.{ready-with}
+use Rattle.unroll.proofs.Unrolling.{blank-zeros, room-enough, start-enough, first-fits, frames-fit, hit-fits, unrolled}
+use borrow.Author.Needs.{needs}
+use Rattle.unroll.proofs.unroll.Statement.{statement}
+use Rattle.unroll.proofs.unroll.Tie as tie
+
+add-free : tie.Need-add-free
+add-free c = search needs
+
+mul-free : tie.Need-mul-free
+mul-free c = omega (arith, room-enough (c .before .before .before .before .pre), c .before .before .before .before .pre .most)
+
+add-free-2 : tie.Need-add-free-2
+add-free-2 c = omega (arith, room-enough (c .before .before .before .before .pre), c .before .before .before .before .pre .most)
+
+start-requires : tie.Need-start-requires
+start-requires c κs = start-enough (c .before .before .before .before .before .pre)
+
+slice-aggregate-put-first : tie.Need-slice-aggregate-put-first
+slice-aggregate-put-first c = search needs
+
+put-first-requires : tie.Need-put-first-requires
+put-first-requires c κs =
+    let S = c .before .before .before .before .before .before .before .before .before .before in
+    let E = c .before .before .before .before .start in
+    (S .pre .ready, first-fits (S .pre) (E .ensures .0) (E .ensures .1) _ (blank-zeros 4097))
+
+slice-aggregate-put-frames : tie.Need-slice-aggregate-put-frames
+slice-aggregate-put-frames c = search needs
+
+slice-aggregate-put-frames-2 : tie.Need-slice-aggregate-put-frames-2
+slice-aggregate-put-frames-2 c = search needs
+
+put-frames-requires : tie.Need-put-frames-requires
+put-frames-requires c κs =
+    let S = c .before .before .before .before .before .before .before .before .before .before .before .before .before .before .before .before .before in
+    let E = c .before .before .before .before .before .before .before .before .before .before .before .start in
+    let F = c .before .before .before .before .before .before .put-first in
+    (ready-with (S .pre .ready) (F .kept .1 .1 .1 .1 .1 .1 .0), (frames-fit (S .pre) (E .ensures .0) (E .ensures .1) (F .ensures), omega arith))
+
+slice-aggregate-hit-edge : tie.Need-slice-aggregate-hit-edge
+slice-aggregate-hit-edge c = search needs
+
+hit-edge-requires : tie.Need-hit-edge-requires
+hit-edge-requires c κs =
+    let S = c .before .before .before .before .before .before .before .before .before .before .before .before .before .before .before .before .before .before .before .before .before .before .before .before in
+    let E = c .before .before .before .before .before .before .before .before .before .before .before .before .before .before .before .before .before .before .start in
+    let F = c .before .before .before .before .before .before .before .before .before .before .before .before .before .put-first in
+    let G = c .before .before .before .before .before .before .put-frames in
+    ((S .args .order .now, ready-with (S .pre .ready) (G .kept .1 .1 .1 .1 .1 .1 .1 .0 ∙ F .kept .1 .1 .1 .1 .1 .1 .0)), (hit-fits (S .pre) (E .ensures .0) (E .ensures .1) (F .ensures) (G .ensures), S .pre .bad))
+
+same-length : tie.Need-same-length
+same-length c =
+    let E = c .before .before .before .before .before .before .before .before .before .before .before .before .before .before .before .before .before .before .before .before .before .start in
+    let F = c .before .before .before .before .before .before .before .before .before .before .before .before .before .before .before .before .put-first in
+    let G = c .before .before .before .before .before .before .before .before .before .put-frames in
+    let H = c .before .before .hit-edge in
+    H .kept .0 ∙ G .kept .0 ∙ F .kept .0 ∙ E .kept .0
+
+returns : tie.Need-returns
+returns c =
+    let S = c .before .before .before .before .before .before .before .before .before .before .before .before .before .before .before .before .before .before .before .before .before .before .before .before .before .before .before in
+    let E = c .before .before .before .before .before .before .before .before .before .before .before .before .before .before .before .before .before .before .before .before .before .start in
+    let F = c .before .before .before .before .before .before .before .before .before .before .before .before .before .before .before .before .put-first in
+    let G = c .before .before .before .before .before .before .before .before .before .put-frames in
+    let H = c .before .before .hit-edge in
+    unrolled (S .pre) (E .ensures .0) (E .ensures .1) (F .ensures) (G .ensures) (H .last .0) (H .result) (H .ensures)
+
+pub unroll-spec : {M : Type 1} → statement M
+unroll-spec =
+    tie.close
+    (tie.spec
+    add-free
+    mul-free
+    add-free-2
+    start-requires
+    slice-aggregate-put-first
+    put-first-requires
+    slice-aggregate-put-frames
+    slice-aggregate-put-frames-2
+    put-frames-requires
+    slice-aggregate-hit-edge
+    hit-edge-requires
+    same-length
+    returns)

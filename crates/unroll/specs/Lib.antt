@@ -1,0 +1,3 @@
+-- What the contracts of `unroll` cite. Assumes nothing.
+pub mod Map
+pub mod Unrolled

@@ -1,0 +1,156 @@
+-- Maps from variables to edges of a graph, and what the private functions do to them. The word of variable v is that of its edge.
+-- Assumes nothing.
+use mathlib.Core.Path.{_≡_}
+use mathlib.Core.Bool.{Bool, false, cond, _&&_}
+use mathlib.Core.List.{List, []}
+use Prim.Native.Nat.{ℕ, _+_, _*_, _^_, _≤_, _<_}
+use lib.Dec.{eqb}
+use lib.ListN.{length, getD}
+use Rattle.aiger.specs.Circuit.{Circuit, Gate, var}
+use Rattle.aiger.specs.Frames.{value, freeBit, freeBits, freeStarts, run, state}
+use Rattle.roundtrip.specs.Words.{word, circuitIn}
+use Rattle.meaning.proofs.Values.{Valuation}
+use Rattle.literals.specs.Literal.{literal}
+use Rattle.literals.specs.declared.Lit.{Lit}
+use Rattle.layout.specs.declared.Layout.{Layout}
+use Rattle.frames.specs.Lanes.{Ready, Leaves, hitIn}
+use Rattle.frames.specs.Lanes as lanes
+use Rattle.enumeration.specs.Blocks.{freeBefore}
+use Rattle.nodes.specs.Graph.{edgeValue}
+use Rattle.nodes.specs.Store.{pairsOf}
+use Rattle.nodes.specs.Edges.{edgeOf, wordEdge, edgeWord, opposite}
+use Rattle.nodes.specs.declared.Graph.{Graph}
+use Rattle.nodes.specs.declared.Edge.{Edge}
+use Rattle.graph.specs.Stored.{Stored}
+use Rattle.graph.specs.declared.Made.{Made}
+
+-- ---- edges
+
+-- the edge of literal l
+abbrev pub literalEdge : List ℕ → Lit → Edge
+literalEdge map l = cond (l .1) (opposite (wordEdge (getD map (l .0 .0) 0))) (wordEdge (getD map (l .0 .0) 0))
+
+-- the edge of free bit j
+abbrev pub freeEdge : ℕ → Edge
+freeEdge j = edgeOf (j + 1) false
+
+-- the edge of a latch's start: free bit k where the start is free, else a constant
+abbrev pub startEdge : ℕ → ℕ → ℕ → Edge
+startEdge lit reset k = cond (eqb reset lit) (freeEdge k) (edgeOf 0 (eqb reset 1))
+
+-- ---- words of a map
+
+-- the circuit in memory m can be evaluated in some order, with count words
+abbrev pub Prepared : List ℕ → Layout → ℕ → Type 0
+Prepared m layout count = (order : List ℕ) × Ready m layout order count
+
+-- after has words j at place j, for each j below n; the other words are as before
+abbrev pub Written : (ℕ → ℕ) → (ℕ → ℕ) → ℕ → List ℕ → List ℕ → Type 0
+Written = lanes.Stored
+
+-- the variables of latch j and input i, where the latches begin at latches
+abbrev pub latchVar : List ℕ → ℕ → ℕ → ℕ
+latchVar m latches j = var (word m (latches + 3 * j))
+
+abbrev pub inputVar : List ℕ → ℕ → ℕ
+inputVar m i = var (word m (7 + i))
+
+-- the words of latch j in frame 0, and of its next literal
+abbrev pub startWord : List ℕ → ℕ → ℕ → ℕ
+startWord m latches j = edgeWord (startEdge (word m (latches + 3 * j)) (word m (latches + 3 * j + 2)) (freeBefore (circuitIn m) j))
+
+abbrev pub nextWord : List ℕ → ℕ → List ℕ → ℕ → ℕ
+nextWord m latches map j = edgeWord (literalEdge map (literal (word m (latches + 3 * j + 1))))
+
+-- the word of input i, where the first input has free bit `first`
+abbrev pub inputWord : ℕ → ℕ → ℕ
+inputWord first i = edgeWord (freeEdge (first + i))
+
+-- no variable has an edge but the constant
+abbrev pub Blank : List ℕ → Type 0
+Blank map = (v : ℕ) → getD map v 0 ≡ 0
+
+-- each word is that of an edge of the graph
+abbrev pub Edges : Graph → List ℕ → Type 0
+Edges g map = (v : ℕ) → var (getD map v 0) < g .nodes
+
+-- the values of the variables in sequence x of n free bits
+abbrev pub mapped : ℕ → List ℕ → Graph → List ℕ → ℕ → ℕ → Bool
+mapped n work g map x v = edgeValue n (pairsOf work g) (freeBit n x) (getD map v 0)
+
+-- they are those of frame u
+abbrev pub Valued : Circuit → ℕ → ℕ → ℕ → List ℕ → Graph → List ℕ → Type 0
+Valued c t u n work g map =
+    (x : ℕ) → x < 2 ^ n → Valuation c (getD (run c t x .rows) u []) (state c (run c t x) u) (mapped n work g map x)
+
+-- ---- graphs that grow
+
+-- there is room for count nodes more
+pub record Extensible (count : ℕ) (work : List ℕ) (g : Graph) (map : List ℕ) : Type 0 where
+  pub stored : Stored work g
+  pub room : g .nodes + count ≤ g .room
+  pub edges : Edges g map
+
+-- graph h in last has n free bits and at most count nodes more than g in work. The edges of g have in h the values that they have in g
+pub record Grown (n count : ℕ) (work : List ℕ) (g : Graph) (last : List ℕ) (h : Graph) : Type 0 where
+  pub stored : Stored last h
+  pub free : h .free ≡ n
+  pub room : h .room ≡ g .room
+  pub least : g .nodes ≤ h .nodes
+  pub most : h .nodes ≤ g .nodes + count
+  pub kept : (f : ℕ → Bool) (e : ℕ) → var e < g .nodes → edgeValue n (pairsOf last h) f e ≡ edgeValue n (pairsOf work g) f e
+
+-- the gate's variable has after the conjunction of its operands before; the other variables have the same values
+pub record Computed (g : Gate) (before after : ℕ → Bool) : Type 0 where
+  pub result : after (var (g .lit)) ≡ (value before (g .left) && value before (g .right))
+  pub others : (v : ℕ) → (var (g .lit) ≡ v → ⊥) → after v ≡ before v
+
+-- one gate
+pub record GateMapped (gate : Gate) (n : ℕ) (work : List ℕ) (g : Graph) (map last : List ℕ) (h : Graph) (after : List ℕ) : Type 0 where
+  pub grown : Grown n 1 work g last h
+  pub edges : Edges h after
+  pub values : (x : ℕ) → x < 2 ^ n → Computed gate (mapped n work g map x) (mapped n last h after x)
+
+-- all gates of a frame: whatever frame the leaves stood for before, all values are that frame's after
+pub record GatesMapped (c : Circuit) (n : ℕ) (work : List ℕ) (g : Graph) (map last : List ℕ) (h : Graph) (after : List ℕ) : Type 0 where
+  pub grown : Grown n (length (c .gates)) work g last h
+  pub edges : Edges h after
+  pub values : (x : ℕ) → x < 2 ^ n → (row st : List Bool) → Leaves c row st (mapped n work g map x) → Valuation c row st (mapped n last h after x)
+
+-- frame 0
+pub record FirstMapped (c : Circuit) (n : ℕ) (work : List ℕ) (g : Graph) (last : List ℕ) (h : Graph) (after : List ℕ) : Type 0 where
+  pub grown : Grown n (length (c .gates)) work g last h
+  pub edges : Edges h after
+  pub values : (t : ℕ) → n ≡ freeBits c t → Valued c t 0 n last h after
+
+-- the frame after u, where its first input has free bit `first`
+pub record NextMapped (c : Circuit) (n first : ℕ) (work : List ℕ) (g : Graph) (map last : List ℕ) (h : Graph) (after : List ℕ) : Type 0 where
+  pub grown : Grown n (length (c .gates)) work g last h
+  pub edges : Edges h after
+  pub values : (t u : ℕ) → n ≡ freeBits c t → u < t → first ≡ freeStarts c + length (c .inputs) * (u + 1) → Valued c t u n work g map
+      → Valued c t (u + 1) n last h after
+
+-- the frames after frame 0, up to frame u of t
+pub record FramesMapped (c : Circuit) (t u n : ℕ) (work : List ℕ) (g : Graph) (map last : List ℕ) (h : Graph) (after : List ℕ) : Type 0 where
+  pub grown : Grown n (length (c .gates) * u) work g last h
+  pub edges : Edges h after
+  pub values : n ≡ freeBits c t → Valued c t 0 n work g map → Valued c t u n last h after
+
+-- the conjunction of bad line b and the constraints
+pub record HitMapped (c : Circuit) (b n : ℕ) (work : List ℕ) (g : Graph) (map last : List ℕ) (made : Made) : Type 0 where
+  pub grown : Grown n (length (c .constraints)) work g last (made .graph)
+  pub node : made .edge .0 .0 < made .graph .nodes
+  pub hit : (x : ℕ) → x < 2 ^ n → edgeValue n (pairsOf last (made .graph)) (freeBit n x) (edgeWord (made .edge)) ≡ hitIn c b (mapped n work g map x)
+
+-- what frame 0 requires of the graph
+pub record FirstFits (m : List ℕ) (layout : Layout) (starts : ℕ) (work : List ℕ) (g : Graph) (map : List ℕ) : Type 0 where
+  pub blank : Blank map
+  pub extensible : Extensible (layout .a) work g map
+  pub starts-are : starts ≡ freeStarts (circuitIn m)
+  pub bits : starts + layout .i ≤ g .free
+
+-- what the frames after it require
+pub record FramesFit (m : List ℕ) (layout : Layout) (t starts : ℕ) (work : List ℕ) (g : Graph) (map : List ℕ) : Type 0 where
+  pub extensible : Extensible (layout .a * t) work g map
+  pub starts-are : starts ≡ freeStarts (circuitIn m)
+  pub bits : starts + layout .i * (t + 1) ≤ g .free

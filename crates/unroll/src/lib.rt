@@ -1,0 +1,309 @@
+// The hit of a bad line at a frame as an edge of a graph over the free bits: the circuit is unrolled frame after frame. The node map
+// of a frame has for each variable the word of its edge.
+use graph::Made;
+use layout::Layout;
+use literals::Lit;
+use literals::Node;
+use literals::Var;
+use nodes::Edge;
+use nodes::Graph;
+ghost use mathlib.Core.Path.{_≡_};
+ghost use mathlib.Core.Bool.{cond};
+ghost use Prim.Native.Nat.{ℕ, _+_, _^_, _≤_, _<_};
+ghost use lib.Dec.{eqb};
+ghost use lib.ListN.{length, getD, set};
+ghost use Rattle.nodes.specs.Edges.{edgeWord};
+ghost use Rattle.roundtrip.specs.Words.{word, gateIn, circuitIn};
+ghost use Rattle.frames.specs.Lanes.{Ready, GateRoom};
+ghost use Rattle.unroll.specs.Map.{literalEdge, freeEdge, startEdge, Prepared, Written, latchVar, inputVar, startWord, nextWord, inputWord};
+ghost use Rattle.unroll.specs.Map.{Extensible, GateMapped, GatesMapped, FirstMapped, NextMapped, FramesMapped, HitMapped, FirstFits, FramesFit};
+ghost use Rattle.unroll.specs.Unrolled.{UnrollFits, Unrolled};
+
+// The edge of a literal.
+fn edge_of(map: &[u32], l: Lit) -> Edge
+    requires { ⌜ l .0 .0 < length (now map) ⌝ }
+    ensures { λ r. ⌜ (r ≡ literalEdge (now (map .entry)) l) × (edgeWord r < 2 ^ 32) ⌝ }
+{
+    let v = l.var();
+    let at = v.0 as usize;
+    let e = Edge::from_word(map[at]);
+    if l.is_complement() {
+        return e.complement();
+    }
+    e
+}
+
+// Gives a variable its edge.
+fn put_edge(map: &mut [u32], v: Var, e: Edge)
+    requires { ⌜ (v .0 < length (now map)) × (edgeWord e < 2 ^ 32) ⌝ }
+    ensures { λ _. ⌜ now (map .exit) ≡ set (now (map .entry)) (v .0) (edgeWord e) ⌝ }
+{
+    let at = v.0 as usize;
+    map[at] = e.word() as u32;
+}
+
+// The edge of free bit j.
+fn free_edge(j: usize) -> Edge
+    requires { ⌜ j < 65536 ⌝ }
+    ensures { λ r. ⌜ r ≡ freeEdge j ⌝ }
+{
+    Edge(Node((j + 1) as u32), false)
+}
+
+// 1 for a latch with a free start, else 0.
+fn free_start(lit: u32, reset: u32) -> usize
+    ensures { λ r. ⌜ r ≡ cond (eqb reset lit) 1 0 ⌝ }
+{
+    if reset == lit { 1 } else { 0 }
+}
+
+// The edge of a latch's start: constant, or the free bit that is next.
+fn start_edge(lit: u32, reset: u32, next: usize) -> Edge
+    requires { ⌜ next < 65536 ⌝ }
+    ensures { λ r. ⌜ r ≡ startEdge lit reset next ⌝ }
+{
+    if reset == lit {
+        return free_edge(next);
+    }
+    Edge(Node(0), reset == 1)
+}
+
+// Gives each latch the edge of its start.
+fn put_starts(m: &[u32], layout: Layout, map: &mut [u32])
+    requires { ⌜ Prepared (now m) layout (length (now map)) ⌝ }
+    ensures { λ _. ⌜ Written (latchVar (now (m .entry)) (layout .latches)) (startWord (now (m .entry)) (layout .latches)) (layout .l) (now (map .entry)) (now (map .exit)) ⌝ }
+{
+    let count = layout.l;
+    let latches = layout.latches;
+    let mut next = 0;
+    let mut j = 0;
+    while j < count {
+        let lit = m[latches + 3 * j];
+        let reset = m[latches + 3 * j + 2];
+        let l = Lit::from_word(lit);
+        put_edge(map, l.var(), start_edge(lit, reset, next));
+        next += free_start(lit, reset);
+        j += 1;
+    }
+}
+
+// Gives each input its free bit in a frame; the first input has free bit `first`.
+fn put_inputs(m: &[u32], layout: Layout, first: usize, map: &mut [u32])
+    requires { ⌜ Prepared (now m) layout (length (now map)) ⌝ }
+    requires { ⌜ first + layout .i ≤ 65536 ⌝ }
+    ensures { λ _. ⌜ Written (inputVar (now (m .entry))) (inputWord first) (layout .i) (now (map .entry)) (now (map .exit)) ⌝ }
+{
+    let count = layout.i;
+    let mut i = 0;
+    while i < count {
+        let l = Lit::from_word(m[7 + i]);
+        put_edge(map, l.var(), free_edge(first + i));
+        i += 1;
+    }
+}
+
+// Gives the gate whose words stand at `at` the edge that is made of its operands' edges.
+fn put_gate(work: &mut [u32], g: Graph, m: &[u32], at: usize, map: &mut [u32]) -> Graph
+    requires { ⌜ GateRoom (now m) at (length (now map)) ⌝ }
+    requires { ⌜ Extensible 1 (now work) g (now map) ⌝ }
+    ensures { λ r. ⌜ GateMapped (gateIn (now (m .entry)) at) (g .free) (now (work .entry)) g (now (map .entry)) (now (work .exit)) r (now (map .exit)) ⌝ }
+{
+    let l = Lit::from_word(m[at]);
+    let a = edge_of(map, Lit::from_word(m[at + 1]));
+    let b = edge_of(map, Lit::from_word(m[at + 2]));
+    let made = graph::make(work, g, a, b);
+    let e = made.edge;
+    put_edge(map, l.var(), e);
+    made.graph
+}
+
+// Gives each gate its edge.
+fn put_gates(
+    work: &mut [u32],
+    g: Graph,
+    m: &[u32],
+    layout: Layout,
+    order: &[u32],
+    map: &mut [u32],
+) -> Graph
+    requires { ⌜ Ready (now m) layout (now order) (length (now map)) ⌝ }
+    requires { ⌜ Extensible (layout .a) (now work) g (now map) ⌝ }
+    ensures { λ r. ⌜ GatesMapped (circuitIn (now (m .entry))) (g .free) (now (work .entry)) g (now (map .entry)) (now (work .exit)) r (now (map .exit)) ⌝ }
+{
+    let count = layout.a;
+    let gates = layout.gates;
+    let mut graph = g;
+    let mut k = 0;
+    while k < count {
+        let i = order[k] as usize;
+        graph = put_gate(work, graph, m, gates + 3 * i, map);
+        k += 1;
+    }
+    graph
+}
+
+// The edges of the next literals.
+fn next_state(m: &[u32], layout: Layout, map: &[u32], state: &mut [u32])
+    requires { ⌜ Prepared (now m) layout (length (now map)) ⌝ }
+    requires { ⌜ 1024 ≤ length (now state) ⌝ }
+    ensures { λ _. ⌜ ((j : ℕ) → j < layout .l → getD (now (state .exit)) j 0 ≡ nextWord (now (m .entry)) (layout .latches) (now (map .entry)) j) ⌝ }
+{
+    let count = layout.l;
+    let latches = layout.latches;
+    let mut j = 0;
+    while j < count {
+        let e = edge_of(map, Lit::from_word(m[latches + 3 * j + 1]));
+        state[j] = e.word() as u32;
+        j += 1;
+    }
+}
+
+// Gives each latch its edge.
+fn put_state(m: &[u32], layout: Layout, state: &[u32], map: &mut [u32])
+    requires { ⌜ Prepared (now m) layout (length (now map)) ⌝ }
+    requires { ⌜ 1024 ≤ length (now state) ⌝ }
+    ensures { λ _. ⌜ Written (latchVar (now (m .entry)) (layout .latches)) (λ j. getD (now (state .entry)) j 0) (layout .l) (now (map .entry)) (now (map .exit)) ⌝ }
+{
+    let count = layout.l;
+    let latches = layout.latches;
+    let mut j = 0;
+    while j < count {
+        let l = Lit::from_word(m[latches + 3 * j]);
+        put_edge(map, l.var(), Edge::from_word(state[j]));
+        j += 1;
+    }
+}
+
+// Frame 0.
+fn put_first(
+    work: &mut [u32],
+    g: Graph,
+    m: &[u32],
+    layout: Layout,
+    order: &[u32],
+    starts: usize,
+    map: &mut [u32],
+) -> Graph
+    requires { ⌜ Ready (now m) layout (now order) (length (now map)) ⌝ }
+    requires { ⌜ FirstFits (now m) layout starts (now work) g (now map) ⌝ }
+    ensures { λ r. ⌜ FirstMapped (circuitIn (now (m .entry))) (g .free) (now (work .entry)) g (now (work .exit)) r (now (map .exit)) ⌝ }
+{
+    put_starts(m, layout, map);
+    put_inputs(m, layout, starts, map);
+    put_gates(work, g, m, layout, order, map)
+}
+
+// The next frame, whose first input has free bit `first`. The next literals' edges are all read before the first is written.
+fn put_next(
+    work: &mut [u32],
+    g: Graph,
+    m: &[u32],
+    layout: Layout,
+    order: &[u32],
+    first: usize,
+    map: &mut [u32],
+    state: &mut [u32],
+) -> Graph
+    requires { ⌜ Ready (now m) layout (now order) (length (now map)) ⌝ }
+    requires { ⌜ Extensible (layout .a) (now work) g (now map) ⌝ }
+    requires { ⌜ (first + layout .i ≤ g .free) × (1024 ≤ length (now state)) ⌝ }
+    ensures { λ r. ⌜ NextMapped (circuitIn (now (m .entry))) (g .free) first (now (work .entry)) g (now (map .entry)) (now (work .exit)) r (now (map .exit)) ⌝ }
+{
+    next_state(m, layout, map, state);
+    put_state(m, layout, state, map);
+    put_inputs(m, layout, first, map);
+    put_gates(work, g, m, layout, order, map)
+}
+
+// The frames after frame 0, up to frame t.
+fn put_frames(
+    work: &mut [u32],
+    g: Graph,
+    m: &[u32],
+    layout: Layout,
+    order: &[u32],
+    t: usize,
+    starts: usize,
+    map: &mut [u32],
+    state: &mut [u32],
+) -> Graph
+    requires { ⌜ Ready (now m) layout (now order) (length (now map)) ⌝ }
+    requires { ⌜ FramesFit (now m) layout t starts (now work) g (now map) ⌝ }
+    requires { ⌜ 1024 ≤ length (now state) ⌝ }
+    ensures { λ r. ⌜ FramesMapped (circuitIn (now (m .entry))) t t (g .free) (now (work .entry)) g (now (map .entry)) (now (work .exit)) r (now (map .exit)) ⌝ }
+{
+    let inputs = layout.i;
+    let mut graph = g;
+    let mut u = 0;
+    while u < t {
+        u += 1;
+        graph = put_next(
+            work,
+            graph,
+            m,
+            layout,
+            order,
+            starts + inputs * u,
+            map,
+            state,
+        );
+    }
+    graph
+}
+
+// The conjunction of the bad line and the constraints.
+fn hit_edge(work: &mut [u32], g: Graph, m: &[u32], layout: Layout, b: usize, map: &[u32]) -> Made
+    requires { ⌜ Prepared (now m) layout (length (now map)) ⌝ }
+    requires { ⌜ Extensible (layout .c) (now work) g (now map) ⌝ }
+    requires { ⌜ b < word (now m) 5 ⌝ }
+    ensures { λ r. ⌜ HitMapped (circuitIn (now (m .entry))) b (g .free) (now (work .entry)) g (now (map .entry)) (now (work .exit)) r ⌝ }
+{
+    let bads = layout.bads;
+    let count = layout.c;
+    let constraints = layout.constraints;
+    let mut graph = g;
+    let mut hit = edge_of(map, Lit::from_word(m[bads + b]));
+    let mut done = 0;
+    while done < count {
+        let e = edge_of(map, Lit::from_word(m[constraints + done]));
+        let made = graph::make(work, graph, hit, e);
+        graph = made.graph;
+        hit = made.edge;
+        done += 1;
+    }
+    Made { graph, edge: hit }
+}
+
+// The hit of b at frame t. starts is the number of latches with a free start, room the number of nodes that working memory has
+// room for.
+pub fn unroll(
+    work: &mut [u32],
+    m: &[u32],
+    layout: Layout,
+    order: &[u32],
+    b: usize,
+    t: usize,
+    starts: usize,
+    room: usize,
+) -> Made
+    requires { ⌜ UnrollFits (now work) (now m) layout (now order) b t starts room ⌝ }
+    ensures { λ r. ⌜ Unrolled (circuitIn (now (m .entry))) b t (now (work .exit)) room r ⌝ }
+{
+    let mut map = [0u32; 4097];
+    let mut state = [0u32; 1024];
+    let free = starts + layout.i * (t + 1);
+    let empty = graph::start(work, free, room);
+    let first = put_first(work, empty, m, layout, order, starts, &mut map);
+    let last = put_frames(
+        work,
+        first,
+        m,
+        layout,
+        order,
+        t,
+        starts,
+        &mut map,
+        &mut state,
+    );
+    hit_edge(work, last, m, layout, b, &map)
+}
