@@ -1,4 +1,4 @@
-/* Times load, the test for number 9 and write per gate, and the search beside a plain C enumeration of 64 sequences a pass. */
+/* Times load, the test for number 9 and write per gate, replay, and the search beside a plain C enumeration of 64 sequences a pass. */
 #include "yunverok.h"
 #include <stdio.h>
 #include <stdlib.h>
@@ -143,9 +143,29 @@ static void searches(void)
         }
 }
 
+/* A witness of 256 frames for a chain of 3,072 gates. */
+static void replays(void)
+{
+    size_t n = chain(3072, 1);
+    if (yunverok_load(text, n, memory, 33040)) abort();
+    char *p = (char *)back;
+    p += sprintf(p, "1\nb0\n\n");
+    for (int u = 0; u < 256; u++) p += sprintf(p, "%d%d\n", u & 1, u >> 1 & 1);
+    p += sprintf(p, ".\n");
+    double best = 1e9;
+    for (int r = 0; r < 20; r++) {
+        double a = now();
+        if (yunverok_replay(memory, 33040, back, p - (char *)back) > 1) abort();
+        double b = now();
+        if (b - a < best) best = b - a;
+    }
+    printf("\nreplay of 256 frames of 3,072 gates: %.2f ms\n", best * 1e3);
+}
+
 int main(void)
 {
     loads();
+    replays();
     searches();
     return 0;
 }

@@ -17,6 +17,9 @@ uint32_t yunverok_test(const uint32_t *memory, size_t memory_len);
 uint64_t yunverok_search(const uint32_t *memory, size_t memory_len, uint64_t b, uint64_t k, uint64_t d, uint32_t *work, size_t work_len,
                          uint8_t *out, size_t out_len);
 
+/* Replays a witness: 1 for yes, 0 for no, or the number of the refusal, 9 or 14. */
+uint32_t yunverok_replay(const uint32_t *memory, size_t memory_len, const uint8_t *text, size_t text_len);
+
 /* Writes the circuit as an AIGER file: the length of the text; or 2^32 + number for a refusal, with out as it was. */
 uint64_t yunverok_write(const uint32_t *memory, size_t memory_len, uint8_t *out, size_t out_len);
 #endif

@@ -1,12 +1,13 @@
 // The public operations for programs in C and Rust: numbers and slices only. A slice is a pointer and a length.
 use circuit::Held;
 use load::LoadAnswer;
+use replay::ReplayAnswer;
 use search::SearchAnswer;
 use write::WriteAnswer;
 ghost use mathlib.Core.Path.{_≡_};
 ghost use Rattle.aiger.specs.Operations.{Searched, Written};
 ghost use Rattle.search.specs.Chosen.{chosen};
-ghost use Rattle.service.specs.Codes.{LoadCode, TestCode, SearchCode, WriteCode};
+ghost use Rattle.service.specs.Codes.{LoadCode, TestCode, SearchCode, ReplayCode, WriteCode};
 
 // Loads a file: 0, and the counts M I L O A B C are words 0 to 6 of circuit memory; or the number of the refusal.
 #[no_mangle]
@@ -47,6 +48,18 @@ pub extern "C" fn yunverok_search(
         SearchAnswer::Nothing(k) => 0x1_0000_0000 + k as u64,
         SearchAnswer::Spent(t) => 0x2_0000_0000 + t as u64,
         SearchAnswer::Refused(n) => 0x3_0000_0000 + n as u64,
+    }
+}
+
+// Replays a witness: 1 for yes, 0 for no, or the number of the refusal, 9 or 14.
+#[no_mangle]
+pub extern "C" fn yunverok_replay(memory: &[u32], text: &[u8]) -> u32
+    ensures { λ r. ⌜ ReplayCode (now (memory .entry)) (now (text .entry)) r ⌝ }
+{
+    match replay::replay(memory, text) {
+        ReplayAnswer::Yes => 1,
+        ReplayAnswer::No => 0,
+        ReplayAnswer::Refused(n) => n,
     }
 }
 
