@@ -22,7 +22,7 @@ pub enum SearchAnswer {
 }
 
 // (k+1) × (I+A+C) + U + 1, where U is free.
-fn size(layout: Layout, free: usize, k: usize) -> usize
+pub fn size(layout: Layout, free: usize, k: usize) -> usize
     requires { ⌜ Limited layout × (free ≤ 1024) × (k ≤ 255) ⌝ }
     ensures { λ r. ⌜ ((c : Circuit) → CountsOf c layout → free ≡ freeStarts c → r ≡ size c k) ⌝ }
 {

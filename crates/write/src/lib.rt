@@ -89,7 +89,7 @@ fn text_length(m: &[u32], layout: Layout) -> usize
 }
 
 // Writes n and the byte after it, in a line in which `left` numbers follow.
-fn write_ended(out: &mut [u8], at: usize, n: u32, left: usize) -> usize
+pub fn write_ended(out: &mut [u8], at: usize, n: u32, left: usize) -> usize
     requires { ⌜ Room (now out) at (numberText n left) ⌝ }
     ensures { λ r. ⌜ Placed (now (out .entry)) at (numberText n left) r (now (out .exit)) ⌝ }
 {
@@ -101,7 +101,7 @@ fn write_ended(out: &mut [u8], at: usize, n: u32, left: usize) -> usize
 }
 
 // Writes the line of n words from `first` on.
-fn write_row(m: &[u32], first: usize, n: usize, out: &mut [u8], at: usize) -> usize
+pub fn write_row(m: &[u32], first: usize, n: usize, out: &mut [u8], at: usize) -> usize
     requires { ⌜ (first + n ≤ length (now m)) × Room (now out) at (rowText (now m) first n) ⌝ }
     ensures { λ r. ⌜ Placed (now (out .entry)) at (rowText (now (m .entry)) first n) r (now (out .exit)) ⌝ }
 {

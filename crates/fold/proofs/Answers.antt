@@ -1,0 +1,46 @@
+-- From the test of the memory and the tests 10 to 13 to the answer of fold. Assumes nothing.
+use mathlib.Core.Path.{_≡_, _∙_}
+use mathlib.Core.List.{List}
+use Prim.Native.Nat.{ℕ, _≤_}
+use native.Mathlib.Omega.{arith}
+use lib.ListN.{length}
+use Rattle.aiger.specs.Load.{refused, gives}
+use Rattle.aiger.specs.Frames.{freeStarts}
+use Rattle.aiger.specs.Memory.{Holds}
+use Rattle.aiger.specs.Operations.{Folded, foldTests}
+use Rattle.roundtrip.specs.Words.{circuitIn}
+use Rattle.layout.specs.Layout.{LayoutOf}
+use Rattle.layout.specs.Order.{Ordered}
+use Rattle.layout.specs.declared.Layout.{Layout}
+use Rattle.frames.proofs.Facts.{counts, top-is, bad-count}
+use Rattle.search.specs.Steps.{told}
+use Rattle.search.proofs.Refusals.{told-refused, told-passed}
+use Rattle.fold.specs.Answer.{FoldFits, FoldShown}
+use Rattle.fold.proofs.Refusals.{passed}
+
+module _ {m : List ℕ} (held : Holds m (circuitIn m)) {b t : ℕ} {work out : List ℕ} where
+  -- a number other than 0 is the answer
+  pub refused-with : (n : ℕ) → foldTests (circuitIn m) b t (length work) (length out) ≡ told n → (n ≡ 0 → ⊥)
+      → Folded m b t work out (refused n) work out
+  refused-with n e h = Folded.refuses (circuitIn m) held (e ∙ told-refused n h)
+
+  -- where all tests pass, the frame can be folded
+  pub fits : {p : Layout} {order : List ℕ} {starts : ℕ} → LayoutOf m p → Ordered (circuitIn m) order → 3072 ≤ length order → starts ≡ freeStarts (circuitIn m) → {n : ℕ}
+      → foldTests (circuitIn m) b t (length work) (length out) ≡ told n → n ≡ 0 → FoldFits m p order b t starts work out
+  fits a o l s {n} e z =
+      let q = passed (circuitIn m) b t (length work) (length out) (e ∙ told-passed n z) in
+      record {
+        ready = record { held = held; layout-of = a; ordered = o; ranks = l; room = omega (arith, counts held .maxVar, top-is m) };
+        bad = omega (arith, q .bad, bad-count m);
+        last = q .bound;
+        starts-are = s;
+        small = q .small;
+        words = q .words;
+        output = q .output;
+      }
+
+  -- the text that is written is the answer
+  pub written-with : {n : ℕ} → foldTests (circuitIn m) b t (length work) (length out) ≡ told n → n ≡ 0 → {r : ℕ} {work′ out′ : List ℕ}
+      → FoldShown (circuitIn m) b t out r out′ → Folded m b t work out (gives r) work′ out′
+  written-with {n} e z {r} {work′} {out′} f =
+      rw (f .shown .count, f .shown .contents) (Folded.writes (circuitIn m) (f .circuit) held (e ∙ told-passed n z) (f .permitted))

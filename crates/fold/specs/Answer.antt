@@ -1,0 +1,38 @@
+-- What the operation fold answers, and what its functions require and leave. Assumes nothing.
+use mathlib.Core.Path.{_≡_}
+use mathlib.Core.List.{List}
+use Prim.Native.Nat.{ℕ, _+_, _*_, _≤_, _<_}
+use lib.Dec.{T}
+use lib.ListN.{length}
+use Rattle.aiger.specs.Circuit.{Circuit}
+use Rattle.aiger.specs.Load.{Answer, refused, gives}
+use Rattle.aiger.specs.Frames.{freeStarts, size}
+use Rattle.aiger.specs.Fold.{folds}
+use Rattle.aiger.specs.Write.{write}
+use Rattle.roundtrip.specs.Words.{word, circuitIn}
+use Rattle.layout.specs.declared.Layout.{Layout}
+use Rattle.frames.specs.Lanes.{Ready}
+use Rattle.fold.specs.Text.{Shown}
+use Rattle.fold.specs.declared.FoldAnswer.{FoldAnswer}
+use Rattle.fold.specs.declared.FoldAnswer.the-variants.{Length, Refused}
+
+-- the text's length, or the number of the refusal
+abbrev pub answered : FoldAnswer → Answer ℕ
+answered (Length n) = gives n
+answered (Refused n) = refused n
+
+-- a circuit that is ready, and memory and output for its fold
+pub record FoldFits (m : List ℕ) (p : Layout) (order : List ℕ) (b t starts : ℕ) (work out : List ℕ) : Type 0 where
+  pub ready : Ready m p order 4097
+  pub bad : b < word m 5
+  pub last : t ≤ 255
+  pub starts-are : starts ≡ freeStarts (circuitIn m)
+  pub small : size (circuitIn m) t ≤ 65536
+  pub words : 16 * size (circuitIn m) t ≤ length work
+  pub output : 24 * size (circuitIn m) t + 64 ≤ length out
+
+-- a permitted circuit's text is at the front of the output, and r is its length
+pub record FoldShown (c : Circuit) (b t : ℕ) (out : List ℕ) (r : ℕ) (last : List ℕ) : Type 0 where
+  pub circuit : Circuit
+  pub permitted : T (folds c b t circuit)
+  pub shown : Shown (write circuit) out r last

@@ -1,0 +1,3 @@
+-- What the contracts of `fold` cite. Assumes nothing.
+pub mod Text
+pub mod Answer

@@ -1,0 +1,173 @@
+// The operation fold: the hit of a bad line at a frame as a circuit without latches.
+use circuit::Held;
+use layout::Layout;
+use nodes::Edge;
+use nodes::Graph;
+ghost use mathlib.Core.Path.{_≡_};
+ghost use Prim.Native.Nat.{_+_, _-_, _*_, _≤_, _<_};
+ghost use lib.ListN.{length};
+ghost use Rattle.aiger.specs.Write.{write};
+ghost use Rattle.aiger.specs.Circuit.{Circuit, var};
+ghost use Rattle.aiger.specs.Frames.{freeStarts};
+ghost use Rattle.aiger.specs.Operations.{foldTests, Folded};
+ghost use Rattle.roundtrip.specs.Words.{circuitIn};
+ghost use Rattle.search.specs.Steps.{Limited, CountsOf, told};
+ghost use Rattle.nodes.specs.Edges.{edgeWord};
+ghost use Rattle.write.specs.Output.{Room, Placed};
+ghost use Rattle.fold.specs.Text.{literalOf, gateText, gatesText, inputsText, headText, Node, GateFits, GatesFit, foldedIn, Writable, Shown};
+ghost use Rattle.fold.specs.Answer.{answered, FoldFits, FoldShown};
+
+// The length of the text, or the number of the refusal.
+pub enum FoldAnswer {
+    Length(usize),
+    Refused(u32),
+}
+
+// Writes the header for so many free bits and gates.
+fn write_head(out: &mut [u8], free: usize, kept: usize) -> usize
+    requires { ⌜ (free + kept < 65536) × Room (now out) 0 (headText free kept) ⌝ }
+    ensures { λ r. ⌜ Placed (now (out .entry)) 0 (headText free kept) r (now (out .exit)) ⌝ }
+{
+    let all = (free + kept) as u32;
+    let inputs = free as u32;
+    let gates = kept as u32;
+    let row = [all, inputs, 0, 1, gates, 0, 0];
+    out[0] = b'a';
+    out[1] = b'a';
+    out[2] = b'g';
+    out[3] = b' ';
+    write::write_row(&row, 0, 7, out, 4)
+}
+
+// Writes a line for each input: 2, 4 and so on.
+fn write_inputs(out: &mut [u8], at: usize, free: usize) -> usize
+    requires { ⌜ (free < 65536) × Room (now out) at (inputsText free) ⌝ }
+    ensures { λ r. ⌜ Placed (now (out .entry)) at (inputsText free) r (now (out .exit)) ⌝ }
+{
+    let mut end = at;
+    let mut j: usize = 0;
+    while j < free {
+        end = write::write_ended(out, end, 2 * (j as u32 + 1), 0);
+        j += 1;
+    }
+    end
+}
+
+// The literal of an edge, given by its word.
+fn literal(work: &[u32], e: u32) -> u32
+    requires { ⌜ Node (now work) (var e) ⌝ }
+    ensures { λ r. ⌜ r ≡ literalOf (now (work .entry)) e ⌝ }
+{
+    let k = (e / 2) as usize;
+    2 * work[16 * k + 10] + e % 2
+}
+
+// Writes the line of the gate at node k, if it has a number.
+fn write_gate(work: &[u32], k: usize, out: &mut [u8], at: usize) -> usize
+    requires { ⌜ GateFits (now work) k × Room (now out) at (gateText (now work) k) ⌝ }
+    ensures { λ r. ⌜ Placed (now (out .entry)) at (gateText (now (work .entry)) k) r (now (out .exit)) ⌝ }
+{
+    let number = work[16 * k + 10];
+    if number == 0 {
+        return at;
+    }
+    let left = literal(work, work[16 * k]);
+    let right = literal(work, work[16 * k + 1]);
+    let row = [2 * number, left, right];
+    write::write_row(&row, 0, 3, out, at)
+}
+
+// Writes the lines of the gates that have numbers.
+fn write_gates(work: &[u32], g: Graph, out: &mut [u8], at: usize) -> usize
+    requires { ⌜ GatesFit (now work) g × Room (now out) at (gatesText (now work) (g .free + 1) (g .nodes - (g .free + 1))) ⌝ }
+    ensures { λ r. ⌜ Placed (now (out .entry)) at (gatesText (now (work .entry)) (g .free + 1) (g .nodes - (g .free + 1))) r (now (out .exit)) ⌝ }
+{
+    let first = g.free + 1;
+    let gates = g.nodes - first;
+    let mut end = at;
+    let mut j: usize = 0;
+    while j < gates {
+        end = write_gate(work, first + j, out, end);
+        j += 1;
+    }
+    end
+}
+
+// Writes the circuit of the root's cone, whose nodes are numbered, at the front of out.
+pub fn write_folded(work: &[u32], g: Graph, root: Edge, kept: usize, out: &mut [u8]) -> usize
+    requires { ⌜ Writable (now work) g (edgeWord root) kept ⌝ }
+    requires { ⌜ length (write (foldedIn (now work) g (edgeWord root))) ≤ length (now out) ⌝ }
+    ensures { λ r. ⌜ Shown (write (foldedIn (now (work .entry)) g (edgeWord root))) (now (out .entry)) r (now (out .exit)) ⌝ }
+{
+    let free = g.free;
+    let output = literal(work, root.word() as u32);
+    let inputs = write_head(out, free, kept);
+    let line = write_inputs(out, inputs, free);
+    let gates = write::write_ended(out, line, output, 0);
+    write_gates(work, g, out, gates)
+}
+
+// The number of the first of the tests 10 to 13 that fails, or 0. free is the number of latches with a free start, room the words of
+// working memory and len the bytes of output.
+fn refusal(layout: Layout, free: usize, b: u64, t: u64, room: usize, len: usize) -> u32
+    requires { ⌜ Limited layout × (free ≤ 1024) ⌝ }
+    ensures { λ r. ⌜ ((c : Circuit) → CountsOf c layout → free ≡ freeStarts c → foldTests c b t room len ≡ told r) ⌝ }
+{
+    if layout.b as u64 <= b {
+        return 10;
+    }
+    if 255 < t {
+        return 11;
+    }
+    let units = search::size(layout, free, t as usize);
+    if 65536 < units {
+        return 12;
+    }
+    if room < 16 * units {
+        return 12;
+    }
+    if len < 24 * units + 64 {
+        return 13;
+    }
+    0
+}
+
+// Folds frame t of a circuit that is ready. starts is the number of latches with a free start.
+fn fold_frame(
+    m: &[u32],
+    layout: Layout,
+    order: &[u32],
+    b: usize,
+    t: usize,
+    starts: usize,
+    work: &mut [u32],
+    out: &mut [u8],
+) -> usize
+    requires { ⌜ FoldFits (now m) layout (now order) b t starts (now work) (now out) ⌝ }
+    ensures { λ r. ⌜ FoldShown (circuitIn (now (m .entry))) b t (now (out .entry)) r (now (out .exit)) ⌝ }
+{
+    let room = search::size(layout, starts, t);
+    let made = unroll::unroll(work, m, layout, order, b, t, starts, room);
+    let graph = made.graph;
+    let root = made.edge;
+    cone::mark(work, graph, root);
+    let kept = cone::assign(work, graph);
+    write_folded(work, graph, root, kept, out)
+}
+
+// The operation fold: writes the hit of bad line b at frame t as a circuit without latches.
+pub fn fold(m: &[u32], b: u64, t: u64, work: &mut [u32], out: &mut [u8]) -> FoldAnswer
+    ensures { λ r. ⌜ Folded (now (m .entry)) b t (now (work .entry)) (now (out .entry)) (answered r) (now (work .exit)) (now (out .exit)) ⌝ }
+{
+    let mut order = [0u32; 3072];
+    let Held::Circuit(layout) = circuit::held_in(m, &mut order) else {
+        return FoldAnswer::Refused(9);
+    };
+    let free = enumeration::free_starts(m, layout);
+    let number = refusal(layout, free, b, t, work.len(), out.len());
+    if number != 0 {
+        return FoldAnswer::Refused(number);
+    }
+    let length = fold_frame(m, layout, &order, b as usize, t as usize, free, work, out);
+    FoldAnswer::Length(length)
+}
