@@ -1,0 +1,85 @@
+// Folds each file that an argument names: a line `fold b t`, then an AIGER file. Prints the name and the folded frame's text, or
+// `refused` and the number.
+use fold::FoldAnswer;
+use libc::STDOUT_FILENO;
+use load::LoadAnswer;
+use numbers::Number;
+ghost use Rattle.io.specs.Counts.{Counts};
+
+fn say(text: &[u8]) {
+    io::write_all(STDOUT_FILENO, text);
+}
+
+fn say_refused(n: u32) {
+    say(b"refused ");
+    io::print_decimal(STDOUT_FILENO, n as u64);
+    say(b"\n");
+}
+
+// Reads the file with a name into the front of the buffer. The answer is its length.
+fn read_file(name: &[u8], buf: &mut [u8]) -> usize
+    ensures { λ r. ⌜ Counts r (now (buf .exit)) ⌝ }
+{
+    let fd = os::open_read(name);
+    if fd < 0 {
+        os::fail(name);
+        return 0;
+    }
+    let n = io::read_full(fd, buf);
+    libc::close(fd);
+    n
+}
+
+fn say_folded(m: &[u32], b: u64, t: u64, work: &mut [u32], out: &mut [u8]) {
+    match fold::fold(m, b, t, work, out) {
+        FoldAnswer::Length(n) => {
+            if n < 98368 {
+                let k = io::count(n as isize, out);
+                say(&out[..k]);
+            }
+        }
+        FoldAnswer::Refused(n) => say_refused(n),
+    }
+}
+
+fn say_loaded(file: &[u8], b: u64, t: u64, m: &mut [u32], work: &mut [u32], out: &mut [u8]) {
+    match load::load(file, m) {
+        LoadAnswer::Loaded(_) => say_folded(m, b, t, work, out),
+        LoadAnswer::Refused(n) => say_refused(n),
+    }
+}
+
+fn say_input(input: &[u8], m: &mut [u32], work: &mut [u32], out: &mut [u8]) {
+    let Number::Spaced(b, second) = numbers::read_number(input, 5) else {
+        return;
+    };
+    let Number::Ended(t, at) = numbers::read_number(input, second) else {
+        return;
+    };
+    if input.len() < at {
+        return;
+    }
+    say_loaded(&input[at..], b, t, m, work, out);
+}
+
+fn say_argument(i: usize) {
+    let mut m = [0u32; 33040];
+    let mut work = [0u32; 65536];
+    let mut out = [0u8; 98368];
+    let mut input = [0u8; 65536];
+    let mut name = io::buffer();
+    let length = os::arg(i, &mut name);
+    say(&name[..length]);
+    say(b"\n");
+    let n = read_file(&name[..length], &mut input);
+    say_input(&input[..n], &mut m, &mut work, &mut out);
+}
+
+fn main() {
+    let count = os::arg_count();
+    let mut i: usize = 1;
+    while i < count {
+        say_argument(i);
+        i += 1;
+    }
+}
