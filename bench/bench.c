@@ -162,10 +162,49 @@ static void replays(void)
     printf("\nreplay of 256 frames of 3,072 gates: %.2f ms\n", best * 1e3);
 }
 
+/* Random gates over eight inputs and eight latches, folded so that size is about the number asked for. */
+static size_t sequential(int a)
+{
+    char *p = (char *)text;
+    p += sprintf(p, "aag %d 8 8 0 %d 1\n", 16 + a, a);
+    for (int i = 0; i < 8; i++) p += sprintf(p, "%d\n", 2 * (i + 1));
+    for (int j = 0; j < 8; j++) p += sprintf(p, "%d %u\n", 2 * (j + 9), 2 * (17 + draw(a)) + draw(2));
+    p += sprintf(p, "%d\n", 2 * (16 + a));
+    for (int g = 0; g < a; g++) {
+        uint32_t low = g > 60 ? 2 * (17 + g - 60) : 2, lit = 2 * (17 + g);
+        p += sprintf(p, "%u %u %u\n", lit, low + draw(lit - low), 2 + draw(lit - 2));
+    }
+    return p - (char *)text;
+}
+
+static void folds(void)
+{
+    static uint32_t work[16 * 65536];
+    static uint8_t out[24 * 65536 + 64];
+    static const int sizes[] = {4096, 8192, 16384, 32768, 65536};
+    printf("\nfold of frames with more than 12 free bits\n%8s %6s %8s %10s %10s\n", "size", "frame", "gates", "ms", "ns a unit");
+    for (int i = 0; i < 5; i++) {
+        int a = 240, t = sizes[i] / (a + 8) - 1, kept = 0;
+        size_t n = sequential(a);
+        if (yunverok_load(text, n, memory, 33040)) abort();
+        double best = 1e9, size = (t + 1.0) * (a + 8) + 1;
+        for (int r = 0; r < 5; r++) {
+            double b = now();
+            uint64_t s = yunverok_fold(memory, 33040, 0, t, work, sizeof work / 4, out, sizeof out);
+            double c = now();
+            if (s >> 32) abort();
+            if (c - b < best) best = c - b;
+            sscanf((char *)out, "aag %*d %*d %*d %*d %d", &kept);
+        }
+        printf("%8.0f %6d %8d %10.2f %10.1f\n", size, t, kept, best * 1e3, best / size * 1e9);
+    }
+}
+
 int main(void)
 {
     loads();
     replays();
     searches();
+    folds();
     return 0;
 }

@@ -22,4 +22,9 @@ uint32_t yunverok_replay(const uint32_t *memory, size_t memory_len, const uint8_
 
 /* Writes the circuit as an AIGER file: the length of the text; or 2^32 + number for a refusal, with out as it was. */
 uint64_t yunverok_write(const uint32_t *memory, size_t memory_len, uint8_t *out, size_t out_len);
+
+/* Folds bad line b at frame t into one circuit over its free bits: the length of the text at the front of out; or 2^32 + number for a
+   refusal, with all lent memory as it was. */
+uint64_t yunverok_fold(const uint32_t *memory, size_t memory_len, uint64_t b, uint64_t t, uint32_t *work, size_t work_len, uint8_t *out,
+                       size_t out_len);
 #endif

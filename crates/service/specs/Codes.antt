@@ -6,7 +6,7 @@ use Prim.Native.Nat.{ℕ, _+_, _*_, _^_}
 use Rattle.aiger.specs.Circuit.{Circuit}
 use Rattle.aiger.specs.Load.{Answer, refused, gives}
 use Rattle.aiger.specs.Memory.{Holds}
-use Rattle.aiger.specs.Operations.{HoldsNone, Loaded, Said, refusal, found, none, spent, Searched, Written, Replayed}
+use Rattle.aiger.specs.Operations.{HoldsNone, Loaded, Said, refusal, found, none, spent, Searched, Written, Replayed, Folded}
 use Rattle.roundtrip.specs.Words.{circuitIn}
 use Rattle.search.specs.Chosen.{chosen}
 
@@ -53,4 +53,9 @@ writeCode (refused n) = 2 ^ 32 + n
 pub record WriteCode (m out : List ℕ) (r : ℕ) (out′ : List ℕ) : Type 0 where
   pub answer : Answer ℕ
   pub written : Written m out answer out′
+  pub code : r ≡ writeCode answer
+
+pub record FoldCode (m : List ℕ) (b t : ℕ) (w out : List ℕ) (r : ℕ) (w′ out′ : List ℕ) : Type 0 where
+  pub answer : Answer ℕ
+  pub folded : Folded m b t w out answer w′ out′
   pub code : r ≡ writeCode answer

@@ -1,5 +1,6 @@
 // The public operations for programs in C and Rust: numbers and slices only. A slice is a pointer and a length.
 use circuit::Held;
+use fold::FoldAnswer;
 use load::LoadAnswer;
 use replay::ReplayAnswer;
 use search::SearchAnswer;
@@ -7,7 +8,7 @@ use write::WriteAnswer;
 ghost use mathlib.Core.Path.{_≡_};
 ghost use Rattle.aiger.specs.Operations.{Searched, Written};
 ghost use Rattle.search.specs.Chosen.{chosen};
-ghost use Rattle.service.specs.Codes.{LoadCode, TestCode, SearchCode, ReplayCode, WriteCode};
+ghost use Rattle.service.specs.Codes.{LoadCode, TestCode, SearchCode, ReplayCode, WriteCode, FoldCode};
 
 // Loads a file: 0, and the counts M I L O A B C are words 0 to 6 of circuit memory; or the number of the refusal.
 #[no_mangle]
@@ -71,5 +72,22 @@ pub extern "C" fn yunverok_write(memory: &[u32], out: &mut [u8]) -> u64
     match write::write(memory, out) {
         WriteAnswer::Length(n) => n as u64,
         WriteAnswer::Refused(n) => 0x1_0000_0000 + n as u64,
+    }
+}
+
+// Folds bad line b at frame t: the length of the text, or 2^32 + number for a refusal.
+#[no_mangle]
+pub extern "C" fn yunverok_fold(
+    memory: &[u32],
+    b: u64,
+    t: u64,
+    work: &mut [u32],
+    out: &mut [u8],
+) -> u64
+    ensures { λ r. ⌜ FoldCode (now (memory .entry)) b t (now (work .entry)) (now (out .entry)) r (now (work .exit)) (now (out .exit)) ⌝ }
+{
+    match fold::fold(memory, b, t, work, out) {
+        FoldAnswer::Length(n) => n as u64,
+        FoldAnswer::Refused(n) => 0x1_0000_0000 + n as u64,
     }
 }

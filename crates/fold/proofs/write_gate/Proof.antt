@@ -1,5 +1,4 @@
 -- `fold::write_gate` meets its contract. Assumes nothing.
-use Prim.Native.Nat.{_-_}
 use native.Mathlib.Omega.{arith}
 use Rattle.fold.proofs.Parts.{placed-none}
 use Rattle.fold.proofs.Lines.{gate-line, gate-none, gate-left}

@@ -1,5 +1,4 @@
 -- `fold::write_head` meets its contract. Assumes nothing.
-use Prim.Native.Nat.{_-_}
 use native.Mathlib.Omega.{arith}
 use lib.ListN.{length-set}
 use Rattle.fold.proofs.Parts.{placed-length}
