@@ -184,7 +184,7 @@ static void folds(void)
     static const int sizes[] = {4096, 8192, 16384, 32768, 65536};
     printf("\nfold of frames with more than 12 free bits\n%8s %6s %8s %10s %10s\n", "size", "frame", "gates", "ms", "ns a unit");
     for (int i = 0; i < 5; i++) {
-        int a = 240, t = sizes[i] / (a + 8) - 1, kept = 0;
+        int a = 300, t = sizes[i] / (a + 8) - 1, kept = 0;
         size_t n = sequential(a);
         if (yunverok_load(text, n, memory, 33040)) abort();
         double best = 1e9, size = (t + 1.0) * (a + 8) + 1;
