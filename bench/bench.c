@@ -1,4 +1,5 @@
-/* Times load, the test for number 9 and write per gate, replay, and the search beside a plain C enumeration of 64 sequences a pass. */
+/* Times load, the test for number 9 and write per gate, replay, fold, and the search beside a plain C enumeration of 64 sequences a pass.
+   The arguments are example triggers. */
 #include "yunverok.h"
 #include <stdio.h>
 #include <stdlib.h>
@@ -21,6 +22,8 @@ static uint32_t draw(uint32_t n)
 
 static uint32_t memory[33040];
 static uint8_t text[70000], back[70000];
+static uint32_t work[16 * 65536];
+static uint8_t out[24 * 65536 + 64];
 
 /* A chain of gates as deep as it is long, in file order or reversed. */
 static size_t chain(int gates, int reversed)
@@ -119,7 +122,6 @@ static size_t random_circuit(int a, int free)
 static void searches(void)
 {
     static const int sizes[] = {20, 200, 2000}, bounds[] = {0, 7, 31}, bits[] = {18, 16, 12};
-    static uint32_t work[16 * 65536];
     printf("\nsearch of frames 0 to k, million sequences a second (the best of 5 runs)\n%6s %6s %10s %10s %7s\n", "gates", "bound", "yunverok", "plain C", "ratio");
     for (int i = 0; i < 3; i++)
         for (int j = 0; j < 3; j++) {
@@ -162,51 +164,137 @@ static void replays(void)
     printf("\nreplay of 256 frames of 3,072 gates: %.2f ms\n", best * 1e3);
 }
 
-/* The same random gates over eight inputs and eight latches for each size: only the frame grows. The two seeds are
-   two of twelve that were tried; others grow more. */
-static size_t sequential(int a)
+/* Folds bad line b at frame t of the circuit in memory. The answer is the time in seconds. */
+static double fold(uint64_t b, uint64_t t, int *gates)
+{
+    double start = now();
+    uint64_t s = yunverok_fold(memory, 33040, b, t, work, sizeof work / 4, out, sizeof out);
+    double end = now();
+    if (s >> 32) abort();
+    sscanf((char *)out, "aag %*d %*d %*d %*d %d", gates);
+    return end - start;
+}
+
+/* Random gates over inputs and latches. One operand of each is among the sixty gates before it. */
+static size_t random_gates(int inputs, int latches, int a)
 {
     char *p = (char *)text;
-    p += sprintf(p, "aag %d 8 8 0 %d 1\n", 16 + a, a);
-    for (int i = 0; i < 8; i++) p += sprintf(p, "%d\n", 2 * (i + 1));
-    for (int j = 0; j < 8; j++) p += sprintf(p, "%d %u\n", 2 * (j + 9), 2 * (17 + draw(a)) + draw(2));
-    p += sprintf(p, "%d\n", 2 * (16 + a));
+    uint32_t first = inputs + latches + 1;
+    p += sprintf(p, "aag %d %d %d 0 %d 1\n", inputs + latches + a, inputs, latches, a);
+    for (int i = 0; i < inputs; i++) p += sprintf(p, "%d\n", 2 * (i + 1));
+    for (int j = 0; j < latches; j++) p += sprintf(p, "%d %u\n", 2 * (inputs + j + 1), 2 * (first + draw(a)) + draw(2));
+    p += sprintf(p, "%d\n", 2 * (inputs + latches + a));
     for (int g = 0; g < a; g++) {
-        uint32_t low = g > 60 ? 2 * (17 + g - 60) : 2, lit = 2 * (17 + g);
-        p += sprintf(p, "%u %u %u\n", lit, low + draw(lit - low), 2 + draw(lit - 2));
+        uint32_t low = g > 60 ? 2 * (first + g - 60) : 2, lit = 2 * (first + g), left = low + draw(lit - low), right = 2 + draw(lit - 2);
+        p += sprintf(p, "%u %u %u\n", lit, left, right);
     }
     return p - (char *)text;
 }
 
+/* The same circuits at each size: only the frame grows. Each is folded once in turn, as a user folds it, and the sums of the sixteen
+   times are compared: a small fold that is repeated at once is faster, because the processor has learnt its branches. */
 static void folds(void)
 {
-    static uint32_t work[16 * 65536];
-    static uint8_t out[24 * 65536 + 64];
     static const int sizes[] = {4096, 8192, 16384, 32768, 65536};
-    printf("\nfold of frames with more than 12 free bits\n%8s %6s %8s %10s %10s\n", "size", "frame", "gates", "ms", "ns a unit");
-    for (int k = 0; k < 10; k++) {
-        int i = k % 5, a = 300, t = sizes[i] / (a + 8) - 1, kept = 0;
-        seed = k < 5 ? 4 : 11;
-        size_t n = sequential(a);
-        if (yunverok_load(text, n, memory, 33040)) abort();
-        double best = 1e9, size = (t + 1.0) * (a + 8) + 1;
+    printf("\nfold of frames with more than 12 free bits: 16 circuits of 300 random gates, 8 inputs and 8 latches (the best sum of 5 runs)\n");
+    printf("%8s %6s %10s %10s %10s\n", "size", "frame", "gates", "worst ms", "ns a unit");
+    for (int i = 0; i < 5; i++) {
+        int a = 300, t = sizes[i] / (a + 8) - 1, gates = 0;
+        double best = 1e9, worst = 0, size = (t + 1.0) * (a + 8) + 1;
         for (int r = 0; r < 5; r++) {
-            double b = now();
-            uint64_t s = yunverok_fold(memory, 33040, 0, t, work, sizeof work / 4, out, sizeof out);
-            double c = now();
-            if (s >> 32) abort();
-            if (c - b < best) best = c - b;
-            sscanf((char *)out, "aag %*d %*d %*d %*d %d", &kept);
+            double sum = 0;
+            gates = 0;
+            for (int c = 1; c <= 16; c++) {
+                int kept;
+                seed = c;
+                if (yunverok_load(text, random_gates(8, 8, a), memory, 33040)) abort();
+                double time = fold(0, t, &kept);
+                sum += time;
+                gates += kept;
+                if (time > worst) worst = time;
+            }
+            if (sum < best) best = sum;
         }
-        printf("%8.0f %6d %8d %10.2f %10.1f\n", size, t, kept, best * 1e3, best / size * 1e9);
+        printf("%8.0f %6d %10d %10.2f %10.1f\n", size, t, gates, worst * 1e3, best / size / 16 * 1e9);
     }
 }
 
-int main(void)
+/* Products of random literals of twelve inputs: almost all are false in every pattern, so that many gates have the same signature. */
+static size_t products(int a)
+{
+    char *p = (char *)text;
+    p += sprintf(p, "aag %d 12 0 0 %d 1\n", 12 + a, a);
+    for (int i = 0; i < 12; i++) p += sprintf(p, "%d\n", 2 * (i + 1));
+    p += sprintf(p, "%d\n", 2 * (12 + a));
+    uint32_t order[12], left = 0;
+    for (int g = 0; g < a; g++) {
+        int place = g % 11;
+        if (place == 0) {
+            for (int i = 0; i < 12; i++) order[i] = i + 1;
+            for (int i = 0; i < 12; i++) {
+                int j = i + draw(12 - i);
+                uint32_t v = order[i];
+                order[i] = order[j];
+                order[j] = v;
+            }
+            left = 2 * order[0] + draw(2);
+        }
+        uint32_t right = 2 * order[place + 1] + draw(2);
+        p += sprintf(p, "%d %u %u\n", 2 * (13 + g), left, right);
+        left = 2 * (13 + g);
+    }
+    return p - (char *)text;
+}
+
+static void merges(void)
+{
+    printf("\nfold of 3,072 gates over 12 free bits: the worst of 16 circuits, in milliseconds\n");
+    for (int kind = 0; kind < 2; kind++) {
+        double worst = 0;
+        for (int c = 1; c <= 16; c++) {
+            int kept;
+            seed = c;
+            if (yunverok_load(text, kind ? products(3072) : random_gates(12, 0, 3072), memory, 33040)) abort();
+            double time = fold(0, 0, &kept);
+            if (time > worst) worst = time;
+        }
+        printf("%-24s %10.1f\n", kind ? "products of literals" : "random gates", worst * 1e3);
+    }
+}
+
+/* The example triggers, at the frame of the answer: gates of the unrolled circuit, with those of the conjunction of the bad line and
+   the constraints, and of the folded one. */
+static void triggers(int count, char **names)
+{
+    printf("\nexample triggers\n%-24s %4s %6s %10s %10s %8s %10s\n", "file", "b", "frame", "free bits", "unrolled", "folded", "ms");
+    for (int i = 0; i < count; i++) {
+        FILE *f = fopen(names[i], "r");
+        if (!f) abort();
+        size_t n = fread(text, 1, sizeof text - 1, f);
+        fclose(f);
+        text[n] = 0;
+        unsigned b, k;
+        unsigned long long d;
+        int at, kept, inputs;
+        if (sscanf((char *)text, "search %u %u %llu\n%n", &b, &k, &d, &at) != 3) abort();
+        if (yunverok_load(text + at, n - at, memory, 33040)) abort();
+        uint64_t s = yunverok_search(memory, 33040, b, k, d, work, sizeof work / 4, back, sizeof back);
+        if (s >> 33) abort();
+        uint64_t t = s >> 32 ? k : s;
+        double time = fold(b, t, &kept);
+        sscanf((char *)out, "aag %*d %d", &inputs);
+        char *name = strrchr(names[i], '/');
+        printf("%-24s %4u %6llu %10d %10llu %8d %10.3f\n", name ? name + 1 : names[i], b, (unsigned long long)t, inputs, (unsigned long long)((t + 1) * memory[4] + memory[6]), kept, time * 1e3);
+    }
+}
+
+int main(int argc, char **argv)
 {
     loads();
     replays();
     searches();
     folds();
+    merges();
+    triggers(argc - 1, argv + 1);
     return 0;
 }
