@@ -55,10 +55,14 @@ pub record GateRoom (m : List ℕ) (at count : ℕ) : Type 0 where
   pub left : var (word m (at + 1)) < count
   pub right : var (word m (at + 2)) < count
 
--- in each run, the gate's variable has after the conjunction of its operands before; the other words are as before
-pub record Gated (g : Gate) (before after : List ℕ) : Type 0 where
-  pub result : (p : ℕ) → p < 64 → lane after p (var (g .lit)) ≡ (value (lane before p) (g .left) && value (lane before p) (g .right))
-  pub others : (v : ℕ) → (var (g .lit) ≡ v → ⊥) → getD after v 0 ≡ getD before v 0
+-- the gate's variable has after the conjunction of its operands before; the other variables have the same values
+pub record Computed (g : Gate) (before after : ℕ → Bool) : Type 0 where
+  pub result : after (var (g .lit)) ≡ (value before (g .left) && value before (g .right))
+  pub others : (v : ℕ) → (var (g .lit) ≡ v → ⊥) → after v ≡ before v
+
+-- the same in each run
+abbrev pub Gated : Gate → List ℕ → List ℕ → Type 0
+Gated g before after = (p : ℕ) → p < 64 → Computed g (lane before p) (lane after p)
 
 -- n places below count, no two of them the same
 pub record Apart (place : ℕ → ℕ) (n count : ℕ) : Type 0 where

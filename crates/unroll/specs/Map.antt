@@ -13,7 +13,7 @@ use Rattle.meaning.proofs.Values.{Valuation}
 use Rattle.literals.specs.Literal.{literal}
 use Rattle.literals.specs.declared.Lit.{Lit}
 use Rattle.layout.specs.declared.Layout.{Layout}
-use Rattle.frames.specs.Lanes.{Ready, Leaves, hitIn}
+use Rattle.frames.specs.Lanes.{Ready, Leaves, Computed, hitIn}
 use Rattle.frames.specs.Lanes as lanes
 use Rattle.enumeration.specs.Blocks.{freeBefore}
 use Rattle.nodes.specs.Graph.{edgeValue}
@@ -99,11 +99,6 @@ pub record Grown (n count : ℕ) (work : List ℕ) (g : Graph) (last : List ℕ)
   pub least : g .nodes ≤ h .nodes
   pub most : h .nodes ≤ g .nodes + count
   pub kept : (f : ℕ → Bool) (e : ℕ) → var e < g .nodes → edgeValue n (pairsOf last h) f e ≡ edgeValue n (pairsOf work g) f e
-
--- the gate's variable has after the conjunction of its operands before; the other variables have the same values
-pub record Computed (g : Gate) (before after : ℕ → Bool) : Type 0 where
-  pub result : after (var (g .lit)) ≡ (value before (g .left) && value before (g .right))
-  pub others : (v : ℕ) → (var (g .lit) ≡ v → ⊥) → after v ≡ before v
 
 -- one gate
 pub record GateMapped (gate : Gate) (n : ℕ) (work : List ℕ) (g : Graph) (map last : List ℕ) (h : Graph) (after : List ℕ) : Type 0 where

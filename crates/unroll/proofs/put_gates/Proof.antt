@@ -7,7 +7,7 @@ use Rattle.aiger.specs.Circuit.{Gate}
 use Rattle.roundtrip.specs.Words.{circuitIn}
 use Rattle.frames.specs.Lanes.{GateRoom}
 use Rattle.frames.proofs.Facts.{right, gate-place, gates-are, gates-few, gates-inside, gate-room}
-use Rattle.frames.proofs.Gates.{gateOn}
+use Rattle.frames.proofs.Evaluation.{gateOn}
 use Rattle.unroll.specs.Map.{GateMapped}
 use Rattle.unroll.proofs.Gates.{MadeUpto, made-start, made-extensible, made-more, made-end}
 use borrow.Author.Needs.{needs}
