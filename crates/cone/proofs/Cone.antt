@@ -12,9 +12,8 @@ use lib.Dec.{T, eqb, eqb→eq, eqb-refl}
 use lib.ListN.{length}
 use Rattle.aiger.specs.Circuit.{var}
 use Rattle.aiger.proofs.Tests.{and, and-left, and-right, or-cases, true-T, T-true}
-use Rattle.meaning.proofs.Lists.{or-left, or-right}
+use Rattle.meaning.proofs.Lists.{or-left, or-right, eqb-of}
 use Rattle.nodes.specs.Graph.{Pair, pairAt, nodes, Built}
-use Rattle.cone.proofs.Lists.{eqb-of}
 use Rattle.cone.specs.Cone.{operandOf, marked, inCone, keptBefore, number, Numbered}
 
 -- k is the node of an operand of gate j

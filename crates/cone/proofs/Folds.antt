@@ -6,23 +6,22 @@ use mathlib.Core.Logic.{inl, inr, ⊎-elim}
 use Prim.Native.Nat.{ℕ, zero, suc, _+_, _*_, _≤_, _<_, _^_}
 use native.Mathlib.Omega.{arith}
 use borrow.Author.Tests.{ne-eqb, ltb-false}
-use lib.Dec.{T, leb, ltb, eqb, le→leb, lt→ltb, eqb→eq}
+use lib.Dec.{T, leb, ltb, eqb, le→leb, eqb→eq}
 use lib.ListN.{length, getD}
-use Rattle.aiger.specs.Lists.{every, any, pairwise, everyBelow, member, same, upto}
+use Rattle.aiger.specs.Lists.{every, any, pairwise, everyBelow, member, upto}
 use Rattle.aiger.specs.Circuit.{Circuit, Gate, var}
 use Rattle.aiger.specs.Frames.{freeBits, freeBit}
 use Rattle.aiger.specs.Search.{reaches}
 use Rattle.aiger.specs.Fold.{valueOn, output, shaped, plain, alike, leads, twins, reduced, folds}
 use Rattle.aiger.proofs.Tests.{and, and-left, and-right, or-cases, T-true, not-T, below-at, below-all}
-use Rattle.meaning.proofs.Lists.{or-left, or-right}
+use Rattle.meaning.proofs.Lists.{or-left, or-right, equal-of-beq, eqb-of, every-all, pairwise-all, any-at, length-map-upto, getD-map-upto}
 use Rattle.meaning.proofs.Defined.{noGate, gateAt}
+use Rattle.meaning.proofs.Shape.{shape-in}
 use Rattle.nodes.specs.Graph.{Pair, pairAt, nodes, edgeValue, Built}
-use Rattle.nodes.proofs.Laws.{length-map-upto, getD-map-upto}
 use Rattle.cone.specs.Cone.{inCone, keptBefore, number, Numbered, renumbered, keptGate, folded}
-use Rattle.cone.proofs.Lists.{eqb-of, every-all, pairwise-all, any-at, same-of}
 use Rattle.cone.proofs.Cone.{Operand, root-kept, reason, operand-earlier, before-lt, number-leaf}
-use Rattle.cone.proofs.Gates.{length-folded, renumbered-var, renumbered-same, GateFrom, from-gate, to-gate, from-order, operand-numbered, shape, output-bound}
-use Rattle.cone.proofs.Circuit.{gate-lits}
+use Rattle.cone.proofs.Gates.{length-folded, renumbered-var, renumbered-same, GateFrom, from-gate, to-gate, from-order, operand-numbered, shape}
+use Rattle.cone.proofs.Circuit.{folded-shape}
 use Rattle.cone.proofs.Values.{edge-on, node-on}
 
 beq-of : {a b : Bool} → a ≡ b → T (Bool·beq a b)
@@ -32,49 +31,11 @@ beq-of {a} e = subst (λ (x : Bool). T (Bool·beq a x)) e (beq-refl a)
     beq-refl true = tt
     beq-refl false = tt
 
-equal-of-beq : (a b : Bool) → T (Bool·beq a b) → a ≡ b
-equal-of-beq true true t = refl
-equal-of-beq true false t = absurd t
-equal-of-beq false true t = absurd t
-equal-of-beq false false t = refl
-
 opposite-of-beq : (a b : Bool) → T (not (Bool·beq a b)) → a ≡ not b
 opposite-of-beq true true t = absurd t
 opposite-of-beq true false t = refl
 opposite-of-beq false true t = refl
 opposite-of-beq false false t = absurd t
-
--- the tests of the shape, put together
-shaped-in : (n : ℕ) (d : Circuit) → d .maxVar ≡ n + length (d .gates) → d .inputs ≡ map (λ j. 2 * (j + 1)) (upto n)
-    → length (d .latches) ≡ 0 → length (d .outputs) ≡ 1 → length (d .bads) ≡ 0 → length (d .constraints) ≡ 0 → output d ≤ 2 * d .maxVar + 1
-    → map (λ g. g .lit) (d .gates) ≡ map (λ i. 2 * (n + 1 + i)) (upto (length (d .gates)))
-    → ((i : ℕ) → i < length (d .gates) → (gateAt d i .right < gateAt d i .left) × (gateAt d i .left < gateAt d i .lit)) → T (shaped n d)
-unfolding shaped
-shaped-in n d e1 e2 e3 e4 e5 e6 e7 e8 h =
-    let p : Gate → Bool = λ g. ltb (g .right) (g .left) && ltb (g .left) (g .lit) in
-    let t1 = eqb (d .maxVar) (n + length (d .gates)) in
-    let t2 = same (d .inputs) (map (λ j. 2 * (j + 1)) (upto n)) in
-    let t3 = eqb (length (d .latches)) 0 in
-    let t4 = eqb (length (d .outputs)) 1 in
-    let t5 = eqb (length (d .bads)) 0 in
-    let t6 = eqb (length (d .constraints)) 0 in
-    let t7 = leb (output d) (2 * d .maxVar + 1) in
-    let t8 = same (map (λ g. g .lit) (d .gates)) (map (λ i. 2 * (n + 1 + i)) (upto (length (d .gates)))) in
-    let t9 = every p (d .gates) in
-    and (t1 && t2 && t3 && t4 && t5 && t6 && t7 && t8) t9
-    (and (t1 && t2 && t3 && t4 && t5 && t6 && t7) t8
-    (and (t1 && t2 && t3 && t4 && t5 && t6) t7
-    (and (t1 && t2 && t3 && t4 && t5) t6
-    (and (t1 && t2 && t3 && t4) t5
-    (and (t1 && t2 && t3) t4 (and (t1 && t2) t3 (and t1 t2 (eqb-of e1) (same-of e2)) (eqb-of e3)) (eqb-of e4))
-    (eqb-of e5))
-    (eqb-of e6))
-    (le→leb (output d) (2 * d .maxVar + 1) e7))
-    (same-of e8))
-    (every-all p (d .gates) noGate
-    (λ i l.
-    let g = gateAt d i in
-    and (ltb (g .right) (g .left)) (ltb (g .left) (g .lit)) (lt→ltb (g .right) (g .left) (h i l .0)) (lt→ltb (g .left) (g .lit) (h i l .1))))
 
 plain-in : (g : Gate) → 2 ≤ g .right → var (g .right) < var (g .left) → T (plain g)
 unfolding plain
@@ -101,14 +62,6 @@ module _ (n : ℕ) (gs : List Pair) (root : ℕ) (built : Built n gs) (inside : 
 
   output-var : var (output (folded n gs root)) ≡ number n gs root (var root)
   output-var = ap var output-folded ∙ renumbered-var n gs root root
-
-  -- the circuit has the shape of a fold
-  pub folded-shaped : T (shaped n (folded n gs root))
-  unfolding folded
-  folded-shaped =
-      let l : length (d .gates) ≡ keptBefore n gs root (length gs) = length-folded n gs root in
-      shaped-in n d (omega arith) refl refl refl refl refl (omega (arith, output-bound n gs root built inside)) (gate-lits n gs root built)
-      (λ i h. let s = shape n gs root built i h in (omega (arith, s .larger), omega (arith, s .lit, s .earlier)))
 
   pub folded-plain : T (every plain (folded n gs root .gates))
   folded-plain = every-all plain (d .gates) noGate (λ i h. let s = shape n gs root built i h in plain-in (gateAt d i) (s .nonconstant) (s .larger))
@@ -285,7 +238,7 @@ folded-folds c b t gs root built inside h =
     and (t1 && t2 && t3 && t4 && t5) (everyBelow (2 ^ n) p)
     (and (t1 && t2 && t3 && t4) t5
     (and (t1 && t2 && t3) t4
-    (and (t1 && t2) t3 (and t1 t2 (folded-shaped n gs root built inside) (folded-plain n gs root built inside)) (folded-unlike n gs root built inside))
+    (and (t1 && t2) t3 (and t1 t2 (shape-in n d (folded-shape n gs root built inside)) (folded-plain n gs root built inside)) (folded-unlike n gs root built inside))
     (folded-leads n gs root built inside))
     (small n (reduced d n) (folded-reduced n gs root built inside)))
     (below-all (2 ^ n) p (λ x l. beq-of (folded-output n gs root built inside x ∙ h x l)))

@@ -1,5 +1,4 @@
 -- The laws of cones and of the circuits that they make. Assumes nothing.
-pub mod Lists
 pub mod Cone
 pub mod Gates
 pub mod Circuit

@@ -14,14 +14,16 @@ use Rattle.aiger.specs.Bits.{nonzero, odd}
 use Rattle.aiger.specs.Circuit.{Gate, var}
 use Rattle.aiger.specs.Frames.{value, frame, state, valueAt, freeBit}
 use Rattle.aiger.specs.Fold.{valueOn}
+use Rattle.meaning.proofs.Lists.{length-map-upto, getD-map-upto}
 use Rattle.meaning.proofs.Defined.{inputAt}
 use Rattle.meaning.proofs.Values.{Valuation, frame-valuation}
+use Rattle.meaning.proofs.Shape.{shape-right, shape-acyclic}
 use Rattle.nodes.specs.Graph.{Pair, pairAt, nodes, nodeValues, edgeIn, edgeValue, Built}
-use Rattle.nodes.proofs.Laws.{length-map-upto, getD-map-upto, edge-node, edge-gate, node-constant, node-free}
+use Rattle.nodes.proofs.Laws.{edge-node, edge-gate, node-constant, node-free}
 use Rattle.cone.specs.Cone.{inCone, keptBefore, number, Numbered, renumbered, keptGate, folded}
 use Rattle.cone.proofs.Cone.{operand-earlier, before-lt, number-leaf}
 use Rattle.cone.proofs.Gates.{length-folded, renumbered-var, renumbered-sign, from-gate, operand-numbered}
-use Rattle.cone.proofs.Circuit.{folded-right, folded-acyclic}
+use Rattle.cone.proofs.Circuit.{folded-shape}
 
 module _ (n : ℕ) (gs : List Pair) (root : ℕ) where
   input-lit : (j : ℕ) → j < n → inputAt (folded n gs root) j ≡ 2 * (j + 1)
@@ -49,7 +51,9 @@ module _ (n : ℕ) (gs : List Pair) (root : ℕ) where
     vs = nodeValues n gs f
 
     valuation : Valuation (folded n gs root) row [] w
-    valuation = frame-valuation (folded n gs root) (folded-right n gs root built inside) (folded-acyclic n gs root built) [] row
+    valuation =
+        let s = folded-shape n gs root built inside in
+        frame-valuation (folded n gs root) (shape-right s) (shape-acyclic s) [] row
 
     leaf-value : (k : ℕ) → k ≤ n → w (number n gs root k) ≡ getD vs k false
     leaf-value zero h = ap w (number-leaf n gs root 0 h) ∙ valuation .constant ∙ sym (node-constant n gs f)

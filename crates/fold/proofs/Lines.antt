@@ -14,10 +14,11 @@ use Rattle.aiger.specs.Text.{bytes, digits}
 use Rattle.aiger.specs.Circuit.{Gate, var}
 use Rattle.aiger.specs.Write.{lineOf, linesOf, literalRow, gateRow, write}
 use Rattle.aiger.proofs.Tests.{true-T, T-true}
+use Rattle.meaning.proofs.Lists.{map-upto-suc, length-map-upto}
 use Rattle.nodes.specs.Graph.{Pair, pairAt, nodes}
 use Rattle.nodes.specs.Store.{field, pairsOf}
 use Rattle.nodes.specs.declared.Graph.{Graph}
-use Rattle.nodes.proofs.Laws.{map-upto-suc, length-map-upto, length-pairsOf, nodes-pairsOf, pairAt-pairsOf, pairIn}
+use Rattle.nodes.proofs.Laws.{length-pairsOf, nodes-pairsOf, pairAt-pairsOf, pairIn}
 use Rattle.cone.specs.Cone.{inCone, keptBefore, number, Numbered, renumbered, keptGate, keptGates, folded}
 use Rattle.cone.proofs.Cone.{root-kept, number-gate, number-bound, before-bound}
 use Rattle.cone.proofs.Gates.{length-gates, operand-numbered}

@@ -5,3 +5,4 @@ pub mod Values
 pub mod Outcomes
 pub mod Bits
 pub mod Sequences
+pub mod Shape

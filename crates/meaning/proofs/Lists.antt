@@ -1,16 +1,16 @@
--- Laws of lists: elements by position and by membership, and an element that stands twice. Assumes nothing.
-use mathlib.Core.Path.{_≡_, refl, sym, ap, _∙_, subst}
-use mathlib.Core.Bool.{Bool, true, false, _&&_, _||_}
-use mathlib.Core.List.{List, [], _∷_, map, List·Memᴰ, List·Memᴰ·head, List·Memᴰ·tail, List·Memᴰ·not-nil, List·Memᴰ·cases-cons, Memᴰ·cast}
+-- Laws of lists: elements by position and by membership, tests by position, and an element that stands twice. Assumes nothing.
+use mathlib.Core.Path.{_≡_, refl, sym, ap, ap₂, _∙_, subst}
+use mathlib.Core.Bool.{Bool, true, false, _&&_, _||_, Bool·beq}
+use mathlib.Core.List.{List, [], _∷_, _++_, map, List·Memᴰ, List·Memᴰ·head, List·Memᴰ·tail, List·Memᴰ·not-nil, List·Memᴰ·cases-cons, Memᴰ·cast}
 use mathlib.Core.Logic.{_⊎_, inl, inr, ⊎-elim}
 use Prim.Native.Nat.{ℕ, zero, suc, _+_, _≤_, _<_}
 use native.Mathlib.Nat.{not-suc-le-zero, le-of-suc-le-suc}
 use native.Mathlib.Decide.{ℕ-discrete}
 use native.Mathlib.Omega.{arith}
-use lib.Dec.{T, eqb, eqb→eq}
-use lib.ListN.{length, getD}
-use Rattle.aiger.specs.Lists.{every, pairwise, member, from, upto}
-use Rattle.aiger.proofs.Tests.{and-left, and-right, or-cases}
+use lib.Dec.{T, eqb, eqb→eq, eqb-refl}
+use lib.ListN.{length, getD, length-map}
+use Rattle.aiger.specs.Lists.{every, any, pairwise, member, same, from, upto}
+use Rattle.aiger.proofs.Tests.{and, and-left, and-right, or-cases}
 
 -- a list's element at a position is in the list
 pub mem-getD : {A : Type 0} (xs : List A) (i : ℕ) (d : A) → i < length xs → List·Memᴰ (getD xs i d) xs
@@ -55,6 +55,32 @@ from-in (suc n) i j h l = elim (ℕ-discrete j i) [ yes e ↦ List·Memᴰ·head
 pub upto-in : (n j : ℕ) → j < n → List·Memᴰ j (upto n)
 upto-in n j h = from-in n 0 j (omega arith) (omega arith)
 
+map-from-eq : {A : Type 0} (f h : ℕ → A) (i n : ℕ) → ((j : ℕ) → i ≤ j → j < i + n → f j ≡ h j) → map f (from i n) ≡ map h (from i n)
+map-from-eq f h i zero e = refl
+map-from-eq f h i (suc n) e = ap₂ _∷_ (e i (omega arith) (omega arith)) (map-from-eq f h (suc i) n (λ j l u. e j (omega arith) (omega arith)))
+
+-- lists over the numbers below n are equal where their elements are
+pub map-upto-eq : {A : Type 0} (f h : ℕ → A) (n : ℕ) → ((j : ℕ) → j < n → f j ≡ h j) → map f (upto n) ≡ map h (upto n)
+map-upto-eq f h n e = map-from-eq f h 0 n (λ j l u. e j (omega arith))
+
+map-from-suc : {A : Type 0} (f : ℕ → A) (i n : ℕ) → map f (from i (suc n)) ≡ map f (from i n) ++ (f (i + n) ∷ [])
+map-from-suc f i zero = let e : i ≡ i + 0 = omega arith in ap (λ (j : ℕ). f j ∷ []) e
+map-from-suc f i (suc n) =
+    let e : suc i + n ≡ i + suc n = omega arith in
+    ap (λ l. f i ∷ l) (map-from-suc f (suc i) n ∙ ap (λ (j : ℕ). map f (from (suc i) n) ++ (f j ∷ [])) e)
+
+-- one number more
+pub map-upto-suc : {A : Type 0} (f : ℕ → A) (n : ℕ) → map f (upto (suc n)) ≡ map f (upto n) ++ (f n ∷ [])
+map-upto-suc f n = let e : 0 + n ≡ n = omega arith in map-from-suc f 0 n ∙ ap (λ (j : ℕ). map f (upto n) ++ (f j ∷ [])) e
+
+-- the values of f at the numbers below n
+pub length-map-upto : {A : Type 0} (f : ℕ → A) (n : ℕ) → length (map f (upto n)) ≡ n
+length-map-upto f n = length-map (upto n) f ∙ length-from 0 n
+
+pub getD-map-upto : {A : Type 0} (f : ℕ → A) (n j : ℕ) (d : A) → j < n → getD (map f (upto n)) j d ≡ f j
+getD-map-upto f n j d h =
+    getD-map f (upto n) j 0 d (let e = length-from 0 n in omega arith) ∙ ap f (getD-upto n j 0 h)
+
 -- ---- tests
 
 pub every-mem : {A : Type 0} (p : A → Bool) {x : A} {xs : List A} → List·Memᴰ x xs → T (every p xs) → T (p x)
@@ -71,6 +97,13 @@ or-left false b t = absurd t
 pub or-right : (a b : Bool) → T b → T (a || b)
 or-right true b t = tt
 or-right false b t = t
+
+-- truth values that the test says are equal
+pub equal-of-beq : (a b : Bool) → T (Bool·beq a b) → a ≡ b
+equal-of-beq true true t = refl
+equal-of-beq true false t = absurd t
+equal-of-beq false true t = absurd t
+equal-of-beq false false t = refl
 
 -- a test holds if it holds where it does not hold
 pub by-contradiction : (b : Bool) → ((T b → ⊥) → T b) → T b
@@ -99,6 +132,54 @@ pub member-mem : (x : ℕ) (xs : List ℕ) → T (member x xs) → List·Memᴰ 
 member-mem x [] t = absurd t
 member-mem x (y ∷ ys) t =
     ⊎-elim (λ e. List·Memᴰ·head (eqb→eq x y e)) (λ m. List·Memᴰ·tail (member-mem x ys m)) (or-cases (eqb x y) (member x ys) t)
+
+-- ---- tests that hold because they hold at every position
+
+pub eqb-of : {a b : ℕ} → a ≡ b → T (eqb a b)
+eqb-of {a} e = subst (λ (x : ℕ). T (eqb a x)) e (eqb-refl a)
+
+pub every-all : {A : Type 0} (p : A → Bool) (xs : List A) (d : A) → ((i : ℕ) → i < length xs → T (p (getD xs i d))) → T (every p xs)
+every-all p [] d h = tt
+every-all p (x ∷ xs) d h = and (p x) (every p xs) (h 0 (omega arith)) (every-all p xs d (λ i l. h (suc i) (omega arith)))
+
+pub pairwise-all : {A : Type 0} (p : A → A → Bool) (xs : List A) (d : A) → ((i j : ℕ) → i < j → j < length xs → T (p (getD xs i d) (getD xs j d)))
+    → T (pairwise p xs)
+pairwise-all p [] d h = tt
+pairwise-all p (x ∷ xs) d h =
+    and (every (p x) xs) (pairwise p xs) (every-all (p x) xs d (λ j l. h 0 (suc j) (omega arith) (omega arith)))
+    (pairwise-all p xs d (λ i j k l. h (suc i) (suc j) (omega arith) (omega arith)))
+
+pub any-at : {A : Type 0} (p : A → Bool) (xs : List A) (i : ℕ) (d : A) → i < length xs → T (p (getD xs i d)) → T (any p xs)
+any-at p [] i d h t = absurd (not-suc-le-zero h)
+any-at p (x ∷ xs) zero d h t = or-left (p x) (any p xs) t
+any-at p (x ∷ xs) (suc i) d h t = or-right (p x) (any p xs) (any-at p xs i d (le-of-suc-le-suc h) t)
+
+pub every-both : {A : Type 0} (p : A → Bool) (xs ys : List A) → T (every p xs) → T (every p ys) → T (every p (xs ++ ys))
+every-both p [] ys s t = t
+every-both p (x ∷ xs) ys s t =
+    and (p x) (every p (xs ++ ys)) (and-left (p x) (every p xs) s) (every-both p xs ys (and-right (p x) (every p xs) s) t)
+
+pub every-mapped : {A B : Type 0} (p : B → Bool) (f : A → B) (xs : List A) → T (every (λ x. p (f x)) xs) → T (every p (map f xs))
+every-mapped p f [] t = tt
+every-mapped p f (x ∷ xs) t =
+    and (p (f x)) (every p (map f xs)) (and-left (p (f x)) (every (λ y. p (f y)) xs) t) (every-mapped p f xs (and-right (p (f x)) (every (λ y. p (f y)) xs) t))
+
+same-refl : (xs : List ℕ) → T (same xs xs)
+same-refl [] = tt
+same-refl (x ∷ xs) = and (eqb x x) (same xs xs) (eqb-refl x) (same-refl xs)
+
+pub same-eq : (xs ys : List ℕ) → T (same xs ys) → xs ≡ ys
+same-eq [] [] t = refl
+same-eq [] (y ∷ ys) t = absurd t
+same-eq (x ∷ xs) [] t = absurd t
+same-eq (x ∷ xs) (y ∷ ys) t = ap₂ _∷_ (eqb→eq x y (and-left (eqb x y) (same xs ys) t)) (same-eq xs ys (and-right (eqb x y) (same xs ys) t))
+
+pub same-of : {xs ys : List ℕ} → xs ≡ ys → T (same xs ys)
+same-of {xs} e = subst (λ (l : List ℕ). T (same xs l)) e (same-refl xs)
+
+pub mem-member : {x : ℕ} {xs : List ℕ} → List·Memᴰ x xs → T (member x xs)
+mem-member {x} (List·Memᴰ·head {x = y} {xs = ys} e) = or-left (eqb x y) (member x ys) (eqb-of e)
+mem-member {x} (List·Memᴰ·tail {x = y} {xs = ys} m) = or-right (eqb x y) (member x ys) (mem-member m)
 
 -- ---- an element that stands twice
 

@@ -1,7 +1,7 @@
 -- Sequences and runs: the run of a sequence bit by bit, and that the runs of sequences are all runs. Assumes nothing.
 use mathlib.Core.Path.{_≡_, refl, sym, ap, ap₂, _∙_, subst}
 use mathlib.Core.Bool.{Bool, true, false, cond, _||_}
-use mathlib.Core.List.{List, [], _∷_, _++_, map}
+use mathlib.Core.List.{List, [], _∷_, _++_}
 use mathlib.Core.Logic.{_⊎_, ⊎-elim}
 use Prim.Native.Nat.{ℕ, zero, suc, _+_, _-_, _*_, _/_, _%_, _^_, _≤_, _<_}
 use native.Mathlib.Nat.{not-suc-le-zero, le-of-suc-le-suc, mul-suc, div-add-mod, mod-lt, div-lt-iff-lt-mul, mul-comm, mul-le-mul-left, zero-add}
@@ -9,22 +9,16 @@ use native.Mathlib.Decide.{decLt}
 use native.Mathlib.Omega.{arith}
 use borrow.Author.Tests.{eq-eqb, ne-eqb}
 use lib.Dec.{T, leb, eqb, leb→le, eqb→eq}
-use lib.ListN.{length, getD, take, length-append, length-map, List·getD-append}
+use lib.ListN.{length, getD, take, length-append, List·getD-append}
 use lib.Seq.{getD-append-add, ext-getD}
-use Rattle.aiger.specs.Lists.{every, tally, upto}
+use Rattle.aiger.specs.Lists.{every, tally}
 use Rattle.aiger.specs.Circuit.{Circuit, Latch, literalTests, literalsRight}
 use Rattle.aiger.specs.Frames.{Run, isFree, freeStarts, freeBits, freeBit, starts, run}
 use Rattle.aiger.specs.Witness.{agrees}
 use Rattle.aiger.proofs.Tests.{and, and-left, and-right, T-true, all-at, or-cases}
-use Rattle.meaning.proofs.Lists.{or-left, or-right, getD-map, length-from, getD-upto}
+use Rattle.meaning.proofs.Lists.{or-left, or-right, length-map-upto, getD-map-upto}
 use Rattle.meaning.proofs.Defined.{noLatch, latchAt}
 use Rattle.meaning.proofs.Bits.{sequence-same, sequence-of}
-
-getD-map-upto : {A : Type 0} (f : ℕ → A) (n u : ℕ) (d : A) → u < n → getD (map f (upto n)) u d ≡ f u
-getD-map-upto f n u d h = getD-map f (upto n) u 0 d (rw (length-from 0 n) h) ∙ ap f (getD-upto n u 0 h)
-
-length-map-upto : {A : Type 0} (f : ℕ → A) (n : ℕ) → length (map f (upto n)) ≡ n
-length-map-upto f n = length-map (upto n) f ∙ length-from 0 n
 
 -- ---- the start
 

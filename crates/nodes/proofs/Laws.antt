@@ -4,12 +4,12 @@ use mathlib.Core.Bool.{Bool, true, false, not, cond, _&&_}
 use mathlib.Core.List.{List, [], _∷_, _++_, map, append-assoc}
 use Prim.Native.Nat.{ℕ, zero, suc, _+_, _-_, _*_, _/_, _%_, _≤_, _<_}
 use native.Mathlib.Omega.{arith}
-use lib.ListN.{length, getD, take, drop, length-map, length-append, List·getD-append}
+use lib.ListN.{length, getD, take, drop, length-append, List·getD-append}
 use lib.Seq.{getD-at, split-at, length-take-le}
-use Rattle.aiger.specs.Lists.{from, upto}
+use Rattle.aiger.specs.Lists.{upto}
 use Rattle.aiger.specs.Bits.{nonzero}
 use Rattle.aiger.specs.Circuit.{var}
-use Rattle.meaning.proofs.Lists.{getD-map, length-from, getD-upto}
+use Rattle.meaning.proofs.Lists.{map-upto-eq, map-upto-suc, length-map-upto, getD-map-upto}
 use Rattle.meaning.proofs.Values.{value-even, value-eq, value-complement}
 use Rattle.nodes.specs.Graph.{Pair, leaves, edgeIn, grown, nodeValues, edgeValue, nodes, noPair, pairAt, Extends, same, more}
 use Rattle.nodes.specs.Graph as graph
@@ -17,33 +17,6 @@ use Rattle.nodes.specs.Store.{field, pairsOf, oneMore}
 use Rattle.nodes.specs.Edges.{wordEdge, edgeWord, opposite}
 use Rattle.nodes.specs.declared.Graph.{Graph}
 use Rattle.nodes.specs.declared.Edge.{Edge}
-
--- ---- lists
-
-map-from-eq : {A : Type 0} (f h : ℕ → A) (i n : ℕ) → ((j : ℕ) → i ≤ j → j < i + n → f j ≡ h j) → map f (from i n) ≡ map h (from i n)
-map-from-eq f h i zero e = refl
-map-from-eq f h i (suc n) e = ap₂ _∷_ (e i (omega arith) (omega arith)) (map-from-eq f h (suc i) n (λ j l u. e j (omega arith) (omega arith)))
-
--- lists over the numbers below n are equal where their elements are
-pub map-upto-eq : {A : Type 0} (f h : ℕ → A) (n : ℕ) → ((j : ℕ) → j < n → f j ≡ h j) → map f (upto n) ≡ map h (upto n)
-map-upto-eq f h n e = map-from-eq f h 0 n (λ j l u. e j (omega arith))
-
-map-from-suc : {A : Type 0} (f : ℕ → A) (i n : ℕ) → map f (from i (suc n)) ≡ map f (from i n) ++ (f (i + n) ∷ [])
-map-from-suc f i zero = let e : i ≡ i + 0 = omega arith in ap (λ (j : ℕ). f j ∷ []) e
-map-from-suc f i (suc n) =
-    let e : suc i + n ≡ i + suc n = omega arith in
-    ap (λ l. f i ∷ l) (map-from-suc f (suc i) n ∙ ap (λ (j : ℕ). map f (from (suc i) n) ++ (f j ∷ [])) e)
-
--- one number more
-pub map-upto-suc : {A : Type 0} (f : ℕ → A) (n : ℕ) → map f (upto (suc n)) ≡ map f (upto n) ++ (f n ∷ [])
-map-upto-suc f n = let e : 0 + n ≡ n = omega arith in map-from-suc f 0 n ∙ ap (λ (j : ℕ). map f (upto n) ++ (f j ∷ [])) e
-
-pub length-map-upto : {A : Type 0} (f : ℕ → A) (n : ℕ) → length (map f (upto n)) ≡ n
-length-map-upto f n = length-map (upto n) f ∙ length-from 0 n
-
-pub getD-map-upto : {A : Type 0} (f : ℕ → A) (n j : ℕ) (d : A) → j < n → getD (map f (upto n)) j d ≡ f j
-getD-map-upto f n j d h =
-    getD-map f (upto n) j 0 d (let e = length-from 0 n in omega arith) ∙ ap f (getD-upto n j 0 h)
 
 -- ---- values
 

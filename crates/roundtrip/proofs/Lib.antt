@@ -6,3 +6,4 @@ pub mod Content
 pub mod Holding
 pub mod Witness
 pub mod Determined
+pub mod Folds

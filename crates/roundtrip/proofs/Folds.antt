@@ -1,0 +1,145 @@
+-- What fold writes, load accepts wherever it is within load's limits, and the output of the circuit that it gives is the hit. This holds of
+-- every circuit that fold may write. Assumes nothing.
+use mathlib.Core.Path.{_≡_, refl, ap, _∙_}
+use mathlib.Core.Bool.{Bool, true, _&&_, _||_, not, Bool·beq}
+use mathlib.Core.List.{List, _∷_}
+use Prim.Native.Nat.{ℕ, _+_, _≤_, _<_, _^_}
+use native.Mathlib.Omega.{arith}
+use borrow.Author.Tests.{le-leb}
+use lib.Dec.{T, ltb}
+use lib.ListN.{length, take, drop}
+use lib.Seq.{take-at}
+use Rattle.aiger.specs.Lists.{every, pairwise, everyBelow}
+use Rattle.aiger.specs.Circuit.{Circuit, var, literalsRight, usedDefined, acyclic}
+use Rattle.aiger.specs.File.{headerOf, countsFit}
+use Rattle.aiger.specs.Load.{Answer, gives, load, needed}
+use Rattle.aiger.specs.Write.{countRow, write}
+use Rattle.aiger.specs.Frames.{valueAt, freeBits, run}
+use Rattle.aiger.specs.Search.{reaches}
+use Rattle.aiger.specs.Memory.{Holds}
+use Rattle.aiger.specs.Fold.{valueOn, output, shaped, plain, alike, leads, reduced, folds}
+use Rattle.aiger.specs.Operations.{Loaded, Folded}
+use Rattle.aiger.proofs.Tests.{and-left, and-right, true-T, below-at}
+use Rattle.meaning.proofs.Lists.{equal-of-beq}
+use Rattle.meaning.proofs.Shape.{FoldShape, shape-out, shape-right, shape-defined, shape-acyclic, input-count, shape-bits, shape-values}
+use Rattle.roundtrip.proofs.LoadWrite.{Valid, counts-fit, load-write}
+use Rattle.roundtrip.proofs.LoadValid.{load-valid, gives-same}
+use Rattle.roundtrip.proofs.Holding.{loaded-holds}
+use Rattle.roundtrip.proofs.Determined.{loaded-same}
+
+-- load's limits for a fold d of frame t of c, and a circuit memory of `room` words. The other limits follow: M is I + A, O is 1, L, B and C
+-- are 0, and the text has at most 65,536 bytes.
+pub record Loadable (room : ℕ) (c : Circuit) (t : ℕ) (d : Circuit) : Type 0 where
+  pub inputs : freeBits c t ≤ 256
+  pub gates : length (d .gates) ≤ 3072
+  pub words : needed (d .maxVar) ≤ room
+
+module _ (c : Circuit) (b t : ℕ) (d : Circuit) (f : T (folds c b t d)) where
+  parts : FoldShape (freeBits c t) d × ((x : ℕ) → x < 2 ^ freeBits c t → valueOn d (freeBits c t) x (output d) ≡ reaches c b t x)
+  unfolding folds
+  parts =
+      let n = freeBits c t in
+      let t1 = shaped n d in
+      let t2 = every plain (d .gates) in
+      let t3 = pairwise (λ g h. not (alike g h)) (d .gates) in
+      let t4 = every (λ g. leads d (length (d .gates)) (var (g .lit))) (d .gates) in
+      let t5 = ltb 12 n || reduced d n in
+      let p : ℕ → Bool = λ x. Bool·beq (valueOn d n x (output d)) (reaches c b t x) in
+      let rules = and-left (t1 && t2 && t3 && t4 && t5) (everyBelow (2 ^ n) p) f in
+      let values = and-right (t1 && t2 && t3 && t4 && t5) (everyBelow (2 ^ n) p) f in (
+        shape-out n d (and-left t1 t2 (and-left (t1 && t2) t3 (and-left (t1 && t2 && t3) t4 (and-left (t1 && t2 && t3 && t4) t5 rules)))),
+        λ x h. equal-of-beq (valueOn d n x (output d)) (reaches c b t x) (below-at (2 ^ n) p values x h),
+      )
+
+  fold-shape : FoldShape (freeBits c t) d
+  fold-shape = parts .0
+
+  -- the output has, under every sequence, the value of the hit
+  pub folded-output : (x : ℕ) → x < 2 ^ freeBits c t → valueOn d (freeBits c t) x (output d) ≡ reaches c b t x
+  folded-output = parts .1
+
+  -- the same in frame 0 of the circuit itself, whose sequences have as many free bits
+  pub folded-bits : freeBits d 0 ≡ freeBits c t
+  folded-bits = shape-bits fold-shape
+
+  pub folded-frame : (x : ℕ) → x < 2 ^ freeBits c t → valueAt d (run d 0 x) 0 (output d) ≡ reaches c b t x
+  folded-frame x h = shape-values fold-shape x (output d) ∙ folded-output x h
+
+  fold-counts : freeBits c t ≤ 256 → length (d .gates) ≤ 3072 → countsFit (headerOf d) ≡ true
+  unfolding countsFit
+  fold-counts h k =
+      let s = fold-shape in
+      let i : length (d .inputs) ≡ freeBits c t = input-count s in
+      let l : length (d .latches) ≡ 0 = ap length (s .latches) in
+      let o : length (d .outputs) ≡ 1 = ap length (s .outputs) in
+      let z : length (d .bads) ≡ 0 = ap length (s .bads) in
+      let q : length (d .constraints) ≡ 0 = ap length (s .constraints) in
+      simp (
+        le-leb (d .maxVar) 4096 (omega (arith, s .top)),
+        le-leb (length (d .inputs)) 256 (omega arith),
+        le-leb (length (d .latches)) 1024 (omega arith),
+        le-leb (length (d .outputs)) 64 (omega arith),
+        le-leb (length (d .gates)) 3072 k,
+        le-leb (length (d .bads)) 16 (omega arith),
+        le-leb (length (d .constraints)) 16 (omega arith),
+        le-leb (length (d .inputs) + length (d .latches) + length (d .gates)) (d .maxVar) (omega (arith, s .top)),
+      )
+
+  module _ {room : ℕ} where
+    fold-valid : Loadable room c t d → Valid room d
+    fold-valid l =
+        let s = fold-shape in
+        record {
+          fit = fold-counts (l .inputs) (l .gates);
+          held = l .words;
+          literals = true-T (literalsRight d) (shape-right s);
+          uses = true-T (usedDefined d) (shape-defined s);
+          order = true-T (acyclic d) (shape-acyclic s);
+        }
+
+    -- within the limits, and only there, load gives the circuit back
+    pub folded-loads : Loadable room c t d → load room (write d) ≡ gives d
+    folded-loads l = load-write (fold-valid l)
+
+    pub folded-limits : load room (write d) ≡ gives d → Loadable room c t d
+    folded-limits e =
+        let v = load-valid (write d) e in
+        let k = counts-fit d (v .fit) in
+        record { inputs = omega (arith, k .inputs, input-count fold-shape); gates = k .gates; words = v .held }
+
+-- what holds of the text that fold wrote for bad line b and frame t of the circuit that memory m holds
+pub record Reloads (m : List ℕ) (b t : ℕ) (text : List ℕ) : Type 0 where
+  pub c : Circuit
+  pub d : Circuit
+  pub held : Holds m c
+  pub permitted : T (folds c b t d)
+  pub text-is : text ≡ write d
+  pub loads : (room : ℕ) → Loadable room c t d → load room text ≡ gives d
+  pub hit : (x : ℕ) → x < 2 ^ freeBits c t → valueOn d (freeBits c t) x (output d) ≡ reaches c b t x
+
+reloads : {m w out w′ out′ : List ℕ} {b t n : ℕ} {a : Answer ℕ} → Folded m b t w out a w′ out′ → a ≡ gives n → Reloads m b t (take n out′)
+reloads (Folded.noCircuit h) q = let z : _≡_ {A = ℕ} 0 1 = cc in absurd (omega arith)
+reloads (Folded.refuses c h e) q = let z : _≡_ {A = ℕ} 0 1 = cc in absurd (omega arith)
+reloads {out = out} {b = b} {t = t} (Folded.writes c d h e f) q =
+    let s = take-at (write d) (drop (length (write d)) out) _ (gives-same q) in
+    record {
+      c = c;
+      d = d;
+      held = h;
+      permitted = f;
+      text-is = s;
+      loads = λ room l. rw s (folded-loads c b t d f l);
+      hit = folded-output c b t d f;
+    }
+
+-- a folded text loads wherever it is within load's limits, and its output is the hit
+pub folded-reloads : {m w out w′ out′ : List ℕ} {b t n : ℕ} → Folded m b t w out (gives n) w′ out′ → Reloads m b t (take n out′)
+folded-reloads f = reloads f refl
+
+-- so the operation load answers its counts and leaves a memory that holds the folded circuit
+pub reloads-loaded : {m text m₂ m₂′ : List ℕ} {b t : ℕ} {a : Answer (List ℕ)} (r : Reloads m b t text) → Loadable (length m₂) (r .c) t (r .d)
+    → Loaded m₂ text a m₂′ → (a ≡ gives (r .d .maxVar ∷ countRow (r .d))) × Holds m₂′ (r .d)
+reloads-loaded {text = text} {m₂ = m₂} r l k =
+    let e = r .loads (length m₂) l in
+    let s = loaded-same k (Loaded.stores (r .d) e) in
+    (s .0, rw (s .1) (loaded-holds m₂ text e))
