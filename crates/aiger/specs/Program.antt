@@ -39,12 +39,14 @@ unfoldable pub refusalLine : ℕ → List ℕ
 refusalLine n = bytes "refused " ++ digits n ++ bytes "\n"
 
 -- what may be printed: "65,536 bytes in all (more: 1, judged first; a malformed first line: 11, before loading)".
--- "It lends 8,192 words of circuit memory and 8,192 words of working memory" and "2,048 output bytes"
-pub data Prints (input : List ℕ) : List ℕ → Type 0 where
-  tooLong : 65536 < length input → Prints input (refusalLine 1)
-  noRequest : length input ≤ 65536 → request input ≡ none → Prints input (refusalLine 11)
-  notLoaded : length input ≤ 65536 → (q : Request) → request input ≡ some q → {n : ℕ} → load 8192 (q .file) ≡ refused n → Prints input (refusalLine n)
+-- "It lends 8,192 words of circuit memory and 8,192 words of working memory" and "2,048 output bytes". Where several outcomes are
+-- permitted, `chosen` is the program's choice
+pub data Prints (chosen : Circuit → ℕ → ℕ → ℕ → Outcome) (input : List ℕ) : List ℕ → Type 0 where
+  tooLong : 65536 < length input → Prints chosen input (refusalLine 1)
+  noRequest : length input ≤ 65536 → request input ≡ none → Prints chosen input (refusalLine 11)
+  notLoaded : length input ≤ 65536 → (q : Request) → request input ≡ some q → {n : ℕ} → load 8192 (q .file) ≡ refused n → Prints chosen input (refusalLine n)
   notSearched : length input ≤ 65536 → (q : Request) → request input ≡ some q → (c : Circuit) → load 8192 (q .file) ≡ gives c
-      → {n : ℕ} → searchTests c (q .b) (q .k) (q .D) 8192 2048 ≡ refused n → Prints input (refusalLine n)
+      → {n : ℕ} → searchTests c (q .b) (q .k) (q .D) 8192 2048 ≡ refused n → Prints chosen input (refusalLine n)
   answers : length input ≤ 65536 → (q : Request) → request input ≡ some q → (c : Circuit) → load 8192 (q .file) ≡ gives c
-      → searchTests c (q .b) (q .k) (q .D) 8192 2048 ≡ gives tt → (o : Outcome) → T (permitted c (q .b) (q .k) (q .D) o) → Prints input (report c (q .b) o)
+      → searchTests c (q .b) (q .k) (q .D) 8192 2048 ≡ gives tt → (o : Outcome) → chosen c (q .b) (q .k) (q .D) ≡ o → T (permitted c (q .b) (q .k) (q .D) o)
+      → Prints chosen input (report c (q .b) o)

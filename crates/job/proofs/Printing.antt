@@ -16,6 +16,7 @@ use Rattle.roundtrip.proofs.Holding.{held, loaded-holds}
 use Rattle.job.specs.declared.Query.{Query}
 use Rattle.job.specs.declared.Report.{Report}
 use Rattle.job.specs.Query.{requestOf}
+use Rattle.search.specs.Chosen.{chosen}
 use Rattle.job.specs.Replies.{Refuses, Printed, Replies}
 use Rattle.job.proofs.Replying.{alone}
 
@@ -42,30 +43,30 @@ pub stored-in : {m f m′ : List ℕ} → Stored m f m′ → Holds m′ (circui
 stored-in {m′ = m′} s = subst (Holds m′) (sym (held (s .holds))) (s .holds)
 
 module _ (input : List ℕ) where
-  refused-text : {line : List ℕ} (out : List ℕ) {n : ℕ} {r : Report} → Refuses line n r → Prints input (refusalLine n)
-      → Prints input (take (r .line) line ++ take (r .witness) out)
+  refused-text : {line : List ℕ} (out : List ℕ) {n : ℕ} {r : Report} → Refuses line n r → Prints chosen input (refusalLine n)
+      → Prints chosen input (take (r .line) line ++ take (r .witness) out)
   refused-text out f p = rw (alone out (f .line-is) (f .no-witness)) p
 
   pub too-long : 65536 < length input → {line : List ℕ} (out : List ℕ) {r : Report} → Refuses line 1 r
-      → Prints input (take (r .line) line ++ take (r .witness) out)
+      → Prints chosen input (take (r .line) line ++ take (r .witness) out)
   too-long h out f = refused-text out f (Prints.tooLong h)
 
   module _ (h : length input ≤ 65536) where
     pub no-request : request input ≡ none → {line : List ℕ} (out : List ℕ) {r : Report} → Refuses line 11 r
-        → Prints input (take (r .line) line ++ take (r .witness) out)
+        → Prints chosen input (take (r .line) line ++ take (r .witness) out)
     no-request e out f = refused-text out f (Prints.noRequest h e)
 
     module _ (q : Query) (e : request input ≡ some (requestOf input q)) (m : List ℕ) (room : length m ≡ 8192) where
       pub refused-load : {n : ℕ} → load (length m) (drop (q .file) input) ≡ refused n → {line : List ℕ} (out : List ℕ) {r : Report} → Refuses line n r
-          → Prints input (take (r .line) line ++ take (r .witness) out)
+          → Prints chosen input (take (r .line) line ++ take (r .witness) out)
       refused-load l out f = refused-text out f (Prints.notLoaded h (requestOf input q) e (rw room at l))
 
-      prints : {c : Circuit} → load 8192 (drop (q .file) input) ≡ gives c → {text : List ℕ} → Printed c q 8192 2048 text → Prints input text
+      prints : {c : Circuit} → load 8192 (drop (q .file) input) ≡ gives c → {text : List ℕ} → Printed c q 8192 2048 text → Prints chosen input text
       prints {c} l (Printed.refuses t) = Prints.notSearched h (requestOf input q) e c l t
-      prints {c} l (Printed.answers t o p) = Prints.answers h (requestOf input q) e c l t o p
+      prints {c} l (Printed.answers t o i p) = Prints.answers h (requestOf input q) e c l t o i p
 
       pub replied : {m′ : List ℕ} → Stored m (drop (q .file) input) m′ → {w o : ℕ} → w ≡ 8192 → o ≡ 2048 → {line out : List ℕ} {r : Report}
-          → Replies (circuitIn m′) q w o line out r → Prints input (take (r .line) line ++ take (r .witness) out)
+          → Replies (circuitIn m′) q w o line out r → Prints chosen input (take (r .line) line ++ take (r .witness) out)
       replied s a b {line} {out} {r} t =
           prints (rw room at (s .accepted))
           (subst (λ (x : Circuit). Printed x q 8192 2048 (take (r .line) line ++ take (r .witness) out)) (held (s .holds)) (rw (a, b) at (t .text)))

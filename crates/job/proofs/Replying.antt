@@ -34,7 +34,7 @@ use Rattle.job.specs.Replies.{Shows, saidText, shownLength, ShownFits, P
 -- what a search of the held circuit says and leaves
 pub data Judged (c : Circuit) (b k D room : ℕ) (out : List ℕ) : Said → List ℕ → Type 0 where
   refuses : {n : ℕ} → searchTests c b k D room (length out) ≡ refused n → Judged c b k D room out (Said.refusal n) out
-  answers : searchTests c b k D room (length out) ≡ gives tt → (o : Outcome) → T (permitted c b k D o)
+  answers : searchTests c b k D room (length out) ≡ gives tt → (o : Outcome) → chosen c b k D ≡ o → T (permitted c b k D o)
       → Judged c b k D room out (saidOf o) (shown c b o out)
 
 move : {c d : Circuit} {b k D room : ℕ} {out out′ : List ℕ} {s : Said} → d ≡ c → Judged d b k D room out s out′ → Judged c b k D room out s out′
@@ -44,7 +44,7 @@ pub judged : {m w out w′ out′ : List ℕ} {c : Circuit} {b k D : ℕ} {s : S
     → Judged c b k D (length w) out s out′
 judged {c = c} h (Searched.noCircuit f) = absurd (f c h)
 judged h (Searched.refuses d g t) = move (one-circuit g h) (Judged.refuses t)
-judged {b = b} {k = k} {D = D} h (Searched.answers d g t p) = move (one-circuit g h) (Judged.answers t (chosen d b k D) p)
+judged {b = b} {k = k} {D = D} h (Searched.answers d g t p) = move (one-circuit g h) (Judged.answers t (chosen d b k D) refl p)
 
 module _ (c : Circuit) (b k D room : ℕ) (out : List ℕ) where
   found-frame : searchTests c b k D room (length out) ≡ gives tt → (o : Outcome) → T (permitted c b k D o) → (t : ℕ) → saidOf o ≡ Said.found t
@@ -59,7 +59,7 @@ module _ (c : Circuit) (b k D room : ℕ) (out : List ℕ) where
 
   found-fits : {s : Said} {out′ : List ℕ} → Judged c b k D room out s out′ → (t : ℕ) → s ≡ Said.found t → (b < length (c .bads)) × (t ≤ 255)
   found-fits (Judged.refuses e) t q = let z : _≡_ {A = ℕ} 0 1 = cc in absurd (omega arith)
-  found-fits (Judged.answers e o p) t q = found-frame e o p t q
+  found-fits (Judged.answers e o i p) t q = found-frame e o p t q
 
 -- a found frame has its witness, of the length that is asked for
 pub shown-fits : (m : List ℕ) (b k D room : ℕ) (out : List ℕ) {out′ : List ℕ} → Holds m (circuitIn m) → (a : SearchAnswer)
@@ -89,10 +89,10 @@ module _ (c : Circuit) (q : Query) (room : ℕ) (out line : List ℕ) (l w : ℕ
   abbrev Left : List ℕ → Type 0
   Left out′ = Printed c q room (length out) (take l line ++ take w out′) × (w ≤ length out′)
 
-  answered : searchTests c (q .b) (q .k) (q .d) room (length out) ≡ gives tt → (o : Outcome) → T (permitted c (q .b) (q .k) (q .d) o)
-      → Shows line l (saidText (saidOf o)) → w ≡ shownLength c (q .b) (saidOf o) → Left (shown c (q .b) o out)
+  answered : searchTests c (q .b) (q .k) (q .d) room (length out) ≡ gives tt → (o : Outcome) → chosen c (q .b) (q .k) (q .d) ≡ o
+      → T (permitted c (q .b) (q .k) (q .d) o) → Shows line l (saidText (saidOf o)) → w ≡ shownLength c (q .b) (saidOf o) → Left (shown c (q .b) o out)
   unfolding report
-  answered e (Outcome.found t x) p s z =
+  answered e (Outcome.found t x) i p s z =
       let W = witness (q .b) (run c t x) in
       let n : length W ≡ witnessLength c (q .b) t = run-length c (q .b) t x in
       let f = found-out c (q .b) (q .k) (q .d) t x p in
@@ -100,11 +100,11 @@ module _ (c : Circuit) (q : Query) (room : ℕ) (out line : List ℕ) (l w : ℕ
       let h : length W ≤ length out = omega (arith, r .output, length-within c (q .b) t (q .k) (f .within)) in
       let text : take l line ++ take w (front W out) ≡ bytes "found " ++ digits t ++ bytes "\n" ++ W =
       rw (s .contents, take-at W (drop (length W) out) w (omega arith)) in
-      (rw text (Printed.answers e (Outcome.found t x) p), omega (arith, front-length out W h))
-  answered e (Outcome.none j) p s z = (rw (alone out s z) (Printed.answers e (Outcome.none j) p), omega arith)
-  answered e (Outcome.spent t) p s z = (rw (alone out s z) (Printed.answers e (Outcome.spent t) p), omega arith)
+      (rw text (Printed.answers e (Outcome.found t x) i p), omega (arith, front-length out W h))
+  answered e (Outcome.none j) i p s z = (rw (alone out s z) (Printed.answers e (Outcome.none j) i p), omega arith)
+  answered e (Outcome.spent t) i p s z = (rw (alone out s z) (Printed.answers e (Outcome.spent t) i p), omega arith)
 
   pub printed : {s : Said} {out′ : List ℕ} → Judged c (q .b) (q .k) (q .d) room out s out′ → Shows line l (saidText s) → w ≡ shownLength c (q .b) s
       → Left out′
   printed (Judged.refuses e) s z = (rw (alone out s z) (Printed.refuses e), omega arith)
-  printed (Judged.answers e o p) s z = answered e o p s z
+  printed (Judged.answers e o i p) s z = answered e o i p s z

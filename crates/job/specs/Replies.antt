@@ -13,6 +13,7 @@ use Rattle.aiger.specs.Memory.{Holds}
 use Rattle.aiger.specs.Operations.{Said, searchTests}
 use Rattle.aiger.specs.Program.{report, refusalLine}
 use Rattle.roundtrip.specs.Words.{circuitIn}
+use Rattle.search.specs.Chosen.{chosen}
 use Rattle.search.specs.declared.SearchAnswer.{SearchAnswer}
 use Rattle.search.specs.declared.SearchAnswer.the-variants.{Found, Nothing, Spent, Refused}
 use Rattle.job.specs.declared.Query.{Query}
@@ -57,7 +58,7 @@ pub record Refuses (line : List ℕ) (n : ℕ) (r : Report) : Type 0 where
 -- what may be printed for a loaded circuit, where working memory has `room` words and the output `len` bytes
 pub data Printed (c : Circuit) (q : Query) (room len : ℕ) : List ℕ → Type 0 where
   refuses : {n : ℕ} → searchTests c (q .b) (q .k) (q .d) room len ≡ refused n → Printed c q room len (refusalLine n)
-  answers : searchTests c (q .b) (q .k) (q .d) room len ≡ gives tt → (o : Outcome) → T (permitted c (q .b) (q .k) (q .d) o)
+  answers : searchTests c (q .b) (q .k) (q .d) room len ≡ gives tt → (o : Outcome) → chosen c (q .b) (q .k) (q .d) ≡ o → T (permitted c (q .b) (q .k) (q .d) o)
       → Printed c q room len (report c (q .b) o)
 
 -- the line and the witness are left at the fronts of line and out

@@ -12,7 +12,7 @@ ghost use Rattle.aiger.specs.Text.{bytes, digits};
 ghost use Rattle.aiger.specs.Memory.{Holds};
 ghost use Rattle.aiger.specs.Program.{Prints};
 ghost use Rattle.roundtrip.specs.Words.{circuitIn};
-ghost use Rattle.search.specs.Chosen.{said};
+ghost use Rattle.search.specs.Chosen.{chosen, said};
 ghost use Rattle.job.specs.Replies.{Shows, saidText, shownLength, ShownFits, Replies, Refuses};
 ghost use Rattle.job.specs.Query.{queryOf, FirstLineIs};
 
@@ -142,7 +142,7 @@ fn reply(m: &[u32], q: Query, work: &mut [u32], out: &mut [u8], line: &mut [u8])
 // Reads the request, loads the file and searches. What is to be printed is left at the fronts of line and out.
 pub fn run(input: &[u8], m: &mut [u32], work: &mut [u32], out: &mut [u8], line: &mut [u8]) -> Report
     requires { ⌜ (length (now m) ≡ 8192) × (length (now work) ≡ 8192) × (length (now out) ≡ 2048) × (32 ≤ length (now line)) ⌝ }
-    ensures prints { λ r. ⌜ Prints (now (input .entry)) (take (r .line) (now (line .exit)) ++ take (r .witness) (now (out .exit))) ⌝ }
+    ensures prints { λ r. ⌜ Prints chosen (now (input .entry)) (take (r .line) (now (line .exit)) ++ take (r .witness) (now (out .exit))) ⌝ }
     ensures within { λ r. ⌜ (r .line ≤ length (now (line .exit))) × (r .witness ≤ length (now (out .exit))) ⌝ }
 {
     if 65536 < input.len() {
