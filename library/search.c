@@ -1,0 +1,71 @@
+/* search FILE b k D: searches the circuit in FILE for bad line b, frames 0 to k, with a budget of D sequences for each frame. Prints
+   `found t` and the witness, `none k`, `spent t` or `refused n`. Exit status: 0 for an answer, 1 for a refusal, 2 for a wrong call. */
+#include "yunverok.h"
+#include <errno.h>
+#include <inttypes.h>
+#include <stdio.h>
+#include <stdlib.h>
+
+/* One byte more than the longest file, so that a longer one is seen and refused. */
+static uint8_t file[YUNVEROK_TEXT + 1];
+static uint32_t memory[YUNVEROK_MEMORY], work[YUNVEROK_WORK];
+static uint8_t out[YUNVEROK_WITNESS];
+
+static int number(const char *word, uint64_t *value)
+{
+    char *end;
+    errno = 0;
+    *value = strtoull(word, &end, 10);
+    return word[0] >= '0' && word[0] <= '9' && *end == 0 && errno == 0;
+}
+
+/* The bytes of FILE, at most one more than a file may have; -1 where it can't be read. */
+static long contents(const char *name)
+{
+    FILE *stream = fopen(name, "rb");
+    if (!stream) return -1;
+    size_t length = fread(file, 1, sizeof file, stream);
+    int failed = ferror(stream);
+    fclose(stream);
+    return failed ? -1 : (long)length;
+}
+
+static size_t witness_length(uint64_t b, uint64_t t)
+{
+    uint64_t inputs = memory[1], latches = memory[2];
+    int heading = snprintf(NULL, 0, "1\nb%" PRIu64 "\n", b);
+    return heading + latches + 1 + (t + 1) * (inputs + 1) + 2;
+}
+
+static int refused(uint32_t n)
+{
+    printf("refused %" PRIu32 "\n", n);
+    return 1;
+}
+
+int main(int count, char **words)
+{
+    uint64_t b, k, d;
+    if (count != 5 || !number(words[2], &b) || !number(words[3], &k) || !number(words[4], &d)) {
+        fputs("usage: search FILE b k D\n", stderr);
+        return 2;
+    }
+    long length = contents(words[1]);
+    if (length < 0) {
+        perror(words[1]);
+        return 2;
+    }
+    uint32_t refusal = yunverok_load(file, length, memory, YUNVEROK_MEMORY);
+    if (refusal) return refused(refusal);
+    uint64_t answer = yunverok_search(memory, YUNVEROK_MEMORY, b, k, d, work, YUNVEROK_WORK, out, sizeof out);
+    uint32_t value = (uint32_t)answer;
+    switch (answer >> 32) {
+    case 0:
+        printf("found %" PRIu32 "\n", value);
+        fwrite(out, 1, witness_length(b, value), stdout);
+        return 0;
+    case 1: printf("none %" PRIu32 "\n", value); return 0;
+    case 2: printf("spent %" PRIu32 "\n", value); return 0;
+    default: return refused(value);
+    }
+}

@@ -1,0 +1,85 @@
+/* Yunverok: load, search, fold, replay and write AIGER circuits. The functions are proved: crates/service/src/lib.rt has their
+   contracts, which this page tells in words.
+
+   What is lent. A slice is a pointer and a length in elements. The memory must exist; pointers to words must be aligned for uint32_t;
+   the slices of one call must not overlap. Where a length is 0 the pointer may be anything, null too: it is not used. Beyond that
+   nothing is asked: every length, every contents and every number is safe, and gets one of the answers below. Nothing outside the
+   lent slices is read or written. Nothing is kept between calls, and there is no heap and no static data that changes, so several
+   threads may call at once if none writes what another one uses.
+
+   Circuit memory (memory): 8 * (M + 1) + 256 words are needed, at most 33,032. An accepted load fills them (docs/MEMORY.md has the
+   layout: words 0 to 6 are M I L O A B C); a copy of them is as good as the original, and words past them do not matter. Only
+   yunverok_load changes circuit memory.
+
+   Working memory (work): 16 words for each unit of size, at most 1,048,576. The size for bound or frame k is
+   (k + 1) * (I + A + C) + U + 1, U the number of latches with a free start, and is at most 65,536. What it holds before a call never
+   matters. What it holds after a call that is not refused is not promised.
+
+   Refusals. A refused call changes nothing that was lent. The tests are made in the order of the numbers:
+     1  file empty or over 65,536 bytes              8  gates depend on themselves
+     2  header not as described                      9  the needed words of memory are not what an accepted load leaves
+     3  a count too large, or I+L+A above M         10  b not below B
+     4  memory shorter than the needed words        11  k or t above 255; d 0 or above 4,294,967,296
+     5  a line missing or malformed, a wrong tail   12  size above 65,536, or work shorter than 16 * size words
+     6  literal, definition or reset wrong          13  out too short
+     7  a used variable is undefined                14  witness malformed, or its b not below B
+   load makes 1 to 8, each over the whole file; test 9; search and fold 9 to 13; replay 9 and 14; write 9 and 13.
+
+   Stack. The greatest depth that tests/harness/run measured, in bytes; it does not grow with the circuit:
+     load 103,135    test 53,663    search 94,991    fold 74,463    replay 53,871    write 53,855
+   memset and memcpy, which the functions call, may need some more where a program binds them at their first call. */
+#ifndef YUNVEROK_H
+#define YUNVEROK_H
+#include <stddef.h>
+#include <stdint.h>
+
+/* Lengths that are never too short: of circuit memory and working memory in words; of the output of search (the longest witness), of
+   write and of fold in bytes. A file to load has at most YUNVEROK_TEXT bytes. */
+#define YUNVEROK_MEMORY 33032
+#define YUNVEROK_WORK 1048576
+#define YUNVEROK_WITNESS 66825
+#define YUNVEROK_TEXT 65536
+#define YUNVEROK_FOLD 1572928
+
+#ifdef __cplusplus
+extern "C" {
+#endif
+
+/* Loads an AIGER 1.9 file in ASCII. Answers 0, and the needed words of memory then hold the circuit, the words past them are as they
+   were; or the number of the refusal, 1 to 8, and memory is as it was. */
+uint32_t yunverok_load(const uint8_t *file, size_t file_len, uint32_t *memory, size_t memory_len);
+
+/* Answers 0 where the needed words of memory are what an accepted load of some file leaves, else 9. */
+uint32_t yunverok_test(const uint32_t *memory, size_t memory_len);
+
+/* Searches frames 0 to k for a hit of bad line b, with a budget of d sequences for each frame. Answers
+     t               found t: t is the first frame with a hit, and the witness of its first hit in counting order stands at the front
+                     of out;
+     2^32 + k        none k: no frame from 0 to k has a hit;
+     2 * 2^32 + t    spent t: frames before t have no hit, frame t has more than d sequences, and none of its first d hits;
+     3 * 2^32 + n    refused, n from 9 to 13.
+   The answer depends on the circuit, b, k and d alone. out needs the length of the witness at bound k: with the decimal digits of b,
+   2 + (1 + digits + 1) + (L + 1) + (k + 1) * (I + 1) + 2 bytes; the witness of found t has that length with t for k. All other bytes
+   of out are as they were, all of them where the answer is none, spent or refused. With a large d a search can take long. */
+uint64_t yunverok_search(const uint32_t *memory, size_t memory_len, uint64_t b, uint64_t k, uint64_t d, uint32_t *work, size_t work_len,
+                         uint8_t *out, size_t out_len);
+
+/* Replays a witness of 1 to 256 frames. Answers 1 for yes: its start agrees with every reset and its last frame is a hit of its bad
+   line; 0 for no; or the number of the refusal, 9 or 14. Changes nothing. */
+uint32_t yunverok_replay(const uint32_t *memory, size_t memory_len, const uint8_t *text, size_t text_len);
+
+/* Writes the circuit as an AIGER file in ASCII: seven header numbers, definitions in file order, a reset only where it is not 0, no
+   tail. Answers the length of the text, which stands at the front of out; or 2^32 + n for a refusal, n 9 or 13. out needs the text's
+   length; the bytes past the text are as they were. */
+uint64_t yunverok_write(const uint32_t *memory, size_t memory_len, uint8_t *out, size_t out_len);
+
+/* Folds the hit of bad line b at frame t into one circuit over the free bits of that frame (free latches in file order, then inputs
+   frame by frame). Answers the length of its text, which stands at the front of out as an AIGER file in ASCII; or 2^32 + n for a
+   refusal, n from 9 to 13. out needs 24 * size + 64 bytes, the size taken at t; the bytes past the text are as they were. */
+uint64_t yunverok_fold(const uint32_t *memory, size_t memory_len, uint64_t b, uint64_t t, uint32_t *work, size_t work_len, uint8_t *out,
+                       size_t out_len);
+
+#ifdef __cplusplus
+}
+#endif
+#endif

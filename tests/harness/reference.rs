@@ -1,0 +1,688 @@
+//! The five operations as document 01 describes them, in plain Rust. For load, write and replay this computes the answer and every lent
+//! word; of search and fold, where several answers are permitted, it judges the one that was given. Circuit memory has the layout of
+//! docs/MEMORY.md. It is written from document 01 alone, to be seen to be right; speed does not matter.
+
+use std::collections::HashSet;
+
+#[derive(Clone, PartialEq, Debug)]
+pub struct Latch {
+    pub lit: u64,
+    pub next: u64,
+    pub reset: u64,
+}
+
+#[derive(Clone, PartialEq, Debug)]
+pub struct Gate {
+    pub lit: u64,
+    pub left: u64,
+    pub right: u64,
+}
+
+#[derive(Clone, PartialEq, Default, Debug)]
+pub struct Circuit {
+    pub max_var: u64,
+    pub inputs: Vec<u64>,
+    pub latches: Vec<Latch>,
+    pub outputs: Vec<u64>,
+    pub bads: Vec<u64>,
+    pub constraints: Vec<u64>,
+    pub gates: Vec<Gate>,
+}
+
+impl Latch {
+    pub fn free(&self) -> bool {
+        self.reset == self.lit
+    }
+}
+
+impl Circuit {
+    pub fn counts(&self) -> [u64; 7] {
+        let lengths = [&self.inputs, &self.outputs, &self.bads, &self.constraints].map(|list| list.len() as u64);
+        let [i, o, b, c] = lengths;
+        [self.max_var, i, self.latches.len() as u64, o, self.gates.len() as u64, b, c]
+    }
+
+    pub fn free_latches(&self) -> u64 {
+        self.latches.iter().filter(|latch| latch.free()).count() as u64
+    }
+
+    /// n = U + I × (t+1)
+    pub fn free_bits(&self, t: u64) -> u64 {
+        self.free_latches() + self.inputs.len() as u64 * (t + 1)
+    }
+
+    /// (k+1) × (I+A+C) + U + 1
+    pub fn size(&self, k: u64) -> u64 {
+        let frame = self.inputs.len() + self.gates.len() + self.constraints.len();
+        (k + 1) * frame as u64 + self.free_latches() + 1
+    }
+
+    pub fn witness_length(&self, b: u64, k: u64) -> u64 {
+        let heading = "1\n".len() + format!("b{b}\n").len() + self.latches.len() + 1;
+        heading as u64 + (k + 1) * (self.inputs.len() as u64 + 1) + ".\n".len() as u64
+    }
+}
+
+/// The words of circuit memory that a circuit with greatest variable M needs.
+pub fn needed(max_var: u64) -> u64 {
+    8 * (max_var + 1) + 256
+}
+
+// Reading text
+
+struct Text<'a> {
+    bytes: &'a [u8],
+    at: usize,
+}
+
+impl Text<'_> {
+    fn peek(&self) -> Option<u8> {
+        self.bytes.get(self.at).copied()
+    }
+
+    fn byte(&mut self) -> Option<u8> {
+        let byte = self.peek()?;
+        self.at += 1;
+        Some(byte)
+    }
+
+    fn expect(&mut self, wanted: &[u8]) -> Option<()> {
+        wanted.iter().try_for_each(|&w| if self.byte()? == w { Some(()) } else { None })
+    }
+
+    fn at_end(&self) -> bool {
+        self.at == self.bytes.len()
+    }
+
+    /// 1 to 10 decimal digits with no leading zero, except 0 itself.
+    fn number(&mut self) -> Option<u64> {
+        let rest = &self.bytes[self.at..];
+        let digits = rest.iter().take_while(|byte| byte.is_ascii_digit()).count();
+        let leading_zero = digits > 1 && rest[0] == b'0';
+        if digits == 0 || digits > 10 || leading_zero {
+            return None;
+        }
+        self.at += digits;
+        Some(rest[..digits].iter().fold(0, |value, digit| 10 * value + u64::from(digit - b'0')))
+    }
+
+    /// Numbers with one space between them, then a line feed; at least `least` of them and at most `most`.
+    fn numbers(&mut self, least: usize, most: usize) -> Option<Vec<u64>> {
+        let mut line = Vec::new();
+        loop {
+            line.push(self.number()?);
+            match self.byte()? {
+                b' ' => continue,
+                b'\n' => break,
+                _ => return None,
+            }
+        }
+        (least <= line.len() && line.len() <= most).then_some(line)
+    }
+
+    /// A line of exactly `length` values 0 or 1.
+    fn values(&mut self, length: usize) -> Option<Vec<bool>> {
+        let mut row = Vec::new();
+        for _ in 0..length {
+            match self.byte()? {
+                b'0' => row.push(false),
+                b'1' => row.push(true),
+                _ => return None,
+            }
+        }
+        self.expect(b"\n")?;
+        Some(row)
+    }
+}
+
+// Load
+
+fn header(text: &mut Text) -> Option<Vec<u64>> {
+    text.expect(b"aag ")?;
+    let mut counts = text.numbers(5, 9)?;
+    counts.resize(9, 0);
+    Some(counts)
+}
+
+fn counts_fit(counts: &[u64]) -> bool {
+    let greatest = [4096, 256, 1024, 64, 3072, 16, 16, 0, 0];
+    let each = counts.iter().zip(greatest).all(|(&count, most)| count <= most);
+    each && counts[1] + counts[2] + counts[4] <= counts[0]
+}
+
+fn one_a_line(text: &mut Text, count: u64) -> Option<Vec<u64>> {
+    (0..count).map(|_| Some(text.numbers(1, 1)?[0])).collect()
+}
+
+fn latch_line(text: &mut Text) -> Option<Latch> {
+    let line = text.numbers(2, 3)?;
+    Some(Latch { lit: line[0], next: line[1], reset: line.get(2).copied().unwrap_or(0) })
+}
+
+fn gate_line(text: &mut Text) -> Option<Gate> {
+    let line = text.numbers(3, 3)?;
+    Some(Gate { lit: line[0], left: line[1], right: line[2] })
+}
+
+fn tail(text: &mut Text) -> Option<()> {
+    if text.at_end() {
+        return Some(());
+    }
+    text.expect(b"c\n")
+}
+
+fn body(text: &mut Text, counts: &[u64]) -> Option<Circuit> {
+    let circuit = Circuit {
+        max_var: counts[0],
+        inputs: one_a_line(text, counts[1])?,
+        latches: (0..counts[2]).map(|_| latch_line(text)).collect::<Option<_>>()?,
+        outputs: one_a_line(text, counts[3])?,
+        bads: one_a_line(text, counts[5])?,
+        constraints: one_a_line(text, counts[6])?,
+        gates: (0..counts[4]).map(|_| gate_line(text)).collect::<Option<_>>()?,
+    };
+    tail(text)?;
+    Some(circuit)
+}
+
+/// The literals that stand where a variable is defined.
+fn defined(c: &Circuit) -> Vec<u64> {
+    let latches = c.latches.iter().map(|latch| latch.lit);
+    let gates = c.gates.iter().map(|gate| gate.lit);
+    c.inputs.iter().copied().chain(latches).chain(gates).collect()
+}
+
+/// The literals that stand where a value is used.
+fn used(c: &Circuit) -> Vec<u64> {
+    let next = c.latches.iter().map(|latch| latch.next);
+    let lists = [&c.outputs, &c.bads, &c.constraints].into_iter().flatten().copied();
+    let operands = c.gates.iter().flat_map(|gate| [gate.left, gate.right]);
+    next.chain(lists).chain(operands).collect()
+}
+
+fn literals_right(c: &Circuit) -> bool {
+    let most = 2 * c.max_var + 1;
+    let definitions = defined(c);
+    let distinct: HashSet<u64> = definitions.iter().copied().collect();
+    definitions.iter().all(|&lit| lit % 2 == 0 && 2 <= lit && lit <= most)
+        && distinct.len() == definitions.len()
+        && used(c).iter().all(|&lit| lit <= most)
+        && c.latches.iter().all(|latch| latch.reset <= 1 || latch.free())
+}
+
+fn used_are_defined(c: &Circuit) -> bool {
+    let variables: HashSet<u64> = defined(c).iter().map(|lit| lit / 2).collect();
+    used(c).iter().all(|lit| *lit < 2 || variables.contains(&(lit / 2)))
+}
+
+/// The gates in an order in which each stands after the gates that it uses; none if gates depend on themselves.
+pub fn gate_order(c: &Circuit) -> Option<Vec<usize>> {
+    let mut users: Vec<Vec<usize>> = vec![Vec::new(); c.max_var as usize + 1];
+    let gates: HashSet<u64> = c.gates.iter().map(|gate| gate.lit / 2).collect();
+    let mut waits_for = vec![0; c.gates.len()];
+    for (i, gate) in c.gates.iter().enumerate() {
+        for operand in [gate.left / 2, gate.right / 2] {
+            if gates.contains(&operand) {
+                users[operand as usize].push(i);
+                waits_for[i] += 1;
+            }
+        }
+    }
+    let mut order: Vec<usize> = (0..c.gates.len()).filter(|&i| waits_for[i] == 0).collect();
+    let mut done = 0;
+    while done < order.len() {
+        for &user in &users[c.gates[order[done]].lit as usize / 2] {
+            waits_for[user] -= 1;
+            if waits_for[user] == 0 {
+                order.push(user);
+            }
+        }
+        done += 1;
+    }
+    (order.len() == c.gates.len()).then_some(order)
+}
+
+/// The circuit that a load of `file` into `memory_len` words accepts, or the number of the refusal.
+pub fn load(file: &[u8], memory_len: u64) -> Result<Circuit, u32> {
+    if file.is_empty() || file.len() > 65_536 {
+        return Err(1);
+    }
+    let mut text = Text { bytes: file, at: 0 };
+    let counts = header(&mut text).ok_or(2u32)?;
+    if !counts_fit(&counts) {
+        return Err(3);
+    }
+    if memory_len < needed(counts[0]) {
+        return Err(4);
+    }
+    let circuit = body(&mut text, &counts).ok_or(5u32)?;
+    if !literals_right(&circuit) {
+        return Err(6);
+    }
+    if !used_are_defined(&circuit) {
+        return Err(7);
+    }
+    gate_order(&circuit).ok_or(8u32)?;
+    Ok(circuit)
+}
+
+// Circuit memory
+
+/// The needed words of circuit memory after an accepted load.
+pub fn image(c: &Circuit) -> Vec<u32> {
+    let mut words: Vec<u64> = c.counts().to_vec();
+    words.extend(&c.inputs);
+    words.extend(c.latches.iter().flat_map(|latch| [latch.lit, latch.next, latch.reset]));
+    words.extend(&c.outputs);
+    words.extend(&c.bads);
+    words.extend(&c.constraints);
+    words.extend(c.gates.iter().flat_map(|gate| [gate.lit, gate.left, gate.right]));
+    words.resize(needed(c.max_var) as usize, 0);
+    words.into_iter().map(|word| word as u32).collect()
+}
+
+/// What stands in memory, read by the layout and not judged.
+fn circuit_in(memory: &[u32]) -> Option<Circuit> {
+    let counts = memory.get(..7)?;
+    let mut at = 7;
+    let mut section = |length: u32, width: usize| {
+        let end = at + length as usize * width;
+        let words: Vec<u64> = memory.get(at..end)?.iter().map(|&word| u64::from(word)).collect();
+        at = end;
+        Some(words)
+    };
+    Some(Circuit {
+        max_var: u64::from(counts[0]),
+        inputs: section(counts[1], 1)?,
+        latches: section(counts[2], 3)?.chunks(3).map(|w| Latch { lit: w[0], next: w[1], reset: w[2] }).collect(),
+        outputs: section(counts[3], 1)?,
+        bads: section(counts[5], 1)?,
+        constraints: section(counts[6], 1)?,
+        gates: section(counts[4], 3)?.chunks(3).map(|w| Gate { lit: w[0], left: w[1], right: w[2] }).collect(),
+    })
+}
+
+/// The circuit of an accepted load whose needed words stand in memory. If there is one, its own text is a file that loads to it.
+pub fn held(memory: &[u32]) -> Option<Circuit> {
+    let circuit = load(&text(&circuit_in(memory)?), memory.len() as u64).ok()?;
+    let words = image(&circuit);
+    (memory[..words.len()] == words).then_some(circuit)
+}
+
+// Write
+
+/// Seven header numbers, definitions in file order, a reset only where it is not 0, and no tail.
+pub fn text(c: &Circuit) -> Vec<u8> {
+    let counts = c.counts().map(|count| count.to_string()).join(" ");
+    let mut lines = vec![format!("aag {counts}")];
+    lines.extend(c.inputs.iter().map(u64::to_string));
+    lines.extend(c.latches.iter().map(|latch| match latch.reset {
+        0 => format!("{} {}", latch.lit, latch.next),
+        reset => format!("{} {} {reset}", latch.lit, latch.next),
+    }));
+    lines.extend([&c.outputs, &c.bads, &c.constraints].into_iter().flatten().map(u64::to_string));
+    lines.extend(c.gates.iter().map(|gate| format!("{} {} {}", gate.lit, gate.left, gate.right)));
+    lines.iter().flat_map(|line| format!("{line}\n").into_bytes()).collect()
+}
+
+pub fn write(memory: &[u32], out_len: u64) -> Result<Vec<u8>, u32> {
+    let text = text(&held(memory).ok_or(9u32)?);
+    if out_len < text.len() as u64 {
+        return Err(13);
+    }
+    Ok(text)
+}
+
+// Frames
+
+/// Computes the values of frames. Each of the 64 bits of a word is a run of its own.
+struct Evaluator<'a> {
+    circuit: &'a Circuit,
+    order: Vec<usize>,
+    values: Vec<u64>,
+}
+
+impl<'a> Evaluator<'a> {
+    fn new(circuit: &'a Circuit) -> Self {
+        let order = gate_order(circuit).expect("an accepted circuit has an order");
+        Evaluator { circuit, order, values: vec![0; circuit.max_var as usize + 1] }
+    }
+
+    fn value(&self, lit: u64) -> u64 {
+        let value = self.values[lit as usize / 2];
+        if lit % 2 == 1 { !value } else { value }
+    }
+
+    /// Sets the values of one frame from those of its latches and inputs.
+    fn frame(&mut self, latches: &[u64], inputs: &[u64]) {
+        let c = self.circuit;
+        for (latch, &value) in c.latches.iter().zip(latches) {
+            self.values[latch.lit as usize / 2] = value;
+        }
+        for (&lit, &value) in c.inputs.iter().zip(inputs) {
+            self.values[lit as usize / 2] = value;
+        }
+        for &i in &self.order {
+            let gate = &c.gates[i];
+            self.values[gate.lit as usize / 2] = self.value(gate.left) & self.value(gate.right);
+        }
+    }
+
+    /// The runs that hit b in the last of the frames whose input values `rows` gives, frame by frame.
+    fn hits(&mut self, b: u64, start: &[u64], rows: &[u64], frames: u64) -> u64 {
+        let c = self.circuit;
+        let width = c.inputs.len();
+        let mut latches = start.to_vec();
+        for frame in 0..frames as usize {
+            self.frame(&latches, &rows[frame * width..][..width]);
+            latches = c.latches.iter().map(|latch| self.value(latch.next)).collect();
+        }
+        let allowed = c.constraints.iter().fold(!0, |all, &lit| all & self.value(lit));
+        allowed & self.value(c.bads[b as usize])
+    }
+
+    /// The same for the sequences of frame t that the words of `free` give to its free bits.
+    fn hits_of(&mut self, b: u64, t: u64, free: &[u64]) -> u64 {
+        let (start, rows) = start_and_rows(self.circuit, free);
+        self.hits(b, &start, rows, t + 1)
+    }
+}
+
+/// The start values of the latches, and the rows: free bits are first those of the free latches, then the inputs frame by frame.
+fn start_and_rows<'f>(c: &Circuit, free: &'f [u64]) -> (Vec<u64>, &'f [u64]) {
+    let (of_latches, rows) = free.split_at(c.free_latches() as usize);
+    let mut next_free = of_latches.iter();
+    let start = c.latches.iter().map(|latch| match latch.reset {
+        0 => 0,
+        1 => !0,
+        _ => *next_free.next().expect("a bit for each free latch"),
+    });
+    (start.collect(), rows)
+}
+
+/// Sequence x of n free bits in counting order, the first free bit the most significant one.
+fn sequence(n: u64, x: u64) -> Vec<u64> {
+    let bit = |place: u64| if place < 64 && x >> place & 1 == 1 { !0 } else { 0 };
+    (0..n).map(|j| bit(n - 1 - j)).collect()
+}
+
+// Search
+
+#[derive(Clone, Copy, PartialEq, Debug)]
+pub enum Said {
+    Found(u64),
+    Nothing(u64),
+    Spent(u64),
+    Refused(u32),
+}
+
+/// The circuit to search, or the number of the refusal.
+pub fn search_tests(memory: &[u32], b: u64, k: u64, d: u64, work_len: u64, out_len: u64) -> Result<Circuit, u32> {
+    let c = held(memory).ok_or(9u32)?;
+    let budget_wrong = d == 0 || d > 4_294_967_296;
+    bounds_tests(&c, b, k, budget_wrong, work_len)?;
+    if out_len < c.witness_length(b, k) {
+        return Err(13);
+    }
+    Ok(c)
+}
+
+/// The tests 10, 11 and 12 of search and fold.
+fn bounds_tests(c: &Circuit, b: u64, k: u64, budget_wrong: bool, work_len: u64) -> Result<(), u32> {
+    if b >= c.bads.len() as u64 {
+        return Err(10);
+    }
+    if k > 255 || budget_wrong {
+        return Err(11);
+    }
+    let size = c.size(k);
+    if size > 65_536 || work_len < 16 * size {
+        return Err(12);
+    }
+    Ok(())
+}
+
+/// No more than 2 to the power of this many sequences are tried in a frame.
+const MOST_BITS: u64 = 22;
+
+/// The first hit among the first `count` sequences of frame t.
+fn first_hit(evaluator: &mut Evaluator, b: u64, t: u64, count: u64) -> Option<u64> {
+    let n = evaluator.circuit.free_bits(t);
+    (0..count).find(|&x| evaluator.hits_of(b, t, &sequence(n, x)) & 1 == 1)
+}
+
+/// Whether a search that is not refused may say `said`: then the text that it writes, else why not.
+pub fn search_permits(c: &Circuit, b: u64, k: u64, d: u64, said: Said) -> Result<Vec<u8>, String> {
+    let mut evaluator = Evaluator::new(c);
+    for t in 0..=k {
+        let n = c.free_bits(t);
+        let more_than_budget = n > 32 || 1 << n > d;
+        if said == Said::Spent(t) && more_than_budget {
+            return match first_hit(&mut evaluator, b, t, d) {
+                None => Ok(Vec::new()),
+                Some(x) => Err(format!("sequence {x} of frame {t} is a hit within the budget")),
+            };
+        }
+        if let Some(x) = first_hit(&mut evaluator, b, t, 1 << n.min(MOST_BITS)) {
+            let expected = Said::Found(t);
+            return if said == expected { Ok(witness(c, b, t, x)) } else { Err(format!("expected {expected:?}")) };
+        }
+        if n > MOST_BITS {
+            return Err(format!("frame {t} has too many sequences to judge this answer"));
+        }
+    }
+    let expected = Said::Nothing(k);
+    if said == expected { Ok(Vec::new()) } else { Err(format!("expected {expected:?}")) }
+}
+
+/// The frame and number of the first hit, if the first `limit` sequences of each frame up to k show it.
+pub fn early_hit(c: &Circuit, b: u64, k: u64, limit: u64) -> Option<(u64, u64)> {
+    let mut evaluator = Evaluator::new(c);
+    for t in 0..=k {
+        let n = c.free_bits(t);
+        let all = n < 63 && 1 << n <= limit;
+        let count = if all { 1 << n } else { limit };
+        match first_hit(&mut evaluator, b, t, count) {
+            Some(x) => return Some((t, x)),
+            None if all => continue,
+            None => return None,
+        }
+    }
+    None
+}
+
+fn row(values: &[u64]) -> String {
+    values.iter().map(|value| if value & 1 == 1 { '1' } else { '0' }).collect()
+}
+
+/// AIGER's witness of sequence x of frame t.
+pub fn witness(c: &Circuit, b: u64, t: u64, x: u64) -> Vec<u8> {
+    let free = sequence(c.free_bits(t), x);
+    let (start, rows) = start_and_rows(c, &free);
+    let width = c.inputs.len();
+    let mut lines = vec!["1".to_string(), format!("b{b}"), row(&start)];
+    lines.extend((0..=t as usize).map(|frame| row(&rows[frame * width..][..width])));
+    lines.push(".".to_string());
+    lines.iter().flat_map(|line| format!("{line}\n").into_bytes()).collect()
+}
+
+// Replay
+
+struct Witness {
+    b: u64,
+    start: Vec<bool>,
+    rows: Vec<Vec<bool>>,
+}
+
+fn read_witness(c: &Circuit, bytes: &[u8]) -> Option<Witness> {
+    let mut text = Text { bytes, at: 0 };
+    text.expect(b"1\nb")?;
+    let b = text.number()?;
+    text.expect(b"\n")?;
+    let start = text.values(c.latches.len())?;
+    let mut rows = Vec::new();
+    while text.peek()? != b'.' {
+        rows.push(text.values(c.inputs.len())?);
+    }
+    text.expect(b".\n")?;
+    let well_formed = text.at_end() && 1 <= rows.len() && rows.len() <= 256 && b < c.bads.len() as u64;
+    well_formed.then_some(Witness { b, start, rows })
+}
+
+pub fn replay(memory: &[u32], bytes: &[u8]) -> Result<bool, u32> {
+    let c = held(memory).ok_or(9u32)?;
+    let witness = read_witness(&c, bytes).ok_or(14u32)?;
+    let agrees = c.latches.iter().zip(&witness.start).all(|(latch, &value)| latch.free() || (latch.reset == 1) == value);
+    let words = |row: &[bool]| row.iter().map(|&value| if value { !0 } else { 0 }).collect::<Vec<u64>>();
+    let rows = witness.rows.concat();
+    let hits = Evaluator::new(&c).hits(witness.b, &words(&witness.start), &words(&rows), witness.rows.len() as u64);
+    Ok(agrees && hits & 1 == 1)
+}
+
+// Fold
+
+pub fn fold_tests(memory: &[u32], b: u64, t: u64, work_len: u64, out_len: u64) -> Result<Circuit, u32> {
+    let c = held(memory).ok_or(9u32)?;
+    bounds_tests(&c, b, t, false, work_len)?;
+    if out_len < 24 * c.size(t) + 64 {
+        return Err(13);
+    }
+    Ok(c)
+}
+
+struct Folded {
+    n: u64,
+    output: u64,
+    gates: Vec<Gate>,
+}
+
+/// A text of the form of a folded frame: n inputs numbered from 1, no latch, one output, gates numbered upward from n+1.
+fn read_folded(n: u64, bytes: &[u8]) -> Option<Folded> {
+    let mut text = Text { bytes, at: 0 };
+    text.expect(b"aag ")?;
+    let counts = text.numbers(7, 7)?;
+    let gate_count = counts[4];
+    let inputs = one_a_line(&mut text, n)?;
+    let output = text.numbers(1, 1)?[0];
+    let gates: Vec<Gate> = (0..gate_count).map(|_| gate_line(&mut text)).collect::<Option<_>>()?;
+    let well_formed = text.at_end()
+        && counts == [n + gate_count, n, 0, 1, gate_count, 0, 0]
+        && inputs.iter().zip(1..).all(|(&lit, v)| lit == 2 * v)
+        && gates.iter().zip(n + 1..).all(|(gate, v)| gate.lit == 2 * v)
+        && output <= 2 * (n + gate_count) + 1;
+    well_formed.then_some(Folded { n, output, gates })
+}
+
+fn operands_right(d: &Folded) -> Result<(), &'static str> {
+    let mut seen = HashSet::new();
+    for gate in &d.gates {
+        let (left, right) = (gate.left, gate.right);
+        if left / 2 >= gate.lit / 2 || right / 2 >= gate.lit / 2 {
+            return Err("an operand is not defined earlier");
+        }
+        if left < 2 || right < 2 {
+            return Err("a gate has a constant operand");
+        }
+        if left / 2 == right / 2 {
+            return Err("a gate has equal or opposite operands");
+        }
+        if left < right {
+            return Err("the smaller operand stands first");
+        }
+        if !seen.insert((left, right)) {
+            return Err("two gates have the same operands");
+        }
+    }
+    Ok(())
+}
+
+fn all_lead_to_output(d: &Folded) -> bool {
+    let mut leads = vec![false; d.n as usize + d.gates.len() + 1];
+    leads[d.output as usize / 2] = true;
+    for gate in d.gates.iter().rev() {
+        if leads[gate.lit as usize / 2] {
+            leads[gate.left as usize / 2] = true;
+            leads[gate.right as usize / 2] = true;
+        }
+    }
+    d.gates.iter().all(|gate| leads[gate.lit as usize / 2])
+}
+
+fn literal(values: &[u64], lit: u64) -> u64 {
+    let value = values[lit as usize / 2];
+    if lit % 2 == 1 { !value } else { value }
+}
+
+/// The values of the folded circuit's variables, variable 0 the constant false.
+fn folded_values(d: &Folded, free: &[u64]) -> Vec<u64> {
+    let mut values = vec![0];
+    values.extend(free);
+    for gate in &d.gates {
+        values.push(literal(&values, gate.left) & literal(&values, gate.right));
+    }
+    values
+}
+
+/// Sequences `first` to `first` + 63 of n free bits, one in each bit.
+fn sequences_from(n: u64, first: u64) -> Vec<u64> {
+    let of = |place: u64| (0..64).fold(0, |word, p| word | ((first + p) >> place & 1) << p);
+    (0..n).map(|j| of(n - 1 - j)).collect()
+}
+
+/// Compares the output with the hit for all sequences, and no function may occur two times, complements counted as the same.
+fn compare_all(c: &Circuit, b: u64, t: u64, d: &Folded) -> Result<(), &'static str> {
+    let all = 1u64 << d.n;
+    let real = if all < 64 { (1 << all) - 1 } else { !0 };
+    let mut evaluator = Evaluator::new(c);
+    let mut tables: Vec<Vec<u64>> = vec![Vec::new(); d.n as usize + d.gates.len() + 1];
+    for first in (0..all).step_by(64) {
+        let free = sequences_from(d.n, first);
+        let values = folded_values(d, &free);
+        if (literal(&values, d.output) ^ evaluator.hits_of(b, t, &free)) & real != 0 {
+            return Err("the output differs from the hit");
+        }
+        tables.iter_mut().zip(values).for_each(|(table, value)| table.push(value & real));
+    }
+    let mut seen = HashSet::new();
+    for table in tables {
+        let complemented = table[0] & 1 == 1;
+        if !seen.insert(table.iter().map(|word| if complemented { !word & real } else { *word }).collect::<Vec<u64>>()) {
+            return Err("a gate is constant, or equal or opposite to an input or to another gate");
+        }
+    }
+    Ok(())
+}
+
+/// Compares the output with the hit for random sequences of several densities, the all-0 and the all-1 sequence among them.
+fn compare_some(c: &Circuit, b: u64, t: u64, d: &Folded, random: &mut dyn FnMut() -> u64) -> Result<(), &'static str> {
+    let mut evaluator = Evaluator::new(c);
+    for round in 0..5 {
+        let mut word = || match round {
+            0 => random(),
+            1 => random() & random(),
+            2 => random() | random(),
+            3 => random() & random() & random() & random(),
+            _ => random() | random() | random() | random(),
+        };
+        let free: Vec<u64> = (0..d.n).map(|_| word() & !1 | 2).collect();
+        if literal(&folded_values(d, &free), d.output) != evaluator.hits_of(b, t, &free) {
+            return Err("the output differs from the hit");
+        }
+    }
+    Ok(())
+}
+
+/// Whether a fold of b at frame t may write this text.
+pub fn fold_permits(c: &Circuit, b: u64, t: u64, bytes: &[u8], random: &mut dyn FnMut() -> u64) -> Result<(), &'static str> {
+    let n = c.free_bits(t);
+    let folded = read_folded(n, bytes).ok_or("the text does not have the form of a folded frame")?;
+    operands_right(&folded)?;
+    if !all_lead_to_output(&folded) {
+        return Err("a gate does not lead to the output");
+    }
+    if n <= 12 {
+        compare_all(c, b, t, &folded)
+    } else {
+        compare_some(c, b, t, &folded, random)
+    }
+}
