@@ -66,11 +66,15 @@ module _ (w : List ℕ) where
       (hm, rw (lit-at h, operand-at g 1, operand-at g 2) x)
 
   edge-feeds : (g h : ℕ) → g < m → Edge lits m g h → Feeds c h g
-  edge-feeds g h l e = (omega (arith, e .0, gate-count), rw (gate-at g l, gate-at h (e .0)) (rw (lit-at h, operand-at g 1, operand-at g 2) at (e .1)))
+  edge-feeds g h l e = (
+    omega (arith, e .0, gate-count),
+    rw (gate-at g l, gate-at h (e .0)) (rw (lit-at h, operand-at g 1, operand-at g 2) at (e .1)),
+  )
 
   -- ---- the table of definitions links variables to gates
 
-  linked : Counted w → T (literalsRight (circuitIn w)) → (t : List ℕ) → Entered w (total w) t → Linked (drop (gatesAt w) w) (word w 1 + word w 2) (word w 4) t
+  linked : Counted w → T (literalsRight (circuitIn w)) → (t : List ℕ) → Entered w (total w) t
+      → Linked (drop (gatesAt w) w) (word w 1 + word w 2) (word w 4) t
   linked C right t E =
       let u = literals-used w right in
       record {
@@ -82,7 +86,9 @@ module _ (w : List ℕ) where
             (let e : gatesAt w + 2 + 3 * g ≡ gatesAt w + 3 * g + 2 = omega arith in omega (arith, rw e at (u .rights g l), E .room));
         bound = λ v. bound v (ℕ-discrete (getD t v 0) 0);
         drives = λ g l. ap (λ (x : ℕ). getD t (x / 2) 0) (lit-at g ∙ gate-place w g l) ∙ E .has (word w 1 + word w 2 + g) (omega arith);
-        only = λ v g e. let q = E .only v (word w 1 + word w 2 + g) e in ap (λ (x : ℕ). x / 2) (lit-at g ∙ gate-place w g (omega (arith, q .0))) ∙ q .1;
+        only = λ v g e.
+            let q = E .only v (word w 1 + word w 2 + g) e in
+            ap (λ (x : ℕ). x / 2) (lit-at g ∙ gate-place w g (omega (arith, q .0))) ∙ q .1;
       }
     where
       bound : (v : ℕ) → Dec (getD t v 0 ≡ 0) → getD t v 0 ≤ word w 1 + word w 2 + word w 4
@@ -129,10 +135,13 @@ module _ (w : List ℕ) where
     acyclic-order order I = ranked c rank (λ g l. below g (omega (arith, gate-count)))
       where
         below : (g : ℕ) → g < m
-            → (rank (var (gateAt c g .left)) < rank (var (gateAt c g .lit))) × (rank (var (gateAt c g .right)) < rank (var (gateAt c g .lit)))
+            → (rank (var (gateAt c g .left)) < rank (var (gateAt c g .lit)))
+            × (rank (var (gateAt c g .right)) < rank (var (gateAt c g .lit)))
         below g l =
             let v : ℕ = word w (gatesAt w + 3 * g) / 2 in
-            let here : rank v ≡ getD pos g 0 = rank-gate _ g (decLe (getD t v 0) base) (ap (λ (x : ℕ). getD t (x / 2) 0) (sym (lit-at g)) ∙ L .drives g l) in
+            let here : rank v ≡ getD pos g 0 =
+            rank-gate _ g (decLe (getD t v 0) base) (ap (λ (x : ℕ). getD t (x / 2) 0) (sym (lit-at g)) ∙ L .drives g l)
+            in
             let under : (v : ℕ) → ((h : ℕ) → h < m → getD lits (3 * h) 0 / 2 ≡ v → Edge lits m g h) → rank v < getD pos g 0 =
             λ v f. rank-less v (getD pos g 0) (decLe (getD t v 0) base) (I .placed g l .0) (λ h hm e. I .before g h l (f h hm e))
             in
@@ -159,7 +168,8 @@ module _ (w : List ℕ) where
 
   -- ---- the part of the words that starts at the gates, by a layout of the words
 
-  module _ (C : Counted w) (right : T (literalsRight (circuitIn w))) (t : List ℕ) (E : Entered w (total w) t) (p : Layout) (q : LayoutOf w p) where
+  module _ (C : Counted w) (right : T (literalsRight (circuitIn w))) (t : List ℕ) (E : Entered w (total w) t)
+      (p : Layout) (q : LayoutOf w p) where
     part : take (length w - p .gates) (drop (p .gates) w) ≡ drop (gatesAt w) w
     part = rest w (p .gates) ∙ ap (λ (x : ℕ). drop x w) (q .gates-is)
 

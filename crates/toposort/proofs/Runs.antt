@@ -73,7 +73,8 @@ module _ (lits : List ℕ) (m : ℕ) (pos order stack : List ℕ) (s sp done : �
 
   -- a step that moves the stack
   pub run-step : (P O K : List ℕ) (sp′ done′ : ℕ) → s < m → Search lits m P O K sp′ done′ × Stays pos P → Run lits m P O K s sp′ done′
-  run-step P O K sp′ done′ sm x = record { at = R .at; search = x .0; met = λ g l z. R .met g l (x .1 g z); end = λ q. absurd (omega arith) }
+  run-step P O K sp′ done′ sm x =
+      record { at = R .at; search = x .0; met = λ g l z. R .met g l (x .1 g z); end = λ q. absurd (omega arith) }
 
   pub run-end : m ≤ s → InOrder lits m pos order
   run-end l = finish lits m pos order stack sp done (R .search .state) (R .end l) (λ g gl. R .met g (omega arith))

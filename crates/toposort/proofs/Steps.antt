@@ -34,7 +34,9 @@ unfolding fresh
 fresh-less zero p i v h l z n = omega arith
 fresh-less (suc m) p i v h l z n =
     ⊎-elim
-    (λ r. omega (arith, met (getD (set p i v) m 0) (λ e. n (sym (r .1) ∙ e)), white (getD p m 0) (at p (r .0) ∙ z), fresh-past m p i v (omega (arith, r .0))))
+    (λ r.
+    let here = met (getD (set p i v) m 0) (λ e. n (sym (r .1) ∙ e)) in
+    omega (arith, white (getD p m 0) (at p (r .0) ∙ z), fresh-past m p i v (omega (arith, r .0))))
     (λ r. omega (arith, ap (λ (a : ℕ). one-if (eqb a 0)) (r .1), fresh-less m p i v (omega (arith, r .0)) l z n))
     (getD-set p i v m l)
 
@@ -43,7 +45,9 @@ unfolding fresh
 fresh-keep zero p i v l z n = refl
 fresh-keep (suc m) p i v l z n =
     ⊎-elim
-    (λ r. omega (arith, met (getD (set p i v) m 0) (λ e. n (sym (r .1) ∙ e)), met (getD p m 0) (λ e. z (sym (at p (r .0)) ∙ e)), fresh-keep m p i v l z n))
+    (λ r.
+    let here = met (getD (set p i v) m 0) (λ e. n (sym (r .1) ∙ e)) in
+    omega (arith, met (getD p m 0) (λ e. z (sym (at p (r .0)) ∙ e)), fresh-keep m p i v l z n))
     (λ r. omega (arith, ap (λ (a : ℕ). one-if (eqb a 0)) (r .1), fresh-keep m p i v l z n))
     (getD-set p i v m l)
 

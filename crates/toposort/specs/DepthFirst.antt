@@ -54,7 +54,8 @@ pub record State (lits : List ℕ) (m : ℕ) (pos order stack : List ℕ) (sp do
   pub gate : (k : ℕ) → k < done → getD order k 0 < m
   pub there : (k : ℕ) → k < done → getD pos (getD order k 0) 0 ≡ k + 1
   pub back : (g : ℕ) → g < m → 0 < getD pos g 0 → getD pos g 0 ≤ m → (getD pos g 0 ≤ done) × (getD order (getD pos g 0 - 1) 0 ≡ g)
-  pub before : (g h : ℕ) → g < m → 0 < getD pos g 0 → getD pos g 0 ≤ m → Edge lits m g h → (0 < getD pos h 0) × (getD pos h 0 < getD pos g 0)
+  pub before : (g h : ℕ) → g < m → 0 < getD pos g 0 → getD pos g 0 ≤ m → Edge lits m g h
+      → (0 < getD pos h 0) × (getD pos h 0 < getD pos g 0)
   pub on-gate : (k : ℕ) → k < sp → getD stack k 0 < m
   pub on-there : (k : ℕ) → k < sp → getD pos (getD stack k 0) 0 ≡ m + 1 + k
   pub on-back : (g : ℕ) → g < m → m < getD pos g 0 → (getD pos g 0 < m + 1 + sp) × (getD stack (getD pos g 0 - (m + 1)) 0 ≡ g)

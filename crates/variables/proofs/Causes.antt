@@ -27,7 +27,12 @@ all4 a b c d s t u v = and a (b && (c && (d && true))) s (and b (c && (d && true
 
 pub used-map : (w : List ℕ) (P Q : ℕ → Type 0) → ((l : ℕ) → P l → Q l) → Used w P → Used w Q
 used-map w P Q f u =
-    record { nexts = λ i l. f _ (u .nexts i l); roots = λ i l. f _ (u .roots i l); lefts = λ i l. f _ (u .lefts i l); rights = λ i l. f _ (u .rights i l) }
+    record {
+      nexts = λ i l. f _ (u .nexts i l);
+      roots = λ i l. f _ (u .roots i l);
+      lefts = λ i l. f _ (u .lefts i l);
+      rights = λ i l. f _ (u .rights i l);
+    }
 
 even-in : (n : ℕ) → n ≡ 0 → T (not (nonzero n))
 even-in n e = subst (λ (x : ℕ). T (not (nonzero x))) (sym e) tt
@@ -140,7 +145,8 @@ module _ (w : List ℕ) where
         }
 
     pub literals-used : Used w (λ l. l / 2 ≤ word w 0)
-    literals-used = used-map w (λ l. T (fits l)) (λ l. l / 2 ≤ word w 0) fits-out (every-used w fits (every-right fits (defined c) (used c) (test 0)))
+    literals-used =
+        used-map w (λ l. T (fits l)) (λ l. l / 2 ≤ word w 0) fits-out (every-used w fits (every-right fits (defined c) (used c) (test 0)))
 
     pub literals-resets : Resets w
     literals-resets = resets-out (test 3)
@@ -169,10 +175,12 @@ module _ (w : List ℕ) where
             let q = E .only (l / 2) (getD t (l / 2) 0 - 1) (omega arith) in
             or-right (eqb (var l) 0) (member (var l) (map var (defined c))) (var-member (getD t (l / 2) 0 - 1) (l / 2) (q .0) (q .1))
 
-    at-place : (l i : ℕ) → i < length (0 ∷ map var (defined (circuitIn w))) → getD (0 ∷ map var (defined (circuitIn w))) i 0 ≡ l / 2 → Known t l
+    at-place : (l i : ℕ) → i < length (0 ∷ map var (defined (circuitIn w)))
+        → getD (0 ∷ map var (defined (circuitIn w))) i 0 ≡ l / 2 → Known t l
     at-place l zero h e z = sym e
     at-place l (suc i) h e z =
-        absurd (omega (arith, E .has i (omega (arith, length-map (defined c) var, length-defined w)), ap (λ (x : ℕ). getD t x 0) (sym (var-at i) ∙ e)))
+        let here = E .has i (omega (arith, length-map (defined c) var, length-defined w)) in
+        absurd (omega (arith, ap (λ (x : ℕ). getD t x 0) (sym (var-at i) ∙ e)))
 
     known-out : (l : ℕ) → T (known l) → Known t l
     known-out l s = let m = mem-at 0 (member-mem (var l) (0 ∷ map var (defined c)) s) in at-place l (m .0) (m .1) (m .2)

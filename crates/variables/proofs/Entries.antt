@@ -1,9 +1,9 @@
 -- Laws of the table of definitions: it starts empty, takes one definition at a time, and refuses what is wrong or repeated.
 -- Assumes nothing.
-use mathlib.Core.Path.{_≡_, refl, sym, ap, _∙_}
+use mathlib.Core.Path.{_≡_, sym, ap, _∙_}
 use mathlib.Core.Bool.{true, false}
 use mathlib.Core.List.{List}
-use mathlib.Core.Logic.{_⊎_, inl, inr, ⊎-elim}
+use mathlib.Core.Logic.{⊎-elim}
 use Prim.Native.Nat.{ℕ, _+_, _-_, _/_, _<_}
 use native.Mathlib.Decide.{ℕ-discrete}
 use native.Mathlib.Omega.{arith}
@@ -29,7 +29,8 @@ module _ (w : List ℕ) where
     abbrev v : ℕ
     v = definition w n / 2
 
-    pub entered-more : Defines (word w 0) (definition w n) → getD t (definition w n / 2) 0 ≡ 0 → Entered w (n + 1) (set t (definition w n / 2) (n + 1))
+    pub entered-more : Defines (word w 0) (definition w n) → getD t (definition w n / 2) 0 ≡ 0
+        → Entered w (n + 1) (set t (definition w n / 2) (n + 1))
     entered-more d z =
         record {
           room = omega (arith, length-set t v (n + 1), E .room);

@@ -1,6 +1,6 @@
 -- From columns to the whole circuit: entering the three columns of definitions, and testing the four columns of used literals.
 -- Assumes nothing.
-use mathlib.Core.Path.{_≡_, refl, sym, subst}
+use mathlib.Core.Path.{_≡_, refl}
 use mathlib.Core.Bool.{Bool, true, false, not}
 use mathlib.Core.List.{List}
 use Prim.Native.Nat.{ℕ, _+_, _/_, _<_, _≤_}
@@ -24,7 +24,8 @@ use Rattle.variables.proofs.Causes.{used-map, literals-in, literals-use
 
 module _ (w : List ℕ) (C : Counted w) (t : List ℕ) where
   defining : (r : Role) (base : ℕ) → base + columnOf w r .n ≤ total w
-      → ((i : ℕ) → i < columnOf w r .n → at w (columnOf w r) i ≡ definition w (base + i)) → Entered w base t → Defining w (columnOf w r) (word w 0) base t
+      → ((i : ℕ) → i < columnOf w r .n → at w (columnOf w r) i ≡ definition w (base + i)) → Entered w base t
+      → Defining w (columnOf w r) (word w 0) base t
   defining r base l p E =
       record { inside = inside w C r; most = refl; within = l; small = omega (arith, C .sum, C .maxVar); part = p; before = E }
 

@@ -54,7 +54,9 @@ Defined w n table false = Definitions w (total w) → ⊥
 
 -- each latch has a right reset
 abbrev pub Resets : List ℕ → Type 0
-Resets w = (j : ℕ) → j < word w 2 → T (leb (word w (latchesAt w + 3 * j + 2)) 1 || eqb (word w (latchesAt w + 3 * j + 2)) (word w (latchesAt w + 3 * j)))
+Resets w =
+    (j : ℕ) → j < word w 2
+    → T (leb (word w (latchesAt w + 3 * j + 2)) 1 || eqb (word w (latchesAt w + 3 * j + 2)) (word w (latchesAt w + 3 * j)))
 
 -- cause 6 does not refuse, and all definitions are in the table; or it does
 abbrev pub Literals : List ℕ → List ℕ → Bool → Type 0

@@ -17,11 +17,13 @@ slice-read-g c = search needs
 
 cast-g : tie.Need-cast-g
 cast-g c =
-    let S = c .before .before .before .before .before .before in omega (arith, top-gate _ _ _ _ _ _ _ (S .pre .1 .0) (S .pre .1 .1), S .pre .0 .small)
+    let S = c .before .before .before .before .before .before in
+    omega (arith, top-gate _ _ _ _ _ _ _ (S .pre .1 .0) (S .pre .1 .1), S .pre .0 .small)
 
 operand-requires : tie.Need-operand-requires
 operand-requires c κs =
-    let S = c .before .before .before .before .before .before .before in (S .pre .0, (S .pre .1 .0 .pos-room, top-gate _ _ _ _ _ _ _ (S .pre .1 .0) (S .pre .1 .1)))
+    let S = c .before .before .before .before .before .before .before in
+    (S .pre .0, (S .pre .1 .0 .pos-room, top-gate _ _ _ _ _ _ _ (S .pre .1 .0) (S .pre .1 .1)))
 
 enum-known-h : tie.Need-enum-known-h
 enum-known-h c = search needs

@@ -35,7 +35,8 @@ sort-requires : tie.Need-sort-requires
 sort-requires c κs =
     let Q = c .before .before .before .before .before in
     let S = Q .before .before .before .before in (
-      linked-part (S .args .w .now) (S .pre .0) (S .pre .1 .0) (S .args .table .now) (S .pre .1 .1 .0) (Q .layout-of .result) (Q .layout-of .ensures),
+      linked-part (S .args .w .now) (S .pre .0) (S .pre .1 .0) (S .args .table .now) (S .pre .1 .1 .0)
+          (Q .layout-of .result) (Q .layout-of .ensures),
       ((omega arith, omega arith, omega arith), λ g l. getD-zeros 3072 g),
     )
 
@@ -47,8 +48,8 @@ returns c =
     let A = c .before .before .before .before in
     let Q = A .before .before .before .before .before .before in
     let S = Q .before .before .before .before in
-    sorted-part (S .args .w .now) (S .pre .0) (S .pre .1 .0) (S .args .table .now) (S .pre .1 .1 .0) (Q .layout-of .result) (Q .layout-of .ensures)
-    _ _ (A .sort .result) (A .sort .ensures)
+    sorted-part (S .args .w .now) (S .pre .0) (S .pre .1 .0) (S .args .table .now) (S .pre .1 .1 .0)
+    (Q .layout-of .result) (Q .layout-of .ensures) _ _ (A .sort .result) (A .sort .ensures)
 
 pub ordered-spec : {M : Type 1} → statement M
 ordered-spec =

@@ -19,7 +19,8 @@ abbrev μ-loop : tie.MeasureT-loop
 loop-holds : tie.Need-loop-holds Inv-loop μ-loop
 loop-holds c =
     let S = c .before .before .before .before .before in (
-      run-start _ _ (S .args .pos .now) (S .args .order .now) (S .args .stack .now) (S .pre .1 .0 .0) (S .pre .1 .0 .1) (S .pre .1 .0 .2) (S .pre .1 .1),
+      run-start _ _ (S .args .pos .now) (S .args .order .now) (S .args .stack .now)
+          (S .pre .1 .0 .0) (S .pre .1 .0 .1) (S .pre .1 .0 .2) (S .pre .1 .1),
       refl,
       refl,
       refl,
@@ -73,8 +74,8 @@ loop-less-2 : tie.Need-loop-less-2 Inv-loop μ-loop
 loop-less-2 c =
     let A = c .before .before .before .before .before .before .before .before in
     let L = A .before .before .before .before .before .before in
-    omega
-    (arith, counts _ _ _ _ _ _ _ (L .loop .inv .0 .search), A .before .before .before .before .if1 .taken, A .before .before .before .before .before .loop-test .taken)
+    let I = A .before .before .before .before in
+    omega (arith, counts _ _ _ _ _ _ _ (L .loop .inv .0 .search), I .if1 .taken, I .before .loop-test .taken)
 
 loop-again-2 : tie.Need-loop-again-2 Inv-loop μ-loop
 loop-again-2 c =
@@ -135,8 +136,8 @@ add-sp-2 c = omega (arith, c .before .before .before .before .before .before .be
 loop-less-3 : tie.Need-loop-less-3 Inv-loop μ-loop
 loop-less-3 c =
     let L = c .before .before .before .before .before .before .before .before .before .before .before in
-    let empty = c .before .before .before .before .before .before .before .before .before .if1 .left in
-    omega (arith, counts _ _ _ _ _ _ _ (L .loop .inv .0 .search), empty, c .before .before .before .before .before .before .before .before .before .before .loop-test .taken)
+    let I = c .before .before .before .before .before .before .before .before .before in
+    omega (arith, counts _ _ _ _ _ _ _ (L .loop .inv .0 .search), I .if1 .left, I .before .loop-test .taken)
 
 loop-again-3 : tie.Need-loop-again-3 Inv-loop μ-loop
 loop-again-3 c =
@@ -145,7 +146,10 @@ loop-again-3 c =
     let sm = A .before .before .before .before .before .before .loop-test .taken in
     let empty = A .before .before .before .before .before .if1 .left in
     let new = A .before .before .before .if2 .taken in
-    let pushed = search-push _ _ _ _ _ _ _ (L .loop .inv .0 .search) _ sm new _ _ (A .push .ensures .0) (A .push .ensures .1) (λ k e. absurd (omega arith)) in (
+    let pushed =
+    search-push _ _ _ _ _ _ _ (L .loop .inv .0 .search) _ sm new _ _ (A .push .ensures .0) (A .push .ensures .1)
+    (λ k e. absurd (omega arith))
+    in (
       run-step _ _ _ _ _ _ _ _ (L .loop .inv .0) _ _ _ _ _ sm pushed,
       A .push .kept .0 ∙ L .loop .inv .1,
       L .loop .inv .2,
@@ -157,12 +161,14 @@ add-s c = omega arith
 
 loop-less-4 : tie.Need-loop-less-4 Inv-loop μ-loop
 loop-less-4 c =
-    let L = c .before .before .before .before in omega (arith, counts _ _ _ _ _ _ _ (L .loop .inv .0 .search), c .before .before .before .loop-test .taken)
+    let L = c .before .before .before .before in
+    omega (arith, counts _ _ _ _ _ _ _ (L .loop .inv .0 .search), c .before .before .before .loop-test .taken)
 
 loop-again-4 : tie.Need-loop-again-4 Inv-loop μ-loop
 loop-again-4 c =
     let L = c .before .before .before .before in (
-      run-skip _ _ _ _ _ _ _ _ (L .loop .inv .0) (c .before .before .before .loop-test .taken) (c .before .before .if1 .left) (c .if2 .left),
+      run-skip _ _ _ _ _ _ _ _ (L .loop .inv .0) (c .before .before .before .loop-test .taken)
+          (c .before .before .if1 .left) (c .if2 .left),
       L .loop .inv .1,
       L .loop .inv .2,
       L .loop .inv .3,

@@ -50,7 +50,8 @@ loop-less c = omega arith
 loop-again : tie.Need-loop-again Inv-loop μ-loop
 loop-again c = (
   omega arith,
-  below-more _ _ (c .before .before .before .before .loop .inv .1) (rw (not-false (c .before .known .result) (c .if1 .left)) at (c .before .known .ensures)),
+  below-more _ _ (c .before .before .before .before .loop .inv .1)
+      (rw (not-false (c .before .known .result) (c .if1 .left)) at (c .before .known .ensures)),
 )
 
 returns-2 : tie.Need-returns-2 Inv-loop μ-loop

@@ -32,7 +32,7 @@ column-of-requires-2 c κs = search needs
 define-requires-2 : tie.Need-define-requires-2
 define-requires-2 c κs =
     let A = c .before .before .before .before .before .before in
-    let S = c .before .before .before .before .before .before .before .before .before .before .before .before in
+    let S = A .before .before .before .before .before .before in
     rw (c .column-of2 .ensures)
     (latches-next (S .args .w .now) (S .pre .0) (A .define .last .1 .0)
     (rw (not-false (A .define .result) (c .before .before .before .if1 .left), A .before .column-of .ensures) at (A .define .ensures)))
@@ -56,7 +56,7 @@ add-define c = search needs
 define-requires-3 : tie.Need-define-requires-3
 define-requires-3 c κs =
     let A = c .before .before .before .before .before .before in
-    let S = c .before .before .before .before .before .before .before .before .before .before .before .before .before .before .before .before .before .before .before in
+    let S = A .before .before .before .before .before .before .before .before .before .before .before .before .before in
     rw (c .before .column-of3 .ensures)
     (gates-next (S .args .w .now) (S .pre .0) (A .define2 .last .1 .0)
     (rw (not-false (A .define2 .result) (c .before .before .before .if2 .left), A .before .column-of2 .ensures) at (A .define2 .ensures)))

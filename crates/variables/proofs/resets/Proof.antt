@@ -72,7 +72,8 @@ loop-less c = omega arith
 loop-again : tie.Need-loop-again Inv-loop μ-loop
 loop-again c = (
   omega arith,
-  below-more _ _ (c .before .before .before .before .before .loop .inv .1) (T-true (sym (c .before .is-reset .ensures) ∙ not-false _ (c .if1 .left))),
+  below-more _ _ (c .before .before .before .before .before .loop .inv .1)
+      (T-true (sym (c .before .is-reset .ensures) ∙ not-false _ (c .if1 .left))),
 )
 
 returns-2 : tie.Need-returns-2 Inv-loop μ-loop

@@ -1,11 +1,9 @@
 -- `used_defined` meets its contract, column by column.
 -- Assumes nothing.
 use Rattle.variables.specs.Table.{Known}
-use lib.ListN.{length}
 use Rattle.variables.proofs.Wholes.{column-fails, column-holds, columns-hold}
 use Rattle.columns.specs.declared.Role.the-variants.{Next, Root, Left, Right}
 use Rattle.columns.proofs.Parts.{inside}
-use Prim.Native.Nat.{_/_, _<_}
 use borrow.Author.Needs.{needs}
 use Rattle.variables.proofs.used_defined.Statement.{statement}
 use Rattle.variables.proofs.used_defined.Tie as tie
@@ -69,7 +67,8 @@ returns-4 c =
     let Y = X .before .before .before in
     let Z = Y .before .before .before in
     let S = Z .before .before .before .before in
-    columns-hold (S .args .w .now) (Known (S .args .table .now)) (c .before .column-of4 .ensures) (c .all-known4 .result) (c .all-known4 .ensures)
+    columns-hold (S .args .w .now) (Known (S .args .table .now)) (c .before .column-of4 .ensures)
+    (c .all-known4 .result) (c .all-known4 .ensures)
     (column-holds (S .args .w .now) (Known (S .args .table .now)) (Z .before .column-of .ensures) (Z .all-known .result)
     (Y .before .before .if1 .left) (Z .all-known .ensures))
     (column-holds (S .args .w .now) (Known (S .args .table .now)) (Y .before .column-of2 .ensures) (Y .all-known2 .result)
