@@ -20,9 +20,9 @@ use Rattle.roundtrip.proofs.LoadWrite.{Valid, counts-fit}
 use Rattle.roundtrip.proofs.Holding.{Sound, content-size, header-in, unsound}
 use Rattle.lines.specs.Header.{countsMeant}
 use Rattle.layout.specs.declared.Layout.{Layout}
-use Rattle.layout.specs.Layout.{LayoutOf}
-use Rattle.validity.specs.Validity.{Counted, judged}
-use Rattle.validity.proofs.Counts.{counted}
+use Rattle.layout.specs.Layout.{LayoutOf, Counted}
+use Rattle.layout.proofs.Counts.{counted}
+use Rattle.validity.specs.Validity.{judged}
 use Rattle.circuit.specs.Held.{Says, Zeros, Shaped, countsIn, Tested, HeldIs}
 use Rattle.circuit.specs.declared.Held.{Held}
 use Rattle.circuit.specs.declared.Held.the-variants.{Circuit, Nothing}
@@ -35,7 +35,7 @@ zeros-more m a i z e k l h = ⊎-elim (λ s. ap (word m) s ∙ e) (λ b. z k l b
 pub shaped-counted : {m : List ℕ} → Shaped m → Counted m
 unfolding circuitIn
 shaped-counted {m} s =
-    counted m (T-true (s .fit))
+    counted m (s .fit)
     (omega (arith, s .room, content-length m, content-size (circuitIn m), counts-fit (circuitIn m) (s .fit)))
 
 module _ (m : List ℕ) (p : Layout) (q : LayoutOf m p) where

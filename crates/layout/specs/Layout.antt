@@ -1,7 +1,8 @@
--- The counts and positions that the words of a circuit memory say. Assumes nothing.
+-- The counts and positions that the words of a circuit memory say, and the limits of the counts. Assumes nothing.
 use mathlib.Core.Path.{_≡_}
 use mathlib.Core.List.{List}
-use Prim.Native.Nat.{ℕ}
+use Prim.Native.Nat.{ℕ, _+_, _≤_}
+use lib.ListN.{length}
 use Rattle.roundtrip.specs.Words.{word, latchesAt, outputsAt, badsAt, constraintsAt, gatesAt, contentEnd}
 use Rattle.layout.specs.declared.Layout.{Layout}
 
@@ -19,3 +20,15 @@ pub record LayoutOf (m : List ℕ) (p : Layout) : Type 0 where
   pub constraints-is : p .constraints ≡ constraintsAt m
   pub gates-is : p .gates ≡ gatesAt m
   pub end-is : p .end ≡ contentEnd m
+
+-- the counts in the first seven words are within their limits, and the words hold what they count
+pub record Counted (w : List ℕ) : Type 0 where
+  pub maxVar : word w 0 ≤ 4096
+  pub inputs : word w 1 ≤ 256
+  pub latches : word w 2 ≤ 1024
+  pub outputs : word w 3 ≤ 64
+  pub gates : word w 4 ≤ 3072
+  pub bads : word w 5 ≤ 16
+  pub constraints : word w 6 ≤ 16
+  pub sum : word w 1 + word w 2 + word w 4 ≤ word w 0
+  pub held : contentEnd w ≤ length w

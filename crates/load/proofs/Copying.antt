@@ -11,7 +11,7 @@ use Rattle.aiger.specs.Memory.{image}
 use Rattle.aiger.specs.Operations.{front}
 use Rattle.roundtrip.specs.Words.{word, contentEnd, circuitIn}
 use Rattle.roundtrip.proofs.Content.{content-length, content-of-words}
-use Rattle.validity.specs.Validity.{Counted}
+use Rattle.layout.specs.Layout.{Counted}
 
 -- the first i words are copied
 abbrev pub copied : List ℕ → List ℕ → ℕ → List ℕ

@@ -22,8 +22,9 @@ use Rattle.roundtrip.proofs.LoadValid.{body-counted, same-header}
 use Rattle.roundtrip.proofs.Content.{words-take, content-length, circuit-in}
 use Rattle.lines.specs.Header.{countsMeant}
 use Rattle.lines.specs.declared.Counts as lines
-use Rattle.validity.specs.Validity.{Counted, judged}
-use Rattle.validity.proofs.Counts.{counted}
+use Rattle.layout.specs.Layout.{Counted}
+use Rattle.layout.proofs.Counts.{counted}
+use Rattle.validity.specs.Validity.{judged}
 use Rattle.load.specs.declared.Counts.{Counts}
 use Rattle.load.specs.Answers.{numbers}
 use Rattle.load.specs.Steps.{narrowed, headerMeant, headerAt, accepts, loadBody, Leaves, refuses, stores}
@@ -116,7 +117,7 @@ module _ (k : Counts) (g : List ℕ) (c : Circuit) (b : body (headerMeant k) g �
         ap (λ (d : Circuit). countsFit (headerOf d)) same-circuit
         ∙ ap countsFit (same-header (headerMeant k) c (body-counted (headerMeant k) g c b) f) ∙ f in
         let end : contentEnd w ≡ length (content c) = sym (content-length w) ∙ ap (λ (d : Circuit). length (content d)) same-circuit in
-        counted w (T-true fit) (omega (arith, ap length e, length-append (content c) r))
+        counted w fit (omega (arith, ap length e, length-append (content c) r))
 
     pub top-stored : word w 0 ≡ k .m
     unfolding content

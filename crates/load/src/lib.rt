@@ -15,8 +15,7 @@ ghost use Rattle.aiger.specs.Memory.{image};
 ghost use Rattle.aiger.specs.Operations.{Loaded, front};
 ghost use Rattle.roundtrip.specs.Words.{word, contentEnd, circuitIn};
 ghost use Rattle.lines.specs.Header.{countsMeant};
-ghost use Rattle.layout.specs.Layout.{LayoutOf};
-ghost use Rattle.validity.specs.Validity.{Counted};
+ghost use Rattle.layout.specs.Layout.{LayoutOf, Counted};
 ghost use Rattle.load.specs.Answers.{answered, numbers};
 ghost use Rattle.load.specs.Steps.{narrowed, headerMeant, headerAt, Leaves, accepts, loadBody, BodyAt};
 

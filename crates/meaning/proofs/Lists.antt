@@ -8,7 +8,8 @@ use native.Mathlib.Nat.{not-suc-le-zero, le-of-suc-le-suc}
 use native.Mathlib.Decide.{ℕ-discrete}
 use native.Mathlib.Omega.{arith}
 use lib.Dec.{T, eqb, eqb→eq, eqb-refl}
-use lib.ListN.{length, getD, length-map}
+use lib.ListN.{length, getD, set, replicate, length-map}
+use lib.Seq.{getD-set-same, getD-set-other}
 use Rattle.aiger.specs.Lists.{every, any, pairwise, member, same, from, upto}
 use Rattle.aiger.proofs.Tests.{and, and-left, and-right, or-cases}
 
@@ -81,6 +82,21 @@ pub getD-map-upto : {A : Type 0} (f : ℕ → A) (n j : ℕ) (d : A) → j < n �
 getD-map-upto f n j d h =
     getD-map f (upto n) j 0 d (let e = length-from 0 n in omega arith) ∙ ap f (getD-upto n j 0 h)
 
+-- what stands at j after a store at i
+pub getD-set : (l : List ℕ) (i v j : ℕ) → i < length l
+    → ((j ≡ i) × (getD (set l i v) j 0 ≡ v)) ⊎ ((j ≡ i → ⊥) × (getD (set l i v) j 0 ≡ getD l j 0))
+getD-set l i v j h = go (ℕ-discrete j i)
+  where
+    go : Dec (j ≡ i) → ((j ≡ i) × (getD (set l i v) j 0 ≡ v)) ⊎ ((j ≡ i → ⊥) × (getD (set l i v) j 0 ≡ getD l j 0))
+    go (yes e) = inl (e, rw e (getD-set-same l i v 0 h))
+    go (no e) = inr (e, getD-set-other l i j v 0 e)
+
+-- an array of zeros reads 0 at every position
+pub getD-zeros : (n i : ℕ) → getD {A = ℕ} (replicate n 0) i 0 ≡ 0
+getD-zeros zero i = refl
+getD-zeros (suc n) zero = refl
+getD-zeros (suc n) (suc i) = getD-zeros n i
+
 -- ---- tests
 
 pub every-mem : {A : Type 0} (p : A → Bool) {x : A} {xs : List A} → List·Memᴰ x xs → T (every p xs) → T (p x)
@@ -89,6 +105,10 @@ every-mem p (List·Memᴰ·tail {x = y} {xs = ys} m) t = every-mem p m (and-righ
 
 pub every-at : {A : Type 0} (p : A → Bool) (xs : List A) (i : ℕ) (d : A) → i < length xs → T (every p xs) → T (p (getD xs i d))
 every-at p xs i d h t = every-mem p (mem-getD xs i d h) t
+
+pub every-in : {A : Type 0} (p : A → Bool) (xs : List A) (d : A) → ((i : ℕ) → i < length xs → T (p (getD xs i d))) → T (every p xs)
+every-in p [] d h = tt
+every-in p (x ∷ xs) d h = and (p x) (every p xs) (h 0 (omega arith)) (every-in p xs d (λ i l. h (suc i) (omega arith)))
 
 pub or-left : (a b : Bool) → T a → T (a || b)
 or-left true b t = tt
@@ -127,6 +147,13 @@ pairwise-at p (x ∷ xs) i zero d h l t = absurd (not-suc-le-zero h)
 pairwise-at p (x ∷ xs) zero (suc j) d h l t = every-at (p x) xs j d (le-of-suc-le-suc l) (and-left (every (p x) xs) (pairwise p xs) t)
 pairwise-at p (x ∷ xs) (suc i) (suc j) d h l t =
     pairwise-at p xs i j d (le-of-suc-le-suc h) (le-of-suc-le-suc l) (and-right (every (p x) xs) (pairwise p xs) t)
+
+pub pairwise-in : {A : Type 0} (p : A → A → Bool) (xs : List A) (d : A)
+    → ((i j : ℕ) → i < j → j < length xs → T (p (getD xs i d) (getD xs j d))) → T (pairwise p xs)
+pairwise-in p [] d h = tt
+pairwise-in p (x ∷ xs) d h =
+    and (every (p x) xs) (pairwise p xs) (every-in (p x) xs d (λ j l. h 0 (suc j) (omega arith) (omega arith)))
+    (pairwise-in p xs d (λ i j a l. h (suc i) (suc j) (omega arith) (omega arith)))
 
 pub member-mem : (x : ℕ) (xs : List ℕ) → T (member x xs) → List·Memᴰ x xs
 member-mem x [] t = absurd t
@@ -180,6 +207,10 @@ same-of {xs} e = subst (λ (l : List ℕ). T (same xs l)) e (same-refl xs)
 pub mem-member : {x : ℕ} {xs : List ℕ} → List·Memᴰ x xs → T (member x xs)
 mem-member {x} (List·Memᴰ·head {x = y} {xs = ys} e) = or-left (eqb x y) (member x ys) (eqb-of e)
 mem-member {x} (List·Memᴰ·tail {x = y} {xs = ys} m) = or-right (eqb x y) (member x ys) (mem-member m)
+
+-- an element at a position is a member
+pub member-in : (xs : List ℕ) (i d : ℕ) → i < length xs → T (member (getD xs i d) xs)
+member-in xs i d h = mem-member (mem-getD xs i d h)
 
 -- ---- an element that stands twice
 

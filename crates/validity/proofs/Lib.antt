@@ -1,10 +1,1 @@
-pub mod Tests
-pub mod Entries
-pub mod Parts
-pub mod Causes
-pub mod Looks
-pub mod Steps
-pub mod Runs
-pub mod Orders
-pub mod Wholes
-pub mod Counts
+pub mod Judging

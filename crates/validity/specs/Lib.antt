@@ -1,5 +1,1 @@
 pub mod Validity
-pub mod Columns
-pub mod Table
-pub mod Gates
-pub mod Search

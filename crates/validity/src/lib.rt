@@ -2,11 +2,8 @@
 ghost use Prim.Native.Nat.{_≤_};
 ghost use lib.ListN.{length};
 ghost use Rattle.roundtrip.specs.Words.{circuitIn};
-ghost use Rattle.validity.specs.Validity.{Counted, Checks};
-
-mod columns;
-mod order;
-mod table;
+ghost use Rattle.layout.specs.Layout.{Counted};
+ghost use Rattle.validity.specs.Validity.{Checks};
 
 // Refused has the number of the cause.
 pub enum Checked {
@@ -21,13 +18,13 @@ pub fn check(w: &[u32], order: &mut [u32]) -> Checked
     ensures { λ r. ⌜ Checks (circuitIn (now (w .entry))) (now (order .exit)) r ⌝ }
 {
     let mut table = [0u32; 4097];
-    if !table::literals(w, &mut table) {
+    if !variables::literals_right(w, &mut table) {
         return Checked::Refused(6);
     }
-    if !table::uses(w, &table) {
+    if !variables::used_defined(w, &table) {
         return Checked::Refused(7);
     }
-    if !order::ordered(w, &table, order) {
+    if !toposort::ordered(w, &table, order) {
         return Checked::Refused(8);
     }
     Checked::Right

@@ -1,92 +1,108 @@
 -- `check` meets its contract. Each answer is the first cause that its calls decide.
 -- Assumes nothing.
-use Rattle.validity.proofs.Wholes.{used-room, judged-six, judged-seven, judged-eight, judged-right}
-use Rattle.validity.proofs.Causes.{uses-in, uses-out}
-use Rattle.validity.proofs.Entries.{zeros}
-use borrow.Author.Tests.{not-true, not-false}
+use mathlib.Core.Bool.{true}
 use native.Mathlib.Omega.{arith}
 use borrow.Author.Needs.{needs}
+use borrow.Author.Tests.{not-true, not-false}
+use lib.Dec.{T}
+use Rattle.aiger.specs.Circuit.{usedDefined}
+use Rattle.meaning.proofs.Lists.{getD-zeros}
+use Rattle.roundtrip.specs.Words.{circuitIn}
+use Rattle.variables.specs.Table.{Literals}
+use Rattle.variables.proofs.Causes.{uses-in, uses-out}
+use Rattle.variables.proofs.Wholes.{used-room}
+use Rattle.validity.proofs.Judging.{judged-six, judged-seven, judged-eight, judged-right}
 use Rattle.validity.proofs.check.Statement.{statement}
 use Rattle.validity.proofs.check.Tie as tie
 
-slice-aggregate-literals : tie.Need-slice-aggregate-literals
-slice-aggregate-literals c = search needs
+-- where cause 6 did not refuse
+six : (n : tie.Else1)
+    → Literals (n .before .before .before .before .before .before .args .w .now) (n .before .before .literals-right .last .1 .0) true
+six n =
+    let A = n .before .before in
+    rw (not-false (A .literals-right .result) (n .if1 .left)) at (A .literals-right .ensures)
 
-literals-requires : tie.Need-literals-requires
-literals-requires c κs =
+-- where cause 7 did not refuse
+seven : (n : tie.Else2)
+    → T (usedDefined (circuitIn (n .before .before .before .before .before .before .before .before .before .args .w .now)))
+seven n =
+    let B = n .before in
+    let N = B .before .before in
+    let A = N .before .before in
+    uses-in _ (A .literals-right .last .1 .0) (six N .1)
+    (rw (not-false (B .used-defined .result) (n .if2 .left)) at (B .used-defined .ensures))
+
+slice-aggregate-literals-right : tie.Need-slice-aggregate-literals-right
+slice-aggregate-literals-right c = search needs
+
+literals-right-requires : tie.Need-literals-right-requires
+literals-right-requires c κs =
     let S = c .before .before .before in
-    (S .pre .0, (omega (arith, S .pre .0 .maxVar), λ v. zeros 4097 v))
+    (S .pre .0, (omega (arith, S .pre .0 .maxVar), λ v. getD-zeros 4097 v))
 
 returns : tie.Need-returns
 returns c =
     let A = c .before .before in
-    judged-six _ (rw (not-true (A .literals .result) (c .if1 .taken)) at (A .literals .ensures))
+    judged-six _ (rw (not-true (A .literals-right .result) (c .if1 .taken)) at (A .literals-right .ensures))
 
-slice-aggregate-uses : tie.Need-slice-aggregate-uses
-slice-aggregate-uses c = search needs
+slice-aggregate-used-defined : tie.Need-slice-aggregate-used-defined
+slice-aggregate-used-defined c = search needs
 
-uses-requires : tie.Need-uses-requires
-uses-requires c κs =
-    let A = c .before .before .before in
-    let S = c .before .before .before .before .before .before .before in
-    let six = rw (not-false (A .literals .result) (c .before .if1 .left)) at (A .literals .ensures) in
-    (S .pre .0, used-room (S .args .w .now) (A .literals .last .1 .0) (six .1) (six .0))
+used-defined-requires : tie.Need-used-defined-requires
+used-defined-requires c κs =
+    let N = c .before in
+    let A = N .before .before in
+    let S = A .before .before .before .before in
+    (S .pre .0, used-room (S .args .w .now) (A .literals-right .last .1 .0) (six N .1) (six N .0))
 
 returns-2 : tie.Need-returns-2
 returns-2 c =
-    let A = c .before .before .before .before .before in
     let B = c .before in
-    let S = c .before .before .before .before .before .before .before .before .before in
-    let six = rw (not-false (A .literals .result) (c .before .before .before .if1 .left)) at (A .literals .ensures) in
-    judged-seven _ (six .0)
-    (λ t. (rw (not-true (B .uses .result) (c .if2 .taken)) at (B .uses .ensures)) (uses-out (S .args .w .now) (A .literals .last .1 .0) (six .1) t))
+    let N = B .before .before in
+    let A = N .before .before in
+    judged-seven _ (six N .0)
+    (λ t. (rw (not-true (B .used-defined .result) (c .if2 .taken)) at (B .used-defined .ensures))
+    (uses-out _ (A .literals-right .last .1 .0) (six N .1) t))
 
 slice-aggregate-ordered : tie.Need-slice-aggregate-ordered
 slice-aggregate-ordered c = search needs
 
 ordered-requires : tie.Need-ordered-requires
 ordered-requires c κs =
-    let A = c .before .before .before .before .before .before .before in
-    let S = c .before .before .before .before .before .before .before .before .before .before .before in
-    let six = rw (not-false (A .literals .result) (c .before .before .before .before .before .if1 .left)) at (A .literals .ensures) in
-    (S .pre .0, (six .0, (six .1, S .pre .1)))
+    let N = c .before .before .before .before .before in
+    let S = N .before .before .before .before .before .before in
+    (S .pre .0, (six N .0, (six N .1, S .pre .1)))
 
 same-length : tie.Need-same-length
 same-length c = search needs
 
 returns-3 : tie.Need-returns-3
 returns-3 c =
-    let A = c .before .before .before .before .before .before .before .before .before .before .before in
-    let B = c .before .before .before .before .before .before .before in
     let D = c .before .before .before in
-    let S = c .before .before .before .before .before .before .before .before .before .before .before .before .before .before .before in
-    let six = rw (not-false (A .literals .result) (c .before .before .before .before .before .before .before .before .before .if1 .left)) at (A .literals .ensures) in
-    let seven = uses-in (S .args .w .now) (A .literals .last .1 .0) (six .1) (rw (not-false (B .uses .result) (c .before .before .before .before .before .before .if2 .left)) at (B .uses .ensures)) in
-    judged-eight _ (six .0) seven (rw (not-true (D .ordered .result) (c .if3 .taken)) at (D .ordered .ensures))
+    let M = D .before .before .before in
+    let N = M .before .before .before in
+    judged-eight _ (six N .0) (seven M) (rw (not-true (D .ordered .result) (c .if3 .taken)) at (D .ordered .ensures))
 
 same-length-2 : tie.Need-same-length-2
 same-length-2 c = search needs
 
 returns-4 : tie.Need-returns-4
 returns-4 c =
-    let A = c .before .before .before .before .before .before .before .before .before .before .before in
-    let B = c .before .before .before .before .before .before .before in
     let D = c .before .before .before in
-    let S = c .before .before .before .before .before .before .before .before .before .before .before .before .before .before .before in
-    let six = rw (not-false (A .literals .result) (c .before .before .before .before .before .before .before .before .before .if1 .left)) at (A .literals .ensures) in
-    let seven = uses-in (S .args .w .now) (A .literals .last .1 .0) (six .1) (rw (not-false (B .uses .result) (c .before .before .before .before .before .before .if2 .left)) at (B .uses .ensures)) in
+    let M = D .before .before .before in
+    let N = M .before .before .before in
     let eight = rw (not-false (D .ordered .result) (c .if3 .left)) at (D .ordered .ensures) in
-    (judged-right _ (six .0) seven (eight .0), eight .1)
+    (judged-right _ (six N .0) (seven M) (eight .0), eight .1)
 
 pub check-spec : {M : Type 1} → statement M
 check-spec =
     tie.close
     (tie.spec
-    slice-aggregate-literals
-    literals-requires
+    slice-aggregate-literals-right
+    literals-right-requires
     returns
-    slice-aggregate-uses
-    uses-requires
+    slice-aggregate-used-defined
+    used-defined-requires
     returns-2
     slice-aggregate-ordered
     ordered-requires

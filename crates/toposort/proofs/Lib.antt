@@ -1,0 +1,4 @@
+pub mod Looks
+pub mod Steps
+pub mod Runs
+pub mod Orders

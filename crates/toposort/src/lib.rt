@@ -1,0 +1,167 @@
+// Cause 8: the gates in an order with operands before users, or a cycle. A depth-first search with its stack in memory.
+// pos has, for each gate, 0 before the search meets it; then m + 1 and its place on the stack; then 1 and its place in the order.
+ghost use mathlib.Core.Path.{_≡_};
+ghost use Prim.Native.Nat.{ℕ, _+_, _<_, _≤_};
+ghost use lib.Dec.{T};
+ghost use lib.ListN.{length, getD, set};
+ghost use Rattle.aiger.specs.Circuit.{literalsRight};
+ghost use Rattle.roundtrip.specs.Words.{circuitIn};
+ghost use Rattle.layout.specs.Layout.{Counted};
+ghost use Rattle.columns.specs.Columns.{total};
+ghost use Rattle.variables.specs.Table.{Entered};
+ghost use Rattle.toposort.specs.Gates.{Answered};
+ghost use Rattle.toposort.specs.DepthFirst.{Linked, Looked, OperandOf, Search, Stepped, Sorted};
+
+// A gate that is not met; one on the stack; or one in the order, or none.
+enum Visit {
+    Fresh(usize),
+    Open,
+    Done,
+}
+
+// A gate went on the stack; the one on top went to the order; or the stack has a cycle.
+enum Step {
+    Deeper,
+    Placed,
+    Cycle,
+}
+
+// How far the search is with the gate that defines variable v.
+fn look(table: &[u32], pos: &[u32], base: usize, m: usize, v: usize) -> Visit
+    requires { ⌜ v < length (now table) ⌝ }
+    requires { ⌜ m ≤ length (now pos) ⌝ }
+    requires { ⌜ ((u : ℕ) → getD (now table) u 0 ≤ base + m) ⌝ }
+    ensures { λ r. ⌜ Looked base m (now (table .entry)) (now (pos .entry)) v r ⌝ }
+{
+    let a = table[v] as usize;
+    if a <= base {
+        return Visit::Done;
+    }
+    let h = a - base - 1;
+    let p = pos[h] as usize;
+    if p == 0 {
+        return Visit::Fresh(h);
+    }
+    if p > m {
+        return Visit::Open;
+    }
+    Visit::Done
+}
+
+// An operand of gate g that is not in the order yet.
+fn operand(lits: &[u32], table: &[u32], pos: &[u32], base: usize, m: usize, g: usize) -> Visit
+    requires { ⌜ Linked (now lits) base m (now table) ⌝ }
+    requires { ⌜ m ≤ length (now pos) ⌝ }
+    requires { ⌜ g < m ⌝ }
+    ensures { λ r. ⌜ OperandOf (now (lits .entry)) m (now (pos .entry)) g r ⌝ }
+{
+    let v = (lits[3 * g + 1] / 2) as usize;
+    let u = (lits[3 * g + 2] / 2) as usize;
+    match look(table, pos, base, m, v) {
+        Visit::Fresh(h) => Visit::Fresh(h),
+        Visit::Open => Visit::Open,
+        Visit::Done => look(table, pos, base, m, u),
+    }
+}
+
+// Puts gate h on the stack.
+fn push(pos: &mut [u32], stack: &mut [u32], m: usize, sp: usize, h: usize)
+    requires { ⌜ (m ≤ 4096) × (h < m) × (sp < m) × (m ≤ length (now pos)) × (m ≤ length (now stack)) ⌝ }
+    ensures { λ _. ⌜ (now (pos .exit) ≡ set (now (pos .entry)) h (m + 1 + sp)) × (now (stack .exit) ≡ set (now (stack .entry)) sp h) ⌝ }
+{
+    stack[sp] = h as u32;
+    pos[h] = (m + 1 + sp) as u32;
+}
+
+// Puts gate g at the end of the order.
+fn place(pos: &mut [u32], order: &mut [u32], m: usize, done: usize, g: usize)
+    requires { ⌜ (m ≤ 4096) × (g < m) × (done < m) × (m ≤ length (now pos)) × (m ≤ length (now order)) ⌝ }
+    ensures { λ _. ⌜ (now (pos .exit) ≡ set (now (pos .entry)) g (done + 1)) × (now (order .exit) ≡ set (now (order .entry)) done g) ⌝ }
+{
+    order[done] = g as u32;
+    pos[g] = (done + 1) as u32;
+}
+
+// One step from the gate on top of the stack: an operand goes on the stack, or the gate to the order.
+fn advance(
+    lits: &[u32],
+    table: &[u32],
+    base: usize,
+    m: usize,
+    pos: &mut [u32],
+    order: &mut [u32],
+    stack: &mut [u32],
+    sp: usize,
+    done: usize,
+) -> Step
+    requires { ⌜ Linked (now lits) base m (now table) ⌝ }
+    requires { ⌜ Search (now lits) m (now pos) (now order) (now stack) sp done ⌝ }
+    requires { ⌜ 0 < sp ⌝ }
+    ensures { λ r. ⌜ Stepped (now (lits .entry)) m (now (pos .entry)) (now (pos .exit)) (now (order .exit)) (now (stack .exit)) sp done r ⌝ }
+{
+    let g = stack[sp - 1] as usize;
+    match operand(lits, table, pos, base, m, g) {
+        Visit::Fresh(h) => {
+            push(pos, stack, m, sp, h);
+            Step::Deeper
+        }
+        Visit::Open => Step::Cycle,
+        Visit::Done => {
+            place(pos, order, m, done, g);
+            Step::Placed
+        }
+    }
+}
+
+// A depth-first search from each gate in turn. False where it meets a cycle.
+fn sort(
+    lits: &[u32],
+    table: &[u32],
+    base: usize,
+    m: usize,
+    pos: &mut [u32],
+    order: &mut [u32],
+    stack: &mut [u32],
+) -> bool
+    requires { ⌜ Linked (now lits) base m (now table) ⌝ }
+    requires { ⌜ (m ≤ length (now pos)) × (m ≤ length (now order)) × (m ≤ length (now stack)) ⌝ }
+    requires { ⌜ ((g : ℕ) → g < m → getD (now pos) g 0 ≡ 0) ⌝ }
+    ensures { λ r. ⌜ Answered (now (lits .entry)) m (now (pos .exit)) (now (order .exit)) r ⌝ }
+{
+    let mut s = 0;
+    let mut sp = 0;
+    let mut done = 0;
+    while s < m {
+        if 0 < sp {
+            match advance(lits, table, base, m, pos, order, stack, sp, done) {
+                Step::Deeper => sp += 1,
+                Step::Placed => {
+                    sp -= 1;
+                    done += 1;
+                }
+                Step::Cycle => return false,
+            }
+        } else if pos[s] == 0 {
+            push(pos, stack, m, sp, s);
+            sp += 1;
+        } else {
+            s += 1;
+        }
+    }
+    true
+}
+
+// Cause 8. Where it does not refuse, order has an order of evaluation.
+pub fn ordered(w: &[u32], table: &[u32], order: &mut [u32]) -> bool
+    requires { ⌜ Counted (now w) ⌝ }
+    requires { ⌜ T (literalsRight (circuitIn (now w))) ⌝ }
+    requires { ⌜ Entered (now w) (total (now w)) (now table) ⌝ }
+    requires { ⌜ 3072 ≤ length (now order) ⌝ }
+    ensures { λ r. ⌜ Sorted (circuitIn (now (w .entry))) (now (order .exit)) r ⌝ }
+{
+    let p = layout::layout_of(w);
+    let at = p.gates;
+    let mut pos = [0u32; 3072];
+    let mut stack = [0u32; 3072];
+    sort(&w[at..], table, p.i + p.l, p.a, &mut pos, order, &mut stack)
+}

@@ -1,0 +1,87 @@
+-- Laws of the table of definitions: it starts empty, takes one definition at a time, and refuses what is wrong or repeated.
+-- Assumes nothing.
+use mathlib.Core.Path.{_≡_, sym, ap, _∙_}
+use mathlib.Core.Bool.{true, false}
+use mathlib.Core.List.{List}
+use mathlib.Core.Logic.{⊎-elim}
+use Prim.Native.Nat.{ℕ, _+_, _-_, _/_, _<_}
+use native.Mathlib.Decide.{ℕ-discrete}
+use native.Mathlib.Omega.{arith}
+use lib.ListN.{length, getD, set, length-set}
+use Rattle.meaning.proofs.Lists.{getD-set}
+use Rattle.roundtrip.specs.Words.{word}
+use Rattle.columns.specs.declared.Column.{Column}
+use Rattle.columns.specs.Columns.{at, total, definition}
+use Rattle.variables.specs.Table.{Defines, Definitions, Entered, Enters, Defining}
+
+module _ (w : List ℕ) where
+  pub entered-none : (t : List ℕ) → word w 0 < length t → ((v : ℕ) → getD t v 0 ≡ 0) → Entered w 0 t
+  entered-none t room z =
+      record {
+        room = room;
+        right = λ i l. absurd (omega arith);
+        has = λ i l. absurd (omega arith);
+        only = λ v i e. absurd (omega (arith, z v));
+      }
+
+  module _ (n : ℕ) (t : List ℕ) (E : Entered w n t) where
+    -- the variable of the next definition
+    abbrev v : ℕ
+    v = definition w n / 2
+
+    pub entered-more : Defines (word w 0) (definition w n) → getD t (definition w n / 2) 0 ≡ 0
+        → Entered w (n + 1) (set t (definition w n / 2) (n + 1))
+    entered-more d z =
+        record {
+          room = omega (arith, length-set t v (n + 1), E .room);
+          right = λ i l. right′ i (ℕ-discrete i n) l;
+          has = λ i l. ⊎-elim (λ r. r .1 ∙ same i (r .0) l (ℕ-discrete i n)) (λ r. r .1 ∙ E .has i (less i (r .0) l (ℕ-discrete i n)))
+              (getD-set t v (n + 1) (definition w i / 2) here);
+          only = λ u i e.
+              ⊎-elim (λ r. let k : i ≡ n = omega arith in (omega arith, rw k (sym (r .0))))
+              (λ r. let q = E .only u i (sym (r .1) ∙ e) in (omega (arith, q .0), q .1))
+              (getD-set t v (n + 1) u here);
+        }
+      where
+        here : definition w n / 2 < length t
+        here = omega (arith, d .bound, E .room)
+
+        right′ : (i : ℕ) → Dec (i ≡ n) → i < n + 1 → Defines (word w 0) (definition w i)
+        right′ i (yes e) l = rw e d
+        right′ i (no e) l = E .right i (omega arith)
+
+        -- another definition of the variable would be in the table
+        same : (i : ℕ) → definition w i / 2 ≡ definition w n / 2 → i < n + 1 → Dec (i ≡ n) → n + 1 ≡ i + 1
+        same i e l (yes q) = omega arith
+        same i e l (no q) = absurd (omega (arith, E .has i (omega arith), ap (λ (u : ℕ). getD t u 0) e))
+
+        less : (i : ℕ) → (definition w i / 2 ≡ definition w n / 2 → ⊥) → i < n + 1 → Dec (i ≡ n) → i < n
+        less i k l (yes q) = absurd (k (ap (λ (x : ℕ). definition w x / 2) q))
+        less i k l (no q) = omega arith
+
+    -- a definition that is not entered is wrong or repeated
+    pub entered-not : (k : ℕ) → n < k → (Defines (word w 0) (definition w n) → getD t (definition w n / 2) 0 ≡ 0 → ⊥) → Definitions w k → ⊥
+    entered-not k l f D =
+        let filled = f (D .right n l) in
+        let q = E .only v (getD t v 0 - 1) (omega arith) in
+        D .apart (getD t v 0 - 1) n (q .0) l (q .1)
+
+    pub entered-right : Definitions w n
+    entered-right =
+        record {
+          right = E .right;
+          apart = λ i j h l e. omega (arith, E .has i (omega arith), E .has j l, ap (λ (u : ℕ). getD t u 0) e);
+        }
+
+-- ---- a column is entered
+
+module _ (w : List ℕ) (c : Column) (m base : ℕ) (t₀ : List ℕ) (D : Defining w c m base t₀) (i : ℕ) (h : i < c .n) (t : List ℕ)
+    (E : Entered w (base + i) t) where
+  pub define-more : (u : List ℕ) → Enters m (at w c i) (base + i + 1) t u true → Entered w (base + (i + 1)) u
+  define-more u e =
+      let k : base + (i + 1) ≡ base + i + 1 = omega arith in
+      let x = rw (D .part i h, D .most) at e in
+      rw (k, x .2) (entered-more w (base + i) t E (x .0) (x .1))
+
+  pub define-not : (u : List ℕ) → Enters m (at w c i) (base + i + 1) t u false → Definitions w (total w) → ⊥
+  define-not u e = entered-not w (base + i) t E (total w) (omega (arith, D .within)) (rw (D .part i h, D .most) at e)
