@@ -3,5 +3,6 @@ pub mod Words
 pub mod Buckets
 pub mod Stores
 pub mod Patterns
+pub mod Candidates
 pub mod Simulations
 pub mod Twins

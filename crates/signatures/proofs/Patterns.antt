@@ -36,14 +36,6 @@ module _ (n : ℕ) (F G : (ℕ → Bool) → Bool) (locF : Local n F) (locG : Lo
       let r = sequence-of n (λ j. patternBit j p) in
       sym (locF (freeBit n (r .0)) (λ j. patternBit j p) (r .2)) ∙ h (r .0) (r .1) ∙ locG (freeBit n (r .0)) (λ j. patternBit j p) (r .2)
 
-  -- functions that differ in a pattern differ under some sequence
-  pub pattern-differ : (p : ℕ) → (F (λ j. patternBit j p) ≡ G (λ j. patternBit j p) → ⊥) → (x : ℕ) × (x < 2 ^ n) × (F (freeBit n x) ≡ G (freeBit n x) → ⊥)
-  pattern-differ p h =
-      let r = sequence-of n (λ j. patternBit j p) in
-      let f = locF (freeBit n (r .0)) (λ j. patternBit j p) (r .2) in
-      let g = locG (freeBit n (r .0)) (λ j. patternBit j p) (r .2) in
-      (r .0, r .1, λ e. h (sym f ∙ e ∙ g))
-
   -- with at most six free bits, functions that are equal in all patterns are equal over all sequences
   pub sequence-equal : n ≤ 6 → ((p : ℕ) → p < 64 → F (λ j. patternBit j p) ≡ G (λ j. patternBit j p)) → (x : ℕ) → x < 2 ^ n → F (freeBit n x) ≡ G (freeBit n x)
   sequence-equal six h x l =

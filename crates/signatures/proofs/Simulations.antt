@@ -1,6 +1,6 @@
--- Laws of simulation: the leaves, the gates in turn, and the comparison of a block. Assumes nothing.
+-- Laws of simulation: the leaves, the gates in turn, and the candidates that a block leaves. Assumes nothing.
 use mathlib.Core.Path.{_≡_, refl, sym, ap, ap₂, _∙_, subst}
-use mathlib.Core.Bool.{Bool, true, false, not, _&&_}
+use mathlib.Core.Bool.{Bool, true, false, _&&_}
 use mathlib.Core.List.{List}
 use mathlib.Core.Logic.{_⊎_, inl, inr}
 use Prim.Native.Nat.{ℕ, _+_, _-_, _*_, _%_, _^_, _≤_, _<_}
@@ -14,23 +14,25 @@ use lib.Pow.{pow-add, pow-lt}
 use Rattle.aiger.specs.Bits.{bit}
 use Rattle.aiger.specs.Circuit.{var}
 use Rattle.aiger.specs.Frames.{value, freeBit}
-use Rattle.aiger.specs.Signature.{FirstDifference}
 use Rattle.meaning.proofs.Values.{value-eq}
 use Rattle.words.proofs.Bits.{bit-none, bit-and}
 use Rattle.nodes.specs.Graph.{Pair, edgeValue, nodeValues, pairAt}
 use Rattle.nodes.specs.Store.{field, pairsOf, Sized}
 use Rattle.nodes.specs.declared.Graph.{Graph}
 use Rattle.nodes.proofs.Laws.{edge-node, edge-gate, edge-false, edge-free, pairIn, pairsOf-same, pairAt-pairsOf, length-pairsOf}
-use Rattle.signatures.specs.Words.{wordAt, Put, Kept, simulationWord}
+use Rattle.signatures.specs.Words.{wordAt, Put, Kept, simulationWord, searchWord}
 use Rattle.signatures.specs.Store.{Ordered}
-use Rattle.signatures.specs.Twin.{edgeUnder, bothUnder, Conjunction, Simulated, LeavesSet, GateSet, Evaluated, Simulable, Compared}
-use Rattle.signatures.proofs.Words.{kept-trans, simulation-kept, simulation-other}
+use Rattle.signatures.specs.Twin.{edgeUnder, bothUnder, Conjunction, Simulated, LeavesSet, GateSet, Evaluated, Simulable}
+use Rattle.signatures.specs.Twin.{HasWord, Listed, Candidates, Sifted, InBlock}
+use Rattle.signatures.proofs.Words.{kept-trans, kept-simulated, simulation-kept, simulation-other}
+use Rattle.signatures.proofs.Candidates.{listed-none, sifted-as, sifted-all, sifted-simulated, sifted-both, candidates-sifted}
 
--- a simulation changes no gate
-pub pairs-kept : (work last : List ℕ) (g : Graph) → Kept simulationWord work last → pairsOf last g ≡ pairsOf work g
+-- a search changes no gate
+pub pairs-kept : (work last : List ℕ) (g : Graph) → Kept searchWord work last → pairsOf last g ≡ pairsOf work g
 pairs-kept work last g k = pairsOf-same work last g (λ j a b. (k j 0 (omega arith) refl, k j 1 (omega arith) refl))
 
-pub simulable-kept : (work last : List ℕ) (g : Graph) → length last ≡ length work → Kept simulationWord work last → Simulable work g → Simulable last g
+pub simulable-kept : (work last : List ℕ) (g : Graph) → length last ≡ length work → Kept searchWord work last → Simulable work g
+    → Simulable last g
 simulable-kept work last g e k s =
     record {
       sized = subst (λ (m : ℕ). Sized g m) (sym e) (s .sized);
@@ -137,23 +139,18 @@ module _ (work now : List ℕ) (g : Graph) (m : ℕ) (ordered : Ordered (g .free
           kept = kept-trans simulationWord work now last (u .kept) (simulation-kept now last m (set .others));
         }
 
--- ---- the comparison of a block
+-- ---- a block
 
-not-same : (a b : Bool) → a ≡ not b → a ≡ b → ⊥
-not-same true true p q = let z : _≡_ {A = ℕ} 0 1 = cc in omega arith
-not-same true false p q = let z : _≡_ {A = ℕ} 0 1 = cc in omega arith
-not-same false true p q = let z : _≡_ {A = ℕ} 0 1 = cc in omega arith
-not-same false false p q = let z : _≡_ {A = ℕ} 0 1 = cc in omega arith
-
-module _ (work first last : List ℕ) (g : Graph) (q : ℕ) (leaves : LeavesSet work first (g .free) q) (all : Evaluated first last g) where
+module _ {work first last : List ℕ} {g : Graph} {q : ℕ} (leaves : LeavesSet work first (g .free) q) (all : Evaluated first last g) where
   same-gates : pairsOf first g ≡ pairsOf work g
-  same-gates = pairs-kept work first g (leaves .kept)
+  same-gates = pairs-kept work first g (kept-simulated work first (leaves .kept))
 
-  pub block-kept : Kept simulationWord work last
+  block-kept : Kept simulationWord work last
   block-kept = kept-trans simulationWord work first last (leaves .kept) (all .kept)
 
   -- the simulation word of an edge
-  pub block-edge : (e : ℕ) → var e < g .nodes → (p : ℕ) → p < 64 → value (λ k. bit (wordAt last k 8) p) e ≡ edgeUnder (g .free) (pairsOf work g) e (q * 64 + p)
+  block-edge : (e : ℕ) → var e < g .nodes → (p : ℕ) → p < 64
+      → value (λ k. bit (wordAt last k 8) p) e ≡ edgeUnder (g .free) (pairsOf work g) e (q * 64 + p)
   block-edge e h p l =
       let f : ℕ → Bool = freeBit (g .free) (q * 64 + p) in
       let vs : List Bool = nodeValues (g .free) (pairsOf first g) f in
@@ -161,24 +158,28 @@ module _ (work first last : List ℕ) (g : Graph) (q : ℕ) (leaves : LeavesSet 
       (all .right f p l (leaves .right (pairsOf first g) p l) (var e) h ∙ edge-node vs (var e))
       ∙ ap (λ (gs : List Pair). edgeValue (g .free) gs f e) same-gates
 
-  module _ (a b e x y z r : ℕ) (ha : var a < g .nodes) (hb : var b < g .nodes) (he : var e < g .nodes)
-      (bx : (p : ℕ) → p < 64 → bit x p ≡ value (λ k. bit (wordAt last k 8) p) a)
-      (by : (p : ℕ) → p < 64 → bit y p ≡ value (λ k. bit (wordAt last k 8) p) b)
-      (bz : (p : ℕ) → p < 64 → bit z p ≡ value (λ k. bit (wordAt last k 8) p) e)
-      (d : FirstDifference 64 z (bitAnd x y) r) where
-    both : (p : ℕ) → p < 64 → bit (bitAnd x y) p ≡ bothUnder (g .free) (pairsOf work g) a b (q * 64 + p)
-    both p l = bit-and x y p ∙ ap₂ _&&_ (bx p l ∙ block-edge a ha p l) (by p l ∙ block-edge b hb p l)
+  module _ {count : ℕ} (candidates : Candidates work count (g .nodes)) where
+    abbrev Node : ℕ → Type 0
+    Node e = var e < g .nodes
 
-    one : (p : ℕ) → p < 64 → bit z p ≡ edgeUnder (g .free) (pairsOf work g) e (q * 64 + p)
-    one p l = bz p l ∙ block-edge e he p l
+    simulated : Sifted work last Node count count
+    simulated = sifted-simulated candidates block-kept
 
-    pub compared : Compared work last g a b e q r
-    compared =
-        record {
-          equal = λ h p l. sym (one p l) ∙ d .below p (omega arith) ∙ both p l;
-          differ = λ h s. not-same (bit z r) (bit (bitAnd x y) r) (d .here h) (one r h ∙ s ∙ sym (both r h));
-          kept = block-kept;
-        }
+    pub block-candidates : Candidates last count (g .nodes)
+    block-candidates = candidates-sifted simulated candidates
+
+    -- the candidates whose simulation word is that of the conjunction
+    module _ (a b x y : ℕ) (ha : var a < g .nodes) (hb : var b < g .nodes) (bx : HasWord last 8 x a) (by : HasWord last 8 y b) where
+      both : (p : ℕ) → p < 64 → bit (bitAnd x y) p ≡ bothUnder (g .free) (pairsOf work g) a b (q * 64 + p)
+      both p l = bit-and x y p ∙ ap₂ _&&_ (bx p l ∙ block-edge a ha p l) (by p l ∙ block-edge b hb p l)
+
+      pub block-sifted : {final : List ℕ} {left : ℕ} → Sifted last final (HasWord last 8 (bitAnd x y)) count left
+          → Sifted work final (InBlock (g .free) (pairsOf work g) a b q) count left
+      block-sifted s =
+          sifted-both simulated s
+          (λ e h w p l. sym (block-edge e h p l) ∙ sym (w p l) ∙ both p l)
+          (λ e l r. candidates .nodes e l)
+          (λ e h r p l. both p l ∙ sym (r p l) ∙ sym (block-edge e h p l))
 
 -- ---- all blocks
 
@@ -190,36 +191,48 @@ all-blocks n h l =
     ap (λ (x : ℕ). x % 2 ^ 64 * 64) m ∙ ap (λ (x : ℕ). x * 64) (mod-eq-of-lt (pow-lt {j = 64} (omega arith)))
     ∙ sym (pow-add 2 (n - 6) 6) ∙ ap (λ (x : ℕ). 2 ^ x) e
 
--- no sequence of the first q blocks shows a difference
-pub record CheckedUpto (work last : List ℕ) (g : Graph) (a b e q : ℕ) : Type 0 where
-  pub equal : (x : ℕ) → x < q * 64 → edgeUnder (g .free) (pairsOf work g) e x ≡ bothUnder (g .free) (pairsOf work g) a b x
-  pub kept : Kept simulationWord work last
+-- edge e has the values of the conjunction of a and b in the first q blocks
+abbrev pub InBlocks : ℕ → List Pair → ℕ → ℕ → ℕ → ℕ → Type 0
+InBlocks n gs a b q e = (x : ℕ) → x < q * 64 → edgeUnder n gs e x ≡ bothUnder n gs a b x
 
-pub checked-none : (work : List ℕ) (g : Graph) (a b e : ℕ) → CheckedUpto work work g a b e 0
-checked-none work g a b e = record { equal = λ x h. absurd (omega arith); kept = λ k f h t. refl }
+blocks-more : (n : ℕ) (gs : List Pair) (a b q e : ℕ) → InBlocks n gs a b q e → InBlock n gs a b q e → InBlocks n gs a b (q + 1) e
+blocks-more n gs a b q e u i x l = go (ltb x (q * 64)) refl
+  where
+    go : (t : Bool) → ltb x (q * 64) ≡ t → edgeUnder n gs e x ≡ bothUnder n gs a b x
+    go true k = u x (ltb-true x (q * 64) k)
+    go false k =
+        let h : q * 64 ≤ x = ltb-false x (q * 64) k in
+        let z : q * 64 + (x - q * 64) ≡ x = omega arith in
+        subst (λ (y : ℕ). edgeUnder n gs e y ≡ bothUnder n gs a b y) z (i (x - q * 64) (omega arith))
 
-module _ (work now last : List ℕ) (g : Graph) (a b e q r : ℕ) (u : CheckedUpto work now g a b e q) (c : Compared now last g a b e q r) where
-  gates : pairsOf now g ≡ pairsOf work g
-  gates = pairs-kept work now g (u .kept)
+pub blocks-none : {work : List ℕ} (n : ℕ) (gs : List Pair) (a b : ℕ) {count : ℕ} → Sifted work work (InBlocks n gs a b 0) count count
+blocks-none n gs a b = sifted-all (λ e x l. absurd (omega arith))
 
-  pub checked-kept : Kept simulationWord work last
-  checked-kept = kept-trans simulationWord work now last (u .kept) (c .kept)
+pub blocks-next : {work now last : List ℕ} (g : Graph) (a b q : ℕ) {count mid left : ℕ}
+    → Sifted work now (InBlocks (g .free) (pairsOf work g) a b q) count mid
+    → Sifted now last (InBlock (g .free) (pairsOf now g) a b q) mid left
+    → Sifted work last (InBlocks (g .free) (pairsOf work g) a b (q + 1)) count left
+blocks-next {work} {now} {last} g a b q {mid = mid} {left = left} s t =
+    let n : ℕ = g .free in
+    let gs : List Pair = pairsOf work g in
+    let t′ : Sifted now last (InBlock n gs a b q) mid left = rw (sym (pairs-kept work now g (s .kept))) t in
+    sifted-both s t′
+    (blocks-more n gs a b q)
+    (λ e l r x h. r x (omega arith))
+    (λ e u r p h. r (q * 64 + p) (omega arith))
 
-  below : 64 ≤ r → (x : ℕ) → x < (q + 1) * 64 → (t : Bool) → ltb x (q * 64) ≡ t
-      → edgeUnder (g .free) (pairsOf work g) e x ≡ bothUnder (g .free) (pairsOf work g) a b x
-  below h x l true k = u .equal x (ltb-true x (q * 64) k)
-  below h x l false k =
-      let i : q * 64 ≤ x = ltb-false x (q * 64) k in
-      let z : q * 64 + (x - q * 64) ≡ x = omega arith in
-      subst (λ (y : ℕ). edgeUnder (g .free) (pairsOf work g) e y ≡ bothUnder (g .free) (pairsOf work g) a b y) z
-      (subst (λ (gs : List Pair). edgeUnder (g .free) gs e (q * 64 + (x - q * 64)) ≡ bothUnder (g .free) gs a b (q * 64 + (x - q * 64))) gates
-      (c .equal h (x - q * 64) (omega arith)))
+-- with six free bits or fewer no block is tried
+pub blocks-few : {work : List ℕ} (n : ℕ) (gs : List Pair) (a b : ℕ) {count : ℕ} → n ≤ 6
+    → Sifted work work (λ e. 6 < n → Conjunction n gs a b e) count count
+blocks-few n gs a b h = sifted-all (λ e l. absurd (omega arith))
 
-  pub checked-more : 64 ≤ r → CheckedUpto work last g a b e (q + 1)
-  checked-more h = record { equal = λ x l. below h x l (ltb x (q * 64)) refl; kept = checked-kept }
-
-  pub checked-differ : r < 64 → q * 64 + 64 ≤ 2 ^ g .free → Conjunction (g .free) (pairsOf work g) a b e → ⊥
-  checked-differ h l k =
-      c .differ h
-      (subst (λ (gs : List Pair). edgeUnder (g .free) gs e (q * 64 + r) ≡ bothUnder (g .free) gs a b (q * 64 + r)) (sym gates)
-      (k (q * 64 + r) (omega arith)))
+-- no candidate is left, or all blocks were tried
+pub blocks-end : {work last : List ℕ} (n : ℕ) (gs : List Pair) (a b q : ℕ) {count left : ℕ}
+    → 6 < n → q * 64 ≤ 2 ^ n → (left ≡ 0) ⊎ (2 ^ n ≤ q * 64)
+    → Sifted work last (InBlocks n gs a b q) count left → Sifted work last (λ e. 6 < n → Conjunction n gs a b e) count left
+blocks-end {last = last} n gs a b q {left = left} h l d s =
+    sifted-as s (at d) (λ e c x k. c h x (omega arith))
+  where
+    at : (left ≡ 0) ⊎ (2 ^ n ≤ q * 64) → (e : ℕ) → Listed last left e → InBlocks n gs a b q e → 6 < n → Conjunction n gs a b e
+    at (inl z) e m u = absurd (listed-none last left e z m)
+    at (inr z) e m u = λ k x j. u x (omega arith)

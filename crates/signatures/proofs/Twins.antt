@@ -1,4 +1,4 @@
--- Laws of the search for a twin: candidates, one node, and the walk along a bucket. Assumes nothing.
+-- Laws of the search for a twin: the candidate of a node, the walk along a bucket, and the candidates that are left. Assumes nothing.
 use mathlib.Core.Path.{_≡_, refl, sym, ap, ap₂, _∙_, subst}
 use mathlib.Core.Bool.{Bool, true, false, not, cond, _||_}
 use mathlib.Core.List.{List}
@@ -7,26 +7,27 @@ use Prim.Native.Nat.{ℕ, zero, suc, _+_, _-_, _*_, _%_, _^_, _≤_, _<_}
 use native.Mathlib.Omega.{arith}
 use borrow.Author.Tests.{eq-eqb, eqb-true, eqb-false, ltb-true, ltb-false}
 use lib.Dec.{eqb, ltb}
-use lib.ListN.{length, getD}
+use lib.ListN.{getD}
 use Rattle.aiger.specs.Bits.{nonzero, bit}
 use Rattle.aiger.specs.Circuit.{var}
 use Rattle.aiger.specs.Frames.{value}
 use Rattle.meaning.proofs.Values.{value-even, value-eq}
 use Rattle.words.proofs.Bits.{bit-not, bits-equal}
-use Rattle.nodes.specs.Graph.{Pair}
-use Rattle.nodes.specs.Store.{field, pairsOf, Sized}
+use Rattle.nodes.specs.Graph.{Pair, nodes}
+use Rattle.nodes.specs.Store.{field, pairsOf}
 use Rattle.nodes.specs.declared.Graph.{Graph}
 use Rattle.nodes.proofs.Laws.{nodes-pairsOf}
-use Rattle.signatures.specs.Words.{wordAt, Kept, simulationWord, signatureWord}
+use Rattle.signatures.specs.Words.{wordAt, Kept, searchWord, signatureWord}
 use Rattle.nodes.specs.Last.{lastBefore}
 use Rattle.signatures.specs.Bucket.{bucketOf}
-use Rattle.signatures.specs.Store.{patternValue, inBucket, SignatureStore, Ordered}
-use Rattle.signatures.specs.Twin.{Conjunction, Twin, TwinAt, Ready, Candidate, Both}
-use Rattle.signatures.proofs.Words.{true-false, word-fits, kept-trans}
+use Rattle.signatures.specs.Store.{inBucket, SignatureStore}
+use Rattle.signatures.specs.Twin.{Conjunction, Twin, Ready, Searched, HasWord, Candidate, Both, Listed, Pushed, Gathered, Checked}
+use Rattle.signatures.proofs.Words.{true-false, word-same, word-fits, kept-trans}
 use Rattle.nodes.proofs.Last.{last-le, last-passes, last-after}
 use Rattle.signatures.proofs.Buckets.{bucket-below, bucket-complement}
 use Rattle.signatures.proofs.Patterns.{conjunction-pattern, pattern-conjunction}
 use Rattle.signatures.proofs.Stores.{store-kept, store-edge}
+use Rattle.signatures.proofs.Candidates.{listed-first, listed-none, pushed-kept}
 use Rattle.signatures.proofs.Simulations.{pairs-kept}
 
 -- ---- edges
@@ -100,184 +101,193 @@ module _ (k t s : ℕ) (ht : t < 2 ^ 64) (hs : s < 2 ^ 64) where
   candidate-none a b =
       record { found = λ e r. absurd (omega arith); none = λ z e v h. ⊎-elim a b (signature-cases e h) }
 
--- ---- one node
-
-module _ (work : List ℕ) (g : Graph) (a b s k : ℕ) (store : SignatureStore work g) (both : Both work g a b s) (among : k < g .nodes) where
-  abbrev n : ℕ
-  n = g .free
-
-  abbrev gs : List Pair
-  gs = pairsOf work g
-
-  edge-bits : (e : ℕ) → var e ≡ k → (p : ℕ) → p < 64 → value (λ j. bit (wordAt work k 2) p) e ≡ patternValue n gs e p
-  edge-bits e v p l =
-      value-eq (λ j. bit (wordAt work k 2) p) (λ j. bit (wordAt work j 2) p) e (ap (λ (j : ℕ). bit (wordAt work j 2) p) (sym v))
-      ∙ store-edge work g store e (omega arith) p l
-
-  pub conjunction-bits : (e : ℕ) → var e ≡ k → Conjunction n gs a b e → Bits (wordAt work k 2) s e
-  conjunction-bits e v c p l = both .bits p l ∙ sym (conjunction-pattern n gs a b e c p) ∙ sym (edge-bits e v p l)
-
-  module _ (r : ℕ) (cand : Candidate k (wordAt work k 2) s r) where
-    pub twin-none : r ≡ 0 → TwinAt n gs a b k 0
-    twin-none z = record { found = λ e q. absurd (omega arith); none = λ y e v c. cand .none z e v (conjunction-bits e v c) }
-
-    pub twin-small : n ≤ 6 → (r ≡ 0 → ⊥) → TwinAt n gs a b k r
-    twin-small six h =
-        record {
-          found = λ e q.
-              let f = cand .found e q in (
-                f .0,
-                pattern-conjunction n gs a b e six (λ p l. sym (edge-bits e (f .0) p l) ∙ sym (f .1 p l) ∙ both .bits p l),
-              );
-          none = λ z e v c. h z;
-        }
-
-    pub twin-equal : (r ≡ 0 → ⊥) → Conjunction n gs a b (r - 1) → TwinAt n gs a b k r
-    twin-equal h c =
-        record {
-          found = λ e q. let z : r - 1 ≡ e = omega arith in (cand .found e q .0, subst (λ (d : ℕ). Conjunction n gs a b d) z c);
-          none = λ z e v d. h z;
-        }
-
-    pub twin-differ : (r ≡ 0 → ⊥) → (Conjunction n gs a b (r - 1) → ⊥) → TwinAt n gs a b k 0
-    twin-differ h d =
-        let f = cand .found (r - 1) (omega arith) in
-        record {
-          found = λ e q. absurd (omega arith);
-          none = λ y e v c.
-              let z : e ≡ r - 1 =
-              same-edge (bit (wordAt work k 2) 0) e (r - 1) (v ∙ sym (f .0))
-              (sym (conjunction-bits e v c 0 (omega arith)) ∙ f .1 0 (omega arith)) in
-              d (subst (λ (x : ℕ). Conjunction n gs a b x) z c);
-        }
-
--- ---- a simulation in between
-
-pub store-simulated : (work last : List ℕ) (g : Graph) → Kept simulationWord work last → SignatureStore work g → SignatureStore last g
-store-simulated work last g k s =
-    store-kept work last (λ j f h t. k j f h (apart f t)) g (pairs-kept work last g k) s
+-- the edge of the node that has signature s is the candidate
+candidate-all : {k t s r : ℕ} → Candidate k t s r → (e : ℕ) → var e ≡ k → Bits t s e → r ≡ e + 1
+candidate-all {k} {t} {s} {r} c e v h = go (eqb r 0) refl
   where
-    apart : (f : ℕ) → signatureWord f ≡ true → simulationWord f ≡ false
-    apart f t = go (eqb f 8) (eqb f 9) refl refl
-      where
-        go : (x y : Bool) → eqb f 8 ≡ x → eqb f 9 ≡ y → simulationWord f ≡ false
-        go true y p q = absurd (true-false (sym t ∙ ap signatureWord (eqb-true f 8 p)))
-        go false true p q = absurd (true-false (sym t ∙ ap signatureWord (eqb-true f 9 q)))
-        go false false p q = ap₂ _||_ p q
-
-pub ready-simulated : (work last : List ℕ) (g : Graph) (a b : ℕ) → length last ≡ length work → Kept simulationWord work last → Ready work g a b → Ready last g a b
-ready-simulated work last g a b e k r =
-    record {
-      sized = subst (λ (m : ℕ). Sized g m) (sym e) (r .sized);
-      free = r .free;
-      ordered = subst (λ (gs : List Pair). Ordered (g .free) gs) (sym (pairs-kept work last g k)) (r .ordered);
-      store = store-simulated work last g k (r .store);
-      left = r .left;
-      right = r .right;
-    }
-
-pub both-simulated : (work last : List ℕ) (g : Graph) (a b s : ℕ) → Kept simulationWord work last → Both work g a b s → Both last g a b s
-both-simulated work last g a b s k h = rw (pairs-kept work last g k) h
+    go : (b : Bool) → eqb r 0 ≡ b → r ≡ e + 1
+    go true z = absurd (c .none (eqb-true r 0 z) e v h)
+    go false z =
+        let y : r ≡ 0 → ⊥ = eqb-false r 0 z in
+        let f = c .found (r - 1) (omega arith) in
+        let d : e ≡ r - 1 = same-edge (bit t 0) e (r - 1) (v ∙ sym (f .0)) (sym (h 0 (omega arith)) ∙ f .1 0 (omega arith)) in
+        omega arith
 
 -- ---- the walk along a bucket
 
--- next is one more than the next node of s's bucket, or 0, and no later node of the bucket has a twin
-pub record Walked (work last : List ℕ) (g : Graph) (a b s next : ℕ) : Type 0 where
-  pub within : next ≤ g .nodes
+-- next is one more than the next node of s's bucket, or 0, and the candidates are the edges of the later nodes whose signature is s
+pub record Walked (work now : List ℕ) (g : Graph) (s count next : ℕ) : Type 0 where
+  pub room : count + next ≤ g .nodes
   pub here : (k : ℕ) → next ≡ k + 1 → inBucket work (g .room) (bucketOf (g .room) s) k ≡ true
-  pub none :
-      (j : ℕ) → next ≤ j → j < g .nodes → inBucket work (g .room) (bucketOf (g .room) s) j ≡ true → (e : ℕ) → var e ≡ j
-      → Conjunction (g .free) (pairsOf work g) a b e → ⊥
-  pub kept : Kept simulationWord work last
+  pub listed : (e : ℕ) → Listed now count e → (var e < g .nodes) × HasWord work 2 s e
+  pub all :
+      (e : ℕ) → next ≤ var e → var e < g .nodes → inBucket work (g .room) (bucketOf (g .room) s) (var e) ≡ true → HasWord work 2 s e
+      → Listed now count e
+  pub kept : Kept searchWord work now
 
-module _ (work : List ℕ) (g : Graph) (a b s : ℕ) (store : SignatureStore work g) (room : 0 < g .room) where
+module _ {work : List ℕ} {g : Graph} (s : ℕ) (store : SignatureStore work g) where
   abbrev h₀ : ℕ
   h₀ = bucketOf (g .room) s
 
   abbrev In : ℕ → Bool
   In = inBucket work (g .room) (bucketOf (g .room) s)
 
-  pub walk-start : Walked work work g a b s (field work (bucketOf (g .room) s) 7)
-  walk-start =
+  pub walk-start : 0 < g .room → Walked work work g s 0 (field work (bucketOf (g .room) s) 7)
+  walk-start room =
       let e = store .chained .heads h₀ (bucket-below (g .room) s room) in
       let m = last-le In (g .nodes) in
       record {
-        within = omega arith;
+        room = omega arith;
         here = λ k q. last-passes In (g .nodes) k (sym e ∙ q);
-        none = λ j l u p d v c. true-false (sym p ∙ last-after In (g .nodes) j (omega arith) u);
+        listed = λ d l. absurd (listed-none work 0 d refl l);
+        all = λ d l u p h. absurd (true-false (sym p ∙ last-after In (g .nodes) (var d) (omega arith) u));
         kept = λ k f h t. refl;
       }
 
-  module _ (now last : List ℕ) (next : ℕ) (w : Walked work now g a b s next) (positive : 0 < next) (kept : Kept simulationWord now last)
-      (refused : TwinAt (g .free) (pairsOf now g) a b (next - 1) 0) where
-    all : Kept simulationWord work last
-    all = kept-trans simulationWord work now last (w .kept) kept
+  module _ {now last : List ℕ} {count next t r more : ℕ} (w : Walked work now g s count next) (positive : 0 < next)
+      (read : t ≡ wordAt now (next - 1) 2) (cand : Candidate (next - 1) t s r) (pushed : Pushed now last count (λ d. r ≡ d + 1) more) where
+    all-kept : Kept searchWord work last
+    all-kept = kept-trans searchWord work now last (w .kept) (pushed-kept pushed)
 
-    passes : In (next - 1) ≡ true
-    passes = w .here (next - 1) (omega arith)
+    word : t ≡ wordAt work (next - 1) 2
+    word = read ∙ word-same work now (next - 1) 2 (w .kept (next - 1) 2 (omega arith) refl) (w .kept (next - 1) 3 (omega arith) refl)
+
+    node : Candidate (next - 1) (wordAt work (next - 1) 2) s r
+    node = subst (λ (x : ℕ). Candidate (next - 1) x s r) word cand
 
     follows : field last (next - 1) 5 ≡ lastBefore In (next - 1)
     follows =
-        all (next - 1) 5 (omega arith) refl ∙ store .chained .chain (next - 1) (let z = w .within in omega arith)
-        ∙ ap (λ (h : ℕ). lastBefore (inBucket work (g .room) h) (next - 1)) (eqb-true (bucketOf (g .room) (wordAt work (next - 1) 2)) h₀ passes)
+        all-kept (next - 1) 5 (omega arith) refl ∙ store .chained .chain (next - 1) (let z = w .room in omega arith)
+        ∙ ap (λ (h : ℕ). lastBefore (inBucket work (g .room) h) (next - 1))
+        (eqb-true (bucketOf (g .room) (wordAt work (next - 1) 2)) h₀ (w .here (next - 1) (omega arith)))
 
     pub walk-less : field last (next - 1) 5 < next
     walk-less = let m = last-le In (next - 1) in let f = follows in omega arith
 
-    none : (j : ℕ) → field last (next - 1) 5 ≤ j → j < g .nodes → In j ≡ true → (e : ℕ) → var e ≡ j
-        → Conjunction (g .free) (pairsOf work g) a b e → (t : Bool) → ltb j (next - 1) ≡ t → (u : Bool) → eqb j (next - 1) ≡ u → ⊥
-    none j l u p e v c true i y q =
-        let f = follows in
-        let z : j < next - 1 = ltb-true j (next - 1) i in
-        true-false (sym p ∙ last-after In (next - 1) j (omega arith) z)
-    none j l u p e v c false i true q =
-        let z : j ≡ next - 1 = eqb-true j (next - 1) q in
-        refused .none refl e (v ∙ z) (rw (pairs-kept work now g (w .kept)) c)
-    none j l u p e v c false i false q =
-        let x : next - 1 ≤ j = ltb-false j (next - 1) i in
-        let y : j ≡ next - 1 → ⊥ = eqb-false j (next - 1) q in
-        w .none j (omega arith) u p e v c
+    -- the bits of a node's edge
+    at-node : (e : ℕ) → var e ≡ next - 1 → (p : ℕ)
+        → value (λ j. bit (wordAt work (next - 1) 2) p) e ≡ value (λ k. bit (wordAt work k 2) p) e
+    at-node e v p =
+        value-eq (λ j. bit (wordAt work (next - 1) 2) p) (λ k. bit (wordAt work k 2) p) e (ap (λ (j : ℕ). bit (wordAt work j 2) p) (sym v))
 
-    pub walk-more : Walked work last g a b s (field last (next - 1) 5)
+    listed : (e : ℕ) → Listed now count e ⊎ (r ≡ e + 1) → (var e < g .nodes) × HasWord work 2 s e
+    listed e (inl l) = w .listed e l
+    listed e (inr q) =
+        let f = node .found e q in
+        let z = w .room in
+        (omega (arith, f .0), λ p l. f .1 p l ∙ at-node e (f .0) p)
+
+    all : (e : ℕ) → field last (next - 1) 5 ≤ var e → var e < g .nodes → In (var e) ≡ true → HasWord work 2 s e
+        → (t : Bool) → ltb (var e) (next - 1) ≡ t → (u : Bool) → eqb (var e) (next - 1) ≡ u → Listed last more e
+    all e l u p h true i y q =
+        let f = follows in
+        let z : var e < next - 1 = ltb-true (var e) (next - 1) i in
+        absurd (true-false (sym p ∙ last-after In (next - 1) (var e) (omega arith) z))
+    all e l u p h false i true q =
+        let z : var e ≡ next - 1 = eqb-true (var e) (next - 1) q in
+        pushed .new e (candidate-all node e z (λ m b. h m b ∙ sym (at-node e z m)))
+    all e l u p h false i false q =
+        let x : next - 1 ≤ var e = ltb-false (var e) (next - 1) i in
+        let y : var e ≡ next - 1 → ⊥ = eqb-false (var e) (next - 1) q in
+        pushed .before e (w .all e (omega arith) u p h)
+
+    pub walk-more : Walked work last g s more (field last (next - 1) 5)
     walk-more =
         let m = last-le In (next - 1) in
         let f = follows in
-        let z = w .within in
+        let z = w .room in
         record {
-          within = omega arith;
-          here = λ i q. last-passes In (next - 1) i (sym f ∙ q);
-          none = λ j l u p e v c. none j l u p e v c (ltb j (next - 1)) refl (eqb j (next - 1)) refl;
-          kept = all;
+          room = omega (arith, pushed .most);
+          here = λ k q. last-passes In (next - 1) k (sym f ∙ q);
+          listed = λ e l. listed e (pushed .listed e l);
+          all = λ e l u p h. all e l u p h (ltb (var e) (next - 1)) refl (eqb (var e) (next - 1)) refl;
+          kept = all-kept;
         }
 
-  module _ (last : List ℕ) (leaves : g .free + 1 ≤ g .nodes) (w : Walked work last g a b s 0) (fits : (i : ℕ) → getD work i 0 < 2 ^ 32)
-      (both : Both work g a b s) where
+  module _ {last : List ℕ} {count next : ℕ} (w : Walked work last g s count next) (finished : next ≡ 0)
+      (fits : (i : ℕ) → getD work i 0 < 2 ^ 32) (hs : s < 2 ^ 64) where
     in-bucket : (j : ℕ) → (wordAt work j 2 ≡ s) ⊎ (wordAt work j 2 ≡ (2 ^ 64 - 1) - s) → bucketOf (g .room) (wordAt work j 2) ≡ h₀
     in-bucket j (inl e) = ap (bucketOf (g .room)) e
-    in-bucket j (inr e) = ap (bucketOf (g .room)) e ∙ bucket-complement (g .room) s (both .fits)
+    in-bucket j (inr e) = ap (bucketOf (g .room)) e ∙ bucket-complement (g .room) s hs
 
-    pub walk-end : Twin (g .free) (pairsOf work g) a b 0
+    pub walk-end : Gathered work last g s count
     walk-end =
-        let m = nodes-pairsOf work g leaves in
         record {
-          found = λ e q. absurd (omega arith);
-          none = λ z e h c.
-              let l : var e < g .nodes = omega arith in
-              let x = conjunction-bits work g a b s (var e) store both l e refl c in
-              let y = in-bucket (var e) (signature-cases (var e) (wordAt work (var e) 2) s (word-fits work fits (var e) 2) (both .fits) e x) in
-              w .none (var e) (omega arith) l (eq-eqb (bucketOf (g .room) (wordAt work (var e) 2)) h₀ y) e refl c;
+          few = let z = w .room in omega arith;
+          listed = w .listed;
+          all = λ e l h.
+              let y = in-bucket (var e) (signature-cases (var e) (wordAt work (var e) 2) s (word-fits work fits (var e) 2) hs e h) in
+              w .all e (omega arith) l (eq-eqb (bucketOf (g .room) (wordAt work (var e) 2)) h₀ y) h;
+          kept = w .kept;
         }
 
-  -- a twin of a node is a twin
-  pub walk-found : (now : List ℕ) (k r : ℕ) → g .free + 1 ≤ g .nodes → Kept simulationWord work now → k < g .nodes → TwinAt (g .free) (pairsOf now g) a b k r
-      → (r ≡ 0 → ⊥) → Twin (g .free) (pairsOf work g) a b r
-  walk-found now k r leaves kept l t h =
-      let m = nodes-pairsOf work g leaves in
-      let p = pairs-kept work now g kept in
+-- ---- what a search keeps
+
+store-searched : (work last : List ℕ) (g : Graph) → Kept searchWord work last → SignatureStore work g → SignatureStore last g
+store-searched work last g k s =
+    store-kept work last (λ j f h t. k j f h (ap₂ _||_ (other f t 11 refl) (ap₂ _||_ (other f t 8 refl) (other f t 9 refl)))) g
+    (pairs-kept work last g k) s
+  where
+    other : (f : ℕ) → signatureWord f ≡ true → (d : ℕ) → signatureWord d ≡ false → eqb f d ≡ false
+    other f t d h = go (eqb f d) refl
+      where
+        go : (b : Bool) → eqb f d ≡ b → eqb f d ≡ false
+        go true p = absurd (true-false (sym t ∙ ap signatureWord (eqb-true f d p) ∙ h))
+        go false p = p
+
+-- ---- the candidates that are left
+
+module _ {work now last : List ℕ} {g : Graph} {a b s count left : ℕ} (ready : Ready work g a b) (both : Both work g a b s)
+    (gathered : Gathered work now g s count)
+    (checked : Checked now last g a b count left) where
+  abbrev n : ℕ
+  n = g .free
+
+  abbrev gs : List Pair
+  gs = pairsOf work g
+
+  gates : pairsOf now g ≡ gs
+  gates = pairs-kept work now g (gathered .kept)
+
+  count-nodes : nodes n gs ≡ g .nodes
+  count-nodes = nodes-pairsOf work g (ready .sized .leaves)
+
+  has-word : (e : ℕ) → var e < g .nodes → Conjunction n gs a b e → HasWord work 2 s e
+  has-word e h c p l = both .bits p l ∙ sym (conjunction-pattern n gs a b e c p) ∙ sym (store-edge work g (ready .store) e h p l)
+
+  equal : (e : ℕ) → var e < g .nodes → HasWord work 2 s e → (6 < n → Conjunction n (pairsOf now g) a b e)
+      → (t : Bool) → ltb 6 n ≡ t → Conjunction n gs a b e
+  equal e h w c true t = subst (λ (hs : List Pair). Conjunction n hs a b e) gates (c (ltb-true 6 n t))
+  equal e h w c false t =
+      pattern-conjunction n gs a b e (ltb-false 6 n t)
+      (λ p l. sym (store-edge work g (ready .store) e h p l) ∙ sym (w p l) ∙ both .bits p l)
+
+  pub twin-none : left ≡ 0 → Twin n gs a b 0
+  twin-none z =
+      let m = count-nodes in
+      record {
+        found = λ e q. absurd (omega arith);
+        none = λ y e h c.
+            let l = gathered .all e (omega arith) (has-word e (omega arith) c) in
+            listed-none last left e z (checked .all e l (λ k. subst (λ (hs : List Pair). Conjunction n hs a b e) (sym gates) c));
+      }
+
+  pub twin-first : 0 < left → Twin n gs a b (field last 0 11 + 1)
+  twin-first h =
+      let m = count-nodes in
+      let x = checked .listed (field last 0 11) (listed-first last left h) in
+      let y = gathered .listed (field last 0 11) (x .0) in
       record {
         found = λ e q.
-            let f = t .found e q in
-            let v = f .0 in
-            (omega arith, subst (λ (gs : List Pair). Conjunction (g .free) gs a b e) p (f .1));
-        none = λ z e u c. h z;
+            let z : field last 0 11 ≡ e = omega arith in (
+              omega (arith, y .0),
+              subst (λ (d : ℕ). Conjunction n gs a b d) z (equal (field last 0 11) (y .0) (y .1) (x .1) (ltb 6 n) refl),
+            );
+        none = λ z e u c. absurd (omega arith);
       }
+
+  searched-kept : Kept searchWord work last
+  searched-kept = kept-trans searchWord work now last (gathered .kept) (checked .kept)
+
+  pub searched : {r : ℕ} → Twin n gs a b r → Searched work last g a b r
+  searched t = record { twin = t; store = store-searched work last g searched-kept (ready .store); kept = searched-kept }

@@ -1,6 +1,6 @@
 -- Laws of the 64-bit words in records, and of what a store of one keeps. Assumes nothing.
 use mathlib.Core.Path.{_≡_, refl, sym, ap, ap₂, _∙_}
-use mathlib.Core.Bool.{Bool, true, false, not, xor, cond}
+use mathlib.Core.Bool.{Bool, true, false, not, xor, cond, _||_}
 use mathlib.Core.List.{List}
 use Prim.Native.Nat.{ℕ, _+_, _*_, _/_, _%_, _^_, _<_}
 use native.Mathlib.Omega.{arith}
@@ -11,7 +11,7 @@ use Rattle.aiger.specs.Bits.{odd}
 use Rattle.literals.proofs.Words.{odd-test}
 use Rattle.words.proofs.Bits.{xor-true, xor-false}
 use Rattle.nodes.specs.Store.{field}
-use Rattle.signatures.specs.Words.{wordAt, Put, Kept, simulationWord}
+use Rattle.signatures.specs.Words.{wordAt, Put, Kept, simulationWord, searchWord}
 
 pub true-false : true ≡ false → ⊥
 true-false e = let z : _≡_ {A = ℕ} 0 1 = cc in omega arith
@@ -22,6 +22,14 @@ test-apart t f d h k e = true-false (sym k ∙ ap t (sym e) ∙ h)
 
 pub kept-trans : (changed : ℕ → Bool) (a b c : List ℕ) → Kept changed a b → Kept changed b c → Kept changed a c
 kept-trans changed a b c p q k f h t = q k f h t ∙ p k f h t
+
+or-false : (x y : Bool) → (x || y) ≡ false → y ≡ false
+or-false true y e = absurd (true-false e)
+or-false false y e = e
+
+-- what a simulation keeps, a search keeps
+pub kept-simulated : (work last : List ℕ) → Kept simulationWord work last → Kept searchWord work last
+kept-simulated work last s k f h t = s k f h (or-false (eqb f 11) (simulationWord f) t)
 
 -- the sign of an edge, as code tests it
 pub edge-sign : (e : ℕ) (b : Bool) → xor (eqb (e % 2) 1) b ≡ cond (odd e) (not b) b

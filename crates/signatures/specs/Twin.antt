@@ -1,7 +1,8 @@
 -- Edges that are equal in function to a conjunction, and the simulation of blocks of 64 sequences. Assumes nothing.
 use mathlib.Core.Path.{_≡_}
-use mathlib.Core.Bool.{Bool, true, false, _&&_}
+use mathlib.Core.Bool.{Bool, _&&_}
 use mathlib.Core.List.{List}
+use mathlib.Core.Logic.{_⊎_}
 use Prim.Native.Nat.{ℕ, _+_, _*_, _^_, _≤_, _<_}
 use lib.ListN.{length, getD}
 use Rattle.aiger.specs.Bits.{bit}
@@ -11,7 +12,7 @@ use Rattle.aiger.specs.Signature.{PatternWord}
 use Rattle.nodes.specs.Graph.{Pair, edgeValue, Edge}
 use Rattle.nodes.specs.Store.{field, pairsOf, Sized}
 use Rattle.nodes.specs.declared.Graph.{Graph}
-use Rattle.signatures.specs.Words.{wordAt, Kept, simulationWord}
+use Rattle.signatures.specs.Words.{wordAt, Kept, simulationWord, searchWord}
 use Rattle.signatures.specs.Store.{patternValue, SignatureStore, Ordered}
 
 -- the value of edge e, and of the conjunction of edges a and b, under sequence x
@@ -31,11 +32,6 @@ pub record Twin (n : ℕ) (gs : List Pair) (a b r : ℕ) : Type 0 where
   pub found : (e : ℕ) → r ≡ e + 1 → Edge n gs e × Conjunction n gs a b e
   pub none : r ≡ 0 → (e : ℕ) → Edge n gs e → Conjunction n gs a b e → ⊥
 
--- the same of the two edges of node k
-pub record TwinAt (n : ℕ) (gs : List Pair) (a b k r : ℕ) : Type 0 where
-  pub found : (e : ℕ) → r ≡ e + 1 → (var e ≡ k) × Conjunction n gs a b e
-  pub none : r ≡ 0 → (e : ℕ) → var e ≡ k → Conjunction n gs a b e → ⊥
-
 -- where the search for a twin may start
 pub record Ready (work : List ℕ) (g : Graph) (a b : ℕ) : Type 0 where
   pub sized : Sized g (length work)
@@ -48,7 +44,7 @@ pub record Ready (work : List ℕ) (g : Graph) (a b : ℕ) : Type 0 where
 pub record Searched (work last : List ℕ) (g : Graph) (a b r : ℕ) : Type 0 where
   pub twin : Twin (g .free) (pairsOf work g) a b r
   pub store : SignatureStore last g
-  pub kept : Kept simulationWord work last
+  pub kept : Kept searchWord work last
 
 -- ---- simulation
 
@@ -81,22 +77,11 @@ pub record Simulable (work : List ℕ) (g : Graph) : Type 0 where
   pub sized : Sized g (length work)
   pub ordered : Ordered (g .free) (pairsOf work g)
 
--- r is the first sequence of block q in which edge e differs from the conjunction of a and b, counted from the block's first; or 64
-pub record Compared (work last : List ℕ) (g : Graph) (a b e q r : ℕ) : Type 0 where
-  pub equal :
-      64 ≤ r → (p : ℕ) → p < 64
-      → edgeUnder (g .free) (pairsOf work g) e (q * 64 + p) ≡ bothUnder (g .free) (pairsOf work g) a b (q * 64 + p)
-  pub differ :
-      r < 64
-      → edgeUnder (g .free) (pairsOf work g) e (q * 64 + r) ≡ bothUnder (g .free) (pairsOf work g) a b (q * 64 + r)
-      → ⊥
-  pub kept : Kept simulationWord work last
+-- ---- candidates
 
--- r says whether edge e is equal in function to the conjunction of a and b
-pub record Checked (work last : List ℕ) (g : Graph) (a b e : ℕ) (r : Bool) : Type 0 where
-  pub equal : r ≡ true → Conjunction (g .free) (pairsOf work g) a b e
-  pub differ : r ≡ false → Conjunction (g .free) (pairsOf work g) a b e → ⊥
-  pub kept : Kept simulationWord work last
+-- w is the word of edge e: that of its node in words f and f + 1, or the complement
+abbrev pub HasWord : List ℕ → ℕ → ℕ → ℕ → Type 0
+HasWord work f w e = (p : ℕ) → p < 64 → bit w p ≡ value (λ k. bit (wordAt work k f) p) e
 
 -- r is one more than the edge of node k whose signature is s, where t is that of the node; or 0
 pub record Candidate (k t s r : ℕ) : Type 0 where
@@ -108,6 +93,45 @@ abbrev pub Both : List ℕ → Graph → ℕ → ℕ → ℕ → Type 0
 Both work g a b s =
     PatternWord (λ p. patternValue (g .free) (pairsOf work g) a p && patternValue (g .free) (pairsOf work g) b p) s
 
-pub record Tried (work last : List ℕ) (g : Graph) (a b k r : ℕ) : Type 0 where
-  pub twin : TwinAt (g .free) (pairsOf work g) a b k r
-  pub kept : Kept simulationWord work last
+-- e is one of the first count candidates: word 11 of record i is candidate i
+abbrev pub Listed : List ℕ → ℕ → ℕ → Type 0
+Listed work count e = (i : ℕ) × (i < count) × (field work i 11 ≡ e)
+
+-- the candidates are at most m, and edges of the first m nodes
+pub record Candidates (work : List ℕ) (count m : ℕ) : Type 0 where
+  pub few : count ≤ m
+  pub nodes : (e : ℕ) → Listed work count e → var e < m
+
+-- the edge that New names, if it names one, was put after the first count candidates; r is how many there are now
+pub record Pushed (work last : List ℕ) (count : ℕ) (New : ℕ → Type 0) (r : ℕ) : Type 0 where
+  pub most : r ≤ count + 1
+  pub listed : (e : ℕ) → Listed last r e → Listed work count e ⊎ New e
+  pub before : (e : ℕ) → Listed work count e → Listed last r e
+  pub new : (e : ℕ) → New e → Listed last r e
+  pub others : (i : ℕ) → (i ≡ 16 * count + 11 → ⊥) → getD last i 0 ≡ getD work i 0
+
+-- the candidates are the edges whose signature is s
+pub record Gathered (work last : List ℕ) (g : Graph) (s count : ℕ) : Type 0 where
+  pub few : count ≤ g .nodes
+  pub listed : (e : ℕ) → Listed last count e → (var e < g .nodes) × HasWord work 2 s e
+  pub all : (e : ℕ) → var e < g .nodes → HasWord work 2 s e → Listed last count e
+  pub kept : Kept searchWord work last
+
+-- of the first count candidates those that pass are left
+pub record Sifted (work last : List ℕ) (Passes : ℕ → Type 0) (count left : ℕ) : Type 0 where
+  pub fewer : left ≤ count
+  pub listed : (e : ℕ) → Listed last left e → Listed work count e × Passes e
+  pub all : (e : ℕ) → Listed work count e → Passes e → Listed last left e
+  pub kept : Kept searchWord work last
+
+-- edge e has the values of the conjunction of a and b in block q
+abbrev pub InBlock : ℕ → List Pair → ℕ → ℕ → ℕ → ℕ → Type 0
+InBlock n gs a b q e = (p : ℕ) → p < 64 → edgeUnder n gs e (q * 64 + p) ≡ bothUnder n gs a b (q * 64 + p)
+
+-- block q leaves the candidates that have the values of the conjunction in it
+abbrev pub CheckedBlock : List ℕ → List ℕ → Graph → ℕ → ℕ → ℕ → ℕ → ℕ → Type 0
+CheckedBlock work last g a b count q left = Sifted work last (InBlock (g .free) (pairsOf work g) a b q) count left
+
+-- with more than six free bits, the candidates that are equal in function to the conjunction are left, and else all
+abbrev pub Checked : List ℕ → List ℕ → Graph → ℕ → ℕ → ℕ → ℕ → Type 0
+Checked work last g a b count left = Sifted work last (λ e. 6 < g .free → Conjunction (g .free) (pairsOf work g) a b e) count left

@@ -24,6 +24,10 @@ Kept changed work last = (k f : ℕ) → f < 16 → changed f ≡ false → fiel
 abbrev pub simulationWord : ℕ → Bool
 simulationWord f = eqb f 8 || eqb f 9
 
+-- a candidate, and the words of a simulation
+abbrev pub searchWord : ℕ → Bool
+searchWord f = eqb f 11 || simulationWord f
+
 -- a signature, the next node of its bucket, and the bucket's last node
 abbrev pub signatureWord : ℕ → Bool
 signatureWord f = eqb f 2 || (eqb f 3 || (eqb f 5 || eqb f 7))

@@ -2,7 +2,7 @@
 // the node's value in pattern p.
 use nodes::Graph;
 ghost use mathlib.Core.Path.{_≡_};
-ghost use Prim.Native.Nat.{ℕ, _+_, _*_, _≤_, _<_};
+ghost use Prim.Native.Nat.{ℕ, _+_, _*_, _/_, _≤_, _<_};
 ghost use lib.ListN.{length, getD};
 ghost use Rattle.aiger.specs.Bits.{bit};
 ghost use Rattle.aiger.specs.Circuit.{var};
@@ -174,37 +174,6 @@ fn eval_gates(work: &mut [u32], g: Graph)
     }
 }
 
-// The first sequence of block q in which edge e differs from the conjunction of a and b, or 64.
-fn compare_block(work: &mut [u32], g: Graph, a: u32, b: u32, e: u32, q: u64) -> u32
-    requires { ⌜ Twin.Simulable (now work) g ⌝ }
-    requires { ⌜ (var a < g .nodes) × (var b < g .nodes) × (var e < g .nodes) ⌝ }
-    ensures { λ r. ⌜ Twin.Compared (now (work .entry)) (now (work .exit)) g a b e q r ⌝ }
-{
-    let free = g.free;
-    set_leaves(work, free, q);
-    eval_gates(work, g);
-    let both = edge_word(work, a, 8) & edge_word(work, b, 8);
-    words::first_difference(edge_word(work, e, 8), both)
-}
-
-// Whether edge e is equal in function to the conjunction of a and b: all sequences are tried, 64 at a time.
-fn check_blocks(work: &mut [u32], g: Graph, a: u32, b: u32, e: u32) -> bool
-    requires { ⌜ Twin.Simulable (now work) g ⌝ }
-    requires { ⌜ (var a < g .nodes) × (var b < g .nodes) × (var e < g .nodes) ⌝ }
-    requires { ⌜ (6 ≤ g .free) × (g .free ≤ 12) ⌝ }
-    ensures { λ r. ⌜ Twin.Checked (now (work .entry)) (now (work .exit)) g a b e r ⌝ }
-{
-    let blocks = 1u64 << (g.free - 6);
-    let mut q = 0;
-    while q < blocks {
-        if compare_block(work, g, a, b, e, q) < 64 {
-            return false;
-        }
-        q += 1;
-    }
-    true
-}
-
 // One more than the edge of node k whose signature is s, where t is that of the node; else 0.
 fn candidate(k: u32, t: u64, s: u64) -> u32
     requires { ⌜ k < 65536 ⌝ }
@@ -219,24 +188,98 @@ fn candidate(k: u32, t: u64, s: u64) -> u32
     0
 }
 
-// One more than the edge of node k that is equal in function to the conjunction of a and b, whose signature is s; else 0.
-fn try_node(work: &mut [u32], g: Graph, a: u32, b: u32, s: u64, k: u32) -> u32
-    requires { ⌜ Twin.Ready (now work) g a b ⌝ }
-    requires { ⌜ (k < g .nodes) × Twin.Both (now work) g a b s ⌝ }
-    ensures { λ r. ⌜ Twin.Tried (now (work .entry)) (now (work .exit)) g a b k r ⌝ }
+// Adds edge e - 1 to the candidates, unless e is 0: word 11 of record i is candidate i. Answers how many there are.
+fn push(work: &mut [u32], count: usize, e: u32) -> usize
+    requires { ⌜ 16 * count + 11 < length (now work) ⌝ }
+    ensures { λ r. ⌜ Twin.Pushed (now (work .entry)) (now (work .exit)) count (λ d. e ≡ d + 1) r ⌝ }
 {
-    let i = k as usize;
-    let e = candidate(k, word_at(work, i, 2), s);
     if e == 0 {
-        return 0;
+        return count;
     }
+    work[16 * count + 11] = e - 1;
+    count + 1
+}
+
+// The candidates: the edges whose signature is s. Answers how many there are.
+fn gather(work: &mut [u32], g: Graph, s: u64) -> usize
+    requires { ⌜ Sized g (length (now work)) × SignatureStore (now work) g ⌝ }
+    ensures { λ r. ⌜ Twin.Gathered (now (work .entry)) (now (work .exit)) g s r ⌝ }
+{
+    let room = g.room;
+    let h = bucket(s, room);
+    let mut count = 0;
+    let mut next = work[16 * h + 7];
+    while 0 < next {
+        let k = next - 1;
+        let i = k as usize;
+        let e = candidate(k, word_at(work, i, 2), s);
+        count = push(work, count, e);
+        next = work[16 * i + 5];
+    }
+    count
+}
+
+// Puts edge e after the candidates that are left, if its values are w. Answers how many are left.
+fn keep(work: &mut [u32], left: usize, e: u32, w: u64) -> usize
+    requires { ⌜ (16 * left + 11 < length (now work)) × (16 * var e + 9 < length (now work)) ⌝ }
+    ensures { λ r. ⌜ Twin.Pushed (now (work .entry)) (now (work .exit)) left (λ d. (d ≡ e) × Twin.HasWord (now (work .entry)) 8 w d) r ⌝ }
+{
+    if words::first_difference(edge_word(work, e, 8), w) < 64 {
+        return left;
+    }
+    work[16 * left + 11] = e;
+    left + 1
+}
+
+// Keeps the candidates whose values are w. Answers how many are left.
+fn filter(work: &mut [u32], count: usize, w: u64) -> usize
+    requires { ⌜ Twin.Candidates (now work) count (length (now work) / 16) ⌝ }
+    ensures { λ r. ⌜ Twin.Sifted (now (work .entry)) (now (work .exit)) (Twin.HasWord (now (work .entry)) 8 w) count r ⌝ }
+{
+    let mut left = 0;
+    let mut i = 0;
+    while i < count {
+        let e = work[16 * i + 11];
+        left = keep(work, left, e, w);
+        i += 1;
+    }
+    left
+}
+
+// Keeps the candidates that have the values of the conjunction of a and b in block q of 64 sequences.
+fn check_block(work: &mut [u32], g: Graph, a: u32, b: u32, count: usize, q: u64) -> usize
+    requires { ⌜ Twin.Simulable (now work) g × Twin.Candidates (now work) count (g .nodes) ⌝ }
+    requires { ⌜ (var a < g .nodes) × (var b < g .nodes) ⌝ }
+    ensures { λ r. ⌜ Twin.CheckedBlock (now (work .entry)) (now (work .exit)) g a b count q r ⌝ }
+{
+    let free = g.free;
+    set_leaves(work, free, q);
+    eval_gates(work, g);
+    let both = edge_word(work, a, 8) & edge_word(work, b, 8);
+    filter(work, count, both)
+}
+
+// Keeps the candidates that are equal in function to the conjunction of a and b: all sequences are tried, 64 at a time. With six free
+// bits or fewer the patterns are all sequences, so that a candidate's signature is enough.
+fn check_blocks(work: &mut [u32], g: Graph, a: u32, b: u32, count: usize) -> usize
+    requires { ⌜ Twin.Simulable (now work) g × Twin.Candidates (now work) count (g .nodes) ⌝ }
+    requires { ⌜ (var a < g .nodes) × (var b < g .nodes) × (g .free ≤ 12) ⌝ }
+    ensures { λ r. ⌜ Twin.Checked (now (work .entry)) (now (work .exit)) g a b count r ⌝ }
+{
     if g.free <= 6 {
-        return e;
+        return count;
     }
-    if check_blocks(work, g, a, b, e - 1) {
-        return e;
+    let blocks = 1u64 << (g.free - 6);
+    let mut left = count;
+    let mut q = 0;
+    while q < blocks {
+        if left == 0 {
+            return 0;
+        }
+        left = check_block(work, g, a, b, left, q);
+        q += 1;
     }
-    0
+    left
 }
 
 // One more than an edge that is equal in function to the conjunction of a and b, or 0 where there is none.
@@ -244,18 +287,11 @@ pub fn find_twin(work: &mut [u32], g: Graph, a: u32, b: u32) -> u64
     requires { ⌜ Twin.Ready (now work) g a b ⌝ }
     ensures { λ r. ⌜ Twin.Searched (now (work .entry)) (now (work .exit)) g a b r ⌝ }
 {
-    let room = g.room;
     let s = signature(work, a) & signature(work, b);
-    let h = bucket(s, room);
-    let mut next = work[16 * h + 7];
-    while 0 < next {
-        let k = next - 1;
-        let e = try_node(work, g, a, b, s, k);
-        if 0 < e {
-            return wide(e);
-        }
-        let i = k as usize;
-        next = work[16 * i + 5];
+    let count = gather(work, g, s);
+    let left = check_blocks(work, g, a, b, count);
+    if left == 0 {
+        return 0;
     }
-    0
+    wide(work[11]) + 1
 }
