@@ -1,34 +1,10 @@
 // Folds each file that an argument names: a line `fold b t`, then an AIGER file. Prints the name and the folded frame's text, or
 // `refused` and the number.
+use files::say;
+use files::say_refused;
 use fold::FoldAnswer;
-use libc::STDOUT_FILENO;
 use load::LoadAnswer;
 use numbers::Number;
-ghost use Rattle.io.specs.Counts.{Counts};
-
-fn say(text: &[u8]) {
-    io::write_all(STDOUT_FILENO, text);
-}
-
-fn say_refused(n: u32) {
-    say(b"refused ");
-    io::print_decimal(STDOUT_FILENO, n as u64);
-    say(b"\n");
-}
-
-// Reads the file with a name into the front of the buffer. The answer is its length.
-fn read_file(name: &[u8], buf: &mut [u8]) -> usize
-    ensures { λ r. ⌜ Counts r (now (buf .exit)) ⌝ }
-{
-    let fd = os::open_read(name);
-    if fd < 0 {
-        os::fail(name);
-        return 0;
-    }
-    let n = io::read_full(fd, buf);
-    libc::close(fd);
-    n
-}
 
 fn say_folded(m: &[u32], b: u64, t: u64, work: &mut [u32], out: &mut [u8]) {
     match fold::fold(m, b, t, work, out) {
@@ -67,11 +43,7 @@ fn say_argument(i: usize) {
     let mut work = [0u32; 65536];
     let mut out = [0u8; 98368];
     let mut input = [0u8; 65536];
-    let mut name = io::buffer();
-    let length = os::arg(i, &mut name);
-    say(&name[..length]);
-    say(b"\n");
-    let n = read_file(&name[..length], &mut input);
+    let n = files::read_argument(i, b"\n", &mut input);
     say_input(&input[..n], &mut m, &mut work, &mut out);
 }
 

@@ -1,18 +1,14 @@
 // Loads the file of each row of a table into a circuit memory of so many words, writes what was loaded, and prints both answers. Each
 // argument is a row: a number of words, a space, and the name of a file.
-use libc::STDOUT_FILENO;
+use files::say;
 use load::LoadAnswer;
 use numbers::Number;
 use write::WriteAnswer;
 ghost use Rattle.io.specs.Counts.{Counts};
 
-fn say(text: &[u8]) {
-    io::write_all(STDOUT_FILENO, text);
-}
-
 fn say_number(n: u64) {
     say(b" ");
-    io::print_decimal(STDOUT_FILENO, n);
+    files::say_number(n);
 }
 
 fn say_counts(c: load::Counts) {
@@ -27,9 +23,8 @@ fn say_counts(c: load::Counts) {
 }
 
 fn say_refused(n: u32) {
-    say(b" refused");
-    say_number(n as u64);
-    say(b"\n");
+    say(b" ");
+    files::say_refused(n);
 }
 
 // Prints the length of a text, and the text where that is below 200.
@@ -60,20 +55,6 @@ fn say_loaded(file: &[u8], m: &mut [u32], out: &mut [u8]) {
     }
 }
 
-// Reads the file with a name into the front of the buffer. The answer is its length.
-fn read_file(name: &[u8], buf: &mut [u8]) -> usize
-    ensures { λ r. ⌜ Counts r (now (buf .exit)) ⌝ }
-{
-    let fd = os::open_read(name);
-    if fd < 0 {
-        os::fail(name);
-        return 0;
-    }
-    let n = io::read_full(fd, buf);
-    libc::close(fd);
-    n
-}
-
 // A number of words, or how many there are where that is smaller.
 fn at_most(words: u64, m: &[u32]) -> usize
     ensures { λ r. ⌜ Counts r (now (m .entry)) ⌝ }
@@ -91,7 +72,7 @@ fn say_row(row: &[u8], m: &mut [u32], file: &mut [u8], out: &mut [u8]) {
     if row.len() < at {
         return;
     }
-    let n = read_file(&row[at..], file);
+    let n = files::read_named(&row[at..], file);
     let k = at_most(words, m);
     say(row);
     say_loaded(&file[..n], &mut m[..k], out);

@@ -1,24 +1,5 @@
 // Runs the search program on each file that an argument names, and prints the name and what the search program prints.
-use libc::STDOUT_FILENO;
-ghost use Rattle.io.specs.Counts.{Counts};
-
-fn say(text: &[u8]) {
-    io::write_all(STDOUT_FILENO, text);
-}
-
-// Reads the file with a name into the front of the buffer. The answer is its length.
-fn read_file(name: &[u8], buf: &mut [u8]) -> usize
-    ensures { λ r. ⌜ Counts r (now (buf .exit)) ⌝ }
-{
-    let fd = os::open_read(name);
-    if fd < 0 {
-        os::fail(name);
-        return 0;
-    }
-    let n = io::read_full(fd, buf);
-    libc::close(fd);
-    n
-}
+use files::say;
 
 fn say_search(input: &[u8]) {
     let mut m: [u32; 8192] = [0; 8192];
@@ -33,12 +14,8 @@ fn say_search(input: &[u8]) {
 }
 
 fn say_argument(i: usize) {
-    let mut name = io::buffer();
-    let length = os::arg(i, &mut name);
-    say(&name[..length]);
-    say(b"\n");
     let mut input = [0u8; 65537];
-    let n = read_file(&name[..length], &mut input);
+    let n = files::read_argument(i, b"\n", &mut input);
     say_search(&input[..n]);
 }
 

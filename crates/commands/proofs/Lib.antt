@@ -1,0 +1,4 @@
+pub mod Putting
+pub mod Causes
+pub mod Numbers
+pub mod Answers

@@ -1,0 +1,78 @@
+-- `commands::fold` meets its contract. Assumes nothing.
+use mathlib.Core.Path.{ap}
+use native.Mathlib.Omega.{arith}
+use Rattle.load.specs.Answers.{answered}
+use Rattle.job.proofs.Printing.{not-loaded, stored, stored-in}
+use Rattle.job.proofs.Replying.{alone}
+use Rattle.commands.proofs.Answers.{fold-refusal, fold-text}
+use borrow.Author.Needs.{needs}
+use Rattle.commands.proofs.fold.Statement.{statement}
+use Rattle.commands.proofs.fold.Tie as tie
+
+load-requires : tie.Need-load-requires
+load-requires c κs = search needs
+
+enum-known-n : tie.Need-enum-known-n
+enum-known-n c = search needs
+
+refuse-requires : tie.Need-refuse-requires
+refuse-requires c κs = search needs
+
+enum-told : tie.Need-enum-told
+enum-told c = search needs
+
+fold-loaded-requires : tie.Need-fold-loaded-requires
+fold-loaded-requires c κs =
+    (stored-in (stored (c .before .before .before .before .before .before .before .before .load .ensures) (ap answered (c .before .before .before .before .enum-told .given .1))), c .before .before .before .before .before .before .before .before .before .before .before .before .before .before .before .pre .3)
+
+same-length : tie.Need-same-length
+same-length c = search needs
+
+same-length-2 : tie.Need-same-length-2
+same-length-2 c = search needs
+
+returns : tie.Need-returns
+returns c =
+    let f = c .before .before .refuse .ensures in
+    let s = c .before .before .before .before .before .before .before .before .before .before .before .before .before .before .before .before in
+    let a = s .args in
+    let e = not-loaded (c .before .before .before .before .before .before .before .before .before .load .ensures) (ap answered (c .before .before .before .before .before .n .given .1)) in
+    (rw (alone (a .out .now) (f .0) (f .1)) (fold-refusal (a .m .now) (a .file .now) (s .pre .0) e), (f .0 .inside, omega (arith, f .1)))
+
+same-length-3 : tie.Need-same-length-3
+same-length-3 c = search needs
+
+same-length-4 : tie.Need-same-length-4
+same-length-4 c = search needs
+
+same-length-5 : tie.Need-same-length-5
+same-length-5 c = search needs
+
+same-length-6 : tie.Need-same-length-6
+same-length-6 c = search needs
+
+returns-2 : tie.Need-returns-2
+returns-2 c =
+    let g = c .before .before .before .before .before .before .fold-loaded .ensures in
+    let s = c .before .before .before .before .before .before .before .before .before .before .before .before .before .before .before .before .before .before .before .before .before .before in
+    let a = s .args in
+    let e = stored (c .before .before .before .before .before .before .before .before .before .before .before .before .before .before .before .load .ensures) (ap answered (c .before .before .before .before .before .before .before .before .before .before .before .enum-told .given .1)) in
+    (fold-text (a .m .now) (a .file .now) (s .pre .0) e (s .pre .1) (s .pre .2) (g .0), g .1)
+
+pub fold-spec : {M : Type 1} → statement M
+fold-spec =
+    tie.close
+    (tie.spec
+    load-requires
+    enum-known-n
+    refuse-requires
+    enum-told
+    fold-loaded-requires
+    same-length
+    same-length-2
+    returns
+    same-length-3
+    same-length-4
+    same-length-5
+    same-length-6
+    returns-2)

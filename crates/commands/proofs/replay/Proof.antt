@@ -1,0 +1,68 @@
+-- `commands::replay` meets its contract. Assumes nothing.
+use mathlib.Core.Path.{ap, _∙_}
+use Rattle.load.specs.Answers.{answered}
+use Rattle.job.proofs.Printing.{not-loaded, stored, stored-in}
+use Rattle.commands.proofs.Answers.{replay-refusal, replay-text}
+use borrow.Author.Needs.{needs}
+use Rattle.commands.proofs.replay.Statement.{statement}
+use Rattle.commands.proofs.replay.Tie as tie
+
+load-requires : tie.Need-load-requires
+load-requires c κs = search needs
+
+enum-known-n : tie.Need-enum-known-n
+enum-known-n c = search needs
+
+write-refusal-requires : tie.Need-write-refusal-requires
+write-refusal-requires c κs = search needs
+
+enum-told : tie.Need-enum-told
+enum-told c = search needs
+
+replay-loaded-requires : tie.Need-replay-loaded-requires
+replay-loaded-requires c κs =
+    (stored-in (stored (c .before .before .before .before .before .before .load .ensures) (ap answered (c .before .before .enum-told .given .1))), c .before .before .before .before .before .before .before .before .before .before .before .before .pre .1)
+
+same-length : tie.Need-same-length
+same-length c = search needs
+
+same-length-2 : tie.Need-same-length-2
+same-length-2 c = search needs
+
+returns : tie.Need-returns
+returns c =
+    let f = c .before .before .write-refusal .ensures in
+    let s = c .before .before .before .before .before .before .before .before .before .before .before .before .before .before .before in
+    let a = s .args in
+    let e = not-loaded (c .before .before .before .before .before .before .before .before .before .load .ensures) (ap answered (c .before .before .before .before .before .n .given .1)) in
+    (f .contents ∙ replay-refusal (a .m .now) (a .file .now) (s .pre .0) (a .witness .now) e, f .inside)
+
+same-length-3 : tie.Need-same-length-3
+same-length-3 c = search needs
+
+same-length-4 : tie.Need-same-length-4
+same-length-4 c = search needs
+
+returns-2 : tie.Need-returns-2
+returns-2 c =
+    let f = c .before .before .replay-loaded .ensures in
+    let s = c .before .before .before .before .before .before .before .before .before .before .before .before .before .before .before in
+    let a = s .args in
+    let e = stored (c .before .before .before .before .before .before .before .before .before .load .ensures) (ap answered (c .before .before .before .before .before .enum-told .given .1)) in
+    (f .contents ∙ replay-text (a .m .now) (a .file .now) (s .pre .0) e (a .witness .now), f .inside)
+
+pub replay-spec : {M : Type 1} → statement M
+replay-spec =
+    tie.close
+    (tie.spec
+    load-requires
+    enum-known-n
+    write-refusal-requires
+    enum-told
+    replay-loaded-requires
+    same-length
+    same-length-2
+    returns
+    same-length-3
+    same-length-4
+    returns-2)

@@ -1,0 +1,80 @@
+-- `commands::replay_loaded` meets its contract: a line for each answer. Assumes nothing.
+use mathlib.Core.Path.{ap}
+use native.Mathlib.Omega.{arith}
+use Rattle.replay.specs.Answer.{answered}
+use Rattle.commands.proofs.Putting.{placed-shows}
+use Rattle.commands.proofs.Answers.{replay-shown}
+use borrow.Author.Needs.{needs}
+use Rattle.commands.proofs.replay_loaded.Statement.{statement}
+use Rattle.commands.proofs.replay_loaded.Tie as tie
+
+replay-requires : tie.Need-replay-requires
+replay-requires c κs = search needs
+
+enum-told : tie.Need-enum-told
+enum-told c = search needs
+
+slice-aggregate-put : tie.Need-slice-aggregate-put
+slice-aggregate-put c = search needs
+
+put-requires : tie.Need-put-requires
+put-requires c κs = search needs
+
+enum-told-2 : tie.Need-enum-told-2
+enum-told-2 c = search needs
+
+slice-aggregate-put-2 : tie.Need-slice-aggregate-put-2
+slice-aggregate-put-2 c = search needs
+
+put-requires-2 : tie.Need-put-requires-2
+put-requires-2 c κs = search needs
+
+enum-known-n : tie.Need-enum-known-n
+enum-known-n c = search needs
+
+write-refusal-requires : tie.Need-write-refusal-requires
+write-refusal-requires c κs = search needs
+
+same-length : tie.Need-same-length
+same-length c = search needs
+
+returns : tie.Need-returns
+returns c =
+    let s = c .before .before .before .before .before .before .before .before .before .before .before in
+    replay-shown (s .pre .0) (c .before .before .before .before .before .before .before .replay .ensures) (ap answered (c .before .before .before .before .before .enum-told .given .1)) (placed-shows (omega (arith, s .pre .1)) (c .before .before .put .ensures))
+
+same-length-2 : tie.Need-same-length-2
+same-length-2 c = search needs
+
+returns-2 : tie.Need-returns-2
+returns-2 c =
+    let s = c .before .before .before .before .before .before .before .before .before .before .before in
+    replay-shown (s .pre .0) (c .before .before .before .before .before .before .before .replay .ensures) (ap answered (c .before .before .before .before .before .enum-told2 .given .1)) (placed-shows (omega (arith, s .pre .1)) (c .before .before .put2 .ensures))
+
+same-length-3 : tie.Need-same-length-3
+same-length-3 c = search needs
+
+returns-3 : tie.Need-returns-3
+returns-3 c =
+    let s = c .before .before .before .before .before .before .before .before .before .before .before in
+    replay-shown (s .pre .0) (c .before .before .before .before .before .before .before .replay .ensures) (ap answered (c .before .before .before .before .before .n .given .1)) (c .before .before .write-refusal .ensures)
+
+pub replay-loaded-spec : {M : Type 1} → statement M
+replay-loaded-spec =
+    tie.close
+    (tie.spec
+    replay-requires
+    enum-told
+    slice-aggregate-put
+    put-requires
+    enum-told-2
+    slice-aggregate-put-2
+    put-requires-2
+    enum-known-n
+    write-refusal-requires
+    same-length
+    returns
+    same-length-2
+    returns-2
+    same-length-3
+    returns-3)

@@ -1,0 +1,32 @@
+-- The line of a refusal: its number, and the cause in words. Assumes nothing.
+use mathlib.Core.List.{List, [], _∷_, _++_}
+use Prim.Native.Nat.{ℕ}
+use lib.ListN.{getD}
+use Rattle.aiger.specs.Text.{bytes, digits}
+
+-- the causes of document 01's table, by their numbers; there is no number 0
+abbrev pub causes : List (List ℕ)
+causes =
+    []
+    ∷ bytes "the file is empty or over 65,536 bytes"
+    ∷ bytes "the header is malformed"
+    ∷ bytes "a count is too large, or I+L+A is above M"
+    ∷ bytes "circuit memory is too short"
+    ∷ bytes "a line is missing or malformed, or the tail is wrong"
+    ∷ bytes "a literal is above 2M+1, or a definition or reset is wrong"
+    ∷ bytes "a used variable is undefined"
+    ∷ bytes "gates depend on themselves"
+    ∷ bytes "circuit memory holds no circuit"
+    ∷ bytes "b is not below B"
+    ∷ bytes "k or t is above 255, or D is out of range"
+    ∷ bytes "the size is above 65,536, or working memory is too short"
+    ∷ bytes "the output is too short"
+    ∷ bytes "the witness is malformed, or its b is not below B"
+    ∷ []
+
+-- the words of cause n
+unfoldable pub cause : ℕ → List ℕ
+cause n = getD causes n []
+
+unfoldable pub refusalText : ℕ → List ℕ
+refusalText n = bytes "refused " ++ digits n ++ bytes ": " ++ cause n ++ bytes "\n"
