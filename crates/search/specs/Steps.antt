@@ -1,4 +1,4 @@
--- What the private functions of the search require and answer. Assumes nothing.
+-- What the functions of the search require and answer. Assumes nothing.
 use mathlib.Core.Path.{_≡_}
 use mathlib.Core.Bool.{cond}
 use mathlib.Core.List.{List}
