@@ -54,7 +54,8 @@ enum-told-2 c = search needs
 look-requires-2 : tie.Need-look-requires-2
 look-requires-2 c κs =
     let S = c .before .before .before .before .before .before .before .before in
-    (S .pre .0 .right _ (S .pre .1 .1), (S .pre .1 .0, S .pre .0 .bound))
+    let g = S .args .g in
+    (omega (arith, S .pre .0 .left g (S .pre .1 .1), S .pre .0 .right g (S .pre .1 .1)), (S .pre .1 .0, S .pre .0 .bound))
 
 returns : tie.Need-returns
 returns c =

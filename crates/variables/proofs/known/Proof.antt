@@ -18,7 +18,7 @@ shared-slice-read-if2 : tie.Need-shared-slice-read-if2
 shared-slice-read-if2 c = search needs
 
 returns-2 : tie.Need-returns-2
-returns-2 c = λ k. let z = k (c .if2 .taken) in omega arith
+returns-2 c = λ k. let z = k (omega arith) in omega arith
 
 returns-3 : tie.Need-returns-3
 returns-3 c = search needs
