@@ -1,0 +1,75 @@
+-- What is printed lies within the line and the output. Assumes nothing.
+use mathlib.Core.Path.{sym}
+use lib.Seq.{length-take-le}
+use borrow.Author.Needs.{needs}
+use Rattle.fold_main.proofs.fold_with.Statement.{statement}
+use Rattle.fold_main.proofs.fold_with.Tie as tie
+
+slice-aggregate-read : tie.Need-slice-aggregate-read
+slice-aggregate-read c = search needs
+
+read-requires : tie.Need-read-requires
+read-requires c κs = search needs
+
+array-share-prefix-file : tie.Need-array-share-prefix-file
+array-share-prefix-file c = search needs
+
+slice-aggregate-fold : tie.Need-slice-aggregate-fold
+slice-aggregate-fold c = search needs
+
+slice-aggregate-fold-2 : tie.Need-slice-aggregate-fold-2
+slice-aggregate-fold-2 c = search needs
+
+slice-aggregate-fold-3 : tie.Need-slice-aggregate-fold-3
+slice-aggregate-fold-3 c = search needs
+
+fold-requires : tie.Need-fold-requires
+fold-requires c κs = search needs
+
+array-share-prefix-line : tie.Need-array-share-prefix-line
+array-share-prefix-line c = search needs
+
+slice-aggregate-say : tie.Need-slice-aggregate-say
+slice-aggregate-say c = let w = c .before .before .before .before .before .before .before .fold in sym (length-take-le (w .result .line) (w .last .1 .1 .1 .1 .1 .1 .0) (w .ensures .1 .0))
+
+say-requires : tie.Need-say-requires
+say-requires c κs = search needs
+
+slice-reshare-prefix-say : tie.Need-slice-reshare-prefix-say
+slice-reshare-prefix-say c = search needs
+
+slice-aggregate-say-2 : tie.Need-slice-aggregate-say-2
+slice-aggregate-say-2 c = let w = c .before .before .before .before .before .before .before .before .before .fold in sym (length-take-le (w .result .out) (w .last .1 .1 .1 .1 .1 .0) (w .ensures .1 .1))
+
+say-requires-2 : tie.Need-say-requires-2
+say-requires-2 c κs = search needs
+
+same-length : tie.Need-same-length
+same-length c = search needs
+
+same-length-2 : tie.Need-same-length-2
+same-length-2 c = search needs
+
+returns : tie.Need-returns
+returns c = search needs
+
+pub fold-with-spec : {M : Type 1} → statement M
+fold-with-spec =
+    tie.close
+    (tie.spec
+    slice-aggregate-read
+    read-requires
+    array-share-prefix-file
+    slice-aggregate-fold
+    slice-aggregate-fold-2
+    slice-aggregate-fold-3
+    fold-requires
+    array-share-prefix-line
+    slice-aggregate-say
+    say-requires
+    slice-reshare-prefix-say
+    slice-aggregate-say-2
+    say-requires-2
+    same-length
+    same-length-2
+    returns)

@@ -1,0 +1,68 @@
+// The program fold: a frame of a circuit as one circuit over its free bits.
+use commands::Argument;
+use files::say;
+ghost use mathlib.Core.Path.{_≡_};
+ghost use lib.ListN.{length};
+
+fn say_help() {
+    say(b"fold FILE b t\n\n");
+    say(
+        b"Loads the ASCII AIGER 1.9 file FILE and prints the hit of bad line b at frame t as an AIGER file with no latch:\n",
+    );
+    say(
+        b"its inputs are the free start values and the inputs of frames 0 to t, its output is the hit.\n\n",
+    );
+    say(b"What is not accepted is refused with a number and its cause:\n");
+    help::say_refusals(1, 3);
+    help::say_refusals(5, 8);
+    help::say_refusals(10, 12);
+    say(b"\nExample: ./yunverok fold crates/fold_main/data/s.aag 0 2\n");
+}
+
+fn number_of(i: usize) -> Argument {
+    let mut word = io::buffer();
+    let length = os::arg(i, &mut word);
+    commands::read_argument(&word[..length])
+}
+
+// Folds bad line b of the circuit of an open file at frame t.
+fn fold_with(fd: i32, b: u64, t: u64, work: &mut [u32], out: &mut [u8])
+    requires { ⌜ (length (now work) ≡ 1048576) × (length (now out) ≡ 1572928) ⌝ }
+{
+    let mut file = [0u8; 65537];
+    let mut m = [0u32; 33032];
+    let mut line = [0u8; 128];
+    let n = files::read(fd, &mut file);
+    let report = commands::fold(&file[..n], b, t, &mut m, work, out, &mut line);
+    let said = report.line;
+    let written = report.out;
+    say(&line[..said]);
+    say(&out[..written]);
+}
+
+// Lends the memories for the greatest size, 65,536.
+fn fold_file(fd: i32, b: u64, t: u64) {
+    let mut work = [0u32; 1048576];
+    let mut out = [0u8; 1572928];
+    fold_with(fd, b, t, &mut work, &mut out);
+}
+
+fn main() {
+    if os::arg_count() != 4 {
+        say_help();
+        return;
+    }
+    let Argument::Number(b) = number_of(2) else {
+        say_help();
+        return;
+    };
+    let Argument::Number(t) = number_of(3) else {
+        say_help();
+        return;
+    };
+    let fd = files::open_argument(1);
+    if fd < 0 {
+        return;
+    }
+    fold_file(fd, b, t);
+}

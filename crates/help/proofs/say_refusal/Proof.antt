@@ -1,0 +1,45 @@
+-- `help::say_refusal` meets its contract: what is printed lies within the line. Assumes nothing.
+use mathlib.Core.Path.{sym}
+use lib.Seq.{length-take-le}
+use borrow.Author.Needs.{needs}
+use Rattle.help.proofs.say_refusal.Statement.{statement}
+use Rattle.help.proofs.say_refusal.Tie as tie
+
+slice-aggregate-say : tie.Need-slice-aggregate-say
+slice-aggregate-say c = search needs
+
+say-requires : tie.Need-say-requires
+say-requires c κs = search needs
+
+slice-aggregate-write-refusal : tie.Need-slice-aggregate-write-refusal
+slice-aggregate-write-refusal c = search needs
+
+write-refusal-requires : tie.Need-write-refusal-requires
+write-refusal-requires c κs = search needs
+
+array-share-prefix-line : tie.Need-array-share-prefix-line
+array-share-prefix-line c = search needs
+
+slice-aggregate-say-2 : tie.Need-slice-aggregate-say-2
+slice-aggregate-say-2 c =
+    let w = c .before .before .write-refusal in
+    sym (length-take-le (w .result) (w .last .0) (w .ensures .inside))
+
+say-requires-2 : tie.Need-say-requires-2
+say-requires-2 c κs = search needs
+
+returns : tie.Need-returns
+returns c = search needs
+
+pub say-refusal-spec : {M : Type 1} → statement M
+say-refusal-spec =
+    tie.close
+    (tie.spec
+    slice-aggregate-say
+    say-requires
+    slice-aggregate-write-refusal
+    write-refusal-requires
+    array-share-prefix-line
+    slice-aggregate-say-2
+    say-requires-2
+    returns)
