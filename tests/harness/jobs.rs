@@ -29,6 +29,7 @@ pub struct Harness {
     pub tally: Tally,
     random: Random,
     spoiler: Random,
+    spoiled: bool,
     stores: [Vec<Store>; 4],
     painted: Painted,
     last_witness: Vec<u8>,
@@ -57,6 +58,7 @@ impl Harness {
             tally: Tally::default(),
             random: Random(seed),
             spoiler: Random(!seed),
+            spoiled: false,
             stores: [stores(&MEMORIES), stores(&works), stores(&outputs), stores(&texts)],
             painted: Painted::new(),
             last_witness: Vec::new(),
@@ -217,7 +219,7 @@ impl Harness {
         if self.spoil == Spoil::Nothing || !self.spoiler.one_in(10_000) {
             return answer;
         }
-        self.tally.spoiled += 1;
+        self.spoiled = true;
         let lent: Vec<Loan> = loans.iter().filter(|loan| loan.kind != Kind::Work && loan.len > 0).copied().collect();
         if self.spoil == Spoil::Fault {
             let store = &self.stores[loans[0].kind as usize][loans[0].index];
@@ -241,10 +243,10 @@ impl Harness {
                 faults.push(format!("{:?}: {difference}; lent from {} on, {} elements", loan.kind, loan.offset, loan.len));
             }
         }
+        self.tally.settled(std::mem::take(&mut self.spoiled), !faults.is_empty());
         if faults.is_empty() {
             return;
         }
-        self.tally.differences += 1;
         if self.tally.differences <= SHOWN {
             let number = self.tally.jobs;
             println!("difference in job {number}, {}: {}", NAMES[operation as usize], faults.join("; "));

@@ -1,5 +1,6 @@
 //! Compares the library with the reference over random jobs, valid and damaged, in memories that are never cleared.
 
+mod examples;
 mod generate;
 mod jobs;
 mod lend;
@@ -62,7 +63,11 @@ fn main() {
     for number in [7, 11] {
         unsafe { signal(number, fault) };
     }
-    println!("seed                {seed:>9}");
+    let Some(examples) = examples::agree() else {
+        println!("the reference does not give document 01's examples");
+        std::process::exit(1);
+    };
+    println!("examples agree      {examples:>9}\nseed                {seed:>9}");
     let start = Instant::now();
     let mut harness = Harness::new(seed, spoil);
     while harness.tally.jobs < jobs {

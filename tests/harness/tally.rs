@@ -29,7 +29,8 @@ pub struct Tally {
     pub repeated: u64,
     pub fold_repeated_otherwise: u64,
     pub empty_loans: u64,
-    pub spoiled: u64,
+    spoiled: u64,
+    spoiled_unnoticed: u64,
     pub differences: u64,
 }
 
@@ -65,6 +66,12 @@ impl Tally {
         *entry = (entry.0.max(depth), entry.1 + 1);
     }
 
+    pub fn settled(&mut self, spoiled: bool, different: bool) {
+        self.spoiled += u64::from(spoiled);
+        self.spoiled_unnoticed += u64::from(spoiled && !different);
+        self.differences += u64::from(different);
+    }
+
     pub fn report(&self, seconds: f64) {
         println!("jobs                {:>9}   ({} large, {} repeated over other working memory)", self.jobs, self.large, self.repeated);
         println!("jobs per second     {:>9.0}   ({seconds:.1} s)", self.jobs as f64 / seconds);
@@ -83,7 +90,7 @@ impl Tally {
         println!("folds repeated with another text   {}", self.fold_repeated_otherwise);
         self.report_depth();
         if self.spoiled > 0 {
-            println!("\nspoiled on purpose  {:>9}", self.spoiled);
+            println!("\nspoiled on purpose  {:>9}   ({} of them not noticed)", self.spoiled, self.spoiled_unnoticed);
         }
         println!("\ndifferences         {:>9}", self.differences);
     }
