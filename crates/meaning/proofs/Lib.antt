@@ -6,3 +6,4 @@ pub mod Outcomes
 pub mod Bits
 pub mod Sequences
 pub mod Shape
+pub mod Leaves

@@ -181,6 +181,12 @@ any-at p [] i d h t = absurd (not-suc-le-zero h)
 any-at p (x ∷ xs) zero d h t = or-left (p x) (any p xs) t
 any-at p (x ∷ xs) (suc i) d h t = or-right (p x) (any p xs) (any-at p xs i d (le-of-suc-le-suc h) t)
 
+-- a test that some element passes is passed by an element of the list
+pub any-mem : {A : Type 0} (p : A → Bool) (xs : List A) → T (any p xs) → (x : A) × List·Memᴰ x xs × T (p x)
+any-mem p [] t = absurd t
+any-mem p (x ∷ xs) t =
+    ⊎-elim (λ a. (x, List·Memᴰ·head refl, a)) (λ b. let r = any-mem p xs b in (r .0, List·Memᴰ·tail (r .1), r .2)) (or-cases (p x) (any p xs) t)
+
 pub every-both : {A : Type 0} (p : A → Bool) (xs ys : List A) → T (every p xs) → T (every p ys) → T (every p (xs ++ ys))
 every-both p [] ys s t = t
 every-both p (x ∷ xs) ys s t =

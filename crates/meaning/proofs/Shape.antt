@@ -122,7 +122,7 @@ not-odd v = let e : 2 * v % 2 ≡ 0 = omega arith in subst (λ (x : ℕ). T (not
 
 module _ {n : ℕ} {d : Circuit} (s : FoldShape n d) where
   -- gates are numbered upward from n + 1
-  gate-lit : (i : ℕ) → i < length (d .gates) → gateAt d i .lit ≡ 2 * (n + 1 + i)
+  pub gate-lit : (i : ℕ) → i < length (d .gates) → gateAt d i .lit ≡ 2 * (n + 1 + i)
   gate-lit i h =
       sym (List·getD-map (λ g. g .lit) (d .gates) i noGate) ∙ ap (λ (l : List ℕ). getD l i 0) (s .lits)
       ∙ getD-map-upto (λ j. 2 * (n + 1 + j)) (length (d .gates)) i 0 h

@@ -1,4 +1,5 @@
--- Replay and search: replay says yes to every witness that a search shows, and what replay says yes to is a hit. Assumes nothing.
+-- Replay, hits and search: replay says yes to the witness of every hit, so to every witness that a search shows, and what replay says yes
+-- to is a hit. Assumes nothing.
 use mathlib.Core.Path.{_≡_, refl, sym, ap, _∙_, subst}
 use mathlib.Core.Bool.{Bool, true, _&&_}
 use mathlib.Core.List.{List, [], _∷_}
@@ -34,7 +35,7 @@ judged : {m text : List ℕ} {a : Answer Bool} (c : Circuit) → Holds m c → R
 judged c h (noCircuit n) = absurd (n c h)
 judged {text = text} c h (says d k) = ap (λ (x : Circuit). judgement x (readWitness x text)) (one-circuit k h)
 
--- ---- yes to what a search shows
+-- ---- yes to every hit
 
 -- a bad line that is not there is never hit
 getD-past : (xs : List ℕ) (i : ℕ) → length xs ≤ i → getD xs i 0 ≡ 0
@@ -68,18 +69,21 @@ module _ {m : List ℕ} (c : Circuit) (h : Holds m c) where
   unfolding reaches
   reach-hit b t x p = p
 
-  -- replay says yes to every witness that a search shows
+  -- replay says yes to the witness of every sequence of at most 256 frames that hits; b is then below B
+  pub hit-yes : {a : Answer Bool} (b t x : ℕ) → t ≤ 255 → T (reaches c b t x) → Replayed m (witness b (run c t x)) a → a ≡ gives true
+  hit-yes b t x l p r =
+      judged c h r
+      ∙ ap (judgement c) (run-back c b t x (bad-below b (run c t x) t (reach-hit b t x p)) (counts-fit c (held-valid h .fit) .bads) l)
+      ∙ ap gives (confirms-run b t x p)
+
+  -- so to every witness that a search shows
   pub shown-yes : {a : Answer Bool} (b k D t x : ℕ) → T (permitted c b k D (Outcome.found t x)) → t ≤ 255 → Replayed m (witness b (run c t x)) a
       → a ≡ gives true
-  shown-yes b k D t x p l r =
-      let f = found-out c b k D t x p in
-      judged c h r
-      ∙ ap (judgement c) (run-back c b t x (bad-below b (run c t x) t (reach-hit b t x (f .hit))) (counts-fit c (held-valid h .fit) .bads) l)
-      ∙ ap gives (confirms-run b t x (f .hit))
+  shown-yes b k D t x p l r = hit-yes b t x l (found-out c b k D t x p .hit) r
 
 -- ---- yes only to a hit
 
--- the text is a witness of bad line b and of a sequence x of frame t that hits there
+-- what is read from the text is a bad line and the run of a sequence of some frame up to 255, and the sequence hits the bad line there
 pub record Hit (c : Circuit) (text : List ℕ) : Type 0 where
   pub bad : ℕ
   pub frame : ℕ
@@ -87,6 +91,7 @@ pub record Hit (c : Circuit) (text : List ℕ) : Type 0 where
   pub few : frame ≤ 255
   pub fits : sequence < 2 ^ freeBits c frame
   pub reached : T (reaches c bad frame sequence)
+  -- from the text are read that bad line and that run
   pub text-is : readWitness c text ≡ some (record { bad = bad; run = run c frame sequence })
 
 module _ (c : Circuit) (text : List ℕ) where

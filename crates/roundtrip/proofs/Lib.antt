@@ -2,6 +2,7 @@ pub mod Lists
 pub mod Text
 pub mod LoadWrite
 pub mod LoadValid
+pub mod Limits
 pub mod Content
 pub mod Holding
 pub mod Witness

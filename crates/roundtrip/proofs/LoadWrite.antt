@@ -83,7 +83,7 @@ record Fits (c : Circuit) : Type 0 where
   gates : T (every (rowFits (10 ^ 4) 3 3) (map gateRow (c .gates)))
 
 -- the lines of the body
-abbrev bodyText : Circuit → List ℕ
+abbrev pub bodyText : Circuit → List ℕ
 bodyText c =
     linesOf (map literalRow (c .inputs))
     ++ (linesOf (map latchRow (c .latches))
@@ -105,14 +105,15 @@ body-text c f =
       gate-map,
     )
 
-head-text : (c : Circuit) → T (every low (c .maxVar ∷ countRow c)) → header (write c) ≡ some (headerOf c, bodyText c)
+-- the header is read back where its numbers have at most 10 digits
+pub head-text : (c : Circuit) → T (every (below (10 ^ 10)) (c .maxVar ∷ countRow c)) → header (write c) ≡ some (headerOf c, bodyText c)
 unfolding header write
-head-text c h =
-    simp (
-      append-assoc,
-      append-nil,
-      row-line 9 (c .maxVar) (countRow c) (lit< tt) (every-below (10 ^ 4) (10 ^ 10) (lit≤ tt) (c .maxVar ∷ countRow c) h),
-    )
+head-text c h = simp (append-assoc, append-nil, row-line 9 (c .maxVar) (countRow c) (lit< tt) h)
+
+-- a text is not empty
+pub some-byte : (c : Circuit) → 1 ≤ length (write c)
+unfolding write
+some-byte c = omega arith
 
 -- the greatest counts
 pub record Counts (c : Circuit) : Type 0 where
@@ -213,9 +214,9 @@ module _ {room : ℕ} {c : Circuit} (v : Valid room c) where
             (λ x s t r. three-fits 3 (x .lit) (x .left) (x .right) (lit≤ tt) s t r) (c .gates) gates lefts rights′;
       }
 
-  some-byte : 1 ≤ length (write c)
-  unfolding write
-  some-byte = omega arith
+  -- its numbers are below 10,000, so the header is read back
+  pub head-back : header (write c) ≡ some (headerOf c, bodyText c)
+  head-back = head-text c (every-below (10 ^ 4) (10 ^ 10) (lit≤ tt) (c .maxVar ∷ countRow c) heads-low)
 
   -- the text of a circuit has at most 65,536 bytes
   pub text-short : length (write c) ≤ 65536
@@ -239,9 +240,9 @@ module _ {room : ℕ} {c : Circuit} (v : Valid room c) where
   unfolding load
   load-write =
       simp (
-        le-leb 1 (length (write c)) some-byte,
+        le-leb 1 (length (write c)) (some-byte c),
         le-leb (length (write c)) 65536 text-short,
-        head-text c heads-low,
+        head-back,
         v .fit,
         le-leb (needed (c .maxVar)) room (v .held),
         body-text c fits,
