@@ -1,8 +1,8 @@
--- Replay, hits and search: replay says yes to the witness of every hit, so to every witness that a search shows, and what replay says yes
--- to is a hit. Assumes nothing.
+-- Replay, hits and search: replay says yes exactly to the witnesses of hits, so to every witness that a search shows. Assumes nothing.
 use mathlib.Core.Path.{_≡_, refl, sym, ap, _∙_, subst}
 use mathlib.Core.Bool.{Bool, true, _&&_}
 use mathlib.Core.List.{List, [], _∷_}
+use mathlib.Core.Logic.{_↔_}
 use mathlib.Core.Option.{Option, none, some}
 use Prim.Native.Nat.{ℕ, zero, suc, _+_, _-_, _^_, _≤_, _<_}
 use native.Mathlib.Nat.{not-suc-le-zero, le-of-suc-le-suc}
@@ -21,6 +21,7 @@ use Rattle.aiger.proofs.Tests.{and-left, and-right, true-T, T-true}
 use Rattle.roundtrip.proofs.LoadWrite.{counts-fit}
 use Rattle.roundtrip.proofs.Holding.{one-circuit, held-valid}
 use Rattle.roundtrip.proofs.Witness.{run-back}
+use Rattle.roundtrip.proofs.WitnessRead.{read-exact}
 use Rattle.meaning.proofs.Values.{zero-value}
 use Rattle.meaning.proofs.Outcomes.{found-out, none-out}
 use Rattle.meaning.proofs.Sequences.{run-shaped, run-agrees, every-run}
@@ -83,7 +84,7 @@ module _ {m : List ℕ} (c : Circuit) (h : Holds m c) where
 
 -- ---- yes only to a hit
 
--- what is read from the text is a bad line and the run of a sequence of some frame up to 255, and the sequence hits the bad line there
+-- the text is the witness of bad line b and of a sequence x of frame t that hits there
 pub record Hit (c : Circuit) (text : List ℕ) : Type 0 where
   pub bad : ℕ
   pub frame : ℕ
@@ -91,14 +92,15 @@ pub record Hit (c : Circuit) (text : List ℕ) : Type 0 where
   pub few : frame ≤ 255
   pub fits : sequence < 2 ^ freeBits c frame
   pub reached : T (reaches c bad frame sequence)
-  -- from the text are read that bad line and that run
-  pub text-is : readWitness c text ≡ some (record { bad = bad; run = run c frame sequence })
+  -- what is read from the text
+  pub reads : readWitness c text ≡ some (record { bad = bad; run = run c frame sequence })
+  pub text-is : text ≡ witness bad (run c frame sequence)
 
 module _ (c : Circuit) (text : List ℕ) where
   -- a witness that is confirmed is one of a sequence that hits
-  confirmed-hit : (w : Witness) → readWitness c text ≡ some w → confirms c w ≡ true → Hit c text
+  confirmed-hit : (w : Witness) → length (c .bads) ≤ 16 → readWitness c text ≡ some w → confirms c w ≡ true → Hit c text
   unfolding confirms reaches
-  confirmed-hit w e k =
+  confirmed-hit w n e k =
       let s = read-shaped c text e in
       let t = s .frame in
       let both : T (agrees (c .latches) (w .run .start) && hits c (w .bad) (w .run) (length (w .run .rows) - 1)) = T-true k in
@@ -114,16 +116,24 @@ module _ (c : Circuit) (text : List ℕ) where
         few = s .few;
         fits = x .1;
         reached = subst (λ (r : Run). T (hits c (w .bad) r t)) (sym (x .2)) hit;
-        text-is = e ∙ ap (λ (r : Run). some (record { bad = w .bad; run = r })) (sym (x .2));
+        reads = e ∙ ap (λ (r : Run). some (record { bad = w .bad; run = r })) (sym (x .2));
+        text-is = read-exact c text w n e ∙ ap (witness (w .bad)) (sym (x .2));
       }
 
-  by-witness : (o : Option Witness) → readWitness c text ≡ o → gives true ≡ judgement c o → Hit c text
-  by-witness none e q = let z : _≡_ {A = ℕ} 0 1 = cc in absurd (omega arith)
-  by-witness (some w) e q = confirmed-hit w e (cc)
+  by-witness : (o : Option Witness) → length (c .bads) ≤ 16 → readWitness c text ≡ o → gives true ≡ judgement c o → Hit c text
+  by-witness none n e q = let z : _≡_ {A = ℕ} 0 1 = cc in absurd (omega arith)
+  by-witness (some w) n e q = confirmed-hit w n e (cc)
 
   -- what replay says yes to is a hit
   pub yes-hit : {m : List ℕ} → Holds m c → Replayed m text (gives true) → Hit c text
-  yes-hit h r = by-witness (readWitness c text) refl (judged c h r)
+  yes-hit h r = by-witness (readWitness c text) (counts-fit c (held-valid h .fit) .bads) refl (judged c h r)
+
+  -- so it says yes exactly to the witnesses of hits
+  pub yes-exactly : {m : List ℕ} {a : Answer Bool} → Holds m c → Replayed m text a → (a ≡ gives true) ↔ Hit c text
+  yes-exactly {m} {a} h r = (
+    λ e. yes-hit h (subst (Replayed m text) e r),
+    λ y. hit-yes c h (y .bad) (y .frame) (y .sequence) (y .few) (y .reached) (subst (λ (s : List ℕ). Replayed m s a) (y .text-is) r),
+  )
 
   -- and no search for it up to that frame or further may answer none
   pub hit-not-none : (y : Hit c text) (k D j : ℕ) → y .frame ≤ k → T (permitted c (y .bad) k D (Outcome.none j)) → ⊥

@@ -6,5 +6,6 @@ pub mod Limits
 pub mod Content
 pub mod Holding
 pub mod Witness
+pub mod WitnessRead
 pub mod Determined
 pub mod Folds
