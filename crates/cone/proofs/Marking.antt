@@ -9,11 +9,11 @@ use lib.ListN.{length, getD, set, length-set}
 use Rattle.aiger.specs.Bits.{nonzero}
 use Rattle.aiger.specs.Circuit.{var}
 use Rattle.nodes.specs.Graph.{Pair, pairAt, nodes}
-use Rattle.nodes.specs.Store.{field, pairsOf}
+use Rattle.nodes.specs.Store.{field, pairOf, pairsOf}
 use Rattle.nodes.specs.declared.Graph.{Graph}
 use Rattle.nodes.proofs.Laws.{length-pairsOf, pairAt-pairsOf}
 use Rattle.cone.specs.Cone.{operandOf, marked, inCone}
-use Rattle.cone.specs.Store.{pairOf, Others, Marks, Markable, ConeMarked, TopMarked, Passable, Passed}
+use Rattle.cone.specs.Store.{Others, Marks, Markable, ConeMarked, TopMarked, Passable, Passed}
 use Rattle.cone.proofs.Stores.{ten-set, others-set, others-trans, others-pair, others-pairs, Filled}
 
 -- the marks are cleared, and one node is marked

@@ -9,10 +9,10 @@ use borrow.Author.Tests.{eqb-true, eqb-false}
 use lib.Dec.{eqb}
 use lib.ListN.{length, getD, set, length-set}
 use lib.Seq.{getD-set-same, getD-set-other}
-use Rattle.nodes.specs.Store.{field, pairsOf}
+use Rattle.nodes.specs.Store.{field, pairOf, pairsOf}
 use Rattle.nodes.specs.declared.Graph.{Graph}
 use Rattle.nodes.proofs.Laws.{pair-eq, pairsOf-same}
-use Rattle.cone.specs.Store.{pairOf, Others}
+use Rattle.cone.specs.Store.{Others}
 
 -- the words 10 after a store to one of them
 pub ten-set : (work : List ℕ) (k v i : ℕ) → 16 * k + 10 < length work → field (set work (16 * k + 10) v) i 10 ≡ cond (eqb i k) v (field work i 10)

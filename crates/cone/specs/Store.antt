@@ -8,13 +8,9 @@ use lib.ListN.{length, getD}
 use Rattle.aiger.specs.Bits.{nonzero}
 use Rattle.aiger.specs.Circuit.{var}
 use Rattle.nodes.specs.Graph.{Pair, Built}
-use Rattle.nodes.specs.Store.{field, pairsOf, Sized}
+use Rattle.nodes.specs.Store.{field, pairOf, pairsOf, Sized}
 use Rattle.nodes.specs.declared.Graph.{Graph}
 use Rattle.cone.specs.Cone.{operandOf, inCone, keptBefore, number, Numbered}
-
--- the operands of node k
-abbrev pub pairOf : List ℕ → ℕ → Pair
-pairOf work k = record { left = field work k 0; right = field work k 1 }
 
 -- no word was changed but word 10 of the first m records
 abbrev pub Others : List ℕ → List ℕ → ℕ → Type 0
@@ -69,7 +65,7 @@ pub record Assigned (gs : List Pair) (last : List ℕ) (g : Graph) (root kept : 
   pub numbers : (k : ℕ) → k < g .nodes → Numbered (g .free) gs root k → field last k 10 ≡ number (g .free) gs root k
   pub zeros : (k : ℕ) → g .free < k → k < g .nodes → (T (inCone (g .free) gs root k) → ⊥) → field last k 10 ≡ 0
 
--- the marks are replaced by numbers, whatever root has them; so many gates are marked
+-- the marks are replaced by numbers, for every root whose cone they mark; so many gates are marked
 pub record Assignment (work last : List ℕ) (g : Graph) (kept : ℕ) : Type 0 where
   pub assigned : (root : ℕ) → Marks (pairsOf work g) work g root → Assigned (pairsOf work g) last g root kept
   pub pairs : pairsOf last g ≡ pairsOf work g

@@ -25,7 +25,7 @@ pub enum Frame {
 }
 
 // 1 for a latch with a free start, else 0.
-fn free_start(lit: u32, reset: u32) -> usize
+pub fn free_start(lit: u32, reset: u32) -> usize
     ensures { λ r. ⌜ r ≡ cond (eqb reset lit) 1 0 ⌝ }
 {
     if reset == lit { 1 } else { 0 }

@@ -15,10 +15,14 @@ use Rattle.aiger.specs.Circuit.{Gate, var}
 use Rattle.aiger.specs.Write.{lineOf, linesOf, literalRow, gateRow, write}
 use Rattle.aiger.proofs.Tests.{true-T, T-true}
 use Rattle.meaning.proofs.Lists.{map-upto-suc, length-map-upto}
+use Rattle.literals.specs.Literal.{wordOf}
+use Rattle.literals.specs.declared.Lit.{Lit}
 use Rattle.nodes.specs.Graph.{Pair, pairAt, nodes}
-use Rattle.nodes.specs.Store.{field, pairsOf}
+use Rattle.nodes.specs.Store.{field, pairOf, pairsOf}
+use Rattle.nodes.specs.Edges.{wordEdge}
 use Rattle.nodes.specs.declared.Graph.{Graph}
-use Rattle.nodes.proofs.Laws.{length-pairsOf, nodes-pairsOf, pairAt-pairsOf, pairIn}
+use Rattle.nodes.specs.declared.Edge.{Edge}
+use Rattle.nodes.proofs.Laws.{length-pairsOf, nodes-pairsOf, pairAt-pairsOf, edge-word}
 use Rattle.cone.specs.Cone.{inCone, keptBefore, number, Numbered, renumbered, keptGate, keptGates, folded}
 use Rattle.cone.proofs.Cone.{root-kept, number-gate, number-bound, before-bound}
 use Rattle.cone.proofs.Gates.{length-gates, operand-numbered}
@@ -28,7 +32,7 @@ use Rattle.write.proofs.Output.{Rest, rest-start}
 use Rattle.write.specs.Output.{putText, Room, Placed}
 use Rattle.fold.proofs.Parts.{placed-both}
 use Rattle.numbers.proofs.Digits.{digits-short}
-use Rattle.fold.specs.Text.{literalOf, gateText, gatesText, inputsText, headText, Node, GateFits, GatesFit, foldedIn, Writable}
+use Rattle.fold.specs.Text.{literalOf, literalWord, gateText, gatesText, inputsText, headText, NodeFits, GateFits, GatesFit, foldedIn, Writable}
 
 -- ---- texts of lists
 
@@ -113,16 +117,16 @@ unfolding inputsText
 inputs-none = refl
 
 -- the line of a gate that has a number, and of one that has none
-pub gate-line : (work : List ℕ) (k left right : ℕ) → (field work k 10 ≡ 0 → ⊥) → left ≡ literalOf work (getD work (16 * k) 0)
-    → right ≡ literalOf work (field work k 1) → rowText (2 * field work k 10 ∷ left ∷ right ∷ []) 0 3 ≡ gateText work k
-gate-line work k left right z a b =
+pub gate-line : (work : List ℕ) (k own left right : ℕ) → (field work k 10 ≡ 0 → ⊥) → own ≡ 2 * field work k 10 → left ≡ literalWord work (getD work (16 * k) 0)
+    → right ≡ literalWord work (field work k 1) → rowText (own ∷ left ∷ right ∷ []) 0 3 ≡ gateText work k
+gate-line work k own left right z o a b =
     let e : 16 * k + 0 ≡ 16 * k = omega arith in
-    rw (ne-eqb (field work k 10) 0 z, e, line-three (2 * field work k 10) left right, a, b)
+    rw (ne-eqb (field work k 10) 0 z, e, line-three own left right, o, a, b)
 
 pub gate-none : (work : List ℕ) (k : ℕ) → field work k 10 ≡ 0 → gateText work k ≡ []
 gate-none work k z = rw z
 
-pub gate-left : (work : List ℕ) (k : ℕ) → GateFits work k → Node work (var (getD work (16 * k) 0))
+pub gate-left : (work : List ℕ) (k : ℕ) → GateFits work k → NodeFits work (var (getD work (16 * k) 0))
 gate-left work k f = let e : 16 * k + 0 ≡ 16 * k = omega arith in rw e at (f .left)
 
 -- ---- lengths
@@ -164,19 +168,26 @@ inputs-short zero h = omega arith
 inputs-short (suc n) h =
     omega (arith, length-append (inputsText n) (lineOf (2 * (n + 1)) []), inputs-short n (omega arith), last-short (2 * (n + 1)) (omega arith))
 
+-- the number that is written for an edge
+pub literal-told : (work : List ℕ) (w : ℕ) {e : Edge} {l : Lit} {r : ℕ} → e ≡ wordEdge w → l ≡ literalOf work e → r ≡ wordOf l → r ≡ literalWord work w
+literal-told work w p q s = s ∙ ap wordOf (q ∙ ap (literalOf work) p)
+
+pub literal-small : (work : List ℕ) (w : ℕ) → field work (var w) 10 < 65536 → literalWord work w < 131072
+literal-small work w h = omega (arith, edge-word w)
+
 gate-short : (work : List ℕ) (k : ℕ) → GateFits work k → length (gateText work k) ≤ 21
 gate-short work k f = go (eqb (field work k 10) 0)
   where
-    go : (b : Bool) → length (cond b [] (lineOf (2 * field work k 10) (literalOf work (field work k 0) ∷ literalOf work (field work k 1) ∷ []))) ≤ 21
+    go : (b : Bool) → length (cond b [] (lineOf (2 * field work k 10) (literalWord work (field work k 0) ∷ literalWord work (field work k 1) ∷ []))) ≤ 21
     go true = omega arith
     go false =
-        let a = literalOf work (field work k 0) in
-        let b = literalOf work (field work k 1) in
+        let a = literalWord work (field work k 0) in
+        let b = literalWord work (field work k 1) in
         omega (
           arith,
           line-short (2 * field work k 10) a (b ∷ []) (omega (arith, f .node .small)),
-          line-short a b [] (omega (arith, f .left .small)),
-          last-short b (omega (arith, f .right .small)),
+          line-short a b [] (omega (arith, literal-small work (field work k 0) (f .left .small))),
+          last-short b (omega (arith, literal-small work (field work k 1) (f .right .small))),
         )
 
 gates-short : (work : List ℕ) (first n : ℕ) → ((j : ℕ) → j < n → GateFits work (first + j)) → length (gatesText work first n) ≤ 21 * n
@@ -210,9 +221,9 @@ module _ {work : List ℕ} {g : Graph} {root kept : ℕ} (w : Writable work g ro
   count = nodes-pairsOf work g (w .sized .leaves)
 
   -- the literal of an edge to a node that has a number
-  literal-of : (e : ℕ) → var e < g .nodes → Numbered (g .free) (pairsOf work g) root (var e) → literalOf work e ≡ renumbered (g .free) (pairsOf work g) root e
+  literal-of : (e : ℕ) → var e < g .nodes → Numbered (g .free) (pairsOf work g) root (var e) → literalWord work e ≡ renumbered (g .free) (pairsOf work g) root e
   unfolding renumbered
-  literal-of e h a = ap (λ (x : ℕ). 2 * x + e % 2) (w .assigned .numbers (var e) h a)
+  literal-of e h a = omega (arith, edge-word e, w .assigned .numbers (var e) h a)
 
   -- the line of a gate that is kept
   gate-kept : (j : ℕ) → j < length (pairsOf work g) → T (inCone (g .free) (pairsOf work g) root (g .free + 1 + j))
@@ -230,11 +241,11 @@ module _ {work : List ℕ} {g : Graph} {root kept : ℕ} (w : Writable work g ro
       let b = pairAt gs j .right in
       let u : a ≡ field work k 0 = ap (λ (x : Pair). x .left) p in
       let v : b ≡ field work k 1 = ap (λ (x : Pair). x .right) p in
-      let left : literalOf work (field work k 0) ≡ renumbered n gs root a =
-      ap (literalOf work) (sym u)
+      let left : literalWord work (field work k 0) ≡ renumbered n gs root a =
+      ap (literalWord work) (sym u)
       ∙ literal-of a (omega (arith, w .built .earlier j h)) (operand-numbered n gs root (w .built) j (var a) h t (inl refl)) in
-      let right : literalOf work (field work k 1) ≡ renumbered n gs root b =
-      ap (literalOf work) (sym v)
+      let right : literalWord work (field work k 1) ≡ renumbered n gs root b =
+      ap (literalWord work) (sym v)
       ∙ literal-of b (omega (arith, w .built .earlier j h, w .built .larger j h)) (operand-numbered n gs root (w .built) j (var b) h t (inr refl)) in
       rw (ne-eqb (field work k 10) 0 z, e, left, right)
       (sym (one-line (2 * number n gs root k) (renumbered n gs root a ∷ renumbered n gs root b ∷ [])))
@@ -267,7 +278,7 @@ module _ {work : List ℕ} {g : Graph} {root kept : ℕ} (w : Writable work g ro
 
   -- the text part after part
   pub text-parts : write (foldedIn work g root)
-      ≡ headText (g .free) kept ++ (inputsText (g .free) ++ (numberText (literalOf work root) 0 ++ gatesText work (g .free + 1) (g .nodes - (g .free + 1))))
+      ≡ headText (g .free) kept ++ (inputsText (g .free) ++ (numberText (literalWord work root) 0 ++ gatesText work (g .free + 1) (g .nodes - (g .free + 1))))
   unfolding folded
   text-parts =
       let n = g .free in
@@ -282,8 +293,8 @@ module _ {work : List ℕ} {g : Graph} {root kept : ℕ} (w : Writable work g ro
       let x : linesOf (map literalRow (map f (upto n))) ≡ inputsText n = inputs-lines n in
       let y : linesOf (map gateRow gates) ≡ gatesText work (n + 1) (length gs) = gates-lines (length gs) (omega arith) in
       let z : length gs ≡ g .nodes - (n + 1) = length-pairsOf work g in
-      let r : literalOf work root ≡ o = literal-of root (w .inside) (inr (root-kept n gs root)) in
-      let q : numberText (literalOf work root) 0 ≡ lineOf (literalOf work root) [] = line-one (literalOf work root) in
+      let r : literalWord work root ≡ o = literal-of root (w .inside) (inr (root-kept n gs root)) in
+      let q : numberText (literalWord work root) 0 ≡ lineOf (literalWord work root) [] = line-one (literalWord work root) in
       write-plain (n + a) o (map f (upto n)) gates ∙ rw (e, i, k, x, y, z, ← r, ← q)
 
   -- ---- bounds
@@ -291,7 +302,7 @@ module _ {work : List ℕ} {g : Graph} {root kept : ℕ} (w : Writable work g ro
   pub kept-few : g .free + kept < g .nodes
   kept-few = omega (arith, w .assigned .count, before-bound (g .free) (pairsOf work g) root (length (pairsOf work g)), count)
 
-  -- every node has a small number or none
+  -- every node has a number below 65,536 or none
   word-small : (k : ℕ) → k < g .nodes → field work k 10 < 65536
   word-small k h = go (inCone (g .free) (pairsOf work g) root k) refl (lt-or (g .free) k)
     where
@@ -312,7 +323,7 @@ module _ {work : List ℕ} {g : Graph} {root kept : ℕ} (w : Writable work g ro
       go true e (inl l) = bounded (inr (T-true e))
       go false e (inl l) = omega (arith, w .assigned .zeros k l h (λ t. false-not (sym e ∙ true-T (inCone (g .free) (pairsOf work g) root k) t)))
 
-  pub node-fits : (k : ℕ) → k < g .nodes → Node work k
+  pub node-fits : (k : ℕ) → k < g .nodes → NodeFits work k
   node-fits k h = record { held = omega (arith, w .sized .nodes, w .sized .held); small = word-small k h }
 
   pub gates-fit : GatesFit work g
@@ -323,7 +334,7 @@ module _ {work : List ℕ} {g : Graph} {root kept : ℕ} (w : Writable work g ro
             let j = k - (g .free + 1) in
             let i : j < length (pairsOf work g) = omega (arith, count) in
             let s : g .free + 1 + j ≡ k = omega arith in
-            let p : pairAt (pairsOf work g) j ≡ pairIn work k = pairAt-pairsOf work g j (omega arith) ∙ ap (pairIn work) s in
+            let p : pairAt (pairsOf work g) j ≡ pairOf work k = pairAt-pairsOf work g j (omega arith) ∙ ap (pairOf work) s in
             let u : pairAt (pairsOf work g) j .left ≡ field work k 0 = ap (λ (x : Pair). x .left) p in
             let v : pairAt (pairsOf work g) j .right ≡ field work k 1 = ap (λ (x : Pair). x .right) p in
             record {
@@ -336,7 +347,7 @@ module _ {work : List ℕ} {g : Graph} {root kept : ℕ} (w : Writable work g ro
   -- an output with room for the text: before anything is written
   pub left-all : (out : List ℕ)
       → Rest out 0 (write (foldedIn work g root)) out 0
-      (headText (g .free) kept ++ (inputsText (g .free) ++ (numberText (literalOf work root) 0 ++ gatesText work (g .free + 1) (g .nodes - (g .free + 1)))))
+      (headText (g .free) kept ++ (inputsText (g .free) ++ (numberText (literalWord work root) 0 ++ gatesText work (g .free + 1) (g .nodes - (g .free + 1)))))
   left-all out = rw (← text-parts) (rest-start out 0 (write (foldedIn work g root)))
 
   -- the text is short
@@ -347,7 +358,7 @@ module _ {work : List ℕ} {g : Graph} {root kept : ℕ} (w : Writable work g ro
       let m = g .nodes - (n + 1) in
       let a = headText n kept in
       let b = inputsText n in
-      let c = numberText (literalOf work root) 0 in
+      let c = numberText (literalWord work root) 0 in
       let d = gatesText work (n + 1) m in
       let few = w .assigned .count in
       omega (
@@ -358,7 +369,7 @@ module _ {work : List ℕ} {g : Graph} {root kept : ℕ} (w : Writable work g ro
         length-append c d,
         head-short n kept (omega (arith, kept-few, w .sized)),
         inputs-short n (omega (arith, w .sized)),
-        number-short (literalOf work root) 0 (omega (arith, word-small (var root) (w .inside))),
+        number-short (literalWord work root) 0 (omega (arith, literal-small work root (word-small (var root) (w .inside)))),
         gates-short work (n + 1) m (λ j h. gates-fit .each (n + 1 + j) (omega arith) (omega arith)),
         w .sized .leaves,
       )

@@ -2,28 +2,36 @@
 use mathlib.Core.Path.{_≡_}
 use mathlib.Core.Bool.{cond}
 use mathlib.Core.List.{List, [], _∷_, _++_}
-use Prim.Native.Nat.{ℕ, zero, suc, _+_, _*_, _%_, _≤_, _<_}
+use Prim.Native.Nat.{ℕ, zero, suc, _+_, _*_, _≤_, _<_}
 use lib.Dec.{eqb}
 use lib.ListN.{length}
 use Rattle.aiger.specs.Text.{bytes}
 use Rattle.aiger.specs.Circuit.{Circuit, var}
 use Rattle.aiger.specs.Write.{lineOf}
 use Rattle.aiger.specs.Operations.{front}
+use Rattle.literals.specs.Literal.{signed, wordOf}
+use Rattle.literals.specs.declared.Lit.{Lit}
 use Rattle.nodes.specs.Graph.{Built}
 use Rattle.nodes.specs.Store.{field, pairsOf, Sized}
+use Rattle.nodes.specs.Edges.{wordEdge}
 use Rattle.nodes.specs.declared.Graph.{Graph}
+use Rattle.nodes.specs.declared.Edge.{Edge}
 use Rattle.cone.specs.Cone.{folded}
 use Rattle.cone.specs.Store.{Assigned}
 
--- the literal of edge e
-abbrev pub literalOf : List ℕ → ℕ → ℕ
-literalOf work e = 2 * field work (var e) 10 + e % 2
+-- the literal of an edge: its variable is the number of the edge's node
+abbrev pub literalOf : List ℕ → Edge → Lit
+literalOf work e = signed (field work (e .0 .0) 10) (e .1)
+
+-- the word of the literal of the edge whose word is w
+abbrev pub literalWord : List ℕ → ℕ → ℕ
+literalWord work w = wordOf (literalOf work (wordEdge w))
 
 -- the line of the gate at node k, if it has a number
 abbrev pub gateText : List ℕ → ℕ → List ℕ
 gateText work k =
     cond (eqb (field work k 10) 0) []
-    (lineOf (2 * field work k 10) (literalOf work (field work k 0) ∷ literalOf work (field work k 1) ∷ []))
+    (lineOf (2 * field work k 10) (literalWord work (field work k 0) ∷ literalWord work (field work k 1) ∷ []))
 
 -- the lines of j gates from node `first` on
 unfoldable pub gatesText : List ℕ → ℕ → ℕ → List ℕ
@@ -39,16 +47,16 @@ inputsText (suc j) = inputsText j ++ lineOf (2 * (j + 1)) []
 abbrev pub headText : ℕ → ℕ → List ℕ
 headText n gates = bytes "aag " ++ lineOf (n + gates) (n ∷ 0 ∷ 1 ∷ gates ∷ 0 ∷ 0 ∷ [])
 
--- a node of the memory with a small number
-pub record Node (work : List ℕ) (k : ℕ) : Type 0 where
+-- a node of the memory with a number below 65,536
+pub record NodeFits (work : List ℕ) (k : ℕ) : Type 0 where
   pub held : 16 * k + 16 ≤ length work
   pub small : field work k 10 < 65536
 
 -- a gate of the memory whose operands are nodes of it
 pub record GateFits (work : List ℕ) (k : ℕ) : Type 0 where
-  pub node : Node work k
-  pub left : Node work (var (field work k 0))
-  pub right : Node work (var (field work k 1))
+  pub node : NodeFits work k
+  pub left : NodeFits work (var (field work k 0))
+  pub right : NodeFits work (var (field work k 1))
 
 -- all gates of the graph
 pub record GatesFit (work : List ℕ) (g : Graph) : Type 0 where

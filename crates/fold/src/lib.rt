@@ -1,6 +1,8 @@
 // The operation fold: the hit of a bad line at a frame as a circuit without latches.
 use circuit::Held;
 use layout::Layout;
+use literals::Lit;
+use literals::Var;
 use nodes::Edge;
 use nodes::Graph;
 ghost use mathlib.Core.Path.{_≡_};
@@ -14,7 +16,7 @@ ghost use Rattle.roundtrip.specs.Words.{circuitIn};
 ghost use Rattle.search.specs.Steps.{Limited, CountsOf, told};
 ghost use Rattle.nodes.specs.Edges.{edgeWord};
 ghost use Rattle.write.specs.Output.{Room, Placed};
-ghost use Rattle.fold.specs.Text.{literalOf, gateText, gatesText, inputsText, headText, Node, GateFits, GatesFit, foldedIn, Writable, Shown};
+ghost use Rattle.fold.specs.Text.{literalOf, literalWord, gateText, gatesText, inputsText, headText, NodeFits, GateFits, GatesFit, foldedIn, Writable, Shown};
 ghost use Rattle.fold.specs.Answer.{answered, FoldFits, FoldShown};
 
 // The length of the text, or the number of the refusal.
@@ -53,13 +55,21 @@ fn write_inputs(out: &mut [u8], at: usize, free: usize) -> usize
     end
 }
 
-// The literal of an edge, given by its word.
-fn literal(work: &[u32], e: u32) -> u32
-    requires { ⌜ Node (now work) (var e) ⌝ }
+// The literal of an edge: its variable is the number of the edge's node.
+fn literal(work: &[u32], e: Edge) -> Lit
+    requires { ⌜ NodeFits (now work) (e .0 .0) ⌝ }
     ensures { λ r. ⌜ r ≡ literalOf (now (work .entry)) e ⌝ }
 {
-    let k = (e / 2) as usize;
-    2 * work[16 * k + 10] + e % 2
+    let k = e.0.0 as usize;
+    Lit(Var(work[16 * k + 10]), e.1)
+}
+
+// The word of the literal of the edge whose word is w.
+fn literal_word(work: &[u32], w: u32) -> u32
+    requires { ⌜ NodeFits (now work) (var w) ⌝ }
+    ensures { λ r. ⌜ r ≡ literalWord (now (work .entry)) w ⌝ }
+{
+    literal(work, Edge::from_word(w)).word() as u32
 }
 
 // Writes the line of the gate at node k, if it has a number.
@@ -71,9 +81,10 @@ fn write_gate(work: &[u32], k: usize, out: &mut [u8], at: usize) -> usize
     if number == 0 {
         return at;
     }
-    let left = literal(work, work[16 * k]);
-    let right = literal(work, work[16 * k + 1]);
-    let row = [2 * number, left, right];
+    let own = Lit(Var(number), false).word() as u32;
+    let left = literal_word(work, work[16 * k]);
+    let right = literal_word(work, work[16 * k + 1]);
+    let row = [own, left, right];
     write::write_row(&row, 0, 3, out, at)
 }
 
@@ -94,24 +105,24 @@ fn write_gates(work: &[u32], g: Graph, out: &mut [u8], at: usize) -> usize
 }
 
 // Writes the circuit of the root's cone, whose nodes are numbered, at the front of out.
-pub fn write_folded(work: &[u32], g: Graph, root: Edge, kept: usize, out: &mut [u8]) -> usize
+fn write_folded(work: &[u32], g: Graph, root: Edge, kept: usize, out: &mut [u8]) -> usize
     requires { ⌜ Writable (now work) g (edgeWord root) kept ⌝ }
     requires { ⌜ length (write (foldedIn (now work) g (edgeWord root))) ≤ length (now out) ⌝ }
     ensures { λ r. ⌜ Shown (write (foldedIn (now (work .entry)) g (edgeWord root))) (now (out .entry)) r (now (out .exit)) ⌝ }
 {
     let free = g.free;
-    let output = literal(work, root.word() as u32);
+    let output = literal(work, root).word() as u32;
     let inputs = write_head(out, free, kept);
     let line = write_inputs(out, inputs, free);
     let gates = write::write_ended(out, line, output, 0);
     write_gates(work, g, out, gates)
 }
 
-// The number of the first of the tests 10 to 13 that fails, or 0. free is the number of latches with a free start, room the words of
+// The number of the first of the tests 10 to 13 that fails, or 0. starts is the number of latches with a free start, room the words of
 // working memory and len the bytes of output.
-fn refusal(layout: Layout, free: usize, b: u64, t: u64, room: usize, len: usize) -> u32
-    requires { ⌜ Limited layout × (free ≤ 1024) ⌝ }
-    ensures { λ r. ⌜ ((c : Circuit) → CountsOf c layout → free ≡ freeStarts c → foldTests c b t room len ≡ told r) ⌝ }
+fn refusal(layout: Layout, starts: usize, b: u64, t: u64, room: usize, len: usize) -> u32
+    requires { ⌜ Limited layout × (starts ≤ 1024) ⌝ }
+    ensures { λ r. ⌜ ((c : Circuit) → CountsOf c layout → starts ≡ freeStarts c → foldTests c b t room len ≡ told r) ⌝ }
 {
     if layout.b as u64 <= b {
         return 10;
@@ -119,7 +130,7 @@ fn refusal(layout: Layout, free: usize, b: u64, t: u64, room: usize, len: usize)
     if 255 < t {
         return 11;
     }
-    let units = search::size(layout, free, t as usize);
+    let units = search::size(layout, starts, t as usize);
     if 65536 < units {
         return 12;
     }
@@ -163,11 +174,11 @@ pub fn fold(m: &[u32], b: u64, t: u64, work: &mut [u32], out: &mut [u8]) -> Fold
     let Held::Circuit(layout) = circuit::held_in(m, &mut order) else {
         return FoldAnswer::Refused(9);
     };
-    let free = enumeration::free_starts(m, layout);
-    let number = refusal(layout, free, b, t, work.len(), out.len());
+    let starts = enumeration::free_starts(m, layout);
+    let number = refusal(layout, starts, b, t, work.len(), out.len());
     if number != 0 {
         return FoldAnswer::Refused(number);
     }
-    let length = fold_frame(m, layout, &order, b as usize, t as usize, free, work, out);
+    let length = fold_frame(m, layout, &order, b as usize, t as usize, starts, work, out);
     FoldAnswer::Length(length)
 }

@@ -3,6 +3,7 @@ use mathlib.Core.Path.{_≡_, refl, _∙_}
 use mathlib.Core.Bool.{Bool, true, false, _&&_}
 use mathlib.Core.List.{List}
 use Prim.Native.Nat.{ℕ, _^_, _<_}
+use native.Mathlib.Nat.{max-comm, min-comm}
 use native.Mathlib.Omega.{arith}
 use Rattle.aiger.specs.Frames.{freeBit}
 use Rattle.nodes.specs.Graph.{edgeValue}
@@ -44,6 +45,7 @@ module _ (work last : List ℕ) (g : Graph) (made : Made) {p q a b : ℕ} (e : p
         free = c .free;
         room = c .room;
         extends = c .extends;
+        origin = rw (max-comm p q, min-comm p q) (c .origin);
         node = c .node;
         value = λ x u.
             c .value x u

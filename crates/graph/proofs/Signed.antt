@@ -10,20 +10,20 @@ use Rattle.aiger.specs.Circuit.{var}
 use Rattle.aiger.specs.Signature.{PatternWord}
 use Rattle.words.proofs.Bits.{bit-and}
 use Rattle.nodes.specs.Graph.{Pair, pairAt}
-use Rattle.nodes.specs.Store.{field, pairsOf, Sized, oneMore}
+use Rattle.nodes.specs.Store.{field, pairOf, pairsOf, Sized, oneMore}
 use Rattle.nodes.specs.Edges.{edgeOf, wordEdge}
 use Rattle.nodes.specs.declared.Graph.{Graph}
 use Rattle.nodes.specs.declared.Edge.{Edge}
-use Rattle.nodes.proofs.Laws.{pairIn, pairAt-new, pairsOf-same, pairsOf-more, nodes-pairsOf}
+use Rattle.nodes.proofs.Laws.{pairAt-new, pairsOf-same, pairsOf-more, nodes-pairsOf}
 use Rattle.pairs.specs.Store as pairs
 use Rattle.pairs.proofs.Buckets.{SamePairs, store-same}
 use Rattle.signatures.specs.Words.{Kept, signatureWord}
-use Rattle.signatures.specs.Store.{patternValue, SignatureStore, Appended, SignedLast, oneLess}
+use Rattle.signatures.specs.Store.{patternValue, SignatureStore, Unsigned, SignedLast, oneLess}
 use Rattle.signatures.specs.Twin.{Searched, Ready}
 use Rattle.signatures.proofs.Words.{test-apart}
 use Rattle.signatures.proofs.Stores.{built-ordered, store-kept}
-use Rattle.graph.specs.Stored.{Stored, Conjoined, New, Twinless}
-use Rattle.graph.proofs.Outcomes.{madeOf, pairs-same, stored-same, word-made, added-made}
+use Rattle.graph.specs.Stored.{Stored, madeOf, merged, Conjoined, New, Twinless}
+use Rattle.graph.proofs.Outcomes.{ordered, pairs-same, stored-same, word-made, added-made}
 
 -- ---- a new gate and its signature
 
@@ -46,10 +46,10 @@ module _ (work mid : List ℕ) (g : Graph) (left right : ℕ) (ready : New work 
         added .others (16 * k + 1) (λ e. omega arith) (λ e. omega arith) (λ e. omega arith) (λ e. omega arith),
       ))
 
-  new-pair : pairIn mid (g .nodes) ≡ pair
+  new-pair : pairOf mid (g .nodes) ≡ pair
   unfolding pair
   new-pair =
-      sym (pairAt-new (pairsOf mid g) (pairIn mid (g .nodes)))
+      sym (pairAt-new (pairsOf mid g) (pairOf mid (g .nodes)))
       ∙ ap (λ (l : List Pair). pairAt l (length (pairsOf mid g))) (sym (pairsOf-more mid g (ready .proper .stored .sized .leaves)) ∙ added .pairs)
       ∙ ap (λ (m : ℕ). pairAt (pairsOf work g ++ (pair ∷ [])) m) (ap length pairs-before) ∙ pairAt-new (pairsOf work g) pair
 
@@ -80,7 +80,7 @@ module _ (work mid : List ℕ) (g : Graph) (left right : ℕ) (ready : New work 
   larger-size h e = subst (λ (z : Graph). Sized z (length mid)) (sym e) larger-sized
 
   module _ (a b : ℕ) (first : PatternWord (patternValue (g .free) (pairsOf work g) left) a) (second : PatternWord (patternValue (g .free) (pairsOf work g) right) b) where
-    appended : Appended mid (oneMore g) (bitAnd a b)
+    appended : Unsigned mid (oneMore g) (bitAnd a b)
     appended =
         record {
           gate = omega (arith, ready .proper .stored .sized .leaves);
@@ -94,8 +94,8 @@ module _ (work mid : List ℕ) (g : Graph) (left right : ℕ) (ready : New work 
               (second .bits p u ∙ ap₂ (λ (hs : List Pair) (e : ℕ). patternValue (g .free) hs e p) (sym gates-before) (sym last-right));
         }
 
-    pub signature-appended : (h : Graph) → h ≡ oneMore g → Appended mid h (bitAnd a b)
-    signature-appended h e = subst (λ (z : Graph). Appended mid z (bitAnd a b)) (sym e) appended
+    pub signature-appended : (h : Graph) → h ≡ oneMore g → Unsigned mid h (bitAnd a b)
+    signature-appended h e = subst (λ (z : Graph). Unsigned mid z (bitAnd a b)) (sym e) appended
 
   -- the words of pairs, after the signature was added
   pairs-kept : (last : List ℕ) → Kept signatureWord mid last → SamePairs mid last
@@ -152,8 +152,11 @@ module _ (work last : List ℕ) (g : Graph) (left right r : ℕ) (ready : New wo
   pub twin-bound : 0 < r → r - 1 < 131072
   twin-bound h = omega (arith, twin-edge h, ready .proper .stored .sized .nodes, ready .proper .stored .sized .room)
 
-  pub twin-made : 0 < r → (e : Edge) → e ≡ wordEdge (r - 1) → Conjoined work last g left right (madeOf g e)
-  twin-made h e q = word-made work last g left right twin-stored twin-pairs (r - 1) e q (twin-edge h) (d .twin .found (r - 1) (omega arith) .1)
+  pub twin-made : g .free ≤ 12 → 0 < r → (e : Edge) → e ≡ wordEdge (r - 1) → Conjoined work last g left right (madeOf g e)
+  twin-made few h e q =
+      let equal = d .twin .found (r - 1) (omega arith) .1 in
+      word-made work last g left right twin-stored twin-pairs (r - 1) e q (twin-edge h) equal
+      (λ z. ordered left right (omega (arith, ready .proper .larger)) (merged few e (rw z equal)))
 
   pub twin-none : r ≡ 0 → Twinless (g .free) (pairsOf last g) left right
   twin-none z = subst (λ (hs : List Pair). Twinless (g .free) hs left right) (sym twin-pairs) (d .twin .none z)

@@ -16,7 +16,7 @@ pub struct Made {
     pub edge: Edge,
 }
 
-// What the rules say of two operands: the conjunction is an edge that is known, or it wants a gate.
+// What the rules say of two operands: the conjunction is an edge that is known, or a gate is needed.
 enum Simple {
     Known(u32),
     Gate,

@@ -1,10 +1,9 @@
 -- Literals and their words. Assumes nothing.
-use mathlib.Core.Bool.{Bool, false, not, cond}
+use mathlib.Core.Bool.{Bool, not, cond}
 use Prim.Native.Nat.{ℕ, _+_, _*_}
 use Rattle.aiger.specs.Bits.{odd}
 use Rattle.aiger.specs.Circuit as circuit
 use Rattle.literals.specs.declared.Lit.{Lit}
-use Rattle.literals.specs.declared.Var.{Var}
 
 -- the literal of a variable number and a sign, true for the complement
 abbrev pub signed : ℕ → Bool → Lit
@@ -13,10 +12,6 @@ signed v b = record { 0 = record { 0 = v }; 1 = b }
 -- the literal that a word stands for
 abbrev pub literal : ℕ → Lit
 literal w = signed (circuit.var w) (odd w)
-
--- the literal of a variable that is no complement
-abbrev pub plain : Var → Lit
-plain v = signed (v .0) false
 
 -- "Literal 2v is variable v and 2v+1 its complement."
 abbrev pub wordOf : Lit → ℕ

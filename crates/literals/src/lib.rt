@@ -1,24 +1,15 @@
 // Variables, literals and nodes as types of their own, so that none is taken for another.
 ghost use mathlib.Core.Path.{_≡_};
-ghost use lib.Dec.{eqb};
-ghost use Rattle.literals.specs.Literal.{literal, plain, wordOf, complemented};
+ghost use Rattle.literals.specs.Literal.{literal, wordOf, complemented};
 
 // A variable number. Variable 0 is the constant.
 pub struct Var(pub u32);
 
-// A node of a folded frame.
+// A node of the graph of a folded frame. The variable that the folded file gives it has another number.
 pub struct Node(pub u32);
 
 // A variable, and whether the literal is its complement.
 pub struct Lit(pub Var, pub bool);
-
-impl Var {
-    pub fn literal(self) -> Lit
-        ensures { λ r. ⌜ r ≡ plain self ⌝ }
-    {
-        Lit(self, false)
-    }
-}
 
 impl Lit {
     // "Literal 2v is variable v and 2v+1 its complement."
@@ -52,27 +43,5 @@ impl Lit {
     {
         let v = self.0;
         Lit(v, !self.1)
-    }
-
-    pub fn is_constant(self) -> bool
-        ensures { λ r. ⌜ r ≡ eqb (self .0 .0) 0 ⌝ }
-    {
-        let v = self.0;
-        v.0 == 0
-    }
-}
-
-impl Node {
-    // A node is written as the variable of its number.
-    pub fn from_var(v: Var) -> Node
-        ensures { λ r. ⌜ r .0 ≡ v .0 ⌝ }
-    {
-        Node(v.0)
-    }
-
-    pub fn var(self) -> Var
-        ensures { λ r. ⌜ r .0 ≡ self .0 ⌝ }
-    {
-        Var(self.0)
     }
 }

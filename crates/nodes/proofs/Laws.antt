@@ -11,10 +11,11 @@ use Rattle.aiger.specs.Bits.{nonzero}
 use Rattle.aiger.specs.Circuit.{var}
 use Rattle.meaning.proofs.Lists.{map-upto-eq, map-upto-suc, length-map-upto, getD-map-upto}
 use Rattle.meaning.proofs.Values.{value-even, value-eq, value-complement}
-use Rattle.nodes.specs.Graph.{Pair, leaves, edgeIn, grown, nodeValues, edgeValue, nodes, noPair, pairAt, Extends, same, more}
-use Rattle.nodes.specs.Graph as graph
-use Rattle.nodes.specs.Store.{field, pairsOf, oneMore}
-use Rattle.nodes.specs.Edges.{wordEdge, edgeWord, opposite}
+use Rattle.literals.specs.Literal.{signed}
+use Rattle.literals.proofs.Words.{word-odd}
+use Rattle.nodes.specs.Graph.{Pair, leaves, edgeIn, grown, nodeValues, edgeValue, nodes, noPair, pairAt, InGraph, Extends, same, more}
+use Rattle.nodes.specs.Store.{field, pairOf, pairsOf, oneMore}
+use Rattle.nodes.specs.Edges.{edgeOf, wordEdge, edgeWord, opposite}
 use Rattle.nodes.specs.declared.Graph.{Graph}
 use Rattle.nodes.specs.declared.Edge.{Edge}
 
@@ -60,10 +61,10 @@ pub edge-eq : (us vs : List Bool) (e : ℕ) → getD us (var e) false ≡ getD v
 edge-eq us vs e h = value-eq (λ k. getD us k false) (λ k. getD vs k false) e h
 
 -- the same of edges
-pub edge-append : (n : ℕ) (gs hs : List Pair) (f : ℕ → Bool) (e : ℕ) → graph.Edge n gs e → edgeValue n (gs ++ hs) f e ≡ edgeValue n gs f e
+pub edge-append : (n : ℕ) (gs hs : List Pair) (f : ℕ → Bool) (e : ℕ) → InGraph n gs e → edgeValue n (gs ++ hs) f e ≡ edgeValue n gs f e
 edge-append n gs hs f e h = edge-eq (nodeValues n (gs ++ hs) f) (nodeValues n gs f) e (node-append n gs hs f (var e) h)
 
-pub edge-extends : (n : ℕ) {gs hs : List Pair} (f : ℕ → Bool) (e : ℕ) → Extends gs hs → graph.Edge n gs e → edgeValue n hs f e ≡ edgeValue n gs f e
+pub edge-extends : (n : ℕ) {gs hs : List Pair} (f : ℕ → Bool) (e : ℕ) → Extends gs hs → InGraph n gs e → edgeValue n hs f e ≡ edgeValue n gs f e
 edge-extends n f e same h = refl
 edge-extends n {gs} f e (more p) h = edge-append n gs (p ∷ []) f e h
 
@@ -170,6 +171,10 @@ bit-back (suc (suc x)) h = absurd (omega arith)
 pub edge-word : (w : ℕ) → edgeWord (wordEdge w) ≡ w
 edge-word w = omega (arith, bit-back (w % 2) (omega arith))
 
+-- an edge is the one that its word stands for
+pub word-edge : (e : Edge) → wordEdge (edgeWord e) ≡ e
+word-edge e = ap₂ edgeOf (word-node e) (word-odd (signed (e .0 .0) (e .1)))
+
 -- an opposite edge has the opposite value
 pub edge-opposite : (n : ℕ) (gs : List Pair) (f : ℕ → Bool) (e : Edge) → edgeValue n gs f (edgeWord (opposite e)) ≡ not (edgeValue n gs f (edgeWord e))
 edge-opposite n gs f e = go (e .0 .0) (e .1)
@@ -187,19 +192,16 @@ edge-opposite n gs f e = go (e .0 .0) (e .1)
 
 -- ---- working memory
 
-abbrev pub pairIn : List ℕ → ℕ → Pair
-pairIn work k = record { left = field work k 0; right = field work k 1 }
-
 pub length-pairsOf : (work : List ℕ) (g : Graph) → length (pairsOf work g) ≡ g .nodes - (g .free + 1)
 unfolding pairsOf
-length-pairsOf work g = length-map-upto (λ i. pairIn work (g .free + 1 + i)) (g .nodes - (g .free + 1))
+length-pairsOf work g = length-map-upto (λ i. pairOf work (g .free + 1 + i)) (g .nodes - (g .free + 1))
 
 pub nodes-pairsOf : (work : List ℕ) (g : Graph) → g .free + 1 ≤ g .nodes → nodes (g .free) (pairsOf work g) ≡ g .nodes
 nodes-pairsOf work g h = omega (arith, length-pairsOf work g)
 
-pub pairAt-pairsOf : (work : List ℕ) (g : Graph) (i : ℕ) → g .free + 1 + i < g .nodes → pairAt (pairsOf work g) i ≡ pairIn work (g .free + 1 + i)
+pub pairAt-pairsOf : (work : List ℕ) (g : Graph) (i : ℕ) → g .free + 1 + i < g .nodes → pairAt (pairsOf work g) i ≡ pairOf work (g .free + 1 + i)
 unfolding pairsOf
-pairAt-pairsOf work g i h = getD-map-upto (λ i. pairIn work (g .free + 1 + i)) (g .nodes - (g .free + 1)) i noPair (omega arith)
+pairAt-pairsOf work g i h = getD-map-upto (λ i. pairOf work (g .free + 1 + i)) (g .nodes - (g .free + 1)) i noPair (omega arith)
 
 pub pair-eq : {a b c d : ℕ} → a ≡ c → b ≡ d → _≡_ {A = Pair} (record { left = a; right = b }) (record { left = c; right = d })
 pair-eq p q = ap₂ (λ (x y : ℕ). record { left = x; right = y }) p q
@@ -209,22 +211,22 @@ pub pairsOf-same : (work last : List ℕ) (g : Graph)
     → ((k : ℕ) → g .free + 1 ≤ k → k < g .nodes → (field last k 0 ≡ field work k 0) × (field last k 1 ≡ field work k 1)) → pairsOf last g ≡ pairsOf work g
 unfolding pairsOf
 pairsOf-same work last g h =
-    map-upto-eq (λ i. pairIn last (g .free + 1 + i)) (λ i. pairIn work (g .free + 1 + i)) (g .nodes - (g .free + 1))
+    map-upto-eq (λ i. pairOf last (g .free + 1 + i)) (λ i. pairOf work (g .free + 1 + i)) (g .nodes - (g .free + 1))
     (λ j u. let e = h (g .free + 1 + j) (omega arith) (omega arith) in pair-eq (e .0) (e .1))
 
 -- a node more is a gate more
-pub pairsOf-more : (work : List ℕ) (g : Graph) → g .free + 1 ≤ g .nodes → pairsOf work (oneMore g) ≡ pairsOf work g ++ (pairIn work (g .nodes) ∷ [])
+pub pairsOf-more : (work : List ℕ) (g : Graph) → g .free + 1 ≤ g .nodes → pairsOf work (oneMore g) ≡ pairsOf work g ++ (pairOf work (g .nodes) ∷ [])
 unfolding pairsOf
 pairsOf-more work g h =
     let m = g .nodes - (g .free + 1) in
     let e : g .nodes + 1 - (g .free + 1) ≡ suc m = omega arith in
     let z : g .free + 1 + m ≡ g .nodes = omega arith in
-    ap (λ (x : ℕ). map (λ i. pairIn work (g .free + 1 + i)) (upto x)) e
-    ∙ map-upto-suc (λ i. pairIn work (g .free + 1 + i)) m
-    ∙ ap (λ (x : ℕ). map (λ i. pairIn work (g .free + 1 + i)) (upto m) ++ (pairIn work x ∷ [])) z
+    ap (λ (x : ℕ). map (λ i. pairOf work (g .free + 1 + i)) (upto x)) e
+    ∙ map-upto-suc (λ i. pairOf work (g .free + 1 + i)) m
+    ∙ ap (λ (x : ℕ). map (λ i. pairOf work (g .free + 1 + i)) (upto m) ++ (pairOf work x ∷ [])) z
 
 -- the same, where the memory was changed, and words 0 and 1 of the earlier gates were not
 pub pairsOf-added : (work last : List ℕ) (g : Graph) → g .free + 1 ≤ g .nodes
     → ((k : ℕ) → g .free + 1 ≤ k → k < g .nodes → (field last k 0 ≡ field work k 0) × (field last k 1 ≡ field work k 1))
-    → pairsOf last (oneMore g) ≡ pairsOf work g ++ (pairIn last (g .nodes) ∷ [])
-pairsOf-added work last g h e = pairsOf-more last g h ∙ ap (λ (l : List Pair). l ++ (pairIn last (g .nodes) ∷ [])) (pairsOf-same work last g e)
+    → pairsOf last (oneMore g) ≡ pairsOf work g ++ (pairOf last (g .nodes) ∷ [])
+pairsOf-added work last g h e = pairsOf-more last g h ∙ ap (λ (l : List Pair). l ++ (pairOf last (g .nodes) ∷ [])) (pairsOf-same work last g e)

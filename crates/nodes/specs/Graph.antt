@@ -63,9 +63,9 @@ pub record Built (n : ℕ) (gs : List Pair) : Type 0 where
   pub unequal : n ≤ 12 → (i : ℕ) → i < length gs → (k : ℕ) → k < n + 1 + i → Equal n gs (2 * k) (2 * (n + 1 + i)) → ⊥
   pub unopposite : n ≤ 12 → (i : ℕ) → i < length gs → (k : ℕ) → k < n + 1 + i → Opposite n gs (2 * k) (2 * (n + 1 + i)) → ⊥
 
--- an edge of the graph
-abbrev pub Edge : ℕ → List Pair → ℕ → Type 0
-Edge n gs e = var e < nodes n gs
+-- e is an edge of the graph
+abbrev pub InGraph : ℕ → List Pair → ℕ → Type 0
+InGraph n gs e = var e < nodes n gs
 
 -- hs is gs with at most one gate more
 pub data Extends (gs : List Pair) : List Pair → Type 0 where

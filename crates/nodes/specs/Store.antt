@@ -10,10 +10,13 @@ use Rattle.nodes.specs.declared.Graph.{Graph}
 abbrev pub field : List ℕ → ℕ → ℕ → ℕ
 field work k f = getD work (16 * k + f) 0
 
+-- the operands of node k
+abbrev pub pairOf : List ℕ → ℕ → Pair
+pairOf work k = record { left = field work k 0; right = field work k 1 }
+
 -- the gates that stand in working memory
 unfoldable pub pairsOf : List ℕ → Graph → List Pair
-pairsOf work g =
-    map (λ i. record { left = field work (g .free + 1 + i) 0; right = field work (g .free + 1 + i) 1 }) (upto (g .nodes - (g .free + 1)))
+pairsOf work g = map (λ i. pairOf work (g .free + 1 + i)) (upto (g .nodes - (g .free + 1)))
 
 -- a graph's numbers fit a working memory of so many words
 pub record Sized (g : Graph) (words : ℕ) : Type 0 where

@@ -26,7 +26,7 @@ bucketAt work g k = bucketOf (g .room) (field work k 0) (field work k 1)
 unfoldable pub inBucket : List ℕ → Graph → ℕ → ℕ → Bool
 inBucket work g h k = leb (g .free + 1) k && eqb (bucketAt work g k) h
 
--- word 6 of record h is one more than the last gate in bucket h, or 0; word 4 of a gate is one more than the gate before it in its bucket, or 0
+-- word 6 of record h is one more than the last node of bucket h, or 0; word 4 of a gate is one more than the node before it in its bucket, or 0
 pub record PairStore (work : List ℕ) (g : Graph) : Type 0 where
   pub heads : (h : ℕ) → h < g .room → field work h 6 ≡ lastBefore (inBucket work g h) (g .nodes)
   pub links : (k : ℕ) → g .free + 1 ≤ k → k < g .nodes → field work k 4 ≡ lastBefore (inBucket work g (bucketAt work g k)) k
@@ -36,7 +36,7 @@ pub record Chained (work : List ℕ) (g : Graph) : Type 0 where
   pub sized : Sized g (length work)
   pub store : PairStore work g
 
--- where the first pair may be added
+-- a graph without gates that fits the memory
 pub record Empty (work : List ℕ) (g : Graph) : Type 0 where
   pub sized : Sized g (length work)
   pub empty : g .nodes ≡ g .free + 1

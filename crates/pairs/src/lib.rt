@@ -1,4 +1,4 @@
-// Structural hashing: gates in buckets by their operands. A bucket is a chain from its last gate to its first.
+// Structural hashing: gates in buckets by their operands. A bucket is a chain from its last node to the node before it, and so on.
 use nodes::Graph;
 ghost use mathlib.Core.Path.{_≡_};
 ghost use Prim.Native.Nat.{_+_, _*_, _<_};
@@ -63,7 +63,7 @@ pub fn find_pair(work: &[u32], g: Graph, left: u32, right: u32) -> usize
     0
 }
 
-// Adds a gate with these operands as the last node, and puts it in front of its bucket.
+// Adds a gate with these operands as the last node of the graph and of its bucket.
 pub fn append_pair(work: &mut [u32], g: Graph, left: u32, right: u32) -> Graph
     requires { ⌜ Room (now work) g ⌝ }
     ensures { λ r. ⌜ (r ≡ oneMore g) × Appended (now (work .entry)) (now (work .exit)) g left right ⌝ }

@@ -17,9 +17,9 @@ use Rattle.aiger.specs.Frames.{value, freeBit}
 use Rattle.meaning.proofs.Values.{value-eq}
 use Rattle.words.proofs.Bits.{bit-none, bit-and}
 use Rattle.nodes.specs.Graph.{Pair, edgeValue, nodeValues, pairAt}
-use Rattle.nodes.specs.Store.{field, pairsOf, Sized}
+use Rattle.nodes.specs.Store.{field, pairOf, pairsOf, Sized}
 use Rattle.nodes.specs.declared.Graph.{Graph}
-use Rattle.nodes.proofs.Laws.{edge-node, edge-gate, edge-false, edge-free, pairIn, pairsOf-same, pairAt-pairsOf, length-pairsOf}
+use Rattle.nodes.proofs.Laws.{edge-node, edge-gate, edge-false, edge-free, pairsOf-same, pairAt-pairsOf, length-pairsOf}
 use Rattle.signatures.specs.Words.{wordAt, Put, Kept, simulationWord, searchWord}
 use Rattle.signatures.specs.Store.{Ordered}
 use Rattle.signatures.specs.Twin.{edgeUnder, bothUnder, Conjunction, Simulated, LeavesSet, GateSet, Evaluated, Simulable}
@@ -99,10 +99,10 @@ module _ (work now : List ℕ) (g : Graph) (m : ℕ) (ordered : Ordered (g .free
   among : i < length gs
   among = omega (arith, length-pairsOf work g)
 
-  stands : pairAt gs i ≡ pairIn now m
+  stands : pairAt gs i ≡ pairOf now m
   stands =
       pairAt-pairsOf work g i (omega arith)
-      ∙ ap (λ (k : ℕ). pairIn work k) place
+      ∙ ap (λ (k : ℕ). pairOf work k) place
       ∙ ap₂ (λ (a b : ℕ). record { left = a; right = b }) (sym (u .kept m 0 (omega arith) refl)) (sym (u .kept m 1 (omega arith) refl))
 
   pub left-below : var (field now m 0) < m
@@ -124,7 +124,7 @@ module _ (work now : List ℕ) (g : Graph) (m : ℕ) (ordered : Ordered (g .free
         let b = right-below in
         set .right p l
         ∙ ap₂ _&&_ (operand f p l s (field now m 0) a) (operand f p l s (field now m 1) b)
-        ∙ sym (edge-gate n gs f i among (pairIn now m) stands (omega arith) (omega arith))
+        ∙ sym (edge-gate n gs f i among (pairOf now m) stands (omega arith) (omega arith))
         ∙ ap (λ (k : ℕ). edgeValue n gs f (2 * k)) place
 
     at : (f : ℕ → Bool) (p : ℕ) → p < 64 → Simulated n gs work f p (n + 1) → (k : ℕ) → (k ≡ m) ⊎ (k < m)

@@ -15,13 +15,13 @@ use Rattle.aiger.specs.Frames.{value}
 use Rattle.meaning.proofs.Values.{value-eq}
 use Rattle.words.proofs.Bits.{bit-none}
 use Rattle.nodes.specs.Graph.{Pair, Built, edgeValue, nodeValues, nodes}
-use Rattle.nodes.specs.Store.{field, pairsOf, oneMore}
+use Rattle.nodes.specs.Store.{field, pairOf, pairsOf, oneMore}
 use Rattle.nodes.specs.declared.Graph.{Graph}
-use Rattle.nodes.proofs.Laws.{edge-node, edge-append, edge-new, edge-false, edge-free, pairIn, pairsOf-added, nodes-pairsOf}
+use Rattle.nodes.proofs.Laws.{edge-node, edge-append, edge-new, edge-false, edge-free, pairsOf-added, nodes-pairsOf}
 use Rattle.signatures.specs.Words.{wordAt, Kept, signatureWord}
 use Rattle.nodes.specs.Last.{lastBefore}
 use Rattle.signatures.specs.Bucket.{bucketOf}
-use Rattle.signatures.specs.Store.{patternValue, inBucket, Chained, Linked, SignatureStore, Ordered, oneLess, Appended, Signed, SignedLast}
+use Rattle.signatures.specs.Store.{patternValue, inBucket, Chained, Linked, SignatureStore, Ordered, oneLess, Unsigned, Signed, SignedLast}
 use Rattle.signatures.proofs.Words.{word-same, kept-trans, test-apart}
 use Rattle.nodes.proofs.Last.{last-eq}
 use Rattle.signatures.proofs.Buckets.{chained-none, chained-more, linked-word, linked-kept, linked-beyond}
@@ -125,7 +125,7 @@ withNodes g m = record { free = g .free; nodes = m; room = g .room }
 graph-back : (g : Graph) → 0 < g .nodes → oneMore (oneLess g) ≡ g
 graph-back g h = let e : g .nodes - 1 + 1 ≡ g .nodes = omega arith in ap (withNodes g) e
 
-module _ (work last : List ℕ) (g : Graph) (s : ℕ) (held : g .nodes ≤ g .room) (a : Appended work g s)
+module _ (work last : List ℕ) (g : Graph) (s : ℕ) (held : g .nodes ≤ g .room) (a : Unsigned work g s)
     (linked : Linked work last (g .room) (g .nodes - 1) s) where
   abbrev n : ℕ
   n = g .free
@@ -134,7 +134,7 @@ module _ (work last : List ℕ) (g : Graph) (s : ℕ) (held : g .nodes ≤ g .ro
   gs = pairsOf work (oneLess g)
 
   abbrev gate : Pair
-  gate = pairIn last (g .nodes - 1)
+  gate = pairOf last (g .nodes - 1)
 
   kept : Kept signatureWord work last
   kept = linked-kept work last (g .room) (g .nodes - 1) s (let h = a .gate in omega arith) linked

@@ -11,7 +11,7 @@ normal s = cond (odd s) ((2 ^ 64 - 1) - s) s
 unfoldable pub halves : ℕ → ℕ
 halves s = s % 2 ^ 32 * 625341585 + s / 2 ^ 32 * 461845907
 
--- the halves of that, added and times a third factor, without the lowest digits
+-- the halves of that, added, times a third factor and divided by 2 to the 20
 unfoldable pub scrambled : ℕ → ℕ
 scrambled s = (halves s % 2 ^ 32 + halves s / 2 ^ 32) * 1481765933 / 2 ^ 20
 

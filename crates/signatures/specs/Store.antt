@@ -23,12 +23,13 @@ patternValue n gs e p = edgeValue n gs (λ j. patternBit j p) e
 abbrev pub inBucket : List ℕ → ℕ → ℕ → ℕ → Bool
 inBucket work room h k = eqb (bucketOf room (wordAt work k 2)) h
 
--- each bucket has its last node below m, and each of these nodes the one before it in its bucket
+-- of the nodes below m: word 7 of record h is one more than the last node of bucket h, or 0; word 5 of a node is one more than the node
+-- before it in its bucket, or 0
 pub record Chained (work : List ℕ) (room m : ℕ) : Type 0 where
   pub heads : (h : ℕ) → h < room → field work h 7 ≡ lastBefore (inBucket work room h) m
   pub chain : (k : ℕ) → k < m → field work k 5 ≡ lastBefore (inBucket work room (bucketOf room (wordAt work k 2))) k
 
--- node k with signature s was put in front of its bucket
+-- node k with signature s was made the last node of its bucket
 pub record Linked (work last : List ℕ) (room k s : ℕ) : Type 0 where
   pub stored : wordAt last k 2 ≡ s
   pub next : field last k 5 ≡ field work (bucketOf room s) 7
@@ -54,7 +55,7 @@ abbrev pub oneLess : Graph → Graph
 oneLess g = record { free = g .free; nodes = g .nodes - 1; room = g .room }
 
 -- the last node is a gate whose operands are earlier nodes, the nodes before it have their signatures, and s is to be its signature
-pub record Appended (work : List ℕ) (g : Graph) (s : ℕ) : Type 0 where
+pub record Unsigned (work : List ℕ) (g : Graph) (s : ℕ) : Type 0 where
   pub gate : g .free + 1 < g .nodes
   pub store : SignatureStore work (oneLess g)
   pub left : var (field work (g .nodes - 1) 0) < g .nodes - 1
@@ -65,13 +66,13 @@ pub record Appended (work : List ℕ) (g : Graph) (s : ℕ) : Type 0 where
       ≡ (patternValue (g .free) (pairsOf work (oneLess g)) (field work (g .nodes - 1) 0) p
       && patternValue (g .free) (pairsOf work (oneLess g)) (field work (g .nodes - 1) 1) p)
 
--- all nodes have their signatures, and no other word was changed
+-- all nodes have their signatures, and no word but 2, 3, 5 and 7 of the records was changed
 pub record Signed (work last : List ℕ) (g : Graph) : Type 0 where
   pub store : SignatureStore last g
   pub kept : Kept signatureWord work last
   pub beyond : (i : ℕ) → 16 * g .room ≤ i → getD last i 0 ≡ getD work i 0
 
--- the last node has its signature s and is in front of its bucket; so all nodes have their signatures
+-- the last node has its signature s and is the last node of its bucket; so all nodes have their signatures
 pub record SignedLast (work last : List ℕ) (g : Graph) (s : ℕ) : Type 0 where
   pub store : SignatureStore last g
   pub kept : Kept signatureWord work last

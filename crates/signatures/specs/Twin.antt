@@ -9,7 +9,7 @@ use Rattle.aiger.specs.Bits.{bit}
 use Rattle.aiger.specs.Circuit.{var}
 use Rattle.aiger.specs.Frames.{value, freeBit}
 use Rattle.aiger.specs.Signature.{PatternWord}
-use Rattle.nodes.specs.Graph.{Pair, edgeValue, Edge}
+use Rattle.nodes.specs.Graph.{Pair, edgeValue, InGraph}
 use Rattle.nodes.specs.Store.{field, pairsOf, Sized}
 use Rattle.nodes.specs.declared.Graph.{Graph}
 use Rattle.signatures.specs.Words.{wordAt, Kept, simulationWord, searchWord}
@@ -29,8 +29,8 @@ Conjunction n gs a b e = (x : ℕ) → x < 2 ^ n → edgeUnder n gs e x ≡ both
 -- r is one more than an edge that is equal in function to the conjunction of a and b, or 0 where no edge is. An edge is a node or
 -- its complement, so that 0 says that no node is equal or opposite in function
 pub record Twin (n : ℕ) (gs : List Pair) (a b r : ℕ) : Type 0 where
-  pub found : (e : ℕ) → r ≡ e + 1 → Edge n gs e × Conjunction n gs a b e
-  pub none : r ≡ 0 → (e : ℕ) → Edge n gs e → Conjunction n gs a b e → ⊥
+  pub found : (e : ℕ) → r ≡ e + 1 → InGraph n gs e × Conjunction n gs a b e
+  pub none : r ≡ 0 → (e : ℕ) → InGraph n gs e → Conjunction n gs a b e → ⊥
 
 -- where the search for a twin may start
 pub record Ready (work : List ℕ) (g : Graph) (a b : ℕ) : Type 0 where
@@ -72,7 +72,7 @@ pub record GateSet (work last : List ℕ) (k : ℕ) : Type 0 where
       ≡ (value (λ j. bit (wordAt work j 8) p) (field work k 0) && value (λ j. bit (wordAt work j 8) p) (field work k 1))
   pub others : (i : ℕ) → (i ≡ 16 * k + 8 → ⊥) → (i ≡ 16 * k + 9 → ⊥) → getD last i 0 ≡ getD work i 0
 
--- what a simulation asks
+-- what a simulation needs
 pub record Simulable (work : List ℕ) (g : Graph) : Type 0 where
   pub sized : Sized g (length work)
   pub ordered : Ordered (g .free) (pairsOf work g)

@@ -28,6 +28,6 @@ simulationWord f = eqb f 8 || eqb f 9
 abbrev pub searchWord : ℕ → Bool
 searchWord f = eqb f 11 || simulationWord f
 
--- a signature, the next node of its bucket, and the bucket's last node
+-- a signature, the node before it in its bucket, and the bucket's last node
 abbrev pub signatureWord : ℕ → Bool
 signatureWord f = eqb f 2 || (eqb f 3 || (eqb f 5 || eqb f 7))

@@ -1,5 +1,6 @@
 // Signatures of nodes, and the search for an edge that is equal in function to a conjunction. A signature is a 64-bit word whose bit p is
 // the node's value in pattern p.
+use literals::Node;
 use nodes::Graph;
 ghost use mathlib.Core.Path.{_≡_};
 ghost use Prim.Native.Nat.{ℕ, _+_, _*_, _/_, _≤_, _<_};
@@ -11,7 +12,7 @@ ghost use Rattle.aiger.specs.Signature.{PatternWord};
 ghost use Rattle.nodes.specs.Store.{field, pairsOf, Sized};
 ghost use Rattle.signatures.specs.Words.{wordAt, Put};
 ghost use Rattle.signatures.specs.Bucket.{normal as normalOf, halves as halvesOf, scrambled, bucketOf};
-ghost use Rattle.signatures.specs.Store.{patternValue, SignatureStore, Linked, Appended, Signed, SignedLast};
+ghost use Rattle.signatures.specs.Store.{patternValue, SignatureStore, Linked, Unsigned, Signed, SignedLast};
 ghost use Rattle.signatures.specs.Twin as Twin;
 
 // The same number, as a 64-bit one.
@@ -69,7 +70,7 @@ fn halves(s: u64) -> u64
     (s % 4294967296) * 625341585 + (s / 4294967296) * 461845907
 }
 
-// A hash of a normal form: the halves of that number, added, times a third factor, without the lowest digits.
+// A hash of a normal form: the halves of that number, added, times a third factor and divided by 2 to the 20.
 fn scramble(s: u64) -> u64
     ensures { λ r. ⌜ r ≡ scrambled s ⌝ }
 {
@@ -97,7 +98,7 @@ fn clear_heads(work: &mut [u32], room: usize)
     }
 }
 
-// Stores the signature of node k, and puts the node in front of its bucket.
+// Stores the signature of node k, and makes the node the last one of its bucket.
 fn link(work: &mut [u32], room: usize, k: usize, s: u64)
     requires { ⌜ (k < room) × (room ≤ 65536) × (16 * room ≤ length (now work)) ⌝ }
     ensures { λ r. ⌜ Linked (now (work .entry)) (now (work .exit)) room k s ⌝ }
@@ -129,7 +130,7 @@ pub fn start_signatures(work: &mut [u32], g: Graph)
 // Gives the last node, a gate, its signature s, and puts it in its bucket.
 pub fn append_signature(work: &mut [u32], g: Graph, s: u64)
     requires { ⌜ Sized g (length (now work)) ⌝ }
-    requires { ⌜ Appended (now work) g s ⌝ }
+    requires { ⌜ Unsigned (now work) g s ⌝ }
     ensures { λ r. ⌜ SignedLast (now (work .entry)) (now (work .exit)) g s ⌝ }
 {
     let nodes = g.nodes;
@@ -175,15 +176,15 @@ fn eval_gates(work: &mut [u32], g: Graph)
 }
 
 // One more than the edge of node k whose signature is s, where t is that of the node; else 0.
-fn candidate(k: u32, t: u64, s: u64) -> u32
-    requires { ⌜ k < 65536 ⌝ }
-    ensures { λ r. ⌜ Twin.Candidate k t s r ⌝ }
+fn candidate(k: Node, t: u64, s: u64) -> u32
+    requires { ⌜ k .0 < 65536 ⌝ }
+    ensures { λ r. ⌜ Twin.Candidate (k .0) t s r ⌝ }
 {
-    if t == s {
-        return 2 * k + 1;
+    if words::first_difference(t, s) == 64 {
+        return 2 * k.0 + 1;
     }
-    if t == !s {
-        return 2 * k + 2;
+    if words::first_difference(t, !s) == 64 {
+        return 2 * k.0 + 2;
     }
     0
 }
@@ -212,7 +213,7 @@ fn gather(work: &mut [u32], g: Graph, s: u64) -> usize
     while 0 < next {
         let k = next - 1;
         let i = k as usize;
-        let e = candidate(k, word_at(work, i, 2), s);
+        let e = candidate(Node(k), word_at(work, i, 2), s);
         count = push(work, count, e);
         next = work[16 * i + 5];
     }

@@ -9,7 +9,7 @@ use lib.ListN.{length, getD}
 use Rattle.aiger.specs.Circuit.{Circuit, Gate, var}
 use Rattle.aiger.specs.Frames.{value, freeBit, freeBits, freeStarts, run, state}
 use Rattle.roundtrip.specs.Words.{word, circuitIn}
-use Rattle.meaning.proofs.Values.{Valuation}
+use Rattle.meaning.specs.Frame.{Valuation}
 use Rattle.literals.specs.Literal.{literal}
 use Rattle.literals.specs.declared.Lit.{Lit}
 use Rattle.layout.specs.declared.Layout.{Layout}
@@ -66,7 +66,7 @@ nextWord m latches map j = edgeWord (literalEdge map (literal (word m (latches +
 abbrev pub inputWord : ℕ → ℕ → ℕ
 inputWord first i = edgeWord (freeEdge (first + i))
 
--- no variable has an edge but the constant
+-- every word is 0, the edge of false
 abbrev pub Blank : List ℕ → Type 0
 Blank map = (v : ℕ) → getD map v 0 ≡ 0
 

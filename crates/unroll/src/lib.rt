@@ -8,9 +8,7 @@ use literals::Var;
 use nodes::Edge;
 use nodes::Graph;
 ghost use mathlib.Core.Path.{_≡_};
-ghost use mathlib.Core.Bool.{cond};
 ghost use Prim.Native.Nat.{ℕ, _+_, _^_, _≤_, _<_};
-ghost use lib.Dec.{eqb};
 ghost use lib.ListN.{length, getD, set};
 ghost use Rattle.nodes.specs.Edges.{edgeWord};
 ghost use Rattle.roundtrip.specs.Words.{word, gateIn, circuitIn};
@@ -50,13 +48,6 @@ fn free_edge(j: usize) -> Edge
     Edge(Node((j + 1) as u32), false)
 }
 
-// 1 for a latch with a free start, else 0.
-fn free_start(lit: u32, reset: u32) -> usize
-    ensures { λ r. ⌜ r ≡ cond (eqb reset lit) 1 0 ⌝ }
-{
-    if reset == lit { 1 } else { 0 }
-}
-
 // The edge of a latch's start: constant, or the free bit that is next.
 fn start_edge(lit: u32, reset: u32, next: usize) -> Edge
     requires { ⌜ next < 65536 ⌝ }
@@ -82,7 +73,7 @@ fn put_starts(m: &[u32], layout: Layout, map: &mut [u32])
         let reset = m[latches + 3 * j + 2];
         let l = Lit::from_word(lit);
         put_edge(map, l.var(), start_edge(lit, reset, next));
-        next += free_start(lit, reset);
+        next += enumeration::free_start(lit, reset);
         j += 1;
     }
 }

@@ -1,17 +1,18 @@
 -- `fold::write_folded` meets its contract: after each call the text is written but for the parts that are left. Assumes nothing.
-use mathlib.Core.Path.{_≡_, ap, _∙_}
+use mathlib.Core.Path.{_≡_, sym}
 use mathlib.Core.List.{List, _++_}
 use Prim.Native.Nat.{ℕ, _+_, _-_}
 use native.Mathlib.Omega.{arith}
 use Rattle.aiger.specs.Circuit.{var}
 use Rattle.aiger.specs.Write.{write}
 use Rattle.nodes.specs.Edges.{edgeWord}
+use Rattle.nodes.proofs.Laws.{word-node, word-edge}
 use Rattle.write.specs.Rows.{numberText}
 use Rattle.write.specs.Output.{Room}
 use Rattle.write.proofs.Output.{Rest, rest-room, rest-more}
-use Rattle.fold.specs.Text.{literalOf, gatesText, inputsText, headText, foldedIn}
+use Rattle.fold.specs.Text.{literalWord, gatesText, inputsText, headText, foldedIn}
 use Rattle.fold.proofs.Parts.{last-room, shown}
-use Rattle.fold.proofs.Lines.{left-all, kept-few, node-fits, gates-fit}
+use Rattle.fold.proofs.Lines.{literal-told, literal-small, left-all, kept-few, node-fits, gates-fit}
 use borrow.Author.Needs.{needs}
 use Rattle.fold.proofs.write_folded.Statement.{statement}
 use Rattle.fold.proofs.write_folded.Tie as tie
@@ -24,7 +25,7 @@ abbrev inputs : tie.Start → List ℕ
 inputs s = inputsText (s .args .g .free)
 
 abbrev output : tie.Start → List ℕ
-output s = numberText (literalOf (s .args .work .now) (edgeWord (s .args .root))) 0
+output s = numberText (literalWord (s .args .work .now) (edgeWord (s .args .root))) 0
 
 abbrev gates : tie.Start → List ℕ
 gates s = gatesText (s .args .work .now) (s .args .g .free + 1) (s .args .g .nodes - (s .args .g .free + 1))
@@ -58,22 +59,29 @@ left-2 : (c : tie.After-write-inputs) → Leaves (entry-2 c) (c .write-inputs .l
 left-2 c = let s = entry-2 c in rest-more (inputs s) (output s ++ gates s) (room s) (left-1 (c .before .before .before .before)) (c .write-inputs .ensures)
 
 -- the number that is written is the literal of the root
-told : (c : tie.After-literal) → c .literal .result ≡ literalOf (c .before .before .before .before .args .work .now) (edgeWord (c .before .before .before .before .args .root))
-told c = c .literal .ensures ∙ ap (literalOf (c .before .before .before .before .args .work .now)) (c .before .word .ensures)
+told : (c : tie.After-word) → (let s = c .before .before .before .before in c .word .result ≡ literalWord (s .args .work .now) (edgeWord (s .args .root)))
+told c =
+    let s = c .before .before .before .before in
+    literal-told (s .args .work .now) (edgeWord (s .args .root)) (sym (word-edge (s .args .root))) (c .before .literal .ensures) (c .word .ensures)
 
 left-3 : (c : tie.After-write-ended) → Leaves (entry-3 c) (c .write-ended .last .0) (c .write-ended .result) (gates (entry-3 c))
 left-3 c =
     let s = entry-3 c in
     rest-more (output s) (gates s) (room s) (left-2 (c .before .before .before .before)) (rw (told (c .before .before .before .before .before .before .before .before .before .before)) at (c .write-ended .ensures))
 
+literal-requires : tie.Need-literal-requires
+literal-requires c κs =
+    let s = c .before .before in
+    node-fits (s .pre .0) (s .args .root .0 .0) (omega (arith, word-node (s .args .root), s .pre .0 .inside))
+
 word-requires : tie.Need-word-requires
 word-requires c κs = search needs
 
-cast-literal : tie.Need-cast-literal
-cast-literal c = search needs
-
-literal-requires : tie.Need-literal-requires
-literal-requires c κs = let s = c .before .before .before in rw (c .word .ensures) (node-fits (s .pre .0) (var (edgeWord (s .args .root))) (s .pre .0 .inside))
+cast-output : tie.Need-cast-output
+cast-output c =
+    let s = c .before .before .before .before in
+    let root = edgeWord (s .args .root) in
+    omega (arith, told c, literal-small (s .args .work .now) root (node-fits (s .pre .0) (var root) (s .pre .0 .inside) .small))
 
 write-head-requires : tie.Need-write-head-requires
 write-head-requires c κs =
@@ -111,9 +119,9 @@ pub write-folded-spec : {M : Type 1} → statement M
 write-folded-spec =
     tie.close
     (tie.spec
-    word-requires
-    cast-literal
     literal-requires
+    word-requires
+    cast-output
     write-head-requires
     write-inputs-requires
     write-ended-requires

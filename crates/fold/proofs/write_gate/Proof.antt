@@ -1,5 +1,9 @@
 -- `fold::write_gate` meets its contract. Assumes nothing.
+use mathlib.Core.Path.{_≡_}
+use mathlib.Core.List.{[], _∷_}
 use native.Mathlib.Omega.{arith}
+use Rattle.write.specs.Rows.{rowText}
+use Rattle.fold.specs.Text.{gateText}
 use Rattle.fold.proofs.Parts.{placed-none}
 use Rattle.fold.proofs.Lines.{gate-line, gate-none, gate-left}
 use borrow.Author.Needs.{needs}
@@ -18,50 +22,66 @@ mul-number-2 c = search needs
 shared-slice-read-number : tie.Need-shared-slice-read-number
 shared-slice-read-number c = search needs
 
+-- the row that is written is the gate's line
+line : (c : tie.After-write-row-arg) → (
+    let two = c .before .before in
+    let one = two .before .before in
+    let own = one .before .before in
+    let s = own .before .before .before .before .before in
+    rowText (own .word .result ∷ one .literal-word .result ∷ two .literal-word2 .result ∷ []) 0 3 ≡ gateText (s .args .work .now) (s .args .k))
+line c =
+    let two = c .before .before in
+    let one = two .before .before in
+    let own = one .before .before in
+    let s = own .before .before .before .before .before in
+    gate-line (s .args .work .now) (s .args .k) (own .word .result) (one .literal-word .result) (two .literal-word2 .result) (own .before .if1 .left)
+    (omega (arith, own .word .ensures)) (one .literal-word .ensures) (two .literal-word2 .ensures)
+
 returns : tie.Need-returns
 returns c =
     let s = c .before .before .before .before in
     rw (gate-none (s .args .work .now) (s .args .k) (omega arith)) (placed-none (s .args .out .now) (s .args .at))
 
-mul-literal : tie.Need-mul-literal
-mul-literal c = search needs
+word-requires : tie.Need-word-requires
+word-requires c κs = search needs
 
-mul-literal-2 : tie.Need-mul-literal-2
-mul-literal-2 c = search needs
+cast-own : tie.Need-cast-own
+cast-own c = search needs
 
-shared-slice-read-literal : tie.Need-shared-slice-read-literal
-shared-slice-read-literal c = search needs
+mul-literal-word : tie.Need-mul-literal-word
+mul-literal-word c = search needs
 
-literal-requires : tie.Need-literal-requires
-literal-requires c κs = let s = c .before .before .before .before .before in gate-left (s .args .work .now) (s .args .k) (s .pre .0)
+mul-literal-word-2 : tie.Need-mul-literal-word-2
+mul-literal-word-2 c = search needs
 
-mul-literal-3 : tie.Need-mul-literal-3
-mul-literal-3 c = search needs
+shared-slice-read-literal-word : tie.Need-shared-slice-read-literal-word
+shared-slice-read-literal-word c = search needs
 
-add-literal : tie.Need-add-literal
-add-literal c = search needs
+literal-word-requires : tie.Need-literal-word-requires
+literal-word-requires c κs = let s = c .before .before .before .before .before .before in gate-left (s .args .work .now) (s .args .k) (s .pre .0)
 
-mul-literal-4 : tie.Need-mul-literal-4
-mul-literal-4 c = search needs
+mul-literal-word-3 : tie.Need-mul-literal-word-3
+mul-literal-word-3 c = search needs
 
-shared-slice-read-literal-2 : tie.Need-shared-slice-read-literal-2
-shared-slice-read-literal-2 c = search needs
+add-literal-word : tie.Need-add-literal-word
+add-literal-word c = search needs
 
-literal-requires-2 : tie.Need-literal-requires-2
-literal-requires-2 c κs = search needs
+mul-literal-word-4 : tie.Need-mul-literal-word-4
+mul-literal-word-4 c = search needs
 
-mul-t13 : tie.Need-mul-t13
-mul-t13 c = search needs
+shared-slice-read-literal-word-2 : tie.Need-shared-slice-read-literal-word-2
+shared-slice-read-literal-word-2 c = search needs
+
+literal-word-requires-2 : tie.Need-literal-word-requires-2
+literal-word-requires-2 c κs = search needs
 
 slice-aggregate-write-row : tie.Need-slice-aggregate-write-row
 slice-aggregate-write-row c = search needs
 
 write-row-requires : tie.Need-write-row-requires
 write-row-requires c κs =
-    let s = c .before .before .before .before .before .before .before .before .before .before in
-    let two = c .before .before in
-    let one = two .before .before in
-    (omega arith, rw (gate-line (s .args .work .now) (s .args .k) (one .literal .result) (two .literal2 .result) (one .before .before .if1 .left) (one .literal .ensures) (two .literal2 .ensures)) (s .pre .1))
+    let s = c .before .before .before .before .before .before .before .before .before .before .before in
+    (omega arith, rw (line c) (s .pre .1))
 
 same-length : tie.Need-same-length
 same-length c = search needs
@@ -69,11 +89,7 @@ same-length c = search needs
 returns-2 : tie.Need-returns-2
 returns-2 c =
     let w = c .before .before in
-    let d = w .before in
-    let s = d .before .before .before .before .before .before .before .before .before .before in
-    let two = d .before .before in
-    let one = two .before .before in
-    rw (gate-line (s .args .work .now) (s .args .k) (one .literal .result) (two .literal2 .result) (one .before .before .if1 .left) (one .literal .ensures) (two .literal2 .ensures)) at (w .write-row .ensures)
+    rw (line (w .before)) at (w .write-row .ensures)
 
 pub write-gate-spec : {M : Type 1} → statement M
 write-gate-spec =
@@ -84,16 +100,17 @@ write-gate-spec =
     mul-number-2
     shared-slice-read-number
     returns
-    mul-literal
-    mul-literal-2
-    shared-slice-read-literal
-    literal-requires
-    mul-literal-3
-    add-literal
-    mul-literal-4
-    shared-slice-read-literal-2
-    literal-requires-2
-    mul-t13
+    word-requires
+    cast-own
+    mul-literal-word
+    mul-literal-word-2
+    shared-slice-read-literal-word
+    literal-word-requires
+    mul-literal-word-3
+    add-literal-word
+    mul-literal-word-4
+    shared-slice-read-literal-word-2
+    literal-word-requires-2
     slice-aggregate-write-row
     write-row-requires
     same-length

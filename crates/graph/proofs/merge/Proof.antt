@@ -32,7 +32,7 @@ returns : tie.Need-returns
 returns c =
     let s = c .before .before .before .before .before .before .before in
     let t = c .before .before .before .before .find-twin in
-    twin-made (s .args .work .now) (t .last .0) (s .args .g) (s .args .left) (s .args .right) (t .result) (s .pre .0) (t .kept .0) (t .ensures) (omega arith) (c .from-word .result) (c .from-word .ensures)
+    twin-made (s .args .work .now) (t .last .0) (s .args .g) (s .args .left) (s .args .right) (t .result) (s .pre .0) (t .kept .0) (t .ensures) (s .pre .1) (omega arith) (c .from-word .result) (c .from-word .ensures)
 
 append-signed-requires : tie.Need-append-signed-requires
 append-signed-requires c κs =

@@ -1,8 +1,11 @@
--- `signatures::candidate` meets its contract. Assumes nothing.
+-- `signatures::candidate` meets its contract: a first difference of 64 says that the words are equal. Assumes nothing.
 use Rattle.signatures.proofs.Twins.{candidate-even, candidate-odd, candidate-none}
 use borrow.Author.Needs.{needs}
 use Rattle.signatures.proofs.candidate.Statement.{statement}
 use Rattle.signatures.proofs.candidate.Tie as tie
+
+first-difference-requires : tie.Need-first-difference-requires
+first-difference-requires c κs = search needs
 
 mul-result : tie.Need-mul-result
 mul-result c = search needs
@@ -12,8 +15,12 @@ add-result c = search needs
 
 returns : tie.Need-returns
 returns c =
-    let t = c .before in
-    candidate-even (t .args .k) (t .args .t) (t .args .s) (t .fits .t .fits) (t .fits .s .fits) (c .if1 .taken)
+    let d = c .before .before in
+    let t = d .before in
+    candidate-even (t .args .k .0) (t .args .t) (t .args .s) (t .fits .t .fits) (t .fits .s .fits) (d .first-difference .ensures .equal (c .before .if1 .taken))
+
+first-difference-requires-2 : tie.Need-first-difference-requires-2
+first-difference-requires-2 c κs = search needs
 
 mul-result-2 : tie.Need-mul-result-2
 mul-result-2 c = search needs
@@ -23,15 +30,27 @@ add-result-2 c = search needs
 
 returns-2 : tie.Need-returns-2
 returns-2 c =
-    let t = c .before .before in
-    candidate-odd (t .args .k) (t .args .t) (t .args .s) (t .fits .t .fits) (t .fits .s .fits) (c .if2 .taken)
+    let d = c .before .before in
+    let t = d .before .before .before in
+    candidate-odd (t .args .k .0) (t .args .t) (t .args .s) (t .fits .t .fits) (t .fits .s .fits) (d .first-difference2 .ensures .equal (c .before .if2 .taken))
 
 returns-3 : tie.Need-returns-3
 returns-3 c =
-    let t = c .before .before in
-    candidate-none (t .args .k) (t .args .t) (t .args .s) (t .fits .t .fits) (t .fits .s .fits) (c .before .if1 .left) (c .if2 .left)
+    let d = c .before .before .before in
+    let t = d .before in
+    candidate-none (t .args .k .0) (t .args .t) (t .args .s) (t .fits .t .fits) (t .fits .s .fits)
+    (λ q. c .before .before .if1 .left (d .first-difference .ensures .none q)) (λ q. c .if2 .left (c .before .first-difference2 .ensures .none q))
 
 pub candidate-spec : {M : Type 1} → statement M
 candidate-spec =
     tie.close
-    (tie.spec mul-result add-result returns mul-result-2 add-result-2 returns-2 returns-3)
+    (tie.spec
+    first-difference-requires
+    mul-result
+    add-result
+    returns
+    first-difference-requires-2
+    mul-result-2
+    add-result-2
+    returns-2
+    returns-3)
