@@ -20,7 +20,7 @@ use Rattle.pairs.proofs.Buckets.{SamePairs, store-same}
 use Rattle.pairs.proofs.Found.{found-gate, found-holds, found-none}
 use Rattle.signatures.specs.Store.{SignatureStore}
 use Rattle.graph.specs.Rules.{simplified}
-use Rattle.graph.specs.Stored.{Stored, Operands, madeOf, Origin, ruled, hashed, added, merged, Conjoined, Proper, New, Twinless}
+use Rattle.graph.specs.Stored.{Stored, Operands, madeOf, Origin, ruled, hashed, added, Conjoined, Proper, New, Twinless}
 use Rattle.graph.specs.declared.Made.{Made}
 use Rattle.graph.specs.declared.Simple.the-variants.{Known, Gate}
 use Rattle.graph.proofs.Rules as rules

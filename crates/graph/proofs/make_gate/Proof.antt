@@ -33,7 +33,7 @@ append-plain-requires : tie.Need-append-plain-requires
 append-plain-requires c κs =
     let s = c .before .before .before .before .before .before .before in
     let f = c .before .before .before .before .find-pair in
-    (found-new (s .args .work .now) (s .args .g) (s .args .left) (s .args .right) (s .pre) (f .result) (f .ensures) (omega arith), c .before .if2 .taken)
+    (found-new (s .args .work .now) (s .args .g) (s .args .left) (s .args .right) (s .pre) (f .result) (f .ensures) (omega arith), omega (arith, c .before .if2 .taken))
 
 same-length-2 : tie.Need-same-length-2
 same-length-2 c = search needs
@@ -45,7 +45,7 @@ merge-requires : tie.Need-merge-requires
 merge-requires c κs =
     let s = c .before .before .before .before .before .before .before in
     let f = c .before .before .before .before .find-pair in
-    (found-new (s .args .work .now) (s .args .g) (s .args .left) (s .args .right) (s .pre) (f .result) (f .ensures) (omega arith), c .before .if2 .left)
+    (found-new (s .args .work .now) (s .args .g) (s .args .left) (s .args .right) (s .pre) (f .result) (f .ensures) (omega arith), omega (arith, c .before .if2 .left))
 
 same-length-3 : tie.Need-same-length-3
 same-length-3 c = search needs
