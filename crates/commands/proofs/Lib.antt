@@ -2,3 +2,4 @@ pub mod Putting
 pub mod Causes
 pub mod Numbers
 pub mod Answers
+pub mod Theorems
