@@ -1,8 +1,8 @@
 -- From what the operations answer to what is printed. Assumes nothing.
-use mathlib.Core.Path.{_≡_, refl, sym, ap, _∙_, subst}
+use mathlib.Core.Path.{_≡_, sym, ap, _∙_, subst}
 use mathlib.Core.Bool.{Bool}
-use mathlib.Core.List.{List, [], _++_}
-use Prim.Native.Nat.{ℕ, _+_, _≤_}
+use mathlib.Core.List.{List}
+use Prim.Native.Nat.{ℕ, _≤_}
 use native.Mathlib.Omega.{arith}
 use borrow.Author.Tests.{le-leb}
 use lib.Dec.{leb}
@@ -20,7 +20,6 @@ use Rattle.roundtrip.proofs.Holding.{held, held-valid, one-circuit}
 use Rattle.roundtrip.proofs.Determined.{written-same, replayed-same}
 use Rattle.job.specs.Replies.{Shows}
 use Rattle.job.proofs.Printing.{Stored}
-use Rattle.commands.specs.declared.Report.{Report}
 use Rattle.commands.specs.Refusal.{refusalText}
 use Rattle.commands.specs.Texts.{textOf, yesText, replayAnswer, writeText, replayText, FoldPrints}
 use Rattle.commands.specs.Replies.{Leaves, FoldTexts}
@@ -34,9 +33,6 @@ front-inside text out e = omega (arith, length-append text (drop (length text) o
 
 -- write, on a loaded circuit
 module _ {m out out′ : List ℕ} {a : Answer ℕ} (h : Holds m (circuitIn m)) (room : 65536 ≤ length out) (w : Written m out a out′) where
-  text : List ℕ
-  text = write (circuitIn m)
-
   fits : test 13 (leb (length (write (circuitIn m))) (length out)) ≡ gives tt
   fits = rw (le-leb (length (write (circuitIn m))) (length out) (omega (arith, text-short (held-valid h))))
 

@@ -11,9 +11,9 @@ use lib.Dec.{T, leb, eqb, leb→le, eqb→eq}
 use lib.ListN.{length, getD, take, drop, replicate, getD-replicate, length-append, length-drop, drop-of-length-le}
 use lib.Seq.{take-all, take-at, drop-cons}
 use Rattle.aiger.specs.Lists.{every}
-use Rattle.aiger.specs.Text.{Token, spaced, ended, malformed, token, endedBy, span, isDigit, isNumber, decimal}
+use Rattle.aiger.specs.Text.{spaced, ended, malformed, token, endedBy, span, isDigit, isNumber, decimal}
 use Rattle.aiger.proofs.Tests.{T-true, true-T, and-left, and-right}
-use Rattle.numbers.specs.Number.{NumberAt, meant}
+use Rattle.numbers.specs.Number.{NumberAt}
 use Rattle.numbers.specs.declared.Number.{Number}
 use Rattle.numbers.specs.declared.Number.the-variants.{Spaced, Ended, Malformed}
 use Rattle.numbers.proofs.Number.{the-type}

@@ -1,5 +1,5 @@
 -- The lent memories suffice: numbers 4 and 13 do not occur, and 12 only for a size above 65,536. Assumes nothing.
-use mathlib.Core.Path.{_≡_, refl, sym, _∙_}
+use mathlib.Core.Path.{_≡_, refl}
 use mathlib.Core.Bool.{Bool, true, false, _&&_}
 use mathlib.Core.List.{List}
 use mathlib.Core.Option.{Option, none, some}
@@ -7,7 +7,7 @@ use Prim.Native.Nat.{ℕ, _+_, _*_, _≤_, _<_}
 use native.Mathlib.Decide.{decLt}
 use native.Mathlib.Omega.{arith}
 use borrow.Author.Tests.{le-leb}
-use lib.Dec.{T, leb, ltb, leb→le}
+use lib.Dec.{leb, ltb, leb→le}
 use lib.ListN.{length}
 use Rattle.aiger.specs.Circuit.{Circuit, literalsRight, usedDefined, acyclic}
 use Rattle.aiger.specs.File.{Header, header, countTests, countsFit, body}
