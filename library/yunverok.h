@@ -13,7 +13,7 @@
 
    Working memory (work): 16 words for each unit of size, at most 1,048,576. The size for bound or frame k is
    (k + 1) * (I + A + C) + U + 1, U the number of latches with a free start, and is at most 65,536. What it holds before a call never
-   matters. What it holds after a call that is not refused is not promised.
+   matters to a search; fold writes a permitted text whatever it holds. What it holds after a call that is not refused is not promised.
 
    Refusals. A refused call changes nothing that was lent. The tests are made in the order of the numbers:
      1  file empty or over 65,536 bytes              8  gates depend on themselves
@@ -33,8 +33,8 @@
 #include <stddef.h>
 #include <stdint.h>
 
-/* Lengths that are never too short: of circuit memory and working memory in words; of the output of search (the longest witness), of
-   write and of fold in bytes. A file to load has at most YUNVEROK_TEXT bytes. */
+/* Lengths that are never too short: of circuit memory and working memory in words; of the output of search (the longest
+   witness that replay accepts; that of a search has at most 66,569 bytes), of write and of fold in bytes. A file to load has at most YUNVEROK_TEXT bytes. */
 #define YUNVEROK_MEMORY 33032
 #define YUNVEROK_WORK 1048576
 #define YUNVEROK_WITNESS 66825
@@ -58,7 +58,7 @@ uint32_t yunverok_test(const uint32_t *memory, size_t memory_len);
      2^32 + k        none k: no frame from 0 to k has a hit;
      2 * 2^32 + t    spent t: frames before t have no hit, frame t has more than d sequences, and none of its first d hits;
      3 * 2^32 + n    refused, n from 9 to 13.
-   The answer depends on the circuit, b, k and d alone. out needs the length of the witness at bound k: with the decimal digits of b,
+   An answer that is no refusal depends on the circuit, b, k and d alone. out needs the length of the witness at bound k: with the decimal digits of b,
    2 + (1 + digits + 1) + (L + 1) + (k + 1) * (I + 1) + 2 bytes; the witness of found t has that length with t for k. All other bytes
    of out are as they were, all of them where the answer is none, spent or refused. With a large d a search can take long. */
 uint64_t yunverok_search(const uint32_t *memory, size_t memory_len, uint64_t b, uint64_t k, uint64_t d, uint32_t *work, size_t work_len,
@@ -75,7 +75,8 @@ uint64_t yunverok_write(const uint32_t *memory, size_t memory_len, uint8_t *out,
 
 /* Folds the hit of bad line b at frame t into one circuit over the free bits of that frame (free latches in file order, then inputs
    frame by frame). Answers the length of its text, which stands at the front of out as an AIGER file in ASCII; or 2^32 + n for a
-   refusal, n from 9 to 13. out needs 24 * size + 64 bytes, the size taken at t; the bytes past the text are as they were. */
+   refusal, n from 9 to 13. out needs 24 * size + 64 bytes, the size taken at t; the bytes past the text are as they were. A text
+   with more than 256 inputs or 3,072 gates is past what load accepts. */
 uint64_t yunverok_fold(const uint32_t *memory, size_t memory_len, uint64_t b, uint64_t t, uint32_t *work, size_t work_len, uint8_t *out,
                        size_t out_len);
 

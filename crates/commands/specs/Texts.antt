@@ -34,8 +34,8 @@ replayAnswer c witness = read 14 (readWitness c witness) >>= λ x. gives (confir
 unfoldable pub replayText : List ℕ → List ℕ → List ℕ
 replayText file witness = textOf yesText (load 33032 file >>= λ c. replayAnswer c witness)
 
--- fold: what may be printed. Working memory has 1,048,576 words and the output 1,572,928 bytes, those of size 65,536, so that a greater
--- size alone is refused
+-- fold: what may be printed. Working memory has 1,048,576 words and the output 1,572,928 bytes, those of size 65,536, so that 12 is
+-- given for a greater size only, and 13 never
 pub data FoldPrints (file : List ℕ) (b t : ℕ) : List ℕ → Type 0 where
   notLoaded : {n : ℕ} → load 33032 file ≡ refused n → FoldPrints file b t (refusalText n)
   notFolded : (c : Circuit) → load 33032 file ≡ gives c → {n : ℕ} → foldTests c b t 1048576 1572928 ≡ refused n → FoldPrints file b t (refusalText n)

@@ -1,5 +1,5 @@
 // The work of the programs write, replay and fold: from the bytes of files to what is printed. Each leaves what is to be printed at the
-// fronts of line and out.
+// fronts of line and, save replay, out.
 use fold::FoldAnswer;
 use load::LoadAnswer;
 use numbers::Put;

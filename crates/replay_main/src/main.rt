@@ -7,9 +7,9 @@ fn say_help() {
         b"Loads the ASCII AIGER 1.9 file FILE, reads the witness WITNESS, of 1 to 256 frames, in the form in which a search\n",
     );
     say(
-        b"prints it, and prints yes if its start agrees with every reset and its last frame is a hit of its bad line,\n",
+        b"prints it after its first line, and prints yes if its start agrees with every reset and its last frame is a\n",
     );
-    say(b"otherwise no.\n\n");
+    say(b"hit of its bad line, otherwise no.\n\n");
     say(b"What is not accepted is refused with a number and its cause:\n");
     help::say_refusals(1, 3);
     help::say_refusals(5, 8);

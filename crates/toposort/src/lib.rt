@@ -1,5 +1,6 @@
 // Cause 8: the gates in an order with operands before users, or a cycle. A depth-first search with its stack in memory.
-// pos has, for each gate, 0 before the search meets it; then m + 1 and its place on the stack; then 1 and its place in the order.
+// With m gates, pos has for each gate 0 before the search meets it; then m + 1 plus its place on the stack; then 1 plus its place in the
+// order.
 ghost use mathlib.Core.Path.{_≡_};
 ghost use Prim.Native.Nat.{ℕ, _+_, _<_, _≤_};
 ghost use lib.Dec.{T};
@@ -151,7 +152,7 @@ fn sort(
     true
 }
 
-// Cause 8. Where it does not refuse, order has an order of evaluation.
+// Cause 8: true where there is none. order then has an order of evaluation.
 pub fn ordered(w: &[u32], table: &[u32], order: &mut [u32]) -> bool
     requires { ⌜ Counted (now w) ⌝ }
     requires { ⌜ T (literalsRight (circuitIn (now w))) ⌝ }

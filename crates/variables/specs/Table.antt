@@ -47,7 +47,7 @@ pub record Defining (w : List ℕ) (c : Column) (m base : ℕ) (table : List ℕ
   pub part : (i : ℕ) → i < c .n → at w c i ≡ definition w (base + i)
   pub before : Entered w base table
 
--- the first n definitions were entered, or they are not right
+-- the first n definitions were entered, or the definitions are not all right
 abbrev pub Defined : List ℕ → ℕ → List ℕ → Bool → Type 0
 Defined w n table true = Entered w n table
 Defined w n table false = Definitions w (total w) → ⊥

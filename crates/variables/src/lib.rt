@@ -134,7 +134,7 @@ fn resets(w: &[u32]) -> bool
     true
 }
 
-// Cause 6. Where it does not refuse, every definition is in the table.
+// Cause 6: true where there is none. Every definition is then in the table.
 pub fn literals_right(w: &[u32], table: &mut [u32]) -> bool
     requires { ⌜ Counted (now w) ⌝ }
     requires { ⌜ word (now w) 0 < length (now table) ⌝ }
@@ -185,7 +185,7 @@ fn all_known(w: &[u32], c: Column, table: &[u32]) -> bool
     true
 }
 
-// Cause 7.
+// Cause 7: true where there is none.
 pub fn used_defined(w: &[u32], table: &[u32]) -> bool
     requires { ⌜ Counted (now w) ⌝ }
     requires { ⌜ Used (now w) (λ l. l / 2 < length (now table)) ⌝ }
