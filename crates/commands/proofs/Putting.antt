@@ -35,7 +35,8 @@ module _ {line : List ℕ} {at : ℕ} {u : List ℕ} {end : ℕ} {line′ : List
   kept h = ap length (p .contents) ∙ put-length line at u h
 
   -- one text more
-  pub placed-more : {v : List ℕ} {end′ : ℕ} {line″ : List ℕ} → Room line at u → Placed line′ end v end′ line″ → Placed line at (u ++ v) end′ line″
+  pub placed-more : {v : List ℕ} {end′ : ℕ} {line″ : List ℕ} → Room line at u → Placed line′ end v end′ line″
+      → Placed line at (u ++ v) end′ line″
   placed-more {v} h q =
       record {
         past = omega (arith, p .past, q .past, length-append u v);
@@ -43,7 +44,8 @@ module _ {line : List ℕ} {at : ℕ} {u : List ℕ} {end : ℕ} {line′ : List
       }
 
 -- a text that is placed at the front is shown
-pub placed-shows : {line text : List ℕ} {end : ℕ} {line′ : List ℕ} → length text ≤ length line → Placed line 0 text end line′ → Shows line′ end text
+pub placed-shows : {line text : List ℕ} {end : ℕ} {line′ : List ℕ} → length text ≤ length line → Placed line 0 text end line′
+    → Shows line′ end text
 placed-shows {line} {text} {end} h p =
     record {
       inside = omega (arith, p .past, kept p (omega arith));
@@ -51,8 +53,8 @@ placed-shows {line} {text} {end} h p =
     }
 
 -- a number is written
-pub numbered : (line : List ℕ) (at n : ℕ) {r : Put} {line′ : List ℕ} {end : ℕ} → _≡_ {A = Put × List ℕ} (r, line′) (putAt line at (digits n)) → r ≡ At end
-    → Placed line at (digits n) end line′
+pub numbered : (line : List ℕ) (at n : ℕ) {r : Put} {line′ : List ℕ} {end : ℕ}
+    → _≡_ {A = Put × List ℕ} (r, line′) (putAt line at (digits n)) → r ≡ At end → Placed line at (digits n) end line′
 unfolding putText
 numbered line at n e q =
     let w = on-at {out = line} {at = at} {w = digits n} e q in
@@ -64,7 +66,8 @@ pub record Fronted (line : List ℕ) (most : ℕ) (text : List ℕ) (end : ℕ) 
   pub short : length text ≤ most
 
 -- the first text
-pub front-first : {line u : List ℕ} {end : ℕ} {line′ : List ℕ} → length u ≤ length line → Placed line 0 u end line′ → Fronted line (length u) u end line′
+pub front-first : {line u : List ℕ} {end : ℕ} {line′ : List ℕ} → length u ≤ length line → Placed line 0 u end line′
+    → Fronted line (length u) u end line′
 front-first h p = record { placed = p; short = omega arith }
 
 module _ {line : List ℕ} {most : ℕ} {u : List ℕ} {end : ℕ} {line′ : List ℕ} (f : Fronted line most u end line′) where

@@ -21,7 +21,8 @@ past : {A : Type 0} (n m : ℕ) (b : Bool) (r : Answer A) → (n ≡ m → ⊥) 
 past n m true r h e = (refl, e)
 past n m false r h e = let z : n ≡ m = cc in absurd (h z)
 
-past-read : {A B : Type 0} (n m : ℕ) (o : Option A) (f : A → Answer B) → (n ≡ m → ⊥) → (read n o >>= f) ≡ refused m → (x : A) × (f x ≡ refused m)
+past-read : {A B : Type 0} (n m : ℕ) (o : Option A) (f : A → Answer B) → (n ≡ m → ⊥) → (read n o >>= f) ≡ refused m
+    → (x : A) × (f x ≡ refused m)
 past-read n m none f h e = let z : n ≡ m = cc in absurd (h z)
 past-read n m (some x) f h e = (x, e)
 

@@ -38,6 +38,7 @@ replayText file witness = textOf yesText (load 33032 file >>= λ c. replayAnswer
 -- given for a greater size only, and 13 never
 pub data FoldPrints (file : List ℕ) (b t : ℕ) : List ℕ → Type 0 where
   notLoaded : {n : ℕ} → load 33032 file ≡ refused n → FoldPrints file b t (refusalText n)
-  notFolded : (c : Circuit) → load 33032 file ≡ gives c → {n : ℕ} → foldTests c b t 1048576 1572928 ≡ refused n → FoldPrints file b t (refusalText n)
+  notFolded : (c : Circuit) → load 33032 file ≡ gives c → {n : ℕ} → foldTests c b t 1048576 1572928 ≡ refused n
+      → FoldPrints file b t (refusalText n)
   folded : (c : Circuit) → load 33032 file ≡ gives c → foldTests c b t 1048576 1572928 ≡ gives tt → (d : Circuit) → T (folds c b t d)
       → FoldPrints file b t (write d)

@@ -194,7 +194,10 @@ fn fold_loaded(
     line: &mut [u8],
 ) -> Report
     requires { ⌜ Holds (now m) (circuitIn (now m)) × (128 ≤ length (now line)) ⌝ }
-    ensures text { λ r. ⌜ FoldTexts (circuitIn (now (m .entry))) b t (length (now (work .entry))) (length (now (out .entry))) (take (r .line) (now (line .exit)) ++ take (r .out) (now (out .exit))) ⌝ }
+    ensures text { λ r. ⌜
+        FoldTexts (circuitIn (now (m .entry))) b t (length (now (work .entry))) (length (now (out .entry)))
+        (take (r .line) (now (line .exit)) ++ take (r .out) (now (out .exit)))
+        ⌝ }
     ensures within { λ r. ⌜ (r .line ≤ length (now (line .exit))) × (r .out ≤ length (now (out .exit))) ⌝ }
 {
     match fold::fold(m, b, t, work, out) {

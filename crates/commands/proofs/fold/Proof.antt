@@ -23,7 +23,10 @@ enum-told c = search needs
 
 fold-loaded-requires : tie.Need-fold-loaded-requires
 fold-loaded-requires c κs =
-    (stored-in (stored (c .before .before .before .before .before .before .before .before .load .ensures) (ap answered (c .before .before .before .before .enum-told .given .1))), c .before .before .before .before .before .before .before .before .before .before .before .before .before .before .before .pre .3)
+    let e = c .before .before .before .before in
+    let l = e .before .before .before .before in
+    let h = stored (l .load .ensures) (ap answered (e .enum-told .given .1)) in
+    (stored-in h, l .before .before .before .before .before .before .before .pre .3)
 
 same-length : tie.Need-same-length
 same-length c = search needs
@@ -34,10 +37,13 @@ same-length-2 c = search needs
 returns : tie.Need-returns
 returns c =
     let f = c .before .before .refuse .ensures in
-    let s = c .before .before .before .before .before .before .before .before .before .before .before .before .before .before .before .before in
+    let n = c .before .before .before .before .before in
+    let l = n .before .before .before .before in
+    let s = l .before .before .before .before .before .before .before in
     let a = s .args in
-    let e = not-loaded (c .before .before .before .before .before .before .before .before .before .load .ensures) (ap answered (c .before .before .before .before .before .n .given .1)) in
-    (rw (alone (a .out .now) (f .0) (f .1)) (fold-refusal (a .m .now) (a .file .now) (s .pre .0) e), (f .0 .inside, omega (arith, f .1)))
+    let e = not-loaded (l .load .ensures) (ap answered (n .n .given .1)) in
+    let p = fold-refusal (a .m .now) (a .file .now) (s .pre .0) e in
+    (rw (alone (a .out .now) (f .0) (f .1)) p, (f .0 .inside, omega (arith, f .1)))
 
 same-length-3 : tie.Need-same-length-3
 same-length-3 c = search needs
@@ -54,9 +60,11 @@ same-length-6 c = search needs
 returns-2 : tie.Need-returns-2
 returns-2 c =
     let g = c .before .before .before .before .before .before .fold-loaded .ensures in
-    let s = c .before .before .before .before .before .before .before .before .before .before .before .before .before .before .before .before .before .before .before .before .before .before in
+    let n = c .before .before .before .before .before .before .before .before .before .before .before in
+    let l = n .before .before .before .before in
+    let s = l .before .before .before .before .before .before .before in
     let a = s .args in
-    let e = stored (c .before .before .before .before .before .before .before .before .before .before .before .before .before .before .before .load .ensures) (ap answered (c .before .before .before .before .before .before .before .before .before .before .before .enum-told .given .1)) in
+    let e = stored (l .load .ensures) (ap answered (n .enum-told .given .1)) in
     (fold-text (a .m .now) (a .file .now) (s .pre .0) e (s .pre .1) (s .pre .2) (g .0), g .1)
 
 pub fold-spec : {M : Type 1} → statement M

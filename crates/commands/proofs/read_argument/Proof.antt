@@ -18,10 +18,13 @@ Text k = k .before .before .before .before .args .text .now
 line : (k : tie.After-copy) → take (length (Text k) + 1) (k .copy .last .1 .0) ≡ Text k ++ (10 ∷ [])
 line k = line-of (Text k) (k .copy .last .1 .0) (omega (arith, k .before .before .if1 .left)) (k .copy .ensures .1)
 
+-- what was read
+abbrev Line : tie.After-read-number → List ℕ
+Line n = let k = n .before .before .before in take (length (Text k) + 1) (k .copy .last .1 .0)
+
 -- the answer of the call is the variant that the match found
-at : (n : tie.After-read-number) {r : Number} → n .read-number .result ≡ r
-    → NumberAt (take (length (Text (n .before .before .before)) + 1) (n .before .before .before .copy .last .1 .0)) 0 r
-at n e = subst (NumberAt (take (length (Text (n .before .before .before)) + 1) (n .before .before .before .copy .last .1 .0)) 0) e (n .read-number .ensures)
+at : (n : tie.After-read-number) {r : Number} → n .read-number .result ≡ r → NumberAt (Line n) 0 r
+at n e = subst (NumberAt (Line n) 0) e (n .read-number .ensures)
 
 returns : tie.Need-returns
 returns c = let w = c .before .before .args .text .now in none-of w (λ h. omega (arith, few w h))
@@ -39,7 +42,7 @@ array-share-prefix-line : tie.Need-array-share-prefix-line
 array-share-prefix-line c = search needs
 
 slice-aggregate-read-number : tie.Need-slice-aggregate-read-number
-slice-aggregate-read-number c = let w = c .before .before .before .before .before .before .args .text .now in sym (ap length (line (c .before .before)) ∙ length-append w (10 ∷ []))
+slice-aggregate-read-number c = let k = c .before .before in sym (ap length (line k) ∙ length-append (Text k) (10 ∷ []))
 
 read-number-requires : tie.Need-read-number-requires
 read-number-requires c κs = search needs

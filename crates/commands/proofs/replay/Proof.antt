@@ -21,7 +21,10 @@ enum-told c = search needs
 
 replay-loaded-requires : tie.Need-replay-loaded-requires
 replay-loaded-requires c κs =
-    (stored-in (stored (c .before .before .before .before .before .before .load .ensures) (ap answered (c .before .before .enum-told .given .1))), c .before .before .before .before .before .before .before .before .before .before .before .before .pre .1)
+    let e = c .before .before in
+    let l = e .before .before .before .before in
+    let h = stored (l .load .ensures) (ap answered (e .enum-told .given .1)) in
+    (stored-in h, l .before .before .before .before .before .before .pre .1)
 
 same-length : tie.Need-same-length
 same-length c = search needs
@@ -32,9 +35,11 @@ same-length-2 c = search needs
 returns : tie.Need-returns
 returns c =
     let f = c .before .before .write-refusal .ensures in
-    let s = c .before .before .before .before .before .before .before .before .before .before .before .before .before .before .before in
+    let n = c .before .before .before .before .before in
+    let l = n .before .before .before .before in
+    let s = l .before .before .before .before .before .before in
     let a = s .args in
-    let e = not-loaded (c .before .before .before .before .before .before .before .before .before .load .ensures) (ap answered (c .before .before .before .before .before .n .given .1)) in
+    let e = not-loaded (l .load .ensures) (ap answered (n .n .given .1)) in
     (f .contents ∙ replay-refusal (a .m .now) (a .file .now) (s .pre .0) (a .witness .now) e, f .inside)
 
 same-length-3 : tie.Need-same-length-3
@@ -46,9 +51,11 @@ same-length-4 c = search needs
 returns-2 : tie.Need-returns-2
 returns-2 c =
     let f = c .before .before .replay-loaded .ensures in
-    let s = c .before .before .before .before .before .before .before .before .before .before .before .before .before .before .before in
+    let n = c .before .before .before .before .before in
+    let l = n .before .before .before .before in
+    let s = l .before .before .before .before .before .before in
     let a = s .args in
-    let e = stored (c .before .before .before .before .before .before .before .before .before .load .ensures) (ap answered (c .before .before .before .before .before .enum-told .given .1)) in
+    let e = stored (l .load .ensures) (ap answered (n .enum-told .given .1)) in
     (f .contents ∙ replay-text (a .m .now) (a .file .now) (s .pre .0) e (a .witness .now), f .inside)
 
 pub replay-spec : {M : Type 1} → statement M

@@ -40,24 +40,36 @@ same-length c = search needs
 
 returns : tie.Need-returns
 returns c =
-    let s = c .before .before .before .before .before .before .before .before .before .before .before in
-    replay-shown (s .pre .0) (c .before .before .before .before .before .before .before .replay .ensures) (ap answered (c .before .before .before .before .before .enum-told .given .1)) (placed-shows (omega (arith, s .pre .1)) (c .before .before .put .ensures))
+    let p = c .before .before in
+    let e = p .before .before .before in
+    let r = e .before .before in
+    let s = r .before .before .before .before in
+    let q = ap answered (e .enum-told .given .1) in
+    replay-shown (s .pre .0) (r .replay .ensures) q (placed-shows (omega (arith, s .pre .1)) (p .put .ensures))
 
 same-length-2 : tie.Need-same-length-2
 same-length-2 c = search needs
 
 returns-2 : tie.Need-returns-2
 returns-2 c =
-    let s = c .before .before .before .before .before .before .before .before .before .before .before in
-    replay-shown (s .pre .0) (c .before .before .before .before .before .before .before .replay .ensures) (ap answered (c .before .before .before .before .before .enum-told2 .given .1)) (placed-shows (omega (arith, s .pre .1)) (c .before .before .put2 .ensures))
+    let p = c .before .before in
+    let e = p .before .before .before in
+    let r = e .before .before in
+    let s = r .before .before .before .before in
+    let q = ap answered (e .enum-told2 .given .1) in
+    replay-shown (s .pre .0) (r .replay .ensures) q (placed-shows (omega (arith, s .pre .1)) (p .put2 .ensures))
 
 same-length-3 : tie.Need-same-length-3
 same-length-3 c = search needs
 
 returns-3 : tie.Need-returns-3
 returns-3 c =
-    let s = c .before .before .before .before .before .before .before .before .before .before .before in
-    replay-shown (s .pre .0) (c .before .before .before .before .before .before .before .replay .ensures) (ap answered (c .before .before .before .before .before .n .given .1)) (c .before .before .write-refusal .ensures)
+    let p = c .before .before in
+    let e = p .before .before .before in
+    let r = e .before .before in
+    let s = r .before .before .before .before in
+    let q = ap answered (e .n .given .1) in
+    replay-shown (s .pre .0) (r .replay .ensures) q (p .write-refusal .ensures)
 
 pub replay-loaded-spec : {M : Type 1} → statement M
 replay-loaded-spec =

@@ -23,8 +23,10 @@ enum-told c = search needs
 
 write-loaded-requires : tie.Need-write-loaded-requires
 write-loaded-requires c κs =
-    let s = c .before .before .before .before .before .before .before .before .before .before .before .before .before in
-    (stored-in (stored (c .before .before .before .before .before .before .before .load .ensures) (ap answered (c .before .before .before .enum-told .given .1))), s .pre .1, s .pre .2)
+    let e = c .before .before .before in
+    let l = e .before .before .before .before in
+    let s = l .before .before .before .before .before .before in
+    (stored-in (stored (l .load .ensures) (ap answered (e .enum-told .given .1))), s .pre .1, s .pre .2)
 
 same-length : tie.Need-same-length
 same-length c = search needs
@@ -35,10 +37,11 @@ same-length-2 c = search needs
 returns : tie.Need-returns
 returns c =
     let f = c .before .before .refuse .ensures in
-    let l = c .before .before .before .before .before .before .before .before .before .load in
-    let s = c .before .before .before .before .before .before .before .before .before .before .before .before .before .before .before in
+    let n = c .before .before .before .before .before in
+    let l = n .before .before .before .before in
+    let s = l .before .before .before .before .before .before in
     let a = s .args in
-    let e = not-loaded (l .ensures) (ap answered (c .before .before .before .before .before .n .given .1)) in
+    let e = not-loaded (l .load .ensures) (ap answered (n .n .given .1)) in
     (alone (a .out .now) (f .0) (f .1) ∙ write-refusal (a .m .now) (a .file .now) (s .pre .0) e, (f .0 .inside, omega (arith, f .1)))
 
 same-length-3 : tie.Need-same-length-3
@@ -53,9 +56,10 @@ same-length-5 c = search needs
 returns-2 : tie.Need-returns-2
 returns-2 c =
     let g = c .before .before .before .before .write-loaded .ensures in
-    let l = c .before .before .before .before .before .before .before .before .before .before .before .before .load in
-    let s = c .before .before .before .before .before .before .before .before .before .before .before .before .before .before .before .before .before .before in
-    let e = stored (l .ensures) (ap answered (c .before .before .before .before .before .before .before .before .enum-told .given .1)) in
+    let n = c .before .before .before .before .before .before .before .before in
+    let l = n .before .before .before .before in
+    let s = l .before .before .before .before .before .before in
+    let e = stored (l .load .ensures) (ap answered (n .enum-told .given .1)) in
     (g .contents ∙ write-text (s .args .m .now) (s .args .file .now) (s .pre .0) e, (g .line-inside, g .out-inside))
 
 pub write-spec : {M : Type 1} → statement M
