@@ -26,7 +26,7 @@
    load makes 1 to 8, each over the whole file; test 9; search and fold 9 to 13; replay 9 and 14; write 9 and 13.
 
    Stack. The greatest depth that tests/harness/run measured, in bytes; it does not grow with the circuit:
-     load 103,135    test 53,663    search 94,991    fold 74,463    replay 53,871    write 53,855
+     load 103,135    test 53,663    search 94,991    fold 74,447    replay 53,871    write 53,855
    memset and memcpy, which the functions call, may need some more where a program binds them at their first call. */
 #ifndef YUNVEROK_H
 #define YUNVEROK_H
