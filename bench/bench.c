@@ -192,7 +192,7 @@ static size_t random_gates(int inputs, int latches, int a)
 }
 
 /* The same circuits at each size: only the frame grows. Each is folded once in turn, as a user folds it, and the sums of the sixteen
-   times are compared: a small fold that is repeated at once is faster, because the processor has learnt its branches. */
+   times are compared. A small fold that is repeated at once is faster, a large one hardly: probably its branches are learnt. */
 static void folds(void)
 {
     static const int sizes[] = {4096, 8192, 16384, 32768, 65536};
