@@ -67,26 +67,51 @@ isFree l = eqb (l .reset) (l .lit)
 unfoldable pub freeStarts : Circuit → ℕ
 freeStarts c = tally isFree (c .latches)
 
--- "The free bits at frame t are n = U + I × (t+1)"
-unfoldable pub freeBits : Circuit → ℕ → ℕ
-freeBits c t = freeStarts c + length (c .inputs) * (t + 1)
-
 -- A sequence of frame t is a number x below 2 to the power n, so that counting order is the order of numbers.
 -- "counting order reads the first free bit as the most significant": free bit j of x
 abbrev pub freeBit : ℕ → ℕ → ℕ → Bool
 freeBit n x j = bit x (n - (j + 1))
+
+-- A space of sequences: how many free bits the start has and how many each frame has, and what they say. `startOf` gives the latches'
+-- start values where free bit j of the start has the value f j, `rowOf` a frame's inputs where free bit j of that frame has it.
+pub record Space : Type 0 where
+  pub free : ℕ
+  pub width : ℕ
+  pub startOf : (ℕ → Bool) → List Bool
+  pub rowOf : (ℕ → Bool) → List Bool
+
+-- the number of free bits at frame t: those of the start, then those of each frame from 0 to t
+abbrev pub bitsIn : Space → ℕ → ℕ
+bitsIn s t = s .free + s .width * (t + 1)
+
+-- the run of sequence x of frame t
+abbrev pub runIn : Space → ℕ → ℕ → Run
+runIn s t x =
+    let f = freeBit (bitsIn s t) x in
+    record { start = s .startOf f; rows = map (λ u. s .rowOf (λ i. f (s .free + s .width * u + i))) (upto (t + 1)) }
 
 -- "a latch has in frame 0 its reset, or its free bit if its start is free": the latches' start values, free bits from the j-th on
 unfoldable pub starts : (ℕ → Bool) → ℕ → List Latch → List Bool
 starts free j [] = []
 starts free j (l ∷ ls) = cond (isFree l) (free j ∷ starts free (j + 1) ls) (eqb (l .reset) 1 ∷ starts free j ls)
 
--- the run of sequence x of frame t: "free latches in file order, then inputs frame by frame in file order"
+-- the space of a circuit: "free latches in file order, then inputs frame by frame in file order"
+abbrev pub space : Circuit → Space
+space c =
+    record {
+      free = freeStarts c;
+      width = length (c .inputs);
+      startOf = λ f. starts f 0 (c .latches);
+      rowOf = λ f. map f (upto (length (c .inputs)));
+    }
+
+-- "The free bits at frame t are n = U + I × (t+1)"
+unfoldable pub freeBits : Circuit → ℕ → ℕ
+freeBits c t = bitsIn (space c) t
+
+-- the run of sequence x of frame t
 unfoldable pub run : Circuit → ℕ → ℕ → Run
-run c t x =
-    let free = freeBit (freeBits c t) x in
-    let I = length (c .inputs) in
-    record { start = starts free 0 (c .latches); rows = map (λ u. map (λ i. free (freeStarts c + I * u + i)) (upto I)) (upto (t + 1)) }
+run c t x = runIn (space c) t x
 
 -- "The size for bound k is (k+1) × (I+A+C) + U + 1."
 unfoldable pub size : Circuit → ℕ → ℕ

@@ -14,14 +14,14 @@ use Rattle.aiger.specs.File.{countsFit, countTests, headerOf}
 use Rattle.aiger.specs.Load.{Answer, refused, gives, test, needed, _>>_}
 use Rattle.aiger.specs.Operations.{HoldsNone}
 use Rattle.aiger.proofs.Tests.{T-true, all-at}
-use Rattle.roundtrip.specs.Words.{word, circuitIn}
+use Rattle.layout.specs.Words.{word, circuitIn}
 use Rattle.roundtrip.proofs.Content.{content-length}
 use Rattle.roundtrip.proofs.LoadWrite.{Valid, counts-fit}
 use Rattle.roundtrip.proofs.Holding.{Sound, content-size, header-in, unsound}
 use Rattle.lines.specs.Header.{countsMeant}
 use Rattle.layout.specs.declared.Layout.{Layout}
 use Rattle.layout.specs.Layout.{LayoutOf, Counted}
-use Rattle.layout.proofs.Counts.{counted}
+use Rattle.roundtrip.proofs.Counts.{counted}
 use Rattle.validity.specs.Validity.{judged}
 use Rattle.circuit.specs.Held.{Says, Zeros, Shaped, countsIn, Tested, HeldIs}
 use Rattle.circuit.specs.declared.Held.{Held}

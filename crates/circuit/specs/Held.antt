@@ -8,7 +8,7 @@ use Rattle.aiger.specs.File.{countsFit, headerOf}
 use Rattle.aiger.specs.Load.{needed}
 use Rattle.aiger.specs.Memory.{Holds}
 use Rattle.aiger.specs.Operations.{HoldsNone}
-use Rattle.roundtrip.specs.Words.{word, contentEnd, circuitIn}
+use Rattle.layout.specs.Words.{word, contentEnd, circuitIn}
 use Rattle.lines.specs.declared.Counts.{Counts}
 use Rattle.layout.specs.declared.Layout.{Layout}
 use Rattle.layout.specs.Layout.{LayoutOf}

@@ -12,7 +12,7 @@ use Rattle.aiger.specs.Lists.{every, upto}
 use Rattle.aiger.specs.Circuit.{defined, used}
 use Rattle.aiger.proofs.Tests.{every-left, every-right}
 use Rattle.meaning.proofs.Lists.{every-at, every-in}
-use Rattle.roundtrip.specs.Words.{word, latchesAt, outputsAt, badsAt, constraintsAt, gatesAt, circuitIn}
+use Rattle.layout.specs.Words.{word, latchesAt, outputsAt, badsAt, constraintsAt, gatesAt, circuitIn}
 use Rattle.roundtrip.proofs.Lists.{every-append, upto-length, upto-get}
 use Rattle.layout.specs.Layout.{Counted}
 use Rattle.columns.specs.declared.Column.{Column}

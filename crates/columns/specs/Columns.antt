@@ -3,7 +3,7 @@ use mathlib.Core.List.{List}
 use Prim.Native.Nat.{ℕ, _+_, _*_, _<_}
 use lib.ListN.{length, getD}
 use Rattle.aiger.specs.Circuit.{defined}
-use Rattle.roundtrip.specs.Words.{word, latchesAt, outputsAt, gatesAt, circuitIn}
+use Rattle.layout.specs.Words.{word, latchesAt, outputsAt, gatesAt, circuitIn}
 use Rattle.columns.specs.declared.Column.{Column}
 use Rattle.columns.specs.declared.Role.{Role}
 use Rattle.columns.specs.declared.Role.the-variants.{Input, Latch, Gate, Next, Root, Left, Right}

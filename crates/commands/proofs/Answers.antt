@@ -13,7 +13,7 @@ use Rattle.aiger.specs.Load.{Answer, refused, gives, test, load}
 use Rattle.aiger.specs.Write.{write}
 use Rattle.aiger.specs.Memory.{Holds}
 use Rattle.aiger.specs.Operations.{front, foldTests, Folded, Replayed, Written}
-use Rattle.roundtrip.specs.Words.{circuitIn}
+use Rattle.layout.specs.Words.{circuitIn}
 use Rattle.roundtrip.proofs.LoadWrite.{text-short}
 use Rattle.roundtrip.proofs.LoadValid.{gives-same}
 use Rattle.roundtrip.proofs.Holding.{held, held-valid, one-circuit}

@@ -12,7 +12,7 @@ ghost use lib.ListN.{length, take};
 ghost use Rattle.aiger.specs.Text.{digits};
 ghost use Rattle.aiger.specs.Memory.{Holds};
 ghost use Rattle.aiger.specs.Write.{write};
-ghost use Rattle.roundtrip.specs.Words.{circuitIn};
+ghost use Rattle.layout.specs.Words.{circuitIn};
 ghost use Rattle.write.specs.Output.{Room, Placed};
 ghost use Rattle.job.specs.Replies.{Shows};
 ghost use Rattle.commands.specs.Refusal.{cause, refusalText};

@@ -12,7 +12,7 @@ use Rattle.aiger.specs.Bits.{bit}
 use Rattle.aiger.specs.Circuit.{Circuit, var, literalsRight, usedDefined, acyclic}
 use Rattle.aiger.specs.Frames.{freeStarts, freeBits, freeBit, run, state}
 use Rattle.aiger.specs.Search.{reaches}
-use Rattle.roundtrip.specs.Words.{word}
+use Rattle.layout.specs.Words.{word}
 use Rattle.layout.specs.declared.Layout.{Layout}
 use Rattle.words.proofs.Bits.{bit-none}
 use Rattle.meaning.proofs.Defined.{inputAt, latchAt, input-in, latch-in, definition, input-latch}

@@ -6,7 +6,7 @@ use native.Mathlib.Omega.{arith}
 use lib.ListN.{length, length-map, List·getD-map}
 use Rattle.aiger.specs.Circuit.{Latch, var}
 use Rattle.aiger.specs.Memory.{Holds}
-use Rattle.roundtrip.specs.Words.{word, latchIn, circuitIn}
+use Rattle.layout.specs.Words.{word, latchIn, circuitIn}
 use Rattle.roundtrip.proofs.Lists.{upto-length, upto-get}
 use Rattle.layout.specs.Layout.{LayoutOf}
 use Rattle.layout.specs.declared.Layout.{Layout}

@@ -14,7 +14,7 @@ use Rattle.aiger.specs.Circuit.{Circuit, Latch}
 use Rattle.aiger.specs.Frames.{isFree, freeStarts, freeBits, freeBit, run}
 use Rattle.aiger.specs.Memory.{Holds}
 use Rattle.aiger.proofs.Tests.{T-true}
-use Rattle.roundtrip.specs.Words.{word, circuitIn}
+use Rattle.layout.specs.Words.{word, circuitIn}
 use Rattle.layout.specs.Layout.{LayoutOf}
 use Rattle.layout.specs.declared.Layout.{Layout}
 use Rattle.meaning.proofs.Defined.{noLatch, latchAt}

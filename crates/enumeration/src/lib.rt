@@ -10,7 +10,7 @@ ghost use Rattle.aiger.specs.Circuit.{var};
 ghost use Rattle.aiger.specs.Frames.{freeBits, freeStarts, freeBit};
 ghost use Rattle.aiger.specs.Search.{reaches};
 ghost use Rattle.aiger.specs.Memory.{Holds};
-ghost use Rattle.roundtrip.specs.Words.{word, circuitIn};
+ghost use Rattle.layout.specs.Words.{word, circuitIn};
 ghost use Rattle.layout.specs.Layout.{LayoutOf};
 ghost use Rattle.meaning.specs.Frame.{inputAt, latchAt};
 ghost use Rattle.frames.specs.Lanes.{Ready};

@@ -9,7 +9,7 @@ use Rattle.aiger.specs.Load.{Answer, refused, gives}
 use Rattle.aiger.specs.Frames.{freeStarts, size}
 use Rattle.aiger.specs.Fold.{folds}
 use Rattle.aiger.specs.Write.{write}
-use Rattle.roundtrip.specs.Words.{word, circuitIn}
+use Rattle.layout.specs.Words.{word, circuitIn}
 use Rattle.layout.specs.declared.Layout.{Layout}
 use Rattle.frames.specs.Lanes.{Ready}
 use Rattle.fold.specs.Text.{Shown}

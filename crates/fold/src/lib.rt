@@ -12,7 +12,7 @@ ghost use Rattle.aiger.specs.Write.{write};
 ghost use Rattle.aiger.specs.Circuit.{Circuit, var};
 ghost use Rattle.aiger.specs.Frames.{freeStarts};
 ghost use Rattle.aiger.specs.Operations.{foldTests, Folded};
-ghost use Rattle.roundtrip.specs.Words.{circuitIn};
+ghost use Rattle.layout.specs.Words.{circuitIn};
 ghost use Rattle.search.specs.Steps.{Limited, CountsOf, told};
 ghost use Rattle.nodes.specs.Edges.{edgeWord};
 ghost use Rattle.write.specs.Output.{Room, Placed};

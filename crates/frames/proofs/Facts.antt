@@ -8,7 +8,7 @@ use lib.ListN.{length, getD, length-map, List·getD-map}
 use Rattle.aiger.specs.Circuit.{Circuit, Latch, Gate, var, defined, used, literalTests, literalsRight, usedDefined, acyclic}
 use Rattle.aiger.specs.Memory.{Holds}
 use Rattle.aiger.proofs.Tests.{T-true, all-at}
-use Rattle.roundtrip.specs.Words.{word, latchesAt, badsAt, constraintsAt, gatesAt, contentEnd, latchIn, gateIn, circuitIn}
+use Rattle.layout.specs.Words.{word, latchesAt, badsAt, constraintsAt, gatesAt, contentEnd, latchIn, gateIn, circuitIn}
 use Rattle.roundtrip.proofs.Lists.{upto-length, upto-get}
 use Rattle.roundtrip.proofs.Content.{content-length}
 use Rattle.roundtrip.proofs.LoadWrite.{Valid, Counts, counts-fit}

@@ -10,7 +10,7 @@ use lib.ListN.{length, getD}
 use Rattle.aiger.specs.Bits.{bit}
 use Rattle.aiger.specs.Lists.{every, everyBelow}
 use Rattle.aiger.specs.Frames.{value}
-use Rattle.roundtrip.specs.Words.{word, circuitIn}
+use Rattle.layout.specs.Words.{word, circuitIn}
 use Rattle.layout.specs.declared.Layout.{Layout}
 use Rattle.words.proofs.Bits.{bit-and}
 use Rattle.frames.specs.Lanes.{Ready, hitIn}

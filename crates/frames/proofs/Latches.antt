@@ -7,7 +7,7 @@ use lib.ListN.{length, getD}
 use Rattle.aiger.specs.Bits.{bit}
 use Rattle.aiger.specs.Circuit.{Latch, var}
 use Rattle.aiger.specs.Frames.{value}
-use Rattle.roundtrip.specs.Words.{word, circuitIn}
+use Rattle.layout.specs.Words.{word, circuitIn}
 use Rattle.layout.specs.declared.Layout.{Layout}
 use Rattle.meaning.proofs.Defined.{latchAt, latch-in, definition}
 use Rattle.frames.specs.Lanes.{lane, Ready, Advanced, Stored}

@@ -6,7 +6,7 @@ ghost use lib.ListN.{length, getD};
 ghost use Rattle.aiger.specs.Bits.{bit};
 ghost use Rattle.aiger.specs.Circuit.{var};
 ghost use Rattle.aiger.specs.Frames.{value};
-ghost use Rattle.roundtrip.specs.Words.{word, gateIn, circuitIn};
+ghost use Rattle.layout.specs.Words.{word, gateIn, circuitIn};
 ghost use Rattle.frames.specs.Lanes.{lane, Ready, Evaluated, Advanced, hitIn, GateRoom, Gated, Apart, Stored};
 
 // The word of literal l.

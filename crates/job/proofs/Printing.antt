@@ -11,7 +11,7 @@ use Rattle.aiger.specs.Load.{Answer, refused, gives, load}
 use Rattle.aiger.specs.Memory.{Holds}
 use Rattle.aiger.specs.Operations.{Loaded}
 use Rattle.aiger.specs.Program.{request, refusalLine, Prints}
-use Rattle.roundtrip.specs.Words.{circuitIn}
+use Rattle.layout.specs.Words.{circuitIn}
 use Rattle.roundtrip.proofs.Holding.{held, loaded-holds}
 use Rattle.job.specs.declared.Query.{Query}
 use Rattle.job.specs.declared.Report.{Report}

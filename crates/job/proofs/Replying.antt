@@ -17,7 +17,7 @@ use Rattle.aiger.specs.Witness.{witness, witnessLength}
 use Rattle.aiger.specs.Memory.{Holds}
 use Rattle.aiger.specs.Operations.{Said, saidOf, shown, front, Searched, searchTests}
 use Rattle.aiger.specs.Program.{report}
-use Rattle.roundtrip.specs.Words.{circuitIn}
+use Rattle.layout.specs.Words.{circuitIn}
 use Rattle.roundtrip.proofs.Holding.{one-circuit}
 use Rattle.roundtrip.proofs.Witness.{run-length}
 use Rattle.meaning.proofs.Outcomes.{found-out}

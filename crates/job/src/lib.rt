@@ -11,7 +11,7 @@ ghost use Rattle.aiger.specs.Lists.{same};
 ghost use Rattle.aiger.specs.Text.{bytes, digits};
 ghost use Rattle.aiger.specs.Memory.{Holds};
 ghost use Rattle.aiger.specs.Program.{Prints};
-ghost use Rattle.roundtrip.specs.Words.{circuitIn};
+ghost use Rattle.layout.specs.Words.{circuitIn};
 ghost use Rattle.search.specs.Chosen.{chosen, said};
 ghost use Rattle.job.specs.Replies.{Shows, saidText, shownLength, ShownFits, Replies, Refuses};
 ghost use Rattle.job.specs.Query.{queryOf, FirstLineIs};

@@ -3,7 +3,7 @@ use mathlib.Core.Path.{_≡_}
 use mathlib.Core.List.{List}
 use Prim.Native.Nat.{ℕ, _+_, _≤_}
 use lib.ListN.{length}
-use Rattle.roundtrip.specs.Words.{word, latchesAt, outputsAt, badsAt, constraintsAt, gatesAt, contentEnd}
+use Rattle.layout.specs.Words.{word, latchesAt, outputsAt, badsAt, constraintsAt, gatesAt, contentEnd}
 use Rattle.layout.specs.declared.Layout.{Layout}
 
 pub record LayoutOf (m : List ℕ) (p : Layout) : Type 0 where

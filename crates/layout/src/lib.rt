@@ -2,7 +2,7 @@
 ghost use mathlib.Core.Path.{_≡_};
 ghost use Prim.Native.Nat.{_≤_, _<_, _^_};
 ghost use lib.ListN.{length};
-ghost use Rattle.roundtrip.specs.Words.{word};
+ghost use Rattle.layout.specs.Words.{word};
 ghost use Rattle.layout.specs.Layout.{LayoutOf};
 
 // A circuit's counts, M I L O A B C, and the positions where its latches, outputs, bad lines, constraints and gates begin and

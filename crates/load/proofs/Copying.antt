@@ -9,7 +9,7 @@ use lib.Seq.{set-at, drop-cons, drop-drop, drop-append-add, length-take-le, take
 use Rattle.aiger.specs.Load.{needed}
 use Rattle.aiger.specs.Memory.{image}
 use Rattle.aiger.specs.Operations.{front}
-use Rattle.roundtrip.specs.Words.{word, contentEnd, circuitIn}
+use Rattle.layout.specs.Words.{word, contentEnd, circuitIn}
 use Rattle.roundtrip.proofs.Content.{content-length, content-of-words}
 use Rattle.layout.specs.Layout.{Counted}
 

@@ -16,14 +16,14 @@ use Rattle.aiger.specs.Write.{countRow}
 use Rattle.aiger.specs.Memory.{content, image}
 use Rattle.aiger.specs.Operations.{front, Loaded}
 use Rattle.aiger.proofs.Tests.{T-true, all-at}
-use Rattle.roundtrip.specs.Words.{word, contentEnd, circuitIn}
+use Rattle.layout.specs.Words.{word, contentEnd, circuitIn}
 use Rattle.roundtrip.proofs.Lists.{upto-length}
 use Rattle.roundtrip.proofs.LoadValid.{body-counted, same-header}
 use Rattle.roundtrip.proofs.Content.{words-take, content-length, circuit-in}
 use Rattle.lines.specs.Header.{countsMeant}
 use Rattle.lines.specs.declared.Counts as lines
 use Rattle.layout.specs.Layout.{Counted}
-use Rattle.layout.proofs.Counts.{counted}
+use Rattle.roundtrip.proofs.Counts.{counted}
 use Rattle.validity.specs.Validity.{judged}
 use Rattle.load.specs.declared.Counts.{Counts}
 use Rattle.load.specs.Answers.{numbers}

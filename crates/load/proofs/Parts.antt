@@ -13,7 +13,7 @@ use Rattle.aiger.specs.Circuit.{Circuit, literalsRight}
 use Rattle.aiger.specs.File.{Header, isTail, body, first, latch, gate}
 use Rattle.aiger.specs.Write.{countRow}
 use Rattle.aiger.specs.Memory.{content}
-use Rattle.roundtrip.specs.Words.{contentEnd}
+use Rattle.layout.specs.Words.{contentEnd}
 use Rattle.roundtrip.proofs.Content.{words-take}
 use Rattle.lines.specs.Lines.{within, RowsRead}
 use Rattle.layout.specs.declared.Layout.{Layout}

@@ -10,7 +10,7 @@ use Rattle.aiger.specs.Load.{Answer, refused, gives, read, _>>=_, _>>_}
 use Rattle.aiger.specs.Write.{countRow}
 use Rattle.aiger.specs.Memory.{content, image}
 use Rattle.aiger.specs.Operations.{front}
-use Rattle.roundtrip.specs.Words.{word}
+use Rattle.layout.specs.Words.{word}
 use Rattle.lines.specs.declared.Counts as lines
 use Rattle.validity.specs.Validity.{judged}
 use Rattle.load.specs.declared.Counts.{Counts}

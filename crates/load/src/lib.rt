@@ -13,7 +13,7 @@ ghost use Rattle.aiger.specs.File.{countsFit};
 ghost use Rattle.aiger.specs.Load.{needed};
 ghost use Rattle.aiger.specs.Memory.{image};
 ghost use Rattle.aiger.specs.Operations.{Loaded, front};
-ghost use Rattle.roundtrip.specs.Words.{word, contentEnd, circuitIn};
+ghost use Rattle.layout.specs.Words.{word, contentEnd, circuitIn};
 ghost use Rattle.lines.specs.Header.{countsMeant};
 ghost use Rattle.layout.specs.Layout.{LayoutOf, Counted};
 ghost use Rattle.load.specs.Answers.{answered, numbers};

@@ -203,7 +203,7 @@ tally-take (l ∷ ls) (suc j) h f = omega (arith, tally-take ls j (le-of-suc-le-
 module _ (c : Circuit) (t : ℕ) where
   module _ (x : ℕ) where
     pub run-shaped : Shaped c t (run c t x)
-    unfolding run
+    unfolding run freeBits
     run-shaped =
         record {
           start = length-starts (freeBit (freeBits c t) x) 0 (c .latches);
@@ -214,12 +214,12 @@ module _ (c : Circuit) (t : ℕ) where
     -- bit i of row u is the free bit that follows those of the latches, of the rows before and of the inputs before
     pub run-input : (u i : ℕ) → u < t + 1 → i < length (c .inputs)
         → getD (getD (run c t x .rows) u []) i false ≡ freeBit (freeBits c t) x (freeStarts c + length (c .inputs) * u + i)
-    unfolding run
+    unfolding run freeBits
     run-input u i h l = ap (λ (r : List Bool). getD r i false) (getD-map-upto _ (t + 1) u [] h) ∙ getD-map-upto _ (length (c .inputs)) i false l
 
     run-start : (j : ℕ) → j < length (c .latches)
         → getD (run c t x .start) j false ≡ cond (isFree (latchAt c j)) (freeBit (freeBits c t) x (tally isFree (take j (c .latches)))) (eqb (latchAt c j .reset) 1)
-    unfolding run
+    unfolding run freeBits
     run-start j h =
         starts-at (freeBit (freeBits c t) x) 0 (c .latches) j h
         ∙ ap (λ (m : ℕ). cond (isFree (latchAt c j)) (freeBit (freeBits c t) x m) (eqb (latchAt c j .reset) 1)) (zero-add (tally isFree (take j (c .latches))))
@@ -235,7 +235,7 @@ module _ (c : Circuit) (t : ℕ) where
 
     -- the start agrees with every reset
     pub run-agrees : T (literalsRight c) → T (agrees (c .latches) (run c t x .start))
-    unfolding run literalsRight
+    unfolding run freeBits literalsRight
     run-agrees right = starts-agree (freeBit (freeBits c t) x) 0 (c .latches) (all-at (literalTests c) right 3)
 
   -- ---- sequences and runs, one to one
@@ -260,7 +260,7 @@ module _ (c : Circuit) (t : ℕ) where
         ∙ rowBits-at I (r .rows) (λ v w. s .row v (omega (arith, s .frames))) u i (omega (arith, s .frames)) l
 
   run-freeOf : (x j : ℕ) → j < freeStarts c → getD (freeOf (c .latches) (run c t x .start)) j false ≡ freeBit (freeBits c t) x j
-  unfolding run freeStarts
+  unfolding run freeBits freeStarts
   run-freeOf x j h = freeOf-starts (freeBit (freeBits c t) x) 0 (c .latches) j h ∙ ap (freeBit (freeBits c t) x) (zero-add j)
 
   -- the free bits of the run of x are those of x

@@ -248,7 +248,7 @@ module _ {n : ℕ} {d : Circuit} (s : FoldShape n d) where
   shape-bits = omega (arith, no-start, input-count)
 
   shape-run : (x : ℕ) → run d 0 x ≡ record { start = []; rows = map (freeBit n x) (upto n) ∷ [] }
-  unfolding run starts
+  unfolding run freeBits starts
   shape-run x =
       let free = freeBit (freeBits d 0) x in
       let I = length (d .inputs) in

@@ -13,7 +13,7 @@ use Rattle.aiger.specs.Frames.{Run, hits}
 use Rattle.aiger.specs.Memory.{Holds}
 use Rattle.aiger.specs.Witness.{Witness, bits, bitRows, readRun, readWitness, agrees, confirms}
 use Rattle.aiger.specs.Operations.{Replayed, says}
-use Rattle.roundtrip.specs.Words.{circuitIn}
+use Rattle.layout.specs.Words.{circuitIn}
 use Rattle.layout.specs.Layout.{LayoutOf}
 use Rattle.layout.specs.declared.Layout.{Layout}
 use Rattle.frames.proofs.Facts.{bad-count}

@@ -10,7 +10,7 @@ use lib.ListN.{length, getD}
 use Rattle.aiger.specs.Bits.{nonzero, bit}
 use Rattle.aiger.specs.Circuit.{Circuit, var}
 use Rattle.aiger.specs.Frames.{Run, state, hits}
-use Rattle.roundtrip.specs.Words.{circuitIn}
+use Rattle.layout.specs.Words.{circuitIn}
 use Rattle.layout.specs.declared.Layout.{Layout}
 use Rattle.words.proofs.Bits.{bit-zero, bit-all, bit-none}
 use Rattle.meaning.proofs.Defined.{inputAt, latchAt, input-in, latch-in, definition, input-latch}

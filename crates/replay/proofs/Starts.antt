@@ -12,7 +12,7 @@ use lib.Seq.{drop-cons}
 use Rattle.aiger.specs.Circuit.{Latch}
 use Rattle.aiger.specs.Frames.{isFree}
 use Rattle.aiger.specs.Witness.{agrees}
-use Rattle.roundtrip.specs.Words.{latchIn, circuitIn}
+use Rattle.layout.specs.Words.{latchIn, circuitIn}
 use Rattle.layout.specs.Layout.{LayoutOf}
 use Rattle.layout.specs.declared.Layout.{Layout}
 use Rattle.meaning.proofs.Defined.{noLatch, latchAt}

@@ -9,7 +9,7 @@ use lib.ListN.{length, getD, drop}
 use Rattle.aiger.specs.Circuit.{Circuit, var}
 use Rattle.aiger.specs.Frames.{Run}
 use Rattle.aiger.specs.Witness.{bitRows}
-use Rattle.roundtrip.specs.Words.{word}
+use Rattle.layout.specs.Words.{word}
 use Rattle.layout.specs.declared.Layout.{Layout}
 use Rattle.witness.specs.Line.{values}
 

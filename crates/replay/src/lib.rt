@@ -11,7 +11,7 @@ ghost use lib.ListN.{length};
 ghost use Rattle.aiger.specs.Frames.{Run, hits};
 ghost use Rattle.aiger.specs.Witness.{agrees};
 ghost use Rattle.aiger.specs.Operations.{Replayed};
-ghost use Rattle.roundtrip.specs.Words.{word, circuitIn};
+ghost use Rattle.layout.specs.Words.{word, circuitIn};
 ghost use Rattle.layout.specs.Layout.{LayoutOf};
 ghost use Rattle.frames.specs.Lanes.{Ready, Apart, Stored};
 ghost use Rattle.witness.specs.Line.{values};

@@ -10,7 +10,7 @@ use Rattle.aiger.specs.Lists.{from, upto}
 use Rattle.aiger.specs.Circuit.{Circuit, Latch, Gate}
 use Rattle.aiger.specs.Memory.{latchWords, gateWords, content}
 use Rattle.aiger.specs.Write.{countRow}
-use Rattle.roundtrip.specs.Words.{word, latchesAt, outputsAt, badsAt, constraintsAt, gatesAt, contentEnd, column, latchIn, gateIn, circuitIn}
+use Rattle.layout.specs.Words.{word, latchesAt, outputsAt, badsAt, constraintsAt, gatesAt, contentEnd, column, latchIn, gateIn, circuitIn}
 use Rattle.roundtrip.proofs.Lists.{upto-length, drop-past, getD-front, drop-suc}
 
 -- n words from position p on

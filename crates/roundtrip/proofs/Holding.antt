@@ -12,7 +12,7 @@ use Rattle.aiger.specs.Load.{load, gives, needed}
 use Rattle.aiger.specs.Write.{write}
 use Rattle.aiger.specs.Memory.{content, image, Holds}
 use Rattle.aiger.specs.Operations.{front, HoldsNone}
-use Rattle.roundtrip.specs.Words.{word, contentEnd, circuitIn}
+use Rattle.layout.specs.Words.{word, contentEnd, circuitIn}
 use Rattle.roundtrip.proofs.Lists.{upto-length, padded-in, padded-out}
 use Rattle.roundtrip.proofs.LoadWrite.{Valid, counts-fit, load-write}
 use Rattle.roundtrip.proofs.LoadValid.{load-valid}

@@ -9,3 +9,4 @@ pub mod Witness
 pub mod WitnessRead
 pub mod Determined
 pub mod Folds
+pub mod Counts

@@ -6,7 +6,7 @@ use native.Mathlib.Omega.{arith}
 use lib.ListN.{length}
 use Rattle.aiger.specs.Memory.{Holds}
 use Rattle.aiger.specs.Operations.{Said, saidOf, Searched, searchTests}
-use Rattle.roundtrip.specs.Words.{circuitIn}
+use Rattle.layout.specs.Words.{circuitIn}
 use Rattle.layout.specs.Layout.{LayoutOf}
 use Rattle.layout.specs.Order.{Ordered}
 use Rattle.layout.specs.declared.Layout.{Layout}

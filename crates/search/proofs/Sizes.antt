@@ -10,7 +10,7 @@ use Rattle.aiger.specs.Circuit.{Circuit}
 use Rattle.aiger.specs.Frames.{freeStarts, freeBits, size}
 use Rattle.aiger.specs.Witness.{witnessLength}
 use Rattle.aiger.specs.Memory.{Holds}
-use Rattle.roundtrip.specs.Words.{circuitIn}
+use Rattle.layout.specs.Words.{circuitIn}
 use Rattle.layout.specs.Layout.{LayoutOf}
 use Rattle.layout.specs.declared.Layout.{Layout}
 use Rattle.frames.proofs.Facts.{counts, bad-count, constraint-count, gate-count}

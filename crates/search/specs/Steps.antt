@@ -10,7 +10,7 @@ use Rattle.aiger.specs.Load.{Answer, refused, gives}
 use Rattle.aiger.specs.Frames.{size}
 use Rattle.aiger.specs.Witness.{witnessLength}
 use Rattle.aiger.specs.Operations.{Said, saidOf, shown}
-use Rattle.roundtrip.specs.Words.{word, circuitIn}
+use Rattle.layout.specs.Words.{word, circuitIn}
 use Rattle.layout.specs.declared.Layout.{Layout}
 use Rattle.frames.specs.Lanes.{Ready}
 use Rattle.search.specs.Chosen.{chosen}

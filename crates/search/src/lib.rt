@@ -8,7 +8,7 @@ ghost use Rattle.aiger.specs.Circuit.{Circuit};
 ghost use Rattle.aiger.specs.Frames.{freeStarts, size};
 ghost use Rattle.aiger.specs.Witness.{witnessLength};
 ghost use Rattle.aiger.specs.Operations.{Searched, searchTests};
-ghost use Rattle.roundtrip.specs.Words.{circuitIn};
+ghost use Rattle.layout.specs.Words.{circuitIn};
 ghost use Rattle.search.specs.Chosen.{chosen, said};
 ghost use Rattle.search.specs.Steps.{Limited, CountsOf, told, SearchFits, Answered};
 

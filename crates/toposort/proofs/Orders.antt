@@ -11,7 +11,7 @@ use lib.ListN.{length, getD, take, drop, length-drop}
 use lib.Seq.{getD-drop, take-all}
 use Rattle.aiger.specs.Circuit.{Circuit, var, literalsRight, acyclic}
 use Rattle.meaning.proofs.Cycles.{ranked, stuck-at}
-use Rattle.roundtrip.specs.Words.{word, gatesAt, gateIn, circuitIn}
+use Rattle.layout.specs.Words.{word, gatesAt, gateIn, circuitIn}
 use Rattle.layout.specs.declared.Layout.{Layout}
 use Rattle.layout.specs.Layout.{Counted, LayoutOf}
 use Rattle.columns.specs.Columns.{total}

@@ -6,7 +6,7 @@ ghost use Prim.Native.Nat.{ℕ, _+_, _<_, _≤_};
 ghost use lib.Dec.{T};
 ghost use lib.ListN.{length, getD, set};
 ghost use Rattle.aiger.specs.Circuit.{literalsRight};
-ghost use Rattle.roundtrip.specs.Words.{circuitIn};
+ghost use Rattle.layout.specs.Words.{circuitIn};
 ghost use Rattle.layout.specs.Layout.{Counted};
 ghost use Rattle.columns.specs.Columns.{total};
 ghost use Rattle.variables.specs.Table.{Entered};

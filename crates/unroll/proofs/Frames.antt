@@ -10,7 +10,7 @@ use lib.ListN.{length, getD}
 use Rattle.aiger.specs.Circuit.{Circuit, Latch, var}
 use Rattle.aiger.specs.Frames.{value, isFree, freeBit, freeBits, freeStarts, run, state}
 use Rattle.aiger.specs.Search.{reaches}
-use Rattle.roundtrip.specs.Words.{word, circuitIn}
+use Rattle.layout.specs.Words.{word, circuitIn}
 use Rattle.layout.specs.declared.Layout.{Layout}
 use Rattle.meaning.proofs.Defined.{inputAt, latchAt, input-latch, next-known}
 use Rattle.meaning.proofs.Values.{Valuation, valuation-value, state-start, state-next-at}

@@ -5,7 +5,7 @@ use Prim.Native.Nat.{ℕ, zero, suc, _+_, _*_, _≤_}
 use native.Mathlib.Omega.{arith}
 use lib.ListN.{length, replicate}
 use Rattle.aiger.specs.Frames.{freeBits}
-use Rattle.roundtrip.specs.Words.{circuitIn}
+use Rattle.layout.specs.Words.{circuitIn}
 use Rattle.layout.specs.declared.Layout.{Layout}
 use Rattle.frames.proofs.Facts.{gates-are, constraints-are}
 use Rattle.enumeration.proofs.Facts.{inputs-are}

@@ -8,7 +8,7 @@ use lib.Dec.{eqb}
 use lib.ListN.{length, getD}
 use Rattle.aiger.specs.Circuit.{Circuit, Gate, var}
 use Rattle.aiger.specs.Frames.{value, freeBit, freeBits, freeStarts, run, state}
-use Rattle.roundtrip.specs.Words.{word, circuitIn}
+use Rattle.layout.specs.Words.{word, circuitIn}
 use Rattle.meaning.specs.Frame.{Valuation}
 use Rattle.literals.specs.Literal.{literal}
 use Rattle.literals.specs.declared.Lit.{Lit}

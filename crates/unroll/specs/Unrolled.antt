@@ -6,7 +6,7 @@ use lib.ListN.{length}
 use Rattle.aiger.specs.Circuit.{Circuit}
 use Rattle.aiger.specs.Frames.{freeBits, freeBit, freeStarts, size}
 use Rattle.aiger.specs.Search.{reaches}
-use Rattle.roundtrip.specs.Words.{word, circuitIn}
+use Rattle.layout.specs.Words.{word, circuitIn}
 use Rattle.layout.specs.declared.Layout.{Layout}
 use Rattle.frames.specs.Lanes.{Ready}
 use Rattle.nodes.specs.Graph.{edgeValue}

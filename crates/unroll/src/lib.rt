@@ -11,7 +11,7 @@ ghost use mathlib.Core.Path.{_≡_};
 ghost use Prim.Native.Nat.{ℕ, _+_, _^_, _≤_, _<_};
 ghost use lib.ListN.{length, getD, set};
 ghost use Rattle.nodes.specs.Edges.{edgeWord};
-ghost use Rattle.roundtrip.specs.Words.{word, gateIn, circuitIn};
+ghost use Rattle.layout.specs.Words.{word, gateIn, circuitIn};
 ghost use Rattle.frames.specs.Lanes.{Ready, GateRoom};
 ghost use Rattle.unroll.specs.Map.{literalEdge, freeEdge, startEdge, Prepared, Written, latchVar, inputVar, startWord, nextWord, inputWord};
 ghost use Rattle.unroll.specs.Map.{Extensible, GateMapped, GatesMapped, FirstMapped, NextMapped, FramesMapped, HitMapped, FirstFits, FramesFit};

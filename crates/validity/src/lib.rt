@@ -1,7 +1,7 @@
 // Whether the circuit that words encode is right: the causes 6, 7 and 8. A right one has its gates put in an order for evaluation.
 ghost use Prim.Native.Nat.{_≤_};
 ghost use lib.ListN.{length};
-ghost use Rattle.roundtrip.specs.Words.{circuitIn};
+ghost use Rattle.layout.specs.Words.{circuitIn};
 ghost use Rattle.layout.specs.Layout.{Counted};
 ghost use Rattle.validity.specs.Validity.{Checks};
 

@@ -13,7 +13,7 @@ use Rattle.aiger.specs.Bits.{nonzero, odd}
 use Rattle.aiger.specs.Circuit.{Circuit, Latch, var, defined, used, literalTests, literalsRight, usedDefined}
 use Rattle.aiger.proofs.Tests.{and, and-left, and-right, not-both, T-true, all-at, every-left, every-right}
 use Rattle.meaning.proofs.Lists.{every-at, every-in, pairwise-at, pairwise-in, member-mem, member-in, mem-at, or-left, or-right}
-use Rattle.roundtrip.specs.Words.{word, latchesAt, latchIn, circuitIn}
+use Rattle.layout.specs.Words.{word, latchesAt, latchIn, circuitIn}
 use Rattle.roundtrip.proofs.Lists.{every-append, upto-length, upto-get}
 use Rattle.columns.specs.Columns.{Used, total, definition}
 use Rattle.columns.proofs.Parts.{max-var, length-defined, used-every, every-used}

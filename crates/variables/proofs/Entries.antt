@@ -9,7 +9,7 @@ use native.Mathlib.Decide.{ℕ-discrete}
 use native.Mathlib.Omega.{arith}
 use lib.ListN.{length, getD, set, length-set}
 use Rattle.meaning.proofs.Lists.{getD-set}
-use Rattle.roundtrip.specs.Words.{word}
+use Rattle.layout.specs.Words.{word}
 use Rattle.columns.specs.declared.Column.{Column}
 use Rattle.columns.specs.Columns.{at, total, definition}
 use Rattle.variables.specs.Table.{Defines, Definitions, Entered, Enters, Defining}

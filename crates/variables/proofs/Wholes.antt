@@ -9,7 +9,7 @@ use borrow.Author.Tests.{not-true, not-false}
 use lib.Dec.{T}
 use lib.ListN.{length, getD}
 use Rattle.aiger.specs.Circuit.{literalsRight}
-use Rattle.roundtrip.specs.Words.{word, circuitIn}
+use Rattle.layout.specs.Words.{word, circuitIn}
 use Rattle.layout.specs.Layout.{Counted}
 use Rattle.columns.specs.declared.Column.{Column}
 use Rattle.columns.specs.declared.Role.{Role}

@@ -6,7 +6,7 @@ use Prim.Native.Nat.{ℕ, _+_, _*_, _/_, _%_, _<_, _≤_}
 use lib.Dec.{T, leb, eqb}
 use lib.ListN.{length, getD, set}
 use Rattle.aiger.specs.Circuit.{literalsRight}
-use Rattle.roundtrip.specs.Words.{word, latchesAt, circuitIn}
+use Rattle.layout.specs.Words.{word, latchesAt, circuitIn}
 use Rattle.columns.specs.declared.Column.{Column}
 use Rattle.columns.specs.Columns.{Inside, at, total, definition}
 

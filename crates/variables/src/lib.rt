@@ -8,7 +8,7 @@ ghost use mathlib.Core.Bool.{_||_};
 ghost use Prim.Native.Nat.{ℕ, _+_, _/_, _<_, _≤_};
 ghost use lib.Dec.{leb, eqb};
 ghost use lib.ListN.{length, getD};
-ghost use Rattle.roundtrip.specs.Words.{word};
+ghost use Rattle.layout.specs.Words.{word};
 ghost use Rattle.layout.specs.Layout.{Counted};
 ghost use Rattle.columns.specs.Columns.{Inside, Each, Used, total};
 ghost use Rattle.variables.specs.Table.{Says, Known, Defining, Enters, Defined, Resets, Literals};

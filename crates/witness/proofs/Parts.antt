@@ -12,7 +12,7 @@ use Rattle.aiger.specs.Circuit.{Circuit, Latch}
 use Rattle.aiger.specs.Frames.{isFree, freeStarts, freeBits, freeBit, starts, run}
 use Rattle.aiger.specs.Witness.{bitLine, bitLines, witness, witnessLength}
 use Rattle.aiger.specs.Operations.{front}
-use Rattle.roundtrip.specs.Words.{circuitIn}
+use Rattle.layout.specs.Words.{circuitIn}
 use Rattle.layout.specs.declared.Layout.{Layout}
 use Rattle.numbers.proofs.Writing.{Written}
 use Rattle.meaning.proofs.Sequences.{input-number}
@@ -91,7 +91,7 @@ module _ (free : List ℕ) (c : Circuit) (t x : ℕ) (h : SequenceIn free c t x)
   same-start = starts-same (freeAt free) (freeBit (freeBits c t) x) 0 (c .latches) (λ j l. h j (omega arith))
 
   same-rows : map (λ u. rowOf free (freeStarts c + length (c .inputs) * u) (length (c .inputs))) (upto (t + 1)) ≡ run c t x .rows
-  unfolding run
+  unfolding run freeBits
   same-rows =
       let I = length (c .inputs) in
       map-upto _ _ (t + 1) (λ u l. map-upto _ _ I (λ i k. h (freeStarts c + I * u + i) (input-number c t u i l k)))

@@ -14,7 +14,7 @@ use Rattle.aiger.specs.Frames.{isFree, freeStarts, starts}
 use Rattle.aiger.specs.Witness.{bitLine}
 use Rattle.aiger.specs.Memory.{Holds}
 use Rattle.aiger.specs.Operations.{front}
-use Rattle.roundtrip.specs.Words.{word, latchesAt, contentEnd, latchIn, circuitIn}
+use Rattle.layout.specs.Words.{word, latchesAt, contentEnd, latchIn, circuitIn}
 use Rattle.roundtrip.proofs.Lists.{cond-length, upto-length, upto-get}
 use Rattle.roundtrip.proofs.Content.{content-length}
 use Rattle.roundtrip.proofs.Holding.{held-valid, content-fits}

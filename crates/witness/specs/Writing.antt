@@ -11,7 +11,7 @@ use Rattle.aiger.specs.Circuit.{Circuit}
 use Rattle.aiger.specs.Frames.{freeStarts, freeBits, freeBit}
 use Rattle.aiger.specs.Witness.{witnessLength}
 use Rattle.aiger.specs.Memory.{Holds}
-use Rattle.roundtrip.specs.Words.{circuitIn}
+use Rattle.layout.specs.Words.{circuitIn}
 use Rattle.layout.specs.Layout.{LayoutOf}
 use Rattle.layout.specs.declared.Layout.{Layout}
 

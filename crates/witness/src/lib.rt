@@ -9,7 +9,7 @@ ghost use Rattle.aiger.specs.Text.{bytes};
 ghost use Rattle.aiger.specs.Frames.{freeStarts, starts, run};
 ghost use Rattle.aiger.specs.Witness.{bitLine, witness};
 ghost use Rattle.aiger.specs.Operations.{front};
-ghost use Rattle.roundtrip.specs.Words.{circuitIn};
+ghost use Rattle.layout.specs.Words.{circuitIn};
 ghost use Rattle.witness.specs.Writing.{freeAt, rowOf, headingText, SequenceIn, StartsFit, WitnessFits};
 ghost use Rattle.witness.specs.Line.{LineAt};
 ghost use Rattle.witness.specs.Heading.{HeadingAt};

@@ -9,7 +9,7 @@ use Rattle.aiger.specs.Load.{refused, gives}
 use Rattle.aiger.specs.Write.{write}
 use Rattle.aiger.specs.Memory.{Holds}
 use Rattle.aiger.specs.Operations.{front, Written}
-use Rattle.roundtrip.specs.Words.{circuitIn}
+use Rattle.layout.specs.Words.{circuitIn}
 
 module _ {m : List ℕ} (h : Holds m (circuitIn m)) {n : ℕ} (e : n ≡ length (write (circuitIn m))) (out : List ℕ) where
   -- the text is too long

@@ -12,7 +12,7 @@ use Rattle.aiger.specs.Load.{Answer, gives, needed, test}
 use Rattle.aiger.specs.Write.{countRow, write}
 use Rattle.aiger.specs.Memory.{Holds, image}
 use Rattle.aiger.specs.Operations.{front, Loaded, Written}
-use Rattle.roundtrip.specs.Words.{word, circuitIn}
+use Rattle.layout.specs.Words.{word, circuitIn}
 use Rattle.roundtrip.proofs.Lists.{upto-length}
 use Rattle.roundtrip.proofs.LoadWrite.{text-short}
 use Rattle.roundtrip.proofs.LoadValid.{gives-same}

@@ -11,7 +11,7 @@ use lib.ListN.{length, length-append}
 use Rattle.aiger.specs.Lists.{upto}
 use Rattle.aiger.specs.Text.{digits}
 use Rattle.aiger.specs.Write.{lineOf, linesOf, literalRow, latchRow, gateRow, write}
-use Rattle.roundtrip.specs.Words.{word, column, latchIn, gateIn, circuitIn, latchesAt, outputsAt, badsAt, constraintsAt, gatesAt}
+use Rattle.layout.specs.Words.{word, column, latchIn, gateIn, circuitIn, latchesAt, outputsAt, badsAt, constraintsAt, gatesAt}
 use Rattle.roundtrip.proofs.Lists.{upto-length}
 use Rattle.roundtrip.proofs.Content.{wordsAt, triplesAt, makeLatch, makeGate, column-words, map-triples}
 use Rattle.numbers.proofs.Digits.{digits-most}

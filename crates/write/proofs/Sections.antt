@@ -10,7 +10,7 @@ use Rattle.aiger.specs.File.{Header}
 use Rattle.aiger.specs.Write.{write}
 use Rattle.aiger.specs.Memory.{Holds}
 use Rattle.aiger.specs.Operations.{front}
-use Rattle.roundtrip.specs.Words.{circuitIn, word, contentEnd}
+use Rattle.layout.specs.Words.{circuitIn, word, contentEnd}
 use Rattle.roundtrip.proofs.LoadWrite.{counts-fit, text-short}
 use Rattle.roundtrip.proofs.Content.{content-length}
 use Rattle.roundtrip.proofs.Holding.{held-valid, content-fits, header-in}

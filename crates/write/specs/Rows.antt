@@ -5,7 +5,7 @@ use Prim.Native.Nat.{ℕ, zero, suc, _+_, _-_, _*_, _≤_, _<_}
 use lib.Dec.{eqb}
 use lib.ListN.{length}
 use Rattle.aiger.specs.Text.{bytes, digits}
-use Rattle.roundtrip.specs.Words.{word, latchesAt, outputsAt, badsAt, constraintsAt, gatesAt}
+use Rattle.layout.specs.Words.{word, latchesAt, outputsAt, badsAt, constraintsAt, gatesAt}
 
 -- the byte after a number that so many follow in its line: a line feed after the last, a space after each other
 abbrev pub ending : ℕ → ℕ

@@ -8,7 +8,7 @@ ghost use lib.ListN.{length};
 ghost use Rattle.aiger.specs.Write.{write};
 ghost use Rattle.aiger.specs.Memory.{Holds};
 ghost use Rattle.aiger.specs.Operations.{front, Written};
-ghost use Rattle.roundtrip.specs.Words.{circuitIn};
+ghost use Rattle.layout.specs.Words.{circuitIn};
 ghost use Rattle.layout.specs.Layout.{LayoutOf};
 ghost use Rattle.write.specs.Rows.{ending, numberText, rowText, rowCount, rowsText, RowsIn};
 ghost use Rattle.write.specs.Output.{Room, Placed};

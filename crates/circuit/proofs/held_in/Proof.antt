@@ -2,7 +2,7 @@
 use mathlib.Core.Path.{_≡_, subst}
 use borrow.Author.Needs.{needs}
 use borrow.Author.Tests.{not-true, not-false}
-use Rattle.roundtrip.specs.Words.{circuitIn}
+use Rattle.layout.specs.Words.{circuitIn}
 use Rattle.roundtrip.proofs.Holding.{sound-holds}
 use Rattle.validity.specs.Validity.{Checks}
 use Rattle.validity.specs.declared.Checked.{Checked}

@@ -4,7 +4,7 @@ use Prim.Native.Nat.{ℕ, _+_, _-_, _≤_, _<_}
 use native.Mathlib.Omega.{arith}
 use lib.ListN.{length, set, length-set}
 use lib.Seq.{getD-set-same}
-use Rattle.roundtrip.specs.Words.{word, circuitIn}
+use Rattle.layout.specs.Words.{word, circuitIn}
 use Rattle.frames.proofs.Facts.{right, known, no-cycle}
 use Rattle.enumeration.proofs.Facts.{inputs-are}
 use Rattle.enumeration.proofs.Blocks.{ready-with, StartsGiven, Valued, Remaining, latches-room, row-first, row-room, row-next, valued-start, valued-next, valued-hits}

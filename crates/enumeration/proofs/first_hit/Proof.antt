@@ -2,7 +2,7 @@
 use mathlib.Core.Path.{sym, _∙_, subst}
 use Prim.Native.Nat.{ℕ}
 use native.Mathlib.Omega.{arith}
-use Rattle.roundtrip.specs.Words.{circuitIn}
+use Rattle.layout.specs.Words.{circuitIn}
 use Rattle.enumeration.specs.Frame.{FreeBits}
 use Rattle.enumeration.proofs.Facts.{inputs-are, inputs-few}
 use Rattle.enumeration.proofs.Starts.{starts-few}

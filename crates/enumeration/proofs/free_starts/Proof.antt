@@ -3,7 +3,7 @@ use mathlib.Core.Path.{_≡_, sym, ap, _∙_}
 use Prim.Native.Nat.{_-_, _≤_}
 use native.Mathlib.Omega.{arith}
 use lib.ListN.{length}
-use Rattle.roundtrip.specs.Words.{circuitIn}
+use Rattle.layout.specs.Words.{circuitIn}
 use Rattle.enumeration.specs.Blocks.{freeBefore}
 use Rattle.enumeration.proofs.Facts.{latches-are, latches-inside}
 use Rattle.enumeration.proofs.Starts.{free-none, free-all, count-more, count-part, starts-few}

@@ -5,7 +5,7 @@ use native.Mathlib.Omega.{arith}
 use lib.ListN.{length, length-set}
 use Rattle.aiger.specs.Circuit.{var}
 use Rattle.aiger.specs.Frames.{freeBit}
-use Rattle.roundtrip.specs.Words.{word, circuitIn}
+use Rattle.layout.specs.Words.{word, circuitIn}
 use Rattle.meaning.proofs.Defined.{inputAt}
 use Rattle.enumeration.specs.Blocks.{Given}
 use Rattle.enumeration.proofs.Facts.{inputs-are, inputs-inside, input-var, input-small, inputs-differ}

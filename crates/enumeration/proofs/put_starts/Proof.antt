@@ -4,7 +4,7 @@ use Prim.Native.Nat.{ℕ, _+_, _-_, _*_, _≤_}
 use native.Mathlib.Omega.{arith}
 use lib.ListN.{length, length-set}
 use Rattle.aiger.specs.Circuit.{var}
-use Rattle.roundtrip.specs.Words.{word, circuitIn}
+use Rattle.layout.specs.Words.{word, circuitIn}
 use Rattle.meaning.proofs.Defined.{latchAt}
 use Rattle.enumeration.specs.Blocks.{freeBefore, startBit, Given}
 use Rattle.enumeration.proofs.Facts.{latches-are, latches-inside, latch-var, latch-small, latches-differ}

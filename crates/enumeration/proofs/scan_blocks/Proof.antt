@@ -5,7 +5,7 @@ use native.Mathlib.Omega.{arith}
 use lib.Dec.{T}
 use lib.ListN.{length}
 use Rattle.aiger.specs.Search.{reaches}
-use Rattle.roundtrip.specs.Words.{circuitIn}
+use Rattle.layout.specs.Words.{circuitIn}
 use Rattle.enumeration.proofs.Blocks.{ready-with}
 use Rattle.enumeration.proofs.Least.{block-before, block-here}
 use Rattle.enumeration.proofs.scan_blocks.Statement.{statement}

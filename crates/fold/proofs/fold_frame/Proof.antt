@@ -2,7 +2,7 @@
 use mathlib.Core.Path.{_≡_}
 use native.Mathlib.Omega.{arith}
 use Rattle.aiger.specs.Frames.{size}
-use Rattle.roundtrip.specs.Words.{circuitIn}
+use Rattle.layout.specs.Words.{circuitIn}
 use Rattle.nodes.specs.Edges.{edgeWord}
 use Rattle.enumeration.proofs.Starts.{starts-few}
 use Rattle.search.proofs.Sizes.{counts-of, limited}

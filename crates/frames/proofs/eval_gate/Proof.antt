@@ -1,5 +1,5 @@
 -- `frames::eval_gate` meets its contract. Assumes nothing.
-use Rattle.roundtrip.specs.Words.{gateIn}
+use Rattle.layout.specs.Words.{gateIn}
 use Rattle.frames.proofs.Gates.{gated}
 use borrow.Author.Needs.{needs}
 use Rattle.frames.proofs.eval_gate.Statement.{statement}

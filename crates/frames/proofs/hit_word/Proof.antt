@@ -6,7 +6,7 @@ use native.Mathlib.Omega.{arith}
 use Rattle.aiger.specs.Bits.{bit}
 use Rattle.aiger.specs.Lists.{everyBelow}
 use Rattle.aiger.specs.Frames.{value}
-use Rattle.roundtrip.specs.Words.{word}
+use Rattle.layout.specs.Words.{word}
 use Rattle.frames.specs.Lanes.{lane}
 use Rattle.frames.proofs.Facts.{bad-inside, bad-below, constraint-inside, constraint-below}
 use Rattle.frames.proofs.Hits.{hit-more, hit-end}

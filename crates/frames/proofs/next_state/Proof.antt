@@ -5,7 +5,7 @@ use native.Mathlib.Omega.{arith}
 use lib.ListN.{length, getD, length-set}
 use Rattle.aiger.specs.Bits.{bit}
 use Rattle.aiger.specs.Frames.{value}
-use Rattle.roundtrip.specs.Words.{word}
+use Rattle.layout.specs.Words.{word}
 use Rattle.frames.specs.Lanes.{lane}
 use Rattle.frames.proofs.Stores.{next-more}
 use Rattle.frames.proofs.next_state.Statement.{statement}

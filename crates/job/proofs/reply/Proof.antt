@@ -1,6 +1,6 @@
 -- `job::reply` meets its contract. Assumes nothing.
 use lib.ListN.{length}
-use Rattle.roundtrip.specs.Words.{circuitIn}
+use Rattle.layout.specs.Words.{circuitIn}
 use Rattle.job.proofs.Replying.{judged, shown-fits, printed}
 use borrow.Author.Needs.{needs}
 use Rattle.job.proofs.reply.Statement.{statement}

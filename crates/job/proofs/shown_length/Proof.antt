@@ -1,6 +1,6 @@
 -- `job::shown_length` meets its contract. Assumes nothing.
 use native.Mathlib.Omega.{arith}
-use Rattle.roundtrip.specs.Words.{circuitIn}
+use Rattle.layout.specs.Words.{circuitIn}
 use Rattle.frames.proofs.Facts.{valid, counts}
 use Rattle.search.proofs.Sizes.{counts-of, limited}
 use Rattle.job.specs.Replies.{FoundFits}

@@ -2,7 +2,7 @@
 use mathlib.Core.Path.{_≡_, subst}
 use native.Mathlib.Omega.{arith}
 use borrow.Author.Needs.{needs}
-use Rattle.roundtrip.specs.Words.{circuitIn}
+use Rattle.layout.specs.Words.{circuitIn}
 use Rattle.validity.specs.Validity.{Checks}
 use Rattle.validity.specs.declared.Checked.{Checked}
 use Rattle.load.specs.Steps.{refuses}

@@ -6,7 +6,7 @@ use native.Mathlib.Omega.{arith}
 use borrow.Author.Tests.{not-true, not-false}
 use lib.ListN.{length}
 use Rattle.aiger.specs.Witness.{agrees}
-use Rattle.roundtrip.specs.Words.{circuitIn}
+use Rattle.layout.specs.Words.{circuitIn}
 use Rattle.frames.proofs.Facts.{latch-count}
 use Rattle.witness.specs.Line.{values}
 use Rattle.replay.proofs.Starts.{agreeFrom, agree-start, agree-more, agree-end}

@@ -5,7 +5,7 @@ use native.Mathlib.Omega.{arith}
 use lib.ListN.{length, length-set}
 use lib.Seq.{getD-set-same}
 use Rattle.aiger.specs.Frames.{hits}
-use Rattle.roundtrip.specs.Words.{word, circuitIn}
+use Rattle.layout.specs.Words.{word, circuitIn}
 use Rattle.frames.proofs.Facts.{latches-inside, latches-apart}
 use Rattle.enumeration.proofs.Facts.{inputs-inside}
 use Rattle.enumeration.proofs.Blocks.{ready-with}

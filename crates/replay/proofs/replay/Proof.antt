@@ -4,7 +4,7 @@ use native.Mathlib.Omega.{arith}
 use borrow.Author.Needs.{needs}
 use borrow.Author.Tests.{not-true, not-false}
 use Rattle.aiger.specs.Operations.{Replayed}
-use Rattle.roundtrip.specs.Words.{word, circuitIn}
+use Rattle.layout.specs.Words.{word, circuitIn}
 use Rattle.frames.proofs.Facts.{top-is, counts}
 use Rattle.enumeration.proofs.Facts.{latches-inside}
 use Rattle.witness.proofs.Lines.{on-read, on-malformed}

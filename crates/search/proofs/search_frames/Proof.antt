@@ -9,7 +9,7 @@ use borrow.Author.Needs.{needs}
 use lib.ListN.{length}
 use Rattle.aiger.specs.Search.{found, none, spent}
 use Rattle.aiger.specs.Operations.{shown}
-use Rattle.roundtrip.specs.Words.{circuitIn}
+use Rattle.layout.specs.Words.{circuitIn}
 use Rattle.frames.proofs.Facts.{bad-count}
 use Rattle.enumeration.specs.Frame.{FrameIs}
 use Rattle.enumeration.specs.declared.Frame.{Frame}

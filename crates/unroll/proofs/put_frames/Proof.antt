@@ -3,7 +3,7 @@ use mathlib.Core.Path.{_≡_, refl, ap₂, _∙_, subst}
 use Prim.Native.Nat.{ℕ, _+_, _-_, _*_, _≤_}
 use native.Mathlib.Omega.{arith}
 use lib.ListN.{length}
-use Rattle.roundtrip.specs.Words.{circuitIn}
+use Rattle.layout.specs.Words.{circuitIn}
 use Rattle.enumeration.proofs.Facts.{inputs-are}
 use Rattle.unroll.specs.Map.{NextMapped, FramesMapped}
 use Rattle.unroll.proofs.Facts.{ready-with, row-within}

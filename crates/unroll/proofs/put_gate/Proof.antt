@@ -1,7 +1,7 @@
 -- `unroll::put_gate` meets its contract. Assumes nothing.
 use mathlib.Core.Path.{ap, _∙_}
 use native.Mathlib.Omega.{arith}
-use Rattle.roundtrip.specs.Words.{gateIn}
+use Rattle.layout.specs.Words.{gateIn}
 use Rattle.literals.specs.declared.Lit.{Lit}
 use Rattle.literals.specs.declared.Var.{Var}
 use Rattle.unroll.specs.Map.{literalEdge}

@@ -7,7 +7,7 @@ use borrow.Author.Tests.{not-true, not-false}
 use lib.Dec.{T}
 use Rattle.aiger.specs.Circuit.{usedDefined}
 use Rattle.meaning.proofs.Lists.{getD-zeros}
-use Rattle.roundtrip.specs.Words.{circuitIn}
+use Rattle.layout.specs.Words.{circuitIn}
 use Rattle.variables.specs.Table.{Literals}
 use Rattle.variables.proofs.Causes.{uses-in, uses-out}
 use Rattle.variables.proofs.Wholes.{used-room}

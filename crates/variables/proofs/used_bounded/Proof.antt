@@ -3,7 +3,7 @@
 use Rattle.variables.proofs.Wholes.{column-fails, column-holds, columns-hold}
 use Rattle.columns.specs.declared.Role.the-variants.{Next, Root, Left, Right}
 use Rattle.columns.proofs.Parts.{inside}
-use Rattle.roundtrip.specs.Words.{word}
+use Rattle.layout.specs.Words.{word}
 use mathlib.Core.List.{List}
 use Prim.Native.Nat.{ℕ, _/_, _≤_}
 use borrow.Author.Needs.{needs}

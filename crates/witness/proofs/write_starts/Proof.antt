@@ -5,7 +5,7 @@ use Prim.Native.Nat.{ℕ, _+_, _-_, _<_}
 use native.Mathlib.Omega.{arith}
 use borrow.Author.Needs.{needs}
 use lib.ListN.{length, length-set}
-use Rattle.roundtrip.specs.Words.{word}
+use Rattle.layout.specs.Words.{word}
 use Rattle.witness.specs.Writing.{StartsFit}
 use Rattle.witness.proofs.Starts.{Turn, begin, inside, bit-left, turn, done, latch-count}
 use Rattle.witness.proofs.write_starts.Statement.{statement}

@@ -9,7 +9,7 @@ use lib.ListN.{length, length-append, length-take, length-drop, length-set}
 use Rattle.aiger.specs.Frames.{starts}
 use Rattle.aiger.specs.Witness.{bitLine}
 use Rattle.aiger.specs.Operations.{front}
-use Rattle.roundtrip.specs.Words.{circuitIn}
+use Rattle.layout.specs.Words.{circuitIn}
 use Rattle.witness.specs.Writing.{freeAt, headingText}
 use Rattle.witness.proofs.Put.{put, front-part, front-length}
 use Rattle.witness.proofs.Rows.{rowsFrom, row-inside, bits-inside, frame-more, frame-end}

@@ -3,7 +3,7 @@
 use Prim.Native.Nat.{_+_, _-_, _≤_}
 use native.Mathlib.Omega.{arith}
 use lib.ListN.{length}
-use Rattle.roundtrip.specs.Words.{word}
+use Rattle.layout.specs.Words.{word}
 use Rattle.write.specs.Rows.{numberText, rowText}
 use Rattle.write.proofs.Rows.{row-more, row-none}
 use Rattle.write.proofs.Output.{Rest, rest-start, rest-room, rest-more, rest-end}

@@ -6,10 +6,10 @@ use Prim.Native.Nat.{ℕ, _≤_}
 use native.Mathlib.Omega.{arith}
 use lib.ListN.{length}
 use Rattle.aiger.specs.File.{Header, countsFit, headerOf}
-use Rattle.roundtrip.specs.Words.{contentEnd, circuitIn}
+use Rattle.layout.specs.Words.{contentEnd, circuitIn}
 use Rattle.roundtrip.proofs.LoadWrite.{counts-fit}
 use Rattle.roundtrip.proofs.Holding.{header-in}
 use Rattle.layout.specs.Layout.{Counted}
 
 pub counted : (w : List ℕ) → countsFit (headerOf (circuitIn w)) ≡ true → contentEnd w ≤ length w → Counted w
 counted w fit held =
