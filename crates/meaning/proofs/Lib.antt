@@ -7,3 +7,4 @@ pub mod Bits
 pub mod Sequences
 pub mod Shape
 pub mod Leaves
+pub mod Embedding
