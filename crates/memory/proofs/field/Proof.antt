@@ -1,0 +1,23 @@
+-- `memory::field` meets its contract. Assumes nothing.
+use borrow.Author.Tests.{le-leb, lt-leb}
+use Rattle.memory.specs.Record as R
+use borrow.Author.Needs.{needs}
+use Rattle.memory.proofs.field.Statement.{statement}
+use Rattle.memory.proofs.field.Tie as tie
+
+returns : tie.Need-returns
+unfolding R.field
+returns c = rw (le-leb _ _ (c .if1 .taken)) (cc)
+
+place-requires : tie.Need-place-requires
+place-requires c κs = search needs
+
+get-requires : tie.Need-get-requires
+get-requires c κs = search needs
+
+returns-2 : tie.Need-returns-2
+unfolding R.field
+returns-2 c = rw (← c .before .place .ensures, lt-leb _ _ (c .before .before .if1 .left)) (cc)
+
+pub field-spec : {M : Type 1} → statement M
+field-spec = tie.close (tie.spec returns place-requires get-requires returns-2)

@@ -1,0 +1,23 @@
+-- `memory::opposite` meets its contract. Assumes nothing.
+use Rattle.memory.specs.Record as W
+use borrow.Author.Tests.{eq-eqb, ne-eqb}
+use borrow.Author.Needs.{needs}
+use Rattle.memory.proofs.opposite.Statement.{statement}
+use Rattle.memory.proofs.opposite.Tie as tie
+
+add-result : tie.Need-add-result
+add-result c = search needs
+
+sub-result : tie.Need-sub-result
+sub-result c = search needs
+
+returns : tie.Need-returns
+unfolding W.opposite
+returns c = rw (eq-eqb _ _ (c .if1 .taken))
+
+returns-2 : tie.Need-returns-2
+unfolding W.opposite
+returns-2 c = rw (ne-eqb _ _ (c .if1 .left))
+
+pub opposite-spec : {M : Type 1} → statement M
+opposite-spec = tie.close (tie.spec add-result sub-result returns returns-2)

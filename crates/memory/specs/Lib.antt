@@ -1,0 +1,2 @@
+-- What the contracts of `memory` cite. Assumes nothing.
+pub mod Record
