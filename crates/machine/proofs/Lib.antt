@@ -1,0 +1,4 @@
+pub mod Meet
+pub mod Starts
+pub mod Expand
+pub mod Theorems
