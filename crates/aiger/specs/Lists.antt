@@ -1,6 +1,7 @@
 -- Tests over lists and over the numbers below a bound. Assumes nothing.
 use mathlib.Core.Bool.{Bool, true, false, not, cond, _&&_, _||_}
 use mathlib.Core.List.{List, [], _∷_}
+use mathlib.Core.Option.{Option, none, some}
 use Prim.Native.Nat.{ℕ, zero, suc, _+_}
 use lib.Dec.{eqb}
 
@@ -48,6 +49,11 @@ same (x ∷ xs) (y ∷ ys) = eqb x y && same xs ys
 abbrev pub everyBelow : ℕ → (ℕ → Bool) → Bool
 everyBelow zero p = true
 everyBelow (suc n) p = everyBelow n p && p n
+
+-- the last number below n that passes
+unfoldable pub lastBelow : (ℕ → Bool) → ℕ → Option ℕ
+lastBelow p zero = none
+lastBelow p (suc n) = cond (p n) (some n) (lastBelow p n)
 
 -- n numbers from i on
 abbrev pub from : ℕ → ℕ → List ℕ

@@ -1,8 +1,9 @@
 -- Laws of lists: elements by position and by membership, tests by position, and an element that stands twice. Assumes nothing.
 use mathlib.Core.Path.{_≡_, refl, sym, ap, ap₂, _∙_, subst}
-use mathlib.Core.Bool.{Bool, true, false, _&&_, _||_, Bool·beq}
+use mathlib.Core.Bool.{Bool, true, false, cond, _&&_, _||_, Bool·beq}
 use mathlib.Core.List.{List, [], _∷_, _++_, map, List·Memᴰ, List·Memᴰ·head, List·Memᴰ·tail, List·Memᴰ·not-nil, List·Memᴰ·cases-cons, Memᴰ·cast}
 use mathlib.Core.Logic.{_⊎_, inl, inr, ⊎-elim}
+use mathlib.Core.Option.{Option, none, some}
 use Prim.Native.Nat.{ℕ, zero, suc, _+_, _≤_, _<_}
 use native.Mathlib.Nat.{not-suc-le-zero, le-of-suc-le-suc}
 use native.Mathlib.Decide.{ℕ-discrete}
@@ -10,7 +11,7 @@ use native.Mathlib.Omega.{arith}
 use lib.Dec.{T, eqb, eqb→eq, eqb-refl}
 use lib.ListN.{length, getD, set, replicate, length-map}
 use lib.Seq.{getD-set-same, getD-set-other}
-use Rattle.aiger.specs.Lists.{every, any, pairwise, member, same, from, upto}
+use Rattle.aiger.specs.Lists.{every, any, pairwise, member, same, lastBelow, from, upto}
 use Rattle.aiger.proofs.Tests.{and, and-left, and-right, or-cases}
 
 -- a list's element at a position is in the list
@@ -217,6 +218,27 @@ mem-member {x} (List·Memᴰ·tail {x = y} {xs = ys} m) = or-right (eqb x y) (me
 -- an element at a position is a member
 pub member-in : (xs : List ℕ) (i d : ℕ) → i < length xs → T (member (getD xs i d) xs)
 member-in xs i d h = mem-member (mem-getD xs i d h)
+
+-- ---- the last number that passes
+
+-- the only number that passes
+pub last-only : (p : ℕ → Bool) (n h : ℕ) → h < n → T (p h) → ((i : ℕ) → i < n → T (p i) → i ≡ h) → lastBelow p n ≡ some h
+unfolding lastBelow
+last-only p zero h l t u = absurd (not-suc-le-zero l)
+last-only p (suc n) h l t u = go (p n) refl (λ k. last-only p n h (omega arith) t (λ i j. u i (omega arith)))
+  where
+    go : (b : Bool) → p n ≡ b → ((h ≡ n → ⊥) → lastBelow p n ≡ some h) → cond b (some n) (lastBelow p n) ≡ some h
+    go true e r = ap some (u n (omega arith) (subst (λ (b : Bool). T b) (sym e) tt))
+    go false e r = r (λ q. subst (λ (b : Bool). T b) (ap p q ∙ e) t)
+
+pub last-none : (p : ℕ → Bool) (n : ℕ) → ((i : ℕ) → i < n → T (p i) → ⊥) → lastBelow p n ≡ none
+unfolding lastBelow
+last-none p zero u = refl
+last-none p (suc n) u = go (p n) refl (last-none p n (λ i l. u i (omega arith)))
+  where
+    go : (b : Bool) → p n ≡ b → lastBelow p n ≡ none → cond b (some n) (lastBelow p n) ≡ none
+    go true e r = absurd (u n (omega arith) (subst (λ (b : Bool). T b) (sym e) tt))
+    go false e r = r
 
 -- ---- an element that stands twice
 

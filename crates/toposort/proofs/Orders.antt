@@ -1,24 +1,26 @@
 -- The gates in words are those of the circuit: an order of the ones is an order of the others, and so a cycle. Assumes nothing.
 use mathlib.Core.Path.{_≡_, refl, sym, ap, _∙_, subst}
 use mathlib.Core.Bool.{Bool, true, false}
-use mathlib.Core.List.{List}
+use mathlib.Core.List.{List, []}
 use mathlib.Core.Logic.{_⊎_, inl, inr, ⊎-elim}
+use mathlib.Core.Option.{none, some}
 use Prim.Native.Nat.{ℕ, _+_, _-_, _*_, _/_, _<_, _≤_}
 use native.Mathlib.Decide.{ℕ-discrete, decLe}
 use native.Mathlib.Omega.{arith}
-use lib.Dec.{T}
+use lib.Dec.{T, eqb, eqb→eq}
 use lib.ListN.{length, getD, take, drop, length-drop}
 use lib.Seq.{getD-drop, take-all}
-use Rattle.aiger.specs.Circuit.{Circuit, var, literalsRight, acyclic}
+use Rattle.aiger.specs.Circuit.{Circuit, Gate, var, literalsRight, acyclic}
 use Rattle.meaning.proofs.Cycles.{ranked, stuck-at}
+use Rattle.meaning.proofs.Lists.{last-only, last-none, eqb-of}
 use Rattle.layout.specs.Words.{word, gatesAt, gateIn, circuitIn}
 use Rattle.layout.specs.declared.Layout.{Layout}
 use Rattle.layout.specs.Layout.{Counted, LayoutOf}
 use Rattle.columns.specs.Columns.{total}
 use Rattle.variables.specs.Table.{Entered}
-use Rattle.layout.specs.Order.{gateAt, Feeds, Ordered}
+use Rattle.layout.specs.Order.{gateAt, Feeds, Ordered, driver, leftGate, rightGate, placedFrom, depthFirst}
 use Rattle.toposort.specs.Gates.{Edge, Reach, one, more, InOrder, Cyclic, Answered}
-use Rattle.toposort.specs.DepthFirst.{Linked, Sorted}
+use Rattle.toposort.specs.DepthFirst.{Linked, Operands, Arranged, Sorted}
 use Rattle.roundtrip.proofs.Lists.{upto-length, upto-get}
 use Rattle.columns.proofs.Parts.{gate-place}
 use Rattle.variables.proofs.Causes.{literals-used}
@@ -59,6 +61,15 @@ module _ (w : List ℕ) where
   operand-at : (g k : ℕ) → getD (drop (gatesAt w) w) (3 * g + k) 0 ≡ word w (gatesAt w + 3 * g + k)
   operand-at g k = getD-drop (gatesAt w) w (3 * g + k) 0 ∙ ap (word w) (omega arith)
 
+  lit-var : (g : ℕ) → g < m → var (gateAt c g .lit) ≡ getD lits (3 * g) 0 / 2
+  lit-var g l = ap (λ (x : Gate). var (x .lit)) (gate-at g l) ∙ ap var (sym (lit-at g))
+
+  left-var : (g : ℕ) → g < m → var (gateAt c g .left) ≡ getD lits (3 * g + 1) 0 / 2
+  left-var g l = ap (λ (x : Gate). var (x .left)) (gate-at g l) ∙ ap var (sym (operand-at g 1))
+
+  right-var : (g : ℕ) → g < m → var (gateAt c g .right) ≡ getD lits (3 * g + 2) 0 / 2
+  right-var g l = ap (λ (x : Gate). var (x .right)) (gate-at g l) ∙ ap var (sym (operand-at g 2))
+
   feeds-edge : (g h : ℕ) → g < m → Feeds c h g → Edge lits m g h
   feeds-edge g h l f =
       let hm : h < m = omega (arith, f .0, gate-count) in
@@ -95,11 +106,43 @@ module _ (w : List ℕ) where
       bound v (yes z) = omega arith
       bound v (no z) = omega (arith, E .only v (getD t v 0 - 1) (omega arith) .0)
 
+  -- the gate that a table's entry names defines the variable
+  module _ (base : ℕ) (t : List ℕ) (L : Linked lits base m t) (v : ℕ) where
+    driver-some : (h : ℕ) → getD t v 0 ≡ base + h + 1 → driver c v ≡ some h
+    unfolding driver
+    driver-some h e =
+        let hm : h < m = omega (arith, L .bound v) in
+        last-only (λ i. eqb (var (gateAt c i .lit)) v) (length (c .gates)) h (omega (arith, gate-count)) (eqb-of (lit-var h hm ∙ L .only v h e))
+        (λ i l q.
+        let im : i < m = omega (arith, gate-count) in
+        let d : getD t v 0 ≡ base + i + 1 = ap (λ (x : ℕ). getD t x 0) (sym (eqb→eq _ _ q) ∙ lit-var i im) ∙ L .drives i im in
+        omega arith)
+
+    driver-none : getD t v 0 ≤ base → driver c v ≡ none
+    unfolding driver
+    driver-none l =
+        last-none (λ i. eqb (var (gateAt c i .lit)) v) (length (c .gates))
+        (λ i k q.
+        let im : i < m = omega (arith, gate-count) in
+        let d : getD t v 0 ≡ base + i + 1 = ap (λ (x : ℕ). getD t x 0) (sym (eqb→eq _ _ q) ∙ lit-var i im) ∙ L .drives i im in
+        omega arith)
+
+  operands-of : (base : ℕ) (t : List ℕ) → Linked lits base m t → Operands lits base m t (leftGate c) (rightGate c)
+  operands-of base t L =
+      record {
+        left-some = λ g h l e. driver-some base t L (var (gateAt c g .left)) h (ap (λ (x : ℕ). getD t x 0) (left-var g l) ∙ e);
+        left-none = λ g l e. driver-none base t L (var (gateAt c g .left)) (omega (arith, ap (λ (x : ℕ). getD t x 0) (left-var g l)));
+        right-some = λ g h l e. driver-some base t L (var (gateAt c g .right)) h (ap (λ (x : ℕ). getD t x 0) (right-var g l) ∙ e);
+        right-none = λ g l e. driver-none base t L (var (gateAt c g .right)) (omega (arith, ap (λ (x : ℕ). getD t x 0) (right-var g l)));
+      }
+
   -- ---- an order
 
-  ordered : (pos order : List ℕ) → InOrder lits m pos order → Ordered c order
-  ordered pos order I =
+  ordered : (pos order : List ℕ) → InOrder lits m pos order → take m order ≡ placedFrom (leftGate c) (rightGate c) m 0 m [] → Ordered c order
+  unfolding depthFirst
+  ordered pos order I placed =
       record {
+        chosen = rw gate-count placed;
         place = λ g. getD pos g 0 - 1;
         gate = λ k l. omega (arith, I .gate k (omega (arith, gate-count)), gate-count);
         there = λ k l. omega (arith, I .there k (omega (arith, gate-count)));
@@ -176,10 +219,12 @@ module _ (w : List ℕ) where
     pub linked-part : Linked (take (length w - p .gates) (drop (p .gates) w)) (p .i + p .l) (p .a) t
     linked-part = rw (part, q .i-is, q .l-is, q .a-is) (linked C right t E)
 
-    sorted : (pos order : List ℕ) (r : Bool) → Answered lits m pos order r → Sorted c order r
-    sorted pos order true z = (acyclic-order (word w 1 + word w 2) t (linked C right t E) pos order z, ordered pos order z)
-    sorted pos order false z = cyclic right z
+    sorted : (pos order : List ℕ) (r : Bool) → Answered lits m pos order r → Arranged lits (word w 1 + word w 2) m t order r → Sorted c order r
+    sorted pos order true z a =
+        let L = linked C right t E in
+        (acyclic-order (word w 1 + word w 2) t L pos order z, ordered pos order z (a (leftGate c) (rightGate c) (operands-of (word w 1 + word w 2) t L)))
+    sorted pos order false z a = cyclic right z
 
     pub sorted-part : (pos order : List ℕ) (r : Bool) → Answered (take (length w - p .gates) (drop (p .gates) w)) (p .a) pos order r
-        → Sorted (circuitIn w) order r
-    sorted-part pos order r z = sorted pos order r (rw (part, q .a-is) at z)
+        → Arranged (take (length w - p .gates) (drop (p .gates) w)) (p .i + p .l) (p .a) t order r → Sorted (circuitIn w) order r
+    sorted-part pos order r z a = sorted pos order r (rw (part, q .a-is) at z) (rw (part, q .i-is, q .l-is, q .a-is) at a)

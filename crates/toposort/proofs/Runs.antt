@@ -1,15 +1,20 @@
 -- The search's invariant with its memory, and each way round its loop keeps it. Assumes nothing.
 use mathlib.Core.Path.{_≡_, refl, sym, _∙_}
-use mathlib.Core.List.{List}
+use mathlib.Core.List.{List, []}
 use mathlib.Core.Logic.{⊎-elim}
+use mathlib.Core.Option.{Option}
 use Prim.Native.Nat.{ℕ, _+_, _-_, _<_, _≤_}
 use native.Mathlib.Omega.{arith}
 use borrow.Author.Count.{below-more}
-use lib.ListN.{length, getD, set, length-set}
+use lib.ListN.{length, getD, set, take, length-set}
+use Rattle.layout.specs.Order.{placedFrom}
 use Rattle.toposort.specs.Gates.{Edge, InOrder, Cyclic}
-use Rattle.toposort.specs.DepthFirst.{Search, Stays, Placed-at}
+use Rattle.toposort.specs.DepthFirst.{Search, Stays, Placed-at, Operands, Next, unwound, Continues}
+use Rattle.toposort.specs.declared.Visit.the-variants.{Fresh, Done}
+use Rattle.toposort.specs.declared.Step.the-variants.{Deeper, Placed}
 use Rattle.meaning.proofs.Lists.{getD-set}
 use Rattle.toposort.proofs.Steps.{room, pushed, placed, start, finish, cycle}
+use Rattle.toposort.proofs.Unwound.{continues-deeper, continues-placed, starts-from, passes, all-placed}
 
 -- what is met stays met
 stays-set : (pos : List ℕ) (h v : ℕ) → h < length pos → (v ≡ 0 → ⊥) → Stays pos (set pos h v)
@@ -60,6 +65,35 @@ module _ (lits : List ℕ) (m : ℕ) (pos order stack : List ℕ) (sp done : ℕ
           stays-set pos g (done + 1) (omega (arith, S .pos-room, top-gate)) (λ e. omega arith),
         )
 
+-- each step leaves the same gates to be placed in the same order
+module _ (left right : ℕ → Option ℕ) (lits : List ℕ) (m : ℕ) (pos order stack : List ℕ) (sp done : ℕ) (S : Search lits m pos order stack sp done)
+    (more : 0 < sp) where
+  pub search-deeper : (h : ℕ) → h < m → getD pos h 0 ≡ 0 → (K : List ℕ) → K ≡ set stack sp h
+      → Next m pos (left (getD stack (sp - 1) 0)) (right (getD stack (sp - 1) 0)) (Fresh h)
+      → Continues left right m order stack order K sp done Deeper
+  search-deeper h hm new K k next =
+      rw k
+      (continues-deeper left right lits m pos order stack sp done (S .state) (S .order-room) (S .stack-room) more h
+      (omega (arith, search-room lits m pos order stack sp done S h hm new)) new next)
+
+  pub search-placed : (O : List ℕ) → O ≡ set order done (getD stack (sp - 1) 0)
+      → Next m pos (left (getD stack (sp - 1) 0)) (right (getD stack (sp - 1) 0)) Done
+      → Continues left right m order stack O stack sp done Placed
+  search-placed O o next =
+      let few = counts lits m pos order stack sp done S in
+      rw o
+      (continues-placed left right lits m pos order stack sp done (S .state) (S .order-room) (S .stack-room) more (omega arith) (omega arith) next)
+
+-- the gates that are placed, with those that the stack and the gates from s on still place, make the depth-first order
+abbrev pub Planned : List ℕ → ℕ → ℕ → List ℕ → List ℕ → List ℕ → ℕ → ℕ → ℕ → Type 0
+Planned lits base m table order stack s sp done =
+    (left right : ℕ → Option ℕ) → Operands lits base m table left right
+    → placedFrom left right m s (m - s) (unwound left right m stack sp (take done order)) ≡ placedFrom left right m 0 m []
+
+pub planned-start : (lits : List ℕ) (base m : ℕ) (table order stack : List ℕ) → Planned lits base m table order stack 0 0 0
+unfolding unwound
+planned-start lits base m table order stack left right o = let e : m - 0 ≡ m = omega arith in rw e
+
 -- the gates below s are met, and at the end the stack is empty
 pub record Run (lits : List ℕ) (m : ℕ) (pos order stack : List ℕ) (s sp done : ℕ) : Type 0 where
   pub at : s ≤ m
@@ -75,6 +109,25 @@ module _ (lits : List ℕ) (m : ℕ) (pos order stack : List ℕ) (s sp done : �
   pub run-step : (P O K : List ℕ) (sp′ done′ : ℕ) → s < m → Search lits m P O K sp′ done′ × Stays pos P → Run lits m P O K s sp′ done′
   run-step P O K sp′ done′ sm x =
       record { at = R .at; search = x .0; met = λ g l z. R .met g l (x .1 g z); end = λ q. absurd (omega arith) }
+
+  module _ (base : ℕ) (table : List ℕ) (plan : Planned lits base m table order stack s sp done) where
+    pub planned-skip : s < m → sp ≤ 0 → (getD pos s 0 ≡ 0 → ⊥) → Planned lits base m table order stack (s + 1) sp done
+    planned-skip sm z n left right o =
+        let S = R .search in
+        passes left right lits m pos order stack sp done (S .state) (S .order-room) (S .stack-room) s sm (omega arith) n ∙ plan left right o
+
+    pub planned-push : s < m → sp ≤ 0 → getD pos s 0 ≡ 0 → (K : List ℕ) → K ≡ set stack sp s → Planned lits base m table order K s (sp + 1) done
+    planned-push sm z n K k left right o =
+        let S = R .search in
+        rw k
+        (starts-from left right lits m pos order stack sp done (S .state) (S .order-room) (S .stack-room) s sm (omega arith) n ∙ plan left right o)
+
+    pub planned-end : m ≤ s → (left right : ℕ → Option ℕ) → Operands lits base m table left right → take m order ≡ placedFrom left right m 0 m []
+    planned-end l left right o =
+        let S = R .search in
+        let e : s ≡ m = omega (arith, R .at) in
+        all-placed left right lits m pos order stack sp done (S .state) (S .order-room) (S .stack-room) s e (R .end l) (λ g gl. R .met g (omega arith))
+        ∙ plan left right o
 
   pub run-end : m ≤ s → InOrder lits m pos order
   run-end l = finish lits m pos order stack sp done (R .search .state) (R .end l) (λ g gl. R .met g (omega arith))

@@ -1,12 +1,14 @@
 -- The depth-first search: what a look at a gate's operands finds, the search's invariant, and a step. Assumes nothing.
 use mathlib.Core.Path.{_≡_}
 use mathlib.Core.Bool.{Bool, true, false}
-use mathlib.Core.List.{List}
+use mathlib.Core.Logic.{_⊎_}
+use mathlib.Core.List.{List, []}
+use mathlib.Core.Option.{Option, none, some}
 use Prim.Native.Nat.{ℕ, zero, suc, _+_, _-_, _*_, _/_, _<_, _≤_}
 use lib.Dec.{T, eqb}
-use lib.ListN.{length, getD}
+use lib.ListN.{length, getD, take}
 use Rattle.aiger.specs.Circuit.{Circuit, acyclic}
-use Rattle.layout.specs.Order.{Ordered}
+use Rattle.layout.specs.Order.{Ordered, completed, placedFrom}
 use Rattle.toposort.specs.Gates.{Edge, Cyclic}
 use Rattle.toposort.specs.declared.Visit.{Visit}
 use Rattle.toposort.specs.declared.Visit.the-variants.{Fresh, Open, Done}
@@ -38,6 +40,24 @@ abbrev pub OperandOf : List ℕ → ℕ → List ℕ → ℕ → Visit → Type 
 OperandOf lits m pos g (Fresh h) = Edge lits m g h × (getD pos h 0 ≡ 0)
 OperandOf lits m pos g Open = (h : ℕ) × Edge lits m g h × (m < getD pos h 0)
 OperandOf lits m pos g Done = (h : ℕ) → Edge lits m g h → Placed-at m pos h
+
+-- left and right say for each gate which gate defines its operands, as the table has it
+pub record Operands (lits : List ℕ) (base m : ℕ) (table : List ℕ) (left right : ℕ → Option ℕ) : Type 0 where
+  pub left-some : (g h : ℕ) → g < m → getD table (getD lits (3 * g + 1) 0 / 2) 0 ≡ base + h + 1 → left g ≡ some h
+  pub left-none : (g : ℕ) → g < m → getD table (getD lits (3 * g + 1) 0 / 2) 0 ≤ base → left g ≡ none
+  pub right-some : (g h : ℕ) → g < m → getD table (getD lits (3 * g + 2) 0 / 2) 0 ≡ base + h + 1 → right g ≡ some h
+  pub right-none : (g : ℕ) → g < m → getD table (getD lits (3 * g + 2) 0 / 2) 0 ≤ base → right g ≡ none
+
+-- the gate that is named, if one is, is in the order
+abbrev pub Settled : ℕ → List ℕ → Option ℕ → Type 0
+Settled m pos none = Unit {0}
+Settled m pos (some h) = (h < m) × Placed-at m pos h
+
+-- where the search goes on, where l and r are the gates of the operands: with the left one first
+abbrev pub Next : ℕ → List ℕ → Option ℕ → Option ℕ → Visit → Type 0
+Next m pos l r (Fresh h) = (l ≡ some h) ⊎ (Settled m pos l × (r ≡ some h))
+Next m pos l r Open = Unit {0}
+Next m pos l r Done = Settled m pos l × Settled m pos r
 
 abbrev pub one-if : Bool → ℕ
 one-if true = 1
@@ -77,6 +97,24 @@ abbrev pub Stepped : List ℕ → ℕ → List ℕ → List ℕ → List ℕ →
 Stepped lits m old pos order stack sp done Deeper = Search lits m pos order stack (sp + 1) done × Stays old pos
 Stepped lits m old pos order stack sp done Placed = Search lits m pos order stack (sp - 1) (done + 1) × Stays old pos
 Stepped lits m old pos order stack sp done Cycle = Cyclic lits m
+
+-- the gates at the first k places of the stack are completed, the top one first
+unfoldable pub unwound : (ℕ → Option ℕ) → (ℕ → Option ℕ) → ℕ → List ℕ → ℕ → List ℕ → List ℕ
+unwound left right m stack zero placed = placed
+unwound left right m stack (suc k) placed = unwound left right m stack k (completed left right (m - k) placed (getD stack k 0))
+
+-- a step leaves the same gates to be placed in the same order
+abbrev pub Continues : (ℕ → Option ℕ) → (ℕ → Option ℕ) → ℕ → List ℕ → List ℕ → List ℕ → List ℕ → ℕ → ℕ → Step → Type 0
+Continues left right m order stack order′ stack′ sp done Deeper =
+    unwound left right m stack′ (sp + 1) (take done order′) ≡ unwound left right m stack sp (take done order)
+Continues left right m order stack order′ stack′ sp done Placed =
+    unwound left right m stack′ (sp - 1) (take (done + 1) order′) ≡ unwound left right m stack sp (take done order)
+Continues left right m order stack order′ stack′ sp done Cycle = Unit {0}
+
+-- the order is the depth-first one
+abbrev pub Arranged : List ℕ → ℕ → ℕ → List ℕ → List ℕ → Bool → Type 0
+Arranged lits base m table order true = (left right : ℕ → Option ℕ) → Operands lits base m table left right → take m order ≡ placedFrom left right m 0 m []
+Arranged lits base m table order false = Unit {0}
 
 -- cause 8 does not refuse, and there is an order of evaluation; or it does
 abbrev pub Sorted : Circuit → List ℕ → Bool → Type 0

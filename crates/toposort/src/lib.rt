@@ -2,6 +2,7 @@
 // With m gates, pos has for each gate 0 before the search meets it; then m + 1 plus its place on the stack; then 1 plus its place in the
 // order.
 ghost use mathlib.Core.Path.{_≡_};
+ghost use mathlib.Core.Option.{Option};
 ghost use Prim.Native.Nat.{ℕ, _+_, _<_, _≤_};
 ghost use lib.Dec.{T};
 ghost use lib.ListN.{length, getD, set};
@@ -11,7 +12,7 @@ ghost use Rattle.layout.specs.Layout.{Counted};
 ghost use Rattle.columns.specs.Columns.{total};
 ghost use Rattle.variables.specs.Table.{Entered};
 ghost use Rattle.toposort.specs.Gates.{Answered};
-ghost use Rattle.toposort.specs.DepthFirst.{Linked, Looked, OperandOf, Search, Stepped, Sorted};
+ghost use Rattle.toposort.specs.DepthFirst.{Linked, Looked, OperandOf, Operands, Next, Search, Stepped, Continues, Arranged, Sorted};
 
 // A gate that is not met; one on the stack; or one in the order, or none.
 enum Visit {
@@ -54,7 +55,7 @@ fn operand(lits: &[u32], table: &[u32], pos: &[u32], base: usize, m: usize, g: u
     requires { ⌜ Linked (now lits) base m (now table) ⌝ }
     requires { ⌜ m ≤ length (now pos) ⌝ }
     requires { ⌜ g < m ⌝ }
-    ensures { λ r. ⌜ OperandOf (now (lits .entry)) m (now (pos .entry)) g r ⌝ }
+    ensures { λ r. ⌜ OperandOf (now (lits .entry)) m (now (pos .entry)) g r × ((left right : ℕ → Option ℕ) → Operands (now (lits .entry)) base m (now (table .entry)) left right → Next m (now (pos .entry)) (left g) (right g) r) ⌝ }
 {
     let v = (lits[3 * g + 1] / 2) as usize;
     let u = (lits[3 * g + 2] / 2) as usize;
@@ -98,7 +99,7 @@ fn advance(
     requires { ⌜ Linked (now lits) base m (now table) ⌝ }
     requires { ⌜ Search (now lits) m (now pos) (now order) (now stack) sp done ⌝ }
     requires { ⌜ 0 < sp ⌝ }
-    ensures { λ r. ⌜ Stepped (now (lits .entry)) m (now (pos .entry)) (now (pos .exit)) (now (order .exit)) (now (stack .exit)) sp done r ⌝ }
+    ensures { λ r. ⌜ Stepped (now (lits .entry)) m (now (pos .entry)) (now (pos .exit)) (now (order .exit)) (now (stack .exit)) sp done r × ((left right : ℕ → Option ℕ) → Operands (now (lits .entry)) base m (now (table .entry)) left right → Continues left right m (now (order .entry)) (now (stack .entry)) (now (order .exit)) (now (stack .exit)) sp done r) ⌝ }
 {
     let g = stack[sp - 1] as usize;
     match operand(lits, table, pos, base, m, g) {
@@ -127,7 +128,7 @@ fn sort(
     requires { ⌜ Linked (now lits) base m (now table) ⌝ }
     requires { ⌜ (m ≤ length (now pos)) × (m ≤ length (now order)) × (m ≤ length (now stack)) ⌝ }
     requires { ⌜ ((g : ℕ) → g < m → getD (now pos) g 0 ≡ 0) ⌝ }
-    ensures { λ r. ⌜ Answered (now (lits .entry)) m (now (pos .exit)) (now (order .exit)) r ⌝ }
+    ensures { λ r. ⌜ Answered (now (lits .entry)) m (now (pos .exit)) (now (order .exit)) r × Arranged (now (lits .entry)) base m (now (table .entry)) (now (order .exit)) r ⌝ }
 {
     let mut s = 0;
     let mut sp = 0;

@@ -1,6 +1,6 @@
 -- `advance` meets its contract: each arm keeps the search's invariant, or the stack is a cycle.
 -- Assumes nothing.
-use Rattle.toposort.proofs.Runs.{counts, search-room, search-push, top-gate, search-cycle, top-edge, search-place}
+use Rattle.toposort.proofs.Runs.{counts, search-room, search-push, top-gate, search-cycle, top-edge, search-place, search-deeper, search-placed}
 use native.Mathlib.Omega.{arith}
 use borrow.Author.Needs.{needs}
 use Rattle.toposort.proofs.advance.Statement.{statement}
@@ -34,8 +34,8 @@ push-requires c κs =
     let S = K .before .before .before .before .before .before .before .before in
     let n = rw (c .before .before .before .h .given .1) at (K .operand .ensures) in (
       omega (arith, S .pre .0 .small),
-      n .0 .0,
-      omega (arith, search-room _ _ _ _ _ _ _ (S .pre .1 .0) _ (n .0 .0) (n .1)),
+      n .0 .0 .0,
+      omega (arith, search-room _ _ _ _ _ _ _ (S .pre .1 .0) _ (n .0 .0 .0) (n .0 .1)),
       S .pre .1 .0 .pos-room,
       S .pre .1 .0 .stack-room,
     )
@@ -67,9 +67,12 @@ returns c =
     let A = c .before .before .before .before in
     let K = A .before .before .before .before .before .before in
     let S = K .before .before .before .before .before .before .before .before in
-    let n = rw (A .before .before .before .before .h .given .1) at (K .operand .ensures) in
-    search-push _ _ _ _ _ _ _ (S .pre .1 .0) _ (n .0 .0) (n .1) _ _ (A .push .ensures .0) (A .push .ensures .1)
-    (top-edge _ _ _ _ _ _ _ (S .pre .1 .0) (S .pre .1 .1) _ (n .0))
+    let n = rw (A .before .before .before .before .h .given .1) at (K .operand .ensures) in (
+      search-push _ _ _ _ _ _ _ (S .pre .1 .0) _ (n .0 .0 .0) (n .0 .1) _ _ (A .push .ensures .0) (A .push .ensures .1)
+          (top-edge _ _ _ _ _ _ _ (S .pre .1 .0) (S .pre .1 .1) _ (n .0 .0)),
+      λ left right o.
+          search-deeper left right _ _ _ _ _ _ _ (S .pre .1 .0) (S .pre .1 .1) _ (n .0 .0 .0) (n .0 .1) _ (A .push .ensures .1) (n .1 left right o),
+    )
 
 same-length-3 : tie.Need-same-length-3
 same-length-3 c = search needs
@@ -79,7 +82,7 @@ returns-2 c =
     let K = c .before .before in
     let S = K .before .before .before .before .before .before .before .before in
     let n = rw (c .enum-told .given .1) at (K .operand .ensures) in
-    search-cycle _ _ _ _ _ _ _ (S .pre .1 .0) (S .pre .1 .1) (n .0) (n .1) (n .2)
+    (search-cycle _ _ _ _ _ _ _ (S .pre .1 .0) (S .pre .1 .1) (n .0 .0) (n .0 .1) (n .0 .2), λ left right o. tt)
 
 same-length-4 : tie.Need-same-length-4
 same-length-4 c = search needs
@@ -92,8 +95,10 @@ returns-3 c =
     let A = c .before .before .before .before in
     let K = A .before .before .before .before .before in
     let S = K .before .before .before .before .before .before .before .before in
-    let n = rw (A .before .before .before .enum-told2 .given .1) at (K .operand .ensures) in
-    search-place _ _ _ _ _ _ _ (S .pre .1 .0) (S .pre .1 .1) _ _ (A .place .ensures .0) (A .place .ensures .1) n
+    let n = rw (A .before .before .before .enum-told2 .given .1) at (K .operand .ensures) in (
+      search-place _ _ _ _ _ _ _ (S .pre .1 .0) (S .pre .1 .1) _ _ (A .place .ensures .0) (A .place .ensures .1) (n .0),
+      λ left right o. search-placed left right _ _ _ _ _ _ _ (S .pre .1 .0) (S .pre .1 .1) _ (A .place .ensures .1) (n .1 left right o),
+    )
 
 pub advance-spec : {M : Type 1} → statement M
 advance-spec =

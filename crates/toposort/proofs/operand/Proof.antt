@@ -1,6 +1,6 @@
 -- `operand` meets its contract: a look at each operand.
 -- Assumes nothing.
-use Rattle.toposort.proofs.Looks.{first-fresh, first-open, second}
+use Rattle.toposort.proofs.Looks.{first-fresh, first-open, second, next-left, next-right}
 use native.Mathlib.Omega.{arith}
 use Prim.Native.Nat.{_+_, _*_}
 use borrow.Author.Needs.{needs}
@@ -61,22 +61,29 @@ returns : tie.Need-returns
 returns c =
     let K = c .before .before .before in
     let S = K .before .before .before .before .before .before in
-    first-fresh (S .args .lits .now) (S .args .base) _ (S .args .table .now) (S .args .pos .now) _ (S .pre .0) _
-    (rw (c .before .h .given .1) at (K .look .ensures))
+    let looked = rw (c .before .h .given .1) at (K .look .ensures) in (
+      first-fresh (S .args .lits .now) (S .args .base) _ (S .args .table .now) (S .args .pos .now) _ (S .pre .0) _ looked,
+      next-left (S .args .lits .now) (S .args .base) _ (S .args .table .now) (S .args .pos .now) _ (S .pre .1 .1) (S .pre .0) _ looked,
+    )
 
 returns-2 : tie.Need-returns-2
 returns-2 c =
     let K = c .before .before in
-    let S = K .before .before .before .before .before .before in
-    first-open (S .args .lits .now) (S .args .base) _ (S .args .table .now) (S .args .pos .now) _ (S .pre .0)
-    (rw (c .enum-told .given .1) at (K .look .ensures))
+    let S = K .before .before .before .before .before .before in (
+      first-open (S .args .lits .now) (S .args .base) _ (S .args .table .now) (S .args .pos .now) _ (S .pre .0)
+          (rw (c .enum-told .given .1) at (K .look .ensures)),
+      λ left right o. tt,
+    )
 
 returns-3 : tie.Need-returns-3
 returns-3 c =
     let K = c .before .before .before in
     let S = K .before .before .before .before .before .before in
-    second (S .args .lits .now) (S .args .base) _ (S .args .table .now) (S .args .pos .now) _ (S .pre .0)
-    (rw (c .before .enum-told2 .given .1) at (K .look .ensures)) (c .look2 .result) (c .look2 .ensures)
+    let looked = rw (c .before .enum-told2 .given .1) at (K .look .ensures) in (
+      second (S .args .lits .now) (S .args .base) _ (S .args .table .now) (S .args .pos .now) _ (S .pre .0) looked (c .look2 .result) (c .look2 .ensures),
+      next-right (S .args .lits .now) (S .args .base) _ (S .args .table .now) (S .args .pos .now) _ (S .pre .1 .1) (S .pre .0) looked
+          (c .look2 .result) (c .look2 .ensures),
+    )
 
 pub operand-spec : {M : Type 1} → statement M
 operand-spec =

@@ -1,10 +1,11 @@
 -- `sort` meets its contract. The loop's invariant is `Run`. The measure falls since each turn passes a gate, meets one or places one.
 -- Assumes nothing.
-use Rattle.toposort.proofs.Runs.{Run, counts, search-push, run-start, run-skip, run-step, run-end}
+use Rattle.toposort.proofs.Runs.{Run, Planned, counts, search-push, run-start, run-skip, run-step, run-end, planned-start, planned-skip, planned-push, planned-end}
 use lib.ListN.{length}
 use native.Mathlib.Omega.{arith}
 use Prim.Native.Nat.{_+_, _*_, _-_}
-use mathlib.Core.Path.{_≡_, refl, _∙_}
+use mathlib.Core.Path.{_≡_, refl, ap, _∙_}
+use Rattle.layout.specs.Order.{placedFrom}
 use borrow.Author.Needs.{needs}
 use Rattle.toposort.proofs.sort.Statement.{statement}
 use Rattle.toposort.proofs.sort.Tie as tie
@@ -12,6 +13,7 @@ use Rattle.toposort.proofs.sort.Tie as tie
 abbrev Inv-loop : tie.InvT-loop
 Inv-loop lits table base m pos₀ order₀ stack₀ s₀ sp₀ done₀ pos order stack s sp done =
     Run lits m pos order stack s sp done × (length pos ≡ length pos₀) × (length order ≡ length order₀) × (length stack ≡ length stack₀)
+    × Planned lits base m table order stack s sp done
 
 abbrev μ-loop : tie.MeasureT-loop
 μ-loop lits table base m pos₀ order₀ stack₀ s₀ sp₀ done₀ pos order stack s sp done = 3 * m - (2 * done + sp + s)
@@ -24,6 +26,7 @@ loop-holds c =
       refl,
       refl,
       refl,
+      planned-start (S .args .lits .now) (S .args .base) (S .args .m) (S .args .table .now) (S .args .order .now) (S .args .stack .now),
     )
 
 advance-requires : tie.Need-advance-requires Inv-loop μ-loop
@@ -45,17 +48,19 @@ loop-less c =
     let A = c .before .before .before .before .before .before .before .before in
     let L = A .before .before .before .before .before .before in
     let n = rw (c .enum-told .given .1) at (A .advance .ensures) in
-    omega (arith, counts _ _ _ _ _ _ _ (n .0), A .before .before .before .before .before .loop-test .taken)
+    omega (arith, counts _ _ _ _ _ _ _ (n .0 .0), A .before .before .before .before .before .loop-test .taken)
 
 loop-again : tie.Need-loop-again Inv-loop μ-loop
 loop-again c =
     let A = c .before .before .before .before .before .before .before .before in
     let L = A .before .before .before .before .before .before in
+    let S = L .before .before .before .before .before .before in
     let n = rw (c .enum-told .given .1) at (A .advance .ensures) in (
-      run-step _ _ _ _ _ _ _ _ (L .loop .inv .0) _ _ _ _ _ (A .before .before .before .before .before .loop-test .taken) n,
+      run-step _ _ _ _ _ _ _ _ (L .loop .inv .0) _ _ _ _ _ (A .before .before .before .before .before .loop-test .taken) (n .0),
       A .advance .kept .1 .1 .1 .1 .0 ∙ L .loop .inv .1,
       A .advance .kept .1 .1 .1 .1 .1 .0 ∙ L .loop .inv .2,
       A .advance .kept .1 .1 .1 .1 .1 .1 .0 ∙ L .loop .inv .3,
+      λ left right o. ap (placedFrom left right (S .args .m) (L .loop .s) (S .args .m - L .loop .s)) (n .1 left right o) ∙ L .loop .inv .4 left right o,
     )
 
 enum-told-2 : tie.Need-enum-told-2 Inv-loop μ-loop
@@ -81,11 +86,13 @@ loop-again-2 : tie.Need-loop-again-2 Inv-loop μ-loop
 loop-again-2 c =
     let A = c .before .before .before .before .before .before .before .before in
     let L = A .before .before .before .before .before .before in
+    let S = L .before .before .before .before .before .before in
     let n = rw (c .enum-told2 .given .1) at (A .advance .ensures) in (
-      run-step _ _ _ _ _ _ _ _ (L .loop .inv .0) _ _ _ _ _ (A .before .before .before .before .before .loop-test .taken) n,
+      run-step _ _ _ _ _ _ _ _ (L .loop .inv .0) _ _ _ _ _ (A .before .before .before .before .before .loop-test .taken) (n .0),
       A .advance .kept .1 .1 .1 .1 .0 ∙ L .loop .inv .1,
       A .advance .kept .1 .1 .1 .1 .1 .0 ∙ L .loop .inv .2,
       A .advance .kept .1 .1 .1 .1 .1 .1 .0 ∙ L .loop .inv .3,
+      λ left right o. ap (placedFrom left right (S .args .m) (L .loop .s) (S .args .m - L .loop .s)) (n .1 left right o) ∙ L .loop .inv .4 left right o,
     )
 
 enum-told-3 : tie.Need-enum-told-3 Inv-loop μ-loop
@@ -111,7 +118,8 @@ same-length-3 c =
 
 returns : tie.Need-returns Inv-loop μ-loop
 returns c =
-    rw (c .enum-told3 .given .1) at (c .before .before .before .before .before .before .before .before .advance .ensures)
+    let n = rw (c .enum-told3 .given .1) at (c .before .before .before .before .before .before .before .before .advance .ensures) in
+    (n .0, tt)
 
 mul-if2 : tie.Need-mul-if2 Inv-loop μ-loop
 mul-if2 c = omega arith
@@ -154,6 +162,7 @@ loop-again-3 c =
       A .push .kept .0 ∙ L .loop .inv .1,
       L .loop .inv .2,
       A .push .kept .1 .0 ∙ L .loop .inv .3,
+      planned-push _ _ _ _ _ _ _ _ (L .loop .inv .0) _ _ (L .loop .inv .4) sm empty new _ (A .push .ensures .1),
     )
 
 add-s : tie.Need-add-s Inv-loop μ-loop
@@ -172,6 +181,8 @@ loop-again-4 c =
       L .loop .inv .1,
       L .loop .inv .2,
       L .loop .inv .3,
+      planned-skip _ _ _ _ _ _ _ _ (L .loop .inv .0) _ _ (L .loop .inv .4) (c .before .before .before .loop-test .taken)
+          (c .before .before .if1 .left) (c .if2 .left),
     )
 
 same-length-4 : tie.Need-same-length-4 Inv-loop μ-loop
@@ -184,7 +195,11 @@ same-length-6 : tie.Need-same-length-6 Inv-loop μ-loop
 same-length-6 c = c .before .loop .inv .3
 
 returns-2 : tie.Need-returns-2 Inv-loop μ-loop
-returns-2 c = run-end _ _ _ _ _ _ _ _ (c .before .loop .inv .0) (c .loop-test .left)
+returns-2 c =
+    let L = c .before in (
+      run-end _ _ _ _ _ _ _ _ (L .loop .inv .0) (c .loop-test .left),
+      planned-end _ _ _ _ _ _ _ _ (L .loop .inv .0) _ _ (L .loop .inv .4) (c .loop-test .left),
+    )
 
 pub sort-spec : {M : Type 1} → statement M
 sort-spec =
