@@ -1,3 +1,4 @@
+pub mod First
 pub mod Meet
 pub mod Starts
 pub mod Expand

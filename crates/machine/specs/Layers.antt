@@ -6,7 +6,6 @@ use mathlib.Core.Option.{Option, none, some}
 use Prim.Native.Nat.{ℕ, zero, suc, _+_, _-_, _*_, _/_, _%_}
 use lib.Dec.{eqb, leb}
 use lib.ListN.{length, getD}
-use Rattle.enumeration.specs.Choice.{leastBelow}
 use Rattle.machine.specs.Machine.{Machine}
 
 -- a state that was met, and the first prefix that led to it
@@ -60,6 +59,11 @@ expanded m es lo (suc z) = meet (slotStep m es lo z) (slotPlace m es lo z) (expa
 abbrev pub layerSlots : Machine → List Entry → ℕ → ℕ
 layerSlots m es lo = (length es - lo) * m .slots
 
+-- the first number below n that passes
+unfoldable pub firstBelow : ℕ → (ℕ → Bool) → Option ℕ
+firstBelow zero p = none
+firstBelow (suc n) p = elim (firstBelow n p) [ some x ↦ some x | none ↦ cond (p n) (some n) none ]
+
 -- what the layers say: frame t is the first with a hit, and its first one is x; no frame has a hit; or the search was given up, where
 -- no frame before t has a hit
 pub data Layered : Type 0 where
@@ -72,7 +76,7 @@ pub data Layered : Type 0 where
 unfoldable pub layersFrom : Machine → (ℕ → ℕ) → ℕ → ℕ → List Entry → ℕ → Layered
 layersFrom m quota zero t es lo = clear
 layersFrom m quota (suc n) t es lo =
-    elim (leastBelow (layerSlots m es lo) (slotHit m es lo)) [
+    elim (firstBelow (layerSlots m es lo) (slotHit m es lo)) [
       | some z ↦ hit t (slotPlace m es lo z)
       | none ↦
           cond (leb (length (expanded m es lo (layerSlots m es lo))) (quota t))
