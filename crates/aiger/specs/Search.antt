@@ -4,7 +4,36 @@ use Prim.Native.Nat.{ℕ, _+_, _^_}
 use lib.Dec.{leb, ltb, eqb}
 use Rattle.aiger.specs.Lists.{everyBelow}
 use Rattle.aiger.specs.Circuit.{Circuit}
-use Rattle.aiger.specs.Frames.{hits, run, freeBits}
+use Rattle.aiger.specs.Frames.{Space, space, runIn, hits, freeBits}
+
+-- ---- the places of one frame: sequence x stands at place x, and p says which places hit
+
+-- the places that hit, from lo on
+abbrev pub onward : ℕ → (ℕ → Bool) → ℕ → Bool
+onward lo p x = leb lo x && p x
+
+-- no place from lo up to hi hits
+abbrev pub clearFrom : (ℕ → Bool) → ℕ → ℕ → Bool
+clearFrom p lo hi = everyBelow hi (λ x. not (onward lo p x))
+
+-- the first hit, by its place; no hit; or more places than the budget, of which the first ones do not hit
+pub data Decision : Type 0 where
+  hit : ℕ → Decision
+  clear : Decision
+  spent : Decision
+
+-- what may be decided of the places from lo on, where there are `places` in all and the budget is D
+unfoldable pub decides : (ℕ → Bool) → ℕ → ℕ → ℕ → Decision → Bool
+decides p places lo D (Decision.hit x) = leb lo x && ltb x places && clearFrom p lo x && p x
+decides p places lo D Decision.clear = clearFrom p lo places
+decides p places lo D Decision.spent = ltb (lo + D) places && clearFrom p lo (lo + D)
+
+-- ---- frame after frame
+
+-- what is asked: how many places each frame has, and which of them hit
+pub record Question : Type 0 where
+  pub places : ℕ → ℕ
+  pub hitting : ℕ → ℕ → Bool
 
 -- found t, with the sequence whose witness is shown; none k; spent t
 pub data Outcome : Type 0 where
@@ -12,23 +41,34 @@ pub data Outcome : Type 0 where
   none : ℕ → Outcome
   spent : ℕ → Outcome
 
--- "A sequence of frame t reaches the property if it hits b at t": sequence x
-unfoldable pub reaches : Circuit → ℕ → ℕ → ℕ → Bool
-reaches c b t x = hits c b (run c t x) t
-
--- none of the first d sequences of frame t hits
-abbrev pub clear : Circuit → ℕ → ℕ → ℕ → Bool
-clear c b t d = everyBelow d (λ x. not (reaches c b t x))
+-- what may be decided of frame t, from its first place on
+abbrev pub decidesAt : Question → ℕ → ℕ → Decision → Bool
+decidesAt q t D d = decides (q .hitting t) (q .places t) 0 D d
 
 -- no frame before t has a hit
-abbrev pub clearBefore : Circuit → ℕ → ℕ → Bool
-clearBefore c b t = everyBelow t (λ u. clear c b u (2 ^ freeBits c u))
+abbrev pub clearBefore : Question → ℕ → Bool
+clearBefore q t = everyBelow t (λ u. decidesAt q u 0 Decision.clear)
 
--- what a search for b up to bound k with budget D may give:
+-- what a search up to bound k with budget D may give:
 -- "found t: t is the first frame with a hit; the witness is the first hit in counting order;
 -- none k: no frame from 0 to k has a hit;
 -- spent t: frames before t have no hit, 2 to the power n at frame t exceeds D, and none of the first D sequences of frame t hits."
-unfoldable pub permitted : Circuit → ℕ → ℕ → ℕ → Outcome → Bool
-permitted c b k D (found t x) = leb t k && clearBefore c b t && ltb x (2 ^ freeBits c t) && clear c b t x && reaches c b t x
-permitted c b k D (none j) = eqb j k && clearBefore c b (k + 1)
-permitted c b k D (spent t) = leb t k && clearBefore c b t && ltb D (2 ^ freeBits c t) && clear c b t D
+unfoldable pub permittedOf : Question → ℕ → ℕ → Outcome → Bool
+permittedOf q k D (Outcome.found t x) = leb t k && clearBefore q t && decidesAt q t D (Decision.hit x)
+permittedOf q k D (Outcome.none j) = eqb j k && clearBefore q (k + 1)
+permittedOf q k D (Outcome.spent t) = leb t k && clearBefore q t && decidesAt q t D Decision.spent
+
+-- ---- the question about bad line b of a circuit
+
+-- "A sequence of frame t reaches the property if it hits b at t": sequence x of a space
+unfoldable pub reachesIn : Space → Circuit → ℕ → ℕ → ℕ → Bool
+reachesIn s c b t x = hits c b (runIn s t x) t
+
+unfoldable pub reaches : Circuit → ℕ → ℕ → ℕ → Bool
+reaches c b t x = reachesIn (space c) c b t x
+
+abbrev pub question : Circuit → ℕ → Question
+question c b = record { places = λ t. 2 ^ freeBits c t; hitting = reaches c b }
+
+abbrev pub permitted : Circuit → ℕ → ℕ → ℕ → Outcome → Bool
+permitted c b k D o = permittedOf (question c b) k D o

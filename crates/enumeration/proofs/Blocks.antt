@@ -11,7 +11,7 @@ use lib.ListN.{length, getD}
 use Rattle.aiger.specs.Bits.{bit}
 use Rattle.aiger.specs.Circuit.{Circuit, var, literalsRight, usedDefined, acyclic}
 use Rattle.aiger.specs.Frames.{freeStarts, freeBits, freeBit, run, state}
-use Rattle.aiger.specs.Search.{reaches}
+use Rattle.aiger.specs.Search.{reaches, reachesIn}
 use Rattle.layout.specs.Words.{word}
 use Rattle.layout.specs.declared.Layout.{Layout}
 use Rattle.words.proofs.Bits.{bit-none}
@@ -129,5 +129,5 @@ module _ (c : Circuit) (right : T (literalsRight c)) where
     -- the hits of frame t
     pub valued-hits : (t block b : ℕ) (values : List ℕ) (hits : ℕ) → Valued c t block t values
         → ((p : ℕ) → p < 64 → bit hits p ≡ hitIn c b (lane values p)) → (p : ℕ) → p < 64 → bit hits p ≡ reaches c b t (block * 64 + p)
-    unfolding reaches
+    unfolding reaches reachesIn run
     valued-hits t block b values hits w h p hp = h p hp ∙ hit-of-run right known a (run c t (block * 64 + p)) t (w p hp) b

@@ -1,21 +1,21 @@
 -- The least number that passes, and what the search of a frame decides by it. Assumes nothing.
-use mathlib.Core.Path.{_≡_, refl, sym, ap, _∙_, subst}
+use mathlib.Core.Path.{_≡_, refl, sym, ap, ap₂, _∙_, subst}
 use mathlib.Core.Bool.{Bool, true, false, not, cond}
 use mathlib.Core.Option.{Option, none, some}
 use mathlib.Core.Logic.{⊎-elim}
 use Prim.Native.Nat.{ℕ, zero, suc, _+_, _-_, _*_, _^_, _≤_, _<_, min}
-use native.Mathlib.Nat.{eq-or-lt-of-le, le-of-suc-le-suc, not-suc-le-zero}
+use native.Mathlib.Nat.{eq-or-lt-of-le, le-of-suc-le-suc, not-suc-le-zero, zero-add}
 use native.Mathlib.Decide.{decLt}
 use native.Mathlib.Omega.{arith}
-use lib.Dec.{T, leb}
+use lib.Dec.{T, leb, le→leb}
 use Rattle.aiger.specs.Bits.{bit}
 use Rattle.aiger.specs.Signature.{FirstDifference}
 use Rattle.aiger.specs.Circuit.{Circuit}
 use Rattle.aiger.specs.Frames.{freeBits}
-use Rattle.aiger.specs.Search.{reaches}
-use Rattle.aiger.proofs.Tests.{T-true}
+use Rattle.aiger.specs.Search.{Decision, question, onward, reaches}
+use Rattle.aiger.proofs.Tests.{T-true, and, and-right}
 use Rattle.words.proofs.Bits.{bit-none}
-use Rattle.enumeration.specs.Choice.{hit, clear, spent, leastBelow, decided, decision}
+use Rattle.enumeration.specs.Choice.{leastBelow, decided, decision, decisionAt}
 use Rattle.enumeration.specs.Blocks.{First}
 
 -- o is the least number below n that passes, if there is one
@@ -69,6 +69,35 @@ module _ (p : ℕ → Bool) (block hits r : ℕ) (none-yet : (y : ℕ) → y < 6
 
 -- ---- the decision
 
+-- what is first of all places is first of those from 0 on
+from-start : {p : ℕ → Bool} {n r : ℕ} → First p n r → First (onward 0 p) n r
+from-start {p} {n} {r} f =
+    record {
+      within = f .within;
+      before = λ x l t. f .before x l (and-right (leb 0 x) (p x) t);
+      here = λ l. and (leb 0 r) (p r) (le→leb 0 r (omega arith)) (f .here l);
+    }
+
+module _ (p : ℕ → Bool) (places lo D : ℕ) {r : ℕ} (f : First (onward lo p) (min places (lo + D)) r) where
+  abbrev total : ℕ
+  total = min places (lo + D)
+
+  -- what is found below the total is the first hit
+  first-hit : r < total → decision p places lo D ≡ Decision.hit r
+  unfolding decision
+  first-hit l =
+      ap (λ (o : Option ℕ). decided o (cond (leb places (lo + D)) Decision.clear Decision.spent))
+      (first-some f (leastBelow total (onward lo p)) (least (onward lo p) total) l)
+
+  -- where none is, the frame is clear if the budget covers it, and else the budget is spent
+  no-hit : r ≡ total → (q : Bool) → leb places (lo + D) ≡ q → decision p places lo D ≡ cond q Decision.clear Decision.spent
+  unfolding decision
+  no-hit l q e =
+      ap (λ (o : Option ℕ). decided o (cond (leb places (lo + D)) Decision.clear Decision.spent))
+      (first-none f (leastBelow total (onward lo p)) (least (onward lo p) total) l)
+      ∙ ap (λ (x : Bool). cond x Decision.clear Decision.spent) e
+
+-- from the first place on
 module _ (c : Circuit) (b t D : ℕ) {n total r : ℕ} (bits : n ≡ freeBits c t) (size : total ≡ min (2 ^ n) D) (f : First (reaches c b t) total r) where
   abbrev all : ℕ
   all = 2 ^ freeBits c t
@@ -76,29 +105,20 @@ module _ (c : Circuit) (b t D : ℕ) {n total r : ℕ} (bits : n ≡ freeBits c 
   all-is : 2 ^ n ≡ all
   all-is = ap (λ (k : ℕ). 2 ^ k) bits
 
-  total-is : total ≡ min all D
-  total-is = size ∙ ap (λ (k : ℕ). min k D) all-is
+  total-is : total ≡ min all (0 + D)
+  total-is = size ∙ ap₂ min all-is (sym (zero-add D))
 
-  found : First (reaches c b t) (min all D) r
-  found = subst (λ (k : ℕ). First (reaches c b t) k r) total-is f
+  found : First (onward 0 (reaches c b t)) (min all (0 + D)) r
+  found = from-start (subst (λ (k : ℕ). First (reaches c b t) k r) total-is f)
 
-  -- what is found below the total is the first hit
-  pub decision-hit : r < total → decision c b t D ≡ hit r
-  unfolding decision
-  decision-hit l =
-      ap (λ (o : Option ℕ). decided o (cond (leb all D) clear spent))
-      (first-some found (leastBelow (min all D) (reaches c b t)) (least (reaches c b t) (min all D)) (omega (arith, total-is)))
+  covered : leb (2 ^ n) D ≡ leb all (0 + D)
+  covered = ap₂ leb all-is (sym (zero-add D))
 
-  decision-rest : total ≤ r → (q : Bool) → leb (2 ^ n) D ≡ q → decision c b t D ≡ cond q clear spent
-  unfolding decision
-  decision-rest l q e =
-      ap (λ (o : Option ℕ). decided o (cond (leb all D) clear spent))
-      (first-none found (leastBelow (min all D) (reaches c b t)) (least (reaches c b t) (min all D)) (omega (arith, total-is, f .within)))
-      ∙ ap (λ (x : Bool). cond x clear spent) (ap (λ (k : ℕ). leb k D) (sym all-is) ∙ e)
+  pub decision-hit : r < total → decisionAt (question c b) t D ≡ Decision.hit r
+  decision-hit l = first-hit (reaches c b t) all 0 D found (omega (arith, total-is))
 
-  -- where none is, the frame is clear if the budget covers it, and else the budget is spent
-  pub decision-clear : total ≤ r → leb (2 ^ n) D ≡ true → decision c b t D ≡ clear
-  decision-clear l e = decision-rest l true e
+  pub decision-clear : total ≤ r → leb (2 ^ n) D ≡ true → decisionAt (question c b) t D ≡ Decision.clear
+  decision-clear l e = no-hit (reaches c b t) all 0 D found (omega (arith, total-is, f .within)) true (sym covered ∙ e)
 
-  pub decision-spent : total ≤ r → leb (2 ^ n) D ≡ false → decision c b t D ≡ spent
-  decision-spent l e = decision-rest l false e
+  pub decision-spent : total ≤ r → leb (2 ^ n) D ≡ false → decisionAt (question c b) t D ≡ Decision.spent
+  decision-spent l e = no-hit (reaches c b t) all 0 D found (omega (arith, total-is, f .within)) false (sym covered ∙ e)

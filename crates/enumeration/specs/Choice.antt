@@ -1,19 +1,11 @@
 -- What the search of one frame decides. Document 01 leaves it to the program whether it is spent or decides beyond its budget; here
--- it tries the first D sequences and no others. What holds of a decision, and all that the search knows of it, are the laws `hit-first`,
--- `clear-none` and `spent-first`. Assumes nothing.
+-- it tries the first D places from its starting place on and no others. What holds of a decision, and all that the search knows of it,
+-- are the laws `hit-first`, `clear-none` and `spent-first`. Assumes nothing.
 use mathlib.Core.Bool.{Bool, cond}
 use mathlib.Core.Option.{Option, none, some}
-use Prim.Native.Nat.{ℕ, zero, suc, _^_, min}
+use Prim.Native.Nat.{ℕ, zero, suc, _+_, min}
 use lib.Dec.{leb}
-use Rattle.aiger.specs.Circuit.{Circuit}
-use Rattle.aiger.specs.Frames.{freeBits}
-use Rattle.aiger.specs.Search.{reaches}
-
--- the first hit, by its sequence; no hit; or more than D sequences, of which the first D do not hit
-pub data Decision : Type 0 where
-  hit : ℕ → Decision
-  clear : Decision
-  spent : Decision
+use Rattle.aiger.specs.Search.{Question, Decision, onward}
 
 -- the least number below n that passes
 unfoldable pub leastBelow : ℕ → (ℕ → Bool) → Option ℕ
@@ -21,8 +13,13 @@ leastBelow zero p = none
 leastBelow (suc n) p = elim (leastBelow n p) [ some x ↦ some x | none ↦ cond (p n) (some n) none ]
 
 abbrev pub decided : Option ℕ → Decision → Decision
-decided (some x) d = hit x
+decided (some x) d = Decision.hit x
 decided none d = d
 
-unfoldable pub decision : Circuit → ℕ → ℕ → ℕ → Decision
-decision c b t D = decided (leastBelow (min (2 ^ freeBits c t) D) (reaches c b t)) (cond (leb (2 ^ freeBits c t) D) clear spent)
+-- what is decided of the places from lo on, where p says which places hit, there are `places` in all and the budget is D
+unfoldable pub decision : (ℕ → Bool) → ℕ → ℕ → ℕ → Decision
+decision p places lo D = decided (leastBelow (min places (lo + D)) (onward lo p)) (cond (leb places (lo + D)) Decision.clear Decision.spent)
+
+-- what is decided of frame t, from its first place on
+abbrev pub decisionAt : Question → ℕ → ℕ → Decision
+decisionAt q t D = decision (q .hitting t) (q .places t) 0 D

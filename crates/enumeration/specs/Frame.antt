@@ -6,7 +6,8 @@ use lib.ListN.{getD}
 use Rattle.aiger.specs.Bits.{nonzero}
 use Rattle.aiger.specs.Circuit.{Circuit}
 use Rattle.aiger.specs.Frames.{freeBits, freeBit}
-use Rattle.enumeration.specs.Choice.{hit, clear, spent, decision}
+use Rattle.aiger.specs.Search.{Decision, question}
+use Rattle.enumeration.specs.Choice.{decisionAt}
 use Rattle.enumeration.specs.declared.Frame.{Frame}
 use Rattle.enumeration.specs.declared.Frame.the-variants.{Hit, Clear, Spent}
 
@@ -16,6 +17,6 @@ FreeBits n x words = (j : ℕ) → j < n → nonzero (getD words j 0) ≡ freeBi
 
 -- after a hit, working memory begins with the free bits of the first one
 abbrev pub FrameIs : Circuit → ℕ → ℕ → ℕ → List ℕ → Frame → Type 0
-FrameIs c b t D work Hit = (x : ℕ) × (decision c b t D ≡ hit x) × FreeBits (freeBits c t) x work
-FrameIs c b t D work Clear = decision c b t D ≡ clear
-FrameIs c b t D work Spent = decision c b t D ≡ spent
+FrameIs c b t D work Hit = (x : ℕ) × (decisionAt (question c b) t D ≡ Decision.hit x) × FreeBits (freeBits c t) x work
+FrameIs c b t D work Clear = decisionAt (question c b) t D ≡ Decision.clear
+FrameIs c b t D work Spent = decisionAt (question c b) t D ≡ Decision.spent

@@ -12,7 +12,7 @@ use Rattle.aiger.specs.Text.{bytes, digits}
 use Rattle.aiger.specs.Circuit.{Circuit}
 use Rattle.aiger.specs.Load.{refused, gives}
 use Rattle.aiger.specs.Frames.{run}
-use Rattle.aiger.specs.Search.{Outcome, permitted}
+use Rattle.aiger.specs.Search.{question, Outcome, permitted}
 use Rattle.aiger.specs.Witness.{witness, witnessLength}
 use Rattle.aiger.specs.Memory.{Holds}
 use Rattle.aiger.specs.Operations.{Said, saidOf, shown, front, Searched, searchTests}
@@ -51,7 +51,7 @@ module _ (c : Circuit) (b k D room : ℕ) (out : List ℕ) where
       → (b < length (c .bads)) × (t ≤ 255)
   found-frame e (Outcome.found u x) p t q =
       let r = passed c b k D room (length out) e in
-      let f = found-out c b k D u x p in
+      let f = found-out (question c b) k D u x p in
       let z : u ≡ t = cc in
       (r .bad, omega (arith, r .bound, f .within))
   found-frame e (Outcome.none j) p t q = let z : _≡_ {A = ℕ} 0 1 = cc in absurd (omega arith)
@@ -95,7 +95,7 @@ module _ (c : Circuit) (q : Query) (room : ℕ) (out line : List ℕ) (l w : ℕ
   answered e (Outcome.found t x) i p s z =
       let W = witness (q .b) (run c t x) in
       let n : length W ≡ witnessLength c (q .b) t = run-length c (q .b) t x in
-      let f = found-out c (q .b) (q .k) (q .d) t x p in
+      let f = found-out (question c (q .b)) (q .k) (q .d) t x p in
       let r = passed c (q .b) (q .k) (q .d) room (length out) e in
       let h : length W ≤ length out = omega (arith, r .output, length-within c (q .b) t (q .k) (f .within)) in
       let text : take l line ++ take w (front W out) ≡ bytes "found " ++ digits t ++ bytes "\n" ++ W =

@@ -2,9 +2,11 @@ pub mod Lists
 pub mod Defined
 pub mod Cycles
 pub mod Values
+pub mod Decisions
 pub mod Outcomes
 pub mod Bits
 pub mod Sequences
+pub mod Prefixes
 pub mod Shape
 pub mod Leaves
 pub mod Embedding

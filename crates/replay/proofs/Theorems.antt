@@ -13,7 +13,7 @@ use lib.ListN.{length, getD}
 use Rattle.aiger.specs.Circuit.{Circuit}
 use Rattle.aiger.specs.Load.{Answer, gives, read, _>>=_}
 use Rattle.aiger.specs.Frames.{Run, freeBits, run, hits, allowed, valueAt}
-use Rattle.aiger.specs.Search.{Outcome, reaches, permitted}
+use Rattle.aiger.specs.Search.{question, Outcome, reaches, reachesIn, permitted}
 use Rattle.aiger.specs.Witness.{Witness, witness, readWitness, agrees, confirms}
 use Rattle.aiger.specs.Memory.{Holds}
 use Rattle.aiger.specs.Operations.{Replayed, noCircuit, says}
@@ -60,14 +60,14 @@ module _ {m : List ℕ} (c : Circuit) (h : Holds m c) where
 
   -- the run of a sequence that hits is confirmed
   confirms-run : (b t x : ℕ) → T (reaches c b t x) → confirms c (record { bad = b; run = run c t x }) ≡ true
-  unfolding confirms reaches
+  unfolding confirms reaches reachesIn run
   confirms-run b t x p =
       let e : t + 1 - 1 ≡ t = omega arith in
       let n : length (run c t x .rows) - 1 ≡ t = ap (λ (k : ℕ). k - 1) (run-shaped c t x .frames) ∙ e in
       rw (true-T (agrees (c .latches) (run c t x .start)) (run-agrees c t x (T-true (held-valid h .literals))), n, true-T (hits c b (run c t x) t) p)
 
   reach-hit : (b t x : ℕ) → T (reaches c b t x) → T (hits c b (run c t x) t)
-  unfolding reaches
+  unfolding reaches reachesIn run
   reach-hit b t x p = p
 
   -- replay says yes to the witness of every sequence of at most 256 frames that hits; b is then below B
@@ -80,7 +80,7 @@ module _ {m : List ℕ} (c : Circuit) (h : Holds m c) where
   -- so to every witness that a search shows
   pub shown-yes : {a : Answer Bool} (b k D t x : ℕ) → T (permitted c b k D (Outcome.found t x)) → t ≤ 255 → Replayed m (witness b (run c t x)) a
       → a ≡ gives true
-  shown-yes b k D t x p l r = hit-yes b t x l (found-out c b k D t x p .hit) r
+  shown-yes b k D t x p l r = hit-yes b t x l (found-out (question c b) k D t x p .first .hit) r
 
 -- ---- yes only to a hit
 
@@ -99,7 +99,7 @@ pub record Hit (c : Circuit) (text : List ℕ) : Type 0 where
 module _ (c : Circuit) (text : List ℕ) where
   -- a witness that is confirmed is one of a sequence that hits
   confirmed-hit : (w : Witness) → length (c .bads) ≤ 16 → readWitness c text ≡ some w → confirms c w ≡ true → Hit c text
-  unfolding confirms reaches
+  unfolding confirms reaches reachesIn run
   confirmed-hit w n e k =
       let s = read-shaped c text e in
       let t = s .frame in
@@ -137,4 +137,4 @@ module _ (c : Circuit) (text : List ℕ) where
 
   -- and no search for it up to that frame or further may answer none
   pub hit-not-none : (y : Hit c text) (k D j : ℕ) → y .frame ≤ k → T (permitted c (y .bad) k D (Outcome.none j)) → ⊥
-  hit-not-none y k D j l p = none-out c (y .bad) k D j p .quiet (y .frame) (omega arith) (y .sequence) (y .fits) (y .reached)
+  hit-not-none y k D j l p = none-out (question c (y .bad)) k D j p .quiet (y .frame) (omega arith) (y .sequence) (omega arith) (y .fits) (y .reached)

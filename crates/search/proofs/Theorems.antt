@@ -6,7 +6,7 @@ use native.Mathlib.Omega.{arith}
 use lib.Dec.{T}
 use lib.ListN.{length}
 use Rattle.aiger.specs.Circuit.{Circuit}
-use Rattle.aiger.specs.Search.{Outcome, permitted}
+use Rattle.aiger.specs.Search.{question, Outcome, permitted}
 use Rattle.aiger.specs.Frames.{run}
 use Rattle.aiger.specs.Witness.{witness}
 use Rattle.aiger.specs.Memory.{Holds}
@@ -62,37 +62,37 @@ result {out = out} {c = c} {b = b} {k = k} {D = D} h (Searched.answers d g t p) 
 
 -- spent is said only where the frame has more than D sequences, none of the first D hits, and no earlier frame has a hit
 pub spent-only : {m w out w′ out′ : List ℕ} {c : Circuit} {b k D t : ℕ} → Holds m c → Searched chosen m b k D w out (Said.spent t) w′ out′
-    → Spent c b k D t
+    → Spent (question c b) k D t
 spent-only {c = c} {b = b} {k = k} {D = D} {t = t} h s = let r = result h s tt in go (r .outcome) (r .says) (r .allowed)
   where
-    go : (o : Outcome) → Said.spent t ≡ saidOf o → T (permitted c b k D o) → Spent c b k D t
+    go : (o : Outcome) → Said.spent t ≡ saidOf o → T (permitted c b k D o) → Spent (question c b) k D t
     go (Outcome.found u x) e p = let z : _≡_ {A = ℕ} 0 1 = cc in absurd (omega arith)
     go (Outcome.none j) e p = let z : _≡_ {A = ℕ} 0 1 = cc in absurd (omega arith)
-    go (Outcome.spent u) e p = let q : u ≡ t = cc in subst (Spent c b k D) q (spent-out c b k D u p)
+    go (Outcome.spent u) e p = let q : u ≡ t = cc in subst (Spent (question c b) k D) q (spent-out (question c b) k D u p)
 
 -- found is said only where the frame is the first with a hit, and the output shows the first hit in counting order
 pub found-only : {m w out w′ out′ : List ℕ} {c : Circuit} {b k D t : ℕ} → Holds m c → Searched chosen m b k D w out (Said.found t) w′ out′
-    → (x : ℕ) × Found c b k t x × (out′ ≡ front (witness b (run c t x)) out)
+    → (x : ℕ) × Found (question c b) k t x × (out′ ≡ front (witness b (run c t x)) out)
 found-only {out = out} {out′ = out′} {c = c} {b = b} {k = k} {D = D} {t = t} h s =
     let r = result h s tt in
     go (r .outcome) (r .says) (r .allowed) (r .shows)
   where
     go : (o : Outcome) → Said.found t ≡ saidOf o → T (permitted c b k D o) → out′ ≡ shown c b o out
-        → (x : ℕ) × Found c b k t x × (out′ ≡ front (witness b (run c t x)) out)
+        → (x : ℕ) × Found (question c b) k t x × (out′ ≡ front (witness b (run c t x)) out)
     go (Outcome.found u x) e p q =
         let z : u ≡ t = cc in
-        (x, subst (λ (v : ℕ). Found c b k v x) z (found-out c b k D u x p), q ∙ ap (λ (v : ℕ). front (witness b (run c v x)) out) z)
+        (x, subst (λ (v : ℕ). Found (question c b) k v x) z (found-out (question c b) k D u x p), q ∙ ap (λ (v : ℕ). front (witness b (run c v x)) out) z)
     go (Outcome.none j) e p q = let z : _≡_ {A = ℕ} 0 1 = cc in absurd (omega arith)
     go (Outcome.spent u) e p q = let z : _≡_ {A = ℕ} 0 1 = cc in absurd (omega arith)
 
 -- none is said only of the bound, where no frame up to it has a hit
 pub none-only : {m w out w′ out′ : List ℕ} {c : Circuit} {b k D j : ℕ} → Holds m c → Searched chosen m b k D w out (Said.none j) w′ out′
-    → None c b k j
+    → None (question c b) k j
 none-only {c = c} {b = b} {k = k} {D = D} {j = j} h s = let r = result h s tt in go (r .outcome) (r .says) (r .allowed)
   where
-    go : (o : Outcome) → Said.none j ≡ saidOf o → T (permitted c b k D o) → None c b k j
+    go : (o : Outcome) → Said.none j ≡ saidOf o → T (permitted c b k D o) → None (question c b) k j
     go (Outcome.found u x) e p = let z : _≡_ {A = ℕ} 0 1 = cc in absurd (omega arith)
-    go (Outcome.none i) e p = let z : i ≡ j = cc in subst (None c b k) z (none-out c b k D i p)
+    go (Outcome.none i) e p = let z : i ≡ j = cc in subst (None (question c b) k) z (none-out (question c b) k D i p)
     go (Outcome.spent u) e p = let z : _≡_ {A = ℕ} 0 1 = cc in absurd (omega arith)
 
 decided : (o : Outcome) {s : Said} → s ≡ saidOf o → Unspent s → Decided o
@@ -115,7 +115,7 @@ determined {out′ = out′} {c = c} {b = b} {k = k} {D = D} {D′ = D′} {s = 
     let r = result h f (answers s u) in
     let q = result h′ g (answers s′ u′) in
     let e : r .outcome ≡ q .outcome =
-    answer-same c b k D D′ (r .outcome) (q .outcome) (decided (r .outcome) (r .says) u) (decided (q .outcome) (q .says) u′) (r .allowed) (q .allowed) in (
+    answer-same (question c b) k D D′ (r .outcome) (q .outcome) (decided (r .outcome) (r .says) u) (decided (q .outcome) (q .says) u′) (r .allowed) (q .allowed) in (
       r .says ∙ ap saidOf e ∙ sym (q .says),
       (r .outcome, r .shows, q .shows ∙ sym (ap (λ (o : Outcome). shown c b o out′) e)),
     )

@@ -1,25 +1,25 @@
 -- What the search chooses where several outcomes are permitted, and what its answers mean. Assumes nothing.
 use Prim.Native.Nat.{ℕ, zero, suc, _+_}
 use Rattle.aiger.specs.Circuit.{Circuit}
-use Rattle.aiger.specs.Search.{Outcome, found, none, spent}
+use Rattle.aiger.specs.Search.{Question, question, Decision, Outcome}
 use Rattle.aiger.specs.Operations as op
-use Rattle.enumeration.specs.Choice.{Decision, decision}
+use Rattle.enumeration.specs.Choice.{decisionAt}
 use Rattle.search.specs.declared.SearchAnswer.{SearchAnswer}
 use Rattle.search.specs.declared.SearchAnswer.the-variants.{Found, Nothing, Spent, Refused}
 
 -- after the decision on frame t: the outcome, or what the later frames give
 abbrev pub outcomeOf : Decision → ℕ → Outcome → Outcome
-outcomeOf (Decision.hit x) t later = found t x
+outcomeOf (Decision.hit x) t later = Outcome.found t x
 outcomeOf Decision.clear t later = later
-outcomeOf Decision.spent t later = spent t
+outcomeOf Decision.spent t later = Outcome.spent t
 
 -- n frames from t on, of a search up to bound k
-unfoldable pub chosenFrom : Circuit → ℕ → ℕ → ℕ → ℕ → ℕ → Outcome
-chosenFrom c b k D t zero = none k
-chosenFrom c b k D t (suc n) = outcomeOf (decision c b t D) t (chosenFrom c b k D (suc t) n)
+unfoldable pub chosenFrom : Question → ℕ → ℕ → ℕ → ℕ → Outcome
+chosenFrom q k D t zero = Outcome.none k
+chosenFrom q k D t (suc n) = outcomeOf (decisionAt q t D) t (chosenFrom q k D (suc t) n)
 
 unfoldable pub chosen : Circuit → ℕ → ℕ → ℕ → Outcome
-chosen c b k D = chosenFrom c b k D 0 (k + 1)
+chosen c b k D = chosenFrom (question c b) k D 0 (k + 1)
 
 -- document 01's answer for each case of the enum
 abbrev pub said : SearchAnswer → op.Said

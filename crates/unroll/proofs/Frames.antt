@@ -9,7 +9,7 @@ use lib.Dec.{eqb}
 use lib.ListN.{length, getD}
 use Rattle.aiger.specs.Circuit.{Circuit, Latch, var}
 use Rattle.aiger.specs.Frames.{value, isFree, freeBit, freeBits, freeStarts, run, state}
-use Rattle.aiger.specs.Search.{reaches}
+use Rattle.aiger.specs.Search.{reaches, reachesIn}
 use Rattle.layout.specs.Words.{word, circuitIn}
 use Rattle.layout.specs.declared.Layout.{Layout}
 use Rattle.meaning.proofs.Defined.{inputAt, latchAt, input-latch, next-known}
@@ -190,7 +190,7 @@ module _ {m : List ℕ} {layout : Layout} {order : List ℕ} {count : ℕ} (r : 
   pub reached : (b t n : ℕ) (work : List ℕ) (g : Graph) (map last : List ℕ) (made : Made) → Valued (circuitIn m) t t n work g map
       → HitMapped (circuitIn m) b n work g map last made → (x : ℕ) → x < 2 ^ n
       → edgeValue n (pairsOf last (made .graph)) (freeBit n x) (edgeWord (made .edge)) ≡ reaches (circuitIn m) b t x
-  unfolding reaches
+  unfolding reaches reachesIn run
   reached b t n work g map last made v w x l =
       w .hit x l ∙ hit-of-run (right (r .held)) (known (r .held)) (no-cycle (r .held)) (run (circuitIn m) t x) t (v x l) b
 
