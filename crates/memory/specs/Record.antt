@@ -47,9 +47,9 @@ head w words c f = getD w (headPlace words c f) 0
 abbrev pub headed : List ℕ → ℕ → ℕ → ℕ → ℕ → List ℕ
 headed w words c f x = set w (headPlace words c f) x
 
--- Literals of clauses stand after the records
-abbrev pub literal : List ℕ → ℕ → ℕ → ℕ
-literal w nodes p = getD w (14 * nodes + p) 0
+-- Literals of clauses stand after the records: the one i words after place p
+abbrev pub literal : List ℕ → ℕ → ℕ → ℕ → ℕ
+literal w nodes p i = getD w (14 * nodes + p + i) 0
 
-abbrev pub written : List ℕ → ℕ → ℕ → ℕ → List ℕ
-written w nodes p x = set w (14 * nodes + p) x
+abbrev pub written : List ℕ → ℕ → ℕ → ℕ → ℕ → List ℕ
+written w nodes p i x = set w (14 * nodes + p + i) x

@@ -135,16 +135,16 @@ pub fn set_head(work: &mut [u32], words: u32, c: u32, f: u8, x: u32)
     put(work, head_place(words, c, f), x);
 }
 
-// The literal at place p, counted from the first word after the records of so many nodes.
-pub fn literal(work: &[u32], nodes: u32, p: u32) -> u32
-    ensures { λ r. ⌜ r ≡ R.literal (now (work .entry)) nodes p ⌝ }
+// The literal i words after place p, which is counted from the first word after the records of so many nodes.
+pub fn literal(work: &[u32], nodes: u32, p: u32, i: u32) -> u32
+    ensures { λ r. ⌜ r ≡ R.literal (now (work .entry)) nodes p i ⌝ }
 {
-    get(work, 14 * (nodes as usize) + (p as usize))
+    get(work, 14 * (nodes as usize) + (p as usize) + (i as usize))
 }
 
-// Stores x as the literal at place p.
-pub fn set_literal(work: &mut [u32], nodes: u32, p: u32, x: u32)
-    ensures { λ r. ⌜ now (work .exit) ≡ R.written (now (work .entry)) nodes p x ⌝ }
+// Stores x as the literal i words after place p.
+pub fn set_literal(work: &mut [u32], nodes: u32, p: u32, i: u32, x: u32)
+    ensures { λ r. ⌜ now (work .exit) ≡ R.written (now (work .entry)) nodes p i x ⌝ }
 {
-    put(work, 14 * (nodes as usize) + (p as usize), x);
+    put(work, 14 * (nodes as usize) + (p as usize) + (i as usize), x);
 }

@@ -1,0 +1,3 @@
+-- The laws of clauses and of the floor. Assumes nothing.
+pub mod Resolution
+pub mod Raise

@@ -1,0 +1,2 @@
+-- The laws of `reasons`. Assumes nothing.
+pub mod Valid

@@ -1,0 +1,46 @@
+-- `reasons::above_literal` meets its contract. Assumes nothing.
+use borrow.Author.Tests.{eq-eqb, ne-eqb}
+use Rattle.reasons.specs.Reason as R
+use borrow.Author.Needs.{needs}
+use Rattle.reasons.proofs.above_literal.Statement.{statement}
+use Rattle.reasons.proofs.above_literal.Tie as tie
+
+mul-result : tie.Need-mul-result
+mul-result c = search needs
+
+returns : tie.Need-returns
+unfolding R.aboveLiteral
+returns c = rw (eq-eqb _ _ (c .if1 .taken)) (cc)
+
+field-requires : tie.Need-field-requires
+field-requires c κs = search needs
+
+opposite-requires : tie.Need-opposite-requires
+opposite-requires c κs = search needs
+
+returns-2 : tie.Need-returns-2
+unfolding R.aboveLiteral
+returns-2 c = rw (ne-eqb _ _ (c .before .before .before .if1 .left), eq-eqb _ _ (c .before .before .if2 .taken)) (cc)
+
+field-requires-2 : tie.Need-field-requires-2
+field-requires-2 c κs = search needs
+
+opposite-requires-2 : tie.Need-opposite-requires-2
+opposite-requires-2 c κs = search needs
+
+returns-3 : tie.Need-returns-3
+unfolding R.aboveLiteral
+returns-3 c = rw (ne-eqb _ _ (c .before .before .before .if1 .left), ne-eqb _ _ (c .before .before .if2 .left)) (cc)
+
+pub above-literal-spec : {M : Type 1} → statement M
+above-literal-spec =
+    tie.close
+    (tie.spec
+    mul-result
+    returns
+    field-requires
+    opposite-requires
+    returns-2
+    field-requires-2
+    opposite-requires-2
+    returns-3)

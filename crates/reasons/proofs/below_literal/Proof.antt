@@ -1,0 +1,26 @@
+-- `reasons::below_literal` meets its contract. Assumes nothing.
+use borrow.Author.Tests.{eq-eqb, ne-eqb}
+use Rattle.reasons.specs.Reason as R
+use borrow.Author.Needs.{needs}
+use Rattle.reasons.proofs.below_literal.Statement.{statement}
+use Rattle.reasons.proofs.below_literal.Tie as tie
+
+mul-result : tie.Need-mul-result
+mul-result c = search needs
+
+add-result : tie.Need-add-result
+add-result c = search needs
+
+returns : tie.Need-returns
+unfolding R.belowLiteral
+returns c = rw (eq-eqb _ _ (c .if1 .taken)) (cc)
+
+field-requires : tie.Need-field-requires
+field-requires c κs = search needs
+
+returns-2 : tie.Need-returns-2
+unfolding R.belowLiteral
+returns-2 c = rw (ne-eqb _ _ (c .before .if1 .left)) (cc)
+
+pub below-literal-spec : {M : Type 1} → statement M
+below-literal-spec = tie.close (tie.spec mul-result add-result returns field-requires returns-2)

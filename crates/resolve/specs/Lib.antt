@@ -1,0 +1,2 @@
+-- What the contracts of `resolve` cite. Assumes nothing.
+pub mod Draft
