@@ -45,8 +45,8 @@ module _ (n : ℕ) (b : ℕ → ℕ) (digits : (v : ℕ) → b v < 2) where
   shared-bit x (suc v) u l e h =
       elim (ℕ-discrete u v) [
         | yes z ↦
-          let s : u + 1 ≡ suc v = omega arith in
-          subst (λ (k : ℕ). x / 2 ^ (n - k) % 2 ≡ b k) (sym s) (ap (λ (y : ℕ). y % 2) (sym e) ∙ prefix-mod b v (digits (suc v)))
+            let s : u + 1 ≡ suc v = omega arith in
+            subst (λ (k : ℕ). x / 2 ^ (n - k) % 2 ≡ b k) (sym s) (ap (λ (y : ℕ). y % 2) (sym e) ∙ prefix-mod b v (digits (suc v)))
         | no z ↦ shared-bit x v u (omega arith) (sym (prefix-half b v (digits (suc v))) ∙ ap (λ (y : ℕ). y / 2) e ∙ sym (shorter n x v l)) (omega arith)
       ]
 

@@ -1,2 +1,3 @@
 -- The laws of `reasons`. Assumes nothing.
 pub mod Valid
+pub mod Frame

@@ -44,6 +44,40 @@ module _ {hit : (ℕ → Bool) → Type 0} {net : Netlist} {arena : Arena} {w u 
       ap (λ (k : ℕ). getD u (14 * net .nodes + k + i) 0) (same .head c 0 h (omega arith))
       ∙ ap (λ (k : ℕ). getD u k 0) e ∙ same .clause (p + i) (omega (arith, sound .inside c h)) ∙ ap (λ (k : ℕ). getD w k 0) (sym e)
 
+  below-same : (g k i : ℕ) → k < 3 → belowLiteral u (net .nodes) g k i ≡ belowLiteral w (net .nodes) g k i
+  unfolding belowLiteral
+  below-same g k i l = ap (cond (eqb i 0) (2 * g + 1)) (same .node g k l)
+
+  above-same : (g i : ℕ) → aboveLiteral u (net .nodes) g i ≡ aboveLiteral w (net .nodes) g i
+  unfolding aboveLiteral
+  above-same g i =
+      ap₂ (λ (x y : ℕ). cond (eqb i 0) (2 * g) (cond (eqb i 1) (opposite x) (opposite y))) (same .node g 0 (omega arith)) (same .node g 1 (omega arith))
+
+  -- a reason has the same literals
+  pub reason-length : (r : ℕ) → T (isReason net arena r) → lengthOf u net r ≡ lengthOf w net r
+  unfolding isReason lengthOf
+  reason-length r = go (eqb (r % 4) 3)
+    where
+      go : (b : Bool) → T (cond b (ltb (r / 4) (arena .count)) (ltb (r / 4) (net .nodes)))
+          → cond b (keptLength u net (r / 4)) (cond (eqb (r % 4) 2) 3 2) ≡ cond b (keptLength w net (r / 4)) (cond (eqb (r % 4) 2) 3 2)
+      go true t = length-same (r / 4) (ltb→lt (r / 4) (arena .count) t)
+      go false t = refl
+
+  pub reason-literal : (r i : ℕ) → T (isReason net arena r) → i < lengthOf w net r → literalOf u net r i ≡ literalOf w net r i
+  unfolding isReason lengthOf literalOf
+  reason-literal r i = go (eqb (r % 4) 3) (eqb (r % 4) 2) refl refl
+    where
+      go : (b d : Bool) → eqb (r % 4) 3 ≡ b → eqb (r % 4) 2 ≡ d → T (cond b (ltb (r / 4) (arena .count)) (ltb (r / 4) (net .nodes)))
+          → i < cond b (keptLength w net (r / 4)) (cond d 3 2)
+          → cond b (keptLiteral u net (r / 4) i) (cond d (aboveLiteral u (net .nodes) (r / 4) i) (belowLiteral u (net .nodes) (r / 4) (r % 4) i))
+          ≡ cond b (keptLiteral w net (r / 4) i) (cond d (aboveLiteral w (net .nodes) (r / 4) i) (belowLiteral w (net .nodes) (r / 4) (r % 4) i))
+      go true d e f t l = literal-same (r / 4) i (ltb→lt (r / 4) (arena .count) t) l
+      go false true e f t l = above-same (r / 4) i
+      go false false e f t l = let p = eqb-false (r % 4) 3 e in let q = eqb-false (r % 4) 2 f in below-same (r / 4) (r % 4) i (small p q)
+        where
+          small : (r % 4 ≡ 3 → ⊥) → (r % 4 ≡ 2 → ⊥) → r % 4 < 3
+          small p q = omega arith
+
   pub sound-same : Sound hit net arena u
   sound-same =
       record {

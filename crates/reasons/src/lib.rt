@@ -23,7 +23,11 @@ pub fn is_false(work: &[u32], nodes: u32, l: u32) -> bool
 pub fn is_reason(net: Netlist, arena: Arena, r: u32) -> bool
     ensures { λ b. ⌜ b ≡ R.isReason net arena r ⌝ }
 {
-    if r % 4 == 3 { r / 4 < arena.count } else { r / 4 < net.nodes }
+    if r % 4 == 3 {
+        r / 4 < arena.count
+    } else {
+        r / 4 < net.nodes
+    }
 }
 
 // How many literals reason r has.

@@ -31,13 +31,22 @@ pub fn is_member(work: &[u32], net: Netlist, arena: Arena, d: Draft, l: u32) -> 
 fn append(work: &mut [u32], net: Netlist, arena: Arena, d: Draft, l: u32) -> Draft
     ensures { λ r. ⌜ D.Left (now (work .exit)) r (D.appended (now (work .entry)) net arena d l) ⌝ }
 {
-    let taken = 14 * (net.nodes as usize) + (arena.used as usize) + 6 * (arena.count as usize) + (d.length as usize);
+    let taken = 14 * (net.nodes as usize)
+        + (arena.used as usize)
+        + 6 * (arena.count as usize)
+        + (d.length as usize);
     if (net.words as usize) <= taken {
-        return Draft { length: d.length, whole: false };
+        return Draft {
+            length: d.length,
+            whole: false,
+        };
     }
     set_literal(work, net.nodes, arena.used, d.length, l);
     set_field(work, net.nodes, l / 2, POS, d.length);
-    Draft { length: d.length + 1, whole: d.whole }
+    Draft {
+        length: d.length + 1,
+        whole: d.whole,
+    }
 }
 
 // Adds literal l, unless it is there or is false in every hit.
@@ -59,15 +68,24 @@ fn exclude(work: &mut [u32], net: Netlist, arena: Arena, d: Draft, l: u32) -> Dr
 {
     let p = field(work, net.nodes, l / 2, POS);
     if d.length <= p {
-        return Draft { length: d.length, whole: false };
+        return Draft {
+            length: d.length,
+            whole: false,
+        };
     }
     if literal(work, net.nodes, arena.used, p) != l {
-        return Draft { length: d.length, whole: false };
+        return Draft {
+            length: d.length,
+            whole: false,
+        };
     }
     let x = literal(work, net.nodes, arena.used, d.length - 1);
     set_literal(work, net.nodes, arena.used, p, x);
     set_field(work, net.nodes, x / 2, POS, p);
-    Draft { length: d.length - 1, whole: d.whole }
+    Draft {
+        length: d.length - 1,
+        whole: d.whole,
+    }
 }
 
 // Adds literal l unless it is x.
@@ -98,19 +116,35 @@ fn gather(work: &mut [u32], net: Netlist, arena: Arena, d: Draft, r: u32, x: u32
 pub fn start(work: &mut [u32], net: Netlist, arena: Arena, r: u32) -> Draft
     ensures { λ e. ⌜ D.Left (now (work .exit)) e (D.started (now (work .entry)) net arena r) ⌝ }
 {
-    if !is_reason(net, arena, r) {
-        return Draft { length: 0, whole: false };
+    if is_reason(net, arena, r) {
+        return gather(
+            work,
+            net,
+            arena,
+            Draft {
+                length: 0,
+                whole: true,
+            },
+            r,
+            0,
+        );
     }
-    gather(work, net, arena, Draft { length: 0, whole: true }, r, 0)
+    Draft {
+        length: 0,
+        whole: false,
+    }
 }
 
 // Resolves the working clause with reason r on literal x, whose complement it has.
 pub fn resolve(work: &mut [u32], net: Netlist, arena: Arena, d: Draft, r: u32, x: u32) -> Draft
     ensures { λ e. ⌜ D.Left (now (work .exit)) e (D.resolved (now (work .entry)) net arena d r x) ⌝ }
 {
-    if !is_reason(net, arena, r) {
-        return Draft { length: d.length, whole: false };
+    if is_reason(net, arena, r) {
+        let e = exclude(work, net, arena, d, opposite(x));
+        return gather(work, net, arena, e, r, x);
     }
-    let e = exclude(work, net, arena, d, opposite(x));
-    gather(work, net, arena, e, r, x)
+    Draft {
+        length: d.length,
+        whole: false,
+    }
 }

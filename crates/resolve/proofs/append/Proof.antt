@@ -1,10 +1,9 @@
+-- `resolve::append` meets its contract. Assumes nothing.
+use borrow.Author.Tests.{le-leb, lt-leb}
+use Rattle.resolve.specs.Draft as D
 use borrow.Author.Needs.{needs}
 use Rattle.resolve.proofs.append.Statement.{statement}
 use Rattle.resolve.proofs.append.Tie as tie
-use Rattle.resolve.proofs.append.Reads as reads
-use Rattle.resolve.proofs.append.Lts as lts
-use Rattle.memory.proofs.set_field.Reads as set-field-reads
-use Rattle.memory.proofs.set_literal.Reads as set-literal-reads
 
 cast-taken : tie.Need-cast-taken
 cast-taken c = search needs
@@ -37,7 +36,8 @@ cast-if1 : tie.Need-cast-if1
 cast-if1 c = search needs
 
 returns : tie.Need-returns
-returns c = ?
+unfolding D.appended
+returns c = rw (le-leb _ _ (c .if1 .taken)) (record { words = cc; draft = cc })
 
 set-literal-requires : tie.Need-set-literal-requires
 set-literal-requires c κs = search needs
@@ -52,7 +52,8 @@ same-length : tie.Need-same-length
 same-length c = search needs
 
 returns-2 : tie.Need-returns-2
-returns-2 c = ?
+unfolding D.appended
+returns-2 c = rw (lt-leb _ _ (c .before .before .before .before .before .before .before .before .before .if1 .left)) (record { words = cc; draft = cc })
 
 pub append-spec : {M : Type 1} → statement M
 append-spec =

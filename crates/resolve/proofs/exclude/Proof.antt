@@ -1,12 +1,9 @@
+-- `resolve::exclude` meets its contract. Assumes nothing.
+use borrow.Author.Tests.{eq-eqb, le-leb, lt-leb, ne-eqb}
+use Rattle.resolve.specs.Draft as D
 use borrow.Author.Needs.{needs}
 use Rattle.resolve.proofs.exclude.Statement.{statement}
 use Rattle.resolve.proofs.exclude.Tie as tie
-use Rattle.resolve.proofs.exclude.Reads as reads
-use Rattle.resolve.proofs.exclude.Lts as lts
-use Rattle.memory.proofs.field.Reads as field-reads
-use Rattle.memory.proofs.literal.Reads as literal-reads
-use Rattle.memory.proofs.set_field.Reads as set-field-reads
-use Rattle.memory.proofs.set_literal.Reads as set-literal-reads
 
 field-requires : tie.Need-field-requires
 field-requires c κs = search needs
@@ -15,7 +12,8 @@ same-length : tie.Need-same-length
 same-length c = search needs
 
 returns : tie.Need-returns
-returns c = ?
+unfolding D.excluded D.removed
+returns c = rw (← c .before .before .field .ensures, le-leb _ _ (c .if1 .taken)) (record { words = cc; draft = cc })
 
 literal-requires : tie.Need-literal-requires
 literal-requires c κs = search needs
@@ -24,7 +22,8 @@ same-length-2 : tie.Need-same-length-2
 same-length-2 c = search needs
 
 returns-2 : tie.Need-returns-2
-returns-2 c = ?
+unfolding D.excluded D.removed
+returns-2 c = rw (← c .before .before .before .before .before .field .ensures, ← c .before .literal .ensures, lt-leb _ _ (c .before .before .before .if1 .left), ne-eqb _ _ (c .if2 .taken)) (record { words = cc; draft = cc })
 
 sub-literal : tie.Need-sub-literal
 sub-literal c = search needs
@@ -45,7 +44,8 @@ same-length-3 : tie.Need-same-length-3
 same-length-3 c = search needs
 
 returns-3 : tie.Need-returns-3
-returns-3 c = ?
+unfolding D.excluded D.removed
+returns-3 c = rw (← c .before .before .before .before .before .before .before .before .before .before .before .before .before .before .before .before .before .field .ensures, ← c .before .before .before .before .before .before .before .before .before .before .before .before .before .literal .ensures, lt-leb _ _ (c .before .before .before .before .before .before .before .before .before .before .before .before .before .before .before .if1 .left), eq-eqb _ _ (c .before .before .before .before .before .before .before .before .before .before .before .before .if2 .left)) (record { words = cc; draft = cc })
 
 pub exclude-spec : {M : Type 1} → statement M
 exclude-spec =

@@ -1,44 +1,56 @@
+-- `resolve::gather` meets its contract. The invariant: what is left to join ends as all of it does. Assumes nothing.
+use Rattle.resolve.proofs.Turns.{gathered-none, gathered-more}
+use Rattle.resolve.specs.Draft.{Drafted, gathered}
+use lib.ListN.{length}
+use native.Mathlib.Omega.{arith}
+use mathlib.Core.Path.{_≡_, refl, sym, ap, _∙_}
 use borrow.Author.Needs.{needs}
 use Rattle.resolve.proofs.gather.Statement.{statement}
 use Rattle.resolve.proofs.gather.Tie as tie
-use Rattle.resolve.proofs.gather.Reads as reads
-use Rattle.resolve.proofs.gather.Lts as lts
-use Rattle.reasons.proofs.length_of.Reads as length-of-reads
-use Rattle.reasons.proofs.literal_of.Reads as literal-of-reads
-use Rattle.resolve.proofs.join.Reads as join-reads
 
 abbrev Inv-loop : tie.InvT-loop
-Inv-loop work₀ net arena r x e₀ left₀ work e left = ?
+Inv-loop work₀ net arena r x e₀ left₀ work e left =
+    (length work ≡ length work₀) × (gathered work net arena e r x left ≡ gathered work₀ net arena e₀ r x left₀)
 
 abbrev μ-loop : tie.MeasureT-loop
-μ-loop work₀ net arena r x e₀ left₀ work e left = ?
+μ-loop work₀ net arena r x e₀ left₀ work e left = left
 
 length-of-requires : tie.Need-length-of-requires Inv-loop μ-loop
-length-of-requires c κs = ?
+length-of-requires c κs = search needs
 
 loop-holds : tie.Need-loop-holds Inv-loop μ-loop
-loop-holds c = ?
+loop-holds c = (refl, refl)
 
 sub-left : tie.Need-sub-left Inv-loop μ-loop
-sub-left c = ?
+sub-left c = omega arith
 
 literal-of-requires : tie.Need-literal-of-requires Inv-loop μ-loop
-literal-of-requires c κs = ?
+literal-of-requires c κs = search needs
 
 join-requires : tie.Need-join-requires Inv-loop μ-loop
-join-requires c κs = ?
+join-requires c κs = search needs
 
 loop-less : tie.Need-loop-less Inv-loop μ-loop
-loop-less c = ?
+loop-less c = omega arith
 
 loop-again : tie.Need-loop-again Inv-loop μ-loop
-loop-again c = ?
+loop-again c =
+    let a = c .before .before .before .before .before .before .before in
+    let l = a .loop in
+    let s = a .before .before .before .before .args in
+    let more = gathered-more (l .work) (s .net) (s .arena) (l .e) (s .r) (s .x) (l .left) (omega arith) in
+    (cc, sym (cc more))
 
 same-length : tie.Need-same-length Inv-loop μ-loop
-same-length c = ?
+same-length c = c .before .loop .inv .0
 
 returns : tie.Need-returns Inv-loop μ-loop
-returns c = ?
+returns c =
+    let l = c .before .loop in
+    let s = c .before .before .before .before .before .args in
+    let none = gathered-none (l .work) (s .net) (s .arena) (l .e) (s .r) (s .x) (l .left) (omega arith) in
+    let all = sym none ∙ l .inv .1 in
+    rw (← c .before .before .length-of .ensures) (record { words = ap (λ (t : Drafted). t .words) all; draft = ap (λ (t : Drafted). t .draft) all })
 
 pub gather-spec : {M : Type 1} → statement M
 gather-spec =

@@ -1,11 +1,8 @@
+-- `resolve::include` meets its contract. Assumes nothing.
+use Rattle.resolve.specs.Draft as D
 use borrow.Author.Needs.{needs}
 use Rattle.resolve.proofs.include.Statement.{statement}
 use Rattle.resolve.proofs.include.Tie as tie
-use Rattle.resolve.proofs.include.Reads as reads
-use Rattle.resolve.proofs.include.Lts as lts
-use Rattle.reasons.proofs.is_false.Reads as is-false-reads
-use Rattle.resolve.proofs.append.Reads as append-reads
-use Rattle.resolve.proofs.is_member.Reads as is-member-reads
 
 is-false-requires : tie.Need-is-false-requires
 is-false-requires c κs = search needs
@@ -14,7 +11,8 @@ same-length : tie.Need-same-length
 same-length c = search needs
 
 returns : tie.Need-returns
-returns c = ?
+unfolding D.included
+returns c = rw (← c .before .is-false .ensures, c .if1 .taken) (record { words = cc; draft = cc })
 
 is-member-requires : tie.Need-is-member-requires
 is-member-requires c κs = search needs
@@ -23,7 +21,8 @@ same-length-2 : tie.Need-same-length-2
 same-length-2 c = search needs
 
 returns-2 : tie.Need-returns-2
-returns-2 c = ?
+unfolding D.included
+returns-2 c = rw (← c .before .before .before .before .is-false .ensures, ← c .before .is-member .ensures, c .before .before .before .if1 .left, c .if2 .taken) (record { words = cc; draft = cc })
 
 append-requires : tie.Need-append-requires
 append-requires c κs = search needs
@@ -32,7 +31,8 @@ same-length-3 : tie.Need-same-length-3
 same-length-3 c = search needs
 
 returns-3 : tie.Need-returns-3
-returns-3 c = ?
+unfolding D.included
+returns-3 c = rw (← c .before .before .before .before .before .before .before .before .is-false .ensures, ← c .before .before .before .before .before .is-member .ensures, c .before .before .before .before .before .before .before .if1 .left, c .before .before .before .before .if2 .left) (record { words = cc; draft = cc })
 
 pub include-spec : {M : Type 1} → statement M
 include-spec =

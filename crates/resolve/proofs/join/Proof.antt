@@ -1,12 +1,13 @@
+-- `resolve::join` meets its contract. Assumes nothing.
+use borrow.Author.Tests.{eq-eqb, ne-eqb}
+use Rattle.resolve.specs.Draft as D
 use borrow.Author.Needs.{needs}
 use Rattle.resolve.proofs.join.Statement.{statement}
 use Rattle.resolve.proofs.join.Tie as tie
-use Rattle.resolve.proofs.join.Reads as reads
-use Rattle.resolve.proofs.join.Lts as lts
-use Rattle.resolve.proofs.include.Reads as include-reads
 
 returns : tie.Need-returns
-returns c = ?
+unfolding D.joined
+returns c = rw (eq-eqb _ _ (c .if1 .taken)) (record { words = cc; draft = cc })
 
 include-requires : tie.Need-include-requires
 include-requires c κs = search needs
@@ -15,7 +16,8 @@ same-length : tie.Need-same-length
 same-length c = search needs
 
 returns-2 : tie.Need-returns-2
-returns-2 c = ?
+unfolding D.joined
+returns-2 c = rw (ne-eqb _ _ (c .before .before .before .before .if1 .left)) (record { words = cc; draft = cc })
 
 pub join-spec : {M : Type 1} → statement M
 join-spec = tie.close (tie.spec returns include-requires same-length returns-2)

@@ -1,0 +1,40 @@
+-- `resolve::resolve` meets its contract. Assumes nothing.
+use Rattle.resolve.specs.Draft as D
+use borrow.Author.Needs.{needs}
+use Rattle.resolve.proofs.resolve.Statement.{statement}
+use Rattle.resolve.proofs.resolve.Tie as tie
+
+is-reason-requires : tie.Need-is-reason-requires
+is-reason-requires c κs = search needs
+
+opposite-requires : tie.Need-opposite-requires
+opposite-requires c κs = search needs
+
+exclude-requires : tie.Need-exclude-requires
+exclude-requires c κs = search needs
+
+gather-requires : tie.Need-gather-requires
+gather-requires c κs = search needs
+
+same-length : tie.Need-same-length
+same-length c = search needs
+
+returns : tie.Need-returns
+unfolding D.resolved
+returns c = rw (← c .before .before .before .before .before .before .before .before .before .before .is-reason .ensures, c .before .before .before .before .before .before .before .before .before .if1 .taken) (record { words = cc; draft = cc })
+
+returns-2 : tie.Need-returns-2
+unfolding D.resolved
+returns-2 c = rw (← c .before .is-reason .ensures, c .if1 .left) (record { words = cc; draft = cc })
+
+pub resolve-spec : {M : Type 1} → statement M
+resolve-spec =
+    tie.close
+    (tie.spec
+    is-reason-requires
+    opposite-requires
+    exclude-requires
+    gather-requires
+    same-length
+    returns
+    returns-2)
