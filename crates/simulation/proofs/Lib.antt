@@ -1,0 +1,5 @@
+-- The laws of simulation. Assumes nothing.
+pub mod Words
+pub mod Nets
+pub mod Slots
+pub mod FirstUses

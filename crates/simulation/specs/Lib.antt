@@ -1,0 +1,2 @@
+-- What the contracts of `simulation` cite. Assumes nothing.
+pub mod Store

@@ -1,0 +1,201 @@
+// Simulation of a graph for 64 places at a time. Words 2 and 3 of a node's record are its values in the places of a block: bit q of word
+// 2 + h serves place 32 h + q. Only nodes that lead to the root, whose word 10 is not 0, are evaluated.
+use nodes::Edge;
+use nodes::Graph;
+ghost use mathlib.Core.Path.{_≡_};
+ghost use mathlib.Core.Bool.{cond, false};
+ghost use Prim.Native.Nat.{ℕ, _+_, _*_, _/_, _^_, _≤_, _<_};
+ghost use lib.ListN.{length, getD};
+ghost use Rattle.aiger.specs.Bits.{bit};
+ghost use Rattle.aiger.specs.Frames.{value};
+ghost use Rattle.nodes.specs.Edges.{edgeWord};
+ghost use Rattle.simulation.specs.Store.{half, Netlist, Evaluable, HalfEvaluated, GateEvaluated, GatesEvaluated, WordPut, LeavesCleared, SlotsPut, Slotted, Taken, SlotsFilled, Unused, Firsts, Carried};
+
+// Half h of the values of an edge.
+fn edge_half(work: &[u32], e: u32, h: usize) -> u32
+    requires { ⌜ 16 * (e / 2) + 16 ≤ length (now work) ⌝ }
+    requires { ⌜ h < 2 ⌝ }
+    ensures { λ r. ⌜ ((q : ℕ) → q < 32 → bit r q ≡ value (half (now (work .entry)) h q) e) ⌝ }
+{
+    let v = (e / 2) as usize;
+    let s = e % 2;
+    work[16 * v + (2 + h)] ^ (s * 0xffff_ffff)
+}
+
+// Half h of the values of gate k.
+fn eval_half(work: &mut [u32], k: usize, h: usize)
+    requires { ⌜ Evaluable (now work) k ⌝ }
+    requires { ⌜ h < 2 ⌝ }
+    ensures { λ r. ⌜ HalfEvaluated (now (work .entry)) (now (work .exit)) k h ⌝ }
+{
+    let a = work[16 * k];
+    let b = work[16 * k + 1];
+    let x = edge_half(work, a, h);
+    let y = edge_half(work, b, h);
+    work[16 * k + (2 + h)] = x & y;
+}
+
+// The values of gate k, if it leads to the root.
+fn eval_gate(work: &mut [u32], k: usize)
+    requires { ⌜ Evaluable (now work) k ⌝ }
+    ensures { λ r. ⌜ GateEvaluated (now (work .entry)) (now (work .exit)) k ⌝ }
+{
+    if work[16 * k + 10] == 0 {
+        return;
+    }
+    eval_half(work, k, 0);
+    eval_half(work, k, 1);
+}
+
+// The values of the gates from node `first` on, where those before have theirs.
+fn eval_gates(work: &mut [u32], g: Graph, first: usize)
+    requires { ⌜ Netlist (now work) g ⌝ }
+    requires { ⌜ g .free + 1 ≤ first ⌝ }
+    ensures { λ r. ⌜ GatesEvaluated (now (work .entry)) (now (work .exit)) g first ⌝ }
+{
+    let nodes = g.nodes;
+    let mut k = first;
+    while k < nodes {
+        eval_gate(work, k);
+        k += 1;
+    }
+}
+
+// Gives node v its values.
+fn put_word(work: &mut [u32], v: usize, word: u64)
+    requires { ⌜ 16 * v + 16 ≤ length (now work) ⌝ }
+    ensures { λ r. ⌜ WordPut (now (work .entry)) (now (work .exit)) v word ⌝ }
+{
+    work[16 * v + 2] = (word % 4294967296) as u32;
+    work[16 * v + 3] = (word / 4294967296) as u32;
+}
+
+// Makes the constant and all free bits false.
+fn clear_leaves(work: &mut [u32], g: Graph)
+    requires { ⌜ Netlist (now work) g ⌝ }
+    ensures { λ r. ⌜ LeavesCleared (now (work .entry)) (now (work .exit)) (g .free + 1) ⌝ }
+{
+    let free = g.free;
+    let mut v = 0;
+    while v < free + 1 {
+        put_word(work, v, 0);
+        v += 1;
+    }
+}
+
+// Gives the free bits of slots `from` to `to` - 1 their values in a block: slot k counts as bit k of a place.
+fn put_slots(work: &mut [u32], slots: &[u32], from: usize, to: usize, block: u64)
+    requires { ⌜ Slotted (length (now work)) (now slots) to ⌝ }
+    requires { ⌜ from ≤ to ⌝ }
+    ensures { λ r. ⌜ SlotsPut (now (work .entry)) (now (work .exit)) (now (slots .entry)) from to block ⌝ }
+{
+    let mut k = from;
+    while k < to {
+        let v = slots[k] as usize;
+        put_word(work, v, words::counting_word(k, block));
+        k += 1;
+    }
+}
+
+// Node v takes slot r, if its mark is not 0 and there is such a slot. Answers the next slot.
+fn take_slot(slots: &mut [u32], r: usize, v: u32, mark: u32) -> usize
+    requires { ⌜ (r < 65536) × (length (now slots) ≡ 32) ⌝ }
+    ensures { λ n. ⌜ Taken (now (slots .entry)) (now (slots .exit)) r v mark n ⌝ }
+{
+    if mark == 0 {
+        return r;
+    }
+    if r < 32 {
+        slots[r] = v;
+        return r + 1;
+    }
+    r + 1
+}
+
+// The free bits at positions `from` to `to` - 1 that lead to the root take slots from r on.
+fn fill_slots(work: &[u32], g: Graph, slots: &mut [u32], from: usize, to: usize, r: usize) -> usize
+    requires { ⌜ Netlist (now work) g ⌝ }
+    requires { ⌜ (from ≤ to) × (to ≤ g .free) × (r ≤ from) × (length (now slots) ≡ 32) ⌝ }
+    ensures { λ n. ⌜ SlotsFilled (now (work .entry)) g (now (slots .entry)) (now (slots .exit)) from to r n ⌝ }
+{
+    let free = g.free;
+    let mut next = r;
+    let mut i = from;
+    while i < to {
+        let v = free - i;
+        let mark = work[16 * v + 10];
+        next = take_slot(slots, next, v as u32, mark);
+        i += 1;
+    }
+    next
+}
+
+// Whether node a is a free bit from node `low` on.
+fn is_free_from(a: u32, low: u32, free: u32) -> bool
+    ensures { λ r. ⌜ (r ≡ false → low ≤ a → free < a) ⌝ }
+{
+    if a < low {
+        return false;
+    }
+    a <= free
+}
+
+// Whether node k leads to the root and has a free bit from node `low` on as an operand.
+fn uses(work: &[u32], k: usize, low: u32, free: u32) -> bool
+    requires { ⌜ 16 * k + 16 ≤ length (now work) ⌝ }
+    ensures { λ r. ⌜ (r ≡ false → Unused (now (work .entry)) k low free) ⌝ }
+{
+    if work[16 * k + 10] == 0 {
+        return false;
+    }
+    if is_free_from(work[16 * k] / 2, low, free) {
+        return true;
+    }
+    is_free_from(work[16 * k + 1] / 2, low, free)
+}
+
+// A node up to which no gate uses a free bit from node `low` on.
+fn first_use(work: &[u32], g: Graph, low: u32, end: usize) -> usize
+    requires { ⌜ Netlist (now work) g ⌝ }
+    requires { ⌜ (g .free + 1 ≤ end) × (end ≤ g .nodes) ⌝ }
+    ensures { λ r. ⌜ (g .free + 1 ≤ r) × (r ≤ end) × ((k : ℕ) → g .free < k → k < r → Unused (now (work .entry)) k low (g .free)) ⌝ }
+{
+    let free = g.free as u32;
+    let mut k = g.free + 1;
+    while k < end {
+        if uses(work, k, low, free) {
+            return k;
+        }
+        k += 1;
+    }
+    k
+}
+
+// For each slot, a node up to which no gate uses it or an earlier slot.
+fn fill_firsts(work: &[u32], g: Graph, slots: &[u32], count: usize, firsts: &mut [u32])
+    requires { ⌜ Netlist (now work) g ⌝ }
+    requires { ⌜ (count ≤ length (now slots)) × (count ≤ length (now firsts)) ⌝ }
+    ensures { λ r. ⌜ Firsts (now (work .entry)) g (now (slots .entry)) count (now (firsts .exit)) ⌝ }
+{
+    let mut end = g.nodes;
+    let mut k = 0;
+    while k < count {
+        end = first_use(work, g, slots[k], end);
+        firsts[k] = end as u32;
+        k += 1;
+    }
+}
+
+// How many of the lowest bits of the block's number are 1.
+fn carry(block: u64) -> usize
+    requires { ⌜ block < 4294967296 ⌝ }
+    ensures { λ r. ⌜ Carried block r ⌝ }
+{
+    let mut b = block;
+    let mut i = 0;
+    while b % 2 == 1 {
+        b = b / 2;
+        i += 1;
+    }
+    i
+}
