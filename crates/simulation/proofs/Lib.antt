@@ -3,3 +3,5 @@ pub mod Words
 pub mod Nets
 pub mod Slots
 pub mod FirstUses
+pub mod Places
+pub mod Blocks

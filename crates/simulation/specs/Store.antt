@@ -2,18 +2,18 @@
 use mathlib.Core.Path.{_≡_}
 use mathlib.Core.Bool.{Bool, cond, _&&_}
 use mathlib.Core.List.{List}
-use Prim.Native.Nat.{ℕ, _+_, _-_, _*_, _/_, _^_, _≤_, _<_}
+use Prim.Native.Nat.{ℕ, _+_, _-_, _*_, _/_, _^_, _≤_, _<_, min}
 use lib.Dec.{T}
 use lib.ListN.{length, getD, set}
 use Rattle.aiger.specs.Bits.{nonzero, bit}
 use Rattle.aiger.specs.Circuit.{var}
 use Rattle.aiger.specs.Frames.{value, freeBit}
-use Rattle.nodes.specs.Graph.{Pair, Built}
+use Rattle.nodes.specs.Graph.{Pair, edgeValue, Built}
 use Rattle.nodes.specs.Store.{field, pairsOf, Sized}
 use Rattle.nodes.specs.declared.Graph.{Graph}
 use Rattle.cone.specs.Cone.{inCone}
 use Rattle.cone.specs.Store.{Marks}
-use Rattle.support.specs.Counting.{rank, spread}
+use Rattle.support.specs.Counting.{rank, spread, First}
 use Rattle.support.specs.Support.{support, nodeValue}
 
 -- the value of node v in place 32 h + q of a block
@@ -107,12 +107,70 @@ pub record Unused (work : List ℕ) (k low free : ℕ) : Type 0 where
   pub left : T (nonzero (field work k 10)) → low ≤ var (field work k 0) → free < var (field work k 0)
   pub right : T (nonzero (field work k 10)) → low ≤ var (field work k 1) → free < var (field work k 1)
 
--- no gate before the node of slot k uses a free bit from that of slot k on
+-- no gate before node first uses a free bit from node low on
+pub record UsedFrom (work : List ℕ) (g : Graph) (low first : ℕ) : Type 0 where
+  pub gates : g .free + 1 ≤ first
+  pub most : first ≤ g .nodes
+  pub unused : (k : ℕ) → g .free < k → k < first → Unused work k low (g .free)
+
+-- for each slot below count there is such a node for that of the slot
 abbrev pub Firsts : List ℕ → Graph → List ℕ → ℕ → List ℕ → Type 0
-Firsts work g slots count firsts =
-    (k : ℕ) → k < count → (g .free + 1 ≤ getD firsts k 0) × ((v : ℕ) → g .free < v → v < getD firsts k 0 → Unused work v (getD slots k 0) (g .free))
+Firsts work g slots count firsts = (k : ℕ) → k < count → UsedFrom work g (getD slots k 0) (getD firsts k 0)
 
 -- the next block's number differs from the block's in the lowest r + 1 bits alone
 pub record Carried (block r : ℕ) : Type 0 where
   pub higher : (block + 1) / 2 ^ (r + 1) ≡ block / 2 ^ (r + 1)
   pub bound : 2 ^ r ≤ block + 1
+
+-- ---- places: numbers whose bits are spread over the support
+
+-- free bit j of place 32 h + q of a block
+unfoldable pub placeBit : ℕ → List Pair → ℕ → ℕ → ℕ → ℕ → ℕ → Bool
+placeBit n gs root block h q j = freeBit n (spread (support n gs root) n (block * 64 + (32 * h + q))) j
+
+-- the nodes below limit that lead to the root have their values in the block
+abbrev pub InBlock : ℕ → List Pair → ℕ → ℕ → List ℕ → ℕ → Type 0
+InBlock n gs root block work limit = Simulated n gs root (placeBit n gs root block) work limit
+
+-- the root is true in place y
+abbrev pub hitAt : ℕ → List Pair → ℕ → ℕ → Bool
+hitAt n gs root y = edgeValue n gs (freeBit n (spread (support n gs root) n y)) root
+
+-- the slots have the nodes of the free bits that count: slot k that of bit k of a place, for the lowest 32 bits
+pub record SlotsOf (gs : List Pair) (root : ℕ) (g : Graph) (slots : List ℕ) (count : ℕ) : Type 0 where
+  pub held : length slots ≡ 32
+  pub count-is : count ≡ min (rank (support (g .free) gs root) (g .free)) 32
+  pub slots-are : (j : ℕ) → j < g .free → T (support (g .free) gs root j) → rank (support (g .free) gs root) j < 32
+      → getD slots (rank (support (g .free) gs root) j) 0 ≡ g .free - j
+
+-- all nodes have their values in the block; r says which of its places hit
+pub record Started (work last : List ℕ) (g : Graph) (root block r : ℕ) : Type 0 where
+  pub kept : Kept work last
+  pub values : InBlock (g .free) (pairsOf work g) root block last (g .nodes)
+  pub hits : (p : ℕ) → p < 64 → bit r p ≡ hitAt (g .free) (pairsOf work g) root (block * 64 + p)
+
+-- what the scan of the places requires
+pub record Scannable (work : List ℕ) (g : Graph) (root : ℕ) (slots firsts : List ℕ) (count : ℕ) : Type 0 where
+  pub net : Net (pairsOf work g) root work g
+  pub slots-of : SlotsOf (pairsOf work g) root g slots count
+  pub held : length firsts ≡ 32
+  pub firsts-of : Firsts work g slots count firsts
+
+-- all nodes have their values in the next block, if they had them in the block; r says which of its places hit
+pub record Advanced (work last : List ℕ) (g : Graph) (root block r : ℕ) : Type 0 where
+  pub kept : Kept work last
+  pub values : InBlock (g .free) (pairsOf work g) root block work (g .nodes) → InBlock (g .free) (pairsOf work g) root (block + 1) last (g .nodes)
+  pub hits : InBlock (g .free) (pairsOf work g) root block work (g .nodes)
+      → (p : ℕ) → p < 64 → bit r p ≡ hitAt (g .free) (pairsOf work g) root ((block + 1) * 64 + p)
+
+-- where none of the places before the block passes, and the word hits says which of its 64 do, r is the first below total that passes; if
+-- none of the block does, there is no place below total after it
+abbrev pub FirstIn : ℕ → ℕ → ℕ → ℕ → Type 0
+FirstIn block hits total r =
+    (passes : ℕ → Bool) → ((p : ℕ) → p < 64 → bit hits p ≡ passes (block * 64 + p)) → ((y : ℕ) → y < 64 * block → T (passes y) → ⊥)
+    → (hits ≡ 0 → total ≤ 64 * block + 64) → First passes total r
+
+-- word v - 1 is bit k of y, for the node v of each slot k below count; the other words are as before
+pub record BitsPut (work last slots : List ℕ) (count y : ℕ) : Type 0 where
+  pub new : (k : ℕ) → k < count → nonzero (getD last (getD slots k 0 - 1) 0) ≡ bit y k
+  pub others : (j : ℕ) → ((k : ℕ) → k < count → getD slots k 0 ≡ j + 1 → ⊥) → getD last j 0 ≡ getD work j 0

@@ -5,11 +5,13 @@ use nodes::Graph;
 ghost use mathlib.Core.Path.{_≡_};
 ghost use mathlib.Core.Bool.{cond, false};
 ghost use Prim.Native.Nat.{ℕ, _+_, _*_, _/_, _^_, _≤_, _<_};
+ghost use lib.Dec.{T};
 ghost use lib.ListN.{length, getD};
-ghost use Rattle.aiger.specs.Bits.{bit};
+ghost use Rattle.aiger.specs.Bits.{nonzero, bit};
 ghost use Rattle.aiger.specs.Frames.{value};
-ghost use Rattle.nodes.specs.Edges.{edgeWord};
-ghost use Rattle.simulation.specs.Store.{half, Netlist, Evaluable, HalfEvaluated, GateEvaluated, GatesEvaluated, WordPut, LeavesCleared, SlotsPut, Slotted, Taken, SlotsFilled, Unused, Firsts, Carried};
+ghost use Rattle.nodes.specs.Store.{pairsOf};
+ghost use Rattle.simulation.specs.Store.{half, Netlist, Evaluable, HalfEvaluated, GateEvaluated, GatesEvaluated, WordPut, LeavesCleared, SlotsPut, Slotted, Taken, SlotsFilled, Unused, UsedFrom, Firsts, Carried, Net, SlotsOf, Started, Scannable, Advanced, FirstIn, InBlock, hitAt, BitsPut};
+ghost use Rattle.support.specs.Counting.{First};
 
 // Half h of the values of an edge.
 fn edge_half(work: &[u32], e: u32, h: usize) -> u32
@@ -158,7 +160,7 @@ fn uses(work: &[u32], k: usize, low: u32, free: u32) -> bool
 fn first_use(work: &[u32], g: Graph, low: u32, end: usize) -> usize
     requires { ⌜ Netlist (now work) g ⌝ }
     requires { ⌜ (g .free + 1 ≤ end) × (end ≤ g .nodes) ⌝ }
-    ensures { λ r. ⌜ (g .free + 1 ≤ r) × (r ≤ end) × ((k : ℕ) → g .free < k → k < r → Unused (now (work .entry)) k low (g .free)) ⌝ }
+    ensures { λ r. ⌜ (r ≤ end) × UsedFrom (now (work .entry)) g low r ⌝ }
 {
     let free = g.free as u32;
     let mut k = g.free + 1;
@@ -198,4 +200,128 @@ fn carry(block: u64) -> usize
         i += 1;
     }
     i
+}
+
+// The values of an edge in the 64 places of a block.
+fn hit_word(work: &[u32], root: u32) -> u64
+    requires { ⌜ 16 * (root / 2) + 16 ≤ length (now work) ⌝ }
+    ensures { λ r. ⌜ ((h q : ℕ) → h < 2 → q < 32 → bit r (32 * h + q) ≡ value (half (now (work .entry)) h q) root) ⌝ }
+{
+    let low = edge_half(work, root, 0) as u64;
+    let high = edge_half(work, root, 1) as u64;
+    high * 4294967296 + low
+}
+
+// The values of all nodes in a block. Answers which places hit.
+fn start_hits(work: &mut [u32], g: Graph, root: u32, slots: &[u32], count: usize, block: u64) -> u64
+    requires { ⌜ Net (pairsOf (now work) g) root (now work) g ⌝ }
+    requires { ⌜ SlotsOf (pairsOf (now work) g) root g (now slots) count ⌝ }
+    requires { ⌜ 64 * block + 63 < 4294967296 ⌝ }
+    ensures { λ r. ⌜ Started (now (work .entry)) (now (work .exit)) g root block r ⌝ }
+{
+    let free = g.free;
+    clear_leaves(work, g);
+    put_slots(work, slots, 0, count, block);
+    eval_gates(work, g, free + 1);
+    hit_word(work, root)
+}
+
+// From the values in a block to those in the next one: only what the slots that change lead to is evaluated. Answers which places hit.
+fn next_hits(
+    work: &mut [u32],
+    g: Graph,
+    root: u32,
+    slots: &[u32],
+    firsts: &[u32],
+    block: u64,
+) -> u64
+    requires { ⌜ ((count : ℕ) × Scannable (now work) g root (now slots) (now firsts) count × (64 * (block + 1) < 2 ^ count)) ⌝ }
+    requires { ⌜ block < 67108864 ⌝ }
+    ensures { λ r. ⌜ Advanced (now (work .entry)) (now (work .exit)) g root block r ⌝ }
+{
+    let top = 6 + carry(block);
+    let first = firsts[top] as usize;
+    put_slots(work, slots, 6, top + 1, block + 1);
+    eval_gates(work, g, first);
+    hit_word(work, root)
+}
+
+// The first place of a block that hits, or total.
+fn first_in(block: u64, hits: u64, total: u64) -> u64
+    requires { ⌜ (block < 67108864) × (total ≤ 4294967296) ⌝ }
+    ensures { λ r. ⌜ FirstIn block hits total r ⌝ }
+{
+    let p = words::first_difference(hits, 0) as u64;
+    let y = 64 * block + p;
+    if y < total {
+        return y;
+    }
+    total
+}
+
+// The first place below total that hits, or total. The values are those in block `start`, of which `those` says which places hit.
+fn scan(
+    work: &mut [u32],
+    g: Graph,
+    root: u32,
+    slots: &[u32],
+    firsts: &[u32],
+    start: u64,
+    those: u64,
+    total: u64,
+) -> u64
+    requires { ⌜ ((count : ℕ) × Scannable (now work) g root (now slots) (now firsts) count × (total ≤ 2 ^ count)) ⌝ }
+    requires { ⌜ (start < 67108864) × (total ≤ 4294967296) ⌝ }
+    requires { ⌜ InBlock (g .free) (pairsOf (now work) g) root start (now work) (g .nodes) ⌝ }
+    requires { ⌜ ((p : ℕ) → p < 64 → bit those p ≡ hitAt (g .free) (pairsOf (now work) g) root (start * 64 + p)) ⌝ }
+    requires { ⌜ ((y : ℕ) → y < 64 * start → T (hitAt (g .free) (pairsOf (now work) g) root y) → ⊥) ⌝ }
+    ensures { λ r. ⌜ First (hitAt (g .free) (pairsOf (now (work .entry)) g) root) total r ⌝ }
+{
+    let mut block = start;
+    let mut hits = those;
+    while 64 * block + 64 < total {
+        if hits != 0 {
+            return first_in(block, hits, total);
+        }
+        hits = next_hits(work, g, root, slots, firsts, block);
+        block += 1;
+    }
+    first_in(block, hits, total)
+}
+
+// Makes the first n words 0.
+fn clear_front(work: &mut [u32], n: usize)
+    requires { ⌜ n ≤ length (now work) ⌝ }
+    ensures { λ r. ⌜ ((j : ℕ) → j < n → getD (now (work .exit)) j 0 ≡ 0) ⌝ }
+{
+    let mut j = 0;
+    while j < n {
+        work[j] = 0;
+        j += 1;
+    }
+}
+
+// Bit k of x.
+fn bit_of(x: u64, k: usize) -> u32
+    ensures { λ r. ⌜ nonzero r ≡ bit x k ⌝ }
+{
+    if 63 < k {
+        return 0;
+    }
+    let y = x >> k;
+    (y % 2) as u32
+}
+
+// Gives the free bits of the first count slots the bits of y, free bit j in word j.
+fn put_bits(work: &mut [u32], slots: &[u32], count: usize, y: u64)
+    requires { ⌜ Slotted (length (now work)) (now slots) count ⌝ }
+    requires { ⌜ ((k : ℕ) → k < count → 1 ≤ getD (now slots) k 0) ⌝ }
+    ensures { λ r. ⌜ BitsPut (now (work .entry)) (now (work .exit)) (now (slots .entry)) count y ⌝ }
+{
+    let mut k = 0;
+    while k < count {
+        let v = slots[k] as usize;
+        work[v - 1] = bit_of(y, k);
+        k += 1;
+    }
 }

@@ -1,7 +1,7 @@
 -- Counting over some of the positions of a number, position 0 the least significant. Assumes nothing.
 use mathlib.Core.Bool.{Bool, cond}
-use Prim.Native.Nat.{ℕ, zero, suc, _+_, _*_, _/_, _%_, _^_}
-use lib.Dec.{leb}
+use Prim.Native.Nat.{ℕ, zero, suc, _+_, _*_, _/_, _%_, _^_, _≤_, _<_}
+use lib.Dec.{T, leb}
 
 -- the positions from 1 on, as positions from 0 on
 abbrev pub after : (ℕ → Bool) → ℕ → Bool
@@ -20,3 +20,9 @@ spread s (suc n) y = cond (s 0) (2 * spread (after s) n (y / 2) + y % 2) (2 * sp
 -- how many numbers below 2 to the power n are passed when D numbers are spread: all of them where D are enough
 unfoldable pub passed : (ℕ → Bool) → ℕ → ℕ → ℕ
 passed s n D = cond (leb (2 ^ rank s n) D) (2 ^ n) (spread s n D)
+
+-- r is the least number below total that passes, or total
+pub record First (passes : ℕ → Bool) (total r : ℕ) : Type 0 where
+  pub within : r ≤ total
+  pub before : (x : ℕ) → x < r → T (passes x) → ⊥
+  pub here : r < total → T (passes r)

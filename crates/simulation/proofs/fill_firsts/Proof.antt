@@ -38,7 +38,7 @@ first-use-requires c κs =
 cast-firsts : tie.Need-cast-firsts Inv-loop μ-loop
 cast-firsts c =
     let s = c .before .before .before .before .before .before .before in
-    omega (arith, c .first-use .ensures .1, c .before .before .before .loop .inv .2, s .pre .0 .2 .sized)
+    omega (arith, c .first-use .ensures .0, c .before .before .before .loop .inv .2, s .pre .0 .2 .sized)
 
 mul-firsts : tie.Need-mul-firsts Inv-loop μ-loop
 mul-firsts c = omega (arith, c .before .before .before .before .before .before .before .pre .1)
@@ -60,10 +60,10 @@ loop-again c =
     let l = c .before .before .before .loop in
     let e = c .first-use .ensures in (
       omega arith,
-      e .0,
-      omega (arith, e .1, l .inv .2),
+      e .1 .gates,
+      e .1 .most,
       length-set (l .firsts) (l .k) (c .first-use .result) ∙ l .inv .3,
-      firsts-more (now (s .args .work)) (s .args .g) (now (s .args .slots)) (l .firsts) (l .k) (c .first-use .result) (omega (arith, s .pre .1, l .inv .3)) (l .inv .4) (e .0) (e .2),
+      firsts-more (now (s .args .work)) (s .args .g) (now (s .args .slots)) (l .firsts) (l .k) (c .first-use .result) (omega (arith, s .pre .1, l .inv .3)) (l .inv .4) (e .1),
     )
 
 same-length : tie.Need-same-length Inv-loop μ-loop

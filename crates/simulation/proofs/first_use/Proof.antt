@@ -32,7 +32,7 @@ uses-requires c κs =
     net-held (s .pre .0 .2) (c .before .loop .k) (omega (arith, s .pre .1))
 
 returns : tie.Need-returns Inv-loop μ-loop
-returns c = let l = c .before .before .before .loop in (l .inv .0, l .inv .1, l .inv .2)
+returns c = let l = c .before .before .before .loop in (l .inv .1, record { gates = l .inv .0; most = omega (arith, l .inv .1, c .before .before .before .before .before .before .before .pre .1); unused = l .inv .2 })
 
 add-k-2 : tie.Need-add-k-2 Inv-loop μ-loop
 add-k-2 c = omega (arith, c .before .before .before .loop .inv)
@@ -48,7 +48,7 @@ loop-again c =
     (omega (arith, l .inv), omega arith, unused-more (now (s .args .work)) (s .args .low) (s .args .g .free) (l .k) (l .inv .2) u)
 
 returns-2 : tie.Need-returns-2 Inv-loop μ-loop
-returns-2 c = let l = c .before .loop in (l .inv .0, l .inv .1, l .inv .2)
+returns-2 c = let l = c .before .loop in (l .inv .1, record { gates = l .inv .0; most = omega (arith, l .inv .1, c .before .before .before .before .before .pre .1); unused = l .inv .2 })
 
 pub first-use-spec : {M : Type 1} → statement M
 first-use-spec =
