@@ -5,3 +5,4 @@ pub mod Slots
 pub mod FirstUses
 pub mod Places
 pub mod Blocks
+pub mod Founds

@@ -89,7 +89,7 @@ module _ (n : ℕ) (gs : List Pair) (root block h q : ℕ) where
 
 module _ {gs : List Pair} {root : ℕ} {work : List ℕ} {g : Graph} {slots : List ℕ} {count : ℕ} (net : Net gs root work g) (so : SlotsOf gs root g slots count) where
   -- slot k has the node of the free bit of rank k
-  slot-at : (k : ℕ) → k < count
+  pub slot-at : (k : ℕ) → k < count
       → (i : ℕ) × (i < g .free) × T (support (g .free) gs root i) × (rank (support (g .free) gs root) i ≡ k) × (getD slots k 0 ≡ g .free - i)
   slot-at k h =
       let s = support (g .free) gs root in
@@ -98,16 +98,16 @@ module _ {gs : List Pair} {root : ℕ} {work : List ℕ} {g : Graph} {slots : Li
       (p .0, p .1, p .2, e, ap (λ (x : ℕ). getD slots x 0) (sym e) ∙ so .slots-are (p .0) (p .1) (p .2) (omega (arith, so .count-is)))
 
   -- and no other slot has it
-  slot-rank : (j k : ℕ) → j < g .free → k < count → getD slots k 0 ≡ j + 1 → k ≡ rank (support (g .free) gs root) (g .free - (j + 1))
+  pub slot-rank : (j k : ℕ) → j < g .free → k < count → getD slots k 0 ≡ j + 1 → k ≡ rank (support (g .free) gs root) (g .free - (j + 1))
   slot-rank j k h l e =
       let p = slot-at k l in
       let q : p .0 ≡ g .free - (j + 1) = omega (arith, p .4, p .1) in
       sym (p .3) ∙ ap (rank (support (g .free) gs root)) q
 
-  slot-leaf : (k : ℕ) → k < count → (1 ≤ getD slots k 0) × (getD slots k 0 ≤ g .free)
+  pub slot-leaf : (k : ℕ) → k < count → (1 ≤ getD slots k 0) × (getD slots k 0 ≤ g .free)
   slot-leaf k l = let p = slot-at k l in (omega (arith, p .4, p .1), omega (arith, p .4))
 
-  rank-slot : (j : ℕ) → j < g .free → T (inCone (g .free) gs root (j + 1)) → rank (support (g .free) gs root) (g .free - (j + 1)) < 32
+  pub rank-slot : (j : ℕ) → j < g .free → T (inCone (g .free) gs root (j + 1)) → rank (support (g .free) gs root) (g .free - (j + 1)) < 32
       → (rank (support (g .free) gs root) (g .free - (j + 1)) < count) × (getD slots (rank (support (g .free) gs root) (g .free - (j + 1))) 0 ≡ j + 1)
   rank-slot j h t l =
       let s = support (g .free) gs root in

@@ -99,6 +99,7 @@ SlotsTo work g slots i =
     → getD slots (rank (support (g .free) gs root) j) 0 ≡ g .free - j
 
 pub record SlotsFilled (work : List ℕ) (g : Graph) (slots last : List ℕ) (from to r next : ℕ) : Type 0 where
+  pub most : next ≤ to
   pub next-is : (gs : List Pair) (root : ℕ) → Net gs root work g → r ≡ rank (support (g .free) gs root) from → next ≡ rank (support (g .free) gs root) to
   pub slots-are : ((gs : List Pair) (root : ℕ) → Net gs root work g → r ≡ rank (support (g .free) gs root) from) → SlotsTo work g slots from → SlotsTo work g last to
 

@@ -4,13 +4,16 @@ use nodes::Edge;
 use nodes::Graph;
 ghost use mathlib.Core.Path.{_≡_};
 ghost use mathlib.Core.Bool.{cond, false};
-ghost use Prim.Native.Nat.{ℕ, _+_, _*_, _/_, _^_, _≤_, _<_};
-ghost use lib.Dec.{T};
+ghost use Prim.Native.Nat.{ℕ, _+_, _*_, _/_, _^_, _≤_, _<_, min};
+ghost use lib.Dec.{T, leb};
 ghost use lib.ListN.{length, getD};
 ghost use Rattle.aiger.specs.Bits.{nonzero, bit};
-ghost use Rattle.aiger.specs.Frames.{value};
+ghost use Rattle.aiger.specs.Frames.{value, freeBit};
 ghost use Rattle.nodes.specs.Store.{pairsOf};
+ghost use Rattle.nodes.specs.Graph.{edgeValue};
+ghost use Rattle.nodes.specs.Edges.{edgeWord};
 ghost use Rattle.simulation.specs.Store.{half, Netlist, Evaluable, HalfEvaluated, GateEvaluated, GatesEvaluated, WordPut, LeavesCleared, SlotsPut, Slotted, Taken, SlotsFilled, Unused, UsedFrom, Firsts, Carried, Net, SlotsOf, Started, Scannable, Advanced, FirstIn, InBlock, hitAt, BitsPut};
+ghost use Rattle.simulation.specs.Found.{Counted, FoundIs};
 ghost use Rattle.support.specs.Counting.{First};
 
 // Half h of the values of an edge.
@@ -324,4 +327,103 @@ fn put_bits(work: &mut [u32], slots: &[u32], count: usize, y: u64)
         work[v - 1] = bit_of(y, k);
         k += 1;
     }
+}
+
+// The smaller of 2 to the power n and d.
+fn tries(n: usize, d: u64) -> u64
+    requires { ⌜ d ≤ 4294967296 ⌝ }
+    ensures { λ r. ⌜ r ≡ min (2 ^ n) d ⌝ }
+{
+    if 32 < n {
+        return d;
+    }
+    let all = 1u64 << n;
+    if all < d { all } else { d }
+}
+
+// Whether d places cover n bits.
+fn covers(n: usize, d: u64) -> bool
+    requires { ⌜ d ≤ 4294967296 ⌝ }
+    ensures { λ r. ⌜ r ≡ leb (2 ^ n) d ⌝ }
+{
+    if 32 < n {
+        return false;
+    }
+    1u64 << n <= d
+}
+
+// How many slots r free bits take.
+fn slot_count(r: usize) -> usize
+    ensures { λ n. ⌜ n ≡ min r 32 ⌝ }
+{
+    if r < 32 { r } else { 32 }
+}
+
+// How many blocks lie below 2 to the power q.
+fn whole_blocks(q: usize) -> u64
+    requires { ⌜ q ≤ 24 ⌝ }
+    ensures { λ r. ⌜ (64 * r ≤ 2 ^ q) × (r < 1048576) ⌝ }
+{
+    if q < 6 {
+        return 0;
+    }
+    1u64 << (q - 6)
+}
+
+// What a scan finds: a first hit; no hit; or none so far.
+pub enum Found {
+    Hit,
+    Clear,
+    Spent,
+}
+
+// The first hit, where r free bits count and the q lowest of them are known not to hit.
+fn scan_slots(
+    work: &mut [u32],
+    g: Graph,
+    root: u32,
+    slots: &[u32],
+    q: usize,
+    r: usize,
+    d: u64,
+) -> Found
+    requires { ⌜ Net (pairsOf (now work) g) root (now work) g ⌝ }
+    requires { ⌜ Counted (pairsOf (now work) g) root g (now slots) q r ⌝ }
+    requires { ⌜ d ≤ 4294967296 ⌝ }
+    ensures { λ f. ⌜ FoundIs (g .free) (pairsOf (now (work .entry)) g) root d (now (work .exit)) f ⌝ }
+{
+    let mut firsts = [0u32; 32];
+    let free = g.free;
+    let total = tries(r, d);
+    let count = slot_count(r);
+    let start = whole_blocks(q);
+    fill_firsts(work, g, slots, count, &mut firsts);
+    let hits = start_hits(work, g, root, slots, count, start);
+    let y = scan(work, g, root, slots, &firsts, start, hits, total);
+    if y < total {
+        clear_front(work, free);
+        put_bits(work, slots, count, y);
+        return Found::Hit;
+    }
+    if covers(r, d) {
+        Found::Clear
+    } else {
+        Found::Spent
+    }
+}
+
+// The first hit of the root among the places of its support, with a budget of d places. No sequence below 2 to the power `known` is a hit.
+// Where there is a first hit, its free bits are left at the front of working memory.
+pub fn first_hit(work: &mut [u32], g: Graph, root: Edge, known: usize, d: u64) -> Found
+    requires { ⌜ Net (pairsOf (now work) g) (edgeWord root) (now work) g ⌝ }
+    requires { ⌜ (known ≤ 24) × (known ≤ g .free) × (d ≤ 4294967296) ⌝ }
+    requires { ⌜ ((x : ℕ) → x < 2 ^ known → T (edgeValue (g .free) (pairsOf (now work) g) (freeBit (g .free) x) (edgeWord root)) → ⊥) ⌝ }
+    ensures { λ f. ⌜ FoundIs (g .free) (pairsOf (now (work .entry)) g) (edgeWord root) d (now (work .exit)) f ⌝ }
+{
+    let mut slots = [0u32; 32];
+    let free = g.free;
+    let e = root.word() as u32;
+    let q = fill_slots(work, g, &mut slots, 0, known, 0);
+    let r = fill_slots(work, g, &mut slots, known, free, q);
+    scan_slots(work, g, e, &slots, q, r, d)
 }

@@ -93,6 +93,7 @@ returns c =
     let w = now (s .args .work) in
     let z : l .i ≡ s .args .to = omega (arith, l .inv .1) in
     record {
+      most = omega (arith, l .inv .2, l .inv .1);
       next-is = λ gs root net h. l .inv .4 g gs root refl net h ∙ ap (rank (support (g .free) gs root)) z;
       slots-are = λ h a. subst (λ (x : ℕ). SlotsTo w g (l .slots) x) z (l .inv .5 g refl h a);
     }

@@ -1,0 +1,23 @@
+use mathlib.Core.Path.{sym, ap}
+use Prim.Native.Nat.{ℕ, _^_}
+use native.Mathlib.Omega.{arith}
+use borrow.Author.Tests.{lt-leb}
+use lib.Pow.{pow-mono}
+use lib.Dec.{leb}
+use borrow.Author.Needs.{needs}
+use Rattle.simulation.proofs.covers.Statement.{statement}
+use Rattle.simulation.proofs.covers.Tie as tie
+use Rattle.simulation.proofs.covers.Reads as reads
+use Rattle.simulation.proofs.covers.Lts as lts
+
+returns : tie.Need-returns
+returns c = sym (lt-leb (2 ^ c .before .args .n) (c .before .args .d) (omega (arith, pow-mono (c .if1 .taken))))
+
+shl-result : tie.Need-shl-result
+shl-result c = search needs
+
+returns-2 : tie.Need-returns-2
+returns-2 c = ap (λ (x : ℕ). leb x (c .before .args .d)) (omega (arith, pow-mono (c .if1 .left)))
+
+pub covers-spec : {M : Type 1} → statement M
+covers-spec = tie.close (tie.spec returns shl-result returns-2)
