@@ -20,7 +20,7 @@ use Rattle.roundtrip.proofs.LoadWrite.{Valid, counts-fit}
 use Rattle.roundtrip.proofs.Holding.{Sound, content-size, header-in, unsound}
 use Rattle.lines.specs.Header.{countsMeant}
 use Rattle.layout.specs.declared.Layout.{Layout}
-use Rattle.layout.specs.Layout.{LayoutOf, Counted}
+use Rattle.layout.specs.Layout.{PlacesOf, Counted}
 use Rattle.roundtrip.proofs.Counts.{counted}
 use Rattle.validity.specs.Validity.{judged}
 use Rattle.circuit.specs.Held.{Says, Zeros, Shaped, countsIn, Tested, HeldIs}
@@ -38,7 +38,7 @@ shaped-counted {m} s =
     counted m (s .fit)
     (omega (arith, s .room, content-length m, content-size (circuitIn m), counts-fit (circuitIn m) (s .fit)))
 
-module _ (m : List ℕ) (p : Layout) (q : LayoutOf m p) where
+module _ (m : List ℕ) (p : Layout) (q : PlacesOf m p) where
   -- the counts of the layout are those of the circuit that the words say
   header-is : countsMeant (countsIn p) ≡ headerOf (circuitIn m)
   header-is =

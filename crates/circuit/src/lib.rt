@@ -5,7 +5,7 @@ use validity::Checked;
 ghost use mathlib.Core.Path.{_≡_};
 ghost use Prim.Native.Nat.{_≤_};
 ghost use lib.ListN.{length};
-ghost use Rattle.layout.specs.Layout.{LayoutOf};
+ghost use Rattle.layout.specs.Layout.{PlacesOf};
 ghost use Rattle.circuit.specs.Held.{Zeros, Shaped, Says, Tested, HeldIs, countsIn};
 
 // What a memory holds: a circuit, which stands as the layout says, or none.
@@ -48,7 +48,7 @@ fn counts_of(p: Layout) -> Counts
 
 // Whether the counts are within their limits, the needed words are there, and those after the content are 0.
 fn is_shaped(m: &[u32], p: Layout) -> bool
-    requires { ⌜ LayoutOf (now m) p ⌝ }
+    requires { ⌜ PlacesOf (now m) p ⌝ }
     ensures { λ r. ⌜ Says r (Shaped (now (m .entry))) ⌝ }
 {
     if !lines::counts_fit(counts_of(p)) {
@@ -74,7 +74,7 @@ pub fn held_in(m: &[u32], order: &mut [u32]) -> Held
         return Held::Nothing;
     }
     match validity::check(m, order) {
-        Checked::Right => Held::Circuit(p),
+        Checked::Right => Held::Circuit(layout::with_starts(m, p)),
         Checked::Refused(_) => Held::Nothing,
     }
 }

@@ -120,7 +120,7 @@ fn shown_length(m: &[u32], b: u64, answer: SearchAnswer) -> usize
     let SearchAnswer::Found(t) = answer else {
         return 0;
     };
-    let layout = layout::layout_of(m);
+    let layout = layout::with_starts(m, layout::layout_of(m));
     search::witness_length(layout, b as u32, t as usize)
 }
 

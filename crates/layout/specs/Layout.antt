@@ -3,7 +3,8 @@ use mathlib.Core.Path.{_≡_}
 use mathlib.Core.List.{List}
 use Prim.Native.Nat.{ℕ, _+_, _≤_}
 use lib.ListN.{length}
-use Rattle.layout.specs.Words.{word, latchesAt, outputsAt, badsAt, constraintsAt, gatesAt, contentEnd}
+use Rattle.aiger.specs.Frames.{freeStarts}
+use Rattle.layout.specs.Words.{word, latchesAt, outputsAt, badsAt, constraintsAt, gatesAt, contentEnd, circuitIn}
 use Rattle.layout.specs.declared.Layout.{Layout}
 
 pub record LayoutOf (m : List ℕ) (p : Layout) : Type 0 where
@@ -20,6 +21,31 @@ pub record LayoutOf (m : List ℕ) (p : Layout) : Type 0 where
   pub constraints-is : p .constraints ≡ constraintsAt m
   pub gates-is : p .gates ≡ gatesAt m
   pub end-is : p .end ≡ contentEnd m
+  pub u-is : p .u ≡ freeStarts (circuitIn m)
+
+-- a layout with another U
+abbrev pub withStarts : Layout → ℕ → Layout
+withStarts p u =
+    record {
+      m = p .m;
+      i = p .i;
+      l = p .l;
+      o = p .o;
+      a = p .a;
+      b = p .b;
+      c = p .c;
+      latches = p .latches;
+      outputs = p .outputs;
+      bads = p .bads;
+      constraints = p .constraints;
+      gates = p .gates;
+      end = p .end;
+      u = u;
+    }
+
+-- all of the layout but U
+abbrev pub PlacesOf : List ℕ → Layout → Type 0
+PlacesOf m p = LayoutOf m (withStarts p (freeStarts (circuitIn m)))
 
 -- the counts in the first seven words are within their limits, and the words hold what they count
 pub record Counted (w : List ℕ) : Type 0 where

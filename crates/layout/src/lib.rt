@@ -1,12 +1,15 @@
 // Where the parts of a circuit stand in circuit memory.
 ghost use mathlib.Core.Path.{_≡_};
+ghost use mathlib.Core.Bool.{cond};
 ghost use Prim.Native.Nat.{_≤_, _<_, _^_};
+ghost use lib.Dec.{eqb};
 ghost use lib.ListN.{length};
-ghost use Rattle.layout.specs.Words.{word};
-ghost use Rattle.layout.specs.Layout.{LayoutOf};
+ghost use Rattle.aiger.specs.Frames.{freeStarts};
+ghost use Rattle.layout.specs.Words.{word, circuitIn};
+ghost use Rattle.layout.specs.Layout.{LayoutOf, PlacesOf, Counted};
 
-// A circuit's counts, M I L O A B C, and the positions where its latches, outputs, bad lines, constraints and gates begin and
-// where the last gate ends. The inputs begin at 7.
+// A circuit's counts, M I L O A B C, the positions where its latches, outputs, bad lines, constraints and gates begin and where the
+// last gate ends, and U, the number of latches with a free start. The inputs begin at 7.
 pub struct Layout {
     pub m: usize,
     pub i: usize,
@@ -21,6 +24,7 @@ pub struct Layout {
     pub constraints: usize,
     pub gates: usize,
     pub end: usize,
+    pub u: usize,
 }
 
 // Word i, as a count.
@@ -31,10 +35,10 @@ pub fn count_at(m: &[u32], i: usize) -> usize
     m[i] as usize
 }
 
-// The layout that the first seven words encode.
+// The counts and positions that the first seven words encode. U, which they do not tell, is left 0.
 pub fn layout_of(m: &[u32]) -> Layout
     requires { ⌜ 7 ≤ length (now m) ⌝ }
-    ensures { λ r. ⌜ LayoutOf (now (m .entry)) r ⌝ }
+    ensures { λ r. ⌜ PlacesOf (now (m .entry)) r × (r .u ≡ 0) ⌝ }
 {
     let i = count_at(m, 1);
     let l = count_at(m, 2);
@@ -61,5 +65,39 @@ pub fn layout_of(m: &[u32]) -> Layout
         constraints,
         gates,
         end: gates + 3 * a,
+        u: 0,
     }
+}
+
+// 1 for a latch with a free start, else 0.
+pub fn free_start(lit: u32, reset: u32) -> usize
+    ensures { λ r. ⌜ r ≡ cond (eqb reset lit) 1 0 ⌝ }
+{
+    if reset == lit { 1 } else { 0 }
+}
+
+// The number of latches with a free start.
+fn free_starts(m: &[u32], p: Layout) -> usize
+    requires { ⌜ PlacesOf (now m) p × Counted (now m) ⌝ }
+    ensures { λ r. ⌜ r ≡ freeStarts (circuitIn (now (m .entry))) ⌝ }
+{
+    let latches = p.latches;
+    let l = p.l;
+    let mut free = 0;
+    let mut j = 0;
+    while j < l {
+        free += free_start(m[latches + 3 * j], m[latches + 3 * j + 2]);
+        j += 1;
+    }
+    free
+}
+
+// The layout p with U.
+pub fn with_starts(m: &[u32], p: Layout) -> Layout
+    requires { ⌜ PlacesOf (now m) p × Counted (now m) ⌝ }
+    ensures { λ r. ⌜ LayoutOf (now (m .entry)) r ⌝ }
+{
+    let mut layout = p;
+    layout.u = free_starts(m, p);
+    layout
 }

@@ -17,7 +17,7 @@ use Rattle.layout.specs.Words.{contentEnd}
 use Rattle.roundtrip.proofs.Content.{words-take}
 use Rattle.lines.specs.Lines.{within, RowsRead}
 use Rattle.layout.specs.declared.Layout.{Layout}
-use Rattle.layout.specs.Layout.{LayoutOf}
+use Rattle.layout.specs.Layout.{PlacesOf}
 use Rattle.load.specs.Steps.{headerAt}
 use Rattle.load.proofs.Literals.{literals-within}
 use Rattle.load.proofs.Lines.{Begins, lines-length, run-fits, run-begins, flat-ones, flat-latches, flat-gates}
@@ -32,8 +32,8 @@ pub record Placed (p : Layout) (len : ℕ) : Type 0 where
   pub end : p .gates + p .a * 3 ≡ p .end
   pub room : p .end ≤ len
 
-pub placed : {w : List ℕ} {p : Layout} → LayoutOf w p → contentEnd w ≤ length w → Placed p (length w)
-placed q h =
+pub placed : {w : List ℕ} (p : Layout) → PlacesOf w p → contentEnd w ≤ length w → Placed p (length w)
+placed p q h =
     record {
       latches = omega (arith, q);
       outputs = omega (arith, q);
@@ -48,8 +48,8 @@ placed q h =
 abbrev pub headerIn : Layout → Header
 headerIn p = record { M = p .m; I = p .i; L = p .l; O = p .o; A = p .a; B = p .b; C = p .c; J = 0; F = 0 }
 
-layout-header : {w : List ℕ} {p : Layout} → LayoutOf w p → headerAt w ≡ headerIn p
-layout-header q =
+layout-header : {w : List ℕ} (p : Layout) → PlacesOf w p → headerAt w ≡ headerIn p
+layout-header p q =
     λ t. record {
       M = sym (q .m-is) t;
       I = sym (q .i-is) t;
@@ -83,9 +83,9 @@ six false g h i j k e = absurd (unlike e)
 moved : {w xs : List ℕ} {n k : ℕ} → n ≡ k → Begins w n xs → Begins w k xs
 moved {w} {xs} e b = subst (λ (j : ℕ). Begins w j xs) e b
 
-module _ (s : List ℕ) (at : ℕ) (p : Layout) (limit : ℕ) (w : List ℕ) (q : LayoutOf w p) where
+module _ (s : List ℕ) (at : ℕ) (p : Layout) (limit : ℕ) (w : List ℕ) (q : PlacesOf w p) where
   same-body : body (headerAt w) (drop at s) ≡ body (headerIn p) (drop at s)
-  same-body = ap (λ (h : Header). body h (drop at s)) (layout-header q)
+  same-body = ap (λ (h : Header). body h (drop at s)) (layout-header p q)
 
   -- a run that is malformed leaves no circuit
   pub none-1 : rows 1 1 (p .i) (drop at s) ≡ none → body (headerAt w) (drop at s) ≡ none

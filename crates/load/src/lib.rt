@@ -15,7 +15,7 @@ ghost use Rattle.aiger.specs.Memory.{image};
 ghost use Rattle.aiger.specs.Operations.{Loaded, front};
 ghost use Rattle.layout.specs.Words.{word, contentEnd, circuitIn};
 ghost use Rattle.lines.specs.Header.{countsMeant};
-ghost use Rattle.layout.specs.Layout.{LayoutOf, Counted};
+ghost use Rattle.layout.specs.Layout.{PlacesOf, Counted};
 ghost use Rattle.load.specs.Answers.{answered, numbers};
 ghost use Rattle.load.specs.Steps.{narrowed, headerMeant, headerAt, Leaves, accepts, loadBody, BodyAt};
 
@@ -77,7 +77,7 @@ fn store_counts(words: &mut [u32], k: Counts)
 // Reads the lines after the header, and stores their numbers after the counts, which words has.
 fn read_body(s: &[u8], at: usize, p: Layout, limit: u32, words: &mut [u32]) -> Body
     requires { ⌜ at ≤ length (now s) ⌝ }
-    requires { ⌜ LayoutOf (now words) p ⌝ }
+    requires { ⌜ PlacesOf (now words) p ⌝ }
     requires { ⌜ contentEnd (now words) ≤ length (now words) ⌝ }
     requires { ⌜ limit ≡ 2 * word (now words) 0 + 1 ⌝ }
     ensures { λ r. ⌜ BodyAt (headerAt (now (words .entry))) (drop at (now (s .entry))) (now (words .exit)) r ⌝ }

@@ -15,7 +15,7 @@ use Rattle.meaning.proofs.Cycles.{ranked, stuck-at}
 use Rattle.meaning.proofs.Lists.{last-only, last-none, eqb-of}
 use Rattle.layout.specs.Words.{word, gatesAt, gateIn, circuitIn}
 use Rattle.layout.specs.declared.Layout.{Layout}
-use Rattle.layout.specs.Layout.{Counted, LayoutOf}
+use Rattle.layout.specs.Layout.{Counted, PlacesOf}
 use Rattle.columns.specs.Columns.{total}
 use Rattle.variables.specs.Table.{Entered}
 use Rattle.layout.specs.Order.{gateAt, Feeds, Ordered, driver, leftGate, rightGate, placedFrom, depthFirst}
@@ -212,7 +212,7 @@ module _ (w : List ℕ) where
   -- ---- the part of the words that starts at the gates, by a layout of the words
 
   module _ (C : Counted w) (right : T (literalsRight (circuitIn w))) (t : List ℕ) (E : Entered w (total w) t)
-      (p : Layout) (q : LayoutOf w p) where
+      (p : Layout) (q : PlacesOf w p) where
     part : take (length w - p .gates) (drop (p .gates) w) ≡ drop (gatesAt w) w
     part = rest w (p .gates) ∙ ap (λ (x : ℕ). drop x w) (q .gates-is)
 

@@ -43,6 +43,11 @@ check-requires c κs = (shaped-counted (well (c .before)), c .before .before .be
 enum-told : tie.Need-enum-told
 enum-told c = search needs
 
+with-starts-requires : tie.Need-with-starts-requires
+with-starts-requires c κs =
+    let n = c .before .before .before .before in
+    (n .before .before .before .before .layout-of .ensures .0, shaped-counted (well (n .before .before)))
+
 enum-told-2 : tie.Need-enum-told-2
 enum-told-2 c = search needs
 
@@ -51,10 +56,10 @@ same-length c = search needs
 
 returns-3 : tie.Need-returns-3
 returns-3 c =
-    let n = c .before .before .before .before in
-    let r = found n _ (c .enum-told .given .1) in
+    let n = c .before .before .before .before .before in
+    let r = found n _ (c .before .enum-told .given .1) in
     let w = well (n .before .before) in
-    (n .before .before .before .before .layout-of .ensures, sound-holds (sound w (r .0)), r .1)
+    (c .with-starts .ensures, sound-holds (sound w (r .0)), r .1)
 
 same-length-2 : tie.Need-same-length-2
 same-length-2 c = search needs
@@ -72,6 +77,7 @@ held-in-spec =
     returns-2
     check-requires
     enum-told
+    with-starts-requires
     enum-told-2
     same-length
     returns-3

@@ -1,7 +1,8 @@
 -- `job::shown_length` meets its contract. Assumes nothing.
 use native.Mathlib.Omega.{arith}
 use Rattle.layout.specs.Words.{circuitIn}
-use Rattle.frames.proofs.Facts.{valid, counts}
+use Rattle.roundtrip.proofs.Counts.{counted}
+use Rattle.frames.proofs.Facts.{valid, counts, inside}
 use Rattle.search.proofs.Sizes.{counts-of, limited}
 use Rattle.job.specs.Replies.{FoundFits}
 use Rattle.job.proofs.Replying.{other-length}
@@ -22,21 +23,26 @@ returns c = let s = c .before .before .args in other-length (circuitIn (s .m .no
 layout-of-requires : tie.Need-layout-of-requires
 layout-of-requires c κs = omega (arith, valid (fits c .holds) .held)
 
+with-starts-requires : tie.Need-with-starts-requires
+with-starts-requires c κs =
+    let h = fits (c .before) .holds in
+    (c .layout-of .ensures .0, counted _ (valid h .fit) (inside h))
+
 cast-witness-length : tie.Need-cast-witness-length
-cast-witness-length c = omega (arith, fits (c .before) .bad, counts (fits (c .before) .holds) .bads)
+cast-witness-length c = let k = c .before .before in omega (arith, fits k .bad, counts (fits k .holds) .bads)
 
 cast-witness-length-2 : tie.Need-cast-witness-length-2
 cast-witness-length-2 c = search needs
 
 witness-length-requires : tie.Need-witness-length-requires
-witness-length-requires c κs = (limited (fits (c .before) .holds) (c .layout-of .ensures), omega (arith, fits (c .before) .frame))
+witness-length-requires c κs = let k = c .before .before in (limited (fits k .holds) (c .with-starts .ensures), omega (arith, fits k .frame))
 
 returns-2 : tie.Need-returns-2
 returns-2 c =
     let l = c .before in
-    let k = l .before in
+    let k = l .before .before in
     let m = k .before .before .before .before .args .m .now in
-    rw (k .before .answer .given .1) (c .witness-length .ensures (circuitIn m) (counts-of (fits k .holds) (l .layout-of .ensures)))
+    rw (k .before .answer .given .1) (c .witness-length .ensures (circuitIn m) (counts-of (fits k .holds) (l .with-starts .ensures)))
 
 pub shown-length-spec : {M : Type 1} → statement M
 shown-length-spec =
@@ -45,6 +51,7 @@ shown-length-spec =
     enum-known-answer
     returns
     layout-of-requires
+    with-starts-requires
     cast-witness-length
     cast-witness-length-2
     witness-length-requires

@@ -72,7 +72,7 @@ read-body-requires c κs =
     let r = drop 7 (s .args .words .now) in (
       s .pre .0,
       (
-        c .before .before .layout-of .ensures,
+        c .before .before .layout-of .ensures .0,
         (
           room-stored k (W t) r (counts t) (s .pre .1 .0) (omega (arith, size t, s .pre .1 .1 .0)),
           limit-stored k (W t) r (counts t),

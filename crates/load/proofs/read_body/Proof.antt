@@ -117,7 +117,7 @@ run6 n r e = rw (← e) (n .read-rows6 .ensures)
 read-rows-requires : tie.Need-read-rows-requires
 read-rows-requires c κs =
     let s = c .before .before .before in
-    (s .pre .0, (omega arith, omega (arith, placed (s .pre .1 .0) (s .pre .1 .1 .0))))
+    (s .pre .0, (omega arith, omega (arith, placed (s .args .p) (s .pre .1 .0) (s .pre .1 .1 .0))))
 
 enum-known-at : tie.Need-enum-known-at
 enum-known-at c = search needs
@@ -140,7 +140,7 @@ read-rows-requires-2 : tie.Need-read-rows-requires-2
 read-rows-requires-2 c κs =
     let n = c .before .before .before .before .before .before in
     let s = start1 n in
-    (run1 n _ (c .before .before .at .given .1) .inside, (omega arith, omega (arith, placed (s .pre .1 .0) (s .pre .1 .1 .0), size1 n)))
+    (run1 n _ (c .before .before .at .given .1) .inside, (omega arith, omega (arith, placed (s .args .p) (s .pre .1 .0) (s .pre .1 .1 .0), size1 n)))
 
 enum-known-at-2 : tie.Need-enum-known-at-2
 enum-known-at-2 c = search needs
@@ -165,7 +165,7 @@ read-rows-requires-3 : tie.Need-read-rows-requires-3
 read-rows-requires-3 c κs =
     let n = c .before .before .before .before .before .before in
     let s = start2 n in
-    (run2 n _ (c .before .before .at2 .given .1) .inside, (omega arith, omega (arith, placed (s .pre .1 .0) (s .pre .1 .1 .0), size2 n)))
+    (run2 n _ (c .before .before .at2 .given .1) .inside, (omega arith, omega (arith, placed (s .args .p) (s .pre .1 .0) (s .pre .1 .1 .0), size2 n)))
 
 enum-known-at-3 : tie.Need-enum-known-at-3
 enum-known-at-3 c = search needs
@@ -192,7 +192,7 @@ read-rows-requires-4 : tie.Need-read-rows-requires-4
 read-rows-requires-4 c κs =
     let n = c .before .before .before .before .before .before in
     let s = start3 n in
-    (run3 n _ (c .before .before .at3 .given .1) .inside, (omega arith, omega (arith, placed (s .pre .1 .0) (s .pre .1 .1 .0), size3 n)))
+    (run3 n _ (c .before .before .at3 .given .1) .inside, (omega arith, omega (arith, placed (s .args .p) (s .pre .1 .0) (s .pre .1 .1 .0), size3 n)))
 
 enum-known-at-4 : tie.Need-enum-known-at-4
 enum-known-at-4 c = search needs
@@ -221,7 +221,7 @@ read-rows-requires-5 : tie.Need-read-rows-requires-5
 read-rows-requires-5 c κs =
     let n = c .before .before .before .before .before .before in
     let s = start4 n in
-    (run4 n _ (c .before .before .at4 .given .1) .inside, (omega arith, omega (arith, placed (s .pre .1 .0) (s .pre .1 .1 .0), size4 n)))
+    (run4 n _ (c .before .before .at4 .given .1) .inside, (omega arith, omega (arith, placed (s .args .p) (s .pre .1 .0) (s .pre .1 .1 .0), size4 n)))
 
 enum-known-at-5 : tie.Need-enum-known-at-5
 enum-known-at-5 c = search needs
@@ -252,7 +252,7 @@ read-rows-requires-6 : tie.Need-read-rows-requires-6
 read-rows-requires-6 c κs =
     let n = c .before .before .before .before .before .before in
     let s = start5 n in
-    (run5 n _ (c .before .before .at5 .given .1) .inside, (omega arith, omega (arith, placed (s .pre .1 .0) (s .pre .1 .1 .0), size5 n)))
+    (run5 n _ (c .before .before .at5 .given .1) .inside, (omega arith, omega (arith, placed (s .args .p) (s .pre .1 .0) (s .pre .1 .1 .0), size5 n)))
 
 enum-known-at-6 : tie.Need-enum-known-at-6
 enum-known-at-6 c = search needs
@@ -335,7 +335,7 @@ returns-8 c =
       body-made (a .s .now) (a .at) (a .p) (a .limit) (a .words .now) (s .pre .1 .0) r1 r2 r3 r4 r5 r6 e,
       drop (a .p .end) (words6 (t6 .before .before .before .before)),
       stored (a .s .now) (a .at) (a .p) (a .limit) (a .words .now) (s .pre .1 .0) r1 r2 r3 r4 r5 r6
-          (placed (s .pre .1 .0) (s .pre .1 .1 .0)) (omega (arith, s .pre .1 .1 .0)) (c .if2 .taken),
+          (placed (s .args .p) (s .pre .1 .0) (s .pre .1 .1 .0)) (omega (arith, s .pre .1 .1 .0)) (c .if2 .taken),
     )
 
 same-length-9 : tie.Need-same-length-9

@@ -32,7 +32,7 @@ returns : tie.Need-returns
 returns c =
     let t = c .before .before in
     let y = t .before .before .before .before .before in
-    let q = y .before .before .layout-of .ensures in
+    let q = y .before .before .layout-of .ensures .0 in
     let p = y .before .before .layout-of .result in
     let s = y .before .before .before .before .before in
     stored (s .args .words .now) (s .args .m .now) (p .end) (needed (p .m)) (s .pre .0) (q .end-is) (ap needed (q .m-is))

@@ -36,7 +36,7 @@ sort-requires c κs =
     let Q = c .before .before .before .before .before in
     let S = Q .before .before .before .before in (
       linked-part (S .args .w .now) (S .pre .0) (S .pre .1 .0) (S .args .table .now) (S .pre .1 .1 .0)
-          (Q .layout-of .result) (Q .layout-of .ensures),
+          (Q .layout-of .result) (Q .layout-of .ensures .0),
       ((omega arith, omega arith, omega arith), λ g l. getD-zeros 3072 g),
     )
 
@@ -49,7 +49,7 @@ returns c =
     let Q = A .before .before .before .before .before .before in
     let S = Q .before .before .before .before in
     sorted-part (S .args .w .now) (S .pre .0) (S .pre .1 .0) (S .args .table .now) (S .pre .1 .1 .0)
-    (Q .layout-of .result) (Q .layout-of .ensures) _ _ (A .sort .result) (A .sort .ensures .0) (A .sort .ensures .1)
+    (Q .layout-of .result) (Q .layout-of .ensures .0) _ _ (A .sort .result) (A .sort .ensures .0) (A .sort .ensures .1)
 
 pub ordered-spec : {M : Type 1} → statement M
 ordered-spec =

@@ -60,7 +60,7 @@ returns : tie.Need-returns Inv-loop μ-loop
 returns c =
     let A = c .before in
     let L = A .before .before .before .before in
-    let at = L .before .layout-of .ensures .latches-is in
+    let at = L .before .layout-of .ensures .0 .latches-is in
     λ all. subst T (sym (A .is-reset .ensures) ∙ not-true _ (c .if1 .taken)) (rw (sym at) at (all (L .loop .j) (omega arith)))
 
 add-j : tie.Need-add-j Inv-loop μ-loop
@@ -79,7 +79,7 @@ loop-again c = (
 returns-2 : tie.Need-returns-2 Inv-loop μ-loop
 returns-2 c =
     let L = c .before in
-    let at = L .before .layout-of .ensures .latches-is in
+    let at = L .before .layout-of .ensures .0 .latches-is in
     λ k l. rw (sym at) (L .loop .inv .1 k (omega arith))
 
 pub resets-spec : {M : Type 1} → statement M
