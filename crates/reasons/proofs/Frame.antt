@@ -16,7 +16,7 @@ use Rattle.reasons.specs.Claims.{Same}
 use Rattle.reasons.proofs.Valid.{same-refl}
 
 -- a word of a record, after a store elsewhere
-field-other : (w : List ℕ) (nodes v f i x : ℕ) → (v < nodes → place v f ≡ i → ⊥) → field (set w i x) nodes v f ≡ field w nodes v f
+pub field-other : (w : List ℕ) (nodes v f i x : ℕ) → (v < nodes → place v f ≡ i → ⊥) → field (set w i x) nodes v f ≡ field w nodes v f
 unfolding field
 field-other w nodes v f i x other = go (leb nodes v) refl
   where

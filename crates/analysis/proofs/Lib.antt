@@ -1,0 +1,3 @@
+-- The laws of `analysis`. Assumes nothing.
+pub mod Turns
+pub mod Sound

@@ -1,0 +1,21 @@
+-- `analysis::follow` meets its contract. Assumes nothing.
+use Rattle.analysis.specs.Analysis as S
+use borrow.Author.Needs.{needs}
+use Rattle.analysis.proofs.follow.Statement.{statement}
+use Rattle.analysis.proofs.follow.Tie as tie
+
+touch-all-requires : tie.Need-touch-all-requires
+touch-all-requires c κs = search needs
+
+descend-requires : tie.Need-descend-requires
+descend-requires c κs = search needs
+
+same-length : tie.Need-same-length
+same-length c = search needs
+
+returns : tie.Need-returns
+unfolding S.followed
+returns c = (record { words = cc; draft = cc })
+
+pub follow-spec : {M : Type 1} → statement M
+follow-spec = tie.close (tie.spec touch-all-requires descend-requires same-length returns)

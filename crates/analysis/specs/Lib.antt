@@ -1,0 +1,2 @@
+-- What the contracts of `analysis` cite. Assumes nothing.
+pub mod Analysis

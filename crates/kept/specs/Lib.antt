@@ -1,0 +1,2 @@
+-- What the contracts of `kept` cite. Assumes nothing.
+pub mod Kept
