@@ -1,5 +1,5 @@
 -- Laws of load as a whole: its tests, what the words say once the lines are stored, and what is left. Assumes nothing.
-use mathlib.Core.Path.{_≡_, refl, sym, ap, _∙_}
+use mathlib.Core.Path.{_≡_, refl, sym, ap, _∙_, subst}
 use mathlib.Core.Bool.{Bool, true, false}
 use mathlib.Core.List.{List, [], _∷_, _++_}
 use mathlib.Core.Option.{Option, none, some}
@@ -18,7 +18,7 @@ use Rattle.aiger.specs.Operations.{front, Loaded}
 use Rattle.aiger.proofs.Tests.{T-true, all-at}
 use Rattle.layout.specs.Words.{word, contentEnd, circuitIn}
 use Rattle.roundtrip.proofs.Lists.{upto-length}
-use Rattle.roundtrip.proofs.LoadValid.{body-counted, same-header}
+use Rattle.roundtrip.proofs.LoadValid.{body-counted, same-header, load-valid}
 use Rattle.roundtrip.proofs.Content.{words-take, content-length, circuit-in}
 use Rattle.lines.specs.Header.{countsMeant}
 use Rattle.lines.specs.declared.Counts as lines
@@ -26,8 +26,12 @@ use Rattle.layout.specs.Layout.{Counted}
 use Rattle.roundtrip.proofs.Counts.{counted}
 use Rattle.validity.specs.Validity.{judged}
 use Rattle.load.specs.declared.Counts.{Counts}
-use Rattle.load.specs.Answers.{numbers}
-use Rattle.load.specs.Steps.{narrowed, headerMeant, headerAt, accepts, loadBody, Leaves, refuses, stores}
+use Rattle.load.specs.declared.LoadAnswer.{LoadAnswer}
+use Rattle.load.specs.declared.LoadAnswer.the-variants as LoadAnswer
+use Rattle.load.specs.declared.Judgement.{Judgement}
+use Rattle.load.specs.Answers.{answered, numbers}
+use Rattle.load.specs.Preview.{countsOf, wordsNeeded, Previewed, JudgedAs, Judges}
+use Rattle.load.specs.Steps.{narrowed, headerMeant, headerAt, accepts, loadBody, CircuitJudged}
 
 -- the greatest counts
 pub record Limits (k : Counts) : Type 0 where
@@ -40,7 +44,7 @@ pub record Limits (k : Counts) : Type 0 where
   pub c : k .c ≤ 16
   pub sum : k .i + k .l + k .a ≤ k .m
 
-limits-of : (h : Header) → countsFit h ≡ true
+pub limits-of : (h : Header) → countsFit h ≡ true
     → Limits (record { m = h .M; i = h .I; l = h .L; o = h .O; a = h .A; b = h .B; c = h .C })
 unfolding countsFit
 limits-of h e =
@@ -144,18 +148,9 @@ pub accepts-refused : (c : Circuit) {n : ℕ} → judged c ≡ refused n → acc
 unfolding accepts
 accepts-refused c e = rw e
 
-accepts-right : (c : Circuit) → judged c ≡ gives tt → accepts c ≡ gives c
+pub accepts-right : (c : Circuit) → judged c ≡ gives tt → accepts c ≡ gives c
 unfolding accepts
 accepts-right c e = rw e
-
-heads-in : (w : List ℕ) → 7 ≤ length w → take 7 w ≡ circuitIn w .maxVar ∷ countRow (circuitIn w)
-unfolding circuitIn
-heads-in w h = sym (words-take w 0 7 h) ∙ simp upto-length
-
-pub finished : (k : Counts) (w m m′ : List ℕ) → 7 ≤ length w → numbers k ≡ take 7 w → judged (circuitIn w) ≡ gives tt
-    → m′ ≡ front (image (circuitIn w)) m → Leaves (accepts (circuitIn w)) m (gives (numbers k)) m′
-finished k w m m′ h n j e =
-    rw (n, heads-in w h, e) (stores (circuitIn w) (accepts-right (circuitIn w) j))
 
 -- load as a whole
 
@@ -204,7 +199,72 @@ module _ (room : ℕ) (f : List ℕ) where
             rw (le-leb 1 (length f) some-byte, le-leb (length f) 65536 short, e, n, le-leb (needed (h .m)) room l)
             (after-body (body (countsMeant h) (drop at f)))
 
--- what a part of load leaves, load leaves
-pub loaded : {a : Answer Circuit} (m f m′ : List ℕ) (r : Answer (List ℕ)) → spec.load (length m) f ≡ a → Leaves a m r m′ → Loaded m f r m′
-loaded m f m′ (refused n) e (refuses x) = Loaded.refuses (e ∙ x)
-loaded m f m′ (gives v) e (stores c x) = Loaded.stores c (e ∙ x)
+-- the words needed
+
+module _ (f : List ℕ) where
+  pub none-empty : length f < 1 → 0 ≡ wordsNeeded f
+  unfolding wordsNeeded
+  none-empty h = rw (lt-leb 1 (length f) h)
+
+  pub none-long : 65536 < length f → 0 ≡ wordsNeeded f
+  unfolding wordsNeeded
+  none-long h =
+      let a : 1 ≤ length f = omega arith in
+      rw (le-leb 1 (length f) a, lt-leb (length f) 65536 h)
+
+  module _ (some-byte : 1 ≤ length f) (short : length f ≤ 65536) where
+    pub none-header : header f ≡ none → 0 ≡ wordsNeeded f
+    unfolding wordsNeeded
+    none-header e = rw (le-leb 1 (length f) some-byte, le-leb (length f) 65536 short, e)
+
+    module _ (h : lines.Counts) (at : ℕ) (e : header f ≡ some (countsMeant h, drop at f)) where
+      pub none-counts : countsFit (countsMeant h) ≡ false → 0 ≡ wordsNeeded f
+      unfolding wordsNeeded
+      none-counts n = rw (le-leb 1 (length f) some-byte, le-leb (length f) 65536 short, e, n)
+
+      pub some-words : countsFit (countsMeant h) ≡ true → needed (h .m) ≡ wordsNeeded f
+      unfolding wordsNeeded
+      some-words n = rw (le-leb 1 (length f) some-byte, le-leb (length f) 65536 short, e, n)
+
+-- ---- a judgement, and what is stored after it
+
+-- the lines make a circuit, which stands in the words
+pub lines-judged : (k : Counts) (g : List ℕ) (c : Circuit) → body (headerMeant k) g ≡ some c → (w r : List ℕ) → w ≡ content c ++ r
+    → (x : LoadAnswer) → CircuitJudged (circuitIn w) k x → JudgedAs (loadBody (headerMeant k) g) w x
+lines-judged k g c b w r e (LoadAnswer.Loaded k′) z =
+    (c, sym (body-accepts k g c b w r e) ∙ z .1 ∙ ap gives (same-circuit k g c b w r e), ap numbers (z .0) ∙ same-counts k g c b, r, e)
+lines-judged k g c b w r e (LoadAnswer.Refused n) z = sym (body-accepts k g c b w r e) ∙ z
+
+pub file-judged : {a b : Answer Circuit} → a ≡ b → (w : List ℕ) (x : LoadAnswer) → JudgedAs b w x → JudgedAs a w x
+file-judged e w (LoadAnswer.Loaded k) z = (z .0, e ∙ z .1, z .2, z .3, z .4)
+file-judged e w (LoadAnswer.Refused n) z = e ∙ z
+
+-- a refusal before the words needed are known
+pub judged-refused : {room n : ℕ} {f w : List ℕ} {r : Judgement} → r ≡ record { answer = LoadAnswer.Refused n; needed = 0 }
+    → spec.load room f ≡ refused n → 0 ≡ wordsNeeded f → Judges room f w r
+judged-refused {room} {n} {f} {w} e a b = subst (Judges room f w) (sym e) (record { answer = a; needed = b })
+
+-- what is judged is previewed
+pub previewed : {room : ℕ} {f w : List ℕ} {r : Judgement} → Judges room f w r → Previewed room f r
+previewed {room} {f} {w} {r} j = record { answer = go (r .answer) (j .answer); needed = j .needed }
+  where
+    go : (x : LoadAnswer) → JudgedAs (spec.load room f) w x → answered x ≡ (spec.load room f >>= λ c. gives (countsOf c))
+    go (LoadAnswer.Loaded k) z = ap gives (z .2) ∙ sym (ap (λ (a : Answer Circuit). a >>= λ c. gives (countsOf c)) (z .1))
+    go (LoadAnswer.Refused n) z = sym (ap (λ (a : Answer Circuit). a >>= λ c. gives (countsOf c)) z)
+
+module _ (m f w : List ℕ) (k : Counts) (z : JudgedAs (spec.load (length m) f) w (LoadAnswer.Loaded k)) where
+  is-circuit : circuitIn w ≡ z .0
+  is-circuit = ap circuitIn (z .4) ∙ circuit-in (z .0) (z .3)
+
+  pub judged-counted : Counted w
+  judged-counted =
+      let v = load-valid f (z .1) in
+      let end : contentEnd w ≡ length (content (z .0)) = sym (content-length w) ∙ ap (λ (d : Circuit). length (content d)) is-circuit in
+      counted w (ap (λ (d : Circuit). countsFit (headerOf d)) is-circuit ∙ v .fit) (omega (arith, ap length (z .4), length-append (content (z .0)) (z .3)))
+
+  pub judged-room : needed (word w 0) ≤ length m
+  unfolding content
+  judged-room = omega (arith, load-valid f (z .1) .held, ap (λ (x : List ℕ). word x 0) (z .4))
+
+  pub judged-stored : (m′ : List ℕ) → m′ ≡ front (image (circuitIn w)) m → Loaded m f (gives (numbers k)) m′
+  judged-stored m′ e = rw (z .2, e, is-circuit) (Loaded.stores (z .0) (z .1))

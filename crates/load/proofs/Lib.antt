@@ -3,3 +3,4 @@ pub mod Literals
 pub mod Lines
 pub mod Parts
 pub mod Finishing
+pub mod Previews

@@ -1,19 +1,19 @@
 -- The parts of load, as its functions have them. Assumes nothing.
 use mathlib.Core.Path.{_≡_}
 use mathlib.Core.Bool.{false}
-use mathlib.Core.List.{List, _∷_, _++_}
+use mathlib.Core.List.{List, _++_}
 use mathlib.Core.Option.{none, some}
 use Prim.Native.Nat.{ℕ}
 use Rattle.aiger.specs.Circuit.{Circuit, literalsRight}
 use Rattle.aiger.specs.File.{Header, body}
 use Rattle.aiger.specs.Load.{Answer, refused, gives, read, _>>=_, _>>_}
-use Rattle.aiger.specs.Write.{countRow}
-use Rattle.aiger.specs.Memory.{content, image}
-use Rattle.aiger.specs.Operations.{front}
+use Rattle.aiger.specs.Memory.{content}
 use Rattle.layout.specs.Words.{word}
 use Rattle.lines.specs.declared.Counts as lines
 use Rattle.validity.specs.Validity.{judged}
 use Rattle.load.specs.declared.Counts.{Counts}
+use Rattle.load.specs.declared.LoadAnswer.{LoadAnswer}
+use Rattle.load.specs.declared.LoadAnswer.the-variants.{Loaded, Refused}
 use Rattle.load.specs.declared.Body.{Body}
 use Rattle.load.specs.declared.Body.the-variants.{Read, Large, Malformed}
 
@@ -38,10 +38,10 @@ accepts c = judged c >> gives c
 unfoldable pub loadBody : Header → List ℕ → Answer Circuit
 loadBody h g = read 5 (body h g) >>= accepts
 
--- what is answered, and left of a memory m: nothing is stored on a refusal
-pub data Leaves (a : Answer Circuit) (m : List ℕ) : Answer (List ℕ) → List ℕ → Type 0 where
-  refuses : {n : ℕ} → a ≡ refused n → Leaves a m (refused n) m
-  stores : (c : Circuit) → a ≡ gives c → Leaves a m (gives (c .maxVar ∷ countRow c)) (front (image c) m)
+-- the answer on a circuit with the counts k
+abbrev pub CircuitJudged : Circuit → Counts → LoadAnswer → Type 0
+CircuitJudged c k (Loaded k′) = (k′ ≡ k) × (accepts c ≡ gives c)
+CircuitJudged c k (Refused n) = accepts c ≡ refused n
 
 -- the lines g after a header h, and the words w that they left: the circuit's content at the front, a circuit with a literal that is
 -- too large, or no circuit

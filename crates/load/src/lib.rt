@@ -16,8 +16,10 @@ ghost use Rattle.aiger.specs.Operations.{Loaded, front};
 ghost use Rattle.layout.specs.Words.{word, contentEnd, circuitIn};
 ghost use Rattle.lines.specs.Header.{countsMeant};
 ghost use Rattle.layout.specs.Layout.{PlacesOf, Counted};
+ghost use Rattle.load.specs.declared.LoadAnswer.the-variants.{Refused};
 ghost use Rattle.load.specs.Answers.{answered, numbers};
-ghost use Rattle.load.specs.Steps.{narrowed, headerMeant, headerAt, Leaves, accepts, loadBody, BodyAt};
+ghost use Rattle.load.specs.Preview.{Previewed, JudgedAs, Judges};
+ghost use Rattle.load.specs.Steps.{narrowed, headerMeant, headerAt, CircuitJudged, loadBody, BodyAt};
 
 // The numbers that an accepted load returns: the largest variable, and how many inputs, latches, outputs, gates, bad lines and
 // constraints there are.
@@ -35,6 +37,12 @@ pub struct Counts {
 pub enum LoadAnswer {
     Loaded(Counts),
     Refused(u32),
+}
+
+// A judgement of a file: what load answers, and the words that its circuit needs, 0 where its header does not tell.
+pub struct Judgement {
+    pub answer: LoadAnswer,
+    pub needed: usize,
 }
 
 // The lines of a file: read and stored; read, with a number above the limit; or malformed.
@@ -147,78 +155,106 @@ fn store(words: &[u32], m: &mut [u32])
     clear(m, p.end, 8 * (p.m + 1) + 256);
 }
 
-// Tests the circuit that words encode, and stores it.
-fn finish(k: Counts, words: &[u32], order: &mut [u32], m: &mut [u32]) -> LoadAnswer
+// Whether a cause from 6 to 8 refuses the circuit that words encode, which has the counts k.
+fn judge_circuit(k: Counts, words: &[u32], order: &mut [u32]) -> LoadAnswer
     requires { ⌜ Counted (now words) ⌝ }
-    requires { ⌜ numbers k ≡ take 7 (now words) ⌝ }
     requires { ⌜ 3072 ≤ length (now order) ⌝ }
-    requires { ⌜ needed (word (now words) 0) ≤ length (now m) ⌝ }
-    ensures { λ r. ⌜ Leaves (accepts (circuitIn (now (words .entry)))) (now (m .entry)) (answered r) (now (m .exit)) ⌝ }
+    ensures { λ r. ⌜ CircuitJudged (circuitIn (now (words .entry))) k r ⌝ }
 {
     match validity::check(words, order) {
         Checked::Refused(n) => LoadAnswer::Refused(n),
-        Checked::Right => {
-            store(words, m);
-            LoadAnswer::Loaded(k)
-        }
+        Checked::Right => LoadAnswer::Loaded(k),
     }
 }
 
-// Loads the lines after a header with the counts k.
-fn load_with(
-    s: &[u8],
-    at: usize,
-    k: Counts,
-    words: &mut [u32],
-    order: &mut [u32],
-    m: &mut [u32],
-) -> LoadAnswer
+// Judges the lines after a header with the counts k. The content of an accepted circuit is left in words.
+fn judge_lines(s: &[u8], at: usize, k: Counts, words: &mut [u32], order: &mut [u32]) -> LoadAnswer
     requires { ⌜ at ≤ length (now s) ⌝ }
     requires { ⌜ countsFit (headerMeant k) ≡ true ⌝ }
     requires { ⌜ 12391 ≤ length (now words) ⌝ }
     requires { ⌜ 3072 ≤ length (now order) ⌝ }
-    requires { ⌜ needed (k .m) ≤ length (now m) ⌝ }
-    ensures { λ r. ⌜ Leaves (loadBody (headerMeant k) (drop at (now (s .entry)))) (now (m .entry)) (answered r) (now (m .exit)) ⌝ }
+    ensures { λ r. ⌜ JudgedAs (loadBody (headerMeant k) (drop at (now (s .entry)))) (now (words .exit)) r ⌝ }
 {
     store_counts(words, k);
     let p = layout::layout_of(words);
     match read_body(s, at, p, 2 * k.m + 1, words) {
         Body::Malformed => LoadAnswer::Refused(5),
         Body::Large => LoadAnswer::Refused(6),
-        Body::Read => finish(k, words, order, m),
+        Body::Read => judge_circuit(k, words, order),
     }
 }
 
-// Reads, tests and stores the lines after the header, with local memory for their words and for the order of the gates.
-fn load_body(s: &[u8], at: usize, k: Counts, m: &mut [u32]) -> LoadAnswer
-    requires { ⌜ at ≤ length (now s) ⌝ }
-    requires { ⌜ countsFit (headerMeant k) ≡ true ⌝ }
-    requires { ⌜ needed (k .m) ≤ length (now m) ⌝ }
-    ensures { λ r. ⌜ Leaves (loadBody (headerMeant k) (drop at (now (s .entry)))) (now (m .entry)) (answered r) (now (m .exit)) ⌝ }
+// A refusal before the words needed are known.
+fn refused(n: u32) -> Judgement
+    ensures { λ r. ⌜ r ≡ record { answer = Refused n; needed = 0 } ⌝ }
 {
-    let mut words = [0u32; 12391];
-    let mut order = [0u32; 3072];
-    load_with(s, at, k, &mut words, &mut order, m)
+    Judgement {
+        answer: LoadAnswer::Refused(n),
+        needed: 0,
+    }
+}
+
+// Judges a file for a circuit memory of `room` words. The content of an accepted circuit is left in words.
+fn judge(file: &[u8], room: usize, words: &mut [u32], order: &mut [u32]) -> Judgement
+    requires { ⌜ 12391 ≤ length (now words) ⌝ }
+    requires { ⌜ 3072 ≤ length (now order) ⌝ }
+    ensures { λ r. ⌜ Judges room (now (file .entry)) (now (words .exit)) r ⌝ }
+{
+    if file.len() < 1 {
+        return refused(1);
+    }
+    if 65536 < file.len() {
+        return refused(1);
+    }
+    let Header::Read(h, at) = lines::read_header(file) else {
+        return refused(2);
+    };
+    if !lines::counts_fit(h) {
+        return refused(3);
+    }
+    let needed = 8 * (h.m as usize + 1) + 256;
+    if room < needed {
+        return Judgement {
+            answer: LoadAnswer::Refused(4),
+            needed,
+        };
+    }
+    let answer = judge_lines(file, at, narrow(h), words, order);
+    Judgement { answer, needed }
+}
+
+// Judges a file for m, and stores the circuit of an accepted one.
+fn load_by(file: &[u8], m: &mut [u32], words: &mut [u32], order: &mut [u32]) -> LoadAnswer
+    requires { ⌜ 12391 ≤ length (now words) ⌝ }
+    requires { ⌜ 3072 ≤ length (now order) ⌝ }
+    ensures { λ r. ⌜ Loaded (now (m .entry)) (now (file .entry)) (answered r) (now (m .exit)) ⌝ }
+{
+    let room = m.len();
+    let judgement = judge(file, room, words, order);
+    let answer = judgement.answer;
+    match answer {
+        LoadAnswer::Refused(n) => LoadAnswer::Refused(n),
+        LoadAnswer::Loaded(k) => {
+            store(words, m);
+            LoadAnswer::Loaded(k)
+        }
+    }
 }
 
 // Loads a file into circuit memory.
 pub fn load(file: &[u8], m: &mut [u32]) -> LoadAnswer
     ensures { λ r. ⌜ Loaded (now (m .entry)) (now (file .entry)) (answered r) (now (m .exit)) ⌝ }
 {
-    if file.len() < 1 {
-        return LoadAnswer::Refused(1);
-    }
-    if 65536 < file.len() {
-        return LoadAnswer::Refused(1);
-    }
-    let Header::Read(h, at) = lines::read_header(file) else {
-        return LoadAnswer::Refused(2);
-    };
-    if !lines::counts_fit(h) {
-        return LoadAnswer::Refused(3);
-    }
-    if (m.len() as u64) < 8 * (h.m + 1) + 256 {
-        return LoadAnswer::Refused(4);
-    }
-    load_body(file, at, narrow(h), m)
+    let mut words = [0u32; 12391];
+    let mut order = [0u32; 3072];
+    load_by(file, m, &mut words, &mut order)
+}
+
+// Preview of a load: what load would answer on a circuit memory as long as m, and how many words the circuit needs.
+pub fn preview(file: &[u8], m: &[u32]) -> Judgement
+    ensures { λ r. ⌜ Previewed (length (now (m .entry))) (now (file .entry)) r ⌝ }
+{
+    let mut words = [0u32; 12391];
+    let mut order = [0u32; 3072];
+    judge(file, m.len(), &mut words, &mut order)
 }

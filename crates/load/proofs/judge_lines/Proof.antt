@@ -1,23 +1,21 @@
--- `load::load_with` meets its contract: the counts, the lines, and then the circuit that the words say. Assumes nothing.
+-- `load::judge_lines` meets its contract: the counts, the lines, and then the circuit that the words say. Assumes nothing.
 use mathlib.Core.Path.{_≡_, subst}
 use mathlib.Core.List.{List, _++_}
 use Prim.Native.Nat.{ℕ}
 use native.Mathlib.Omega.{arith}
 use borrow.Author.Needs.{needs}
 use lib.ListN.{length, drop}
-use Rattle.aiger.specs.Circuit.{Circuit}
 use Rattle.aiger.specs.File.{Header}
-use Rattle.aiger.specs.Load.{Answer}
-use Rattle.load.specs.Answers.{answered, numbers}
-use Rattle.load.specs.Steps.{headerMeant, headerAt, Leaves, refuses, BodyAt}
+use Rattle.load.specs.Answers.{numbers}
+use Rattle.load.specs.Steps.{headerMeant, headerAt, BodyAt}
 use Rattle.load.specs.declared.Body.{Body}
-use Rattle.load.proofs.Finishing.{limits, header-stored, limit-stored, room-stored, numbers-stored, counts-stored, top-stored, body-accepts, body-large, body-malformed}
-use Rattle.load.proofs.load_with.Statement.{statement}
-use Rattle.load.proofs.load_with.Tie as tie
+use Rattle.load.proofs.Finishing.{limits, header-stored, limit-stored, room-stored, counts-stored, body-large, body-malformed, lines-judged}
+use Rattle.load.proofs.judge_lines.Statement.{statement}
+use Rattle.load.proofs.judge_lines.Tie as tie
 
 -- the function's entry
 abbrev S : tie.After-store-counts → tie.Start
-S t = t .before .before .before .before .before .before
+S t = t .before .before .before .before .before
 
 -- the words with the counts
 abbrev W : tie.After-store-counts → List ℕ
@@ -89,22 +87,13 @@ enum-told-2 c = search needs
 enum-told-3 : tie.Need-enum-told-3
 enum-told-3 c = search needs
 
-finish-requires : tie.Need-finish-requires
-finish-requires c κs =
-    let e = c .before .before .before in
+judge-circuit-requires : tie.Need-judge-circuit-requires
+judge-circuit-requires c κs =
+    let e = c .before .before in
     let n = e .before .before .before .before in
     let s = S (at n) in
-    let k = s .args .k in
-    let f = found n _ (e .enum-told3 .given .1) in (
-      counts-stored k (rest n) (f .0) (f .1) (lined n) (f .2) (f .3) (s .pre .1 .0),
-      (
-        numbers-stored k (rest n) (f .0) (f .1) (lined n) (f .2) (f .3),
-        (
-          s .pre .1 .1 .1 .0,
-          omega (arith, s .pre .1 .1 .1 .1, top-stored k (rest n) (f .0) (f .1) (lined n) (f .2) (f .3)),
-        ),
-      ),
-    )
+    let f = found n _ (e .enum-told3 .given .1) in
+    (counts-stored (s .args .k) (rest n) (f .0) (f .1) (lined n) (f .2) (f .3) (s .pre .1 .0), s .pre .1 .1 .1)
 
 same-length : tie.Need-same-length
 same-length c = search needs
@@ -112,7 +101,7 @@ same-length c = search needs
 returns : tie.Need-returns
 returns c =
     let n = c .before .before .before .before in
-    refuses (body-malformed (headerMeant (S (at n) .args .k)) (rest n) (found n _ (c .enum-told .given .1)))
+    body-malformed (headerMeant (S (at n) .args .k)) (rest n) (found n _ (c .enum-told .given .1))
 
 same-length-2 : tie.Need-same-length-2
 same-length-2 c = search needs
@@ -121,7 +110,7 @@ returns-2 : tie.Need-returns-2
 returns-2 c =
     let n = c .before .before .before .before in
     let f = found n _ (c .enum-told2 .given .1) in
-    refuses (body-large (S (at n) .args .k) (rest n) (f .0) (f .1) (f .2))
+    body-large (S (at n) .args .k) (rest n) (f .0) (f .1) (f .2)
 
 same-length-3 : tie.Need-same-length-3
 same-length-3 c = search needs
@@ -129,21 +118,17 @@ same-length-3 c = search needs
 same-length-4 : tie.Need-same-length-4
 same-length-4 c = search needs
 
-same-length-5 : tie.Need-same-length-5
-same-length-5 c = search needs
-
 returns-3 : tie.Need-returns-3
 returns-3 c =
-    let y = c .before .before .before .before in
-    let e = y .before .before .before .before in
+    let y = c .before .before in
+    let e = y .before .before .before in
     let n = e .before .before .before .before in
     let s = S (at n) in
     let f = found n _ (e .enum-told3 .given .1) in
-    subst (λ (a : Answer Circuit). Leaves a (s .args .m .now) (answered (y .finish .result)) (y .finish .last .1 .1 .1 .0))
-    (body-accepts (s .args .k) (rest n) (f .0) (f .1) (lined n) (f .2) (f .3)) (y .finish .ensures)
+    lines-judged (s .args .k) (rest n) (f .0) (f .1) (lined n) (f .2) (f .3) (y .judge-circuit .result) (y .judge-circuit .ensures)
 
-pub load-with-spec : {M : Type 1} → statement M
-load-with-spec =
+pub judge-lines-spec : {M : Type 1} → statement M
+judge-lines-spec =
     tie.close
     (tie.spec
     store-counts-requires
@@ -154,12 +139,11 @@ load-with-spec =
     enum-told
     enum-told-2
     enum-told-3
-    finish-requires
+    judge-circuit-requires
     same-length
     returns
     same-length-2
     returns-2
     same-length-3
     same-length-4
-    same-length-5
     returns-3)
