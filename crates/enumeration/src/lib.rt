@@ -80,7 +80,7 @@ fn put_starts(m: &[u32], layout: Layout, n: usize, block: u64, values: &mut [u64
 }
 
 // Gives each input its values in a frame: the bits of each sequence from top - 1 down.
-fn put_inputs(m: &[u32], layout: Layout, top: usize, block: u64, values: &mut [u64])
+pub fn put_inputs(m: &[u32], layout: Layout, top: usize, block: u64, values: &mut [u64])
     requires { ⌜ Holds (now m) (circuitIn (now m)) ⌝ }
     requires { ⌜ LayoutOf (now m) layout ⌝ }
     requires { ⌜ (word (now m) 0 < length (now values)) × (layout .i ≤ top) ⌝ }

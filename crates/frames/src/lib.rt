@@ -64,7 +64,7 @@ pub fn hit_word(m: &[u32], layout: Layout, order: &[u32], b: usize, values: &[u6
 }
 
 // The words of the next literals.
-fn next_state(m: &[u32], layout: Layout, values: &[u64], state: &mut [u64])
+pub fn next_state(m: &[u32], layout: Layout, values: &[u64], state: &mut [u64])
     requires { ⌜ (layout .latches + 3 * layout .l ≤ length (now m)) × (layout .l ≤ length (now state)) ⌝ }
     requires { ⌜ ((j : ℕ) → j < layout .l → var (word (now m) (layout .latches + 3 * j + 1)) < length (now values)) ⌝ }
     ensures { λ _. ⌜ ((j : ℕ) → j < layout .l → (p : ℕ) → p < 64 → bit (getD (now (state .exit)) j 0) p ≡ value (lane (now (values .entry)) p) (word (now (m .entry)) (layout .latches + 3 * j + 1))) ⌝ }

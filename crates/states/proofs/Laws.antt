@@ -63,18 +63,18 @@ pub trace-kept : (rows : ℕ) (r r′ : List ℕ) (n : ℕ) → ((j : ℕ) → j
     → Trace rows r t i z → Trace rows r′ t i z
 unfolding Trace
 trace-kept rows r r′ n same zero i z l h = h ∙ sym (same (4 * i + 2) (omega arith))
-trace-kept rows r r′ n same (suc t) i z l (p, (y, h, e)) =
+trace-kept rows r r′ n same (suc t) i z l (p, w, (y, h, e)) =
     let a : field r′ i 1 ≡ field r i 1 = same (4 * i + 1) (omega arith) in
     let b : field r′ i 2 ≡ field r i 2 = same (4 * i + 2) (omega arith) in
-    (omega arith, (y, subst (λ (q : ℕ). Trace rows r′ t q y) (sym a) (trace-kept rows r r′ n same t (field r i 1) y (omega arith) h), omega arith))
+    (omega arith, omega arith, (y, subst (λ (q : ℕ). Trace rows r′ t q y) (sym a) (trace-kept rows r r′ n same t (field r i 1) y (omega arith) h), omega arith))
 
 -- the trace of a record that was written
 pub trace-new : (rows : ℕ) (r r′ : List ℕ) (n : ℕ) → ((j : ℕ) → j < 4 * n → getD r′ j 0 ≡ getD r j 0) → (t parent row y : ℕ)
     → field r′ n 1 ≡ parent → field r′ n 2 ≡ row → Leads rows r t n parent row y → Trace rows r′ t n y
 unfolding Trace Leads
 trace-new rows r r′ n same zero parent row y a b h = h ∙ sym b
-trace-new rows r r′ n same (suc t) parent row y a b (p, (x, h, e)) =
-    (omega arith, (x, subst (λ (q : ℕ). Trace rows r′ t q x) (sym a) (trace-kept rows r r′ n same t parent x p h), omega arith))
+trace-new rows r r′ n same (suc t) parent row y a b (p, w, (x, h, e)) =
+    (omega arith, omega arith, (x, subst (λ (q : ℕ). Trace rows r′ t q x) (sym a) (trace-kept rows r r′ n same t parent x p h), omega arith))
 
 -- ---- an entry more
 module _ (r hd : List ℕ) (es : List Entry) (s y parent row : ℕ) (t : Stored r hd es) (l : 4 * length es + 3 < length r) where
@@ -280,4 +280,56 @@ holds-none rows quota r hd room small heads zeros =
       placed = λ l i a u. absurd (omega arith);
       lost = λ l. absurd (omega arith);
       buckets = heads;
+    }
+
+-- a table that fits does so after a state is met
+pub fits-met : {quota count s parent row count′ : ℕ} {r hd r′ hd′ : List ℕ} → Fits quota count r hd → Meets quota count s parent row r hd count′ r′ hd′
+    → Fits quota count′ r′ hd′
+fits-met f (Meets.lost l) = f
+fits-met f (Meets.again l g) = f
+fits-met f (Meets.full e g) =
+    record { quota-room = f .quota-room; quota-small = f .quota-small; count-small = omega arith; stored = λ l. absurd (omega arith) }
+fits-met {count = count} {s = s} {parent = parent} {row = row} {r = r} {hd = hd} f (Meets.added l g) =
+    let h = f .stored (omega arith) in
+    let new : List Entry = record { state = s; place = 0 } ∷ [] in
+    record {
+      quota-room = omega (arith, f .quota-room, length-written r count s parent row (getD hd (bucketOf s) 0));
+      quota-small = f .quota-small;
+      count-small = omega arith;
+      stored = λ _. (
+        h .0 ++ new,
+        length-append (h .0) new ∙ omega (arith, h .1),
+        subst (λ (n : ℕ). Stored (written r n s parent row (getD hd (bucketOf s) 0)) (set hd (bucketOf s) (n + 1)) (h .0 ++ new)) (h .1)
+            (stored-more r hd (h .0) s 0 parent row (h .2) (omega (arith, f .quota-room, h .1))),
+      );
+    }
+
+-- a table holds no record of the next layer yet
+pub holds-next : {rows t lo quota count : ℕ} {r hd : List ℕ} {es : List Entry} (u : ℕ) → count ≤ quota → Holds rows t lo quota count r hd es
+    → Holds rows u (length es) quota count r hd es
+holds-next u l h =
+    record {
+      quota-room = h .quota-room;
+      quota-small = h .quota-small;
+      count-small = h .count-small;
+      counted = h .counted;
+      stored = h .stored;
+      placed = λ k i a b. absurd (omega arith);
+      lost = h .lost;
+      buckets = h .buckets;
+    }
+
+-- a table holds what it held where the quota is larger
+pub holds-quota : {rows t lo quota count : ℕ} {r hd : List ℕ} {es : List Entry} (q : ℕ) → quota ≤ q → 4 * q ≤ length r → q < 4294967295 → count ≤ quota
+    → Holds rows t lo quota count r hd es → Holds rows t lo q count r hd es
+holds-quota q a b d l h =
+    record {
+      quota-room = b;
+      quota-small = d;
+      count-small = omega arith;
+      counted = λ _. h .counted l;
+      stored = λ _. h .stored l;
+      placed = λ _. h .placed l;
+      lost = λ k. absurd (omega arith);
+      buckets = h .buckets;
     }

@@ -1,0 +1,45 @@
+-- The rows of a block, met one after the other. Assumes nothing.
+use mathlib.Core.Path.{_≡_}
+use mathlib.Core.List.{List}
+use mathlib.Core.Option.{some}
+use Prim.Native.Nat.{ℕ, zero, suc, _+_, _*_, _^_, _≤_, _<_, min}
+use lib.Dec.{T}
+use lib.ListN.{length, getD}
+use Rattle.aiger.specs.Circuit.{Circuit}
+use Rattle.meaning.specs.Frame.{Valuation}
+use Rattle.frames.specs.Lanes.{lane, hitIn}
+use Rattle.machine.specs.Layers.{Entry, meet}
+use Rattle.states.specs.Table.{Fits}
+use Rattle.states.specs.Trace.{Trace, Holds}
+use Rattle.transitions.specs.Transitions.{latchesOf, rowOf, valuesIn, nextNumber}
+
+-- the states numbers p, after prefixes place p, for p below n
+unfoldable pub metRows : (ℕ → ℕ) → (ℕ → ℕ) → ℕ → List Entry → List Entry
+metRows numbers place zero es = es
+metRows numbers place (suc n) es = meet (some (numbers n)) (place n) (metRows numbers place n es)
+
+-- n rows from `first` on of record e, which lead to the states `numbers`, are met: what the table holds after
+pub record RowsMet (numbers : ℕ → ℕ) (quota count e first n : ℕ) (r hd : List ℕ) (count′ : ℕ) (r′ hd′ : List ℕ) : Type 0 where
+  pub longer : count ≤ count′
+  pub words : (j : ℕ) → j < 4 * count → getD r′ j 0 ≡ getD r j 0
+  pub fits : Fits quota count′ r′ hd′
+  pub holds :
+      (rows t lo x : ℕ) (es : List Entry) → Holds rows (suc t) lo quota count r hd es → e < count → first + n ≤ rows → Trace rows r t e x
+      → Holds rows (suc t) lo quota count′ r′ hd′ (metRows numbers (λ p. x * rows + (first + p)) n es)
+
+-- the words are the values of state s with the rows of a block
+abbrev pub Valued : Circuit → ℕ → ℕ → List ℕ → Type 0
+Valued c s block values = (p : ℕ) → p < 64 → Valuation c (rowOf c (block * 64 + p)) (latchesOf (length (c .latches)) s) (lane values p)
+
+-- r is the first of the 64 rows of a block with which state s hits, or 64
+pub record FirstRow (c : Circuit) (b s block : ℕ) (values : List ℕ) (r : ℕ) : Type 0 where
+  pub within : r ≤ 64
+  pub before : (p : ℕ) → p < r → T (hitIn c b (valuesIn c s (block * 64 + p))) → ⊥
+  pub here : r < 64 → T (hitIn c b (valuesIn c s (block * 64 + r)))
+  pub valued : Valued c s block values
+
+-- the rows of a block of record e are met, whatever state the values are of
+abbrev pub BlockMet : Circuit → List ℕ → ℕ → ℕ → ℕ → ℕ → List ℕ → List ℕ → ℕ → List ℕ → List ℕ → Type 0
+BlockMet c values quota count e block r hd count′ r′ hd′ =
+    (s : ℕ) → Valued c s block values
+    → RowsMet (λ p. nextNumber c s (block * 64 + p)) quota count e (64 * block) (min 64 (2 ^ length (c .inputs))) r hd count′ r′ hd′

@@ -1,0 +1,204 @@
+// One layer of states: its first hit, or the layer after it.
+use layout::Layout;
+ghost use mathlib.Core.Path.{_≡_};
+ghost use mathlib.Core.List.{List, [], map};
+ghost use Prim.Native.Nat.{ℕ, suc, _+_, _-_, _*_, _^_, _≤_, _<_, min};
+ghost use lib.Dec.{T};
+ghost use lib.ListN.{length, getD};
+ghost use Rattle.aiger.specs.Lists.{upto};
+ghost use Rattle.aiger.specs.Bits.{bit};
+ghost use Rattle.aiger.specs.Frames.{freeStarts};
+ghost use Rattle.layout.specs.Words.{word, circuitIn};
+ghost use Rattle.meaning.specs.Frame.{Valuation};
+ghost use Rattle.frames.specs.Lanes.{lane, Ready, hitIn};
+ghost use Rattle.machine.specs.Layers.{Entry, started};
+ghost use Rattle.states.specs.Table.{Fits};
+ghost use Rattle.aiger.specs.Memory.{Holds};
+ghost use Rattle.layout.specs.Layout.{LayoutOf};
+ghost use Rattle.states.specs.Trace as trace;
+ghost use Rattle.transitions.specs.Transitions.{numberOf, latchesOf, rowOf, valuesIn, nextNumber, machineOf};
+ghost use Rattle.layers.specs.Rows.{RowsMet, FirstRow, BlockMet};
+ghost use Rattle.layers.specs.Asked.{AskedOf};
+
+// What a layer has: a first hit, by its record and row; or none, and the number of records with those of the next layer.
+pub enum Asked {
+    Hit(usize, usize),
+    Met(usize),
+}
+
+// Meets the states that rows `first` to `first + n - 1` of record e lead to. Word j of state is latch j of the next state, row by row.
+fn meet_rows(
+    state: &[u64],
+    latches: usize,
+    n: u32,
+    first: u32,
+    e: u32,
+    quota: usize,
+    count: usize,
+    records: &mut [u32],
+    heads: &mut [u32],
+) -> usize
+    requires { ⌜ Fits quota count (now records) (now heads) ⌝ }
+    requires { ⌜ (latches ≤ length (now state)) × (latches ≤ 32) × (n ≤ 64) × (first ≤ 65536) ⌝ }
+    ensures { λ r. ⌜ RowsMet (λ p. numberOf (map (λ j. bit (getD (now (state .entry)) j 0) p) (upto latches))) quota count e first n (now (records .entry)) (now (heads .entry)) r (now (records .exit)) (now (heads .exit)) ⌝ }
+{
+    let mut met = count;
+    let mut p = 0;
+    while p < n {
+        let s = transitions::pack(state, latches, p);
+        met = states::meet(records, heads, met, quota, s, e, first + p);
+        p += 1;
+    }
+    met
+}
+
+// The number of words of 64 rows that a frame has.
+pub fn blocks(inputs: usize) -> usize
+    requires { ⌜ inputs ≤ 16 ⌝ }
+    ensures { λ r. ⌜ r ≡ 2 ^ (inputs - 6) ⌝ }
+{
+    if inputs < 6 {
+        return 1;
+    }
+    1usize << (inputs - 6)
+}
+
+// How many of the 64 rows of a word are rows.
+fn lanes(inputs: usize) -> u32
+    requires { ⌜ inputs ≤ 16 ⌝ }
+    ensures { λ r. ⌜ r ≡ min 64 (2 ^ inputs) ⌝ }
+{
+    if 5 < inputs {
+        return 64;
+    }
+    1u32 << inputs
+}
+
+// The first of the 64 rows of a block with which state s hits, or 64. The values are those of the rows.
+fn first_row(
+    m: &[u32],
+    layout: Layout,
+    order: &[u32],
+    b: usize,
+    s: u32,
+    block: u64,
+    values: &mut [u64],
+) -> u32
+    requires { ⌜ Ready (now m) layout (now order) (length (now values)) ⌝ }
+    requires { ⌜ b < word (now m) 5 ⌝ }
+    ensures { λ r. ⌜ FirstRow (circuitIn (now (m .entry))) b s block (now (values .exit)) r ⌝ }
+{
+    transitions::eval_rows(m, layout, order, s, block, values);
+    let hits = frames::hit_word(m, layout, order, b, values);
+    words::first_difference(hits, 0)
+}
+
+// Meets the states that the rows of a block of record e lead to, where values are those of its rows.
+fn meet_block(
+    m: &[u32],
+    layout: Layout,
+    order: &[u32],
+    values: &[u64],
+    state: &mut [u64],
+    block: usize,
+    e: u32,
+    quota: usize,
+    count: usize,
+    records: &mut [u32],
+    heads: &mut [u32],
+) -> usize
+    requires { ⌜ Ready (now m) layout (now order) (length (now values)) ⌝ }
+    requires { ⌜ Fits quota count (now records) (now heads) ⌝ }
+    requires { ⌜ (1024 ≤ length (now state)) × (layout .l ≤ 32) × (layout .i ≤ 16) × (block ≤ 1024) ⌝ }
+    ensures { λ r. ⌜ BlockMet (circuitIn (now (m .entry))) (now (values .entry)) quota count e block (now (records .entry)) (now (heads .entry)) r (now (records .exit)) (now (heads .exit)) ⌝ }
+{
+    let latches = layout.l;
+    let n = lanes(layout.i);
+    frames::next_state(m, layout, values, state);
+    meet_rows(
+        state,
+        latches,
+        n,
+        (64 * block) as u32,
+        e,
+        quota,
+        count,
+        records,
+        heads,
+    )
+}
+
+// Asks the layer of records lo to hi - 1, each with each row, for its first hit; the states that they lead to are met on the way, up to
+// quota records.
+pub fn ask_layer(
+    m: &[u32],
+    layout: Layout,
+    order: &[u32],
+    b: usize,
+    lo: usize,
+    hi: usize,
+    quota: usize,
+    records: &mut [u32],
+    heads: &mut [u32],
+    values: &mut [u64],
+    state: &mut [u64],
+) -> Asked
+    requires { ⌜ Ready (now m) layout (now order) (length (now values)) ⌝ }
+    requires { ⌜ (b < word (now m) 5) × (1024 ≤ length (now state)) × (layout .l ≤ 32) × (layout .i ≤ 16) ⌝ }
+    requires { ⌜ (lo ≤ hi) × (hi ≤ quota) × (quota ≤ 262144) × Fits quota hi (now records) (now heads) ⌝ }
+    ensures { λ r. ⌜ ((t : ℕ) (es : List Entry) → trace.Holds (2 ^ length (circuitIn (now (m .entry)) .inputs)) t lo quota hi (now (records .entry)) (now (heads .entry)) es → AskedOf (circuitIn (now (m .entry))) b t lo quota (now (records .exit)) (now (heads .exit)) es r) ⌝ }
+{
+    let words = blocks(layout.i);
+    let n = lanes(layout.i);
+    let total = (hi - lo) * words;
+    let mut met = hi;
+    let mut q = 0;
+    while q < total {
+        let e = lo + q / words;
+        let block = q % words;
+        let s = records[4 * e];
+        let p = first_row(m, layout, order, b, s, block as u64, values);
+        if p < n {
+            return Asked::Hit(e, 64 * block + p as usize);
+        }
+        met = meet_block(
+            m,
+            layout,
+            order,
+            values,
+            state,
+            block,
+            e as u32,
+            quota,
+            met,
+            records,
+            heads,
+        );
+        q += 1;
+    }
+    Asked::Met(met)
+}
+
+// Meets the states of the first `starts` start places, in a table without records.
+pub fn meet_starts(
+    m: &[u32],
+    layout: Layout,
+    starts: usize,
+    quota: usize,
+    records: &mut [u32],
+    heads: &mut [u32],
+) -> usize
+    requires { ⌜ Holds (now m) (circuitIn (now m)) ⌝ }
+    requires { ⌜ LayoutOf (now m) layout ⌝ }
+    requires { ⌜ (layout .l ≤ 32) × (starts ≤ 65536) × Fits quota 0 (now records) (now heads) ⌝ }
+    ensures { λ r. ⌜ ((rows b : ℕ) → trace.Holds rows 0 0 quota 0 (now (records .entry)) (now (heads .entry)) [] → trace.Holds rows 0 0 quota r (now (records .exit)) (now (heads .exit)) (started (machineOf (circuitIn (now (m .entry))) b) starts)) ⌝ }
+{
+    let mut met = 0;
+    let mut y = 0;
+    while y < starts {
+        let s = transitions::start_number(m, layout, y as u64);
+        met = states::meet(records, heads, met, quota, s, 0, y as u32);
+        y += 1;
+    }
+    met
+}

@@ -1,0 +1,5 @@
+pub mod Numbers
+pub mod Prefixes
+pub mod Bridge
+pub mod Packing
+pub mod Rows
