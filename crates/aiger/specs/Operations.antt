@@ -4,7 +4,7 @@
 use mathlib.Core.Path.{_≡_}
 use mathlib.Core.Bool.{Bool, _&&_}
 use mathlib.Core.List.{List, _∷_, _++_}
-use Prim.Native.Nat.{ℕ, _+_, _*_}
+use Prim.Native.Nat.{ℕ, _+_, _*_, _≤_}
 use lib.Dec.{T, leb, ltb}
 use lib.ListN.{length, drop}
 use Rattle.aiger.specs.Circuit.{Circuit}
@@ -81,12 +81,14 @@ foldTests c b t room len = do
   sizeTest c t room
   test 13 (leb (24 * size c t + 64) len)
 
--- fold: a permitted circuit's text at the front of the output, and as the answer its length
-pub data Folded (m : List ℕ) (b t : ℕ) (w out : List ℕ) : Answer ℕ → List ℕ → List ℕ → Type 0 where
-  noCircuit : HoldsNone m → Folded m b t w out (refused 9) w out
-  refuses : (c : Circuit) {n : ℕ} → Holds m c → foldTests c b t (length w) (length out) ≡ refused n → Folded m b t w out (refused n) w out
-  writes : (c d : Circuit) {w′ : List ℕ} → Holds m c → foldTests c b t (length w) (length out) ≡ gives tt → T (folds c b t d)
-      → Folded m b t w out (gives (length (write d))) w′ (front (write d) out)
+-- fold: the text of a permitted circuit at the front of the output, and as the answer its length. Which circuit is a function of c, b and t
+-- alone, and its text is no longer than the output that is needed
+pub data Folded (chosen : Circuit → ℕ → ℕ → Circuit) (m : List ℕ) (b t : ℕ) (w out : List ℕ) : Answer ℕ → List ℕ → List ℕ → Type 0 where
+  noCircuit : HoldsNone m → Folded chosen m b t w out (refused 9) w out
+  refuses : (c : Circuit) {n : ℕ} → Holds m c → foldTests c b t (length w) (length out) ≡ refused n → Folded chosen m b t w out (refused n) w out
+  writes : (c : Circuit) {w′ : List ℕ} → Holds m c → foldTests c b t (length w) (length out) ≡ gives tt → T (folds c b t (chosen c b t))
+      → length (write (chosen c b t)) ≤ 24 * size c t + 64
+      → Folded chosen m b t w out (gives (length (write (chosen c b t)))) w′ (front (write (chosen c b t)) out)
 
 -- replay: yes or no, 9, or 14 where the text is no witness of the circuit
 pub data Replayed (m text : List ℕ) : Answer Bool → Type 0 where

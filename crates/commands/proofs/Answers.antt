@@ -20,6 +20,7 @@ use Rattle.roundtrip.proofs.Holding.{held, held-valid, one-circuit}
 use Rattle.roundtrip.proofs.Determined.{written-same, replayed-same}
 use Rattle.job.specs.Replies.{Shows}
 use Rattle.job.proofs.Printing.{Stored}
+use Rattle.fold.specs.Chosen.{chosen}
 use Rattle.commands.specs.Refusal.{refusalText}
 use Rattle.commands.specs.Texts.{textOf, yesText, replayAnswer, writeText, replayText, FoldPrints}
 use Rattle.commands.specs.Replies.{Leaves, FoldTexts}
@@ -66,19 +67,20 @@ pub replay-shown : {m text : List ℕ} {a b : Answer Bool} {line : List ℕ} {n 
 replay-shown {line = line} {n = n} h r e s = subst (λ (x : Answer Bool). Shows line n (textOf yesText x)) (sym e ∙ replay-says h r) s
 
 -- fold, on a loaded circuit
-pub fold-refused : {m w out w′ out′ : List ℕ} {c : Circuit} {b t : ℕ} {a : Answer ℕ} {n : ℕ} → Holds m c → Folded m b t w out a w′ out′
+pub fold-refused : {m w out w′ out′ : List ℕ} {c : Circuit} {b t : ℕ} {a : Answer ℕ} {n : ℕ} → Holds m c → Folded chosen m b t w out a w′ out′
     → a ≡ refused n → foldTests c b t (length w) (length out) ≡ refused n
 fold-refused {c = c} h (Folded.noCircuit f) e = absurd (f c h)
 fold-refused {n = n} h (Folded.refuses d {n = j} k q) e = let z : j ≡ n = cc in rw (one-circuit h k) (q ∙ ap refused z)
-fold-refused h (Folded.writes d x k q p) e = let z : _≡_ {A = ℕ} 0 1 = cc in absurd (omega arith)
+fold-refused h (Folded.writes d k q p l) e = let z : _≡_ {A = ℕ} 0 1 = cc in absurd (omega arith)
 
-pub fold-shown : {m w out w′ out′ : List ℕ} {c : Circuit} {b t : ℕ} {a : Answer ℕ} {n : ℕ} → Holds m c → Folded m b t w out a w′ out′
+pub fold-shown : {m w out w′ out′ : List ℕ} {c : Circuit} {b t : ℕ} {a : Answer ℕ} {n : ℕ} → Holds m c → Folded chosen m b t w out a w′ out′
     → a ≡ gives n → FoldTexts c b t (length w) (length out) (take n out′) × (n ≤ length out′)
 fold-shown {c = c} h (Folded.noCircuit f) e = absurd (f c h)
 fold-shown h (Folded.refuses d k q) e = let z : _≡_ {A = ℕ} 0 1 = cc in absurd (omega arith)
-fold-shown {out = out} h (Folded.writes d x k q p) e =
+fold-shown {out = out} {b = b} {t = t} h (Folded.writes d k q p l) e =
     let n = gives-same e in
-    (rw (one-circuit h k, front-taken (write x) out n) (FoldTexts.writes q x p), front-inside (write x) out n)
+    let text = write (chosen d b t) in
+    (rw (one-circuit h k, front-taken text out n) (FoldTexts.writes q p), front-inside text out n)
 
 -- a file that is not loaded, and one that is
 module _ (m f : List ℕ) (room : length m ≡ 33032) where
@@ -108,5 +110,6 @@ module _ (m f : List ℕ) (room : length m ≡ 33032) where
     pub fold-text : {b t w o : ℕ} → w ≡ 1048576 → o ≡ 1572928 → {text : List ℕ} → FoldTexts (circuitIn m′) b t w o text
         → FoldPrints f b t text
     fold-text x y (FoldTexts.refuses q) = FoldPrints.notFolded (s .circuit) (rw room at (s .accepted)) (rw (same, x, y) at q)
-    fold-text x y (FoldTexts.writes q d p) =
-        FoldPrints.folded (s .circuit) (rw room at (s .accepted)) (rw (same, x, y) at q) d (rw same at p)
+    fold-text {b} {t} x y (FoldTexts.writes q p) =
+        subst (λ (c : Circuit). FoldPrints f b t (write (chosen c b t))) (sym same)
+        (FoldPrints.folded (s .circuit) (rw room at (s .accepted)) (rw (same, x, y) at q) (rw same at p))

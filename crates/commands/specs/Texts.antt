@@ -10,6 +10,7 @@ use Rattle.aiger.specs.Load.{Answer, refused, gives, read, load, _>>=_}
 use Rattle.aiger.specs.Witness.{readWitness, confirms}
 use Rattle.aiger.specs.Write.{write}
 use Rattle.aiger.specs.Fold.{folds}
+use Rattle.fold.specs.Chosen.{chosen}
 use Rattle.aiger.specs.Operations.{foldTests}
 use Rattle.commands.specs.Refusal.{refusalText}
 
@@ -40,5 +41,5 @@ pub data FoldPrints (file : List ℕ) (b t : ℕ) : List ℕ → Type 0 where
   notLoaded : {n : ℕ} → load 33032 file ≡ refused n → FoldPrints file b t (refusalText n)
   notFolded : (c : Circuit) → load 33032 file ≡ gives c → {n : ℕ} → foldTests c b t 1048576 1572928 ≡ refused n
       → FoldPrints file b t (refusalText n)
-  folded : (c : Circuit) → load 33032 file ≡ gives c → foldTests c b t 1048576 1572928 ≡ gives tt → (d : Circuit) → T (folds c b t d)
-      → FoldPrints file b t (write d)
+  folded : (c : Circuit) → load 33032 file ≡ gives c → foldTests c b t 1048576 1572928 ≡ gives tt → T (folds c b t (chosen c b t))
+      → FoldPrints file b t (write (chosen c b t))

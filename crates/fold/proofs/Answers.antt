@@ -15,13 +15,14 @@ use Rattle.layout.specs.declared.Layout.{Layout}
 use Rattle.frames.proofs.Facts.{counts, top-is, bad-count}
 use Rattle.search.specs.Steps.{told}
 use Rattle.search.proofs.Refusals.{told-refused, told-passed}
+use Rattle.fold.specs.Chosen.{chosen}
 use Rattle.fold.specs.Answer.{FoldFits, FoldShown}
 use Rattle.fold.proofs.Refusals.{passed}
 
 module _ {m : List ℕ} (held : Holds m (circuitIn m)) {b t : ℕ} {work out : List ℕ} where
   -- a number other than 0 is the answer
   pub refused-with : (n : ℕ) → foldTests (circuitIn m) b t (length work) (length out) ≡ told n → (n ≡ 0 → ⊥)
-      → Folded m b t work out (refused n) work out
+      → Folded chosen m b t work out (refused n) work out
   refused-with n e h = Folded.refuses (circuitIn m) held (e ∙ told-refused n h)
 
   -- where all tests pass, the frame can be folded
@@ -41,6 +42,6 @@ module _ {m : List ℕ} (held : Holds m (circuitIn m)) {b t : ℕ} {work out : L
 
   -- the text that is written is the answer
   pub written-with : {n : ℕ} → foldTests (circuitIn m) b t (length work) (length out) ≡ told n → n ≡ 0 → {r : ℕ} {work′ out′ : List ℕ}
-      → FoldShown (circuitIn m) b t out r out′ → Folded m b t work out (gives r) work′ out′
+      → FoldShown (circuitIn m) b t out r out′ → Folded chosen m b t work out (gives r) work′ out′
   written-with {n} e z {r} {work′} {out′} f =
-      rw (f .shown .count, f .shown .contents) (Folded.writes (circuitIn m) (f .circuit) held (e ∙ told-passed n z) (f .permitted))
+      rw (f .shown .count, f .shown .contents) (Folded.writes (circuitIn m) held (e ∙ told-passed n z) (f .permitted) (f .short))

@@ -9,6 +9,7 @@ use lib.ListN.{length}
 use Rattle.aiger.specs.Circuit.{Circuit, var}
 use Rattle.aiger.specs.Frames.{freeBits}
 use Rattle.aiger.specs.Fold.{folds}
+use Rattle.aiger.specs.Write.{write}
 use Rattle.nodes.specs.Graph.{Pair, Built}
 use Rattle.nodes.specs.Store.{pairsOf}
 use Rattle.nodes.specs.Edges.{edgeWord}
@@ -19,8 +20,10 @@ use Rattle.cone.specs.Cone.{folded}
 use Rattle.cone.specs.Store.{Markable, ConeMarked, Assigned, Assignment}
 use Rattle.cone.proofs.Marking.{cone-marks}
 use Rattle.cone.proofs.Folds.{folded-folds}
+use Rattle.graph.specs.Chosen.{Outcome}
 use Rattle.unroll.specs.Unrolled.{Unrolled}
-use Rattle.fold.specs.Text.{foldedIn, Writable}
+use Rattle.fold.specs.Chosen.{chosen}
+use Rattle.fold.specs.Text.{foldedIn, Writable, Shown}
 
 -- the node of an edge's word
 pub edge-node : (e : Edge) → var (edgeWord e) ≡ e .0 .0
@@ -29,6 +32,10 @@ edge-node e = go (e .1)
     go : (b : Bool) → var (2 * e .0 .0 + cond b 1 0) ≡ e .0 .0
     go true = omega arith
     go false = omega arith
+
+-- the text of a circuit is that of an equal one
+pub shown-as : {d e : Circuit} {out : List ℕ} {r : ℕ} {last : List ℕ} → d ≡ e → Shown (write d) out r last → Shown (write e) out r last
+shown-as {out = out} {r = r} {last = last} q s = subst (λ (x : Circuit). Shown (write x) out r last) q s
 
 module _ {c : Circuit} {b t room : ℕ} {work : List ℕ} {made : Made} (u : Unrolled c b t work room made) where
   pub markable : Markable work (made .graph) (edgeWord (made .edge))
@@ -50,8 +57,17 @@ module _ {c : Circuit} {b t room : ℕ} {work : List ℕ} {made : Made} (u : Unr
               subst (λ (gs : List Pair). Assigned gs last g root kept) (sym (a .pairs)) (a .assigned root (cone-marks work marked g root k));
         }
 
-    -- the circuit is a fold
-    pub permitted : T (folds c b t (foldedIn last (made .graph) (edgeWord (made .edge))))
+    -- the circuit is the chosen one, and a fold
+    pub is-chosen : foldedIn last (made .graph) (edgeWord (made .edge)) ≡ chosen c b t
+    unfolding chosen
+    is-chosen =
+        let g = made .graph in
+        let root = edgeWord (made .edge) in
+        ap (λ (x : ℕ). folded x (pairsOf last g) root) (u .free) ∙ ap (λ (x : List Pair). folded (freeBits c t) x root) same
+        ∙ sym (ap (λ (o : Outcome). folded (freeBits c t) (o .gates) (o .edge)) (u .chosen))
+
+    pub permitted : T (folds c b t (chosen c b t))
+    unfolding chosen
     permitted =
         let g = made .graph in
         let root = edgeWord (made .edge) in
@@ -59,5 +75,4 @@ module _ {c : Circuit} {b t room : ℕ} {work : List ℕ} {made : Made} (u : Unr
         let gs = pairsOf work g in
         let built : Built n gs = subst (λ (x : ℕ). Built x gs) (u .free) (u .stored .built) in
         let inside : var root < n + 1 + length gs = omega (arith, markable .inside, nodes-pairsOf work g (u .stored .sized .leaves), u .free) in
-        let e : folded n gs root ≡ foldedIn last g root = ap (λ (x : ℕ). folded x gs root) (sym (u .free)) ∙ ap (λ (x : List Pair). folded (g .free) x root) (sym same) in
-        subst (λ (d : Circuit). T (folds c b t d)) e (folded-folds c b t gs root built inside (u .hit))
+        subst (λ (o : Outcome). T (folds c b t (folded n (o .gates) (o .edge)))) (sym (u .chosen)) (folded-folds c b t gs root built inside (u .hit))

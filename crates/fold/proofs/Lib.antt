@@ -3,3 +3,4 @@ pub mod Lines
 pub mod Refusals
 pub mod Folding
 pub mod Answers
+pub mod Examples

@@ -12,6 +12,7 @@ use Rattle.aiger.specs.Write.{write}
 use Rattle.layout.specs.Words.{word, circuitIn}
 use Rattle.layout.specs.declared.Layout.{Layout}
 use Rattle.frames.specs.Lanes.{Ready}
+use Rattle.fold.specs.Chosen.{chosen}
 use Rattle.fold.specs.Text.{Shown}
 use Rattle.fold.specs.declared.FoldAnswer.{FoldAnswer}
 use Rattle.fold.specs.declared.FoldAnswer.the-variants.{Length, Refused}
@@ -31,8 +32,8 @@ pub record FoldFits (m : List ℕ) (p : Layout) (order : List ℕ) (b t starts :
   pub words : 16 * size (circuitIn m) t ≤ length work
   pub output : 24 * size (circuitIn m) t + 64 ≤ length out
 
--- a permitted circuit's text is at the front of the output, and r is its length
+-- the chosen circuit is a fold, and its text is at the front of the output and no longer than the output that is needed; r is its length
 pub record FoldShown (c : Circuit) (b t : ℕ) (out : List ℕ) (r : ℕ) (last : List ℕ) : Type 0 where
-  pub circuit : Circuit
-  pub permitted : T (folds c b t circuit)
-  pub shown : Shown (write circuit) out r last
+  pub permitted : T (folds c b t (chosen c b t))
+  pub short : length (write (chosen c b t)) ≤ 24 * size c t + 64
+  pub shown : Shown (write (chosen c b t)) out r last

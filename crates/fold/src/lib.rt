@@ -17,6 +17,7 @@ ghost use Rattle.search.specs.Steps.{Limited, CountsOf, told};
 ghost use Rattle.nodes.specs.Edges.{edgeWord};
 ghost use Rattle.write.specs.Output.{Room, Placed};
 ghost use Rattle.fold.specs.Text.{literalOf, literalWord, gateText, gatesText, inputsText, headText, NodeFits, GateFits, GatesFit, foldedIn, Writable, Shown};
+ghost use Rattle.fold.specs.Chosen.{chosen};
 ghost use Rattle.fold.specs.Answer.{answered, FoldFits, FoldShown};
 
 // The length of the text, or the number of the refusal.
@@ -168,7 +169,7 @@ fn fold_frame(
 
 // The operation fold: writes the hit of bad line b at frame t as a circuit without latches.
 pub fn fold(m: &[u32], b: u64, t: u64, work: &mut [u32], out: &mut [u8]) -> FoldAnswer
-    ensures { λ r. ⌜ Folded (now (m .entry)) b t (now (work .entry)) (now (out .entry)) (answered r) (now (work .exit)) (now (out .exit)) ⌝ }
+    ensures { λ r. ⌜ Folded chosen (now (m .entry)) b t (now (work .entry)) (now (out .entry)) (answered r) (now (work .exit)) (now (out .exit)) ⌝ }
 {
     let mut order = [0u32; 3072];
     let Held::Circuit(layout) = circuit::held_in(m, &mut order) else {

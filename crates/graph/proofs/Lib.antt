@@ -1,6 +1,7 @@
 -- The laws of `graph`. Assumes nothing.
 pub mod Rules
 pub mod Growth
+pub mod Chosen
 pub mod Outcomes
 pub mod Signed
 pub mod Empty

@@ -3,7 +3,6 @@ use mathlib.Core.Path.{_≡_, refl, _∙_}
 use mathlib.Core.Bool.{Bool, true, false, _&&_}
 use mathlib.Core.List.{List}
 use Prim.Native.Nat.{ℕ, _^_, _<_}
-use native.Mathlib.Nat.{max-comm, min-comm}
 use native.Mathlib.Omega.{arith}
 use Rattle.aiger.specs.Frames.{freeBit}
 use Rattle.nodes.specs.Graph.{edgeValue}
@@ -13,6 +12,7 @@ use Rattle.nodes.specs.declared.Graph.{Graph}
 use Rattle.nodes.specs.declared.Edge.{Edge}
 use Rattle.graph.specs.Stored.{Operands, Conjoined}
 use Rattle.graph.specs.declared.Made.{Made}
+use Rattle.graph.proofs.Chosen.{conjoin-swap}
 
 -- the words of operands fit 32 bits
 pub word-bound : (work : List ℕ) (g : Graph) (a b : Edge) → Operands work g (edgeWord a) (edgeWord b) → (edgeWord a < 2 ^ 32) × (edgeWord b < 2 ^ 32)
@@ -45,7 +45,7 @@ module _ (work last : List ℕ) (g : Graph) (made : Made) {p q a b : ℕ} (e : p
         free = c .free;
         room = c .room;
         extends = c .extends;
-        origin = rw (max-comm p q, min-comm p q) (c .origin);
+        chosen = conjoin-swap (g .free) (pairsOf work g) p q ∙ c .chosen;
         node = c .node;
         value = λ x u.
             c .value x u

@@ -2,8 +2,7 @@
 use mathlib.Core.Path.{_≡_, refl, sym, ap, ap₂, _∙_, subst}
 use mathlib.Core.Bool.{Bool, false, _&&_}
 use mathlib.Core.List.{List, [], _∷_, _++_}
-use Prim.Native.Nat.{ℕ, _+_, _-_, _*_, _^_, _≤_, _<_, max, min}
-use native.Mathlib.Nat.{max-eq-left, min-eq-right}
+use Prim.Native.Nat.{ℕ, _+_, _-_, _*_, _^_, _≤_, _<_}
 use native.Mathlib.Omega.{arith}
 use lib.ListN.{length}
 use Rattle.aiger.specs.Circuit.{var}
@@ -14,34 +13,34 @@ use Rattle.nodes.specs.Last.{lastBefore}
 use Rattle.nodes.specs.Edges.{edgeOf, wordEdge, edgeWord}
 use Rattle.nodes.specs.declared.Graph.{Graph}
 use Rattle.nodes.specs.declared.Edge.{Edge}
-use Rattle.nodes.proofs.Laws.{node-constant, edge-new, edge-gate, edge-word, nodes-pairsOf, length-pairsOf, pairsOf-same, pair-eq}
+use Rattle.nodes.proofs.Laws.{node-constant, edge-new, edge-gate, edge-word, nodes-pairsOf, length-pairsOf, pairsOf-same}
 use Rattle.pairs.specs.Store.{isPair, PairStore}
 use Rattle.pairs.proofs.Buckets.{SamePairs, store-same}
 use Rattle.pairs.proofs.Found.{found-gate, found-holds, found-none}
 use Rattle.signatures.specs.Store.{SignatureStore}
 use Rattle.graph.specs.Rules.{simplified}
-use Rattle.graph.specs.Stored.{Stored, Operands, madeOf, Origin, ruled, hashed, added, Conjoined, Proper, New, Twinless}
+use Rattle.graph.specs.Stored.{Stored, Operands, madeOf, Conjoined, Proper, New, Twinless}
+use Rattle.graph.specs.Chosen.{Outcome, conjoin}
 use Rattle.graph.specs.declared.Made.{Made}
 use Rattle.graph.specs.declared.Simple.the-variants.{Known, Gate}
 use Rattle.graph.proofs.Rules as rules
-use Rattle.graph.proofs.Rules.{ruled-value, ruled-edge, ruled-nonconstant-gate, ruled-larger}
+use Rattle.graph.proofs.Rules.{ruled-value, ruled-edge, ruled-nonconstant-gate, ruled-larger, proper-gate}
+use Rattle.graph.proofs.Chosen.{conjoin-known, conjoin-hashed, conjoin-added}
 use Rattle.graph.proofs.Growth.{built-more}
 
 -- the value of the conjunction of a and b under sequence x
 abbrev pub both : List ℕ → Graph → ℕ → ℕ → ℕ → Bool
 both work g a b x = edgeValue (g .free) (pairsOf work g) (freeBit (g .free) x) a && edgeValue (g .free) (pairsOf work g) (freeBit (g .free) x) b
 
--- the operands in their order
-pub ordered : {g : Graph} {gs : List Pair} {hs : List Pair} {m : Made} (left right : ℕ) → right ≤ left → Origin g gs left right hs m
-    → Origin g gs (max left right) (min left right) hs m
-ordered left right h o = rw (max-eq-left h, min-eq-right h) o
+outcome-eq : {gs hs : List Pair} {d e : ℕ} → gs ≡ hs → d ≡ e → _≡_ {A = Outcome} (record { gates = gs; edge = d }) (record { gates = hs; edge = e })
+outcome-eq p q = ap₂ (λ (x : List Pair) (y : ℕ). record { gates = x; edge = y }) p q
 
 -- ---- an edge that is there
 
 module _ (work last : List ℕ) (g : Graph) (a b : ℕ) (stored : Stored last g) (kept : pairsOf last g ≡ pairsOf work g) where
   pub edge-made : (w : ℕ) (e : Edge) → e .0 .0 ≡ var w → edgeWord e ≡ w → var w < g .nodes
       → ((x : ℕ) → x < 2 ^ (g .free) → edgeValue (g .free) (pairsOf work g) (freeBit (g .free) x) w ≡ both work g a b x)
-      → Origin g (pairsOf work g) (max a b) (min a b) (pairsOf work g) (madeOf g e)
+      → conjoin (g .free) (pairsOf work g) a b ≡ record { gates = pairsOf work g; edge = w }
       → Conjoined work last g a b (madeOf g e)
   edge-made w e n q l v o =
       record {
@@ -49,7 +48,7 @@ module _ (work last : List ℕ) (g : Graph) (a b : ℕ) (stored : Stored last g)
         free = refl;
         room = refl;
         extends = subst (λ (hs : List Pair). Extends (pairsOf work g) hs) (sym kept) same;
-        origin = subst (λ (hs : List Pair). Origin g (pairsOf work g) (max a b) (min a b) hs (madeOf g e)) (sym kept) o;
+        chosen = o ∙ outcome-eq (sym kept) (sym q);
         node = omega arith;
         value = λ x u. ap₂ (λ (hs : List Pair) (y : ℕ). edgeValue (g .free) hs (freeBit (g .free) x) y) kept q ∙ v x u;
       }
@@ -57,9 +56,9 @@ module _ (work last : List ℕ) (g : Graph) (a b : ℕ) (stored : Stored last g)
   -- the edge that a word stands for
   pub word-made : (w : ℕ) (e : Edge) → e ≡ wordEdge w → var w < g .nodes
       → ((x : ℕ) → x < 2 ^ (g .free) → edgeValue (g .free) (pairsOf work g) (freeBit (g .free) x) w ≡ both work g a b x)
-      → (edgeWord e ≡ w → Origin g (pairsOf work g) (max a b) (min a b) (pairsOf work g) (madeOf g e))
+      → conjoin (g .free) (pairsOf work g) a b ≡ record { gates = pairsOf work g; edge = w }
       → Conjoined work last g a b (madeOf g e)
-  word-made w e q l v o = let d = ap edgeWord q ∙ edge-word w in edge-made w e (ap (λ (z : Edge). z .0 .0) q) d l v (o d)
+  word-made w e q l v o = edge-made w e (ap (λ (z : Edge). z .0 .0) q) (ap edgeWord q ∙ edge-word w) l v o
 
 -- ---- the rules
 
@@ -68,7 +67,7 @@ module _ (work : List ℕ) (g : Graph) (left right : ℕ) (ready : Operands work
   known-made w e q s =
       word-made work work g left right (ready .stored) refl w e q (ruled-edge (g .nodes) (ready .left) (rules.ruled left right) w s)
       (λ x u. ruled-value (nodeValues (g .free) (pairsOf work g) (freeBit (g .free) x)) (node-constant (g .free) (pairsOf work g) (freeBit (g .free) x)) left right order (rules.ruled left right) w s)
-      (λ d. ordered left right order (ruled e (s ∙ ap Known (sym d))))
+      (conjoin-known (g .free) (pairsOf work g) left right order w s)
 
   pub gate-proper : simplified left right ≡ Gate → Proper work g left right
   gate-proper s =
@@ -105,19 +104,20 @@ module _ (work : List ℕ) (g : Graph) (left right : ℕ) (ready : Proper work g
   pub found-bound : 0 < r → r - 1 < 65536
   found-bound h = omega (arith, found-below h, ready .stored .sized .nodes, ready .stored .sized .room)
 
-  found-origin : 0 < r → Origin g (pairsOf work g) left right (pairsOf work g) (madeOf g (edgeOf (r - 1) false))
-  found-origin h =
+  found-chosen : 0 < r → conjoin (g .free) (pairsOf work g) left right ≡ record { gates = pairsOf work g; edge = 2 * (r - 1) }
+  found-chosen h =
       let i = r - (g .free + 2) in
       let d = found-holds work g left right r e h in
       let m = found-gate work g left right r e h in
-      let z : g .free + 1 + i ≡ r - 1 = omega arith in
-      subst (λ (k : ℕ). Origin g (pairsOf work g) left right (pairsOf work g) (madeOf g (edgeOf k false))) z
-      (hashed i (d .below) (pair-eq (d .first) (d .second)))
+      let z : 2 * (g .free + 1 + i) ≡ 2 * (r - 1) = omega arith in
+      conjoin-hashed (g .free) (pairsOf work g) left right (omega (arith, ready .larger)) (ready .stored .built) (proper-gate left right (ready .nonconstant) (ready .larger))
+      i (d .below) (d .first) (d .second)
+      ∙ outcome-eq refl z
 
   pub found-made : 0 < r → Conjoined work work g left right (madeOf g (edgeOf (r - 1) false))
   found-made h =
       edge-made work work g left right (ready .stored) refl (2 * (r - 1)) (edgeOf (r - 1) false) (omega arith) (omega arith) (omega (arith, found-below h))
-      (λ x u. gate-value h (freeBit (g .free) x)) (ordered left right (omega (arith, ready .larger)) (found-origin h))
+      (λ x u. gate-value h (freeBit (g .free) x)) (found-chosen h)
 
   pub found-new : r ≡ 0 → New work g left right
   found-new z = record { proper = ready; fresh = found-none work g left right r e z }
@@ -164,9 +164,10 @@ module _ (work last : List ℕ) (g : Graph) (left right : ℕ) (ready : New work
         free = refl;
         room = refl;
         extends = subst (λ (hs : List Pair). Extends (pairsOf work g) hs) (sym grown) (more pair);
-        origin =
-            subst (λ (hs : List Pair). Origin g (pairsOf work g) (max left right) (min left right) hs (madeOf (oneMore g) (edgeOf (g .nodes) false))) (sym grown)
-            (ordered left right (omega (arith, ready .proper .larger)) added);
+        chosen =
+            conjoin-added (g .free) (pairsOf work g) left right (omega (arith, ready .proper .larger)) (ready .proper .stored .built)
+            (proper-gate left right (ready .proper .nonconstant) (ready .proper .larger)) (ready .fresh) twinless
+            ∙ outcome-eq (sym grown) (omega (arith, node-count));
         node = omega arith;
         value = λ x u.
             let z : 2 * g .nodes + 0 ≡ 2 * nodes (g .free) (pairsOf work g) = omega (arith, node-count) in
@@ -214,7 +215,7 @@ conjoined-same work now last g left right made q c =
       free = c .free;
       room = c .room;
       extends = rw q at (c .extends);
-      origin = rw q at (c .origin);
+      chosen = ap (λ (hs : List Pair). conjoin (g .free) hs left right) (sym q) ∙ c .chosen;
       node = c .node;
       value = λ x u.
           c .value x u ∙ ap (λ (hs : List Pair). edgeValue (g .free) hs (freeBit (g .free) x) left && edgeValue (g .free) hs (freeBit (g .free) x) right) q;

@@ -48,6 +48,14 @@ ruled-any left right (no n) = ruled-nonzero left right (omega arith) (ℕ-discre
 pub ruled : (left right : ℕ) → Ruled left right (simplified left right)
 ruled left right = ruled-any left right (ℕ-discrete right 0)
 
+-- operands that no rule is for
+pub proper-gate : (left right : ℕ) → 2 ≤ right → var right < var left → simplified left right ≡ Gate
+unfolding simplified
+proper-gate left right h l =
+    rw
+    (ne-eqb right 0 (λ q. omega arith), ne-eqb right 1 (λ q. omega arith), ne-eqb left right (λ q. omega (arith, ap var q)),
+    ne-eqb (var left) (var right) (λ q. omega arith))
+
 -- ---- values
 
 and-false : (a : Bool) → (a && false) ≡ false

@@ -1,22 +1,21 @@
 -- Graphs in working memory, and what making a gate leaves. Assumes nothing.
 use mathlib.Core.Path.{_≡_}
-use mathlib.Core.Bool.{false, _&&_}
-use mathlib.Core.List.{List, [], _∷_, _++_}
-use Prim.Native.Nat.{ℕ, _+_, _*_, _^_, _≤_, _<_, max, min}
+use mathlib.Core.Bool.{_&&_}
+use mathlib.Core.List.{List}
+use Prim.Native.Nat.{ℕ, _+_, _*_, _^_, _≤_, _<_}
 use lib.ListN.{length}
 use Rattle.aiger.specs.Circuit.{var}
 use Rattle.aiger.specs.Frames.{freeBit}
 use Rattle.nodes.specs.Graph.{Pair, edgeValue, pairAt, InGraph, Built, Extends}
-use Rattle.nodes.specs.Store.{pairsOf, Sized, oneMore}
-use Rattle.nodes.specs.Edges.{edgeOf, edgeWord}
+use Rattle.nodes.specs.Store.{pairsOf, Sized}
+use Rattle.nodes.specs.Edges.{edgeWord}
 use Rattle.nodes.specs.declared.Graph.{Graph}
 use Rattle.nodes.specs.declared.Edge.{Edge}
 use Rattle.pairs.specs.Store.{PairStore}
 use Rattle.signatures.specs.Store.{SignatureStore}
 use Rattle.signatures.specs.Twin.{Conjunction}
-use Rattle.graph.specs.Rules.{simplified}
+use Rattle.graph.specs.Chosen.{conjoin}
 use Rattle.graph.specs.declared.Made.{Made}
-use Rattle.graph.specs.declared.Simple.the-variants.{Known}
 
 -- the graph g stands in the memory
 pub record Stored (work : List ℕ) (g : Graph) : Type 0 where
@@ -45,26 +44,14 @@ pub record Operands (work : List ℕ) (g : Graph) (a b : ℕ) : Type 0 where
 abbrev pub madeOf : Graph → Edge → Made
 madeOf g e = record { graph = g; edge = e }
 
--- how the conjunction of left and right is made, where left is the larger operand and gs are the gates of g: the gates that there are
--- then, and what is made
-pub data Origin (g : Graph) (gs : List Pair) (left right : ℕ) : List Pair → Made → Type 0 where
-  -- the edge that a rule says
-  ruled : (e : Edge) → simplified left right ≡ Known (edgeWord e) → Origin g gs left right gs (madeOf g e)
-  -- gate i, whose operands these are
-  hashed : (i : ℕ) → i < length gs → pairAt gs i ≡ record { left = left; right = right }
-      → Origin g gs left right gs (madeOf g (edgeOf (g .free + 1 + i) false))
-  -- a new gate with these operands
-  added : Origin g gs left right (gs ++ (record { left = left; right = right } ∷ [])) (madeOf (oneMore g) (edgeOf (g .nodes) false))
-  -- with twelve free bits or fewer, an edge that is equal in function
-  merged : g .free ≤ 12 → (e : Edge) → Conjunction (g .free) gs left right (edgeWord e) → Origin g gs left right gs (madeOf g e)
-
 -- made is the conjunction of edges a and b: the graph has at most one gate more, and the edge is true exactly when a and b are
 pub record Conjoined (work last : List ℕ) (g : Graph) (a b : ℕ) (made : Made) : Type 0 where
   pub stored : Stored last (made .graph)
   pub free : made .graph .free ≡ g .free
   pub room : made .graph .room ≡ g .room
   pub extends : Extends (pairsOf work g) (pairsOf last (made .graph))
-  pub origin : Origin g (pairsOf work g) (max a b) (min a b) (pairsOf last (made .graph)) made
+  -- which edge it is, and which gates there are then, the gates before and the edges alone say
+  pub chosen : conjoin (g .free) (pairsOf work g) a b ≡ record { gates = pairsOf last (made .graph); edge = edgeWord (made .edge) }
   pub node : made .edge .0 .0 < made .graph .nodes
   pub value :
       (x : ℕ) → x < 2 ^ (g .free)

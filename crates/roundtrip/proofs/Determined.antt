@@ -1,4 +1,4 @@
--- Load, search, write and replay answer and leave one thing only. Assumes nothing.
+-- Load, search, fold, write and replay answer and leave one thing only. Assumes nothing.
 use mathlib.Core.Path.{_≡_, refl, sym, ap, ap₂, _∙_}
 use mathlib.Core.Bool.{Bool}
 use mathlib.Core.List.{List, _∷_}
@@ -12,7 +12,7 @@ use Rattle.aiger.specs.Witness.{readWitness, confirms}
 use Rattle.aiger.specs.Search.{Outcome}
 use Rattle.aiger.specs.Write.{countRow, write}
 use Rattle.aiger.specs.Memory.{Holds, image}
-use Rattle.aiger.specs.Operations.{front, Loaded, Written, Replayed, Searched, Said, refusal, saidOf, shown, searchTests}
+use Rattle.aiger.specs.Operations.{front, Loaded, Written, Replayed, Searched, Folded, Said, refusal, saidOf, shown, searchTests, foldTests}
 use Rattle.roundtrip.proofs.LoadValid.{gives-same}
 use Rattle.roundtrip.proofs.Holding.{one-circuit}
 
@@ -80,3 +80,25 @@ searched-same {out = out} {b = b} {k = k} {D = D} l (Searched.answers c h s p) (
 searched-same {chosen = chosen} {out = out} {b = b} {k = k} {D = D} l (Searched.answers c h s p) (Searched.answers d h′ t q) =
     let same = one-circuit h h′ in
     (ap (λ (x : Circuit). saidOf (chosen x b k D)) same, ap (λ (x : Circuit). shown x b (chosen x b k D) out) same)
+
+-- the tests of a fold are those of the one circuit that is held
+fold-tests : {m : List ℕ} {c d : Circuit} → Holds m c → Holds m d → (b t n : ℕ) {p q : ℕ} → p ≡ q → foldTests c b t p n ≡ foldTests d b t q n
+fold-tests h g b t n l = ap₂ (λ (x : Circuit) (y : ℕ). foldTests x b t y n) (one-circuit h g) l
+
+-- fold answers one thing and leaves one output, whatever working memory held
+pub folded-same : {chosen : Circuit → ℕ → ℕ → Circuit} {m w v out w₁ w₂ o₁ o₂ : List ℕ} {b t : ℕ} {a e : Answer ℕ} → length w ≡ length v
+    → Folded chosen m b t w out a w₁ o₁ → Folded chosen m b t v out e w₂ o₂ → (a ≡ e) × (o₁ ≡ o₂)
+folded-same l (Folded.noCircuit f) (Folded.noCircuit g) = (refl, refl)
+folded-same l (Folded.noCircuit f) (Folded.refuses d k s) = absurd (f d k)
+folded-same l (Folded.noCircuit f) (Folded.writes d k s p z) = absurd (f d k)
+folded-same l (Folded.refuses c h s) (Folded.noCircuit g) = absurd (g c h)
+folded-same {out = out} {b = b} {t = t} l (Folded.refuses c h s) (Folded.refuses d h′ u) =
+    (ap refused (refused-same (sym s ∙ fold-tests h h′ b t (length out) l ∙ u)), refl)
+folded-same {out = out} {b = b} {t = t} l (Folded.refuses c h s) (Folded.writes d h′ u p z) =
+    absurd (never (sym s ∙ fold-tests h h′ b t (length out) l ∙ u))
+folded-same l (Folded.writes c h s p z) (Folded.noCircuit g) = absurd (g c h)
+folded-same {out = out} {b = b} {t = t} l (Folded.writes c h s p z) (Folded.refuses d h′ u) =
+    absurd (never (sym u ∙ sym (fold-tests h h′ b t (length out) l) ∙ s))
+folded-same {chosen = chosen} {out = out} {b = b} {t = t} l (Folded.writes c h s p z) (Folded.writes d h′ u q y) =
+    let same = one-circuit h h′ in
+    (ap (λ (x : Circuit). gives (length (write (chosen x b t)))) same, ap (λ (x : Circuit). front (write (chosen x b t)) out) same)

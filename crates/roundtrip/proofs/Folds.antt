@@ -206,10 +206,12 @@ pub record Reloads (m : List ℕ) (b t : ℕ) (text : List ℕ) : Type 0 where
   pub refuses : (room : ℕ) → (Loadable room c t d → ⊥) → load room text ≡ refused (refusal c t d)
   pub hit : (x : ℕ) → x < 2 ^ freeBits c t → valueOn d (freeBits c t) x (output d) ≡ reaches c b t x
 
-reloads : {m w out w′ out′ : List ℕ} {b t n : ℕ} {a : Answer ℕ} → Folded m b t w out a w′ out′ → a ≡ gives n → Reloads m b t (take n out′)
+reloads : {chosen : Circuit → ℕ → ℕ → Circuit} {m w out w′ out′ : List ℕ} {b t n : ℕ} {a : Answer ℕ} → Folded chosen m b t w out a w′ out′ → a ≡ gives n
+    → Reloads m b t (take n out′)
 reloads (Folded.noCircuit h) q = let z : _≡_ {A = ℕ} 0 1 = cc in absurd (omega arith)
 reloads (Folded.refuses c h e) q = let z : _≡_ {A = ℕ} 0 1 = cc in absurd (omega arith)
-reloads {out = out} {b = b} {t = t} (Folded.writes c d h e f) q =
+reloads {chosen = chosen} {out = out} {b = b} {t = t} (Folded.writes c h e f l) q =
+    let d : Circuit = chosen c b t in
     let s = take-at (write d) (drop (length (write d)) out) _ (gives-same q) in
     record {
       c = c;
@@ -223,7 +225,7 @@ reloads {out = out} {b = b} {t = t} (Folded.writes c d h e f) q =
     }
 
 -- a folded text loads exactly where it is within load's limits, and its output is the hit
-pub folded-reloads : {m w out w′ out′ : List ℕ} {b t n : ℕ} → Folded m b t w out (gives n) w′ out′ → Reloads m b t (take n out′)
+pub folded-reloads : {chosen : Circuit → ℕ → ℕ → Circuit} {m w out w′ out′ : List ℕ} {b t n : ℕ} → Folded chosen m b t w out (gives n) w′ out′ → Reloads m b t (take n out′)
 folded-reloads f = reloads f refl
 
 -- so the operation load answers its counts and leaves a memory that holds the folded circuit

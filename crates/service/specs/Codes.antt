@@ -9,6 +9,7 @@ use Rattle.aiger.specs.Memory.{Holds}
 use Rattle.aiger.specs.Operations.{HoldsNone, Loaded, Said, refusal, found, none, spent, Searched, Written, Replayed, Folded}
 use Rattle.layout.specs.Words.{circuitIn}
 use Rattle.search.specs.Chosen.{chosen}
+use Rattle.fold.specs.Chosen as fold
 
 -- 0 for an accepted load, else the number of the refusal
 abbrev pub loadCode : Answer (List ℕ) → ℕ
@@ -57,5 +58,5 @@ pub record WriteCode (m out : List ℕ) (r : ℕ) (out′ : List ℕ) : Type 0 w
 
 pub record FoldCode (m : List ℕ) (b t : ℕ) (w out : List ℕ) (r : ℕ) (w′ out′ : List ℕ) : Type 0 where
   pub answer : Answer ℕ
-  pub folded : Folded m b t w out answer w′ out′
+  pub folded : Folded fold.chosen m b t w out answer w′ out′
   pub code : r ≡ writeCode answer

@@ -35,6 +35,8 @@ use Rattle.unroll.proofs.Edges.{literal-edge, free-node, start-node, li
 use Rattle.unroll.proofs.Stores.{written-edges}
 use Rattle.unroll.proofs.Facts.{input-nonzero, latch-nonzero, product-next, product-le}
 use Rattle.unroll.proofs.Growth.{grown-none, grown-more, grown-count}
+use Rattle.unroll.specs.Chosen.{leavesMade, moving, framesMade}
+use Rattle.unroll.proofs.Follows.{next-words, leaves-follow, first-follows, frames-follow}
 
 module _ {m : List ℕ} {layout : Layout} {order : List ℕ} {count : ℕ} (r : Ready m layout order count) where
   -- ---- the inputs
@@ -126,6 +128,7 @@ module _ {m : List ℕ} {layout : Layout} {order : List ℕ} {count : ℕ} (r : 
               w .values x l _ _
               (row-leaves first i t 0 n bits (omega arith) (omega arith) gs x (state (circuitIn m) (run (circuitIn m) t x) 0)
               (ap (edgeValue n gs (freeBit n x)) (s .others 0 (latch-nonzero r) ∙ empty 0) ∙ edge-false n gs (freeBit n x)) (start-latch t n bits gs x));
+          follows = λ z. first-follows r n e empty z s i (w .follows);
         }
 
   -- ---- the next frame
@@ -171,6 +174,9 @@ module _ {m : List ℕ} {layout : Layout} {order : List ℕ} {count : ℕ} (r : 
               (row-leaves first i t (suc u) n bits l (at ∙ ap (λ (k : ℕ). freeStarts (circuitIn m) + length (circuitIn m .inputs) * k) (add-one u)) gs x
               (state (circuitIn m) (run (circuitIn m) t x) (suc u))
               (ap (edgeValue n gs (freeBit n x)) (s .others 0 (latch-nonzero r)) ∙ v x b .constant) (next-latch t u n gs x (v x b))));
+          follows = λ z a.
+              let words = moving (circuitIn m) z in
+              w .follows (leavesMade (circuitIn m) first words z) (leaves-follow r first words z (next-words r states old next z a) a s i);
         }
 
   -- ---- the frames up to u
@@ -197,13 +203,14 @@ module _ {m : List ℕ} {layout : Layout} {order : List ℕ} {count : ℕ} (r : 
 -- ---- frame after frame
 
 pub frames-start : (c : Circuit) (t : ℕ) (work : List ℕ) (g : Graph) (map : List ℕ) → Stored work g → Edges g map → FramesMapped c t 0 (g .free) work g map work g map
-frames-start c t work g map s b = record { grown = grown-count (omega arith) (grown-none work g s); edges = b; values = λ e v. v }
+frames-start c t work g map s b = record { grown = grown-count (omega arith) (grown-none work g s); edges = b; values = λ e v. v; follows = λ a. a }
 
 pub frames-more : {c : Circuit} {n : ℕ} {work mid last : List ℕ} {g h i : Graph} {map middle after : List ℕ} (t u : ℕ) → u < t → FramesMapped c t u n work g map mid h middle
     → (first : ℕ) → first ≡ freeStarts c + length (c .inputs) * (u + 1) → NextMapped c n first mid h middle last i after → FramesMapped c t (u + 1) n work g map last i after
-frames-more {c} t u l f first at s =
+frames-more {c} {n} t u l f first at s =
     record {
       grown = grown-count (sym (product-next (length (c .gates)) u)) (grown-more (f .grown) (s .grown));
       edges = s .edges;
       values = λ bits v. s .values t u bits l at (f .values bits v);
+      follows = λ a. frames-follow c n u first at (s .follows (framesMade c n u) (f .follows a));
     }

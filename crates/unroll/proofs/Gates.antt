@@ -21,10 +21,12 @@ use Rattle.nodes.specs.declared.Edge.{Edge}
 use Rattle.nodes.proofs.Laws.{word-node}
 use Rattle.graph.specs.Stored.{Stored, Operands, Conjoined}
 use Rattle.graph.specs.declared.Made.{Made}
-use Rattle.unroll.specs.Map.{literalEdge, Edges, mapped, Extensible, Grown, GateMapped, GatesMapped}
+use Rattle.unroll.specs.Chosen.{Mapping, gatesMade}
+use Rattle.unroll.specs.Map.{literalEdge, Edges, mapped, Agrees, Extensible, Grown, GateMapped, GatesMapped}
 use Rattle.unroll.proofs.Edges.{literal-edge, literal-value}
 use Rattle.unroll.proofs.Growth.{grown-none, grown-made, grown-more, mapped-kept}
 use Rattle.unroll.proofs.Stores.{set-edges}
+use Rattle.unroll.proofs.Follows.{gate-follows, gates-start, gates-more, chosen-gate}
 
 -- ---- one gate
 
@@ -49,6 +51,7 @@ gate-mapped gate work g maps last made s b l c =
                 ap (edgeValue (g .free) (pairsOf last (made .graph)) (freeBit (g .free) x)) (getD-set-other maps v u e 0 (λ q. n (sym q)))
                 ∙ mapped-kept maps p b x u;
           };
+      follows = gate-follows gate (g .free) work g maps last (made .graph) (edgeWord (made .edge)) l (c .chosen);
     }
 
 -- the same, where what is given is known by equations
@@ -79,9 +82,11 @@ pub record MadeUpto (c : Circuit) (order : List ℕ) (k n : ℕ) (work : List �
   pub grown : Grown n k work g last h
   pub edges : Edges h after
   pub values : (x : ℕ) → x < 2 ^ n → Upto c order k (mapped n work g maps x) (mapped n last h after x)
+  pub follows : (s : Mapping) → Agrees s work g maps → Agrees (gatesMade c n k s) last h after
 
 pub made-start : (c : Circuit) (order work : List ℕ) (g : Graph) (maps : List ℕ) → Stored work g → Edges g maps → MadeUpto c order 0 (g .free) work g maps work g maps
-made-start c order work g maps s b = record { grown = grown-none work g s; edges = b; values = λ x h. upto-start c order _ }
+made-start c order work g maps s b =
+    record { grown = grown-none work g s; edges = b; values = λ x h. upto-start c order _; follows = λ s a. gates-start c (g .free) s a }
 
 -- there is room for the next gate
 pub made-extensible : {c : Circuit} {order : List ℕ} {k n : ℕ} {work : List ℕ} {g : Graph} {maps last : List ℕ} {h : Graph} {after : List ℕ} {count : ℕ}
@@ -96,7 +101,8 @@ module _ {c : Circuit} (right : T (literalsRight c)) {order : List ℕ} (o : Ord
         grown = grown-more (u .grown) (s .grown);
         edges = s .edges;
         values = λ x b. upto-more right o k l (u .values x b) (s .values x b);
+        follows = λ z a. gates-more c n k z (chosen-gate o k l) (s .follows (gatesMade c n k z) (u .follows z a));
       }
 
   pub made-end : {last after : List ℕ} {h : Graph} → MadeUpto c order (length (c .gates)) n work g maps last h after → GatesMapped c n work g maps last h after
-  made-end u = record { grown = u .grown; edges = u .edges; values = λ x b. upto-end right o (u .values x b) }
+  made-end u = record { grown = u .grown; edges = u .edges; values = λ x b. upto-end right o (u .values x b); follows = u .follows }

@@ -2,6 +2,7 @@
 pub mod Edges
 pub mod Growth
 pub mod Stores
+pub mod Follows
 pub mod Gates
 pub mod Facts
 pub mod Hits

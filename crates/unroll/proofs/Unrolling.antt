@@ -13,10 +13,13 @@ use Rattle.enumeration.proofs.Blocks.{bits-are}
 use Rattle.nodes.specs.declared.Graph.{Graph}
 use Rattle.graph.specs.Stored.{Stored, Enough, emptyGraph}
 use Rattle.graph.specs.declared.Made.{Made}
-use Rattle.unroll.specs.Map.{Blank, Valued, Extensible, FirstMapped, FramesMapped, HitMapped, FirstFits, FramesFit}
+use Rattle.unroll.specs.Chosen.{framesMade}
+use Rattle.unroll.specs.Chosen as chosen
+use Rattle.unroll.specs.Map.{Blank, Valued, Agrees, Extensible, FirstMapped, FramesMapped, HitMapped, FirstFits, FramesFit}
 use Rattle.unroll.specs.Unrolled.{UnrollFits, Unrolled}
 use Rattle.unroll.proofs.Facts.{product-le, size-enough}
 use Rattle.unroll.proofs.Frames.{reached}
+use Rattle.unroll.proofs.Follows.{no-gates}
 
 pub blank-zeros : (n : ℕ) → Blank (replicate n 0)
 blank-zeros zero v = refl
@@ -114,7 +117,14 @@ module _ {work m : List ℕ} {layout : Layout} {order : List ℕ} {b t starts ro
             subst (λ (n : ℕ). FramesMapped (circuitIn m) t t n second g map third h after) g-bits v .values refl
             (subst (λ (n : ℕ). FirstMapped (circuitIn m) n first e second g map) e-bits u .values t refl)
 
+        -- the graph and the map are those of frames 0 to t
+        agreed : Agrees (framesMade (circuitIn m) (freeBits (circuitIn m) t) t) third h after
+        agreed =
+            subst (λ (n : ℕ). FramesMapped (circuitIn m) t t n second g map third h after) g-bits v .follows
+            (subst (λ (n : ℕ). FirstMapped (circuitIn m) n first e second g map) e-bits u .follows (no-gates first _ _ empty))
+
         pub unrolled : (last : List ℕ) (made : Made) → HitMapped (circuitIn m) b (h .free) third h after last made → Unrolled (circuitIn m) b t last room made
+        unfolding chosen.unrolled
         unrolled last made w =
             let n = freeBits (circuitIn m) t in
             let p = subst (λ (k : ℕ). HitMapped (circuitIn m) b k third h after last made) h-bits w in
@@ -124,4 +134,5 @@ module _ {work m : List ℕ} {layout : Layout} {order : List ℕ} {b t starts ro
               room-is = p .grown .room ∙ v .grown .room ∙ u .grown .room ∙ room-are;
               node = p .node;
               hit = reached (f .ready) b t n third h after last made valued p;
+              chosen = p .follows (framesMade (circuitIn m) n t) agreed;
             }

@@ -1,42 +1,28 @@
 -- Maps from variables to edges of a graph, and what the private functions do to them. The word of variable v is that of its edge.
 -- Assumes nothing.
 use mathlib.Core.Path.{_≡_}
-use mathlib.Core.Bool.{Bool, false, cond, _&&_}
+use mathlib.Core.Bool.{Bool}
 use mathlib.Core.List.{List, []}
 use Prim.Native.Nat.{ℕ, _+_, _*_, _^_, _≤_, _<_}
-use lib.Dec.{eqb}
 use lib.ListN.{length, getD}
 use Rattle.aiger.specs.Circuit.{Circuit, Gate, var}
 use Rattle.aiger.specs.Frames.{value, freeBit, freeBits, freeStarts, run, state}
 use Rattle.layout.specs.Words.{word, circuitIn}
 use Rattle.meaning.specs.Frame.{Valuation}
 use Rattle.literals.specs.Literal.{literal}
-use Rattle.literals.specs.declared.Lit.{Lit}
 use Rattle.layout.specs.declared.Layout.{Layout}
 use Rattle.frames.specs.Lanes.{Ready, Leaves, Computed, hitIn}
 use Rattle.frames.specs.Lanes as lanes
 use Rattle.enumeration.specs.Blocks.{freeBefore}
 use Rattle.nodes.specs.Graph.{edgeValue}
 use Rattle.nodes.specs.Store.{pairsOf}
-use Rattle.nodes.specs.Edges.{edgeOf, wordEdge, edgeWord, opposite}
+use Rattle.nodes.specs.Edges.{edgeWord}
 use Rattle.nodes.specs.declared.Graph.{Graph}
-use Rattle.nodes.specs.declared.Edge.{Edge}
 use Rattle.graph.specs.Stored.{Stored}
 use Rattle.graph.specs.declared.Made.{Made}
-
--- ---- edges
-
--- the edge of literal l
-abbrev pub literalEdge : List ℕ → Lit → Edge
-literalEdge map l = cond (l .1) (opposite (wordEdge (getD map (l .0 .0) 0))) (wordEdge (getD map (l .0 .0) 0))
-
--- the edge of free bit j
-abbrev pub freeEdge : ℕ → Edge
-freeEdge j = edgeOf (j + 1) false
-
--- the edge of a latch's start: free bit k where the start is free, else a constant
-abbrev pub startEdge : ℕ → ℕ → ℕ → Edge
-startEdge lit reset k = cond (eqb reset lit) (freeEdge k) (edgeOf 0 (eqb reset 1))
+use Rattle.graph.specs.Chosen.{Outcome}
+pub use Rattle.unroll.specs.Edges.{literalEdge, freeEdge, startEdge}
+use Rattle.unroll.specs.Chosen.{Mapping, gateMade, gatesMade, frameMade, moving, framesMade, lineMade}
 
 -- ---- words of a map
 
@@ -100,23 +86,31 @@ pub record Grown (n count : ℕ) (work : List ℕ) (g : Graph) (last : List ℕ)
   pub most : h .nodes ≤ g .nodes + count
   pub kept : (f : ℕ → Bool) (e : ℕ) → var e < g .nodes → edgeValue n (pairsOf last h) f e ≡ edgeValue n (pairsOf work g) f e
 
+-- the graph and the map are those of s
+pub record Agrees (s : Mapping) (work : List ℕ) (g : Graph) (map : List ℕ) : Type 0 where
+  pub gates : pairsOf work g ≡ s .gates
+  pub edges : (v : ℕ) → getD map v 0 ≡ s .edges v
+
 -- one gate
 pub record GateMapped (gate : Gate) (n : ℕ) (work : List ℕ) (g : Graph) (map last : List ℕ) (h : Graph) (after : List ℕ) : Type 0 where
   pub grown : Grown n 1 work g last h
   pub edges : Edges h after
   pub values : (x : ℕ) → x < 2 ^ n → Computed gate (mapped n work g map x) (mapped n last h after x)
+  pub follows : (s : Mapping) → Agrees s work g map → Agrees (gateMade n gate s) last h after
 
 -- all gates of a frame: whatever frame the leaves stood for before, all values are that frame's after
 pub record GatesMapped (c : Circuit) (n : ℕ) (work : List ℕ) (g : Graph) (map last : List ℕ) (h : Graph) (after : List ℕ) : Type 0 where
   pub grown : Grown n (length (c .gates)) work g last h
   pub edges : Edges h after
   pub values : (x : ℕ) → x < 2 ^ n → (row st : List Bool) → Leaves c row st (mapped n work g map x) → Valuation c row st (mapped n last h after x)
+  pub follows : (s : Mapping) → Agrees s work g map → Agrees (gatesMade c n (length (c .gates)) s) last h after
 
 -- frame 0
 pub record FirstMapped (c : Circuit) (n : ℕ) (work : List ℕ) (g : Graph) (last : List ℕ) (h : Graph) (after : List ℕ) : Type 0 where
   pub grown : Grown n (length (c .gates)) work g last h
   pub edges : Edges h after
   pub values : (t : ℕ) → n ≡ freeBits c t → Valued c t 0 n last h after
+  pub follows : pairsOf work g ≡ [] → Agrees (framesMade c n 0) last h after
 
 -- the frame after u, where its first input has free bit `first`
 pub record NextMapped (c : Circuit) (n first : ℕ) (work : List ℕ) (g : Graph) (map last : List ℕ) (h : Graph) (after : List ℕ) : Type 0 where
@@ -124,18 +118,23 @@ pub record NextMapped (c : Circuit) (n first : ℕ) (work : List ℕ) (g : Graph
   pub edges : Edges h after
   pub values : (t u : ℕ) → n ≡ freeBits c t → u < t → first ≡ freeStarts c + length (c .inputs) * (u + 1) → Valued c t u n work g map
       → Valued c t (u + 1) n last h after
+  pub follows : (s : Mapping) → Agrees s work g map → Agrees (frameMade c n first (moving c s) s) last h after
 
 -- the frames after frame 0, up to frame u of t
 pub record FramesMapped (c : Circuit) (t u n : ℕ) (work : List ℕ) (g : Graph) (map last : List ℕ) (h : Graph) (after : List ℕ) : Type 0 where
   pub grown : Grown n (length (c .gates) * u) work g last h
   pub edges : Edges h after
   pub values : n ≡ freeBits c t → Valued c t 0 n work g map → Valued c t u n last h after
+  pub follows : Agrees (framesMade c n 0) work g map → Agrees (framesMade c n u) last h after
 
 -- the conjunction of bad line b and the constraints
 pub record HitMapped (c : Circuit) (b n : ℕ) (work : List ℕ) (g : Graph) (map last : List ℕ) (made : Made) : Type 0 where
   pub grown : Grown n (length (c .constraints)) work g last (made .graph)
   pub node : made .edge .0 .0 < made .graph .nodes
   pub hit : (x : ℕ) → x < 2 ^ n → edgeValue n (pairsOf last (made .graph)) (freeBit n x) (edgeWord (made .edge)) ≡ hitIn c b (mapped n work g map x)
+  pub follows : (s : Mapping) → Agrees s work g map
+      → lineMade (getD (c .bads) b 0) (λ j. getD (c .constraints) j 0) n (length (c .constraints)) s
+      ≡ record { gates = pairsOf last (made .graph); edge = edgeWord (made .edge) }
 
 -- what frame 0 requires of the graph
 pub record FirstFits (m : List ℕ) (layout : Layout) (starts : ℕ) (work : List ℕ) (g : Graph) (map : List ℕ) : Type 0 where

@@ -14,6 +14,7 @@ use Rattle.nodes.specs.Store.{pairsOf}
 use Rattle.nodes.specs.Edges.{edgeWord}
 use Rattle.graph.specs.Stored.{Stored}
 use Rattle.graph.specs.declared.Made.{Made}
+use Rattle.unroll.specs.Chosen.{unrolled}
 
 -- a circuit in memory m that is ready to be evaluated, and working memory for a node for each unit of size
 pub record UnrollFits (work m : List ℕ) (layout : Layout) (order : List ℕ) (b t starts room : ℕ) : Type 0 where
@@ -32,3 +33,5 @@ pub record Unrolled (c : Circuit) (b t : ℕ) (work : List ℕ) (room : ℕ) (ma
   pub room-is : made .graph .room ≡ room
   pub node : made .edge .0 .0 < made .graph .nodes
   pub hit : (x : ℕ) → x < 2 ^ freeBits c t → edgeValue (freeBits c t) (pairsOf work (made .graph)) (freeBit (freeBits c t) x) (edgeWord (made .edge)) ≡ reaches c b t x
+  -- of the graphs with such an edge it is the one that the circuit, b and t alone say
+  pub chosen : unrolled c b t ≡ record { gates = pairsOf work (made .graph); edge = edgeWord (made .edge) }

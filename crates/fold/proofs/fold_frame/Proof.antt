@@ -1,14 +1,18 @@
 -- `fold::fold_frame` meets its contract: the frame is unrolled, its cone marked, numbered and written. Assumes nothing.
-use mathlib.Core.Path.{_≡_}
+use mathlib.Core.Path.{_≡_, subst}
+use Prim.Native.Nat.{_+_, _*_, _≤_}
+use lib.ListN.{length}
+use Rattle.aiger.specs.Circuit.{Circuit}
+use Rattle.aiger.specs.Write.{write}
 use native.Mathlib.Omega.{arith}
 use Rattle.aiger.specs.Frames.{size}
 use Rattle.layout.specs.Words.{circuitIn}
 use Rattle.nodes.specs.Edges.{edgeWord}
 use Rattle.enumeration.proofs.Starts.{starts-few}
 use Rattle.search.proofs.Sizes.{counts-of, limited}
-use Rattle.fold.specs.Text.{foldedIn, Writable}
+use Rattle.fold.specs.Text.{Writable}
 use Rattle.fold.proofs.Lines.{text-short}
-use Rattle.fold.proofs.Folding.{markable, writable, permitted}
+use Rattle.fold.proofs.Folding.{shown-as, markable, writable, is-chosen, permitted}
 use borrow.Author.Needs.{needs}
 use Rattle.fold.proofs.fold_frame.Statement.{statement}
 use Rattle.fold.proofs.fold_frame.Tie as tie
@@ -74,10 +78,15 @@ returns c =
     let a = f .before .before .before .before .before in
     let k = a .before .before .before .before in
     let u = k .before .before .before .before .before .before in
+    let s = u .before .before .before .before .before .before .before in
+    let w = writes a in
+    let e = is-chosen (u .unroll .ensures) (k .mark .ensures) (a .assign .ensures) in
     record {
-      circuit = foldedIn (a .assign .last .0) (u .unroll .result .graph) (edgeWord (u .unroll .result .edge));
       permitted = permitted (u .unroll .ensures) (k .mark .ensures) (a .assign .ensures);
-      shown = f .write-folded .ensures;
+      short =
+          subst (λ (d : Circuit). length (write d) ≤ 24 * size (circuitIn (s .args .m .now)) (s .args .t) + 64) e
+          (omega (arith, text-short w, w .sized .nodes, u .unroll .ensures .room-is, room-is (u .before .before)));
+      shown = shown-as e (f .write-folded .ensures);
     }
 
 pub fold-frame-spec : {M : Type 1} → statement M

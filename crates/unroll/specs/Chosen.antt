@@ -1,0 +1,78 @@
+-- The graph and the edge that unrolling gives, as a function of the circuit, b and t. Assumes nothing.
+use mathlib.Core.Bool.{cond}
+use mathlib.Core.List.{List, []}
+use Prim.Native.Nat.{ℕ, zero, suc, _+_, _*_}
+use lib.Dec.{eqb}
+use lib.ListN.{length, getD}
+use Rattle.aiger.specs.Bits.{odd}
+use Rattle.aiger.specs.Circuit.{Circuit, Gate, var}
+use Rattle.aiger.specs.Frames.{freeBits, freeStarts}
+use Rattle.layout.specs.Order.{gateAt, depthFirst}
+use Rattle.meaning.specs.Frame.{inputAt, latchAt}
+use Rattle.enumeration.specs.Blocks.{freeBefore}
+use Rattle.nodes.specs.Graph.{Pair}
+use Rattle.nodes.specs.Edges.{wordEdge, edgeWord, opposite}
+use Rattle.graph.specs.Chosen.{Outcome, conjoin}
+use Rattle.unroll.specs.Edges.{freeEdge, startEdge}
+
+-- the gates of a graph, and the word of each variable's edge
+pub record Mapping : Type 0 where
+  pub gates : List Pair
+  pub edges : ℕ → ℕ
+
+-- the word of a literal's edge
+abbrev pub literalIn : (ℕ → ℕ) → ℕ → ℕ
+literalIn edges l = edgeWord (cond (odd l) (opposite (wordEdge (edges (var l)))) (wordEdge (edges (var l))))
+
+-- the edges, but with word j at place j, for each j below n
+unfoldable pub filled : (ℕ → ℕ) → (ℕ → ℕ) → ℕ → (ℕ → ℕ) → ℕ → ℕ
+filled place words zero edges v = edges v
+filled place words (suc n) edges v = cond (eqb (place n) v) (words n) (filled place words n edges v)
+
+-- a gate's variable gets the conjunction of its operands' edges
+unfoldable pub gateMade : ℕ → Gate → Mapping → Mapping
+gateMade n g s =
+    let o = conjoin n (s .gates) (literalIn (s .edges) (g .left)) (literalIn (s .edges) (g .right)) in
+    record { gates = o .gates; edges = λ v. cond (eqb (var (g .lit)) v) (o .edge) (s .edges v) }
+
+-- the same for the first k gates of the depth-first order
+unfoldable pub gatesMade : Circuit → ℕ → ℕ → Mapping → Mapping
+gatesMade c n zero s = s
+gatesMade c n (suc k) s = gateMade n (gateAt c (getD (depthFirst c) k 0)) (gatesMade c n k s)
+
+-- the latches get their words and the inputs their free bits, the first input free bit `first`
+unfoldable pub leavesMade : Circuit → ℕ → (ℕ → ℕ) → Mapping → Mapping
+leavesMade c first words s =
+    record {
+      gates = s .gates;
+      edges =
+          filled (λ i. var (inputAt c i)) (λ i. edgeWord (freeEdge (first + i))) (length (c .inputs))
+          (filled (λ j. var (latchAt c j .lit)) words (length (c .latches)) (s .edges));
+    }
+
+-- a frame: its leaves, and then all gates
+abbrev pub frameMade : Circuit → ℕ → ℕ → (ℕ → ℕ) → Mapping → Mapping
+frameMade c n first words s = gatesMade c n (length (c .gates)) (leavesMade c first words s)
+
+-- the words of the latches' starts, and of their next literals
+abbrev pub starting : Circuit → ℕ → ℕ
+starting c j = edgeWord (startEdge (latchAt c j .lit) (latchAt c j .reset) (freeBefore c j))
+
+abbrev pub moving : Circuit → Mapping → ℕ → ℕ
+moving c s j = literalIn (s .edges) (latchAt c j .next)
+
+-- frames 0 to u over n free bits
+unfoldable pub framesMade : Circuit → ℕ → ℕ → Mapping
+framesMade c n zero = frameMade c n (freeStarts c) (starting c) (record { gates = []; edges = λ v. 0 })
+framesMade c n (suc u) = frameMade c n (freeStarts c + length (c .inputs) * suc u) (moving c (framesMade c n u)) (framesMade c n u)
+
+-- the conjunction of a literal and the first k lines
+unfoldable pub lineMade : ℕ → (ℕ → ℕ) → ℕ → ℕ → Mapping → Outcome
+lineMade bad lines n zero s = record { gates = s .gates; edge = literalIn (s .edges) bad }
+lineMade bad lines n (suc k) s =
+    conjoin n (lineMade bad lines n k s .gates) (lineMade bad lines n k s .edge) (literalIn (s .edges) (lines k))
+
+-- the bad line and the constraints of frame t
+unfoldable pub unrolled : Circuit → ℕ → ℕ → Outcome
+unrolled c b t =
+    lineMade (getD (c .bads) b 0) (λ j. getD (c .constraints) j 0) (freeBits c t) (length (c .constraints)) (framesMade c (freeBits c t) t)
