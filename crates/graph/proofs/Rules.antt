@@ -52,9 +52,12 @@ ruled left right = ruled-any left right (ℕ-discrete right 0)
 pub proper-gate : (left right : ℕ) → 2 ≤ right → var right < var left → simplified left right ≡ Gate
 unfolding simplified
 proper-gate left right h l =
-    rw
-    (ne-eqb right 0 (λ q. omega arith), ne-eqb right 1 (λ q. omega arith), ne-eqb left right (λ q. omega (arith, ap var q)),
-    ne-eqb (var left) (var right) (λ q. omega arith))
+    rw (
+      ne-eqb right 0 (λ q. omega arith),
+      ne-eqb right 1 (λ q. omega arith),
+      ne-eqb left right (λ q. omega (arith, ap var q)),
+      ne-eqb (var left) (var right) (λ q. omega arith),
+    )
 
 -- ---- values
 

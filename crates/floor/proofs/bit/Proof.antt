@@ -1,0 +1,15 @@
+-- `floor::bit` meets its contract. Assumes nothing.
+use Rattle.floor.specs.Place as P
+use borrow.Author.Needs.{needs}
+use Rattle.floor.proofs.bit.Statement.{statement}
+use Rattle.floor.proofs.bit.Tie as tie
+
+field-requires : tie.Need-field-requires
+field-requires c κs = search needs
+
+returns : tie.Need-returns
+unfolding P.bitOf
+returns c = cc
+
+pub bit-spec : {M : Type 1} → statement M
+bit-spec = tie.close (tie.spec field-requires returns)

@@ -1,0 +1,81 @@
+-- `floor::raise` meets its contract. The invariant: what is left of the nodes ends as all of them do. Assumes nothing.
+use Rattle.floor.proofs.Turns.{raised-none, raised-here, raised-more}
+use Rattle.floor.specs.Place.{Counted, raised}
+use lib.ListN as N
+use native.Mathlib.Omega.{arith}
+use mathlib.Core.Path.{_≡_, refl, sym, ap, _∙_}
+use borrow.Author.Needs.{needs}
+use Rattle.floor.proofs.raise.Statement.{statement}
+use Rattle.floor.proofs.raise.Tie as tie
+
+abbrev Inv-loop : tie.InvT-loop
+Inv-loop work₀ nodes m n v₀ work v =
+    (N.length work ≡ N.length work₀) × (raised work nodes m v ≡ raised work₀ nodes m v₀)
+
+abbrev μ-loop : tie.MeasureT-loop
+μ-loop work₀ nodes m n v₀ work v = v
+
+loop-holds : tie.Need-loop-holds Inv-loop μ-loop
+loop-holds c = (refl, refl)
+
+can-rise-requires : tie.Need-can-rise-requires Inv-loop μ-loop
+can-rise-requires c κs = search needs
+
+lift-requires : tie.Need-lift-requires Inv-loop μ-loop
+lift-requires c κs = search needs
+
+same-length : tie.Need-same-length Inv-loop μ-loop
+same-length c =
+    search needs
+
+returns : tie.Need-returns Inv-loop μ-loop
+returns c =
+    let l = c .before .before .before .before .before .before .before .before .loop in
+    let s = c .before .before .before .before .before .before .before .before .before .before .args in
+    let all = sym (raised-here (l .work) (s .nodes) (s .m) (l .v) (omega arith) (cc)) ∙ l .inv .1 in
+    record { words = cc (ap (λ (t : Counted). t .words) all); count = ap (λ (t : Counted). t .count) all }
+
+clear-requires : tie.Need-clear-requires Inv-loop μ-loop
+clear-requires c κs = search needs
+
+sub-v : tie.Need-sub-v Inv-loop μ-loop
+sub-v c = omega arith
+
+loop-less : tie.Need-loop-less Inv-loop μ-loop
+loop-less c = omega arith
+
+loop-again : tie.Need-loop-again Inv-loop μ-loop
+loop-again c =
+    let l = c .before .before .before .before .before .before .before .before .loop in
+    let s = c .before .before .before .before .before .before .before .before .before .before .args in
+    let more = raised-more (l .work) (s .nodes) (s .m) (l .v) (omega arith) (cc) in
+    (cc, sym (cc more))
+
+same-length-2 : tie.Need-same-length-2 Inv-loop μ-loop
+same-length-2 c =
+    c .before .loop .inv .0
+
+returns-2 : tie.Need-returns-2 Inv-loop μ-loop
+returns-2 c =
+    let l = c .before .loop in
+    let s = c .before .before .before .args in
+    let all = sym (raised-none (l .work) (s .nodes) (s .m) (l .v) (omega arith)) ∙ l .inv .1 in
+    record { words = ap (λ (t : Counted). t .words) all; count = ap (λ (t : Counted). t .count) all }
+
+pub raise-spec : {M : Type 1} → statement M
+raise-spec =
+    tie.close
+    (tie.spec
+    Inv-loop
+    μ-loop
+    loop-holds
+    can-rise-requires
+    lift-requires
+    same-length
+    returns
+    clear-requires
+    sub-v
+    loop-less
+    loop-again
+    same-length-2
+    returns-2)

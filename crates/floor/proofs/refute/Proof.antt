@@ -1,0 +1,35 @@
+-- `floor::refute` meets its contract. Assumes nothing.
+use borrow.Author.Tests.{eq-eqb, ne-eqb}
+use Rattle.floor.specs.Place as P
+use borrow.Author.Needs.{needs}
+use Rattle.floor.proofs.refute.Statement.{statement}
+use Rattle.floor.proofs.refute.Tie as tie
+
+judge-requires : tie.Need-judge-requires
+judge-requires c κs = search needs
+
+same-length : tie.Need-same-length
+same-length c = search needs
+
+returns : tie.Need-returns
+unfolding P.refuted P.raisedBy
+returns c = rw (← c .before .judge .ensures, c .before .before .before .if1 .taken, eq-eqb _ _ (c .if2 .taken)) (record { words = cc; count = cc })
+
+raise-requires : tie.Need-raise-requires
+raise-requires c κs = search needs
+
+same-length-2 : tie.Need-same-length-2
+same-length-2 c = search needs
+
+returns-2 : tie.Need-returns-2
+unfolding P.refuted P.raisedBy
+returns-2 c = rw (← c .before .before .before .before .before .judge .ensures, c .before .before .before .before .before .before .before .if1 .taken, ne-eqb _ _ (c .before .before .before .before .if2 .left)) (c .before .before .raise .ensures)
+
+returns-3 : tie.Need-returns-3
+unfolding P.refuted P.raisedBy
+returns-3 c = rw (c .if1 .left) (record { words = cc; count = cc })
+
+pub refute-spec : {M : Type 1} → statement M
+refute-spec =
+    tie.close
+    (tie.spec judge-requires same-length returns raise-requires same-length-2 returns-2 returns-3)

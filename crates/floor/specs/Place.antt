@@ -1,0 +1,88 @@
+-- The floor in memory: the test that a clause is false there, the raise, and evaluation, as functions of the words. Assumes nothing.
+use mathlib.Core.Path.{_≡_}
+use mathlib.Core.Bool.{Bool, true, false, cond, _&&_}
+use mathlib.Core.List.{List}
+use Prim.Native.Nat.{ℕ, zero, suc, _+_, _-_, _/_, _%_}
+use lib.Dec.{eqb, leb, ltb}
+use Rattle.memory.specs.Record.{field, stored, bitAt, opposite}
+use Rattle.memory.specs.declared.Netlist.{Netlist}
+use Rattle.memory.specs.declared.Arena.{Arena}
+use Rattle.memory.specs.declared.Draft.{Draft}
+use Rattle.resolve.specs.Draft.{draftAt}
+
+-- what a step leaves: the words and a number
+pub record Counted : Type 0 where
+  pub words : List ℕ
+  pub count : ℕ
+
+pub record Told (w : List ℕ) (n : ℕ) (to : Counted) : Type 0 where
+  pub words : w ≡ to .words
+  pub count : n ≡ to .count
+
+abbrev pub counted : List ℕ → ℕ → Counted
+counted w n = record { words = w; count = n }
+
+-- the bit of node v: 0, 1, or 2 where the hit does not depend on it
+unfoldable pub bitOf : List ℕ → ℕ → ℕ → ℕ
+bitOf w nodes v = bitAt (field w nodes v 2)
+
+-- the floor's bit at node v
+abbrev pub floorBit : List ℕ → ℕ → ℕ → ℕ
+floorBit w nodes v = cond (eqb (bitOf w nodes v) 1) 1 0
+
+-- literal l is no free bit's, or true at the floor; the complement of the hit counts as false
+unfoldable pub isWrong : List ℕ → Netlist → ℕ → Bool
+isWrong w net l =
+    cond (eqb l (opposite (net .root))) false
+    (cond (eqb (l / 2) 0) true
+    (cond (ltb (net .free) (l / 2)) true (cond (eqb (bitOf w (net .nodes) (l / 2)) 1) (eqb (l % 2) 0) (eqb (l % 2) 1))))
+
+unfoldable pub later : Netlist → ℕ → ℕ → ℕ
+later net l top = cond (eqb l (opposite (net .root))) top (cond (ltb top (l / 2)) (l / 2) top)
+
+-- the last free bit of the first k literals of the working clause
+unfoldable pub judged : List ℕ → Netlist → Arena → ℕ → ℕ → ℕ
+judged w net arena zero top = top
+judged w net arena (suc k) top = cond (isWrong w net (draftAt w net arena k)) 4294967295 (judged w net arena k (later net (draftAt w net arena k) top))
+
+unfoldable pub cleared : List ℕ → ℕ → ℕ → List ℕ
+cleared w nodes v = cond (eqb (bitAt (field w nodes v 2)) 1) (stored w nodes v 2 (field w nodes v 2 - 4)) w
+
+unfoldable pub lifted : List ℕ → ℕ → ℕ → List ℕ
+lifted w nodes v = cond (eqb (bitAt (field w nodes v 2)) 0) (stored w nodes v 2 (field w nodes v 2 + 4)) w
+
+unfoldable pub canRise : List ℕ → ℕ → ℕ → ℕ → Bool
+canRise w nodes m v = leb v m && eqb (bitOf w nodes v) 0
+
+-- from node v downward: the last bit up to node m that counts and is 0 becomes 1, those after it 0; that node, or 0
+unfoldable pub raised : List ℕ → ℕ → ℕ → ℕ → Counted
+raised w nodes m zero = counted w 0
+raised w nodes m (suc v) = cond (canRise w nodes m (suc v)) (counted (lifted w nodes (suc v)) (suc v)) (raised (cleared w nodes (suc v)) nodes m v)
+
+-- by a clause whose last free bit is m
+unfoldable pub raisedBy : List ℕ → Netlist → ℕ → Counted
+raisedBy w net m = cond (eqb m 4294967295) (counted w 4294967295) (raised w (net .nodes) m (net .free))
+
+unfoldable pub refuted : List ℕ → Netlist → Arena → Draft → Counted
+refuted w net arena d = cond (d .whole) (raisedBy w net (judged w net arena (d .length) 0)) (counted w 4294967295)
+
+-- the value of edge e, where word 3 of a record has the value of its node
+unfoldable pub edge : List ℕ → ℕ → ℕ → ℕ
+edge w nodes e = cond (eqb (e % 2) 0) (field w nodes (e / 2) 3) (cond (eqb (field w nodes (e / 2) 3) 0) 1 0)
+
+-- the value of node v at the floor, from those of the nodes before it
+unfoldable pub nodeValue : List ℕ → Netlist → ℕ → ℕ
+nodeValue w net v =
+    cond (eqb v 0) 0
+    (cond (leb v (net .free)) (floorBit w (net .nodes) v)
+    (cond (eqb (edge w (net .nodes) (field w (net .nodes) v 0)) 0) 0 (edge w (net .nodes) (field w (net .nodes) v 1))))
+
+-- k nodes from v on
+unfoldable pub evaluated : List ℕ → Netlist → ℕ → ℕ → List ℕ
+evaluated w net v zero = w
+evaluated w net v (suc k) = evaluated (stored w (net .nodes) v 3 (nodeValue w net v)) net (v + 1) k
+
+-- the words after evaluation of all nodes, and whether the hit is true
+pub record Shown (u : List ℕ) (b : Bool) (w : List ℕ) (net : Netlist) : Type 0 where
+  pub words : u ≡ evaluated w net 0 (net .nodes)
+  pub true : b ≡ eqb (edge (evaluated w net 0 (net .nodes)) (net .nodes) (net .root)) 1
