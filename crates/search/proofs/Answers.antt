@@ -33,6 +33,8 @@ module _ {m : List ℕ} (held : Holds m (circuitIn m)) {b k D : ℕ} {work out :
         bound = q .bound;
         some = q .some;
         most = q .most;
+        units = q .small;
+        words = q .words;
         room = omega (arith, q .words);
         output = q .output;
       }

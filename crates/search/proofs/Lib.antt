@@ -3,3 +3,4 @@ pub mod Refusals
 pub mod Choice
 pub mod Answers
 pub mod Theorems
+pub mod ByLayers

@@ -2,7 +2,7 @@
 use mathlib.Core.Path.{_≡_}
 use mathlib.Core.Bool.{cond}
 use mathlib.Core.List.{List}
-use Prim.Native.Nat.{ℕ, _≤_, _<_}
+use Prim.Native.Nat.{ℕ, _*_, _≤_, _<_}
 use lib.Dec.{eqb}
 use lib.ListN.{length}
 use Rattle.aiger.specs.Circuit.{Circuit}
@@ -42,6 +42,8 @@ pub record SearchFits (m : List ℕ) (p : Layout) (order : List ℕ) (b k D : �
   pub bound : k ≤ 255
   pub some : 1 ≤ D
   pub most : D ≤ 4294967296
+  pub units : size (circuitIn m) k ≤ 65536
+  pub words : 16 * size (circuitIn m) k ≤ length work
   pub room : size (circuitIn m) k ≤ length work
   pub output : witnessLength (circuitIn m) b k ≤ length out
 

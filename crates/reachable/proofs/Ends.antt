@@ -1,0 +1,63 @@
+-- From the record of the first hit to the free bits. Assumes nothing.
+use mathlib.Core.Path.{_≡_, refl, sym, ap, ap₂, _∙_, subst}
+use mathlib.Core.List.{List}
+use Prim.Native.Nat.{ℕ, _+_, _*_, _^_, _≤_, _<_}
+use native.Mathlib.Omega.{arith}
+use lib.ListN.{length}
+use Rattle.aiger.specs.Circuit.{Circuit}
+use Rattle.aiger.specs.Frames.{freeStarts, freeBits, size}
+use Rattle.enumeration.specs.Frame.{FreeBits}
+use Rattle.machine.specs.Layers as spec
+use Rattle.states.specs.Trace.{Trace}
+use Rattle.reachable.specs.Layers.{layered, FoundOf, LayersOf}
+use Rattle.reachable.specs.declared.Found.{Found}
+use Rattle.reachable.specs.declared.Found.the-variants.{At, Nowhere, Left}
+use Rattle.reachable.specs.declared.Layers.the-variants.{Hit, Clear, GaveUp}
+use Rattle.reachable.proofs.Quotas.{bits-below}
+
+module _ (c : Circuit) (b k : ℕ) (records : List ℕ) (r : Found) (f : FoundOf c b k records r) where
+  -- the first hit, in plain terms
+  pub record Place (t e row : ℕ) : Type 0 where
+    pub prefix : ℕ
+    pub first : layered c b k ≡ spec.hit t (prefix * 2 ^ length (c .inputs) + row)
+    pub trace : Trace (2 ^ length (c .inputs)) records t e prefix
+    pub row-in : row < 2 ^ length (c .inputs)
+    pub within : t ≤ k
+    pub inside : 4 * e + 4 ≤ length records
+    pub narrow : length (c .inputs) ≤ 16
+
+  pub place-of : {t e row : ℕ} → r ≡ At t e row → Place t e row
+  unfolding FoundOf
+  place-of q =
+      let (y, h, tr, rl, tk, el, w) = subst (FoundOf c b k records) q f in
+      record { prefix = y; first = h; trace = tr; row-in = rl; within = tk; inside = el; narrow = w }
+
+  pub none-of : r ≡ Nowhere → (work : List ℕ) → LayersOf c b k work Clear
+  unfolding FoundOf LayersOf
+  none-of q work = subst (FoundOf c b k records) q f
+
+  pub left-of : {t : ℕ} → r ≡ Left t → (work : List ℕ) → LayersOf c b k work (GaveUp t)
+  unfolding FoundOf LayersOf
+  left-of q work = subst (FoundOf c b k records) q f
+
+  module _ {t e row : ℕ} (p : Place t e row) (i u : ℕ) (is : i ≡ length (c .inputs)) (us : u ≡ freeStarts c) where
+    bits-is : u + i * (t + 1) ≡ freeBits c t
+    unfolding freeBits
+    bits-is = ap₂ (λ (x : ℕ) (y : ℕ). x + y * (t + 1)) us is
+
+    -- what writing the free bits asks
+    pub asks : k ≤ 255 → u ≤ 16 → size c k ≤ length records
+        → (t ≤ 255) × (row < 2 ^ i) × (u ≤ 16) × (i ≤ 16) × (4 * e + 4 ≤ length records) × (u + i * (t + 1) ≤ length records)
+    asks l h w =
+        (omega (arith, p .within), subst (λ (x : ℕ). row < 2 ^ x) (sym is) (p .row-in), h, omega (arith, p .narrow), p .inside, omega (arith, bits-is, bits-below c t k (p .within)))
+
+    pub asks-trace : (y : ℕ) × Trace (2 ^ i) records t e y
+    asks-trace = (p .prefix, subst (λ (x : ℕ). Trace (2 ^ x) records t e (p .prefix)) (sym is) (p .trace))
+
+    -- and what it gives
+    pub gives-bits : (work : List ℕ) → ((y : ℕ) → Trace (2 ^ i) records t e y → FreeBits (u + i * (t + 1)) (y * 2 ^ i + row) work) → LayersOf c b k work (Hit t)
+    unfolding LayersOf asks-trace
+    gives-bits work h =
+        let x = p .prefix * 2 ^ length (c .inputs) + row in
+        let z : p .prefix * 2 ^ i + row ≡ x = ap (λ (n : ℕ). p .prefix * 2 ^ n + row) is in
+        (x, p .first, p .within, subst (λ (n : ℕ). FreeBits n x work) bits-is (subst (λ (n : ℕ). FreeBits (u + i * (t + 1)) n work) z (h (p .prefix) (asks-trace .1))))

@@ -1,0 +1,124 @@
+-- The search by layers, frame after frame. Assumes nothing.
+use mathlib.Core.Path.{_≡_, refl, sym, ap, ap₂, _∙_, subst}
+use mathlib.Core.Bool.{Bool, true, false, cond}
+use mathlib.Core.List.{List}
+use mathlib.Core.Option.{Option, none, some}
+use Prim.Native.Nat.{ℕ, zero, suc, _+_, _-_, _*_, _^_, _≤_, _<_}
+use native.Mathlib.Numerals.{add-one}
+use native.Mathlib.Omega.{arith}
+use borrow.Author.Tests.{le-leb, lt-leb, eq-eqb, ne-eqb}
+use lib.Dec.{leb, eqb}
+use lib.ListN.{length}
+use lib.Pow.{pow-pos}
+use Rattle.aiger.specs.Circuit.{Circuit}
+use Rattle.aiger.specs.Frames.{freeStarts}
+use Rattle.machine.specs.Machine.{Machine}
+use Rattle.machine.specs.Layers.{Entry, started, slotPlace, slotHit, expanded, layerSlots, firstBelow, Layered, hit, clear, gaveUp, layersFrom}
+use Rattle.machine.specs.Layers as spec
+use Rattle.machine.proofs.Starts.{some-start}
+use Rattle.states.specs.Trace.{Holds}
+use Rattle.transitions.specs.Transitions.{machineOf}
+use Rattle.reachable.specs.Quota.{quota}
+use Rattle.reachable.specs.Layers.{layered}
+
+-- a table holds what it held with another quota, if that is no less than its records
+pub holds-with : {rows t lo quota count : ℕ} {r hd : List ℕ} {es : List Entry} (q : ℕ) → 4 * q ≤ length r → q < 4294967295 → count ≤ quota → count ≤ q
+    → Holds rows t lo quota count r hd es → Holds rows t lo q count r hd es
+holds-with q b d l k h =
+    record {
+      quota-room = b;
+      quota-small = d;
+      count-small = omega arith;
+      counted = λ _. h .counted l;
+      stored = λ _. h .stored l;
+      placed = λ _. h .placed l;
+      lost = λ x. absurd (omega arith);
+      buckets = h .buckets;
+    }
+
+-- ---- one frame
+module _ (m : Machine) (q : ℕ → ℕ) (n t : ℕ) (es : List Entry) (lo : ℕ) where
+  abbrev all : List Entry
+  all = expanded m es lo (layerSlots m es lo)
+
+  abbrev after : Option ℕ → Bool → Bool → Layered
+  after o a b = elim o [ some z ↦ hit t (slotPlace m es lo z) | none ↦ cond a (cond b clear (layersFrom m q n (suc t) all (length es))) (gaveUp (suc t)) ]
+
+  unrolled : layersFrom m q (suc n) t es lo ≡ after (firstBelow (layerSlots m es lo) (slotHit m es lo)) (leb (length all) (q t)) (eqb (length all) (length es))
+  unfolding layersFrom
+  unrolled = refl
+
+  pub from-hit : (z : ℕ) → firstBelow (layerSlots m es lo) (slotHit m es lo) ≡ some z → layersFrom m q (suc n) t es lo ≡ hit t (slotPlace m es lo z)
+  from-hit z e = unrolled ∙ ap (λ (o : Option ℕ). after o (leb (length all) (q t)) (eqb (length all) (length es))) e
+
+  module _ (e : firstBelow (layerSlots m es lo) (slotHit m es lo) ≡ none) where
+    pub from-lost : q t < length (expanded m es lo (layerSlots m es lo)) → layersFrom m q (suc n) t es lo ≡ gaveUp (suc t)
+    from-lost l =
+        unrolled ∙ ap₂ (λ (o : Option ℕ) (a : Bool). after o a (eqb (length all) (length es))) e (lt-leb (length all) (q t) l)
+
+    pub from-last : length (expanded m es lo (layerSlots m es lo)) ≤ q t → length (expanded m es lo (layerSlots m es lo)) ≡ length es → layersFrom m q (suc n) t es lo ≡ clear
+    from-last l k =
+        unrolled ∙ ap₂ (λ (o : Option ℕ) (a : Bool). after o a (eqb (length all) (length es))) e (le-leb (length all) (q t) l)
+        ∙ ap (after none true) (eq-eqb (length all) (length es) k)
+
+    pub from-more : length (expanded m es lo (layerSlots m es lo)) ≤ q t → (length (expanded m es lo (layerSlots m es lo)) ≡ length es → ⊥)
+        → layersFrom m q (suc n) t es lo ≡ layersFrom m q n (suc t) (expanded m es lo (layerSlots m es lo)) (length es)
+    from-more l k =
+        unrolled ∙ ap₂ (λ (o : Option ℕ) (a : Bool). after o a (eqb (length all) (length es))) e (le-leb (length all) (q t) l)
+        ∙ ap (after none true) (ne-eqb (length all) (length es) k)
+
+-- ---- all frames
+module _ (c : Circuit) (b k : ℕ) where
+  abbrev m : Machine
+  m = machineOf c b
+
+  -- what is left is frames t to k
+  abbrev pub Rest : ℕ → List Entry → ℕ → Type 0
+  Rest t es lo = layered c b k ≡ layersFrom (machineOf c b) (quota c) (k + 1 - t) t es lo
+
+  abbrev first : List Entry
+  first = started m (2 ^ freeStarts c)
+
+  opened : layered c b k ≡ cond (leb (length first) (quota c 0)) (layersFrom m (quota c) (k + 1) 0 first 0) (gaveUp 0)
+  unfolding layered machineOf spec.layered
+  opened = refl
+
+  pub rest-start : length (started (machineOf c b) (2 ^ freeStarts c)) ≤ quota c 0 → Rest 0 (started (machineOf c b) (2 ^ freeStarts c)) 0
+  rest-start l =
+      opened ∙ ap (λ (a : Bool). cond a (layersFrom m (quota c) (k + 1) 0 first 0) (gaveUp 0)) (le-leb (length first) (quota c 0) l)
+      ∙ ap (λ (n : ℕ). layersFrom m (quota c) n 0 first 0) {x = k + 1} {y = k + 1 - 0} (omega arith)
+
+  pub rest-full : quota c 0 < length (started (machineOf c b) (2 ^ freeStarts c)) → layered c b k ≡ gaveUp 0
+  rest-full l = opened ∙ ap (λ (a : Bool). cond a (layersFrom m (quota c) (k + 1) 0 first 0) (gaveUp 0)) (lt-leb (length first) (quota c 0) l)
+
+  -- without a quota
+  pub rest-none : quota c 0 ≡ 0 → layered c b k ≡ gaveUp 0
+  rest-none e = rest-full (omega (arith, some-start m (2 ^ freeStarts c) (pow-pos (freeStarts c))))
+
+  pub rest-end : (t : ℕ) (es : List Entry) (lo : ℕ) → Rest t es lo → k < t → layered c b k ≡ clear
+  unfolding layersFrom
+  rest-end t es lo r l = r ∙ ap (λ (n : ℕ). layersFrom m (quota c) n t es lo) {x = k + 1 - t} {y = 0} (omega arith)
+
+  module _ (t : ℕ) (es : List Entry) (lo : ℕ) (r : Rest t es lo) (l : t ≤ k) where
+    one-more : layered c b k ≡ layersFrom m (quota c) (suc (k - t)) t es lo
+    one-more = r ∙ ap (λ (n : ℕ). layersFrom m (quota c) n t es lo) {x = k + 1 - t} {y = suc (k - t)} (omega arith)
+
+    pub rest-hit : (z : ℕ) → firstBelow (layerSlots (machineOf c b) es lo) (slotHit (machineOf c b) es lo) ≡ some z
+        → layered c b k ≡ hit t (slotPlace (machineOf c b) es lo z)
+    rest-hit z e = one-more ∙ from-hit m (quota c) (k - t) t es lo z e
+
+    module _ (e : firstBelow (layerSlots (machineOf c b) es lo) (slotHit (machineOf c b) es lo) ≡ none) where
+      pub rest-lost : quota c t < length (expanded (machineOf c b) es lo (layerSlots (machineOf c b) es lo)) → layered c b k ≡ gaveUp (t + 1)
+      rest-lost h = one-more ∙ from-lost m (quota c) (k - t) t es lo e h ∙ ap gaveUp (sym (add-one t))
+
+      pub rest-last : length (expanded (machineOf c b) es lo (layerSlots (machineOf c b) es lo)) ≤ quota c t
+          → length (expanded (machineOf c b) es lo (layerSlots (machineOf c b) es lo)) ≡ length es → layered c b k ≡ clear
+      rest-last h q = one-more ∙ from-last m (quota c) (k - t) t es lo e h q
+
+      pub rest-more : length (expanded (machineOf c b) es lo (layerSlots (machineOf c b) es lo)) ≤ quota c t
+          → (length (expanded (machineOf c b) es lo (layerSlots (machineOf c b) es lo)) ≡ length es → ⊥)
+          → Rest (t + 1) (expanded (machineOf c b) es lo (layerSlots (machineOf c b) es lo)) (length es)
+      rest-more h q =
+          let all = expanded m es lo (layerSlots m es lo) in
+          one-more ∙ from-more m (quota c) (k - t) t es lo e h q
+          ∙ ap₂ (λ (n : ℕ) (u : ℕ). layersFrom m (quota c) n u all (length es)) {x = k - t} {y = k + 1 - (t + 1)} (omega arith) (sym (add-one t))

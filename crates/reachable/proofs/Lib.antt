@@ -1,0 +1,4 @@
+pub mod Quotas
+pub mod Frames
+pub mod Steps
+pub mod Ends

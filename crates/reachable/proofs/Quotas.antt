@@ -1,0 +1,155 @@
+-- What the quota of a frame says, and that it does not fall. Assumes nothing.
+use mathlib.Core.Path.{_≡_, refl, sym, ap, ap₂, _∙_, subst}
+use mathlib.Core.Bool.{Bool, true, false, cond, _&&_}
+use mathlib.Core.List.{List}
+use Prim.Native.Nat.{ℕ, zero, suc, _+_, _-_, _*_, _/_, _^_, _≤_, _<_, min}
+use native.Mathlib.Nat.{mul-le-mul-right, mul-le-mul, mul-comm, div-lt-iff-lt-mul, div-mul-le-self}
+use native.Mathlib.Decide.{decLt}
+use native.Mathlib.Omega.{arith}
+use borrow.Author.Tests.{le-leb, lt-leb}
+use lib.Dec.{T, leb, leb→le}
+use lib.ListN.{length}
+use lib.Pow.{pow-pos}
+use Rattle.aiger.specs.Circuit.{Circuit}
+use Rattle.aiger.specs.Frames.{freeStarts, size, freeBits}
+use Rattle.aiger.proofs.Tests.{T-true, and-left, and-right}
+use Rattle.aiger.specs.Memory.{Holds}
+use Rattle.layout.specs.Words.{circuitIn}
+use Rattle.layout.specs.Layout.{LayoutOf}
+use Rattle.layout.specs.declared.Layout.{Layout}
+use Rattle.frames.proofs.Facts.{counts, constraint-count, gate-count}
+use Rattle.enumeration.proofs.Facts.{inputs-are, latches-are}
+use Rattle.enumeration.proofs.Starts.{starts-few}
+use Rattle.reachable.specs.Quota.{effort, quota}
+
+-- a larger dividend has no smaller quotient
+quotient-mono : (a b e : ℕ) → 0 < e → a ≤ b → a / e ≤ b / e
+quotient-mono a b e l h = elim (decLt (b / e) (a / e)) [
+  | yes d ↦ let x : b < a / e * e = div-lt-iff-lt-mul {k = e} {x = b} {y = a / e} l .0 d in absurd (omega (arith, div-mul-le-self a e))
+  | no d ↦ omega arith
+]
+
+module _ (c : Circuit) where
+  abbrev I : ℕ
+  I = length (c .inputs)
+
+  abbrev small : Bool
+  small = leb (length (c .inputs)) 16 && (leb (length (c .latches)) 32 && leb (freeStarts c) 16)
+
+  pub effort-some : 0 < effort c
+  unfolding effort
+  effort-some =
+      let a : 1 * 1 ≤ (length (c .gates) + length (c .latches) + 1) * 2 ^ (I - 6) = mul-le-mul {n₁ = 1} {m₁ = 1} {n₂ = length (c .gates) + length (c .latches) + 1} {m₂ = 2 ^ (I - 6)} (omega arith) (pow-pos (I - 6)) in
+      omega arith
+
+  pub size-mono : (t u : ℕ) → t ≤ u → size c t ≤ size c u
+  unfolding size
+  size-mono t u l =
+      let n = length (c .inputs) + length (c .gates) + length (c .constraints) in
+      let a : (t + 1) * n ≤ (u + 1) * n = mul-le-mul-right n (omega arith) in
+      omega arith
+
+  pub quota-mono : (t u : ℕ) → t ≤ u → quota c t ≤ quota c u
+  unfolding quota
+  quota-mono t u l = go small
+    where
+      go : (b : Bool) → cond b (min (4 * size c t) ((40000 + 128 * size c t) / effort c)) 0 ≤ cond b (min (4 * size c u) ((40000 + 128 * size c u) / effort c)) 0
+      go true =
+          let a = size-mono t u l in
+          let d : (40000 + 128 * size c t) / effort c ≤ (40000 + 128 * size c u) / effort c = quotient-mono (40000 + 128 * size c t) (40000 + 128 * size c u) (effort c) effort-some (omega arith) in
+          omega arith
+      go false = omega arith
+
+  pub quota-room : (t : ℕ) → quota c t ≤ 4 * size c t
+  unfolding quota
+  quota-room t = go small
+    where
+      go : (b : Bool) → cond b (min (4 * size c t) ((40000 + 128 * size c t) / effort c)) 0 ≤ 4 * size c t
+      go true = omega arith
+      go false = omega arith
+
+  pub quota-small : (t : ℕ) → 0 < quota c t → (length (c .inputs) ≤ 16) × (length (c .latches) ≤ 32) × (freeStarts c ≤ 16)
+  unfolding quota
+  quota-small t l = go small refl l
+    where
+      go : (b : Bool) → small ≡ b → 0 < cond b (min (4 * size c t) ((40000 + 128 * size c t) / effort c)) 0
+          → (length (c .inputs) ≤ 16) × (length (c .latches) ≤ 32) × (freeStarts c ≤ 16)
+      go true e h =
+          let k = T-true e in
+          let r = and-right (leb I 16) (leb (length (c .latches)) 32 && leb (freeStarts c) 16) k in (
+            leb→le I 16 (and-left (leb I 16) (leb (length (c .latches)) 32 && leb (freeStarts c) 16) k),
+            leb→le (length (c .latches)) 32 (and-left (leb (length (c .latches)) 32) (leb (freeStarts c) 16) r),
+            leb→le (freeStarts c) 16 (and-right (leb (length (c .latches)) 32) (leb (freeStarts c) 16) r),
+          )
+      go false e h = absurd (omega arith)
+
+  -- the free bits of a frame are fewer than its units
+  pub bits-below : (t k : ℕ) → t ≤ k → freeBits c t ≤ size c k
+  unfolding size freeBits
+  bits-below t k l =
+      let n = length (c .inputs) + length (c .gates) + length (c .constraints) in
+      let a : length (c .inputs) * (t + 1) ≤ n * (k + 1) = mul-le-mul {n₁ = length (c .inputs)} {m₁ = t + 1} {n₂ = n} {m₂ = k + 1} (omega arith) (omega arith) in
+      omega (arith, mul-comm n (k + 1))
+
+  pub quota-many : (t : ℕ) → 16 < length (c .inputs) → quota c t ≡ 0
+  unfolding quota
+  quota-many t l = ap (λ (b : Bool). cond (b && (leb (length (c .latches)) 32 && leb (freeStarts c) 16)) (min (4 * size c t) ((40000 + 128 * size c t) / effort c)) 0) (lt-leb I 16 l)
+
+  pub quota-latches : (t : ℕ) → length (c .inputs) ≤ 16 → 32 < length (c .latches) → quota c t ≡ 0
+  unfolding quota
+  quota-latches t l h =
+      ap₂ (λ (a b : Bool). cond (a && (b && leb (freeStarts c) 16)) (min (4 * size c t) ((40000 + 128 * size c t) / effort c)) 0) (le-leb I 16 l) (lt-leb (length (c .latches)) 32 h)
+
+  pub quota-free : (t : ℕ) → length (c .inputs) ≤ 16 → length (c .latches) ≤ 32 → 16 < freeStarts c → quota c t ≡ 0
+  unfolding quota
+  quota-free t l h f =
+      ap₂ (λ (a b : Bool). cond (a && (b && leb (freeStarts c) 16)) (min (4 * size c t) ((40000 + 128 * size c t) / effort c)) 0) (le-leb I 16 l) (le-leb (length (c .latches)) 32 h)
+      ∙ ap (λ (b : Bool). cond b (min (4 * size c t) ((40000 + 128 * size c t) / effort c)) 0) (lt-leb (freeStarts c) 16 f)
+
+  pub quota-is : (t : ℕ) → length (c .inputs) ≤ 16 → length (c .latches) ≤ 32 → freeStarts c ≤ 16 → quota c t ≡ min (4 * size c t) ((40000 + 128 * size c t) / effort c)
+  unfolding quota
+  quota-is t l h f =
+      ap₂ (λ (a b : Bool). cond (a && (b && leb (freeStarts c) 16)) (min (4 * size c t) ((40000 + 128 * size c t) / effort c)) 0) (le-leb I 16 l) (le-leb (length (c .latches)) 32 h)
+      ∙ ap (λ (b : Bool). cond b (min (4 * size c t) ((40000 + 128 * size c t) / effort c)) 0) (le-leb (freeStarts c) 16 f)
+
+-- ---- a circuit in memory
+module _ {m : List ℕ} {p : Layout} (held : Holds m (circuitIn m)) (a : LayoutOf m p) where
+  inputs-is : p .i ≡ length (circuitIn m .inputs)
+  inputs-is = inputs-are held a
+
+  latches-is : p .l ≡ length (circuitIn m .latches)
+  latches-is = latches-are held a
+
+  gates-is : p .a ≡ length (circuitIn m .gates)
+  gates-is = a .a-is ∙ sym (gate-count m)
+
+  constraints-is : p .c ≡ length (circuitIn m .constraints)
+  constraints-is = a .c-is ∙ sym (constraint-count m)
+
+  pub gates-small : p .a ≤ 3072
+  gates-small = omega (arith, gates-is, counts held .gates)
+
+  pub effort-is : (words rows : ℕ) → words ≡ 2 ^ (p .i - 6) → rows ≡ 2 ^ p .i → (p .a + p .l + 1) * words + (p .l + 8) * rows ≡ effort (circuitIn m)
+  unfolding effort
+  effort-is words rows w r = let x = inputs-is in let y = latches-is in let z = gates-is in cc
+
+  pub units-is : (t : ℕ) → (t + 1) * (p .i + p .a + p .c) + p .u + 1 ≡ size (circuitIn m) t
+  unfolding size
+  units-is t = let x = inputs-is in let z = gates-is in let y = constraints-is in let u = a .u-is in cc
+
+  -- nothing wraps
+  pub units-few : p .i + p .a + p .c ≤ 3344
+  units-few = omega (arith, inputs-is, gates-is, constraints-is, counts held .inputs, counts held .gates, counts held .constraints)
+
+  pub starts-small : p .u ≤ 1024
+  starts-small = omega (arith, a .u-is, starts-few held a)
+
+  pub units-small : (t : ℕ) → t ≤ 255 → (t + 1) * (p .i + p .a + p .c) ≤ 856064
+  units-small t l = mul-le-mul {n₁ = t + 1} {m₁ = p .i + p .a + p .c} {n₂ = 256} {m₂ = 3344} (omega arith) units-few
+
+  -- the quota, from what the code computes
+  pub quota-from : (t units each : ℕ) → units ≡ size (circuitIn m) t → each ≡ effort (circuitIn m) → p .i ≤ 16 → p .l ≤ 32 → p .u ≤ 16
+      → min (4 * units) ((40000 + 128 * units) / each) ≡ quota (circuitIn m) t
+  quota-from t units each x y i l u =
+      ap₂ (λ (s e : ℕ). min (4 * s) ((40000 + 128 * s) / e)) x y
+      ∙ sym (quota-is (circuitIn m) t (omega (arith, inputs-is)) (omega (arith, latches-is)) (omega (arith, a .u-is)))

@@ -1,0 +1,2 @@
+pub mod Quota
+pub mod Layers

@@ -1,0 +1,214 @@
+// The frames of a search by layers of states, until one has a hit, no state is new, or there are too many states.
+use layers::Asked;
+use layout::Layout;
+ghost use mathlib.Core.Path.{_≡_};
+ghost use mathlib.Core.List.{List, []};
+ghost use Prim.Native.Nat.{ℕ, _+_, _-_, _*_, _^_, _≤_, _<_};
+ghost use lib.ListN.{length, getD};
+ghost use Rattle.aiger.specs.Frames.{size};
+ghost use Rattle.aiger.specs.Memory.{Holds};
+ghost use Rattle.layout.specs.Words.{word, circuitIn};
+ghost use Rattle.layout.specs.Layout.{LayoutOf};
+ghost use Rattle.frames.specs.Lanes.{Ready};
+ghost use Rattle.enumeration.specs.Frame.{FreeBits};
+ghost use Rattle.states.specs.Trace as trace;
+ghost use Rattle.reachable.specs.Quota.{effort, quota};
+ghost use Rattle.reachable.specs.Layers.{FoundOf, LayersOf};
+
+// What the frames have: the first frame with a hit; none; or the frame at which there were too many states, and none before it.
+pub enum Layers {
+    Hit(usize),
+    Clear,
+    GaveUp(usize),
+}
+
+// The same, with the record and the row of the first hit.
+enum Found {
+    At(usize, usize, usize),
+    Nowhere,
+    Left(usize),
+}
+
+// 2 to the power n.
+fn power(n: usize) -> usize
+    requires { ⌜ n ≤ 16 ⌝ }
+    ensures { λ r. ⌜ (r ≡ 2 ^ n) × (r ≤ 65536) ⌝ }
+{
+    1usize << n
+}
+
+// The work for one state.
+fn effort(m: &[u32], layout: Layout) -> usize
+    requires { ⌜ Holds (now m) (circuitIn (now m)) ⌝ }
+    requires { ⌜ LayoutOf (now m) layout ⌝ }
+    requires { ⌜ (layout .i ≤ 16) × (layout .l ≤ 32) ⌝ }
+    ensures { λ r. ⌜ r ≡ effort (circuitIn (now (m .entry))) ⌝ }
+{
+    let gates = layout.a;
+    let latches = layout.l;
+    let words = layers::blocks(layout.i);
+    let rows = power(layout.i);
+    (gates + latches + 1) * words + (latches + 8) * rows
+}
+
+// The size for bound t.
+fn units(m: &[u32], layout: Layout, t: usize) -> usize
+    requires { ⌜ Holds (now m) (circuitIn (now m)) ⌝ }
+    requires { ⌜ LayoutOf (now m) layout ⌝ }
+    requires { ⌜ t ≤ 255 ⌝ }
+    ensures { λ r. ⌜ (r ≡ size (circuitIn (now (m .entry))) t) × (r ≤ 1048576) ⌝ }
+{
+    let each = layout.i + layout.a + layout.c;
+    (t + 1) * each + layout.u + 1
+}
+
+// How many states may be met by frame t + 1.
+fn quota(m: &[u32], layout: Layout, t: usize) -> usize
+    requires { ⌜ Holds (now m) (circuitIn (now m)) ⌝ }
+    requires { ⌜ LayoutOf (now m) layout ⌝ }
+    requires { ⌜ t ≤ 255 ⌝ }
+    ensures { λ r. ⌜ r ≡ quota (circuitIn (now (m .entry))) t ⌝ }
+{
+    if 16 < layout.i {
+        return 0;
+    }
+    if 32 < layout.l {
+        return 0;
+    }
+    if 16 < layout.u {
+        return 0;
+    }
+    let size = units(m, layout, t);
+    let each = effort(m, layout);
+    let most = 4 * size;
+    let affordable = (40000 + 128 * size) / each;
+    if affordable < most { affordable } else { most }
+}
+
+// Asks frame after frame, where the quota of frame 0 is not 0 and the heads are 0.
+fn ask_frames(
+    m: &[u32],
+    layout: Layout,
+    order: &[u32],
+    b: usize,
+    k: usize,
+    records: &mut [u32],
+    heads: &mut [u32],
+    values: &mut [u64],
+    state: &mut [u64],
+) -> Found
+    requires { ⌜ Ready (now m) layout (now order) (length (now values)) ⌝ }
+    requires { ⌜ (b < word (now m) 5) × (1024 ≤ length (now state)) × (k ≤ 255) × (0 < quota (circuitIn (now m)) 0) ⌝ }
+    requires { ⌜ (16 * size (circuitIn (now m)) k ≤ length (now records)) × (size (circuitIn (now m)) k ≤ 65536) × (4096 ≤ length (now heads)) × ((h : ℕ) → h < 4096 → getD (now heads) h 0 ≡ 0) ⌝ }
+    ensures { λ r. ⌜ FoundOf (circuitIn (now (m .entry))) b k (now (records .exit)) r ⌝ }
+{
+    let first = quota(m, layout, 0);
+    let count = power(layout.u);
+    let starts = layers::meet_starts(m, layout, count, first, records, heads);
+    if first < starts {
+        return Found::Left(0);
+    }
+    let mut lo = 0;
+    let mut hi = starts;
+    let mut t = 0;
+    while t <= k {
+        let most = quota(m, layout, t);
+        match layers::ask_layer(
+            m,
+            layout,
+            order,
+            b,
+            lo,
+            hi,
+            most,
+            records,
+            heads,
+            values,
+            state,
+        ) {
+            Asked::Hit(e, row) => {
+                return Found::At(t, e, row);
+            }
+            Asked::Met(met) => {
+                if most < met {
+                    return Found::Left(t + 1);
+                }
+                if met == hi {
+                    return Found::Nowhere;
+                }
+                lo = hi;
+                hi = met;
+                t += 1;
+            }
+        }
+    }
+    Found::Nowhere
+}
+
+// The same, with tables of its own.
+fn find_first(
+    m: &[u32],
+    layout: Layout,
+    order: &[u32],
+    b: usize,
+    k: usize,
+    records: &mut [u32],
+) -> Found
+    requires { ⌜ Ready (now m) layout (now order) 4097 ⌝ }
+    requires { ⌜ (b < word (now m) 5) × (k ≤ 255) × (0 < quota (circuitIn (now m)) 0) ⌝ }
+    requires { ⌜ (16 * size (circuitIn (now m)) k ≤ length (now records)) × (size (circuitIn (now m)) k ≤ 65536) ⌝ }
+    ensures { λ r. ⌜ FoundOf (circuitIn (now (m .entry))) b k (now (records .exit)) r ⌝ }
+{
+    let mut heads = [0u32; 4096];
+    let mut values = [0u64; 4097];
+    let mut state = [0u64; 1024];
+    ask_frames(
+        m,
+        layout,
+        order,
+        b,
+        k,
+        records,
+        &mut heads,
+        &mut values,
+        &mut state,
+    )
+}
+
+// Leaves at the front of working memory the free bits of row `row` of record e, of the layer of frame t.
+fn put_free(t: usize, e: usize, row: usize, free: usize, width: usize, work: &mut [u32])
+    requires { ⌜ (t ≤ 255) × (row < 2 ^ width) × (free ≤ 16) × (width ≤ 16) × (4 * e + 4 ≤ length (now work)) × (free + width * (t + 1) ≤ length (now work)) ⌝ }
+    requires { ⌜ ((y : ℕ) × trace.Trace (2 ^ width) (now work) t e y) ⌝ }
+    ensures { λ _. ⌜ ((y : ℕ) → trace.Trace (2 ^ width) (now (work .entry)) t e y → FreeBits (free + width * (t + 1)) (y * 2 ^ width + row) (now (work .exit))) ⌝ }
+{
+    let mut trace = [0u32; 257];
+    traces::walk(work, t, e, row, &mut trace);
+    traces::put_trace(&trace, free, width, free + width * (t + 1), work);
+}
+
+// The search of frames 0 to k by layers of states. After a hit, working memory begins with the free bits of the first one.
+pub fn search_layers(
+    m: &[u32],
+    layout: Layout,
+    order: &[u32],
+    b: usize,
+    k: usize,
+    work: &mut [u32],
+) -> Layers
+    requires { ⌜ Ready (now m) layout (now order) 4097 ⌝ }
+    requires { ⌜ (b < word (now m) 5) × (k ≤ 255) ⌝ }
+    requires { ⌜ (16 * size (circuitIn (now m)) k ≤ length (now work)) × (size (circuitIn (now m)) k ≤ 65536) ⌝ }
+    ensures { λ r. ⌜ LayersOf (circuitIn (now (m .entry))) b k (now (work .exit)) r ⌝ }
+{
+    if quota(m, layout, 0) == 0 {
+        return Layers::GaveUp(0);
+    }
+    match find_first(m, layout, order, b, k, work) {
+        Found::At(t, e, row) => {
+            put_free(t, e, row, layout.u, layout.i, work);
+            Layers::Hit(t)
+        }
+        Found::Nowhere => Layers::Clear,
+        Found::Left(t) => Layers::GaveUp(t),
+    }
+}

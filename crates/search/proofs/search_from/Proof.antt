@@ -1,0 +1,201 @@
+-- `search::search_from` meets its contract. The loop's invariant: the chosen outcome is what the frames from t on give, and the output
+-- is as it was. Assumes nothing.
+use mathlib.Core.Path.{_≡_, refl, ap, _∙_, subst}
+use mathlib.Core.List.{List}
+use Prim.Native.Nat.{_+_, _-_, _≤_}
+use native.Mathlib.Nat.{le-trans}
+use native.Mathlib.Omega.{arith}
+use borrow.Author.Needs.{needs}
+use lib.ListN.{length}
+use Rattle.aiger.specs.Search.{found, none, spent}
+use Rattle.aiger.specs.Operations.{shown}
+use Rattle.layout.specs.Words.{circuitIn}
+use Rattle.frames.proofs.Facts.{bad-count}
+use Rattle.enumeration.specs.Frame.{FrameIs}
+use Rattle.enumeration.specs.declared.Frame.{Frame}
+use Rattle.search.proofs.Sizes.{bits-within, length-within, limited}
+use Rattle.search.proofs.Choice.{Left, left-found, left-spent, left-more, left-none, answered}
+use Rattle.search.proofs.search_from.Statement.{statement}
+use Rattle.search.proofs.search_from.Tie as tie
+
+abbrev Inv-loop : tie.InvT-loop
+Inv-loop m layout order b start k d work₀ out₀ t₀ work out t =
+    (t ≤ k + 1) × (length work ≡ length work₀) × (out ≡ out₀) × Left (circuitIn m) b k d t
+
+abbrev μ-loop : tie.MeasureT-loop
+μ-loop m layout order b start k d work₀ out₀ t₀ work out t = k + 1 - t
+
+-- the answer on frame t is the variant that the match found
+told : (n : tie.After-first-hit Inv-loop μ-loop) (r : Frame) → n .first-hit .result ≡ r
+    → let s = n .before .before .before .before .before .before .before .before .args in
+    FrameIs (circuitIn (s .m .now)) (s .b) (n .before .before .before .loop .t) (s .d) (n .first-hit .last .1 .1 .1 .1 .1 .1 .0) r
+told n r e =
+    let s = n .before .before .before .before .before .before .before .before .args in
+    subst (FrameIs (circuitIn (s .m .now)) (s .b) (n .before .before .before .loop .t) (s .d) (n .first-hit .last .1 .1 .1 .1 .1 .1 .0)) e
+    (n .first-hit .ensures)
+
+loop-holds : tie.Need-loop-holds Inv-loop μ-loop
+loop-holds c =
+    let s = c .before .before .before .before in
+    (s .pre .1 .0, refl, refl, s .pre .1 .1)
+
+first-hit-requires : tie.Need-first-hit-requires Inv-loop μ-loop
+first-hit-requires c κs =
+    let s = c .before .before .before .before .before .before .before in
+    let p = s .pre .0 in
+    let l = c .before .before .loop in
+    let i = c .before .loop-test .taken in
+    let f = bits-within (circuitIn (s .args .m .now)) (l .t) (s .args .k) (omega (arith, i)) in
+    (p .ready, ((p .bad, omega (arith, i, p .bound), omega (arith, p .some), omega (arith, p .most)), omega (arith, f, p .room, l .inv .1)))
+
+enum-told : tie.Need-enum-told Inv-loop μ-loop
+enum-told c = search needs
+
+cast-write-witness : tie.Need-cast-write-witness Inv-loop μ-loop
+cast-write-witness c =
+    let s = c .before .before .before .before .before .before .before .before .before .before .before .before .before in
+    let p = s .pre .0 in
+    omega (arith, p .bad, limited (p .ready .held) (p .ready .layout-of) .bads, p .ready .layout-of .b-is)
+
+write-witness-requires : tie.Need-write-witness-requires Inv-loop μ-loop
+write-witness-requires c κs =
+    let s = c .before .before .before .before .before .before .before .before .before .before .before .before .before .before in
+    let p = s .pre .0 in
+    let n = c .before .before .before .before .before .before in
+    let l = n .before .before .before .loop in
+    let i = n .before .before .loop-test .taken in
+    let C = circuitIn (s .args .m .now) in
+    let kept = n .first-hit .kept .1 .1 .1 .1 .1 .1 .0 ∙ l .inv .1 in
+    record {
+      holds = p .ready .held;
+      layout = p .ready .layout-of;
+      bad = omega (arith, p .bad, bad-count (s .args .m .now));
+      frame = omega (arith, i, p .bound);
+      bits = le-trans (bits-within C _ (s .args .k) (omega (arith, i))) (omega (arith, p .room, kept));
+      room = le-trans (length-within C _ _ (s .args .k) (omega (arith, i))) (omega (arith, p .output, ap length (l .inv .2)));
+    }
+
+cast-t18 : tie.Need-cast-t18 Inv-loop μ-loop
+cast-t18 c =
+    let n = c .before .before .before .before .before .before .before .before .before in
+    let s = n .before .before .before .before .before .before .before .before in
+    omega (arith, n .before .before .loop-test .taken, s .pre .0 .bound)
+
+same-length : tie.Need-same-length Inv-loop μ-loop
+same-length c =
+    let n = c .before .before .before .before .before .before .before .before .before in
+    n .first-hit .kept .1 .1 .1 .1 .1 .1 .0 ∙ n .before .before .before .loop .inv .1
+
+same-length-2 : tie.Need-same-length-2 Inv-loop μ-loop
+same-length-2 c =
+    let n = c .before .before .before .before .before .before .before .before .before in
+    c .before .before .write-witness .kept .0 ∙ ap length (n .before .before .before .loop .inv .2)
+
+returns : tie.Need-returns Inv-loop μ-loop
+returns c =
+    let n = c .before .before .before .before .before .before .before .before .before in
+    let s = n .before .before .before .before .before .before .before .before .args in
+    let l = n .before .before .before .loop in
+    let C = circuitIn (s .m .now) in
+    let f = told n _ (c .before .before .before .before .before .enum-told .given .1) in
+    let o = found (l .t) (f .0) in
+    answered C (s .b) (s .k) (s .d) o
+    (left-found C (s .b) (s .k) (s .d) (l .t) (f .0) (omega (arith, n .before .before .loop-test .taken)) (l .inv .3) (f .1))
+    (c .before .before .write-witness .ensures (f .0) (f .2) ∙ ap (λ (z : List _). shown C (s .b) o z) (l .inv .2))
+
+enum-told-2 : tie.Need-enum-told-2 Inv-loop μ-loop
+enum-told-2 c = search needs
+
+add-t : tie.Need-add-t Inv-loop μ-loop
+add-t c =
+    let n = c .before .before .before .before in
+    let s = n .before .before .before .before .before .before .before .before in
+    omega (arith, n .before .before .loop-test .taken, s .pre .0 .bound)
+
+loop-less : tie.Need-loop-less Inv-loop μ-loop
+loop-less c = omega (arith, c .before .before .before .before .before .before .loop-test .taken)
+
+loop-again : tie.Need-loop-again Inv-loop μ-loop
+loop-again c =
+    let n = c .before .before .before .before in
+    let s = n .before .before .before .before .before .before .before .before .args in
+    let l = n .before .before .before .loop in
+    let i = n .before .before .loop-test .taken in
+    let e = told n _ (c .enum-told2 .given .1) in (
+      omega (arith, i),
+      n .first-hit .kept .1 .1 .1 .1 .1 .1 .0 ∙ l .inv .1,
+      l .inv .2,
+      left-more (circuitIn (s .m .now)) (s .b) (s .k) (s .d) (l .t) (omega (arith, i)) (l .inv .3) e,
+    )
+
+enum-told-3 : tie.Need-enum-told-3 Inv-loop μ-loop
+enum-told-3 c = search needs
+
+cast-t21 : tie.Need-cast-t21 Inv-loop μ-loop
+cast-t21 c =
+    let n = c .before .before .before .before in
+    let s = n .before .before .before .before .before .before .before .before in
+    omega (arith, n .before .before .loop-test .taken, s .pre .0 .bound)
+
+same-length-3 : tie.Need-same-length-3 Inv-loop μ-loop
+same-length-3 c =
+    let n = c .before .before .before .before in
+    n .first-hit .kept .1 .1 .1 .1 .1 .1 .0 ∙ n .before .before .before .loop .inv .1
+
+same-length-4 : tie.Need-same-length-4 Inv-loop μ-loop
+same-length-4 c = ap length (c .before .before .before .before .before .before .before .loop .inv .2)
+
+returns-2 : tie.Need-returns-2 Inv-loop μ-loop
+returns-2 c =
+    let n = c .before .before .before .before in
+    let s = n .before .before .before .before .before .before .before .before .args in
+    let l = n .before .before .before .loop in
+    let C = circuitIn (s .m .now) in
+    let e = told n _ (c .enum-told3 .given .1) in
+    answered C (s .b) (s .k) (s .d) (spent (l .t))
+    (left-spent C (s .b) (s .k) (s .d) (l .t) (omega (arith, n .before .before .loop-test .taken)) (l .inv .3) e) (l .inv .2)
+
+cast-t22 : tie.Need-cast-t22 Inv-loop μ-loop
+cast-t22 c = omega (arith, c .before .before .before .before .before .before .pre .0 .bound)
+
+same-length-5 : tie.Need-same-length-5 Inv-loop μ-loop
+same-length-5 c = c .before .loop .inv .1
+
+same-length-6 : tie.Need-same-length-6 Inv-loop μ-loop
+same-length-6 c = ap length (c .before .loop .inv .2)
+
+returns-3 : tie.Need-returns-3 Inv-loop μ-loop
+returns-3 c =
+    let s = c .before .before .before .before .before .before .args in
+    let l = c .before .loop in
+    let C = circuitIn (s .m .now) in
+    answered C (s .b) (s .k) (s .d) (none (s .k)) (left-none C (s .b) (s .k) (s .d) (l .t) (omega (arith, c .loop-test .left)) (l .inv .3)) (l .inv .2)
+
+pub search-from-spec : {M : Type 1} → statement M
+search-from-spec =
+    tie.close
+    (tie.spec
+    Inv-loop
+    μ-loop
+    loop-holds
+    first-hit-requires
+    enum-told
+    cast-write-witness
+    write-witness-requires
+    cast-t18
+    same-length
+    same-length-2
+    returns
+    enum-told-2
+    add-t
+    loop-less
+    loop-again
+    enum-told-3
+    cast-t21
+    same-length-3
+    same-length-4
+    returns-2
+    cast-t22
+    same-length-5
+    same-length-6
+    returns-3)
