@@ -1,0 +1,3 @@
+-- The laws of `trail`. Assumes nothing.
+pub mod Turns
+pub mod Frame

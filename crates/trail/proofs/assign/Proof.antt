@@ -1,0 +1,30 @@
+-- `trail::assign` meets its contract. Assumes nothing.
+use borrow.Author.Tests.{le-leb, lt-leb}
+use Rattle.trail.specs.Trail as S
+use borrow.Author.Needs.{needs}
+use Rattle.trail.proofs.assign.Statement.{statement}
+use Rattle.trail.proofs.assign.Tie as tie
+
+returns : tie.Need-returns
+unfolding S.assigned
+returns c = rw (le-leb _ _ (c .if1 .taken)) (record { words = cc; state = cc })
+
+set-node-requires : tie.Need-set-node-requires
+set-node-requires c κs = search needs
+
+set-field-requires : tie.Need-set-field-requires
+set-field-requires c κs = search needs
+
+add-t12 : tie.Need-add-t12
+add-t12 c = search needs
+
+same-length : tie.Need-same-length
+same-length c = search needs
+
+returns-2 : tie.Need-returns-2
+unfolding S.assigned
+returns-2 c = rw (lt-leb _ _ (c .before .before .before .before .before .before .before .before .before .if1 .left)) (record { words = cc; state = cc })
+
+pub assign-spec : {M : Type 1} → statement M
+assign-spec =
+    tie.close (tie.spec returns set-node-requires set-field-requires add-t12 same-length returns-2)

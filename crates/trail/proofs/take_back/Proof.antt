@@ -1,0 +1,89 @@
+-- `trail::take_back` meets its contract. The invariant: what is left of the trail ends as all of it does. Assumes nothing.
+use Rattle.trail.proofs.Turns.{taken-none, taken-stop, taken-more}
+use Rattle.trail.specs.Trail.{Counted, entry, takenBack}
+use Rattle.memory.specs.Record as M
+use Prim.Native.Nat.{ℕ, _-_, _/_, _≤_, _<_}
+use lib.ListN as N
+use native.Mathlib.Omega.{arith}
+use mathlib.Core.Path.{_≡_, refl, sym, ap, _∙_, subst}
+use borrow.Author.Needs.{needs}
+use Rattle.trail.proofs.take_back.Statement.{statement}
+use Rattle.trail.proofs.take_back.Tie as tie
+
+abbrev Inv-loop : tie.InvT-loop
+Inv-loop work₀ nodes n to left₀ work left =
+    (N.length work ≡ N.length work₀) × (takenBack work nodes to left ≡ takenBack work₀ nodes to left₀)
+
+abbrev μ-loop : tie.MeasureT-loop
+μ-loop work₀ nodes n to left₀ work left = left
+
+loop-holds : tie.Need-loop-holds Inv-loop μ-loop
+loop-holds c = (refl, refl)
+
+sub-field : tie.Need-sub-field Inv-loop μ-loop
+sub-field c = omega arith
+
+field-requires : tie.Need-field-requires Inv-loop μ-loop
+field-requires c κs = search needs
+
+field-requires-2 : tie.Need-field-requires-2 Inv-loop μ-loop
+field-requires-2 c κs = search needs
+
+same-length : tie.Need-same-length Inv-loop μ-loop
+same-length c =
+    c .before .before .before .before .before .before .loop .inv .0
+
+returns : tie.Need-returns Inv-loop μ-loop
+returns c =
+    let l = c .before .before .before .before .before .before .loop in
+    let s = c .before .before .before .before .before .before .before .before .args in
+    let low = subst (λ (k : ℕ). k ≤ s .to) (c .before .field2 .ensures ∙ ap (λ (k : ℕ). M.field (l .work) (s .nodes) (k / 2) 6) (c .before .before .before .field .ensures)) (c .if1 .taken) in
+    let all = sym (taken-stop (l .work) (s .nodes) (s .to) (l .left) (omega arith) low) ∙ l .inv .1 in
+    record { words = ap (λ (t : Counted). t .words) all; count = ap (λ (t : Counted). t .count) all }
+
+set-field-requires : tie.Need-set-field-requires Inv-loop μ-loop
+set-field-requires c κs = search needs
+
+sub-left : tie.Need-sub-left Inv-loop μ-loop
+sub-left c = omega arith
+
+loop-less : tie.Need-loop-less Inv-loop μ-loop
+loop-less c = omega arith
+
+loop-again : tie.Need-loop-again Inv-loop μ-loop
+loop-again c =
+    let l = c .before .before .before .before .before .before .before .before .before .before .loop in
+    let s = c .before .before .before .before .before .before .before .before .before .before .before .before .args in
+    let deep = subst (λ (k : ℕ). s .to < k) (c .before .before .before .before .before .field2 .ensures ∙ ap (λ (k : ℕ). M.field (l .work) (s .nodes) (k / 2) 6) (c .before .before .before .before .before .before .before .field .ensures)) (c .before .before .before .before .if1 .left) in
+    let more = taken-more (l .work) (s .nodes) (s .to) (l .left) (omega arith) deep in
+    (cc, sym (cc more))
+
+same-length-2 : tie.Need-same-length-2 Inv-loop μ-loop
+same-length-2 c =
+    c .before .loop .inv .0
+
+returns-2 : tie.Need-returns-2 Inv-loop μ-loop
+returns-2 c =
+    let l = c .before .loop in
+    let s = c .before .before .before .args in
+    let all = sym (taken-none (l .work) (s .nodes) (s .to) (l .left) (omega arith)) ∙ l .inv .1 in
+    record { words = ap (λ (t : Counted). t .words) all; count = ap (λ (t : Counted). t .count) all }
+
+pub take-back-spec : {M : Type 1} → statement M
+take-back-spec =
+    tie.close
+    (tie.spec
+    Inv-loop
+    μ-loop
+    loop-holds
+    sub-field
+    field-requires
+    field-requires-2
+    same-length
+    returns
+    set-field-requires
+    sub-left
+    loop-less
+    loop-again
+    same-length-2
+    returns-2)

@@ -1,0 +1,2 @@
+-- What the contracts of `trail` cite. Assumes nothing.
+pub mod Trail
