@@ -1,0 +1,130 @@
+-- Decisions on the places of a frame, from what is known of them. Assumes nothing.
+use mathlib.Core.Path.{_≡_, refl, sym, ap, _∙_, subst}
+use mathlib.Core.Bool.{Bool, true, false, cond}
+use mathlib.Core.Option.{Option, none, some}
+use Prim.Native.Nat.{ℕ, _+_, _-_, _*_, _^_, _≤_, _<_, min, max}
+use native.Mathlib.Decide.{ℕ-discrete, decLt}
+use native.Mathlib.Omega.{arith}
+use borrow.Author.Tests.{le-leb, lt-leb, leb-true}
+use lib.Pow.{pow-mono}
+use lib.Dec.{T, leb, le→leb}
+use lib.ListN.{length}
+use Rattle.aiger.specs.Circuit.{Circuit}
+use Rattle.aiger.specs.Frames.{freeBits}
+use Rattle.aiger.specs.Search.{Decision, onward, decides, question, reaches}
+use Rattle.aiger.proofs.Tests.{and, and-right}
+use Rattle.meaning.proofs.Decisions.{Says, decides-in}
+use Rattle.enumeration.specs.Choice.{leastBelow, decided, decision, decisionAt}
+use Rattle.enumeration.proofs.Least.{Least, least}
+use Rattle.enumeration.proofs.Laws.{hit-first, clear-none, spent-first}
+use Rattle.support.specs.Counting.{rank, passed}
+use Rattle.support.specs.Support.{support}
+use Rattle.support.proofs.Counting.{rank-bound, passed-all, passed-most, passed-least}
+use Rattle.unroll.specs.Chosen.{unrolled}
+use Rattle.decision.specs.Reach.{reach, decisionOf}
+
+module _ (p : ℕ → Bool) (places R : ℕ) where
+  passes : (x : ℕ) → T (p x) → T (onward 0 p x)
+  passes x t = and (leb 0 x) (p x) (le→leb 0 x (omega arith)) t
+
+  pub hit-at : (x : ℕ) → x < R → x < places → T (p x) → ((y : ℕ) → y < x → T (p y) → ⊥) → decision p places 0 R ≡ Decision.hit x
+  unfolding decision
+  hit-at x l f t first = go (leastBelow (min places (0 + R)) (onward 0 p)) (least (onward 0 p) (min places (0 + R)))
+    where
+      go : (o : Option ℕ) → Least (onward 0 p) (min places (0 + R)) o → decided o (cond (leb places (0 + R)) Decision.clear Decision.spent) ≡ Decision.hit x
+      go (some z) h =
+          let a : z < x → ⊥ = λ k. first z k (and-right (leb 0 z) (p z) (h .1)) in
+          let b : x < z → ⊥ = λ k. h .2 x k (passes x t) in
+          ap Decision.hit (omega arith)
+      go none h = absurd (h x (omega arith) (passes x t))
+
+  none-at : ((y : ℕ) → y < min places (0 + R) → T (p y) → ⊥) → decision p places 0 R ≡ cond (leb places (0 + R)) Decision.clear Decision.spent
+  unfolding decision
+  none-at none-below = go (leastBelow (min places (0 + R)) (onward 0 p)) (least (onward 0 p) (min places (0 + R)))
+    where
+      go : (o : Option ℕ) → Least (onward 0 p) (min places (0 + R)) o
+          → decided o (cond (leb places (0 + R)) Decision.clear Decision.spent) ≡ cond (leb places (0 + R)) Decision.clear Decision.spent
+      go (some z) h = absurd (none-below z (h .0) (and-right (leb 0 z) (p z) (h .1)))
+      go none h = refl
+
+  pub clear-at : places ≤ R → ((y : ℕ) → y < places → T (p y) → ⊥) → decision p places 0 R ≡ Decision.clear
+  clear-at l n =
+      none-at (λ y h. n y (omega arith)) ∙ ap (λ (b : Bool). cond b Decision.clear Decision.spent) (le-leb places (0 + R) (omega arith))
+
+  pub spent-at : R < places → ((y : ℕ) → y < R → T (p y) → ⊥) → decision p places 0 R ≡ Decision.spent
+  spent-at l n =
+      none-at (λ y h. n y (omega arith)) ∙ ap (λ (b : Bool). cond b Decision.clear Decision.spent) (lt-leb places (0 + R) (omega arith))
+
+module _ (c : Circuit) (b t D : ℕ) where
+  pub reach-most : reach c b t D ≤ 2 ^ freeBits c t
+  unfolding reach
+  reach-most = passed-most (support (freeBits c t) (unrolled c b t .gates) (unrolled c b t .edge)) (freeBits c t) (max D 16384)
+
+  -- the first D sequences, and the first 16,384
+  pub reach-least : (min (2 ^ freeBits c t) D ≤ reach c b t D) × (min (2 ^ freeBits c t) 16384 ≤ reach c b t D)
+  unfolding reach
+  reach-least =
+      let h = passed-least (support (freeBits c t) (unrolled c b t .gates) (unrolled c b t .edge)) (freeBits c t) (max D 16384) in
+      (omega arith, omega arith)
+
+  -- what is decided says of the frame what a decision with a budget of D says
+  pub decided-says : (d : Decision) → decisionOf c b t D ≡ d → Says (reaches c b t) (2 ^ freeBits c t) 0 D d
+  unfolding decisionOf
+  decided-says (Decision.hit x) e = hit-first (reaches c b t) (2 ^ freeBits c t) 0 (reach c b t D) e
+  decided-says Decision.clear e = clear-none (reaches c b t) (2 ^ freeBits c t) 0 (reach c b t D) e
+  decided-says Decision.spent e =
+      let s = spent-first (reaches c b t) (2 ^ freeBits c t) 0 (reach c b t D) e in
+      record { beyond = omega (arith, s .beyond, reach-least .0); first = λ x f l. s .first x f (omega (arith, s .beyond, reach-least .0)) }
+
+  -- what is decided may be decided with a budget of D
+  pub decided-right : T (decides (reaches c b t) (2 ^ freeBits c t) 0 D (decisionOf c b t D))
+  decided-right = decides-in (reaches c b t) (2 ^ freeBits c t) 0 D (decisionOf c b t D) (decided-says (decisionOf c b t D) refl)
+
+-- ---- what a decision with a smaller budget tells
+
+module _ (p : ℕ → Bool) (places R : ℕ) where
+  -- the place of a hit is one that is tried
+  pub hit-tried : {x : ℕ} → decision p places 0 R ≡ Decision.hit x → x < min places (0 + R)
+  unfolding decision
+  hit-tried {x} e = go (leastBelow (min places (0 + R)) (onward 0 p)) (least (onward 0 p) (min places (0 + R))) (leb places (0 + R)) e
+    where
+      go : (o : Option ℕ) → Least (onward 0 p) (min places (0 + R)) o → (q : Bool) → decided o (cond q Decision.clear Decision.spent) ≡ Decision.hit x → x < min places (0 + R)
+      go (some z) h q e = let s : z ≡ x = cc in subst (λ (y : ℕ). y < min places (0 + R)) s (h .0)
+      go none h true e = let z : _≡_ {A = ℕ} 0 1 = cc in absurd (omega arith)
+      go none h false e = let z : _≡_ {A = ℕ} 0 1 = cc in absurd (omega arith)
+
+  -- all places are tried where the frame is clear
+  pub clear-tried : decision p places 0 R ≡ Decision.clear → places ≤ R
+  unfolding decision
+  clear-tried e = go (leastBelow (min places (0 + R)) (onward 0 p)) (leb places (0 + R)) refl e
+    where
+      go : (o : Option ℕ) (q : Bool) → leb places (0 + R) ≡ q → decided o (cond q Decision.clear Decision.spent) ≡ Decision.clear → places ≤ R
+      go (some z) q w e = let z : _≡_ {A = ℕ} 0 1 = cc in absurd (omega arith)
+      go none true w e = omega (arith, leb-true places (0 + R) w)
+      go none false w e = let z : _≡_ {A = ℕ} 0 1 = cc in absurd (omega arith)
+
+module _ (c : Circuit) (b t D : ℕ) where
+  -- a first hit among the first 16,384 sequences is what is decided
+  pub tried-hit : {x : ℕ} → decisionAt (question c b) t 16384 ≡ Decision.hit x → decisionOf c b t D ≡ Decision.hit x
+  unfolding decisionOf
+  tried-hit {x} e =
+      let places = 2 ^ freeBits c t in
+      let l = hit-tried (reaches c b t) places 16384 e in
+      let f = hit-first (reaches c b t) places 0 16384 e in
+      hit-at (reaches c b t) places (reach c b t D) x (omega (arith, reach-least c b t D .1)) (f .fits) (f .hit) (λ y h. f .first y (omega arith) h)
+
+  reach-all : 2 ^ freeBits c t ≤ 16384 → reach c b t D ≡ 2 ^ freeBits c t
+  unfolding reach
+  reach-all h =
+      let s = support (freeBits c t) (unrolled c b t .gates) (unrolled c b t .edge) in
+      let m : 2 ^ rank s (freeBits c t) ≤ 2 ^ freeBits c t = pow-mono (rank-bound s (freeBits c t)) in
+      passed-all s (freeBits c t) (max D 16384) (omega arith)
+
+  -- and so is none, where there are no more
+  pub tried-clear : decisionAt (question c b) t 16384 ≡ Decision.clear → decisionOf c b t D ≡ Decision.clear
+  unfolding decisionOf
+  tried-clear e =
+      let places = 2 ^ freeBits c t in
+      let all = clear-tried (reaches c b t) places 16384 e in
+      clear-at (reaches c b t) places (reach c b t D) (omega (arith, reach-all all))
+      (λ y h. clear-none (reaches c b t) places 0 16384 e y (omega arith) h)
