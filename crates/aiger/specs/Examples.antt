@@ -13,7 +13,7 @@ use Rattle.aiger.specs.Load.{Answer, refused, gives, load, needed}
 use Rattle.aiger.specs.Frames.{freeBits}
 use Rattle.aiger.specs.Search.{Outcome, found, none, spent, permitted}
 use Rattle.aiger.specs.Write.{write}
-use Rattle.aiger.specs.Fold.{plain, alike, folds}
+use Rattle.aiger.specs.Fold.{plain, alike, repeated, folds}
 use Rattle.aiger.specs.Witness.{readWitness, confirms}
 use Rattle.aiger.specs.Memory.{image}
 use Rattle.aiger.specs.Signature.{draw, patternBit}
@@ -62,6 +62,8 @@ pub data Example : Type 0 where
   operandPair : ℕ → ℕ → Bool → Example
   -- the operands of two gates, and whether they are the same
   operandPairs : ℕ → ℕ → ℕ → ℕ → Bool → Example
+  -- the operands of a gate and an operand of theirs, and whether the other operand is repeated one gate down
+  operandBelow : ℕ → ℕ → ℕ → ℕ → Bool → Example
   -- file, b, t, the words of working memory, the bytes of output, and the number of the refusal, 0 for none
   foldRefused : String → ℕ → ℕ → ℕ → ℕ → ℕ → Example
   -- file, and what write gives
@@ -88,6 +90,7 @@ holds (noWitness f w) = onLoaded f (λ c. elim (readWitness c (bytes w)) [ Optio
 holds (folded f b t w says) = onLoaded f (λ c. onLoaded w (λ d. same (write d) (bytes w) && Bool·beq (folds c b t d) says))
 holds (operandPair l r says) = Bool·beq (plain (record { lit = 0; left = l; right = r })) says
 holds (operandPairs l r m s says) = Bool·beq (alike (record { lit = 0; left = l; right = r }) (record { lit = 0; left = m; right = s })) says
+holds (operandBelow l r o a says) = Bool·beq (repeated l r o a) says
 holds (foldRefused f b t room len n) = onLoaded f (λ c. eqb (refusalOf (foldTests c b t room len)) n)
 holds (written f w) = onLoaded f (λ c. same (write c) (bytes w))
 holds (witnessed f w n says) = onLoaded f (λ c. elim (readWitness c (bytes w ++ replicate n 10 ++ bytes ".\n")) [ Option.none ↦ not says | Option.some x ↦ says ])
@@ -112,6 +115,10 @@ G = "aag 3 1 1 0 1 1\n2\n4 4 4\n6\n6 2 5\n"
 -- two inputs; bad when they differ, by three gates
 abbrev X : String
 X = "aag 5 2 0 0 3 1\n2\n4\n11\n6 2 5\n8 3 4\n10 7 9\n"
+
+-- three inputs; bad when all are true, by two gates of which the second repeats an input
+abbrev R : String
+R = "aag 6 3 0 0 3 1\n2\n4\n6\n12\n8 2 4\n10 8 2\n12 10 6\n"
 
 -- a latch that starts at 1 and stays there, and no input; bad is the latch
 abbrev H : String
@@ -207,6 +214,18 @@ further =
     ∷ folded "aag 2 2 0 0 0 1\n2\n4\n2\n" 0 0 "aag 5 2 0 1 3 0 0\n2\n4\n11\n6 4 2\n8 5 2\n10 9 7\n" false
     ∷ folded S 0 1 "aag 5 2 0 1 3 0 0\n2\n4\n10\n6 4 2\n8 5 3\n10 8 6\n" false
     ∷ folded S 0 2 "aag 5 3 0 1 1 0 0\n2\n4\n6\n10\n10 4 2\n" false
+    ∷ folded R 0 0 "aag 5 3 0 1 2 0 0\n2\n4\n6\n10\n8 4 2\n10 8 6\n" true
+    ∷ folded S 0 2 "aag 5 3 0 1 2 0 0\n2\n4\n6\n10\n8 4 2\n10 8 2\n" false
+    -- operand 2 or its complement, with gate 8 of operands 6 and 2, 2 and 6, 6 and 3, or its complement 9
+    ∷ operandBelow 6 2 8 2 true
+    ∷ operandBelow 6 2 8 3 true
+    ∷ operandBelow 6 2 9 3 true
+    ∷ operandBelow 6 2 9 2 false
+    ∷ operandBelow 6 2 8 4 false
+    ∷ operandBelow 6 2 8 6 true
+    ∷ operandBelow 7 2 8 6 true
+    ∷ operandBelow 7 2 9 6 true
+    ∷ operandBelow 7 2 9 7 false
     ∷ operandPairs 5 2 5 2 true
     ∷ operandPairs 5 2 5 4 false
     ∷ operandPairs 5 2 4 2 false
