@@ -1,26 +1,30 @@
 -- Rows met one after the other. Assumes nothing.
 use mathlib.Core.Path.{_≡_, refl, sym, ap, ap₂, _∙_, subst}
 use mathlib.Core.List.{List}
-use mathlib.Core.Option.{some}
+use mathlib.Core.Option.{Option, some}
 use Prim.Native.Nat.{ℕ, zero, suc, _+_, _*_, _≤_, _<_}
 use native.Mathlib.Numerals.{add-one}
 use native.Mathlib.Omega.{arith}
 use lib.ListN.{length, getD}
-use mathlib.Core.Bool.{not}
+use mathlib.Core.Bool.{true, false, not}
+use mathlib.Core.Logic.{⊎-elim}
+use native.Mathlib.Decide.{ℕ-discrete}
 use lib.Dec.{T}
 use Rattle.aiger.specs.Bits.{bit}
 use Rattle.aiger.specs.Circuit.{Circuit, literalsRight, usedDefined, acyclic}
 use Rattle.aiger.specs.Signature.{FirstDifference}
 use Rattle.aiger.proofs.Tests.{T-true}
-use Rattle.words.proofs.Bits.{bit-none}
+use Rattle.words.proofs.Bits.{bit-none, bit-all}
 use Rattle.frames.specs.Lanes.{lane, hitIn}
-use Rattle.machine.specs.Layers.{Entry, meet}
+use Rattle.machine.specs.Layers.{Entry, met, meet}
+use Rattle.machine.proofs.Meet.{meets, met-at}
+use Rattle.states.proofs.Walk.{met-some}
 use Rattle.states.specs.Table.{Fits, Meets}
 use Rattle.states.specs.Trace.{Trace, Holds, Leads}
 use Rattle.states.proofs.Laws.{trace-kept, words-kept, meets-lengths, holds-met, fits-met}
 use Rattle.transitions.specs.Transitions.{valuesIn}
 use Rattle.transitions.proofs.Rows.{hit-is}
-use Rattle.layers.specs.Rows.{metRows, RowsMet, Valued, FirstRow}
+use Rattle.layers.specs.Rows.{metRows, RowsMet, RowStep, Valued, FirstRow}
 
 -- none yet
 pub rows-none : (numbers : ℕ → ℕ) (quota count e first : ℕ) (r hd : List ℕ) → Fits quota count r hd → RowsMet numbers quota count e first 0 r hd count r hd
@@ -50,6 +54,75 @@ rows-more numbers quota count e first n r hd met r₁ hd₁ s met₂ r₂ hd₂ 
           let after = holds-met before s e (first + n) y (leads rows r₁ t met e (first + n) x (omega (arith, a .longer)) (omega arith) tr₁) m in
           subst (λ (z : ℕ). Holds rows (suc t) lo quota met₂ r₂ hd₂ (metRows numbers (λ p. x * rows + (first + p)) z es)) (sym (add-one n))
           (subst (λ (z : ℕ). Holds rows (suc t) lo quota met₂ r₂ hd₂ (meet (some z) y (metRows numbers (λ p. x * rows + (first + p)) n es))) q after);
+    }
+
+-- ---- rows that lead to one state
+-- a state that is met stays so
+met-kept : (o : Option ℕ) (y s : ℕ) (es : List Entry) → met s es ≡ true → met s (meet o y es) ≡ true
+met-kept o y s es e =
+    let t = meets o y es in
+    let i = met-at s es (T-true e) in
+    met-some s (meet o y es) (i .0) (omega (arith, i .1, t .longer)) (ap (λ (x : Entry). x .state) (t .old (i .0) (i .1)) ∙ i .2)
+
+-- the states of the rows are met
+met-row : (numbers place : ℕ → ℕ) (n : ℕ) (es : List Entry) (p : ℕ) → p < n → met (numbers p) (metRows numbers place n es) ≡ true
+unfolding metRows
+met-row numbers place zero es p l = absurd (omega arith)
+met-row numbers place (suc n) es p l = elim (ℕ-discrete p n) [
+  | yes e ↦
+      let acc = metRows numbers place n es in
+      let j = meets (some (numbers n)) (place n) acc .holds (numbers n) refl in
+      met-some (numbers p) (meet (some (numbers n)) (place n) acc) (j .0) (j .1) (j .2 ∙ ap numbers (sym e))
+  | no e ↦ met-kept (some (numbers n)) (place n) (numbers p) (metRows numbers place n es) (met-row numbers place n es p (omega arith))
+]
+
+meet-known : (s y : ℕ) (es : List Entry) → met s es ≡ true → meet (some s) y es ≡ es
+unfolding meet
+meet-known s y es e = rw e
+
+-- a row that leads where a row before it leads
+pub rows-skip : (numbers : ℕ → ℕ) (quota count e first n : ℕ) (r hd : List ℕ) (met₁ : ℕ) (r₁ hd₁ : List ℕ) → RowsMet numbers quota count e first n r hd met₁ r₁ hd₁
+    → (p : ℕ) → p < n → numbers p ≡ numbers n → RowsMet numbers quota count e first (n + 1) r hd met₁ r₁ hd₁
+unfolding metRows
+rows-skip numbers quota count e first n r hd met₁ r₁ hd₁ a p l q =
+    record {
+      longer = a .longer;
+      words = a .words;
+      fits = a .fits;
+      holds = λ rows t lo x es h k w tr.
+          let place : ℕ → ℕ = λ z. x * rows + (first + z) in
+          let acc = metRows numbers place n es in
+          let known : met (numbers n) acc ≡ true = ap (λ (z : ℕ). met z acc) (sym q) ∙ met-row numbers place n es p l in
+          subst (λ (z : ℕ). Holds rows (suc t) lo quota met₁ r₁ hd₁ (metRows numbers place z es)) (sym (add-one n))
+          (subst (Holds rows (suc t) lo quota met₁ r₁ hd₁) (sym (meet-known (numbers n) (place n) acc known)) (a .holds rows t lo x es h k (omega arith) tr));
+    }
+
+-- a row that is left out leads where a row before row p leads
+abbrev pub Dropped : (ℕ → ℕ) → ℕ → ℕ → Type 0
+Dropped numbers p left = (q : ℕ) → q < 64 → bit left q ≡ false → (z : ℕ) × (z < p) × (numbers z ≡ numbers q)
+
+pub dropped-none : (numbers : ℕ → ℕ) → Dropped numbers 0 18446744073709551615
+dropped-none numbers q l e = absurd (let f = bit-all 64 q l in let z : _≡_ {A = ℕ} 0 1 = cc in omega arith)
+
+-- one row more
+pub record Treated (numbers : ℕ → ℕ) (quota count e first n : ℕ) (r hd : List ℕ) (met₁ left : ℕ) (r₁ hd₁ : List ℕ) : Type 0 where
+  pub rows : RowsMet numbers quota count e first n r hd met₁ r₁ hd₁
+  pub dropped : Dropped numbers n left
+
+pub treated-more : (numbers : ℕ → ℕ) (quota count e first n : ℕ) (r hd : List ℕ) {met₁ left : ℕ} {r₁ hd₁ : List ℕ} {met₂ left₂ : ℕ} {r₂ hd₂ : List ℕ} → n < 64
+    → Treated numbers quota count e first n r hd met₁ left r₁ hd₁ → RowStep numbers quota e (first + n) n met₁ left r₁ hd₁ met₂ left₂ r₂ hd₂
+    → Treated numbers quota count e first (n + 1) r hd met₂ left₂ r₂ hd₂
+treated-more numbers quota count e first n r hd {met₁} {left} {r₁} {hd₁} w a (RowStep.skipped f) =
+    let d = a .dropped n w f in
+    record {
+      rows = rows-skip numbers quota count e first n r hd met₁ r₁ hd₁ (a .rows) (d .0) (d .1) (d .2);
+      dropped = λ q l g. let x = a .dropped q l g in (x .0, omega (arith, x .1), x .2);
+    }
+treated-more numbers quota count e first n r hd {met₁} {left} {r₁} {hd₁} {met₂} {left₂} {r₂} {hd₂} w a (RowStep.taken m f) =
+    record {
+      rows = rows-more numbers quota count e first n r hd met₁ r₁ hd₁ (numbers n) met₂ r₂ hd₂ (a .rows) refl m;
+      dropped = λ q l g.
+          ⊎-elim (λ h. let x = a .dropped q l h in (x .0, omega (arith, x .1), x .2)) (λ h. (n, omega arith, sym h)) (f q l g);
     }
 
 -- the same states, named otherwise

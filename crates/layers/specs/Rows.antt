@@ -1,5 +1,7 @@
 -- The rows of a block, met one after the other. Assumes nothing.
 use mathlib.Core.Path.{_≡_}
+use mathlib.Core.Bool.{false}
+use mathlib.Core.Logic.{_⊎_}
 use mathlib.Core.List.{List}
 use mathlib.Core.Option.{some}
 use Prim.Native.Nat.{ℕ, zero, suc, _+_, _*_, _^_, _≤_, _<_, min}
@@ -9,7 +11,8 @@ use Rattle.aiger.specs.Circuit.{Circuit}
 use Rattle.meaning.specs.Frame.{Valuation}
 use Rattle.frames.specs.Lanes.{lane, hitIn}
 use Rattle.machine.specs.Layers.{Entry, meet}
-use Rattle.states.specs.Table.{Fits}
+use Rattle.aiger.specs.Bits.{bit}
+use Rattle.states.specs.Table.{Fits, Meets}
 use Rattle.states.specs.Trace.{Trace, Holds}
 use Rattle.transitions.specs.Transitions.{latchesOf, rowOf, valuesIn, nextNumber}
 
@@ -26,6 +29,14 @@ pub record RowsMet (numbers : ℕ → ℕ) (quota count e first n : ℕ) (r hd :
   pub holds :
       (rows t lo x : ℕ) (es : List Entry) → Holds rows (suc t) lo quota count r hd es → e < count → first + n ≤ rows → Trace rows r t e x
       → Holds rows (suc t) lo quota count′ r′ hd′ (metRows numbers (λ p. x * rows + (first + p)) n es)
+
+-- What becomes of the number of records, the rows that are left and the table at row p: nothing where a row before it leads to its state; else its state
+-- is met, and with it those rows are left out that lead there too.
+pub data RowStep (numbers : ℕ → ℕ) (quota e row p met left : ℕ) (r hd : List ℕ) : ℕ → ℕ → List ℕ → List ℕ → Type 0 where
+  skipped : bit left p ≡ false → RowStep numbers quota e row p met left r hd met left r hd
+  taken : {met′ left′ : ℕ} {r′ hd′ : List ℕ} → Meets quota met (numbers p) e row r hd met′ r′ hd′
+      → ((q : ℕ) → q < 64 → bit left′ q ≡ false → (bit left q ≡ false) ⊎ (numbers q ≡ numbers p))
+      → RowStep numbers quota e row p met left r hd met′ left′ r′ hd′
 
 -- the words are the values of state s with the rows of a block
 abbrev pub Valued : Circuit → ℕ → ℕ → List ℕ → Type 0

@@ -1,6 +1,7 @@
 // One layer of states: its first hit, or the layer after it.
 use layout::Layout;
 ghost use mathlib.Core.Path.{_≡_};
+ghost use mathlib.Core.Bool.{true};
 ghost use mathlib.Core.List.{List, [], map};
 ghost use Prim.Native.Nat.{ℕ, suc, _+_, _-_, _*_, _^_, _≤_, _<_, min};
 ghost use lib.Dec.{T};
@@ -17,13 +18,71 @@ ghost use Rattle.aiger.specs.Memory.{Holds};
 ghost use Rattle.layout.specs.Layout.{LayoutOf};
 ghost use Rattle.states.specs.Trace as trace;
 ghost use Rattle.transitions.specs.Transitions.{numberOf, latchesOf, rowOf, valuesIn, nextNumber, machineOf};
-ghost use Rattle.layers.specs.Rows.{RowsMet, FirstRow, BlockMet};
+ghost use Rattle.layers.specs.Rows.{RowsMet, RowStep, FirstRow, BlockMet};
 ghost use Rattle.layers.specs.Asked.{AskedOf};
 
 // What a layer has: a first hit, by its record and row; or none, and the number of records with those of the next layer.
 pub enum Asked {
     Hit(usize, usize),
     Met(usize),
+}
+
+// The number of records, or one more than quota, and the rows that are left to be met.
+struct Pending {
+    met: usize,
+    left: u64,
+}
+
+// The bits of x that have the value of bit p.
+fn alike(x: u64, p: u32) -> u64
+    requires { ⌜ p < 64 ⌝ }
+    ensures { λ r. ⌜ ((q : ℕ) → q < 64 → bit r q ≡ true → bit x q ≡ bit x p) ⌝ }
+{
+    words::literal_word(x, (x >> p) % 2 == 0)
+}
+
+// Rows that lead to the state that row p leads to.
+fn same_rows(state: &[u64], latches: usize, p: u32) -> u64
+    requires { ⌜ (latches ≤ length (now state)) × (p < 64) ⌝ }
+    ensures { λ r. ⌜ ((q : ℕ) → q < 64 → bit r q ≡ true → (j : ℕ) → j < latches → bit (getD (now (state .entry)) j 0) q ≡ bit (getD (now (state .entry)) j 0) p) ⌝ }
+{
+    let mut same: u64 = 0xffff_ffff_ffff_ffff;
+    let mut j = 0;
+    while j < latches {
+        same = same & alike(state[j], p);
+        j += 1;
+    }
+    same
+}
+
+// Meets the state that row p of a block leads to, unless a row before it leads there. row is its number.
+fn meet_row(
+    state: &[u64],
+    latches: usize,
+    p: u32,
+    row: u32,
+    e: u32,
+    quota: usize,
+    pending: Pending,
+    records: &mut [u32],
+    heads: &mut [u32],
+) -> Pending
+    requires { ⌜ Fits quota (pending .met) (now records) (now heads) ⌝ }
+    requires { ⌜ (latches ≤ length (now state)) × (latches ≤ 32) × (p < 64) ⌝ }
+    ensures { λ r. ⌜ RowStep (λ q. numberOf (map (λ j. bit (getD (now (state .entry)) j 0) q) (upto latches))) quota e row p (pending .met) (pending .left) (now (records .entry)) (now (heads .entry)) (r .met) (r .left) (now (records .exit)) (now (heads .exit)) ⌝ }
+{
+    let count = pending.met;
+    let left = pending.left;
+    if (left >> p) % 2 == 0 {
+        return Pending { met: count, left };
+    }
+    let s = transitions::pack(state, latches, p);
+    let others = words::literal_word(same_rows(state, latches, p), true);
+    let met = states::meet(records, heads, count, quota, s, e, row);
+    Pending {
+        met,
+        left: left & others,
+    }
 }
 
 // Meets the states that rows `first` to `first + n - 1` of record e lead to. Word j of state is latch j of the next state, row by row.
@@ -42,14 +101,26 @@ fn meet_rows(
     requires { ⌜ (latches ≤ length (now state)) × (latches ≤ 32) × (n ≤ 64) × (first ≤ 65536) ⌝ }
     ensures { λ r. ⌜ RowsMet (λ p. numberOf (map (λ j. bit (getD (now (state .entry)) j 0) p) (upto latches))) quota count e first n (now (records .entry)) (now (heads .entry)) r (now (records .exit)) (now (heads .exit)) ⌝ }
 {
-    let mut met = count;
+    let mut pending = Pending {
+        met: count,
+        left: 0xffff_ffff_ffff_ffff,
+    };
     let mut p = 0;
     while p < n {
-        let s = transitions::pack(state, latches, p);
-        met = states::meet(records, heads, met, quota, s, e, first + p);
+        pending = meet_row(
+            state,
+            latches,
+            p,
+            first + p,
+            e,
+            quota,
+            pending,
+            records,
+            heads,
+        );
         p += 1;
     }
-    met
+    pending.met
 }
 
 // The number of words of 64 rows that a frame has.

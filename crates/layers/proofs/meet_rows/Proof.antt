@@ -1,4 +1,5 @@
--- `layers::meet_rows` meets its contract. The loop's invariant: the first p rows are met. Assumes nothing.
+-- `layers::meet_rows` meets its contract. The loop's invariant: the first p rows are met, and a row that is left out leads where one of them leads.
+-- Assumes nothing.
 use mathlib.Core.Path.{_≡_, refl, sym, ap, _∙_, subst}
 use mathlib.Core.List.{List, map}
 use Prim.Native.Nat.{ℕ, _+_, _-_, _*_, _≤_, _<_}
@@ -8,52 +9,55 @@ use Rattle.aiger.specs.Lists.{upto}
 use Rattle.aiger.specs.Bits.{bit}
 use Rattle.transitions.specs.Transitions.{numberOf}
 use Rattle.layers.specs.Rows.{RowsMet}
-use Rattle.layers.proofs.Rows.{rows-none, rows-more}
+use Rattle.layers.proofs.Rows.{rows-none, Treated, dropped-none, treated-more}
 use borrow.Author.Needs.{needs}
 use Rattle.layers.proofs.meet_rows.Statement.{statement}
 use Rattle.layers.proofs.meet_rows.Tie as tie
 
 abbrev Inv-loop : tie.InvT-loop
-Inv-loop state latches n first e quota count records₀ heads₀ met₀ p₀ records heads met p =
+Inv-loop state latches n first e quota count records₀ heads₀ pending₀ p₀ records heads pending p =
     (p ≤ n) × (length records ≡ length records₀) × (length heads ≡ length heads₀)
-    × RowsMet (λ q. numberOf (map (λ j. bit (getD state j 0) q) (upto latches))) quota count e first p records₀ heads₀ met records heads
+    × Treated (λ q. numberOf (map (λ j. bit (getD state j 0) q) (upto latches))) quota count e first p records₀ heads₀ (pending .met) (pending .left) records heads
 
 abbrev μ-loop : tie.MeasureT-loop
-μ-loop state latches n first e quota count records₀ heads₀ met₀ p₀ records heads met p = n - p
+μ-loop state latches n first e quota count records₀ heads₀ pending₀ p₀ records heads pending p = n - p
 
 abbrev numbers : List ℕ → ℕ → ℕ → ℕ
 numbers state latches p = numberOf (map (λ j. bit (getD state j 0) p) (upto latches))
 
 loop-holds : tie.Need-loop-holds Inv-loop μ-loop
 loop-holds c =
-    let a = c .before .before .before .args in
-    (omega arith, refl, refl, rows-none (numbers (a .state .now) (a .latches)) (a .quota) (a .count) (a .e) (a .first) (a .records .now) (a .heads .now) (c .before .before .before .pre .0))
+    let a = c .before .before .before .args in (
+      omega arith,
+      refl,
+      refl,
+      record {
+        rows = rows-none (numbers (a .state .now) (a .latches)) (a .quota) (a .count) (a .e) (a .first) (a .records .now) (a .heads .now) (c .before .before .before .pre .0);
+        dropped = dropped-none (numbers (a .state .now) (a .latches));
+      },
+    )
 
-pack-requires : tie.Need-pack-requires Inv-loop μ-loop
-pack-requires c κs = (c .before .before .before .before .before .pre .1 .0, c .before .before .before .before .before .pre .1 .1, omega (arith, c .before .before .before .before .before .pre .1 .2))
+add-meet-row : tie.Need-add-meet-row Inv-loop μ-loop
+add-meet-row c = omega (arith, c .before .before .before .before .before .pre .1 .3, c .before .before .before .before .before .pre .1 .2)
 
-add-meet : tie.Need-add-meet Inv-loop μ-loop
-add-meet c = omega (arith, c .before .before .before .before .before .before .before .before .pre .1 .3, c .before .before .before .before .before .before .before .before .pre .1 .2)
-
-meet-requires : tie.Need-meet-requires Inv-loop μ-loop
-meet-requires c κs = c .before .before .before .before .loop .inv .3 .fits
+meet-row-requires : tie.Need-meet-row-requires Inv-loop μ-loop
+meet-row-requires c κs = (c .before .before .before .loop .inv .3 .rows .fits, (c .before .before .before .before .before .before .before .pre .1 .0, c .before .before .before .before .before .before .before .pre .1 .1, omega (arith, c .before .before .before .before .before .before .before .pre .1 .2)))
 
 add-p : tie.Need-add-p Inv-loop μ-loop
-add-p c = omega (arith, c .before .before .before .before .before .before .before .before .before .before .before .before .before .pre .1 .2)
+add-p c = omega (arith, c .before .before .before .before .before .before .before .before .before .before .before .before .pre .1 .2)
 
 loop-less : tie.Need-loop-less Inv-loop μ-loop
 loop-less c = omega arith
 
 loop-again : tie.Need-loop-again Inv-loop μ-loop
 loop-again c =
-    let a = c .before .before .before .before .before .before .before .before .before .before .before .before .before .args in
-    let L = c .before .before .before .before .before .before .before .before .before .loop in
-    let E = c .before .before .before .before .meet in (
+    let a = c .before .before .before .before .before .before .before .before .before .before .before .before .args in
+    let L = c .before .before .before .before .before .before .before .before .loop in
+    let E = c .before .before .before .before .meet-row in (
       omega arith,
-      E .kept .0 ∙ L .inv .1,
-      E .kept .1 .0 ∙ L .inv .2,
-      rows-more (numbers (a .state .now) (a .latches)) (a .quota) (a .count) (a .e) (a .first) (L .p) (a .records .now) (a .heads .now) (L .met) (L .records) (L .heads)
-          (c .before .before .before .before .before .before .before .pack .result) (E .result) (E .last .0) (E .last .1 .0) (L .inv .3) (c .before .before .before .before .before .before .before .pack .ensures) (E .ensures),
+      E .kept .1 .1 .1 .1 .1 .1 .1 .0 ∙ L .inv .1,
+      E .kept .1 .1 .1 .1 .1 .1 .1 .1 .0 ∙ L .inv .2,
+      treated-more (numbers (a .state .now) (a .latches)) (a .quota) (a .count) (a .e) (a .first) (L .p) (a .records .now) (a .heads .now) (omega (arith, c .before .before .before .before .before .before .before .before .before .before .before .before .pre .1 .2)) (L .inv .3) (E .ensures),
     )
 
 same-length : tie.Need-same-length Inv-loop μ-loop
@@ -67,7 +71,7 @@ returns c =
     let a = c .before .before .before .before .before .args in
     let L = c .before .loop in
     let e : L .p ≡ a .n = omega arith in
-    subst (λ (n : ℕ). RowsMet (numbers (a .state .now) (a .latches)) (a .quota) (a .count) (a .e) (a .first) n (a .records .now) (a .heads .now) (L .met) (L .records) (L .heads)) e (L .inv .3)
+    subst (λ (n : ℕ). RowsMet (numbers (a .state .now) (a .latches)) (a .quota) (a .count) (a .e) (a .first) n (a .records .now) (a .heads .now) (L .pending .met) (L .records) (L .heads)) e (L .inv .3 .rows)
 
 pub meet-rows-spec : {M : Type 1} → statement M
 meet-rows-spec =
@@ -76,9 +80,8 @@ meet-rows-spec =
     Inv-loop
     μ-loop
     loop-holds
-    pack-requires
-    add-meet
-    meet-requires
+    add-meet-row
+    meet-row-requires
     add-p
     loop-less
     loop-again

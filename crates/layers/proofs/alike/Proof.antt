@@ -1,0 +1,41 @@
+-- `layers::alike` meets its contract. Assumes nothing.
+use mathlib.Core.Path.{_≡_, refl, sym, ap, _∙_}
+use mathlib.Core.Bool.{Bool, true, false, not, xor}
+use Prim.Native.Nat.{ℕ, zero, suc, _/_, _%_, _^_}
+use native.Mathlib.Omega.{arith}
+use borrow.Author.Tests.{eqb-true}
+use lib.Dec.{eqb}
+use Rattle.aiger.specs.Bits.{nonzero, bit}
+use Rattle.words.proofs.Bits.{xor-true, xor-false}
+use borrow.Author.Needs.{needs}
+use Rattle.layers.proofs.alike.Statement.{statement}
+use Rattle.layers.proofs.alike.Tie as tie
+
+not-true : (a : Bool) → not a ≡ true → a ≡ false
+not-true true e = sym e
+not-true false e = refl
+
+nonzero-some : (m : ℕ) → eqb m 0 ≡ false → nonzero m ≡ true
+nonzero-some zero e = absurd (let z : _≡_ {A = ℕ} 0 1 = cc in omega arith)
+nonzero-some (suc m) e = refl
+
+-- a bit that is true after the word is complemented, or not, by bit p, has bit p's value
+kept : (m : ℕ) (a b : Bool) → b ≡ xor (eqb m 0) a → b ≡ true → a ≡ nonzero m
+kept m a b e t = go (eqb m 0) refl (sym e ∙ t)
+  where
+    go : (k : Bool) → eqb m 0 ≡ k → xor k a ≡ true → a ≡ nonzero m
+    go true f h = not-true a (sym (xor-true a) ∙ h) ∙ sym (ap nonzero (eqb-true m 0 f))
+    go false f h = sym (xor-false a) ∙ h ∙ sym (nonzero-some m f)
+
+shr-literal-word : tie.Need-shr-literal-word
+shr-literal-word c = search needs
+
+literal-word-requires : tie.Need-literal-word-requires
+literal-word-requires c κs = search needs
+
+returns : tie.Need-returns
+unfolding bit
+returns c = λ q l t. kept (c .before .args .x / 2 ^ c .before .args .p % 2) (bit (c .before .args .x) q) (bit (c .literal-word .result) q) (c .literal-word .ensures q l) t
+
+pub alike-spec : {M : Type 1} → statement M
+alike-spec = tie.close (tie.spec shr-literal-word literal-word-requires returns)

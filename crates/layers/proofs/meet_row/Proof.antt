@@ -1,0 +1,81 @@
+-- `layers::meet_row` meets its contract. Assumes nothing.
+use mathlib.Core.Path.{_≡_, refl, sym, ap, _∙_, subst}
+use mathlib.Core.Bool.{Bool, true, false, not, xor, _&&_}
+use mathlib.Core.List.{List, map}
+use mathlib.Core.Logic.{_⊎_, inl, inr, ⊎-elim}
+use Prim.Native.Nat.{ℕ, _<_}
+use native.Mathlib.Omega.{arith}
+use lib.Bits.{bitAnd}
+use lib.ListN.{length, getD}
+use Rattle.aiger.specs.Lists.{upto}
+use Rattle.aiger.specs.Bits.{nonzero, bit}
+use Rattle.words.proofs.Bits.{bit-and, xor-true}
+use Rattle.meaning.proofs.Lists.{map-upto-eq}
+use Rattle.states.specs.Table.{Meets}
+use Rattle.transitions.specs.Transitions.{numberOf}
+use Rattle.layers.specs.Rows.{RowStep}
+use borrow.Author.Needs.{needs}
+use Rattle.layers.proofs.meet_row.Statement.{statement}
+use Rattle.layers.proofs.meet_row.Tie as tie
+
+abbrev numbers : List ℕ → ℕ → ℕ → ℕ
+numbers state latches p = numberOf (map (λ j. bit (getD state j 0) p) (upto latches))
+
+-- a row is left out because it was before, or because it is among the same rows
+cases : (a b : Bool) → (a && not b) ≡ false → (a ≡ false) ⊎ (b ≡ true)
+cases false b e = inl refl
+cases true true e = inr refl
+cases true false e = inl e
+
+module _ (left same others : ℕ) (f : (q : ℕ) → q < 64 → bit others q ≡ xor true (bit same q)) where
+  out : (q : ℕ) → q < 64 → bit (bitAnd left others) q ≡ false → (bit left q ≡ false) ⊎ (bit same q ≡ true)
+  out q l e =
+      cases (bit left q) (bit same q) (ap (λ (x : Bool). bit left q && x) (sym (f q l ∙ xor-true (bit same q))) ∙ sym (bit-and left others q) ∙ e)
+
+shr-if1 : tie.Need-shr-if1
+shr-if1 c = search needs
+
+returns : tie.Need-returns
+unfolding bit
+returns c = RowStep.skipped (ap nonzero (c .if1 .taken))
+
+pack-requires : tie.Need-pack-requires
+pack-requires c κs = (c .before .before .before .before .pre .1 .0, c .before .before .before .before .pre .1 .1, c .before .before .before .before .pre .1 .2)
+
+same-rows-requires : tie.Need-same-rows-requires
+same-rows-requires c κs = (c .before .before .before .before .before .pre .1 .0, c .before .before .before .before .before .pre .1 .2)
+
+literal-word-requires : tie.Need-literal-word-requires
+literal-word-requires c κs = tt
+
+meet-requires : tie.Need-meet-requires
+meet-requires c κs = c .before .before .before .before .before .before .before .before .before .pre .0
+
+same-length : tie.Need-same-length
+same-length c = c .before .before .before .before .meet .kept .0
+
+same-length-2 : tie.Need-same-length-2
+same-length-2 c = c .before .before .before .before .meet .kept .1 .0
+
+returns-2 : tie.Need-returns-2
+returns-2 c =
+    let a = c .before .before .before .before .before .before .before .before .before .before .before .before .before .before .args in
+    let E = c .before .before .before .before .meet in
+    RowStep.taken (subst (λ (s : ℕ). Meets (a .quota) (a .pending .met) s (a .e) (a .row) (a .records .now) (a .heads .now) (E .result) (E .last .0) (E .last .1 .0)) (c .before .before .before .before .before .before .before .before .before .pack .ensures) (E .ensures))
+    (λ q l g. ⊎-elim (λ h. inl h)
+    (λ h. inr (ap numberOf (map-upto-eq (λ j. bit (getD (a .state .now) j 0) q) (λ j. bit (getD (a .state .now) j 0) (a .p)) (a .latches) (c .before .before .before .before .before .before .before .before .same-rows .ensures q l h))))
+    (out (a .pending .left) (c .before .before .before .before .before .before .before .before .same-rows .result) (c .before .before .before .before .before .before .before .literal-word .result) (c .before .before .before .before .before .before .before .literal-word .ensures) q l g))
+
+pub meet-row-spec : {M : Type 1} → statement M
+meet-row-spec =
+    tie.close
+    (tie.spec
+    shr-if1
+    returns
+    pack-requires
+    same-rows-requires
+    literal-word-requires
+    meet-requires
+    same-length
+    same-length-2
+    returns-2)
