@@ -1,0 +1,77 @@
+-- `propagation::implied` meets its contract. Assumes nothing.
+use borrow.Author.Tests.{eq-eqb, ne-eqb}
+use Rattle.propagation.specs.Gates as G
+use borrow.Author.Needs.{needs}
+use Rattle.propagation.proofs.implied.Statement.{statement}
+use Rattle.propagation.proofs.implied.Tie as tie
+
+field-requires : tie.Need-field-requires
+field-requires c κs = search needs
+
+returns : tie.Need-returns
+unfolding G.implied
+returns c = rw (eq-eqb _ _ (c .before .if1 .taken)) (cc)
+
+field-requires-2 : tie.Need-field-requires-2
+field-requires-2 c κs = search needs
+
+returns-2 : tie.Need-returns-2
+unfolding G.implied
+returns-2 c = rw (ne-eqb _ _ (c .before .before .if1 .left), eq-eqb _ _ (c .before .if2 .taken)) (cc)
+
+field-requires-3 : tie.Need-field-requires-3
+field-requires-3 c κs = search needs
+
+opposite-requires : tie.Need-opposite-requires
+opposite-requires c κs = search needs
+
+returns-3 : tie.Need-returns-3
+unfolding G.implied
+returns-3 c = rw (ne-eqb _ _ (c .before .before .before .before .if1 .left), ne-eqb _ _ (c .before .before .before .if2 .left), eq-eqb _ _ (c .before .before .if3 .taken)) (cc)
+
+field-requires-4 : tie.Need-field-requires-4
+field-requires-4 c κs = search needs
+
+opposite-requires-2 : tie.Need-opposite-requires-2
+opposite-requires-2 c κs = search needs
+
+returns-4 : tie.Need-returns-4
+unfolding G.implied
+returns-4 c = rw (ne-eqb _ _ (c .before .before .before .before .before .if1 .left), ne-eqb _ _ (c .before .before .before .before .if2 .left), ne-eqb _ _ (c .before .before .before .if3 .left), eq-eqb _ _ (c .before .before .if4 .taken)) (cc)
+
+mul-result : tie.Need-mul-result
+mul-result c = search needs
+
+mul-result-2 : tie.Need-mul-result-2
+mul-result-2 c = search needs
+
+add-result : tie.Need-add-result
+add-result c = search needs
+
+returns-5 : tie.Need-returns-5
+unfolding G.implied
+returns-5 c = rw (ne-eqb _ _ (c .before .before .before .before .if1 .left), ne-eqb _ _ (c .before .before .before .if2 .left), ne-eqb _ _ (c .before .before .if3 .left), ne-eqb _ _ (c .before .if4 .left), eq-eqb _ _ (c .if5 .taken)) (cc)
+
+returns-6 : tie.Need-returns-6
+unfolding G.implied
+returns-6 c = rw (ne-eqb _ _ (c .before .before .before .before .if1 .left), ne-eqb _ _ (c .before .before .before .if2 .left), ne-eqb _ _ (c .before .before .if3 .left), ne-eqb _ _ (c .before .if4 .left), ne-eqb _ _ (c .if5 .left)) (cc)
+
+pub implied-spec : {M : Type 1} → statement M
+implied-spec =
+    tie.close
+    (tie.spec
+    field-requires
+    returns
+    field-requires-2
+    returns-2
+    field-requires-3
+    opposite-requires
+    returns-3
+    field-requires-4
+    opposite-requires-2
+    returns-4
+    mul-result
+    mul-result-2
+    add-result
+    returns-5
+    returns-6)

@@ -1,0 +1,2 @@
+-- What the contracts of `propagation` cite. Assumes nothing.
+pub mod Gates
