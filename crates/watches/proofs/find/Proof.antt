@@ -1,0 +1,64 @@
+-- `watches::find` meets its contract. The invariant: what is left of the clause is searched as all of it. Assumes nothing.
+use Rattle.watches.proofs.Turns.{found-none, found-here, found-more}
+use Rattle.watches.specs.Watch.{found}
+use native.Mathlib.Omega.{arith}
+use mathlib.Core.Path.{_≡_, refl, sym, ap, _∙_}
+use borrow.Author.Needs.{needs}
+use Rattle.watches.proofs.find.Statement.{statement}
+use Rattle.watches.proofs.find.Tie as tie
+
+abbrev Inv-loop : tie.InvT-loop
+Inv-loop work net c o n left₀ left =
+    found work net c o left ≡ found work net c o left₀
+
+abbrev μ-loop : tie.MeasureT-loop
+μ-loop work net c o n left₀ left = left
+
+loop-holds : tie.Need-loop-holds Inv-loop μ-loop
+loop-holds c =
+    refl
+
+sub-left : tie.Need-sub-left Inv-loop μ-loop
+sub-left c = omega arith
+
+kept-literal-requires : tie.Need-kept-literal-requires Inv-loop μ-loop
+kept-literal-requires c κs = search needs
+
+can-watch-requires : tie.Need-can-watch-requires Inv-loop μ-loop
+can-watch-requires c κs = search needs
+
+returns : tie.Need-returns Inv-loop μ-loop
+returns c =
+    let l = c .before .before .before .before .loop in
+    let s = c .before .before .before .before .before .before .args in
+    cc (sym (found-here (s .work .now) (s .net) (s .c) (s .o) (l .left) (omega arith) (cc)) ∙ l .inv)
+
+loop-less : tie.Need-loop-less Inv-loop μ-loop
+loop-less c = omega arith
+
+loop-again : tie.Need-loop-again Inv-loop μ-loop
+loop-again c =
+    let l = c .before .before .before .before .loop in
+    let s = c .before .before .before .before .before .before .args in
+    sym (found-more (s .work .now) (s .net) (s .c) (s .o) (l .left) (omega arith) (cc)) ∙ l .inv
+
+returns-2 : tie.Need-returns-2 Inv-loop μ-loop
+returns-2 c =
+    let l = c .before .loop in
+    let s = c .before .before .before .args in
+    sym (found-none (s .work .now) (s .net) (s .c) (s .o) (l .left) (omega arith)) ∙ l .inv
+
+pub find-spec : {M : Type 1} → statement M
+find-spec =
+    tie.close
+    (tie.spec
+    Inv-loop
+    μ-loop
+    loop-holds
+    sub-left
+    kept-literal-requires
+    can-watch-requires
+    returns
+    loop-less
+    loop-again
+    returns-2)

@@ -1,0 +1,25 @@
+-- `watches::rewatch` meets its contract. Assumes nothing.
+use Rattle.watches.specs.Watch as W
+use borrow.Author.Needs.{needs}
+use Rattle.watches.proofs.rewatch.Statement.{statement}
+use Rattle.watches.proofs.rewatch.Tie as tie
+
+following-requires : tie.Need-following-requires
+following-requires c κs = search needs
+
+link-requires : tie.Need-link-requires
+link-requires c κs = search needs
+
+attach-requires : tie.Need-attach-requires
+attach-requires c κs = search needs
+
+same-length : tie.Need-same-length
+same-length c = search needs
+
+returns : tie.Need-returns
+unfolding W.rewatched
+returns c = (record { words = cc; state = cc })
+
+pub rewatch-spec : {M : Type 1} → statement M
+rewatch-spec =
+    tie.close (tie.spec following-requires link-requires attach-requires same-length returns)

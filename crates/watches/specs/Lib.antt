@@ -1,0 +1,2 @@
+-- What the contracts of `watches` cite. Assumes nothing.
+pub mod Watch
