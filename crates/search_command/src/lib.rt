@@ -33,13 +33,7 @@ fn write_answer(line: &mut [u8], answer: SearchAnswer) -> usize
 }
 
 // Searches the circuit in m.
-fn search_loaded(
-    m: &[u32],
-    q: Terms,
-    work: &mut [u32],
-    out: &mut [u8],
-    line: &mut [u8],
-) -> Report
+fn search_loaded(m: &[u32], q: Terms, work: &mut [u32], out: &mut [u8], line: &mut [u8]) -> Report
     requires { ⌜ Holds (now m) (circuitIn (now m)) × (128 ≤ length (now line)) ⌝ }
     ensures { λ r. ⌜
         Leaves
