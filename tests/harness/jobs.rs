@@ -3,7 +3,7 @@
 use crate::generate;
 use crate::lend::{Kind, Loan, Store, PAGE};
 use crate::random::Random;
-use crate::reference::{self, Circuit, Said};
+use crate::reference::{self, Judged, Circuit, Said};
 use crate::service;
 use crate::stack::Painted;
 use crate::tally::{Operation, Tally, NAMES};
@@ -447,7 +447,8 @@ impl Harness {
             Err(number) if said == Some(Said::Refused(number)) => self.tally.refusal(Operation::Search, number),
             Err(number) => faults.push(format!("answered {code:#x}, expected refusal {number}")),
             Ok(c) => match said.map(|said| reference::search_permits(&c, b, k, d, said)) {
-                Some(Ok(text)) => self.searched(&work, &out, said, text),
+                Some(Ok(Judged::Text(text))) => self.searched(&work, &out, said, text),
+                Some(Ok(Judged::Unjudged)) => self.unjudged(&work, &out),
                 Some(Err(why)) => faults.push(format!("answered {said:?}, which is not permitted: {why}")),
                 None => faults.push(format!("answered {code:#x}")),
             },
@@ -455,6 +456,12 @@ impl Harness {
         let inputs = || format!("b {b}, k {k}, D {d}, work {} words, output {} bytes\n{}", work.len, out.len, shown(&words));
         self.settle(Operation::Search, loans, faults, &inputs);
         code
+    }
+
+    fn unjudged(&mut self, work: &Loan, out: &Loan) {
+        self.store(work).expect_anything(work.offset, work.byte_len());
+        self.store(out).expect_anything(out.offset, out.byte_len());
+        self.tally.answer(Operation::Search, "unjudged");
     }
 
     fn searched(&mut self, work: &Loan, out: &Loan, said: Option<Said>, text: Vec<u8>) {

@@ -454,7 +454,7 @@ fn bounds_tests(c: &Circuit, b: u64, k: u64, budget_wrong: bool, work_len: u64) 
 }
 
 /// No more than 2 to the power of this many sequences are tried in a frame.
-const MOST_BITS: u64 = 22;
+const MOST_BITS: u64 = 14;
 
 /// The first hit among the first `count` sequences of frame t.
 fn first_hit(evaluator: &mut Evaluator, b: u64, t: u64, count: u64) -> Option<u64> {
@@ -462,28 +462,96 @@ fn first_hit(evaluator: &mut Evaluator, b: u64, t: u64, count: u64) -> Option<u6
     (0..count).find(|&x| evaluator.hits_of(b, t, &sequence(n, x)) & 1 == 1)
 }
 
-/// Whether a search that is not refused may say `said`: then the text that it writes, else why not.
-pub fn search_permits(c: &Circuit, b: u64, k: u64, d: u64, said: Said) -> Result<Vec<u8>, String> {
+/// A state of a frame, and the free bits of the first prefix in counting order that leads to it.
+struct Reached {
+    latches: Vec<u64>,
+    free: Vec<u64>,
+}
+
+/// No more than this many pairs of a state and a row are tried in a frame.
+const MOST_PAIRS: u64 = 1 << 16;
+
+/// The start states, each once, in counting order.
+fn starts(c: &Circuit) -> Option<Vec<Reached>> {
+    let n = c.free_latches();
+    if n > 12 {
+        return None;
+    }
+    let free = (0..1 << n).map(|x| sequence(n, x));
+    Some(free.map(|free| Reached { latches: start_and_rows(c, &free).0, free }).collect())
+}
+
+/// The free bits of the first hit of a frame whose states are given in counting order, and the states of the next frame, each once.
+fn step(evaluator: &mut Evaluator, b: u64, states: &[Reached]) -> Option<(Option<Vec<u64>>, Vec<Reached>)> {
+    let c = evaluator.circuit;
+    let width = c.inputs.len() as u64;
+    if width > 16 || (states.len() as u64) << width > MOST_PAIRS {
+        return None;
+    }
+    let mut met = std::collections::HashSet::new();
+    let mut next = Vec::new();
+    for state in states {
+        for first in (0..1u64 << width).step_by(64) {
+            let rows = sequences_from(width, first);
+            evaluator.frame(&state.latches, &rows);
+            let allowed = c.constraints.iter().fold(!0, |all, &lit| all & evaluator.value(lit));
+            let hits = allowed & evaluator.value(c.bads[b as usize]);
+            let after: Vec<u64> = c.latches.iter().map(|latch| evaluator.value(latch.next)).collect();
+            for p in 0..(1u64 << width).min(64) {
+                let of = |word: &u64| if word >> p & 1 == 1 { !0 } else { 0 };
+                let free = || state.free.iter().copied().chain(rows.iter().map(of)).collect::<Vec<u64>>();
+                if hits >> p & 1 == 1 {
+                    return Some((Some(free()), next));
+                }
+                let latches: Vec<u64> = after.iter().map(of).collect();
+                if met.insert(latches.clone()) {
+                    next.push(Reached { latches, free: free() });
+                }
+            }
+        }
+    }
+    Some((None, next))
+}
+
+/// What is known of an answer: the text that goes with it, or that it cannot be judged here.
+pub enum Judged {
+    Text(Vec<u8>),
+    Unjudged,
+}
+
+/// Whether a search that is not refused may say `said`: then the text that it writes, else why not. A frame is judged by its states, or, where
+/// they are too many, by its sequences.
+pub fn search_permits(c: &Circuit, b: u64, k: u64, d: u64, said: Said) -> Result<Judged, String> {
     let mut evaluator = Evaluator::new(c);
+    let mut states = starts(c);
     for t in 0..=k {
         let n = c.free_bits(t);
         let more_than_budget = n > 32 || 1 << n > d;
         if said == Said::Spent(t) && more_than_budget {
             return match first_hit(&mut evaluator, b, t, d) {
-                None => Ok(Vec::new()),
+                None => Ok(Judged::Text(Vec::new())),
                 Some(x) => Err(format!("sequence {x} of frame {t} is a hit within the budget")),
             };
         }
-        if let Some(x) = first_hit(&mut evaluator, b, t, 1 << n.min(MOST_BITS)) {
+        let stepped = states.as_deref().and_then(|states| step(&mut evaluator, b, states));
+        let hit = match stepped {
+            Some((hit, next)) => {
+                states = Some(next);
+                hit
+            }
+            None if n <= MOST_BITS => {
+                states = None;
+                first_hit(&mut evaluator, b, t, 1 << n).map(|x| sequence(n, x))
+            }
+            None => return Ok(Judged::Unjudged),
+        };
+        if let Some(free) = hit {
             let expected = Said::Found(t);
-            return if said == expected { Ok(witness(c, b, t, x)) } else { Err(format!("expected {expected:?}")) };
-        }
-        if n > MOST_BITS {
-            return Err(format!("frame {t} has too many sequences to judge this answer"));
+            return if said == expected { Ok(Judged::Text(witness_of(c, b, t, &free))) } else { Err(format!("expected {expected:?}")) };
         }
     }
     let expected = Said::Nothing(k);
-    if said == expected { Ok(Vec::new()) } else { Err(format!("expected {expected:?}")) }
+    if said == expected { Ok(Judged::Text(Vec::new())) } else { Err(format!("expected {expected:?}")) }
 }
 
 /// The frame and number of the first hit, if the first `limit` sequences of each frame up to k show it.
@@ -508,8 +576,12 @@ fn row(values: &[u64]) -> String {
 
 /// AIGER's witness of sequence x of frame t.
 pub fn witness(c: &Circuit, b: u64, t: u64, x: u64) -> Vec<u8> {
-    let free = sequence(c.free_bits(t), x);
-    let (start, rows) = start_and_rows(c, &free);
+    witness_of(c, b, t, &sequence(c.free_bits(t), x))
+}
+
+/// The same for the sequence whose free bits are given.
+fn witness_of(c: &Circuit, b: u64, t: u64, free: &[u64]) -> Vec<u8> {
+    let (start, rows) = start_and_rows(c, free);
     let width = c.inputs.len();
     let mut lines = vec!["1".to_string(), format!("b{b}"), row(&start)];
     lines.extend((0..=t as usize).map(|frame| row(&rows[frame * width..][..width])));
