@@ -675,8 +675,21 @@ fn operands_right(d: &Folded) -> Result<(), &'static str> {
         if !seen.insert((left, right)) {
             return Err("two gates have the same operands");
         }
+        if repeats(d, left, right) || repeats(d, right, left) {
+            return Err("a gate repeats an operand one gate down");
+        }
     }
     Ok(())
+}
+
+/// Whether operand a stands again, in the way that makes a rule apply, among the operands of the gate that the other operand e is or complements: as it is or as
+/// its complement where e is the gate, as its complement where e is the gate's complement.
+fn repeats(d: &Folded, a: u64, e: u64) -> bool {
+    let Some(lower) = (e / 2).checked_sub(d.n + 1).and_then(|i| d.gates.get(i as usize)) else {
+        return false;
+    };
+    let among = |l: u64| lower.left == l || lower.right == l;
+    among(a ^ 1) || (e % 2 == 0 && among(a))
 }
 
 fn all_lead_to_output(d: &Folded) -> bool {
