@@ -1,6 +1,6 @@
--- What the search of one frame decides. Document 01 leaves it to the program whether it is spent or decides beyond its budget; here
--- it tries the first D places from its starting place on and no others. What holds of a decision, and all that the search knows of it,
--- are the laws `hit-first`, `clear-none` and `spent-first`. Assumes nothing.
+-- What is decided of places that are tried one after the other, from a starting place on and no more than a budget of them. The search asks
+-- this of the places that its choice says (`decision` Reach). What holds of a decision, and all that is known of it above, are the laws
+-- `hit-first`, `clear-none` and `spent-first`. Assumes nothing.
 use mathlib.Core.Bool.{Bool, cond}
 use mathlib.Core.Option.{Option, none, some}
 use Prim.Native.Nat.{ℕ, zero, suc, _+_, min}
