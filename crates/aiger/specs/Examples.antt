@@ -2,7 +2,7 @@
 use mathlib.Core.Bool.{Bool, true, false, not, cond, _&&_, Bool·beq}
 use mathlib.Core.List.{List, [], _∷_, _++_, map}
 use mathlib.Core.Option.{Option}
-use Prim.Native.Nat.{ℕ, _+_, _^_}
+use Prim.Native.Nat.{ℕ, _+_}
 use Prim.Native.String.{String}
 use lib.Dec.{eqb}
 use lib.ListN.{length, take, replicate}
@@ -10,28 +10,23 @@ use Rattle.aiger.specs.Lists.{same, upto}
 use Rattle.aiger.specs.Text.{bytes}
 use Rattle.aiger.specs.Circuit.{Circuit}
 use Rattle.aiger.specs.Load.{Answer, refused, gives, load, needed}
-use Rattle.aiger.specs.Frames.{freeBits}
-use Rattle.aiger.specs.Search.{Outcome, found, none, spent, permitted}
+use Rattle.aiger.specs.Search.{Outcome, permitted}
 use Rattle.aiger.specs.Write.{write}
 use Rattle.aiger.specs.Fold.{plain, alike, repeated, folds}
 use Rattle.aiger.specs.Witness.{readWitness, confirms}
 use Rattle.aiger.specs.Memory.{image}
 use Rattle.aiger.specs.Signature.{draw, patternBit}
-use Rattle.aiger.specs.Operations.{searchTests, foldTests}
-use Rattle.aiger.specs.Program.{report}
+use Rattle.aiger.specs.Operations.{judge, sizeTest, searchTests, foldTests}
+use Rattle.aiger.specs.Program.{request, report}
 
 unfoldable pub keep : {A : Type 0} → (A → Bool) → List A → List A
 keep p [] = []
 keep p (x ∷ xs) = cond (p x) (x ∷ keep p xs) (keep p xs)
 
-unfoldable pub join : {A B : Type 0} → (A → List B) → List A → List B
-join f [] = []
-join f (x ∷ xs) = f x ++ join f xs
-
 -- every outcome that a bound k leaves, and those just past it
-unfoldable pub outcomes : Circuit → ℕ → List Outcome
-outcomes c k =
-    join (λ t. map (found t) (upto (2 ^ freeBits c t + 1))) (upto (k + 2)) ++ map none (upto (k + 2)) ++ map spent (upto (k + 2))
+unfoldable pub outcomes : ℕ → List Outcome
+outcomes k =
+    map Outcome.found (upto (k + 2)) ++ map Outcome.none (upto (k + 2)) ++ map Outcome.spent (upto (k + 2))
 
 -- the texts are the same, one by one
 unfoldable pub sameTexts : List (List ℕ) → List String → Bool
@@ -50,6 +45,11 @@ pub data Example : Type 0 where
   searched : String → ℕ → ℕ → ℕ → List String → Example
   -- file, b, k, D, the words of working memory, the bytes of output, and the number of the refusal, 0 for none
   searchRefused : String → ℕ → ℕ → ℕ → ℕ → ℕ → ℕ → Example
+  -- how many inputs and free latches a circuit without gates has, a bound, the words of working memory, and the number of the refusal
+  -- by its size, 0 for none
+  sizeRefused : ℕ → ℕ → ℕ → ℕ → ℕ → Example
+  -- what standard input holds, and whether it begins with a request
+  requested : String → Bool → Example
   -- file, witness, and yes or no
   replayed : String → String → Bool → Example
   -- file, a text's first lines, how many empty lines and then a line `.` follow, and whether that is a witness
@@ -82,16 +82,35 @@ pub data Example : Type 0 where
 unfoldable pub onLoaded : String → (Circuit → Bool) → Bool
 onLoaded f p = elim (load 8192 (bytes f)) [ refused n ↦ false | gives c ↦ p c ]
 
+-- so many inputs and free latches, and nothing else
+unfoldable pub plainOf : ℕ → ℕ → Circuit
+plainOf inputs free =
+    record {
+      maxVar = inputs + free;
+      inputs = replicate inputs 2;
+      latches = replicate free (record { lit = 2; next = 2; reset = 2 });
+      outputs = [];
+      bads = [];
+      constraints = [];
+      gates = [];
+    }
+
 unfoldable pub holds : Example → Bool
-holds (searched f b k D answers) = onLoaded f (λ c. sameTexts (map (report c b) (keep (permitted c b k D) (outcomes c k))) answers)
-holds (searchRefused f b k D room len n) = onLoaded f (λ c. eqb (refusalOf (searchTests c b k D room len)) n)
+holds (searched f b k D answers) =
+    onLoaded f (λ c.
+    eqb (refusalOf (judge (searchTests c b k D 8192 2048))) 0 && sameTexts (map (report c b) (keep (permitted c b k D) (outcomes k))) answers)
+holds (searchRefused f b k D room len n) = onLoaded f (λ c. eqb (refusalOf (judge (searchTests c b k D room len))) n)
+holds (sizeRefused inputs free k room n) = eqb (refusalOf (judge (sizeTest (plainOf inputs free) k room ∷ []))) n
+holds (requested f says) = elim (request (bytes f)) [ Option.none ↦ not says | Option.some q ↦ says ]
 holds (replayed f w says) = onLoaded f (λ c. elim (readWitness c (bytes w)) [ Option.none ↦ false | Option.some x ↦ Bool·beq (confirms c x) says ])
 holds (noWitness f w) = onLoaded f (λ c. elim (readWitness c (bytes w)) [ Option.none ↦ true | Option.some x ↦ false ])
-holds (folded f b t w says) = onLoaded f (λ c. onLoaded w (λ d. same (write d) (bytes w) && Bool·beq (folds c b t d) says))
+holds (folded f b t w says) =
+    onLoaded f (λ c.
+    eqb (refusalOf (judge (foldTests c b t 8192 2048))) 0 && onLoaded w (λ d. same (write d) (bytes w) && Bool·beq (folds c b t d) says))
 holds (operandPair l r says) = Bool·beq (plain (record { lit = 0; left = l; right = r })) says
 holds (operandPairs l r m s says) = Bool·beq (alike (record { lit = 0; left = l; right = r }) (record { lit = 0; left = m; right = s })) says
 holds (operandBelow l r o a says) = Bool·beq (repeated l r o a) says
-holds (foldRefused f b t room len n) = onLoaded f (λ c. eqb (refusalOf (foldTests c b t room len)) n)
+holds (foldRefused f b t room len n) = onLoaded f (λ c. eqb (refusalOf (judge (foldTests c b t room len))) n)
 holds (written f w) = onLoaded f (λ c. same (write c) (bytes w))
 holds (witnessed f w n says) = onLoaded f (λ c. elim (readWitness c (bytes w ++ replicate n 10 ++ bytes ".\n")) [ Option.none ↦ not says | Option.some x ↦ says ])
 holds (stored f words) = onLoaded f (λ c. same (take (length words) (image c)) words && eqb (length (image c)) (needed (c .maxVar)))
@@ -175,6 +194,18 @@ further =
     ∷ searchRefused S 0 254 4294967296 8176 520 0
     ∷ searchRefused S 0 254 16 8176 519 13
     ∷ searchRefused "aag 0 0 0 0 0\n" 0 0 1 8192 2048 10
+    -- a size of 65,536 and one of 65,537
+    ∷ sizeRefused 255 255 255 1048576 0
+    ∷ sizeRefused 255 256 255 1048592 12
+    ∷ sizeRefused 255 255 255 1048575 12
+    -- the search program's first line: three numbers in the file's form, then a line feed
+    ∷ requested "search 0 2 16\n" true
+    ∷ requested "search 0 2\n" false
+    ∷ requested "search 0 2 16 1\n" false
+    ∷ requested "search 0 02 16\n" false
+    ∷ requested "search 0 2 16" false
+    ∷ requested "search 0  2 16\n" false
+    ∷ requested "Search 0 2 16\n" false
     ∷ foldRefused S 1 256 0 0 10
     ∷ foldRefused S 0 256 8192 2048 11
     ∷ foldRefused S 0 255 8192 99999 12

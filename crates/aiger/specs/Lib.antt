@@ -5,8 +5,8 @@ pub mod Circuit
 pub mod File
 pub mod Load
 pub mod Frames
-pub mod Search
 pub mod Witness
+pub mod Search
 pub mod Write
 pub mod Memory
 pub mod Fold

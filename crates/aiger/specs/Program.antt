@@ -10,10 +10,8 @@ use Rattle.aiger.specs.Lists.{same}
 use Rattle.aiger.specs.Text.{bytes, digits, row, _>>=_, _>>_, when}
 use Rattle.aiger.specs.Circuit.{Circuit}
 use Rattle.aiger.specs.Load.{refused, gives, load}
-use Rattle.aiger.specs.Frames.{run}
-use Rattle.aiger.specs.Search.{Outcome, found, permitted}
-use Rattle.aiger.specs.Witness.{witness}
-use Rattle.aiger.specs.Operations.{searchTests}
+use Rattle.aiger.specs.Search.{Outcome, permitted, firstWitness}
+use Rattle.aiger.specs.Operations.{judge, searchTests}
 
 pub record Request : Type 0 where
   pub b : ℕ
@@ -31,7 +29,7 @@ request f = do
 
 -- "It prints `found t`, `none k`, `spent t` or `refused number`, then the witness if found."
 unfoldable pub report : Circuit → ℕ → Outcome → List ℕ
-report c b (found t x) = bytes "found " ++ digits t ++ bytes "\n" ++ witness b (run c t x)
+report c b (Outcome.found t) = bytes "found " ++ digits t ++ bytes "\n" ++ firstWitness c b t
 report c b (Outcome.none k) = bytes "none " ++ digits k ++ bytes "\n"
 report c b (Outcome.spent t) = bytes "spent " ++ digits t ++ bytes "\n"
 
@@ -46,7 +44,7 @@ pub data Prints (chosen : Circuit → ℕ → ℕ → ℕ → Outcome) (input : 
   noRequest : length input ≤ 65536 → request input ≡ none → Prints chosen input (refusalLine 11)
   notLoaded : length input ≤ 65536 → (q : Request) → request input ≡ some q → {n : ℕ} → load 8192 (q .file) ≡ refused n → Prints chosen input (refusalLine n)
   notSearched : length input ≤ 65536 → (q : Request) → request input ≡ some q → (c : Circuit) → load 8192 (q .file) ≡ gives c
-      → {n : ℕ} → searchTests c (q .b) (q .k) (q .D) 8192 2048 ≡ refused n → Prints chosen input (refusalLine n)
+      → {n : ℕ} → judge (searchTests c (q .b) (q .k) (q .D) 8192 2048) ≡ refused n → Prints chosen input (refusalLine n)
   answers : length input ≤ 65536 → (q : Request) → request input ≡ some q → (c : Circuit) → load 8192 (q .file) ≡ gives c
-      → searchTests c (q .b) (q .k) (q .D) 8192 2048 ≡ gives tt → (o : Outcome) → chosen c (q .b) (q .k) (q .D) ≡ o → T (permitted c (q .b) (q .k) (q .D) o)
+      → judge (searchTests c (q .b) (q .k) (q .D) 8192 2048) ≡ gives tt → (o : Outcome) → chosen c (q .b) (q .k) (q .D) ≡ o → T (permitted c (q .b) (q .k) (q .D) o)
       → Prints chosen input (report c (q .b) o)

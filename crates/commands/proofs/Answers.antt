@@ -4,20 +4,18 @@ use mathlib.Core.Bool.{Bool}
 use mathlib.Core.List.{List}
 use Prim.Native.Nat.{ℕ, _≤_}
 use native.Mathlib.Omega.{arith}
-use borrow.Author.Tests.{le-leb}
-use lib.Dec.{leb}
 use lib.ListN.{length, take, drop, length-append}
 use lib.Seq.{take-at}
 use Rattle.aiger.specs.Circuit.{Circuit}
-use Rattle.aiger.specs.Load.{Answer, refused, gives, test, load}
+use Rattle.aiger.specs.Load.{Answer, refused, gives, load}
 use Rattle.aiger.specs.Write.{write}
 use Rattle.aiger.specs.Memory.{Holds}
-use Rattle.aiger.specs.Operations.{front, foldTests, Folded, Replayed, Written}
+use Rattle.aiger.specs.Operations.{front, judge, foldTests, Folded, Replayed, Written}
 use Rattle.layout.specs.Words.{circuitIn}
 use Rattle.roundtrip.proofs.LoadWrite.{text-short}
 use Rattle.roundtrip.proofs.LoadValid.{gives-same}
-use Rattle.roundtrip.proofs.Holding.{held, held-valid, one-circuit}
-use Rattle.roundtrip.proofs.Determined.{written-same, replayed-same}
+use Rattle.roundtrip.proofs.Holding.{held, held-valid}
+use Rattle.roundtrip.proofs.Determined.{written-same, written-in, replayed-out, acted, refused-as}
 use Rattle.job.specs.Replies.{Shows}
 use Rattle.job.proofs.Printing.{Stored}
 use Rattle.fold.specs.Chosen.{chosen}
@@ -34,14 +32,14 @@ front-inside text out e = omega (arith, length-append text (drop (length text) o
 
 -- write, on a loaded circuit
 module _ {m out out′ : List ℕ} {a : Answer ℕ} (h : Holds m (circuitIn m)) (room : 65536 ≤ length out) (w : Written m out a out′) where
-  fits : test 13 (leb (length (write (circuitIn m))) (length out)) ≡ gives tt
-  fits = rw (le-leb (length (write (circuitIn m))) (length out) (omega (arith, text-short (held-valid h))))
+  written : Written m out (gives (length (write (circuitIn m)))) (front (write (circuitIn m)) out)
+  written = written-in (circuitIn m) h (omega (arith, text-short (held-valid h)))
 
   pub write-gives : a ≡ gives (length (write (circuitIn m)))
-  write-gives = written-same w (Written.writes (circuitIn m) h fits) .0
+  write-gives = written-same w written .0
 
   pub write-leaves : out′ ≡ front (write (circuitIn m)) out
-  write-leaves = written-same w (Written.writes (circuitIn m) h fits) .1
+  write-leaves = written-same w written .1
 
   pub write-shown : (line : List ℕ) {n : ℕ} → a ≡ gives n → Leaves line out′ (record { line = 0; out = n }) (write (circuitIn m))
   write-shown line e =
@@ -60,7 +58,7 @@ module _ {m out out′ : List ℕ} {a : Answer ℕ} (h : Holds m (circuitIn m)) 
 
 -- replay, on a loaded circuit
 pub replay-says : {m text : List ℕ} {a : Answer Bool} → Holds m (circuitIn m) → Replayed m text a → a ≡ replayAnswer (circuitIn m) text
-replay-says {m} h r = replayed-same r (Replayed.says (circuitIn m) h)
+replay-says {m} h r = replayed-out (circuitIn m) h r
 
 pub replay-shown : {m text : List ℕ} {a b : Answer Bool} {line : List ℕ} {n : ℕ} → Holds m (circuitIn m) → Replayed m text a → a ≡ b
     → Shows line n (textOf yesText b) → Shows line n (textOf yesText (replayAnswer (circuitIn m) text))
@@ -68,19 +66,16 @@ replay-shown {line = line} {n = n} h r e s = subst (λ (x : Answer Bool). Shows 
 
 -- fold, on a loaded circuit
 pub fold-refused : {m w out w′ out′ : List ℕ} {c : Circuit} {b t : ℕ} {a : Answer ℕ} {n : ℕ} → Holds m c → Folded chosen m b t w out a w′ out′
-    → a ≡ refused n → foldTests c b t (length w) (length out) ≡ refused n
-fold-refused {c = c} h (Folded.noCircuit f) e = absurd (f c h)
-fold-refused {n = n} h (Folded.refuses d {n = j} k q) e = let z : j ≡ n = cc in rw (one-circuit h k) (q ∙ ap refused z)
-fold-refused h (Folded.writes d k q p l) e = let z : _≡_ {A = ℕ} 0 1 = cc in absurd (omega arith)
+    → a ≡ refused n → judge (foldTests c b t (length w) (length out)) ≡ refused n
+fold-refused h f e = refused-as h f e .0
 
 pub fold-shown : {m w out w′ out′ : List ℕ} {c : Circuit} {b t : ℕ} {a : Answer ℕ} {n : ℕ} → Holds m c → Folded chosen m b t w out a w′ out′
     → a ≡ gives n → FoldTexts c b t (length w) (length out) (take n out′) × (n ≤ length out′)
-fold-shown {c = c} h (Folded.noCircuit f) e = absurd (f c h)
-fold-shown h (Folded.refuses d k q) e = let z : _≡_ {A = ℕ} 0 1 = cc in absurd (omega arith)
-fold-shown {out = out} {b = b} {t = t} h (Folded.writes d k q p l) e =
-    let n = gives-same e in
-    let text = write (chosen d b t) in
-    (rw (one-circuit h k, front-taken text out n) (FoldTexts.writes q p), front-inside text out n)
+fold-shown {out = out} {c = c} {b = b} {t = t} h f e =
+    let r = acted h f e in
+    let d = chosen c b t in
+    let n = sym (r .1 .count) in
+    (rw (r .1 .shows, front-taken (write d) out n) (FoldTexts.writes (r .0) (r .1 .permitted)), rw (r .1 .shows) (front-inside (write d) out n))
 
 -- a file that is not loaded, and one that is
 module _ (m f : List ℕ) (room : length m ≡ 33032) where

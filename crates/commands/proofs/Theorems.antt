@@ -1,20 +1,21 @@
 -- The lent memories suffice: numbers 4 and 13 do not occur, and 12 only for a size above 65,536. Assumes nothing.
-use mathlib.Core.Path.{_≡_, refl}
+use mathlib.Core.Path.{_≡_, refl, sym, _∙_}
 use mathlib.Core.Bool.{Bool, true, false, _&&_}
-use mathlib.Core.List.{List}
+use mathlib.Core.List.{List, [], _∷_}
 use mathlib.Core.Option.{Option, none, some}
 use Prim.Native.Nat.{ℕ, _+_, _*_, _≤_, _<_}
 use native.Mathlib.Decide.{decLt}
 use native.Mathlib.Omega.{arith}
 use borrow.Author.Tests.{le-leb}
-use lib.Dec.{leb, ltb, leb→le}
+use lib.Dec.{leb, leb→le, le→leb}
 use lib.ListN.{length}
 use Rattle.aiger.specs.Circuit.{Circuit, literalsRight, usedDefined, acyclic}
 use Rattle.aiger.specs.File.{Header, header, countTests, countsFit, body}
 use Rattle.aiger.specs.Load.{Answer, refused, gives, test, read, load, needed, _>>=_, _>>_}
 use Rattle.aiger.specs.Frames.{size}
-use Rattle.aiger.specs.Operations.{foldTests}
-use Rattle.aiger.proofs.Tests.{T-true, and-left, all-at}
+use Rattle.aiger.specs.Operations.{Test, need, judge, badTest, foldTests}
+use Rattle.aiger.proofs.Tests.{T-true, and, and-left, all-at}
+use Rattle.limits.proofs.Refusals.{judge-past, judge-passed, judge-last}
 
 -- a refusal with another number than n is not that of test n
 past : {A : Type 0} (n m : ℕ) (b : Bool) (r : Answer A) → (n ≡ m → ⊥) → (test n b >> r) ≡ refused m → (b ≡ true) × (r ≡ refused m)
@@ -28,10 +29,6 @@ past-read n m (some x) f h e = (x, e)
 
 given : {A : Type 0} {a : A} {m : ℕ} → gives a ≡ refused m → ⊥
 given e = let z : _≡_ {A = ℕ} 0 1 = cc in omega arith
-
-other : (n m : ℕ) (b : Bool) → (n ≡ m → ⊥) → test n b ≡ refused m → ⊥
-other n m true h e = given e
-other n m false h e = let z : n ≡ m = cc in h z
 
 -- load, from number 6 on, and from number 3 on
 abbrev judged : Circuit → Answer Circuit
@@ -74,30 +71,31 @@ module _ (c : Circuit) (b t : ℕ) where
   abbrev words-needed : Bool
   words-needed = leb (size c t) 65536 && leb (16 * size c t) 1048576
 
+  abbrev last : List Test
+  last = need 13 bytes-needed ∷ []
+
   -- the tests before number 12 are passed
-  sized : (n : ℕ) → (10 ≡ n → ⊥) → (11 ≡ n → ⊥) → foldTests c b t 1048576 1572928 ≡ refused n
-      → (test 12 words-needed >> test 13 bytes-needed) ≡ refused n
-  unfolding foldTests
+  sized : (n : ℕ) → (10 ≡ n → ⊥) → (11 ≡ n → ⊥) → judge (foldTests c b t 1048576 1572928) ≡ refused n → judge (need 12 words-needed ∷ last) ≡ refused n
   sized n p q e =
-      let after = test 12 words-needed >> test 13 bytes-needed in
-      let x = past 10 n (ltb b (length (c .bads))) (test 11 (leb t 255) >> after) p e in
-      past 11 n (leb t 255) after q (x .1) .1
+      let after = need 12 words-needed ∷ last in
+      let x = judge-past (badTest c b) (need 11 (leb t 255 && true) ∷ after) n p e in
+      judge-past (need 11 (leb t 255 && true)) after n q (x .1) .1
 
-  pub output-suffices : foldTests c b t 1048576 1572928 ≡ refused 13 → ⊥
+  pub output-suffices : judge (foldTests c b t 1048576 1572928) ≡ refused 13 → ⊥
   output-suffices e =
-      let x = past 12 13 words-needed (test 13 bytes-needed) (λ q. omega arith) (sized 13 (λ q. omega arith) (λ q. omega arith) e) in
-      let s = leb→le (size c t) 65536 (and-left (leb (size c t) 65536) (leb (16 * size c t) 1048576) (T-true (x .0))) in
-      let f : bytes-needed ≡ true = le-leb (24 * size c t + 64) 1572928 (omega arith) in
-      given (rw f at (x .1))
+      let x = judge-past (need 12 words-needed) last 13 (λ q. omega arith) (sized 13 (λ q. omega arith) (λ q. omega arith) e) in
+      let s = leb→le (size c t) 65536 (and-left (leb (size c t) 65536) (leb (16 * size c t) 1048576) (x .0)) in
+      judge-last 13 13 bytes-needed (le→leb (24 * size c t + 64) 1572928 (omega arith)) (x .1)
 
-  pub work-suffices : foldTests c b t 1048576 1572928 ≡ refused 12 → 65536 < size c t
+  pub work-suffices : judge (foldTests c b t 1048576 1572928) ≡ refused 12 → 65536 < size c t
   work-suffices e =
       elim (decLt 65536 (size c t)) [
         | yes l ↦ l
         | no l ↦
-            let s : leb (size c t) 65536 ≡ true = le-leb (size c t) 65536 (omega arith) in
-            let w : leb (16 * size c t) 1048576 ≡ true = le-leb (16 * size c t) 1048576 (omega arith) in
-            let r : (test 12 words-needed >> test 13 bytes-needed) ≡ refused 12 = sized 12 (λ q. omega arith) (λ q. omega arith) e in
-            let y : test 13 bytes-needed ≡ refused 12 = rw (s, w) at r in
-            absurd (other 13 12 bytes-needed (λ q. omega arith) y)
+            let s = le→leb (size c t) 65536 (omega arith) in
+            let w = le→leb (16 * size c t) 1048576 (omega arith) in
+            let f = le→leb (24 * size c t + 64) 1572928 (omega arith) in
+            let p = and (leb (size c t) 65536) (leb (16 * size c t) 1048576) s w in
+            let r : judge (need 12 words-needed ∷ last) ≡ refused 12 = sized 12 (λ q. omega arith) (λ q. omega arith) e in
+            absurd (judge-last 13 12 bytes-needed f (sym (judge-passed (need 12 words-needed) last p) ∙ r))
       ]

@@ -9,7 +9,7 @@ use Rattle.aiger.specs.Load.{refused, gives}
 use Rattle.aiger.specs.Fold.{folds}
 use Rattle.fold.specs.Chosen.{chosen}
 use Rattle.aiger.specs.Write.{write}
-use Rattle.aiger.specs.Operations.{foldTests}
+use Rattle.aiger.specs.Operations.{judge, foldTests}
 use Rattle.commands.specs.Refusal.{refusalText}
 use Rattle.commands.specs.declared.Report.{Report}
 
@@ -21,5 +21,5 @@ pub record Leaves (line out : List ℕ) (r : Report) (text : List ℕ) : Type 0 
 
 -- what fold may print for a loaded circuit, where working memory has `room` words and the output `len` bytes
 pub data FoldTexts (c : Circuit) (b t room len : ℕ) : List ℕ → Type 0 where
-  refuses : {n : ℕ} → foldTests c b t room len ≡ refused n → FoldTexts c b t room len (refusalText n)
-  writes : foldTests c b t room len ≡ gives tt → T (folds c b t (chosen c b t)) → FoldTexts c b t room len (write (chosen c b t))
+  refuses : {n : ℕ} → judge (foldTests c b t room len) ≡ refused n → FoldTexts c b t room len (refusalText n)
+  writes : judge (foldTests c b t room len) ≡ gives tt → T (folds c b t (chosen c b t)) → FoldTexts c b t room len (write (chosen c b t))

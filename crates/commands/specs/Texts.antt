@@ -11,7 +11,7 @@ use Rattle.aiger.specs.Witness.{readWitness, confirms}
 use Rattle.aiger.specs.Write.{write}
 use Rattle.aiger.specs.Fold.{folds}
 use Rattle.fold.specs.Chosen.{chosen}
-use Rattle.aiger.specs.Operations.{foldTests}
+use Rattle.aiger.specs.Operations.{judge, foldTests}
 use Rattle.commands.specs.Refusal.{refusalText}
 
 -- the text of a value, or the line of a refusal
@@ -39,7 +39,7 @@ replayText file witness = textOf yesText (load 33032 file >>= λ c. replayAnswer
 -- given for a greater size only, and 13 never
 pub data FoldPrints (file : List ℕ) (b t : ℕ) : List ℕ → Type 0 where
   notLoaded : {n : ℕ} → load 33032 file ≡ refused n → FoldPrints file b t (refusalText n)
-  notFolded : (c : Circuit) → load 33032 file ≡ gives c → {n : ℕ} → foldTests c b t 1048576 1572928 ≡ refused n
+  notFolded : (c : Circuit) → load 33032 file ≡ gives c → {n : ℕ} → judge (foldTests c b t 1048576 1572928) ≡ refused n
       → FoldPrints file b t (refusalText n)
-  folded : (c : Circuit) → load 33032 file ≡ gives c → foldTests c b t 1048576 1572928 ≡ gives tt → T (folds c b t (chosen c b t))
+  folded : (c : Circuit) → load 33032 file ≡ gives c → judge (foldTests c b t 1048576 1572928) ≡ gives tt → T (folds c b t (chosen c b t))
       → FoldPrints file b t (write (chosen c b t))

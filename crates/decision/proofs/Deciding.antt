@@ -15,7 +15,7 @@ use Rattle.aiger.specs.Search.{Decision, onward, decides, question, reaches}
 use Rattle.aiger.proofs.Tests.{and, and-right}
 use Rattle.meaning.proofs.Decisions.{Says, decides-in}
 use Rattle.enumeration.specs.Choice.{leastBelow, decided, decision, decisionAt}
-use Rattle.enumeration.proofs.Least.{Least, least}
+use Rattle.meaning.proofs.Decisions.{Least, least-below}
 use Rattle.enumeration.proofs.Laws.{hit-first, clear-none, spent-first}
 use Rattle.support.specs.Counting.{rank, passed}
 use Rattle.support.specs.Support.{support}
@@ -29,7 +29,7 @@ module _ (p : ℕ → Bool) (places R : ℕ) where
 
   pub hit-at : (x : ℕ) → x < R → x < places → T (p x) → ((y : ℕ) → y < x → T (p y) → ⊥) → decision p places 0 R ≡ Decision.hit x
   unfolding decision
-  hit-at x l f t first = go (leastBelow (min places (0 + R)) (onward 0 p)) (least (onward 0 p) (min places (0 + R)))
+  hit-at x l f t first = go (leastBelow (min places (0 + R)) (onward 0 p)) (least-below (onward 0 p) (min places (0 + R)))
     where
       go : (o : Option ℕ) → Least (onward 0 p) (min places (0 + R)) o → decided o (cond (leb places (0 + R)) Decision.clear Decision.spent) ≡ Decision.hit x
       go (some z) h =
@@ -40,7 +40,7 @@ module _ (p : ℕ → Bool) (places R : ℕ) where
 
   none-at : ((y : ℕ) → y < min places (0 + R) → T (p y) → ⊥) → decision p places 0 R ≡ cond (leb places (0 + R)) Decision.clear Decision.spent
   unfolding decision
-  none-at none-below = go (leastBelow (min places (0 + R)) (onward 0 p)) (least (onward 0 p) (min places (0 + R)))
+  none-at none-below = go (leastBelow (min places (0 + R)) (onward 0 p)) (least-below (onward 0 p) (min places (0 + R)))
     where
       go : (o : Option ℕ) → Least (onward 0 p) (min places (0 + R)) o
           → decided o (cond (leb places (0 + R)) Decision.clear Decision.spent) ≡ cond (leb places (0 + R)) Decision.clear Decision.spent
@@ -86,7 +86,7 @@ module _ (p : ℕ → Bool) (places R : ℕ) where
   -- the place of a hit is one that is tried
   pub hit-tried : {x : ℕ} → decision p places 0 R ≡ Decision.hit x → x < min places (0 + R)
   unfolding decision
-  hit-tried {x} e = go (leastBelow (min places (0 + R)) (onward 0 p)) (least (onward 0 p) (min places (0 + R))) (leb places (0 + R)) e
+  hit-tried {x} e = go (leastBelow (min places (0 + R)) (onward 0 p)) (least-below (onward 0 p) (min places (0 + R))) (leb places (0 + R)) e
     where
       go : (o : Option ℕ) → Least (onward 0 p) (min places (0 + R)) o → (q : Bool) → decided o (cond q Decision.clear Decision.spent) ≡ Decision.hit x → x < min places (0 + R)
       go (some z) h q e = let s : z ≡ x = cc in subst (λ (y : ℕ). y < min places (0 + R)) s (h .0)

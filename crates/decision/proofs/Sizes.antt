@@ -12,8 +12,8 @@ use Rattle.layout.specs.Words.{circuitIn}
 use Rattle.layout.specs.Layout.{LayoutOf}
 use Rattle.layout.specs.declared.Layout.{Layout}
 use Rattle.frames.proofs.Facts.{counts, constraint-count, gate-count}
-use Rattle.enumeration.proofs.Facts.{inputs-are}
-use Rattle.enumeration.proofs.Starts.{starts-few}
+use Rattle.frames.proofs.Places.{inputs-are}
+use Rattle.frames.proofs.Starts.{starts-few}
 
 -- k + 1 frames of at most 3,344 units
 pub product-small : (k s : ℕ) → k ≤ 255 → s ≤ 3344 → (k + 1) * s ≤ 856064

@@ -3,7 +3,7 @@ use mathlib.Core.Path.{_≡_, sym, ap, ap₂, _∙_, subst}
 use mathlib.Core.Bool.{Bool, false}
 use mathlib.Core.List.{List, []}
 use Prim.Native.Nat.{ℕ, suc, _+_, _-_, _*_, _≤_, _<_}
-use native.Mathlib.Nat.{mul-suc, mul-le-mul-left, mul-le-mul-right}
+use native.Mathlib.Nat.{mul-suc, mul-le-mul-left}
 use native.Mathlib.Numerals.{add-one}
 use native.Mathlib.Omega.{arith}
 use lib.Dec.{T}
@@ -20,12 +20,9 @@ use Rattle.meaning.proofs.Values.{Valuation, state-start}
 use Rattle.meaning.proofs.Sequences.{run-input}
 use Rattle.frames.specs.Lanes.{lane, Ready, Evaluated, Advanced, hitIn}
 use Rattle.frames.proofs.Laws.{hit-of-run, next-leaves}
-use Rattle.enumeration.specs.Blocks.{startBit, Given}
-use Rattle.enumeration.proofs.Starts.{start-of-run}
-
--- a circuit that is ready is so with another number of words, if they suffice
-pub ready-with : {m : List ℕ} {layout : Layout} {order : List ℕ} {count n : ℕ} → Ready m layout order count → word m 0 < n → Ready m layout order n
-ready-with r h = record { held = r .held; layout-of = r .layout-of; ordered = r .ordered; ranks = r .ranks; room = h }
+use Rattle.frames.specs.Starts.{startBit}
+use Rattle.enumeration.specs.Blocks.{Given}
+use Rattle.frames.proofs.Starts.{start-of-run, latches-room}
 
 -- the inputs have the free bits from top - 1 down; the latches have their start values
 abbrev pub InputsGiven : Circuit → ℕ → ℕ → List ℕ → List ℕ → Type 0
@@ -44,21 +41,6 @@ Valued c t block u values =
 -- top free bits remain before the inputs of frame u are given theirs
 abbrev pub Remaining : Circuit → ℕ → ℕ → ℕ → Type 0
 Remaining c t u top = freeStarts c + length (c .inputs) * u + top ≡ freeBits c t
-
--- the number of free bits, and that it is small
-pub bits-are : (c : Circuit) (t : ℕ) {free i : ℕ} → free ≡ freeStarts c → i ≡ length (c .inputs) → free + i * (t + 1) ≡ freeBits c t
-unfolding freeBits
-bits-are c t e f = ap₂ (λ (x y : ℕ). x + y * (t + 1)) e f
-
-pub bits-few : (i t : ℕ) → i ≤ 256 → t ≤ 255 → i * (t + 1) ≤ 65536
-bits-few i t h l =
-    let a : i * (t + 1) ≤ 256 * (t + 1) = mul-le-mul-right (t + 1) h in
-    omega arith
-
--- the latches' free bits are among the free bits; the inputs' remain after them
-pub latches-room : (c : Circuit) (t : ℕ) → freeStarts c ≤ freeBits c t
-unfolding freeBits
-latches-room c t = omega arith
 
 pub row-first : (c : Circuit) (t n free : ℕ) → n ≡ freeBits c t → free ≡ freeStarts c → Remaining c t 0 (n - free)
 row-first c t n free e f = omega (arith, latches-room c t)

@@ -11,14 +11,6 @@ use Rattle.aiger.specs.Frames.{isFree, freeBit}
 use Rattle.meaning.specs.Frame.{latchAt}
 use Rattle.frames.specs.Lanes.{lane}
 
--- the number of latches with a free start before latch j
-unfoldable pub freeBefore : Circuit → ℕ → ℕ
-freeBefore c j = tally isFree (take j (c .latches))
-
--- the start value of latch j in sequence x of n free bits
-unfoldable pub startBit : Circuit → ℕ → ℕ → ℕ → Bool
-startBit c n x j = cond (isFree (latchAt c j)) (freeBit n x (freeBefore c j)) (eqb (latchAt c j .reset) 1)
-
 -- after has at place j, for each j below n, a word with value j p in run p; the other words are as before
 pub record Given (place : ℕ → ℕ) (value : ℕ → ℕ → Bool) (n : ℕ) (before after : List ℕ) : Type 0 where
   pub new : (j : ℕ) → j < n → (p : ℕ) → p < 64 → lane after p (place j) ≡ value j p

@@ -14,7 +14,8 @@ ghost use Rattle.layout.specs.Words.{word, circuitIn};
 ghost use Rattle.layout.specs.Layout.{LayoutOf};
 ghost use Rattle.meaning.specs.Frame.{inputAt, latchAt};
 ghost use Rattle.frames.specs.Lanes.{Ready};
-ghost use Rattle.enumeration.specs.Blocks.{startBit, Given, First};
+ghost use Rattle.frames.specs.Starts.{startBit};
+ghost use Rattle.enumeration.specs.Blocks.{Given, First};
 ghost use Rattle.enumeration.specs.Frame.{FreeBits, FrameIs};
 
 // What a frame has: a first hit; no hit; or more sequences than the budget, of which the first ones do not hit.
@@ -22,30 +23,6 @@ pub enum Frame {
     Hit,
     Clear,
     Spent,
-}
-
-// 1 for a latch with a free start, else 0.
-pub fn free_start(lit: u32, reset: u32) -> usize
-    ensures { λ r. ⌜ r ≡ cond (eqb reset lit) 1 0 ⌝ }
-{
-    if reset == lit { 1 } else { 0 }
-}
-
-// The number of latches with a free start.
-pub fn free_starts(m: &[u32], layout: Layout) -> usize
-    requires { ⌜ Holds (now m) (circuitIn (now m)) ⌝ }
-    requires { ⌜ LayoutOf (now m) layout ⌝ }
-    ensures { λ r. ⌜ r ≡ freeStarts (circuitIn (now (m .entry))) ⌝ }
-{
-    let count = layout.l;
-    let latches = layout.latches;
-    let mut free = 0;
-    let mut j = 0;
-    while j < count {
-        free += free_start(m[latches + 3 * j], m[latches + 3 * j + 2]);
-        j += 1;
-    }
-    free
 }
 
 // The start values of a latch in a block of 64 sequences. Where its start is free it has bit k of each sequence.
@@ -72,7 +49,7 @@ fn put_starts(m: &[u32], layout: Layout, n: usize, block: u64, values: &mut [u64
     while j < count {
         let lit = m[latches + 3 * j];
         let reset = m[latches + 3 * j + 2];
-        left -= free_start(lit, reset);
+        left -= layout::free_start(lit, reset);
         let v = (lit / 2) as usize;
         values[v] = start_word(lit, reset, left, block);
         j += 1;
@@ -257,7 +234,7 @@ pub fn first_hit(
     requires { ⌜ freeBits (circuitIn (now m)) t ≤ length (now work) ⌝ }
     ensures { λ r. ⌜ FrameIs (circuitIn (now (m .entry))) b t d (now (work .exit)) r ⌝ }
 {
-    let free = free_starts(m, layout);
+    let free = layout.u;
     let n = free + layout.i * (t + 1);
     let total = tries(n, d);
     let x = first_below(m, layout, order, b, t, n, free, total);

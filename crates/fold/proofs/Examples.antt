@@ -10,7 +10,7 @@ use Rattle.aiger.specs.Frames.{freeStarts, freeBits}
 use Rattle.aiger.specs.Write.{lineOf, linesOf, latchRow, write}
 use Rattle.aiger.specs.Examples.{onLoaded}
 use Rattle.layout.specs.Order.{driver, completed, placedFrom, depthFirst}
-use Rattle.enumeration.specs.Blocks.{freeBefore}
+use Rattle.frames.specs.Starts.{freeBefore}
 use Rattle.nodes.specs.Graph.{leaves, grown, nodeValues}
 use Rattle.graph.specs.Rules.{basic, lowered, simplified}
 use Rattle.graph.specs.Chosen.{hasOperands, isTwin, twinOf, conjoin}

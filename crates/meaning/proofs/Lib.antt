@@ -2,6 +2,7 @@ pub mod Lists
 pub mod Defined
 pub mod Cycles
 pub mod Values
+pub mod Runs
 pub mod Decisions
 pub mod Outcomes
 pub mod Bits

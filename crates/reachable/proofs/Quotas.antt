@@ -18,8 +18,8 @@ use Rattle.layout.specs.Words.{circuitIn}
 use Rattle.layout.specs.Layout.{LayoutOf}
 use Rattle.layout.specs.declared.Layout.{Layout}
 use Rattle.frames.proofs.Facts.{counts, constraint-count, gate-count}
-use Rattle.enumeration.proofs.Facts.{inputs-are, latches-are}
-use Rattle.enumeration.proofs.Starts.{starts-few}
+use Rattle.frames.proofs.Places.{inputs-are, latches-are}
+use Rattle.frames.proofs.Starts.{starts-few}
 use Rattle.reachable.specs.Quota.{effort, quota}
 
 -- a larger dividend has no smaller quotient

@@ -12,12 +12,13 @@ use Rattle.aiger.specs.Load.{refused, gives, read, _>>=_}
 use Rattle.aiger.specs.Frames.{Run, hits}
 use Rattle.aiger.specs.Memory.{Holds}
 use Rattle.aiger.specs.Witness.{Witness, bits, bitRows, readRun, readWitness, agrees, confirms}
-use Rattle.aiger.specs.Operations.{Replayed, says}
+use Rattle.aiger.specs.Operations.{Replayed}
+use Rattle.roundtrip.proofs.Determined.{replayed-in}
 use Rattle.layout.specs.Words.{circuitIn}
 use Rattle.layout.specs.Layout.{LayoutOf}
 use Rattle.layout.specs.declared.Layout.{Layout}
 use Rattle.frames.proofs.Facts.{bad-count}
-use Rattle.enumeration.proofs.Facts.{inputs-are, latches-are}
+use Rattle.frames.proofs.Places.{inputs-are, latches-are}
 use Rattle.witness.specs.Line.{values}
 use Rattle.replay.specs.Texts.{RowsAt, Counted, malformed, wellFormed, TextFits, RunAt}
 
@@ -63,7 +64,7 @@ module _ {m : List ℕ} {layout : Layout} (held : Holds m (circuitIn m)) (a : La
   c = circuitIn m
 
   answer : {w : Option Witness} → readWitness c text ≡ w → Replayed m text (read 14 w >>= λ x. gives (confirms c x))
-  answer e = subst (λ (w : Option Witness). Replayed m text (read 14 w >>= λ x. gives (confirms c x))) e (says c held)
+  answer e = subst (λ (w : Option Witness). Replayed m text (read 14 w >>= λ x. gives (confirms c x))) e (replayed-in c held)
 
   -- the text is no witness
   pub refuses : readWitness c text ≡ none → Replayed m text (refused 14)

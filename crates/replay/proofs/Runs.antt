@@ -18,7 +18,7 @@ use Rattle.meaning.proofs.Values.{Valuation, state-start}
 use Rattle.frames.specs.Lanes.{lane, Ready, Apart, Stored, Evaluated, Advanced, hitIn}
 use Rattle.frames.proofs.Facts.{right, known, no-cycle, latches-are}
 use Rattle.frames.proofs.Laws.{hit-of-run, next-leaves}
-use Rattle.enumeration.proofs.Facts.{inputs-are, input-var, input-small, inputs-differ, latch-var}
+use Rattle.frames.proofs.Places.{inputs-are, input-var, input-small, inputs-differ, latch-var}
 use Rattle.witness.specs.Line.{values}
 use Rattle.witness.proofs.Lines.{value-at}
 use Rattle.replay.specs.Texts.{bitWord, wordAt, inputVar, latchVar, RunAt}

@@ -11,30 +11,22 @@ use native.Mathlib.Omega.{arith}
 use lib.Dec.{T}
 use lib.ListN.{length, getD}
 use Rattle.aiger.specs.Circuit.{Circuit}
-use Rattle.aiger.specs.Load.{Answer, gives, read, _>>=_}
+use Rattle.aiger.specs.Load.{Answer, gives}
 use Rattle.aiger.specs.Frames.{Run, freeBits, run, hits, allowed, valueAt}
-use Rattle.aiger.specs.Search.{question, Outcome, reaches, reachesIn, permitted}
+use Rattle.aiger.specs.Search.{question, Outcome, reaches, reachesIn, permitted, firstWitness}
 use Rattle.aiger.specs.Witness.{Witness, witness, readWitness, agrees, confirms}
 use Rattle.aiger.specs.Memory.{Holds}
-use Rattle.aiger.specs.Operations.{Replayed, noCircuit, says}
+use Rattle.aiger.specs.Operations.{Replayed}
 use Rattle.aiger.proofs.Tests.{and-left, and-right, true-T, T-true}
 use Rattle.roundtrip.proofs.LoadWrite.{counts-fit}
-use Rattle.roundtrip.proofs.Holding.{one-circuit, held-valid}
+use Rattle.roundtrip.proofs.Holding.{held-valid}
+use Rattle.roundtrip.proofs.Determined.{judgement, replayed-out}
 use Rattle.roundtrip.proofs.Witness.{run-back}
 use Rattle.roundtrip.proofs.WitnessRead.{read-exact}
 use Rattle.meaning.proofs.Values.{zero-value}
-use Rattle.meaning.proofs.Outcomes.{found-out, none-out}
+use Rattle.meaning.proofs.Outcomes.{found-out, none-out, first-witness}
 use Rattle.meaning.proofs.Sequences.{run-shaped, run-agrees, every-run}
 use Rattle.replay.proofs.Reading.{read-shaped}
-
--- the answer for a circuit and what was read
-abbrev judgement : Circuit → Option Witness → Answer Bool
-judgement c w = read 14 w >>= λ x. gives (confirms c x)
-
--- replay's answer is the one for the circuit that the memory holds
-judged : {m text : List ℕ} {a : Answer Bool} (c : Circuit) → Holds m c → Replayed m text a → a ≡ judgement c (readWitness c text)
-judged c h (noCircuit n) = absurd (n c h)
-judged {text = text} c h (says d k) = ap (λ (x : Circuit). judgement x (readWitness x text)) (one-circuit k h)
 
 -- ---- yes to every hit
 
@@ -73,14 +65,15 @@ module _ {m : List ℕ} (c : Circuit) (h : Holds m c) where
   -- replay says yes to the witness of every sequence of at most 256 frames that hits; b is then below B
   pub hit-yes : {a : Answer Bool} (b t x : ℕ) → t ≤ 255 → T (reaches c b t x) → Replayed m (witness b (run c t x)) a → a ≡ gives true
   hit-yes b t x l p r =
-      judged c h r
+      replayed-out c h r
       ∙ ap (judgement c) (run-back c b t x (bad-below b (run c t x) t (reach-hit b t x p)) (counts-fit c (held-valid h .fit) .bads) l)
       ∙ ap gives (confirms-run b t x p)
 
   -- so to every witness that a search shows
-  pub shown-yes : {a : Answer Bool} (b k D t x : ℕ) → T (permitted c b k D (Outcome.found t x)) → t ≤ 255 → Replayed m (witness b (run c t x)) a
-      → a ≡ gives true
-  shown-yes b k D t x p l r = hit-yes b t x l (found-out (question c b) k D t x p .first .hit) r
+  pub shown-yes : {a : Answer Bool} (b k D t : ℕ) → T (permitted c b k D (Outcome.found t)) → t ≤ 255 → Replayed m (firstWitness c b t) a → a ≡ gives true
+  shown-yes {a} b k D t p l r =
+      let f = found-out (question c b) k D t p in
+      hit-yes b t (f .place) l (f .first .hit) (subst (λ (w : List ℕ). Replayed m w a) (first-witness c b t (f .place) (f .first)) r)
 
 -- ---- yes only to a hit
 
@@ -126,7 +119,7 @@ module _ (c : Circuit) (text : List ℕ) where
 
   -- what replay says yes to is a hit
   pub yes-hit : {m : List ℕ} → Holds m c → Replayed m text (gives true) → Hit c text
-  yes-hit h r = by-witness (readWitness c text) (counts-fit c (held-valid h .fit) .bads) refl (judged c h r)
+  yes-hit h r = by-witness (readWitness c text) (counts-fit c (held-valid h .fit) .bads) refl (replayed-out c h r)
 
   -- so it says yes exactly to the witnesses of hits
   pub yes-exactly : {m : List ℕ} {a : Answer Bool} → Holds m c → Replayed m text a → (a ≡ gives true) ↔ Hit c text

@@ -1,6 +1,5 @@
-pub mod Sizes
-pub mod Refusals
 pub mod Choice
 pub mod Answers
 pub mod Theorems
 pub mod ByLayers
+pub mod Within

@@ -7,8 +7,9 @@ use lib.Dec.{leb}
 use lib.ListN.{length}
 use Rattle.aiger.specs.Circuit.{Circuit}
 use Rattle.aiger.specs.Load.{Answer, refused, gives, load, _>>=_}
+use Rattle.aiger.specs.Search.{Outcome}
 use Rattle.aiger.specs.Memory.{Holds}
-use Rattle.aiger.specs.Operations.{front, HoldsNone, Loaded, Said, refusal, found, none, spent, Searched, Written, Replayed, Folded}
+use Rattle.aiger.specs.Operations.{front, HoldsNone, Loaded, Searched, Written, Replayed, Folded}
 use Rattle.load.specs.Preview.{countsOf, wordsNeeded}
 use Rattle.layout.specs.Words.{circuitIn}
 use Rattle.search.specs.Chosen.{chosen}
@@ -47,16 +48,16 @@ pub data TestCode (m : List ℕ) : ℕ → Type 0 where
   holds : Holds m (circuitIn m) → TestCode m 0
   holdsNone : HoldsNone m → TestCode m 9
 
-abbrev pub searchCode : Said → ℕ
-searchCode (found t) = t
-searchCode (none k) = 2 ^ 32 + k
-searchCode (spent t) = 2 * 2 ^ 32 + t
-searchCode (refusal n) = 3 * 2 ^ 32 + n
+abbrev pub searchCode : Answer Outcome → ℕ
+searchCode (gives (Outcome.found t)) = t
+searchCode (gives (Outcome.none k)) = 2 ^ 32 + k
+searchCode (gives (Outcome.spent t)) = 2 * 2 ^ 32 + t
+searchCode (refused n) = 3 * 2 ^ 32 + n
 
 pub record SearchCode (m : List ℕ) (b k D : ℕ) (w out : List ℕ) (r : ℕ) (w′ out′ : List ℕ) : Type 0 where
-  pub said : Said
-  pub searched : Searched chosen m b k D w out said w′ out′
-  pub code : r ≡ searchCode said
+  pub answer : Answer Outcome
+  pub searched : Searched chosen m b k D w out answer w′ out′
+  pub code : r ≡ searchCode answer
 
 abbrev pub replayCode : Answer Bool → ℕ
 replayCode (gives true) = 1

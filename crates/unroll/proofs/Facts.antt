@@ -13,7 +13,7 @@ use Rattle.layout.specs.declared.Layout.{Layout}
 use Rattle.meaning.proofs.Defined.{inputAt, latchAt, input-in, latch-in, definition}
 use Rattle.frames.specs.Lanes.{Ready, Apart}
 use Rattle.frames.proofs.Facts.{right}
-use Rattle.enumeration.proofs.Facts.{inputs-are, latches-are, input-var, latch-var, input-small, inputs-differ}
+use Rattle.frames.proofs.Places.{inputs-are, latches-are, input-var, latch-var, input-small, inputs-differ}
 use Rattle.unroll.specs.Map.{inputVar, latchVar}
 
 module _ {m : List ℕ} {layout : Layout} {order : List ℕ} {count : ℕ} (r : Ready m layout order count) where

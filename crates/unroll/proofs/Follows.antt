@@ -20,8 +20,8 @@ use Rattle.layout.specs.declared.Layout.{Layout}
 use Rattle.meaning.specs.Frame.{inputAt, latchAt}
 use Rattle.frames.specs.Lanes.{Ready}
 use Rattle.frames.proofs.Evaluation.{gateOn}
-use Rattle.enumeration.specs.Blocks.{freeBefore}
-use Rattle.enumeration.proofs.Facts.{inputs-are, latches-are, input-var, latch-var, latch-place}
+use Rattle.frames.specs.Starts.{freeBefore}
+use Rattle.frames.proofs.Places.{inputs-are, latches-are, input-var, latch-var, latch-place}
 use Rattle.literals.specs.Literal.{literal}
 use Rattle.nodes.specs.Graph.{Pair}
 use Rattle.nodes.specs.Store.{pairOf, pairsOf}

@@ -18,10 +18,10 @@ use Rattle.meaning.proofs.Sequences.{run-input, input-number}
 use Rattle.frames.specs.Lanes.{Ready, Leaves}
 use Rattle.frames.proofs.Facts.{right, known, no-cycle, gates-are}
 use Rattle.frames.proofs.Laws.{hit-of-run}
-use Rattle.enumeration.specs.Blocks.{freeBefore, startBit}
-use Rattle.enumeration.proofs.Facts.{inputs-are, latches-are, input-var, latch-var, latch-place}
-use Rattle.enumeration.proofs.Starts.{count-part, start-of-run}
-use Rattle.enumeration.proofs.Blocks.{latches-room}
+use Rattle.frames.specs.Starts.{freeBefore, startBit}
+use Rattle.frames.proofs.Places.{inputs-are, latches-are, input-var, latch-var, latch-place}
+use Rattle.frames.proofs.Starts.{count-part, start-of-run}
+use Rattle.frames.proofs.Starts.{latches-room}
 use Rattle.literals.specs.Literal.{literal}
 use Rattle.nodes.specs.Graph.{Pair, edgeValue}
 use Rattle.nodes.specs.Store.{pairsOf}

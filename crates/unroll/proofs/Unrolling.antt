@@ -8,8 +8,8 @@ use Rattle.aiger.specs.Frames.{freeBits}
 use Rattle.layout.specs.Words.{circuitIn}
 use Rattle.layout.specs.declared.Layout.{Layout}
 use Rattle.frames.proofs.Facts.{gates-are, constraints-are}
-use Rattle.enumeration.proofs.Facts.{inputs-are}
-use Rattle.enumeration.proofs.Blocks.{bits-are}
+use Rattle.frames.proofs.Places.{inputs-are}
+use Rattle.frames.proofs.Starts.{bits-are}
 use Rattle.nodes.specs.declared.Graph.{Graph}
 use Rattle.graph.specs.Stored.{Stored, Enough, emptyGraph}
 use Rattle.graph.specs.declared.Made.{Made}

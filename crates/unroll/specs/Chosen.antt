@@ -9,7 +9,7 @@ use Rattle.aiger.specs.Circuit.{Circuit, Gate, var}
 use Rattle.aiger.specs.Frames.{freeBits, freeStarts}
 use Rattle.layout.specs.Order.{gateAt, depthFirst}
 use Rattle.meaning.specs.Frame.{inputAt, latchAt}
-use Rattle.enumeration.specs.Blocks.{freeBefore}
+use Rattle.frames.specs.Starts.{freeBefore}
 use Rattle.nodes.specs.Graph.{Pair}
 use Rattle.nodes.specs.Edges.{wordEdge, edgeWord, opposite}
 use Rattle.graph.specs.Chosen.{Outcome, conjoin}

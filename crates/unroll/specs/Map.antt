@@ -13,7 +13,7 @@ use Rattle.literals.specs.Literal.{literal}
 use Rattle.layout.specs.declared.Layout.{Layout}
 use Rattle.frames.specs.Lanes.{Ready, Leaves, Computed, hitIn}
 use Rattle.frames.specs.Lanes as lanes
-use Rattle.enumeration.specs.Blocks.{freeBefore}
+use Rattle.frames.specs.Starts.{freeBefore}
 use Rattle.nodes.specs.Graph.{edgeValue}
 use Rattle.nodes.specs.Store.{pairsOf}
 use Rattle.nodes.specs.Edges.{edgeWord}

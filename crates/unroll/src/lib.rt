@@ -73,7 +73,7 @@ fn put_starts(m: &[u32], layout: Layout, map: &mut [u32])
         let reset = m[latches + 3 * j + 2];
         let l = Lit::from_word(lit);
         put_edge(map, l.var(), start_edge(lit, reset, next));
-        next += enumeration::free_start(lit, reset);
+        next += layout::free_start(lit, reset);
         j += 1;
     }
 }

@@ -6,8 +6,10 @@ use lib.ListN.{length, set, length-set}
 use lib.Seq.{getD-set-same}
 use Rattle.layout.specs.Words.{word, circuitIn}
 use Rattle.frames.proofs.Facts.{right, known, no-cycle}
-use Rattle.enumeration.proofs.Facts.{inputs-are}
-use Rattle.enumeration.proofs.Blocks.{ready-with, StartsGiven, Valued, Remaining, latches-room, row-first, row-room, row-next, valued-start, valued-next, valued-hits}
+use Rattle.frames.proofs.Places.{inputs-are}
+use Rattle.frames.proofs.Facts.{ready-with}
+use Rattle.enumeration.proofs.Blocks.{StartsGiven, Valued, Remaining, row-first, row-room, row-next, valued-start, valued-next, valued-hits}
+use Rattle.frames.proofs.Starts.{latches-room}
 use borrow.Author.Needs.{needs}
 use Rattle.enumeration.proofs.block_hits.Statement.{statement}
 use Rattle.enumeration.proofs.block_hits.Tie as tie

@@ -3,7 +3,7 @@ use mathlib.Core.Path.{_≡_, sym, ap, _∙_}
 use native.Mathlib.Omega.{arith}
 use Rattle.layout.specs.Words.{word, circuitIn}
 use Rattle.frames.proofs.Facts.{right, known, no-cycle}
-use Rattle.enumeration.proofs.Blocks.{ready-with}
+use Rattle.frames.proofs.Facts.{ready-with}
 use Rattle.layers.proofs.Rows.{first-row}
 use borrow.Author.Needs.{needs}
 use Rattle.layers.proofs.first_row.Statement.{statement}

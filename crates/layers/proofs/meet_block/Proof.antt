@@ -11,7 +11,7 @@ use Rattle.aiger.specs.Frames.{value}
 use Rattle.layout.specs.Words.{word, circuitIn}
 use Rattle.frames.specs.Lanes.{lane}
 use Rattle.frames.proofs.Facts.{right, known, no-cycle, latches-inside, latches-few, latches-are, latch-place, next-below}
-use Rattle.enumeration.proofs.Facts.{inputs-are}
+use Rattle.frames.proofs.Places.{inputs-are}
 use Rattle.transitions.specs.Transitions.{numberOf, nextNumber}
 use Rattle.transitions.proofs.Rows.{next-is}
 use Rattle.layers.specs.Rows.{RowsMet}

@@ -3,7 +3,7 @@ use mathlib.Core.Path.{_≡_, sym, _∙_}
 use Prim.Native.Nat.{ℕ, _+_, _*_, _/_, _≤_, _<_, min}
 use native.Mathlib.Omega.{arith}
 use Rattle.layout.specs.Words.{circuitIn}
-use Rattle.enumeration.proofs.Facts.{inputs-are, latches-are}
+use Rattle.frames.proofs.Places.{inputs-are, latches-are}
 use Rattle.reachable.proofs.Quotas.{effort-some, quota-many, quota-latches, quota-free, quota-from}
 use borrow.Author.Needs.{needs}
 use Rattle.reachable.proofs.quota.Statement.{statement}

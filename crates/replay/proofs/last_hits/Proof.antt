@@ -7,8 +7,8 @@ use lib.Seq.{getD-set-same}
 use Rattle.aiger.specs.Frames.{hits}
 use Rattle.layout.specs.Words.{word, circuitIn}
 use Rattle.frames.proofs.Facts.{latches-inside, latches-apart}
-use Rattle.enumeration.proofs.Facts.{inputs-inside}
-use Rattle.enumeration.proofs.Blocks.{ready-with}
+use Rattle.frames.proofs.Places.{inputs-inside}
+use Rattle.frames.proofs.Facts.{ready-with}
 use Rattle.replay.proofs.Runs.{row-fits, Valued, inputs-apart, valued-start, valued-next, valued-hit}
 use Rattle.replay.proofs.last_hits.Statement.{statement}
 use Rattle.replay.proofs.last_hits.Tie as tie

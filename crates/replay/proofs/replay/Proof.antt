@@ -3,10 +3,10 @@ use Prim.Native.Nat.{_<_}
 use native.Mathlib.Omega.{arith}
 use borrow.Author.Needs.{needs}
 use borrow.Author.Tests.{not-true, not-false}
-use Rattle.aiger.specs.Operations.{Replayed}
+use Rattle.aiger.specs.Operations.{Operated}
 use Rattle.layout.specs.Words.{word, circuitIn}
 use Rattle.frames.proofs.Facts.{top-is, counts}
-use Rattle.enumeration.proofs.Facts.{latches-inside}
+use Rattle.frames.proofs.Places.{latches-inside}
 use Rattle.witness.proofs.Lines.{on-read, on-malformed}
 use Rattle.witness.proofs.Heads.{on-read as on-heading, on-malformed as on-no-heading}
 use Rattle.replay.proofs.Answers.{refuses, no-bad, no-start, no-rows, wrong-start, judged, fits}
@@ -27,7 +27,7 @@ enum-told c = search needs
 
 returns : tie.Need-returns
 returns c =
-    Replayed.noCircuit (rw (c .enum-told .given .1) at (c .before .before .before .held-in .ensures))
+    Operated.noCircuit (rw (c .enum-told .given .1) at (c .before .before .before .held-in .ensures))
 
 read-heading-requires : tie.Need-read-heading-requires
 read-heading-requires c κs = search needs

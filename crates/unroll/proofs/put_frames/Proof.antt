@@ -4,7 +4,7 @@ use Prim.Native.Nat.{ℕ, _+_, _-_, _*_, _≤_}
 use native.Mathlib.Omega.{arith}
 use lib.ListN.{length}
 use Rattle.layout.specs.Words.{circuitIn}
-use Rattle.enumeration.proofs.Facts.{inputs-are}
+use Rattle.frames.proofs.Places.{inputs-are}
 use Rattle.unroll.specs.Map.{NextMapped, FramesMapped}
 use Rattle.unroll.proofs.Facts.{ready-with, row-within}
 use Rattle.unroll.proofs.Frames.{frames-start, frames-extensible, frames-more}

@@ -5,30 +5,30 @@ use Prim.Native.Nat.{ℕ, _+_, _*_, _≤_}
 use native.Mathlib.Nat.{mul-comm, mul-le-mul-left, mul-le-mul-right}
 use native.Mathlib.Omega.{arith}
 use lib.ListN.{length}
-use Rattle.aiger.specs.Text.{digits}
 use Rattle.aiger.specs.Circuit.{Circuit}
-use Rattle.aiger.specs.Frames.{freeStarts, freeBits, size}
+use Rattle.aiger.specs.Frames.{freeBits, size}
 use Rattle.aiger.specs.Witness.{witnessLength}
 use Rattle.aiger.specs.Memory.{Holds}
 use Rattle.layout.specs.Words.{circuitIn}
 use Rattle.layout.specs.Layout.{LayoutOf}
 use Rattle.layout.specs.declared.Layout.{Layout}
 use Rattle.frames.proofs.Facts.{counts, bad-count, constraint-count, gate-count}
-use Rattle.enumeration.proofs.Facts.{inputs-are, latches-are}
-use Rattle.search.specs.Steps.{Limited, CountsOf}
+use Rattle.frames.proofs.Places.{inputs-are, latches-are}
+use Rattle.frames.proofs.Starts.{starts-few}
+use Rattle.limits.specs.Limits.{Limited, CountsOf, sizeOf, lengthOf}
 
 -- k + 1 frames of at most 3,344 units
 pub product-small : (k s : ℕ) → k ≤ 255 → s ≤ 3344 → (k + 1) * s ≤ 856064
 product-small k s h l = let a : (k + 1) * s ≤ 256 * s = mul-le-mul-right s (omega arith) in omega arith
 
 module _ {c : Circuit} {p : Layout} (e : CountsOf c p) where
-  pub size-is : (free k : ℕ) → free ≡ freeStarts c → (k + 1) * (p .i + p .a + p .c) + free + 1 ≡ size c k
+  pub size-is : (k : ℕ) → sizeOf p k ≡ size c k
   unfolding size
-  size-is free k h = cc
+  size-is k = cc
 
-  pub length-is : (b k n : ℕ) → n ≡ length (digits b) → 3 + n + 1 + (p .l + 1) + (k + 1) * (p .i + 1) + 2 ≡ witnessLength c b k
+  pub length-is : (b k : ℕ) → lengthOf p b k ≡ witnessLength c b k
   unfolding witnessLength
-  length-is b k n h = cc
+  length-is b k = cc
 
 -- the free bits of a frame up to the bound are fewer than the units of size
 pub bits-within : (c : Circuit) (t k : ℕ) → t ≤ k → freeBits c t ≤ size c k
@@ -58,6 +58,7 @@ module _ {m : List ℕ} {p : Layout} (held : Holds m (circuitIn m)) (a : LayoutO
         gates = a .a-is ∙ sym (gate-count m);
         bads = a .b-is ∙ sym (bad-count m);
         constraints = a .c-is ∙ sym (constraint-count m);
+        starts = a .u-is;
       }
 
   pub limited : Limited p
@@ -70,4 +71,5 @@ module _ {m : List ℕ} {p : Layout} (held : Holds m (circuitIn m)) (a : LayoutO
         gates = omega (arith, n .gates, e .gates);
         bads = omega (arith, n .bads, e .bads);
         constraints = omega (arith, n .constraints, e .constraints);
+        starts = omega (arith, a .u-is, starts-few held a);
       }

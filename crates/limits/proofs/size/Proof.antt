@@ -1,13 +1,13 @@
--- `search::size` meets its contract: the product is small, and the value is the size. Assumes nothing.
+-- `limits::size` meets its contract: the product is small, and the value is the size. Assumes nothing.
 use Prim.Native.Nat.{_+_, _*_, _≤_}
 use native.Mathlib.Omega.{arith}
 use borrow.Author.Needs.{needs}
-use Rattle.search.proofs.Sizes.{product-small, size-is}
-use Rattle.search.proofs.size.Statement.{statement}
-use Rattle.search.proofs.size.Tie as tie
+use Rattle.limits.proofs.Sizes.{product-small}
+use Rattle.limits.proofs.size.Statement.{statement}
+use Rattle.limits.proofs.size.Tie as tie
 
 small : (s : tie.Start) → (s .args .k + 1) * (s .args .layout .i + s .args .layout .a + s .args .layout .c) ≤ 856064
-small s = product-small (s .args .k) (s .args .layout .i + s .args .layout .a + s .args .layout .c) (omega (arith, s .pre .2)) (omega (arith, s .pre .0))
+small s = product-small (s .args .k) (s .args .layout .i + s .args .layout .a + s .args .layout .c) (omega (arith, s .pre .1)) (omega (arith, s .pre .0))
 
 add-result : tie.Need-add-result
 add-result c = search needs
@@ -22,13 +22,13 @@ mul-result : tie.Need-mul-result
 mul-result c = omega (arith, small (c .before .before))
 
 add-result-4 : tie.Need-add-result-4
-add-result-4 c = omega (arith, small (c .before .before), c .before .before .pre .1)
+add-result-4 c = omega (arith, small (c .before .before .before), c .before .before .before .pre .0)
 
 add-result-5 : tie.Need-add-result-5
-add-result-5 c = omega (arith, small (c .before .before), c .before .before .pre .1)
+add-result-5 c = omega (arith, small (c .before .before .before), c .before .before .before .pre .0)
 
 returns : tie.Need-returns
-returns c = λ x e s. omega (arith, size-is e (c .before .before .args .free) (c .before .before .args .k) s)
+returns c = search needs
 
 pub size-spec : {M : Type 1} → statement M
 size-spec =

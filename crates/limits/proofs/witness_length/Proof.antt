@@ -1,11 +1,11 @@
--- `search::witness_length` meets its contract: a number has at most ten digits, and the value is the length. Assumes nothing.
+-- `limits::witness_length` meets its contract: a number has at most ten digits, and the value is the length. Assumes nothing.
 use Prim.Native.Nat.{_+_, _*_, _≤_}
 use native.Mathlib.Omega.{arith}
 use borrow.Author.Needs.{needs}
 use Rattle.numbers.proofs.Digits.{digits-most}
-use Rattle.search.proofs.Sizes.{product-small, length-is}
-use Rattle.search.proofs.witness_length.Statement.{statement}
-use Rattle.search.proofs.witness_length.Tie as tie
+use Rattle.limits.proofs.Sizes.{product-small}
+use Rattle.limits.proofs.witness_length.Statement.{statement}
+use Rattle.limits.proofs.witness_length.Tie as tie
 
 small : (s : tie.Start) → (s .args .k + 1) * (s .args .layout .i + 1) ≤ 856064
 small s = product-small (s .args .k) (s .args .layout .i + 1) (omega (arith, s .pre .1)) (omega (arith, s .pre .0))
@@ -44,9 +44,7 @@ add-result-8 : tie.Need-add-result-8
 add-result-8 c = omega (arith, ten (c .before .before), small (c .before .before .before), c .before .before .before .pre .0)
 
 returns : tie.Need-returns
-returns c = λ x e.
-    let s = c .before .before .before in
-    omega (arith, length-is e (s .args .b) (s .args .k) (c .before .before .digit-count .result) (c .before .before .digit-count .ensures))
+returns c = omega (arith, c .before .before .digit-count .ensures)
 
 pub witness-length-spec : {M : Type 1} → statement M
 witness-length-spec =

@@ -1,9 +1,9 @@
 -- The latches with a free start, counted one after the other, and the start values. Assumes nothing.
-use mathlib.Core.Path.{_≡_, refl, sym, ap, _∙_, subst}
+use mathlib.Core.Path.{_≡_, refl, sym, ap, ap₂, _∙_, subst}
 use mathlib.Core.Bool.{Bool, true, false, cond}
 use mathlib.Core.List.{List, [], _∷_}
 use Prim.Native.Nat.{ℕ, zero, suc, _+_, _*_, _≤_, _<_}
-use native.Mathlib.Nat.{not-suc-le-zero, le-of-suc-le-suc}
+use native.Mathlib.Nat.{not-suc-le-zero, le-of-suc-le-suc, mul-le-mul-right}
 use native.Mathlib.Numerals.{add-one}
 use native.Mathlib.Omega.{arith}
 use lib.Dec.{T, eqb}
@@ -19,8 +19,8 @@ use Rattle.layout.specs.Layout.{LayoutOf}
 use Rattle.layout.specs.declared.Layout.{Layout}
 use Rattle.meaning.proofs.Defined.{noLatch, latchAt}
 use Rattle.meaning.proofs.Sequences.{run-reset, run-free}
-use Rattle.enumeration.specs.Blocks.{freeBefore, startBit}
-use Rattle.enumeration.proofs.Facts.{latches-are, latches-few, latch-place}
+use Rattle.frames.specs.Starts.{freeBefore, startBit}
+use Rattle.frames.proofs.Places.{latches-are, latches-few, latch-place}
 
 -- ---- counts of a list's beginning
 
@@ -111,3 +111,20 @@ module _ {m : List ℕ} {layout : Layout} (held : Holds m (circuitIn m)) (a : La
           ≡ cond f (freeBit n x (freeBefore (circuitIn m) j)) (eqb (word m (layout .latches + 3 * j + 2)) 1)
       go true q = ap (bit x) (omega arith)
       go false q = refl
+
+-- ---- free bits
+
+-- the number of free bits, and that it is small
+pub bits-are : (c : Circuit) (t : ℕ) {free i : ℕ} → free ≡ freeStarts c → i ≡ length (c .inputs) → free + i * (t + 1) ≡ freeBits c t
+unfolding freeBits
+bits-are c t e f = ap₂ (λ (x y : ℕ). x + y * (t + 1)) e f
+
+pub bits-few : (i t : ℕ) → i ≤ 256 → t ≤ 255 → i * (t + 1) ≤ 65536
+bits-few i t h l =
+    let a : i * (t + 1) ≤ 256 * (t + 1) = mul-le-mul-right (t + 1) h in
+    omega arith
+
+-- the latches' free bits are among the free bits; the inputs' remain after them
+pub latches-room : (c : Circuit) (t : ℕ) → freeStarts c ≤ freeBits c t
+unfolding freeBits
+latches-room c t = omega arith
