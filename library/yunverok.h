@@ -25,9 +25,7 @@
      7  a used variable is undefined                14  witness malformed, or its b not below B
    load makes 1 to 8, each over the whole file; test 9; search and fold 9 to 13; replay 9 and 14; write 9 and 13.
 
-   Stack. The greatest depth that tests/harness/run measured, in bytes; it does not grow with the circuit:
-     load 103,135    test 53,663    search 94,991    fold 74,447    replay 53,871    write 53,855
-   memset and memcpy, which the functions call, may need some more where a program binds them at their first call. */
+   Stack. At most 110 kilobytes are used, whatever the circuit; docs/MEMORY.md has the greatest depth measured for each function. */
 #ifndef YUNVEROK_H
 #define YUNVEROK_H
 #include <stddef.h>

@@ -1,5 +1,2 @@
-pub mod Putting
-pub mod Causes
-pub mod Numbers
 pub mod Answers
 pub mod Theorems

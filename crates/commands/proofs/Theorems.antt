@@ -15,20 +15,13 @@ use Rattle.aiger.specs.Load.{Answer, refused, gives, test, read, load, needed, 
 use Rattle.aiger.specs.Frames.{size}
 use Rattle.aiger.specs.Operations.{Test, need, judge, badTest, foldTests}
 use Rattle.aiger.proofs.Tests.{T-true, and, and-left, all-at}
+use Rattle.replies.proofs.Loading.{past, given}
 use Rattle.limits.proofs.Refusals.{judge-past, judge-passed, judge-last}
-
--- a refusal with another number than n is not that of test n
-past : {A : Type 0} (n m : ℕ) (b : Bool) (r : Answer A) → (n ≡ m → ⊥) → (test n b >> r) ≡ refused m → (b ≡ true) × (r ≡ refused m)
-past n m true r h e = (refl, e)
-past n m false r h e = let z : n ≡ m = cc in absurd (h z)
 
 past-read : {A B : Type 0} (n m : ℕ) (o : Option A) (f : A → Answer B) → (n ≡ m → ⊥) → (read n o >>= f) ≡ refused m
     → (x : A) × (f x ≡ refused m)
 past-read n m none f h e = let z : n ≡ m = cc in absurd (h z)
 past-read n m (some x) f h e = (x, e)
-
-given : {A : Type 0} {a : A} {m : ℕ} → gives a ≡ refused m → ⊥
-given e = let z : _≡_ {A = ℕ} 0 1 = cc in omega arith
 
 -- load, from number 6 on, and from number 3 on
 abbrev judged : Circuit → Answer Circuit

@@ -1,31 +1,32 @@
 -- What the programs write, replay and fold print. Circuit memory has 33,032 words, those that a file with M 4,096 needs. Assumes nothing.
-use mathlib.Core.Path.{_≡_}
 use mathlib.Core.Bool.{Bool, true, false}
-use mathlib.Core.List.{List}
+use mathlib.Core.List.{List, []}
 use Prim.Native.Nat.{ℕ}
-use lib.Dec.{T}
 use Rattle.aiger.specs.Text.{bytes}
 use Rattle.aiger.specs.Circuit.{Circuit}
 use Rattle.aiger.specs.Load.{Answer, refused, gives, read, load, _>>=_}
 use Rattle.aiger.specs.Witness.{readWitness, confirms}
 use Rattle.aiger.specs.Write.{write}
-use Rattle.aiger.specs.Fold.{folds}
-use Rattle.fold.specs.Chosen.{chosen}
 use Rattle.aiger.specs.Operations.{judge, foldTests}
-use Rattle.commands.specs.Refusal.{refusalText}
+use Rattle.fold.specs.Chosen.{chosen}
+use Rattle.replies.specs.Refusal.{refusalText}
+use Rattle.replies.specs.Reply.{Reply, replyOf}
+
+-- write: the text of the loaded circuit
+abbrev pub written : Circuit → Reply
+written c = record { line = []; out = write c }
+
+unfoldable pub writeReply : List ℕ → Reply
+writeReply file = replyOf written (load 33032 file)
+
+abbrev pub yesText : Bool → List ℕ
+yesText true = bytes "yes\n"
+yesText false = bytes "no\n"
 
 -- the text of a value, or the line of a refusal
 abbrev pub textOf : {A : Type 0} → (A → List ℕ) → Answer A → List ℕ
 textOf f (refused n) = refusalText n
 textOf f (gives a) = f a
-
--- write: the text of the loaded circuit
-unfoldable pub writeText : List ℕ → List ℕ
-writeText file = textOf write (load 33032 file)
-
-abbrev pub yesText : Bool → List ℕ
-yesText true = bytes "yes\n"
-yesText false = bytes "no\n"
 
 -- what replay answers on a loaded circuit
 abbrev pub replayAnswer : Circuit → List ℕ → Answer Bool
@@ -35,11 +36,11 @@ replayAnswer c witness = read 14 (readWitness c witness) >>= λ x. gives (confir
 unfoldable pub replayText : List ℕ → List ℕ → List ℕ
 replayText file witness = textOf yesText (load 33032 file >>= λ c. replayAnswer c witness)
 
--- fold: what may be printed. Working memory has 1,048,576 words and the output 1,572,928 bytes, those of size 65,536, so that 12 is
--- given for a greater size only, and 13 never
-pub data FoldPrints (file : List ℕ) (b t : ℕ) : List ℕ → Type 0 where
-  notLoaded : {n : ℕ} → load 33032 file ≡ refused n → FoldPrints file b t (refusalText n)
-  notFolded : (c : Circuit) → load 33032 file ≡ gives c → {n : ℕ} → judge (foldTests c b t 1048576 1572928) ≡ refused n
-      → FoldPrints file b t (refusalText n)
-  folded : (c : Circuit) → load 33032 file ≡ gives c → judge (foldTests c b t 1048576 1572928) ≡ gives tt → T (folds c b t (chosen c b t))
-      → FoldPrints file b t (write (chosen c b t))
+-- fold, on a loaded circuit, where working memory has `room` words and the output `len` bytes: the text of the circuit that fold chooses
+unfoldable pub foldedReply : Circuit → ℕ → ℕ → ℕ → ℕ → Reply
+foldedReply c b t room len = replyOf (λ _. written (chosen c b t)) (judge (foldTests c b t room len))
+
+-- fold: working memory has 1,048,576 words and the output 1,572,928 bytes, those of size 65,536, so that 12 is given for a greater size
+-- only, and 13 never
+unfoldable pub foldReply : List ℕ → ℕ → ℕ → Reply
+foldReply file b t = replyOf (λ c. foldedReply c b t 1048576 1572928) (load 33032 file)

@@ -1,5 +1,5 @@
 // The program fold: a frame of a circuit as one circuit over its free bits.
-use commands::Argument;
+use arguments::Argument;
 use files::say;
 ghost use mathlib.Core.Path.{_≡_};
 ghost use lib.ListN.{length};
@@ -22,17 +22,21 @@ fn say_help() {
 fn number_of(i: usize) -> Argument {
     let mut word = io::buffer();
     let length = os::arg(i, &mut word);
-    commands::read_argument(&word[..length])
+    arguments::read_argument(&word[..length])
 }
 
-// Folds bad line b of the circuit of an open file at frame t.
-fn fold_with(fd: i32, b: u64, t: u64, work: &mut [u32], out: &mut [u8])
+// Folds bad line b of the circuit of the file that argument 1 names at frame t.
+fn fold_with(b: u64, t: u64, work: &mut [u32], out: &mut [u8])
     requires { ⌜ (length (now work) ≡ 1048576) × (length (now out) ≡ 1572928) ⌝ }
 {
     let mut file = [0u8; 65537];
     let mut m = [0u32; 33032];
     let mut line = [0u8; 128];
-    let n = files::read(fd, &mut file);
+    let got = files::read_argument(1, &mut file);
+    if got.failed {
+        return;
+    }
+    let n = got.count;
     let report = commands::fold(&file[..n], b, t, &mut m, work, out, &mut line);
     let said = report.line;
     let written = report.out;
@@ -41,10 +45,10 @@ fn fold_with(fd: i32, b: u64, t: u64, work: &mut [u32], out: &mut [u8])
 }
 
 // Lends the memories for the greatest size, 65,536.
-fn fold_file(fd: i32, b: u64, t: u64) {
+fn fold_file(b: u64, t: u64) {
     let mut work = [0u32; 1048576];
     let mut out = [0u8; 1572928];
-    fold_with(fd, b, t, &mut work, &mut out);
+    fold_with(b, t, &mut work, &mut out);
 }
 
 fn main() {
@@ -60,9 +64,5 @@ fn main() {
         say_help();
         return;
     };
-    let fd = files::open_argument(1);
-    if fd < 0 {
-        return;
-    }
-    fold_file(fd, b, t);
+    fold_file(b, t);
 }

@@ -9,7 +9,7 @@ use numbers::Number;
 fn say_folded(m: &[u32], b: u64, t: u64, work: &mut [u32], out: &mut [u8]) {
     match fold::fold(m, b, t, work, out) {
         FoldAnswer::Length(n) => {
-            if n < 98368 {
+            if n <= 98368 {
                 let k = io::count(n as isize, out);
                 say(&out[..k]);
             }
@@ -38,12 +38,18 @@ fn say_input(input: &[u8], m: &mut [u32], work: &mut [u32], out: &mut [u8]) {
     say_loaded(&input[at..], b, t, m, work, out);
 }
 
+// The line has at most 27 bytes and a file that is accepted 65,536, so that a longer file is seen and refused.
 fn say_argument(i: usize) {
     let mut m = [0u32; 33040];
     let mut work = [0u32; 65536];
     let mut out = [0u8; 98368];
-    let mut input = [0u8; 65536];
-    let n = files::read_argument(i, b"\n", &mut input);
+    let mut input = [0u8; 65564];
+    files::say_argument(i, b"\n");
+    let got = files::read_argument(i, &mut input);
+    if got.failed {
+        return;
+    }
+    let n = got.count;
     say_input(&input[..n], &mut m, &mut work, &mut out);
 }
 

@@ -1,18 +1,21 @@
 // What the help texts of the programs share.
 use files::say;
+ghost use mathlib.Core.Path.{_≡_};
+ghost use mathlib.Core.Bool.{true};
+ghost use Rattle.aiger.specs.Text.{bytes};
 
-// Whether argument i is `--help`.
-pub fn is_asked(i: usize) -> bool {
-    let mut word = io::buffer();
-    let length = os::arg(i, &mut word);
-    check::same(&word[..length], b"--help")
+// Whether a word is `--help`.
+pub fn is_help(word: &[u8]) -> bool
+    ensures { λ r. ⌜ (r ≡ true → now (word .entry) ≡ bytes "--help") × (now (word .entry) ≡ bytes "--help" → r ≡ true) ⌝ }
+{
+    check::same(word, b"--help")
 }
 
 // Prints the line of refusal n.
 fn say_refusal(n: u32) {
     let mut line = [0u8; 128];
     say(b"    ");
-    let length = commands::write_refusal(&mut line, n);
+    let length = replies::write_refusal(&mut line, n);
     say(&line[..length]);
 }
 

@@ -113,7 +113,7 @@ fn refuse(line: &mut [u8], n: u32) -> Report
 }
 
 // The length of the witness that a search for b leaves: 0 where it finds no hit.
-fn shown_length(m: &[u32], b: u64, answer: SearchAnswer) -> usize
+pub fn shown_length(m: &[u32], b: u64, answer: SearchAnswer) -> usize
     requires { ⌜ ShownFits (now m) b answer ⌝ }
     ensures { λ r. ⌜ r ≡ shownLength (circuitIn (now (m .entry))) b (said answer) ⌝ }
 {

@@ -72,9 +72,13 @@ fn say_row(row: &[u8], m: &mut [u32], file: &mut [u8], out: &mut [u8]) {
     if row.len() < at {
         return;
     }
-    let n = files::read_named(&row[at..], file);
-    let k = at_most(words, m);
     say(row);
+    let got = files::read_named(&row[at..], file);
+    if got.failed {
+        return;
+    }
+    let n = got.count;
+    let k = at_most(words, m);
     say_loaded(&file[..n], &mut m[..k], out);
 }
 

@@ -19,15 +19,23 @@ fn say_help() {
     );
 }
 
-// Replays an open witness on the circuit of an open file. No witness has more than 66,825 bytes, those of 256 frames of 256 inputs, so one
-// byte more is read to see that a longer one is malformed.
-fn replay_files(fd: i32, witness_fd: i32) {
+// Replays the witness that argument 2 names on the circuit of the file that argument 1 names. No witness has more than 66,825 bytes, those
+// of 256 frames of 256 inputs, so one byte more is read to see that a longer one is malformed.
+fn replay_files() {
     let mut file = [0u8; 65537];
     let mut text = [0u8; 66826];
     let mut m = [0u32; 33032];
     let mut line = [0u8; 128];
-    let n = files::read(fd, &mut file);
-    let k = files::read(witness_fd, &mut text);
+    let circuit = files::read_argument(1, &mut file);
+    if circuit.failed {
+        return;
+    }
+    let witness = files::read_argument(2, &mut text);
+    if witness.failed {
+        return;
+    }
+    let n = circuit.count;
+    let k = witness.count;
     let said = commands::replay(&file[..n], &text[..k], &mut m, &mut line);
     say(&line[..said]);
 }
@@ -37,13 +45,5 @@ fn main() {
         say_help();
         return;
     }
-    let fd = files::open_argument(1);
-    if fd < 0 {
-        return;
-    }
-    let witness_fd = files::open_argument(2);
-    if witness_fd < 0 {
-        return;
-    }
-    replay_files(fd, witness_fd);
+    replay_files();
 }

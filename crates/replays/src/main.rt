@@ -16,11 +16,22 @@ fn say_replay(circuit: &[u8], text: &[u8]) {
     }
 }
 
+// Each buffer has one byte more than the longest file or witness that is accepted, so that none is cut to one that is.
 fn say_pair(i: usize, j: usize) {
-    let mut circuit = [0u8; 4096];
-    let mut text = [0u8; 4096];
-    let n = files::read_argument(i, b" ", &mut circuit);
-    let k = files::read_argument(j, b" ", &mut text);
+    let mut circuit = [0u8; 65537];
+    let mut text = [0u8; 66826];
+    files::say_argument(i, b" ");
+    files::say_argument(j, b" ");
+    let file = files::read_argument(i, &mut circuit);
+    if file.failed {
+        return;
+    }
+    let witness = files::read_argument(j, &mut text);
+    if witness.failed {
+        return;
+    }
+    let n = file.count;
+    let k = witness.count;
     say_replay(&circuit[..n], &text[..k]);
 }
 

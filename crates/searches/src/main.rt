@@ -15,7 +15,12 @@ fn say_search(input: &[u8]) {
 
 fn say_argument(i: usize) {
     let mut input = [0u8; 65537];
-    let n = files::read_argument(i, b"\n", &mut input);
+    files::say_argument(i, b"\n");
+    let got = files::read_argument(i, &mut input);
+    if got.failed {
+        return;
+    }
+    let n = got.count;
     say_search(&input[..n]);
 }
 

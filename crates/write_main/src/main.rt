@@ -13,13 +13,23 @@ fn say_help() {
     say(b"\nExample: ./yunverok write crates/write_main/data/s.aag\n");
 }
 
-// Writes the circuit of an open file.
-fn write_file(fd: i32) {
+fn is_help_asked() -> bool {
+    let mut word = io::buffer();
+    let length = os::arg(1, &mut word);
+    help::is_help(&word[..length])
+}
+
+// Writes the circuit of the file that argument 1 names.
+fn write_file() {
     let mut file = [0u8; 65537];
     let mut m = [0u32; 33032];
     let mut out = [0u8; 65536];
     let mut line = [0u8; 128];
-    let n = files::read(fd, &mut file);
+    let got = files::read_argument(1, &mut file);
+    if got.failed {
+        return;
+    }
+    let n = got.count;
     let report = commands::write(&file[..n], &mut m, &mut out, &mut line);
     let said = report.line;
     let written = report.out;
@@ -32,13 +42,9 @@ fn main() {
         say_help();
         return;
     }
-    if help::is_asked(1) {
+    if is_help_asked() {
         say_help();
         return;
     }
-    let fd = files::open_argument(1);
-    if fd < 0 {
-        return;
-    }
-    write_file(fd);
+    write_file();
 }

@@ -1,9 +1,8 @@
 -- `commands::fold` meets its contract. Assumes nothing.
 use mathlib.Core.Path.{ap}
-use native.Mathlib.Omega.{arith}
 use Rattle.load.specs.Answers.{answered}
 use Rattle.job.proofs.Printing.{not-loaded, stored, stored-in}
-use Rattle.job.proofs.Replying.{alone}
+use Rattle.replies.proofs.Loading.{loaded-words}
 use Rattle.commands.proofs.Answers.{fold-refusal, fold-text}
 use borrow.Author.Needs.{needs}
 use Rattle.commands.proofs.fold.Statement.{statement}
@@ -41,9 +40,10 @@ returns c =
     let l = n .before .before .before .before in
     let s = l .before .before .before .before .before .before .before in
     let a = s .args in
-    let e = not-loaded (l .load .ensures) (ap answered (n .n .given .1)) in
-    let p = fold-refusal (a .m .now) (a .file .now) (s .pre .0) e in
-    (rw (alone (a .out .now) (f .0) (f .1)) p, (f .0 .inside, omega (arith, f .1)))
+    let e = not-loaded (l .load .ensures) (ap answered (n .n .given .1)) in (
+      fold-refusal (a .m .now) (a .file .now) (s .pre .0) (a .b) (a .t) (a .out .now) e (f .0) (f .1),
+      loaded-words (l .load .ensures),
+    )
 
 same-length-3 : tie.Need-same-length-3
 same-length-3 c = search needs
@@ -65,7 +65,8 @@ returns-2 c =
     let s = l .before .before .before .before .before .before .before in
     let a = s .args in
     let e = stored (l .load .ensures) (ap answered (n .enum-told .given .1)) in
-    (fold-text (a .m .now) (a .file .now) (s .pre .0) e (s .pre .1) (s .pre .2) (g .0), g .1)
+    let x = fold-text (a .m .now) (a .file .now) (s .pre .0) e (a .b) (a .t) in
+    (rw x at (rw (s .pre .1, s .pre .2) at g), loaded-words (l .load .ensures))
 
 pub fold-spec : {M : Type 1} → statement M
 fold-spec =

@@ -1,10 +1,7 @@
 -- `commands::fold_loaded` meets its contract. Assumes nothing.
 use mathlib.Core.Path.{ap}
-use native.Mathlib.Omega.{arith}
 use Rattle.fold.specs.Answer.{answered}
-use Rattle.job.proofs.Replying.{alone}
-use Rattle.commands.specs.Replies.{FoldTexts}
-use Rattle.commands.proofs.Answers.{fold-refused, fold-shown}
+use Rattle.commands.proofs.Answers.{fold-refusal-left, fold-shown}
 use borrow.Author.Needs.{needs}
 use Rattle.commands.proofs.fold_loaded.Statement.{statement}
 use Rattle.commands.proofs.fold_loaded.Tie as tie
@@ -31,8 +28,7 @@ returns : tie.Need-returns
 returns c =
     let w = c .before .before .before .before .before .before .before in
     let s = w .before .before .before .before .before .before .before in
-    let p = fold-shown (s .pre .0) (w .fold .ensures) (ap answered (c .before .n .given .1)) in
-    (p .0, (omega arith, p .1))
+    fold-shown (s .pre .0) (w .fold .ensures) (s .args .line .now) (ap answered (c .before .n .given .1))
 
 same-length-3 : tie.Need-same-length-3
 same-length-3 c = search needs
@@ -48,8 +44,8 @@ returns-2 c =
     let f = c .before .before .refuse .ensures in
     let w = c .before .before .before .before .before .before .before .before .before .before .before in
     let s = w .before .before .before .before .before .before .before in
-    let e = fold-refused (s .pre .0) (w .fold .ensures) (ap answered (c .before .before .before .before .before .n2 .given .1)) in
-    (rw (alone (w .fold .last .1 .1 .1 .1 .0) (f .0) (f .1)) (FoldTexts.refuses e), (f .0 .inside, omega (arith, f .1)))
+    let e = ap answered (c .before .before .before .before .before .n2 .given .1) in
+    fold-refusal-left (s .pre .0) (w .fold .ensures) e (f .0) (f .1)
 
 pub fold-loaded-spec : {M : Type 1} → statement M
 fold-loaded-spec =

@@ -1,7 +1,8 @@
 -- `commands::replay` meets its contract. Assumes nothing.
-use mathlib.Core.Path.{ap, _∙_}
+use mathlib.Core.Path.{ap}
 use Rattle.load.specs.Answers.{answered}
 use Rattle.job.proofs.Printing.{not-loaded, stored, stored-in}
+use Rattle.replies.proofs.Loading.{loaded-words}
 use Rattle.commands.proofs.Answers.{replay-refusal, replay-text}
 use borrow.Author.Needs.{needs}
 use Rattle.commands.proofs.replay.Statement.{statement}
@@ -40,7 +41,7 @@ returns c =
     let s = l .before .before .before .before .before .before in
     let a = s .args in
     let e = not-loaded (l .load .ensures) (ap answered (n .n .given .1)) in
-    (f .contents ∙ replay-refusal (a .m .now) (a .file .now) (s .pre .0) (a .witness .now) e, f .inside)
+    (rw (replay-refusal (a .m .now) (a .file .now) (s .pre .0) (a .witness .now) e) at f, loaded-words (l .load .ensures))
 
 same-length-3 : tie.Need-same-length-3
 same-length-3 c = search needs
@@ -56,7 +57,7 @@ returns-2 c =
     let s = l .before .before .before .before .before .before in
     let a = s .args in
     let e = stored (l .load .ensures) (ap answered (n .enum-told .given .1)) in
-    (f .contents ∙ replay-text (a .m .now) (a .file .now) (s .pre .0) e (a .witness .now), f .inside)
+    (rw (replay-text (a .m .now) (a .file .now) (s .pre .0) e (a .witness .now)) at f, loaded-words (l .load .ensures))
 
 pub replay-spec : {M : Type 1} → statement M
 replay-spec =

@@ -1,8 +1,7 @@
 -- `commands::replay_loaded` meets its contract: a line for each answer. Assumes nothing.
 use mathlib.Core.Path.{ap}
-use native.Mathlib.Omega.{arith}
 use Rattle.replay.specs.Answer.{answered}
-use Rattle.commands.proofs.Putting.{placed-shows}
+use Rattle.replies.proofs.Putting.{placed-fronts}
 use Rattle.commands.proofs.Answers.{replay-shown}
 use borrow.Author.Needs.{needs}
 use Rattle.commands.proofs.replay_loaded.Statement.{statement}
@@ -45,7 +44,7 @@ returns c =
     let r = e .before .before in
     let s = r .before .before .before .before in
     let q = ap answered (e .enum-told .given .1) in
-    replay-shown (s .pre .0) (r .replay .ensures) q (placed-shows (omega (arith, s .pre .1)) (p .put .ensures))
+    replay-shown (s .pre .0) (r .replay .ensures) q (placed-fronts (p .put .ensures))
 
 same-length-2 : tie.Need-same-length-2
 same-length-2 c = search needs
@@ -57,7 +56,7 @@ returns-2 c =
     let r = e .before .before in
     let s = r .before .before .before .before in
     let q = ap answered (e .enum-told2 .given .1) in
-    replay-shown (s .pre .0) (r .replay .ensures) q (placed-shows (omega (arith, s .pre .1)) (p .put2 .ensures))
+    replay-shown (s .pre .0) (r .replay .ensures) q (placed-fronts (p .put2 .ensures))
 
 same-length-3 : tie.Need-same-length-3
 same-length-3 c = search needs

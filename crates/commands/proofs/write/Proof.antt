@@ -1,9 +1,8 @@
 -- `commands::write` meets its contract. Assumes nothing.
-use mathlib.Core.Path.{ap, _∙_}
-use native.Mathlib.Omega.{arith}
+use mathlib.Core.Path.{ap}
 use Rattle.load.specs.Answers.{answered}
 use Rattle.job.proofs.Printing.{not-loaded, stored, stored-in}
-use Rattle.job.proofs.Replying.{alone}
+use Rattle.replies.proofs.Loading.{loaded-words}
 use Rattle.commands.proofs.Answers.{write-refusal, write-text}
 use borrow.Author.Needs.{needs}
 use Rattle.commands.proofs.write.Statement.{statement}
@@ -42,7 +41,7 @@ returns c =
     let s = l .before .before .before .before .before .before in
     let a = s .args in
     let e = not-loaded (l .load .ensures) (ap answered (n .n .given .1)) in
-    (alone (a .out .now) (f .0) (f .1) ∙ write-refusal (a .m .now) (a .file .now) (s .pre .0) e, (f .0 .inside, omega (arith, f .1)))
+    (write-refusal (a .m .now) (a .file .now) (s .pre .0) (a .out .now) e (f .0) (f .1), loaded-words (l .load .ensures))
 
 same-length-3 : tie.Need-same-length-3
 same-length-3 c = search needs
@@ -60,7 +59,7 @@ returns-2 c =
     let l = n .before .before .before .before in
     let s = l .before .before .before .before .before .before in
     let e = stored (l .load .ensures) (ap answered (n .enum-told .given .1)) in
-    (g .contents ∙ write-text (s .args .m .now) (s .args .file .now) (s .pre .0) e, (g .line-inside, g .out-inside))
+    (rw (write-text (s .args .m .now) (s .args .file .now) (s .pre .0) e) at g, loaded-words (l .load .ensures))
 
 pub write-spec : {M : Type 1} → statement M
 write-spec =

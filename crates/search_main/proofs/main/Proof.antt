@@ -1,18 +1,27 @@
--- `search_main::main` meets its contract: what is printed lies within the line and the output. Assumes nothing.
+-- What is printed lies within the line and the output. Assumes nothing.
 use mathlib.Core.Path.{sym}
 use lib.Seq.{length-take-le}
 use borrow.Author.Needs.{needs}
 use Rattle.search_main.proofs.main.Statement.{statement}
 use Rattle.search_main.proofs.main.Tie as tie
 
-slice-aggregate-read-full : tie.Need-slice-aggregate-read-full
-slice-aggregate-read-full c = search needs
+slice-aggregate-read-all : tie.Need-slice-aggregate-read-all
+slice-aggregate-read-all c = search needs
 
-read-full-requires : tie.Need-read-full-requires
-read-full-requires c κs = search needs
+read-all-requires : tie.Need-read-all-requires
+read-all-requires c κs = search needs
 
-array-share-prefix-input : tie.Need-array-share-prefix-input
-array-share-prefix-input c = search needs
+slice-aggregate-write-all : tie.Need-slice-aggregate-write-all
+slice-aggregate-write-all c = search needs
+
+write-all-requires : tie.Need-write-all-requires
+write-all-requires c κs = search needs
+
+returns : tie.Need-returns
+returns c = search needs
+
+array-share-prefix-text : tie.Need-array-share-prefix-text
+array-share-prefix-text c = search needs
 
 slice-aggregate-run : tie.Need-slice-aggregate-run
 slice-aggregate-run c = search needs
@@ -35,31 +44,34 @@ run-requires c κs = search needs
 array-share-prefix-line : tie.Need-array-share-prefix-line
 array-share-prefix-line c = search needs
 
-slice-aggregate-write-all : tie.Need-slice-aggregate-write-all
-slice-aggregate-write-all c = let r = c .before .before .before .before .before in sym (length-take-le (r .run .result .line) (r .run .last .1 .1 .1 .1 .0) (r .run .ensures .1 .0))
+slice-aggregate-say : tie.Need-slice-aggregate-say
+slice-aggregate-say c = let r = c .before .before .before .before .before .run in sym (length-take-le (r .result .line) (r .last .1 .1 .1 .1 .0) (r .ensures .1 .0))
 
-write-all-requires : tie.Need-write-all-requires
-write-all-requires c κs = search needs
+say-requires : tie.Need-say-requires
+say-requires c κs = search needs
 
 array-share-prefix-out : tie.Need-array-share-prefix-out
 array-share-prefix-out c = search needs
 
-slice-aggregate-write-all-2 : tie.Need-slice-aggregate-write-all-2
-slice-aggregate-write-all-2 c = let r = c .before .before .before .before .before .before .before in sym (length-take-le (r .run .result .witness) (r .run .last .1 .1 .1 .0) (r .run .ensures .1 .1))
+slice-aggregate-say-2 : tie.Need-slice-aggregate-say-2
+slice-aggregate-say-2 c = let r = c .before .before .before .before .before .before .before .run in sym (length-take-le (r .result .witness) (r .last .1 .1 .1 .0) (r .ensures .1 .1))
 
-write-all-requires-2 : tie.Need-write-all-requires-2
-write-all-requires-2 c κs = search needs
+say-requires-2 : tie.Need-say-requires-2
+say-requires-2 c κs = search needs
 
-returns : tie.Need-returns
-returns c = search needs
+returns-2 : tie.Need-returns-2
+returns-2 c = search needs
 
 pub main-spec : {M : Type 1} → statement M
 main-spec =
     tie.close
     (tie.spec
-    slice-aggregate-read-full
-    read-full-requires
-    array-share-prefix-input
+    slice-aggregate-read-all
+    read-all-requires
+    slice-aggregate-write-all
+    write-all-requires
+    returns
+    array-share-prefix-text
     slice-aggregate-run
     slice-aggregate-run-2
     slice-aggregate-run-3
@@ -67,9 +79,9 @@ main-spec =
     slice-aggregate-run-5
     run-requires
     array-share-prefix-line
-    slice-aggregate-write-all
-    write-all-requires
+    slice-aggregate-say
+    say-requires
     array-share-prefix-out
-    slice-aggregate-write-all-2
-    write-all-requires-2
-    returns)
+    slice-aggregate-say-2
+    say-requires-2
+    returns-2)

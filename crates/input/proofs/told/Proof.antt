@@ -1,0 +1,12 @@
+-- A number within the buffer counts bytes at its front. Assumes nothing.
+use mathlib.Core.Path.{refl, sym}
+use lib.Seq.{length-take-le}
+use borrow.Author.Needs.{needs}
+use Rattle.input.proofs.told.Statement.{statement}
+use Rattle.input.proofs.told.Tie as tie
+
+returns : tie.Need-returns
+returns c = let a = c .args in ((c .pre, sym (length-take-le (a .count) (a .buf .now) (c .pre))), refl)
+
+pub told-spec : {M : Type 1} → statement M
+told-spec = tie.close (tie.spec returns)

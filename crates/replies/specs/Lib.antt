@@ -1,0 +1,4 @@
+-- What the contracts of `replies` cite. Assumes nothing.
+pub mod Refusal
+pub mod Reply
+pub mod Loading

@@ -1,0 +1,119 @@
+// What a command leaves to be printed, and the line of a refusal: its number, and the cause in words.
+use numbers::Put;
+ghost use mathlib.Core.Path.{_≡_};
+ghost use mathlib.Core.List.{_++_};
+ghost use Prim.Native.Nat.{_+_, _≤_};
+ghost use lib.ListN.{length};
+ghost use Rattle.aiger.specs.Text.{bytes, digits};
+ghost use Rattle.write.specs.Output.{Room, Placed};
+ghost use Rattle.replies.specs.Refusal.{cause, refusalText};
+ghost use Rattle.replies.specs.Reply.{Fronts};
+
+// How many bytes of the line and of the output are to be printed.
+pub struct Report {
+    pub line: usize,
+    pub out: usize,
+}
+
+// Where the words of each cause begin, by its number; the last entry is where they end.
+const STARTS: [usize; 16] = [
+    0,
+    0,
+    38,
+    61,
+    102,
+    129,
+    181,
+    239,
+    267,
+    293,
+    324,
+    340,
+    381,
+    437,
+    460,
+    509,
+];
+
+// Puts a text at a position of line. The answer is the position past it.
+pub fn put(line: &mut [u8], at: usize, text: &[u8]) -> usize
+    requires { ⌜ Room (now line) at (now text) ⌝ }
+    ensures { λ r. ⌜ Placed (now (line .entry)) at (now (text .entry)) r (now (line .exit)) ⌝ }
+{
+    let end = at + text.len();
+    bytes::copy(text, &mut line[at..end]);
+    end
+}
+
+fn put_number(line: &mut [u8], at: usize, n: u32) -> usize
+    requires { ⌜ Room (now line) at (digits n) ⌝ }
+    ensures { λ r. ⌜ Placed (now (line .entry)) at (digits n) r (now (line .exit)) ⌝ }
+{
+    let Put::At(end) = numbers::write_number(line, at, n) else {
+        return at;
+    };
+    end
+}
+
+// Writes a word, n and a line feed to the front of line. The answer is their length.
+pub fn write_line(line: &mut [u8], word: &[u8], n: u32) -> usize
+    requires { ⌜ length (now word) + 11 ≤ length (now line) ⌝ }
+    ensures { λ r. ⌜ Fronts (now (word .entry) ++ digits n ++ bytes "\n") (now (line .entry)) r (now (line .exit)) ⌝ }
+{
+    let number = put(line, 0, word);
+    let end = put_number(line, number, n);
+    put(line, end, b"\n")
+}
+
+// Puts the words of cause n.
+fn put_cause(line: &mut [u8], at: usize, n: u32) -> usize
+    requires { ⌜ at + 80 ≤ length (now line) ⌝ }
+    ensures { λ r. ⌜ Placed (now (line .entry)) at (cause n) r (now (line .exit)) ⌝ }
+{
+    if 14 < n {
+        return at;
+    }
+    let words: &[u8] = b"\
+        the file is empty or over 65,536 bytes\
+        the header is malformed\
+        a count is too large, or I+L+A is above M\
+        circuit memory is too short\
+        a line is missing or malformed, or the tail is wrong\
+        a literal is above 2M+1, or a definition or reset is wrong\
+        a used variable is undefined\
+        gates depend on themselves\
+        circuit memory holds no circuit\
+        b is not below B\
+        k or t is above 255, or D is out of range\
+        the size is above 65,536, or working memory is too short\
+        the output is too short\
+        the witness is malformed, or its b is not below B";
+    let i = n as usize;
+    let from = STARTS[i];
+    let to = STARTS[i + 1];
+    put(line, at, &words[from..to])
+}
+
+// Writes the line of refusal n to the front of line. The answer is its length.
+pub fn write_refusal(line: &mut [u8], n: u32) -> usize
+    requires { ⌜ 128 ≤ length (now line) ⌝ }
+    ensures { λ r. ⌜ Fronts (refusalText n) (now (line .entry)) r (now (line .exit)) ⌝ }
+{
+    let number = put(line, 0, b"refused ");
+    let colon = put_number(line, number, n);
+    let words = put(line, colon, b": ");
+    let end = put_cause(line, words, n);
+    put(line, end, b"\n")
+}
+
+// The line of a refusal alone.
+pub fn refuse(line: &mut [u8], n: u32) -> Report
+    requires { ⌜ 128 ≤ length (now line) ⌝ }
+    ensures { λ r. ⌜ Fronts (refusalText n) (now (line .entry)) (r .line) (now (line .exit)) × (r .out ≡ 0) ⌝ }
+{
+    let length = write_refusal(line, n);
+    Report {
+        line: length,
+        out: 0,
+    }
+}

@@ -1,0 +1,2 @@
+-- What the contracts of `search_command` cite. Assumes nothing.
+pub mod Texts

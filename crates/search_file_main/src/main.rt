@@ -1,0 +1,78 @@
+// The program of the command search: whether a bad line of a circuit can be true within a bound.
+use arguments::Argument;
+use files::say;
+use search_command::Terms;
+ghost use mathlib.Core.Path.{_≡_};
+ghost use lib.ListN.{length};
+
+fn say_help() {
+    say(b"search FILE b k D\n\n");
+    say(
+        b"Loads the ASCII AIGER 1.9 file FILE and searches frames 0 to k for a hit of bad line b, with a budget of D sequences\n",
+    );
+    say(b"for each frame. Prints one of\n");
+    say(
+        b"    found t   the first frame with a hit, and after that line the witness of its first hit\n",
+    );
+    say(b"    none k    no frame from 0 to k has a hit\n");
+    say(
+        b"    spent t   frames before t have none; frame t has more than D sequences, and none of the first D hits\n\n",
+    );
+    say(b"What is not accepted is refused with a number and its cause:\n");
+    help::say_refusals(1, 3);
+    help::say_refusals(5, 8);
+    help::say_refusals(10, 12);
+    say(b"\nExample: ./yunverok search examples/uart.aag 0 60 1048576\n");
+}
+
+fn number_of(i: usize) -> Argument {
+    let mut word = io::buffer();
+    let length = os::arg(i, &mut word);
+    arguments::read_argument(&word[..length])
+}
+
+// Searches the circuit of the file that argument 1 names. No witness is longer than the output.
+fn search_with(q: Terms, work: &mut [u32])
+    requires { ⌜ length (now work) ≡ 1048576 ⌝ }
+{
+    let mut file = [0u8; 65537];
+    let mut m = [0u32; 33032];
+    let mut out = [0u8; 66825];
+    let mut line = [0u8; 128];
+    let got = files::read_argument(1, &mut file);
+    if got.failed {
+        return;
+    }
+    let n = got.count;
+    let report = search_command::search(&file[..n], q, &mut m, work, &mut out, &mut line);
+    let said = report.line;
+    let witness = report.out;
+    say(&line[..said]);
+    say(&out[..witness]);
+}
+
+// Lends the working memory of the greatest size, 65,536.
+fn search_file(q: Terms) {
+    let mut work = [0u32; 1048576];
+    search_with(q, &mut work);
+}
+
+fn main() {
+    if os::arg_count() != 5 {
+        say_help();
+        return;
+    }
+    let Argument::Number(b) = number_of(2) else {
+        say_help();
+        return;
+    };
+    let Argument::Number(k) = number_of(3) else {
+        say_help();
+        return;
+    };
+    let Argument::Number(d) = number_of(4) else {
+        say_help();
+        return;
+    };
+    search_file(Terms { b, k, d });
+}
