@@ -219,52 +219,6 @@ static void folds(void)
     }
 }
 
-/* Gates in threes: one of two literals of the inputs; one of it or its complement with one of these literals or the complement; and one
-   of the complements of that and of the last gate of the three before. */
-static size_t repeating_gates(int inputs, int a)
-{
-    char *p = (char *)text;
-    uint32_t first = inputs + 1, left = 0, right = 0, last = 0;
-    p += sprintf(p, "aag %d %d 0 0 %d 1\n", inputs + a, inputs, a);
-    for (int i = 0; i < inputs; i++) p += sprintf(p, "%d\n", 2 * (i + 1));
-    p += sprintf(p, "%d\n", 2 * (inputs + a));
-    for (int g = 0; g < a; g++) {
-        uint32_t lit = 2 * (first + g);
-        if (g % 3 == 0) {
-            left = 2 + draw(2 * inputs);
-            right = 2 + draw(2 * inputs);
-            p += sprintf(p, "%u %u %u\n", lit, left, right);
-        } else if (g % 3 == 1) {
-            uint32_t again = (draw(2) ? left : right) ^ draw(2), gate = (lit - 2) ^ draw(2);
-            p += draw(2) ? sprintf(p, "%u %u %u\n", lit, again, gate) : sprintf(p, "%u %u %u\n", lit, gate, again);
-        } else {
-            p += sprintf(p, "%u %u %u\n", lit, (lit - 2) ^ 1, last ^ 1);
-            last = lit;
-        }
-    }
-    return p - (char *)text;
-}
-
-static void repeats(void)
-{
-    int gates = 0;
-    double best = 1e9;
-    for (int r = 0; r < 5; r++) {
-        double sum = 0;
-        gates = 0;
-        for (int c = 1; c <= 16; c++) {
-            int kept;
-            seed = c;
-            if (yunverok_load(text, repeating_gates(16, 3000), memory, 33040)) abort();
-            sum += fold(0, 0, &kept);
-            gates += kept;
-        }
-        if (sum < best) best = sum;
-    }
-    printf("\nfold of 3,000 gates over 16 free bits, every second of which repeats an operand one gate down: 16 circuits\n");
-    printf("gates kept %d, %.1f ns a unit (the best sum of 5 runs)\n", gates, best / 16 / 3017 * 1e9);
-}
-
 /* Products of random literals of twelve inputs: almost all are false in every pattern, so that many gates have the same signature. */
 static size_t products(int a)
 {
@@ -340,7 +294,6 @@ int main(int argc, char **argv)
     replays();
     searches();
     folds();
-    repeats();
     merges();
     triggers(argc - 1, argv + 1);
     return 0;

@@ -49,13 +49,6 @@ extern "C" {
    were; or the number of the refusal, 1 to 8, and memory is as it was. */
 uint32_t yunverok_load(const uint8_t *file, size_t file_len, uint32_t *memory, size_t memory_len);
 
-/* Preview of a load: answers the words of circuit memory that the file's circuit needs where yunverok_load would accept the file for
-   this memory, and puts its counts M I L O A B C in counts where counts_len is 7 or more; or n * 2^32 + words, n the number of the
-   refusal, 1 to 8, and words those needed, 0 where n is 1 to 3. memory is read only for its length and changed nowhere; counts is
-   otherwise as it was. */
-uint64_t yunverok_preview(const uint8_t *file, size_t file_len, const uint32_t *memory, size_t memory_len, uint32_t *counts,
-                          size_t counts_len);
-
 /* Answers 0 where the needed words of memory are what an accepted load of some file leaves, else 9. */
 uint32_t yunverok_test(const uint32_t *memory, size_t memory_len);
 

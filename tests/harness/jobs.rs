@@ -293,13 +293,10 @@ impl Harness {
         let expected = reference::load(&text, memory.len as u64);
         let before = self.words(&memory);
         let loans = [memory, file];
-        let mut faults = self.preview_faults(&text, &memory, &file, &expected);
-        if self.words(&memory) != before {
-            faults.push("the preview changed circuit memory".to_string());
-        }
         let code = self.perform(Operation::Load, large, &loans, &mut || unsafe {
             service::yunverok_load(file.pointer, file.len, memory.words(), memory.len).into()
         });
+        let mut faults = Vec::new();
         let number = expected.as_ref().err().copied().unwrap_or(0);
         if code != u64::from(number) {
             faults.push(format!("answered {code}, expected {number}"));
@@ -309,29 +306,6 @@ impl Harness {
             Err(number) => self.tally.refusal(Operation::Load, number),
         }
         self.settle(Operation::Load, &loans, faults, &|| format!("file: {}\n{}", text.escape_ascii(), shown(&before)));
-    }
-
-    /// What a preview of the load answers otherwise than expected, with 0 to 8 words lent for the counts.
-    fn preview_faults(&mut self, text: &[u8], memory: &Loan, file: &Loan, expected: &Result<Circuit, u32>) -> Vec<String> {
-        const BEFORE: u32 = 0xdead_beef;
-        let mut counts = [BEFORE; 8];
-        let room = self.random.below(9) as usize;
-        let code = unsafe {
-            service::yunverok_preview(file.pointer, file.len, memory.words(), memory.len, counts.as_mut_ptr(), room)
-        };
-        let number = expected.as_ref().err().copied().unwrap_or(0);
-        let mut shown = [BEFORE; 8];
-        if let (Ok(circuit), true) = (expected, room >= 7) {
-            shown.iter_mut().zip(circuit.counts()).for_each(|(word, count)| *word = count as u32);
-        }
-        let mut faults = Vec::new();
-        if code != (u64::from(number) << 32) + reference::words_needed(text) {
-            faults.push(format!("preview answered {code}, expected {number} and {} words", reference::words_needed(text)));
-        }
-        if counts != shown {
-            faults.push(format!("preview left the counts {counts:?}, expected {shown:?}"));
-        }
-        faults
     }
 
     fn loaded(&mut self, memory: &Loan, circuit: &Circuit) {

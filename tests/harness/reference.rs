@@ -266,17 +266,6 @@ pub fn load(file: &[u8], memory_len: u64) -> Result<Circuit, u32> {
     Ok(circuit)
 }
 
-/// The words that a file's circuit needs, 0 where its length, its header or its counts are wrong.
-pub fn words_needed(file: &[u8]) -> u64 {
-    if file.is_empty() || file.len() > 65_536 {
-        return 0;
-    }
-    match header(&mut Text { bytes: file, at: 0 }) {
-        Some(counts) if counts_fit(&counts) => needed(counts[0]),
-        _ => 0,
-    }
-}
-
 // Circuit memory
 
 /// The needed words of circuit memory after an accepted load.

@@ -2,14 +2,6 @@
 
 extern "C" {
     pub fn yunverok_load(file: *const u8, file_len: usize, memory: *mut u32, memory_len: usize) -> u32;
-    pub fn yunverok_preview(
-        file: *const u8,
-        file_len: usize,
-        memory: *const u32,
-        memory_len: usize,
-        counts: *mut u32,
-        counts_len: usize,
-    ) -> u64;
     pub fn yunverok_test(memory: *const u32, memory_len: usize) -> u32;
     pub fn yunverok_search(
         memory: *const u32,

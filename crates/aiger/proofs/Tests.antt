@@ -84,12 +84,3 @@ every-imp p q k (x ∷ xs) h =
 pub or-cases : (a b : Bool) → T (a || b) → T a ⊎ T b
 or-cases true b t = inl tt
 or-cases false b t = inr t
-
--- every test of a list holds
-abbrev pub Hold : List Bool → Type 0
-Hold [] = Unit {0}
-Hold (b ∷ bs) = T b × Hold bs
-
-pub all-hold : (bs : List Bool) → Hold bs → T (all bs)
-all-hold [] h = tt
-all-hold (b ∷ bs) h = and b (all bs) (h .0) (all-hold bs (h .1))

@@ -12,7 +12,7 @@ use Rattle.aiger.specs.Circuit.{Circuit}
 use Rattle.aiger.specs.Load.{Answer, refused, gives, load, needed}
 use Rattle.aiger.specs.Search.{Outcome, permitted}
 use Rattle.aiger.specs.Write.{write}
-use Rattle.aiger.specs.Fold.{plain, alike, repeated, folds}
+use Rattle.aiger.specs.Fold.{plain, alike, folds}
 use Rattle.aiger.specs.Witness.{readWitness, confirms}
 use Rattle.aiger.specs.Memory.{image}
 use Rattle.aiger.specs.Signature.{draw, patternBit}
@@ -62,8 +62,6 @@ pub data Example : Type 0 where
   operandPair : ℕ → ℕ → Bool → Example
   -- the operands of two gates, and whether they are the same
   operandPairs : ℕ → ℕ → ℕ → ℕ → Bool → Example
-  -- the operands of a gate and an operand of theirs, and whether the other operand is repeated one gate down
-  operandBelow : ℕ → ℕ → ℕ → ℕ → Bool → Example
   -- file, b, t, the words of working memory, the bytes of output, and the number of the refusal, 0 for none
   foldRefused : String → ℕ → ℕ → ℕ → ℕ → ℕ → Example
   -- file, and what write gives
@@ -109,7 +107,6 @@ holds (folded f b t w says) =
     eqb (refusalOf (judge (foldTests c b t 8192 2048))) 0 && onLoaded w (λ d. same (write d) (bytes w) && Bool·beq (folds c b t d) says))
 holds (operandPair l r says) = Bool·beq (plain (record { lit = 0; left = l; right = r })) says
 holds (operandPairs l r m s says) = Bool·beq (alike (record { lit = 0; left = l; right = r }) (record { lit = 0; left = m; right = s })) says
-holds (operandBelow l r o a says) = Bool·beq (repeated l r o a) says
 holds (foldRefused f b t room len n) = onLoaded f (λ c. eqb (refusalOf (judge (foldTests c b t room len))) n)
 holds (written f w) = onLoaded f (λ c. same (write c) (bytes w))
 holds (witnessed f w n says) = onLoaded f (λ c. elim (readWitness c (bytes w ++ replicate n 10 ++ bytes ".\n")) [ Option.none ↦ not says | Option.some x ↦ says ])
@@ -134,10 +131,6 @@ G = "aag 3 1 1 0 1 1\n2\n4 4 4\n6\n6 2 5\n"
 -- two inputs; bad when they differ, by three gates
 abbrev X : String
 X = "aag 5 2 0 0 3 1\n2\n4\n11\n6 2 5\n8 3 4\n10 7 9\n"
-
--- three inputs; bad when all are true, by two gates of which the second repeats an input
-abbrev R : String
-R = "aag 6 3 0 0 3 1\n2\n4\n6\n12\n8 2 4\n10 8 2\n12 10 6\n"
 
 -- a latch that starts at 1 and stays there, and no input; bad is the latch
 abbrev H : String
@@ -175,29 +168,34 @@ further =
     ∷ searched "aag 2 2 0 1 0 2 1\n2\n4\n0\n2\n4\n5\n" 0 0 4 ("found 0\n1\nb0\n\n10\n.\n" ∷ [])
     -- inputs frame by frame, gates in any order
     ∷ searched "aag 6 2 2 0 2 1\n2\n4\n6 4\n8 1\n12\n12 11 8\n10 7 3\n" 0 1 16 ("found 1\n1\nb0\n00\n00\n10\n.\n" ∷ [])
-    -- a constraint counts in the frame of the hit alone
-    ∷ searched "aag 3 1 1 0 0 1 1\n2\n4 2\n4\n3\n" 0 1 4 ("found 1\n1\nb0\n0\n1\n0\n.\n" ∷ [])
+    -- a constraint counts in every frame up to that of the hit
+    ∷ searched "aag 3 1 1 0 0 1 1\n2\n4 2\n4\n3\n" 0 1 4 ("none 1\n" ∷ [])
+    ∷ searched "aag 3 1 1 0 0 1 1\n2\n4 2\n4\n2\n" 0 2 8 ("found 1\n1\nb0\n0\n1\n1\n.\n" ∷ [])
+    ∷ replayed "aag 3 1 1 0 0 1 1\n2\n4 2\n4\n3\n" "1\nb0\n0\n1\n0\n.\n" false
+    ∷ folded "aag 3 1 1 0 0 1 1\n2\n4 2\n4\n3\n" 0 1 "aag 2 2 0 1 0 0 0\n2\n4\n0\n" true
+    ∷ folded "aag 3 1 1 0 0 1 1\n2\n4 2\n4\n3\n" 0 1 "aag 3 2 0 1 1 0 0\n2\n4\n6\n6 5 2\n" false
     -- the second of two bad lines
     ∷ searched "aag 1 1 0 0 0 2\n2\n2\n3\n" 1 0 2 ("found 0\n1\nb1\n\n0\n.\n" ∷ [])
     -- size counts free starts and constraints; the output counts b's digits
-    ∷ searchRefused F 0 0 1 64 2048 0
-    ∷ searchRefused F 0 0 1 63 2048 12
+    ∷ searchRefused F 0 0 1 80 2048 0
+    ∷ searchRefused F 0 0 1 79 2048 12
     ∷ searchRefused "aag 0 0 0 0 0 11\n0\n0\n0\n0\n0\n0\n0\n0\n0\n0\n0\n" 10 0 1 8192 10 0
     ∷ searchRefused "aag 0 0 0 0 0 11\n0\n0\n0\n0\n0\n0\n0\n0\n0\n0\n0\n" 10 0 1 8192 9 13
-    -- numbers 10 to 13: S at bound 254 has size 511, at 255 513
+    -- numbers 10 to 13: S at bound 169 has size 511, at 170 514
     ∷ searchRefused S 1 256 0 0 0 10
     ∷ searchRefused S 0 256 16 8192 2048 11
     ∷ searchRefused S 0 254 0 8192 2048 11
     ∷ searchRefused S 0 254 4294967297 8192 2048 11
+    ∷ searchRefused S 0 170 16 8192 2048 12
     ∷ searchRefused S 0 255 16 8192 2048 12
-    ∷ searchRefused S 0 254 16 8175 2048 12
-    ∷ searchRefused S 0 254 4294967296 8176 520 0
-    ∷ searchRefused S 0 254 16 8176 519 13
+    ∷ searchRefused S 0 169 16 8175 2048 12
+    ∷ searchRefused S 0 169 4294967296 8176 350 0
+    ∷ searchRefused S 0 169 16 8176 349 13
     ∷ searchRefused "aag 0 0 0 0 0\n" 0 0 1 8192 2048 10
     -- a size of 65,536 and one of 65,537
-    ∷ sizeRefused 255 255 255 1048576 0
-    ∷ sizeRefused 255 256 255 1048592 12
-    ∷ sizeRefused 255 255 255 1048575 12
+    ∷ sizeRefused 254 255 255 1048576 0
+    ∷ sizeRefused 254 256 255 1048592 12
+    ∷ sizeRefused 254 255 255 1048575 12
     -- the search program's first line: three numbers in the file's form, then a line feed
     ∷ requested "search 0 2 16\n" true
     ∷ requested "search 0 2\n" false
@@ -209,9 +207,9 @@ further =
     ∷ foldRefused S 1 256 0 0 10
     ∷ foldRefused S 0 256 8192 2048 11
     ∷ foldRefused S 0 255 8192 99999 12
-    ∷ foldRefused S 0 2 112 232 0
-    ∷ foldRefused S 0 2 111 232 12
-    ∷ foldRefused S 0 2 112 231 13
+    ∷ foldRefused S 0 2 160 304 0
+    ∷ foldRefused S 0 2 159 304 12
+    ∷ foldRefused S 0 2 160 303 13
     -- replay
     ∷ replayed S "1\nb0\n00\n1\n1\n0\n.\n" true
     ∷ replayed S "1\nb0\n00\n1\n1\n0\n0\n.\n" false
@@ -245,18 +243,6 @@ further =
     ∷ folded "aag 2 2 0 0 0 1\n2\n4\n2\n" 0 0 "aag 5 2 0 1 3 0 0\n2\n4\n11\n6 4 2\n8 5 2\n10 9 7\n" false
     ∷ folded S 0 1 "aag 5 2 0 1 3 0 0\n2\n4\n10\n6 4 2\n8 5 3\n10 8 6\n" false
     ∷ folded S 0 2 "aag 5 3 0 1 1 0 0\n2\n4\n6\n10\n10 4 2\n" false
-    ∷ folded R 0 0 "aag 5 3 0 1 2 0 0\n2\n4\n6\n10\n8 4 2\n10 8 6\n" true
-    ∷ folded S 0 2 "aag 5 3 0 1 2 0 0\n2\n4\n6\n10\n8 4 2\n10 8 2\n" false
-    -- operand 2 or its complement, with gate 8 of operands 6 and 2, 2 and 6, 6 and 3, or its complement 9
-    ∷ operandBelow 6 2 8 2 true
-    ∷ operandBelow 6 2 8 3 true
-    ∷ operandBelow 6 2 9 3 true
-    ∷ operandBelow 6 2 9 2 false
-    ∷ operandBelow 6 2 8 4 false
-    ∷ operandBelow 6 2 8 6 true
-    ∷ operandBelow 7 2 8 6 true
-    ∷ operandBelow 7 2 9 6 true
-    ∷ operandBelow 7 2 9 7 false
     ∷ operandPairs 5 2 5 2 true
     ∷ operandPairs 5 2 5 4 false
     ∷ operandPairs 5 2 4 2 false

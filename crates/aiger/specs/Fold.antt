@@ -1,11 +1,10 @@
 -- Folded frames: which circuits fold may write. Assumes nothing.
 use mathlib.Core.Bool.{Bool, true, false, not, _&&_, _||_, Bool·beq}
 use mathlib.Core.List.{List, [], _∷_, map}
-use Prim.Native.Nat.{ℕ, zero, suc, _+_, _-_, _*_, _%_, _^_}
+use Prim.Native.Nat.{ℕ, zero, suc, _+_, _*_, _^_}
 use lib.Dec.{leb, ltb, eqb}
 use lib.ListN.{length, getD}
-use Rattle.aiger.specs.Lists.{all, every, any, pairwise, everyBelow, member, same, upto}
-use Rattle.aiger.specs.Bits.{odd}
+use Rattle.aiger.specs.Lists.{every, any, pairwise, everyBelow, member, same, upto}
 use Rattle.aiger.specs.Circuit.{Circuit, Gate, var}
 use Rattle.aiger.specs.Frames.{valueAt, freeBits, freeBit}
 use Rattle.aiger.specs.Search.{reaches}
@@ -49,43 +48,10 @@ twins d n l m =
 unfoldable pub reduced : Circuit → ℕ → Bool
 reduced d n = pairwise (λ g h. not (twins d n (g .lit) (h .lit))) (d .gates) && every (λ g. every (λ l. not (twins d n l (g .lit))) (0 ∷ d .inputs)) (d .gates)
 
--- the complement of a literal
-abbrev pub complement : ℕ → ℕ
-complement l = 2 * var l + (1 - l % 2)
-
--- literal l is one of two operands
-abbrev pub among : ℕ → ℕ → ℕ → Bool
-among left right l = eqb l left || eqb l right
-
--- a is repeated one gate down, where o is a gate of these operands or its complement: (a and y), (not a and y) or not (not a and y)
-unfoldable pub repeated : ℕ → ℕ → ℕ → ℕ → Bool
-repeated left right o a = among left right (complement a) || (not (odd o) && among left right a)
-
--- gate g has an operand that is repeated one gate down, in gate h
-unfoldable pub repeatedIn : Gate → Gate → Bool
-repeatedIn g h =
-    (eqb (var (h .lit)) (var (g .left)) && repeated (h .left) (h .right) (g .left) (g .right))
-    || (eqb (var (h .lit)) (var (g .right)) && repeated (h .left) (h .right) (g .right) (g .left))
-
--- the rules of a fold d of c for bad line b at frame t, one by one
-abbrev pub foldRules : Circuit → ℕ → ℕ → Circuit → List Bool
-foldRules c b t d =
-    -- inputs, output and gates as above
-    shaped (freeBits c t) d
-    -- no gate has a constant operand, equal operands or opposite operands
-    ∷ every plain (d .gates)
-    -- no two gates have the same operands
-    ∷ pairwise (λ g h. not (alike g h)) (d .gates)
-    -- no gate has an operand that is repeated one gate down
-    ∷ every (λ g. every (λ h. not (repeatedIn g h)) (d .gates)) (d .gates)
-    -- every gate leads to the output
-    ∷ every (λ g. leads d (length (d .gates)) (var (g .lit))) (d .gates)
-    -- with twelve free bits or fewer no gate is equal or opposite in function to another, to a constant or to an input
-    ∷ (ltb 12 (freeBits c t) || reduced d (freeBits c t))
-    -- the output is the hit
-    ∷ everyBelow (2 ^ freeBits c t) (λ x. Bool·beq (valueOn d (freeBits c t) x (output d)) (reaches c b t x))
-    ∷ []
-
 -- d is a fold of c for bad line b at frame t
 unfoldable pub folds : Circuit → ℕ → ℕ → Circuit → Bool
-folds c b t d = all (foldRules c b t d)
+folds c b t d =
+    let n = freeBits c t in
+    shaped n d && every plain (d .gates) && pairwise (λ g h. not (alike g h)) (d .gates)
+    && every (λ g. leads d (length (d .gates)) (var (g .lit))) (d .gates) && (ltb 12 n || reduced d n)
+    && everyBelow (2 ^ n) (λ x. Bool·beq (valueOn d n x (output d)) (reaches c b t x))

@@ -5,7 +5,7 @@ use mathlib.Core.Option.{Option, none, some}
 use Prim.Native.Nat.{ℕ, zero, suc, _+_, _-_, _*_}
 use lib.Dec.{eqb}
 use lib.ListN.{length, getD}
-use Rattle.aiger.specs.Lists.{every, tally, upto}
+use Rattle.aiger.specs.Lists.{every, everyBelow, tally, upto}
 use Rattle.aiger.specs.Bits.{odd, bit}
 use Rattle.aiger.specs.Circuit.{Circuit, Latch, Gate, var, gateOf}
 
@@ -51,9 +51,13 @@ state c r (suc t) = map (λ l. value (frame c (state c r t) (getD (r .rows) t []
 unfoldable pub valueAt : Circuit → Run → ℕ → ℕ → Bool
 valueAt c r t l = value (frame c (state c r t) (getD (r .rows) t [])) l
 
--- "A sequence is allowed at frame t if every constraint is true in frame t."
+-- every constraint is true in frame t
+unfoldable pub constrained : Circuit → Run → ℕ → Bool
+constrained c r t = every (valueAt c r t) (c .constraints)
+
+-- "a sequence is allowed at frame t only if every constraint is true in all frames 0 to t" (document 02, note 4)
 unfoldable pub allowed : Circuit → Run → ℕ → Bool
-allowed c r t = every (valueAt c r t) (c .constraints)
+allowed c r t = everyBelow (suc t) (constrained c r)
 
 -- "It hits property b there if it is allowed and bad line b is true."
 unfoldable pub hits : Circuit → ℕ → Run → ℕ → Bool
@@ -113,6 +117,6 @@ freeBits c t = bitsIn (space c) t
 unfoldable pub run : Circuit → ℕ → ℕ → Run
 run c t x = runIn (space c) t x
 
--- "The size for bound k is (k+1) × (I+A+C) + U + 1."
+-- "The size becomes (k+1) × (I+A+C+1) + U + 1" (document 02, note 4)
 unfoldable pub size : Circuit → ℕ → ℕ
-size c k = (k + 1) * (length (c .inputs) + length (c .gates) + length (c .constraints)) + freeStarts c + 1
+size c k = (k + 1) * (length (c .inputs) + length (c .gates) + length (c .constraints) + 1) + freeStarts c + 1

@@ -2,8 +2,8 @@
 use mathlib.Core.Path.{_≡_, refl, sym, ap, _∙_, subst}
 use mathlib.Core.Bool.{Bool, true, false, not, _&&_, _||_, Bool·beq}
 use mathlib.Core.List.{List, [], _∷_, map}
-use mathlib.Core.Logic.{_⊎_, inl, inr, ⊎-elim}
-use Prim.Native.Nat.{ℕ, zero, suc, _+_, _-_, _*_, _%_, _≤_, _<_, _^_}
+use mathlib.Core.Logic.{inl, inr, ⊎-elim}
+use Prim.Native.Nat.{ℕ, zero, suc, _+_, _*_, _≤_, _<_, _^_}
 use native.Mathlib.Omega.{arith}
 use borrow.Author.Tests.{ne-eqb, ltb-false}
 use lib.Dec.{T, leb, ltb, eqb, le→leb, eqb→eq}
@@ -12,16 +12,15 @@ use Rattle.aiger.specs.Lists.{every, any, pairwise, everyBelow, member, upto}
 use Rattle.aiger.specs.Circuit.{Circuit, Gate, var}
 use Rattle.aiger.specs.Frames.{freeBits, freeBit}
 use Rattle.aiger.specs.Search.{reaches}
-use Rattle.aiger.specs.Fold.{valueOn, output, plain, alike, leads, twins, reduced, complement, among, repeated, repeatedIn, foldRules, folds}
-use Rattle.aiger.specs.Bits.{nonzero, odd}
-use Rattle.aiger.proofs.Tests.{and, and-left, and-right, or-cases, T-true, not-T, below-at, below-all, all-hold}
+use Rattle.aiger.specs.Fold.{valueOn, output, shaped, plain, alike, leads, twins, reduced, folds}
+use Rattle.aiger.proofs.Tests.{and, and-left, and-right, or-cases, T-true, not-T, below-at, below-all}
 use Rattle.meaning.proofs.Lists.{or-left, or-right, equal-of-beq, eqb-of, every-all, pairwise-all, any-at, length-map-upto, getD-map-upto}
 use Rattle.meaning.proofs.Defined.{noGate, gateAt}
 use Rattle.meaning.proofs.Shape.{shape-in}
-use Rattle.nodes.specs.Graph.{Pair, pairAt, nodes, edgeValue, deep, Built}
+use Rattle.nodes.specs.Graph.{Pair, pairAt, nodes, edgeValue, Built}
 use Rattle.cone.specs.Cone.{inCone, keptBefore, number, Numbered, renumbered, keptGate, folded}
-use Rattle.cone.proofs.Cone.{Operand, root-kept, reason, operand-earlier, before-lt, number-leaf, number-same}
-use Rattle.cone.proofs.Gates.{length-folded, renumbered-var, renumbered-sign, renumbered-same, GateFrom, from-gate, to-gate, from-order, operand-numbered, shape}
+use Rattle.cone.proofs.Cone.{Operand, root-kept, reason, operand-earlier, before-lt, number-leaf}
+use Rattle.cone.proofs.Gates.{length-folded, renumbered-var, renumbered-same, GateFrom, from-gate, to-gate, from-order, operand-numbered, shape}
 use Rattle.cone.proofs.Circuit.{folded-shape}
 use Rattle.cone.proofs.Values.{edge-on, node-on}
 
@@ -91,132 +90,6 @@ module _ (n : ℕ) (gs : List Pair) (root : ℕ) (built : Built n gs) (inside : 
       kept-apart (a .0) (b .0) o (b .1 .inside) (a .1 .kept) (b .1 .kept)
       (ap (λ (g : Gate). g .left) (sym (a .1 .gate)) ∙ e ∙ ap (λ (g : Gate). g .left) (b .1 .gate))
       (ap (λ (g : Gate). g .right) (sym (a .1 .gate)) ∙ f ∙ ap (λ (g : Gate). g .right) (b .1 .gate))))
-
-  -- ---- no operand is repeated one gate down
-
-  renumbered-complement : (e : ℕ) → complement (renumbered n gs root e) ≡ renumbered n gs root (complement e)
-  unfolding renumbered
-  renumbered-complement e =
-      let v : var (complement e) ≡ var e = omega arith in
-      omega (arith, ap (number n gs root) v)
-
-  renumbered-odd : (e : ℕ) → odd (renumbered n gs root e) ≡ odd e
-  renumbered-odd e = ap nonzero (renumbered-sign n gs root e)
-
-  -- an operand of gate j that is kept, renumbered
-  among-back : (j e : ℕ) → j < length gs → T (inCone n gs root (n + 1 + j)) → Numbered n gs root (var e)
-      → T (among (renumbered n gs root (pairAt gs j .left)) (renumbered n gs root (pairAt gs j .right)) (renumbered n gs root e))
-      → (e ≡ pairAt gs j .left) ⊎ (e ≡ pairAt gs j .right)
-  among-back j e h t a o =
-      let l = pairAt gs j .left in
-      let r = pairAt gs j .right in
-      ⊎-elim
-      (λ q. inl (renumbered-same n gs root e l a (operand-numbered n gs root built j (var l) h t (inl refl)) (eqb→eq _ _ q)))
-      (λ q. inr (renumbered-same n gs root e r a (operand-numbered n gs root built j (var r) h t (inr refl)) (eqb→eq _ _ q)))
-      (or-cases (eqb (renumbered n gs root e) (renumbered n gs root l)) (eqb (renumbered n gs root e) (renumbered n gs root r)) o)
-
-  among-in : (p : Pair) (e : ℕ) → (e ≡ p .left) ⊎ (e ≡ p .right) → T (among (p .left) (p .right) e)
-  among-in p e (inl q) = or-left (eqb e (p .left)) (eqb e (p .right)) (eqb-of q)
-  among-in p e (inr q) = or-right (eqb e (p .left)) (eqb e (p .right)) (eqb-of q)
-
-  module _ (j : ℕ) (h : j < length gs) (t : T (inCone n gs root (n + 1 + j))) (o a : ℕ) (numbered : Numbered n gs root (var a)) where
-    -- the operand, or its complement, is one of gate j
-    repeated-operand : T (repeated (renumbered n gs root (pairAt gs j .left)) (renumbered n gs root (pairAt gs j .right)) (renumbered n gs root o) (renumbered n gs root a))
-        → ((complement a ≡ pairAt gs j .left) ⊎ (complement a ≡ pairAt gs j .right))
-        ⊎ ((odd o ≡ false) × ((a ≡ pairAt gs j .left) ⊎ (a ≡ pairAt gs j .right)))
-    unfolding repeated
-    repeated-operand r =
-        let l′ = renumbered n gs root (pairAt gs j .left) in
-        let r′ = renumbered n gs root (pairAt gs j .right) in
-        let o′ = renumbered n gs root o in
-        let a′ = renumbered n gs root a in
-        let v : var a ≡ var (complement a) = omega arith in
-        ⊎-elim
-        (λ q.
-        inl (among-back j (complement a) h t (subst (Numbered n gs root) v numbered) (subst (λ (x : ℕ). T (among l′ r′ x)) (renumbered-complement a) q)))
-        (λ q.
-        inr (
-          not-true (odd o) (subst (λ (x : Bool). T (not x)) (renumbered-odd o) (and-left (not (odd o′)) (among l′ r′ a′) q)),
-          among-back j a h t numbered (and-right (not (odd o′)) (among l′ r′ a′) q),
-        ))
-        (or-cases (among l′ r′ (complement a′)) (not (odd o′) && among l′ r′ a′) r)
-      where
-        not-true : (b : Bool) → T (not b) → b ≡ false
-        not-true true t = absurd t
-        not-true false t = refl
-
-    repeated-back : T (repeated (renumbered n gs root (pairAt gs j .left)) (renumbered n gs root (pairAt gs j .right)) (renumbered n gs root o) (renumbered n gs root a))
-        → T (repeated (pairAt gs j .left) (pairAt gs j .right) o a)
-    unfolding repeated
-    repeated-back r =
-        let p = pairAt gs j in
-        ⊎-elim
-        (λ q. or-left (among (p .left) (p .right) (complement a)) (not (odd o) && among (p .left) (p .right) a) (among-in p (complement a) q))
-        (λ q.
-        or-right (among (p .left) (p .right) (complement a)) (not (odd o) && among (p .left) (p .right) a)
-        (and (not (odd o)) (among (p .left) (p .right) a) (T-true (ap not (q .0))) (among-in p a (q .1))))
-        (repeated-operand r)
-
-    -- so its node comes before gate j
-    repeated-earlier : T (repeated (renumbered n gs root (pairAt gs j .left)) (renumbered n gs root (pairAt gs j .right)) (renumbered n gs root o) (renumbered n gs root a))
-        → var a < n + 1 + j
-    repeated-earlier r =
-        let l = built .earlier j h in
-        let m = built .larger j h in
-        let v : var (complement a) ≡ var a = omega arith in
-        ⊎-elim (λ q. ⊎-elim (λ e. omega (arith, ap var e)) (λ e. omega (arith, ap var e)) q)
-        (λ q. ⊎-elim (λ e. omega (arith, ap var e)) (λ e. omega (arith, ap var e)) (q .1)) (repeated-operand r)
-
-  -- an operand that is repeated in gate j, where the left operand of gate i is gate j
-  deep-there : (i : ℕ) → i < length gs → (j : ℕ) → n + 1 + j ≡ var (pairAt gs i .left)
-      → T (repeated (pairAt gs j .left) (pairAt gs j .right) (pairAt gs i .left) (pairAt gs i .right)) → ⊥
-  unfolding deep
-  deep-there i h j e r =
-      let l = pairAt gs i .left in
-      let m = pairAt gs i .right in
-      let z : j ≡ var l - (n + 1) = omega arith in
-      let k = var l - (n + 1) in
-      let d : T (leb (n + 1) (var l) && repeated (pairAt gs k .left) (pairAt gs k .right) l m) =
-      and (leb (n + 1) (var l)) (repeated (pairAt gs k .left) (pairAt gs k .right) l m) (le→leb (n + 1) (var l) (omega arith))
-      (subst (λ (x : ℕ). T (repeated (pairAt gs x .left) (pairAt gs x .right) l m)) z r) in
-      subst (λ (x : Bool). T x) (built .shallow i h) d
-
-  kept-shallow : (i j : ℕ) → i < length gs → j < length gs → T (inCone n gs root (n + 1 + i)) → T (inCone n gs root (n + 1 + j))
-      → T (repeatedIn (keptGate n gs root i) (keptGate n gs root j)) → ⊥
-  unfolding keptGate repeatedIn
-  kept-shallow i j h k s t r =
-      let l = pairAt gs i .left in
-      let m = pairAt gs i .right in
-      let a = operand-numbered n gs root built i (var l) h s (inl refl) in
-      let b = operand-numbered n gs root built i (var m) h s (inr refl) in
-      let ren : ℕ → ℕ = renumbered n gs root in
-      let lit : ℕ = 2 * number n gs root (n + 1 + j) in
-      let rep : ℕ → ℕ → Bool = λ o e. repeated (ren (pairAt gs j .left)) (ren (pairAt gs j .right)) o e in
-      let is : (e : ℕ) → Numbered n gs root (var e) → T (eqb (var lit) (var (ren e))) → n + 1 + j ≡ var e =
-      λ e z q.
-      let w : var lit ≡ number n gs root (n + 1 + j) = omega arith in
-      number-same n gs root (n + 1 + j) (var e) (inr t) z (sym w ∙ eqb→eq (var lit) (var (ren e)) q ∙ renumbered-var n gs root e) in
-      ⊎-elim
-      (λ q.
-      let e = is l a (and-left (eqb (var lit) (var (ren l))) (rep (ren l) (ren m)) q) in
-      deep-there i h j e (repeated-back j k t l m b (and-right (eqb (var lit) (var (ren l))) (rep (ren l) (ren m)) q)))
-      (λ q.
-      let e = is m b (and-left (eqb (var lit) (var (ren m))) (rep (ren m) (ren l)) q) in
-      omega (arith, repeated-earlier j k t m l a (and-right (eqb (var lit) (var (ren m))) (rep (ren m) (ren l)) q), built .larger i h))
-      (or-cases (eqb (var lit) (var (ren l)) && rep (ren l) (ren m)) (eqb (var lit) (var (ren m)) && rep (ren m) (ren l)) r)
-
-  pub folded-shallow : T (every (λ g. every (λ h. not (repeatedIn g h)) (folded n gs root .gates)) (folded n gs root .gates))
-  folded-shallow =
-      every-all (λ g. every (λ h. not (repeatedIn g h)) (d .gates)) (d .gates) noGate
-      (λ p h.
-      let a = to-gate n gs root p h in
-      every-all (λ k. not (repeatedIn (gateAt d p) k)) (d .gates) noGate
-      (λ q l.
-      let b = to-gate n gs root q l in
-      not-T (repeatedIn (gateAt d p) (gateAt d q))
-      (λ r.
-      kept-shallow (a .0) (b .0) (a .1 .inside) (b .1 .inside) (a .1 .kept) (b .1 .kept)
-      (subst (λ (k : Gate). T (repeatedIn (keptGate n gs root (a .0)) k)) (b .1 .gate) (subst (λ (g : Gate). T (repeatedIn g (gateAt d q))) (a .1 .gate) r)))))
 
   -- ---- every gate leads to the output
 
@@ -356,22 +229,19 @@ unfolding folds
 folded-folds c b t gs root built inside h =
     let n = freeBits c t in
     let d = folded n gs root in
-    let hits : ℕ → Bool = λ x. Bool·beq (valueOn d n x (output d)) (reaches c b t x) in
-    let last : T (everyBelow (2 ^ n) hits) = below-all (2 ^ n) hits (λ x l. beq-of (folded-output n gs root built inside x ∙ h x l)) in
-    let least : T (ltb 12 n || reduced d n) = small n (reduced d n) (folded-reduced n gs root built inside) in
-    all-hold (foldRules c b t d) (
-      shape-in n d (folded-shape n gs root built inside),
-      (
-        folded-plain n gs root built inside,
-        (
-          folded-unlike n gs root built inside,
-          (
-            folded-shallow n gs root built inside,
-            (folded-leads n gs root built inside, (least, (last, tt))),
-          ),
-        ),
-      ),
-    )
+    let t1 = shaped n d in
+    let t2 = every plain (d .gates) in
+    let t3 = pairwise (λ g k. not (alike g k)) (d .gates) in
+    let t4 = every (λ g. leads d (length (d .gates)) (var (g .lit))) (d .gates) in
+    let t5 = ltb 12 n || reduced d n in
+    let p : ℕ → Bool = λ x. Bool·beq (valueOn d n x (output d)) (reaches c b t x) in
+    and (t1 && t2 && t3 && t4 && t5) (everyBelow (2 ^ n) p)
+    (and (t1 && t2 && t3 && t4) t5
+    (and (t1 && t2 && t3) t4
+    (and (t1 && t2) t3 (and t1 t2 (shape-in n d (folded-shape n gs root built inside)) (folded-plain n gs root built inside)) (folded-unlike n gs root built inside))
+    (folded-leads n gs root built inside))
+    (small n (reduced d n) (folded-reduced n gs root built inside)))
+    (below-all (2 ^ n) p (λ x l. beq-of (folded-output n gs root built inside x ∙ h x l)))
   where
     small : (n : ℕ) (r : Bool) → (n ≤ 12 → T r) → T (ltb 12 n || r)
     small n r k = go (ltb 12 n) refl

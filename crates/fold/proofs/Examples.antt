@@ -12,7 +12,7 @@ use Rattle.aiger.specs.Examples.{onLoaded}
 use Rattle.layout.specs.Order.{driver, completed, placedFrom, depthFirst}
 use Rattle.frames.specs.Starts.{freeBefore}
 use Rattle.nodes.specs.Graph.{leaves, grown, nodeValues}
-use Rattle.graph.specs.Rules.{basic, lowered, simplified}
+use Rattle.graph.specs.Rules.{simplified}
 use Rattle.graph.specs.Chosen.{hasOperands, isTwin, twinOf, conjoin}
 use Rattle.cone.specs.Cone.{operandOf, marked, inCone, keptBefore, number, renumbered, keptGate, keptGates, folded}
 use Rattle.unroll.specs.Chosen.{filled, gateMade, gatesMade, leavesMade, framesMade, lineMade, unrolled}
@@ -20,5 +20,5 @@ use Rattle.fold.specs.Chosen.{chosen}
 use Rattle.fold.specs.Examples.{writesText, texts}
 
 pub written-texts : T (every writesText texts)
-unfolding lastBelow bit isNumber decimal span endedBy token row rows digitsUpTo defined used literalsRight usedDefined gateOf operands settles acyclic header countsFit isTail body load freeStarts freeBits lineOf linesOf latchRow write onLoaded driver completed placedFrom depthFirst freeBefore leaves grown nodeValues basic lowered simplified hasOperands isTwin twinOf conjoin operandOf marked inCone keptBefore number renumbered keptGate keptGates folded filled gateMade gatesMade leavesMade framesMade lineMade unrolled chosen writesText texts
+unfolding lastBelow bit isNumber decimal span endedBy token row rows digitsUpTo defined used literalsRight usedDefined gateOf operands settles acyclic header countsFit isTail body load freeStarts freeBits lineOf linesOf latchRow write onLoaded driver completed placedFrom depthFirst freeBefore leaves grown nodeValues simplified hasOperands isTwin twinOf conjoin operandOf marked inCone keptBefore number renumbered keptGate keptGates folded filled gateMade gatesMade leavesMade framesMade lineMade unrolled chosen writesText texts
 written-texts = tt

@@ -1,17 +1,17 @@
 -- What the words of a frame say of runs. Assumes nothing.
 use mathlib.Core.Path.{_≡_, refl, sym, ap₂, _∙_, subst}
-use mathlib.Core.Bool.{Bool, false, _&&_}
+use mathlib.Core.Bool.{Bool, true, false, _&&_}
 use mathlib.Core.List.{List, [], _∷_, List·Memᴰ, List·Memᴰ·head, List·Memᴰ·tail}
 use Prim.Native.Nat.{ℕ, suc, _<_}
 use lib.Dec.{T}
 use lib.ListN.{length, getD}
-use Rattle.aiger.specs.Lists.{every}
+use Rattle.aiger.specs.Lists.{every, everyBelow}
 use Rattle.aiger.specs.Circuit.{Circuit, var, literalsRight, usedDefined, acyclic}
-use Rattle.aiger.specs.Frames.{Run, value, state, valueAt, allowed, hits}
+use Rattle.aiger.specs.Frames.{Run, value, state, valueAt, constrained, allowed, hits}
 use Rattle.meaning.proofs.Lists.{mem-at}
 use Rattle.meaning.proofs.Defined.{Known, inputAt, latchAt, next-known, bad-known, constraint-known}
 use Rattle.meaning.proofs.Values.{Valuation, valuation-value, state-next-at}
-use Rattle.frames.specs.Lanes.{lane, Leaves, Advanced, hitIn}
+use Rattle.frames.specs.Lanes.{lane, Leaves, Advanced, constrainedIn, badIn}
 
 -- tests that agree on the elements of a list
 every-same : {A : Type 0} (p q : A → Bool) (xs : List A) → ((x : A) → List·Memᴰ x xs → p x ≡ q x) → every p xs ≡ every q xs
@@ -19,17 +19,34 @@ every-same p q [] h = refl
 every-same p q (x ∷ xs) h =
     ap₂ (λ (a b : Bool). a && b) (h x (List·Memᴰ·head refl)) (every-same p q xs (λ y m. h y (List·Memᴰ·tail m)))
 
+and-swap : (a b c : Bool) → ((a && b) && c) ≡ ((a && c) && b)
+and-swap true true true = refl
+and-swap true true false = refl
+and-swap true false true = refl
+and-swap true false false = refl
+and-swap false b c = refl
+
 module _ {c : Circuit} (right : T (literalsRight c)) (known : T (usedDefined c)) (a : T (acyclic c)) (r : Run) (t : ℕ) where
   constraint-in : (l : ℕ) → List·Memᴰ l (c .constraints) → Known c (var l)
   constraint-in l m = let q = mem-at 0 m in subst (λ (x : ℕ). Known c (var x)) (q .2) (constraint-known c known (q .0))
 
-  -- where w has the values of frame t of run r, hitIn says whether the run hits there
-  pub hit-of-run : {w : ℕ → Bool} → Valuation c (getD (r .rows) t []) (state c r t) w → (b : ℕ) → hitIn c b w ≡ hits c b r t
+  -- where w has the values of frame t of run r, it says whether the constraints hold there
+  pub constrained-of-run : {w : ℕ → Bool} → Valuation c (getD (r .rows) t []) (state c r t) w → constrainedIn c w ≡ constrained c r t
+  unfolding constrained
+  constrained-of-run {w} v =
+      every-same (value w) (valueAt c r t) (c .constraints) (λ l m. valuation-value c right known a r t v l (constraint-in l m))
+
+  -- and whether the bad line is true
+  pub bad-of-run : {w : ℕ → Bool} → Valuation c (getD (r .rows) t []) (state c r t) w → (b : ℕ) → badIn c b w ≡ valueAt c r t (getD (c .bads) b 0)
+  bad-of-run v b = valuation-value c right known a r t v (getD (c .bads) b 0) (bad-known c known b)
+
+  -- so where the constraints held in the frames before, whether the run hits
+  pub hit-of-run : {w : ℕ → Bool} → Valuation c (getD (r .rows) t []) (state c r t) w → (b : ℕ)
+      → ((everyBelow t (constrained c r) && badIn c b w) && constrainedIn c w) ≡ hits c b r t
   unfolding hits allowed
   hit-of-run {w} v b =
-      ap₂ (λ (x y : Bool). x && y)
-      (every-same (value w) (valueAt c r t) (c .constraints) (λ l m. valuation-value c right known a r t v l (constraint-in l m)))
-      (valuation-value c right known a r t v (getD (c .bads) b 0) (bad-known c known b))
+      ap₂ (λ (x y : Bool). (everyBelow t (constrained c r) && x) && y) (bad-of-run v b) (constrained-of-run v)
+      ∙ and-swap (everyBelow t (constrained c r)) (valueAt c r t (getD (c .bads) b 0)) (constrained c r t)
 
   module _ {before after : List ℕ} (d : Advanced c before after) (p : ℕ) (h : p < 64)
       (v : Valuation c (getD (r .rows) t []) (state c r t) (lane before p)) where

@@ -39,9 +39,13 @@ pub record Evaluated (c : Circuit) (before after : List ℕ) : Type 0 where
   pub others : (p : ℕ) → p < 64 → (v : ℕ) → ((i : ℕ) → i < length (c .gates) → var (gateAt c i .lit) ≡ v → ⊥) → lane after p v ≡ lane before p v
   pub size : length after ≡ length before
 
--- every constraint is true, and bad line b is
-abbrev pub hitIn : Circuit → ℕ → (ℕ → Bool) → Bool
-hitIn c b w = every (value w) (c .constraints) && value w (getD (c .bads) b 0)
+-- every constraint is true
+abbrev pub constrainedIn : Circuit → (ℕ → Bool) → Bool
+constrainedIn c w = every (value w) (c .constraints)
+
+-- bad line b is true
+abbrev pub badIn : Circuit → ℕ → (ℕ → Bool) → Bool
+badIn c b w = value w (getD (c .bads) b 0)
 
 -- in each run, each latch has after the value that its next literal had before; what is no latch's variable keeps its word
 pub record Advanced (c : Circuit) (before after : List ℕ) : Type 0 where

@@ -180,15 +180,15 @@ test-operands gs left right i p q = and (eqb (pairAt gs i .left) left) (eqb (pai
 -- ---- the conjunction
 
 module _ (n : ℕ) (gs : List Pair) (left right : ℕ) (order : right ≤ left) where
-  ordered : conjoin n gs left right ≡ orMade n gs left right (simplified n gs left right)
+  ordered : conjoin n gs left right ≡ orMade n gs left right (simplified left right)
   unfolding conjoin
   ordered = rw (max-eq-left order, min-eq-right order)
 
   -- a rule
-  pub conjoin-known : (e : ℕ) → simplified n gs left right ≡ Known e → conjoin n gs left right ≡ record { gates = gs; edge = e }
+  pub conjoin-known : (e : ℕ) → simplified left right ≡ Known e → conjoin n gs left right ≡ record { gates = gs; edge = e }
   conjoin-known e s = ordered ∙ ap (orMade n gs left right) s
 
-  module _ (built : Built n gs) (s : simplified n gs left right ≡ Gate) where
+  module _ (built : Built n gs) (s : simplified left right ≡ Gate) where
     gate-made : conjoin n gs left right ≡ orMerged n gs left right (lastBelow (hasOperands gs left right) (length gs))
     gate-made = ordered ∙ ap (orMade n gs left right) s
 

@@ -2,16 +2,13 @@
 use mathlib.Core.Path.{_≡_, refl, sym, ap, _∙_}
 use mathlib.Core.Bool.{Bool, true, false, not, _&&_}
 use mathlib.Core.List.{List, [], _∷_, _++_}
-use Prim.Native.Nat.{ℕ, _+_, _-_, _*_, _≤_, _<_}
-use native.Mathlib.Decide.{ℕ-discrete, decLe}
+use Prim.Native.Nat.{ℕ, _+_, _*_, _≤_, _<_}
+use native.Mathlib.Decide.{ℕ-discrete}
 use native.Mathlib.Omega.{arith}
-use borrow.Author.Tests.{lt-leb}
-use lib.Dec.{leb}
 use lib.ListN.{length}
 use Rattle.aiger.specs.Circuit.{var}
 use Rattle.aiger.specs.Frames.{freeBit}
-use Rattle.aiger.specs.Fold.{repeated}
-use Rattle.nodes.specs.Graph.{Pair, edgeValue, nodes, pairAt, Equal, Opposite, deep, Built}
+use Rattle.nodes.specs.Graph.{Pair, edgeValue, nodes, pairAt, Equal, Opposite, Built}
 use Rattle.nodes.proofs.Laws.{edge-append, edge-new, edge-complement, length-more, pairAt-before, pairAt-new}
 use Rattle.graph.specs.Stored.{Fresh, Twinless}
 
@@ -23,14 +20,13 @@ built-empty n =
       larger = λ i h. absurd (omega arith);
       nonconstant = λ i h. absurd (omega arith);
       apart = λ i j h. absurd (omega arith);
-      shallow = λ i h. absurd (omega arith);
       unequal = λ l i h. absurd (omega arith);
       unopposite = λ l i h. absurd (omega arith);
     }
 
 module _ (n : ℕ) (gs : List Pair) (p : Pair) (b : Built n gs)
     (earlier : var (p .left) < nodes n gs) (larger : var (p .right) < var (p .left)) (nonconstant : 2 ≤ p .right)
-    (fresh : Fresh gs (p .left) (p .right)) (shallow : deep n gs (p .left) (p .right) ≡ false) (twinless : n ≤ 12 → Twinless n gs (p .left) (p .right)) where
+    (fresh : Fresh gs (p .left) (p .right)) (twinless : n ≤ 12 → Twinless n gs (p .left) (p .right)) where
   hs : List Pair
   hs = gs ++ (p ∷ [])
 
@@ -90,24 +86,6 @@ module _ (n : ℕ) (gs : List Pair) (p : Pair) (b : Built n gs)
       let e = pairAt-before gs p j (omega arith) in
       b .apart i j h u (l ∙ ap (λ (q : Pair). q .left) e) (r ∙ ap (λ (q : Pair). q .right) e)
 
-  -- whether an operand is repeated one gate down does not depend on later gates
-  deep-same : (left right : ℕ) → var left < nodes n gs → deep n hs left right ≡ deep n gs left right
-  unfolding hs deep
-  deep-same left right h = go (decLe (n + 1) (var left))
-    where
-      k : ℕ
-      k = var left - (n + 1)
-
-      test : List Pair → Bool
-      test xs = repeated (pairAt xs (var left - (n + 1)) .left) (pairAt xs (var left - (n + 1)) .right) left right
-
-      go : Dec (n + 1 ≤ var left) → (leb (n + 1) (var left) && test (gs ++ (p ∷ []))) ≡ (leb (n + 1) (var left) && test gs)
-      go (yes l) =
-          ap (λ (q : Pair). leb (n + 1) (var left) && repeated (q .left) (q .right) left right) (pairAt-before gs p (var left - (n + 1)) (omega arith))
-      go (no l) =
-          let z = lt-leb (n + 1) (var left) (omega arith) in
-          ap (λ (b : Bool). b && test (gs ++ (p ∷ []))) z ∙ sym (ap (λ (b : Bool). b && test gs) z)
-
   pub built-more : Built n (gs ++ (p ∷ []))
   unfolding hs
   built-more =
@@ -118,10 +96,6 @@ module _ (n : ℕ) (gs : List Pair) (p : Pair) (b : Built n gs)
         apart = λ i j h.
             by-gate (λ i q. j < i → q .left ≡ pairAt hs j .left → q .right ≡ pairAt hs j .right → ⊥)
             (λ i h. apart-old i j h) (apart-new j) i h;
-        shallow =
-            by-gate (λ i q. deep n hs (q .left) (q .right) ≡ false)
-            (λ i h. deep-same (pairAt gs i .left) (pairAt gs i .right) (omega (arith, b .earlier i h)) ∙ b .shallow i h)
-            (deep-same (p .left) (p .right) earlier ∙ shallow);
         unequal = λ l.
             by-gate (λ i q. (k : ℕ) → k < n + 1 + i → Equal n hs (2 * k) (2 * (n + 1 + i)) → ⊥) (unequal-old l) (unequal-new l);
         unopposite = λ l.

@@ -2,31 +2,29 @@
 use mathlib.Core.Path.{_≡_, refl, sym, ap, ap₂, _∙_, subst}
 use mathlib.Core.Bool.{Bool, false, _&&_}
 use mathlib.Core.List.{List, [], _∷_, _++_}
-use mathlib.Core.Logic.{⊎-elim}
 use Prim.Native.Nat.{ℕ, _+_, _-_, _*_, _^_, _≤_, _<_}
 use native.Mathlib.Omega.{arith}
-use lib.ListN.{length, getD}
+use lib.ListN.{length}
 use Rattle.aiger.specs.Circuit.{var}
 use Rattle.aiger.specs.Frames.{freeBit}
 use Rattle.nodes.specs.Graph.{Pair, nodeValues, edgeValue, nodes, pairAt, Built, Extends, same, more}
-use Rattle.nodes.specs.Store.{pairOf, pairsOf, oneMore}
+use Rattle.nodes.specs.Store.{pairsOf, oneMore}
 use Rattle.nodes.specs.Last.{lastBefore}
 use Rattle.nodes.specs.Edges.{edgeOf, wordEdge, edgeWord}
 use Rattle.nodes.specs.declared.Graph.{Graph}
 use Rattle.nodes.specs.declared.Edge.{Edge}
-use Rattle.nodes.proofs.Laws.{node-constant, edge-new, edge-gate, edge-word, nodes-pairsOf, length-pairsOf, pairAt-pairsOf, pairsOf-same, pair-eq}
+use Rattle.nodes.proofs.Laws.{node-constant, edge-new, edge-gate, edge-word, nodes-pairsOf, length-pairsOf, pairsOf-same}
 use Rattle.pairs.specs.Store.{isPair, PairStore}
 use Rattle.pairs.proofs.Buckets.{SamePairs, store-same}
 use Rattle.pairs.proofs.Found.{found-gate, found-holds, found-none}
 use Rattle.signatures.specs.Store.{SignatureStore}
-use Rattle.graph.specs.Rules.{basic, lowered, simplified}
-use Rattle.graph.specs.Stored.{Stored, Asked, Operands, madeOf, Conjoined, Proper, New, Twinless}
+use Rattle.graph.specs.Rules.{simplified}
+use Rattle.graph.specs.Stored.{Stored, Operands, madeOf, Conjoined, Proper, New, Twinless}
 use Rattle.graph.specs.Chosen.{Outcome, conjoin}
 use Rattle.graph.specs.declared.Made.{Made}
-use Rattle.graph.specs.declared.Simple.{Simple}
 use Rattle.graph.specs.declared.Simple.the-variants.{Known, Gate}
 use Rattle.graph.proofs.Rules as rules
-use Rattle.graph.proofs.Rules.{ruled-value, ruled-edge, ruled-nonconstant-gate, ruled-larger, lowered-value, lowered-edge, simplified-lower, known-cases, gate-cases}
+use Rattle.graph.proofs.Rules.{ruled-value, ruled-edge, ruled-nonconstant-gate, ruled-larger, proper-gate}
 use Rattle.graph.proofs.Chosen.{conjoin-known, conjoin-hashed, conjoin-added}
 use Rattle.graph.proofs.Growth.{built-more}
 
@@ -64,57 +62,21 @@ module _ (work last : List ℕ) (g : Graph) (a b : ℕ) (stored : Stored last g)
 
 -- ---- the rules
 
--- the operands of the gate that left is, in the memory
-pub lower-of : (work : List ℕ) (g : Graph) (left right : ℕ) → Asked work g left → basic left right ≡ Gate → g .free + 1 ≤ var left → {r : Simple}
-    → r ≡ lowered (record { left = getD work (16 * var left) 0; right = getD work (16 * var left + 1) 0 }) left right
-    → r ≡ simplified (g .free) (pairsOf work g) left right
-lower-of work g left right asked b l e =
-    let n = g .free in
-    let i = var left - (n + 1) in
-    let k : n + 1 + i ≡ var left = omega arith in
-    let z : 16 * var left + 0 ≡ 16 * var left = omega arith in
-    let p : pairAt (pairsOf work g) i ≡ record { left = getD work (16 * var left) 0; right = getD work (16 * var left + 1) 0 } =
-    pairAt-pairsOf work g i (omega (arith, asked .inside)) ∙ ap (pairOf work) k ∙ pair-eq (ap (λ (x : ℕ). getD work x 0) z) refl in
-    e ∙ ap (λ (q : Pair). lowered q left right) (sym p) ∙ sym (simplified-lower n (pairsOf work g) left right b l)
-
 module _ (work : List ℕ) (g : Graph) (left right : ℕ) (ready : Operands work g left right) (order : right ≤ left) where
-  -- the value and the node of the edge that a rule says
-  rule-value : (w : ℕ) → simplified (g .free) (pairsOf work g) left right ≡ Known w → (x : ℕ)
-      → edgeValue (g .free) (pairsOf work g) (freeBit (g .free) x) w ≡ both work g left right x
-  rule-value w s x =
-      let n = g .free in
-      let gs = pairsOf work g in
-      let f = freeBit n x in
-      ⊎-elim (λ q. ruled-value (nodeValues n gs f) (node-constant n gs f) left right order (rules.ruled left right) w q)
-      (λ q.
-      let i = var left - (n + 1) in
-      let l : i < length gs = omega (arith, ready .left, length-pairsOf work g, q .0) in
-      let b = ready .stored .built in
-      let z : 2 * var left ≡ 2 * (n + 1 + i) = omega (arith, q .0) in
-      lowered-value (nodeValues n gs f) (node-constant n gs f) (pairAt gs i) left right
-      (ap (edgeValue n gs f) z ∙ edge-gate n gs f i l (pairAt gs i) refl (b .earlier i l) (omega (arith, b .earlier i l, b .larger i l))) (q .1))
-      (known-cases n gs left right w s)
-
-  rule-edge : (w : ℕ) → simplified (g .free) (pairsOf work g) left right ≡ Known w → var w < g .nodes
-  rule-edge w s =
-      ⊎-elim (λ q. ruled-edge (g .nodes) (ready .left) (rules.ruled left right) w q) (λ q. lowered-edge (g .nodes) (ready .left) (ready .right) (q .1))
-      (known-cases (g .free) (pairsOf work g) left right w s)
-
-  pub known-made : (w : ℕ) (e : Edge) → e ≡ wordEdge w → simplified (g .free) (pairsOf work g) left right ≡ Known w → Conjoined work work g left right (madeOf g e)
+  pub known-made : (w : ℕ) (e : Edge) → e ≡ wordEdge w → simplified left right ≡ Known w → Conjoined work work g left right (madeOf g e)
   known-made w e q s =
-      word-made work work g left right (ready .stored) refl w e q (rule-edge w s) (λ x u. rule-value w s x)
+      word-made work work g left right (ready .stored) refl w e q (ruled-edge (g .nodes) (ready .left) (rules.ruled left right) w s)
+      (λ x u. ruled-value (nodeValues (g .free) (pairsOf work g) (freeBit (g .free) x)) (node-constant (g .free) (pairsOf work g) (freeBit (g .free) x)) left right order (rules.ruled left right) w s)
       (conjoin-known (g .free) (pairsOf work g) left right order w s)
 
-  pub gate-proper : simplified (g .free) (pairsOf work g) left right ≡ Gate → Proper work g left right
+  pub gate-proper : simplified left right ≡ Gate → Proper work g left right
   gate-proper s =
-      let r = gate-cases (g .free) (pairsOf work g) left right s .0 in
       record {
         stored = ready .stored;
         room = ready .room;
         earlier = ready .left;
-        larger = ruled-larger (rules.ruled left right) r order;
-        nonconstant = ruled-nonconstant-gate (rules.ruled left right) r;
-        no-rule = s;
+        larger = ruled-larger (rules.ruled left right) s order;
+        nonconstant = ruled-nonconstant-gate (rules.ruled left right) s;
       }
 
 -- ---- a gate that is there
@@ -148,7 +110,7 @@ module _ (work : List ℕ) (g : Graph) (left right : ℕ) (ready : Proper work g
       let d = found-holds work g left right r e h in
       let m = found-gate work g left right r e h in
       let z : 2 * (g .free + 1 + i) ≡ 2 * (r - 1) = omega arith in
-      conjoin-hashed (g .free) (pairsOf work g) left right (omega (arith, ready .larger)) (ready .stored .built) (ready .no-rule)
+      conjoin-hashed (g .free) (pairsOf work g) left right (omega (arith, ready .larger)) (ready .stored .built) (proper-gate left right (ready .nonconstant) (ready .larger))
       i (d .below) (d .first) (d .second)
       ∙ outcome-eq refl z
 
@@ -176,7 +138,7 @@ module _ (work last : List ℕ) (g : Graph) (left right : ℕ) (ready : New work
   unfolding pair
   larger-built =
       built-more (g .free) (pairsOf work g) (record { left = left; right = right }) (ready .proper .stored .built) (omega (arith, node-count, ready .proper .earlier))
-      (ready .proper .larger) (ready .proper .nonconstant) (ready .fresh) (gate-cases (g .free) (pairsOf work g) left right (ready .proper .no-rule) .1) twinless
+      (ready .proper .larger) (ready .proper .nonconstant) (ready .fresh) twinless
 
   larger-stored : Stored last (oneMore g)
   unfolding pair
@@ -204,7 +166,7 @@ module _ (work last : List ℕ) (g : Graph) (left right : ℕ) (ready : New work
         extends = subst (λ (hs : List Pair). Extends (pairsOf work g) hs) (sym grown) (more pair);
         chosen =
             conjoin-added (g .free) (pairsOf work g) left right (omega (arith, ready .proper .larger)) (ready .proper .stored .built)
-            (ready .proper .no-rule) (ready .fresh) twinless
+            (proper-gate left right (ready .proper .nonconstant) (ready .proper .larger)) (ready .fresh) twinless
             ∙ outcome-eq (sym grown) (omega (arith, node-count));
         node = omega arith;
         value = λ x u.
@@ -241,7 +203,6 @@ new-same work last g left right d q w =
             earlier = w .proper .earlier;
             larger = w .proper .larger;
             nonconstant = w .proper .nonconstant;
-            no-rule = rw q (w .proper .no-rule);
           };
       fresh = rw q (w .fresh);
     }

@@ -23,6 +23,7 @@ use Rattle.signatures.specs.Twin.{Searched, Ready}
 use Rattle.signatures.proofs.Words.{test-apart}
 use Rattle.signatures.proofs.Stores.{built-ordered, store-kept}
 use Rattle.graph.specs.Stored.{Stored, madeOf, Conjoined, New, Twinless}
+use Rattle.graph.proofs.Rules.{proper-gate}
 use Rattle.graph.proofs.Chosen.{conjoin-merged}
 use Rattle.graph.proofs.Outcomes.{pairs-same, stored-same, word-made, added-made}
 
@@ -158,7 +159,7 @@ module _ (work last : List ℕ) (g : Graph) (left right r : ℕ) (ready : New wo
       let equal = d .twin .found (r - 1) (omega arith) .1 in
       word-made work last g left right twin-stored twin-pairs (r - 1) e q (twin-edge h) equal
       (conjoin-merged (g .free) (pairsOf work g) left right (omega (arith, ready .proper .larger)) (ready .proper .stored .built)
-      (ready .proper .no-rule) (ready .fresh) few (r - 1) (d .twin .found (r - 1) (omega arith) .0) equal)
+      (proper-gate left right (ready .proper .nonconstant) (ready .proper .larger)) (ready .fresh) few (r - 1) (d .twin .found (r - 1) (omega arith) .0) equal)
 
   pub twin-none : r ≡ 0 → Twinless (g .free) (pairsOf last g) left right
   twin-none z = subst (λ (hs : List Pair). Twinless (g .free) hs left right) (sym twin-pairs) (d .twin .none z)

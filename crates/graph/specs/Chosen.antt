@@ -46,4 +46,4 @@ orMade n gs left right Gate = orMerged n gs left right (lastBelow (hasOperands g
 
 -- the conjunction of edges a and b in the graph over n free bits whose gates are gs
 unfoldable pub conjoin : ℕ → List Pair → ℕ → ℕ → Outcome
-conjoin n gs a b = orMade n gs (max a b) (min a b) (simplified n gs (max a b) (min a b))
+conjoin n gs a b = orMade n gs (max a b) (min a b) (simplified (max a b) (min a b))

@@ -14,10 +14,8 @@ use Rattle.nodes.specs.declared.Edge.{Edge}
 use Rattle.pairs.specs.Store.{PairStore}
 use Rattle.signatures.specs.Store.{SignatureStore}
 use Rattle.signatures.specs.Twin.{Conjunction}
-use Rattle.graph.specs.Rules.{simplified}
 use Rattle.graph.specs.Chosen.{conjoin}
 use Rattle.graph.specs.declared.Made.{Made}
-use Rattle.graph.specs.declared.Simple.the-variants.{Gate}
 
 -- the graph g stands in the memory
 pub record Stored (work : List ℕ) (g : Graph) : Type 0 where
@@ -60,19 +58,13 @@ pub record Conjoined (work last : List ℕ) (g : Graph) (a b : ℕ) (made : Made
       → edgeValue (g .free) (pairsOf last (made .graph)) (freeBit (g .free) x) (edgeWord (made .edge))
       ≡ (edgeValue (g .free) (pairsOf work g) (freeBit (g .free) x) a && edgeValue (g .free) (pairsOf work g) (freeBit (g .free) x) b)
 
--- the operands of a gate: the larger one first, none constant, neither equal nor opposite, none repeated one gate down
+-- the operands of a gate: the larger one first, none constant, neither equal nor opposite
 pub record Proper (work : List ℕ) (g : Graph) (left right : ℕ) : Type 0 where
   pub stored : Stored work g
   pub room : g .nodes < g .room
   pub earlier : var left < g .nodes
   pub larger : var right < var left
   pub nonconstant : 2 ≤ right
-  pub no-rule : simplified (g .free) (pairsOf work g) left right ≡ Gate
-
--- where the rules of two operands may be asked: left is an edge of the graph
-pub record Asked (work : List ℕ) (g : Graph) (left : ℕ) : Type 0 where
-  pub sized : Sized g (length work)
-  pub inside : var left < g .nodes
 
 -- no gate of gs has these operands
 abbrev pub Fresh : List Pair → ℕ → ℕ → Type 0

@@ -26,7 +26,7 @@ unfolding size witnessLength
 short c b k n h l t w =
     let I = length (c .inputs) in
     let rows : (k + 1) * (I + 1) ≡ (k + 1) * suc I = ap (λ (z : ℕ). (k + 1) * z) (add-one I) in
-    let part : (k + 1) * I ≤ (k + 1) * (I + length (c .gates) + length (c .constraints)) = mul-le-mul-left (k + 1) (omega arith) in
+    let part : (k + 1) * I ≤ (k + 1) * (I + length (c .gates) + length (c .constraints) + 1) = mul-le-mul-left (k + 1) (omega arith) in
     omega (arith, digits-short 9 1 b (omega arith), mul-suc (k + 1) I)
 
 -- a loaded circuit is never refused with 13

@@ -17,8 +17,8 @@ use Rattle.frames.proofs.Places.{inputs-are, latches-are}
 use Rattle.frames.proofs.Starts.{starts-few}
 use Rattle.limits.specs.Limits.{Limited, CountsOf, sizeOf, lengthOf}
 
--- k + 1 frames of at most 3,344 units
-pub product-small : (k s : ℕ) → k ≤ 255 → s ≤ 3344 → (k + 1) * s ≤ 856064
+-- k + 1 frames of at most 3,345 units
+pub product-small : (k s : ℕ) → k ≤ 255 → s ≤ 3345 → (k + 1) * s ≤ 856320
 product-small k s h l = let a : (k + 1) * s ≤ 256 * s = mul-le-mul-right s (omega arith) in omega arith
 
 module _ {c : Circuit} {p : Layout} (e : CountsOf c p) where
@@ -35,7 +35,7 @@ pub bits-within : (c : Circuit) (t k : ℕ) → t ≤ k → freeBits c t ≤ siz
 unfolding freeBits size
 bits-within c t k l =
     let I = length (c .inputs) in
-    let w = I + length (c .gates) + length (c .constraints) in
+    let w = I + length (c .gates) + length (c .constraints) + 1 in
     let x : I * (t + 1) ≤ I * (k + 1) = mul-le-mul-left I (omega arith) in
     let y : (k + 1) * I ≤ (k + 1) * w = mul-le-mul-left (k + 1) (omega arith) in
     omega (arith, mul-comm I (k + 1))

@@ -31,7 +31,7 @@ pub record CountsOf (c : Circuit) (p : Layout) : Type 0 where
 
 -- the size for bound k
 abbrev pub sizeOf : Layout → ℕ → ℕ
-sizeOf p k = (k + 1) * (p .i + p .a + p .c) + p .u + 1
+sizeOf p k = (k + 1) * (p .i + p .a + p .c + 1) + p .u + 1
 
 -- the length of a witness for b of k + 1 frames
 abbrev pub lengthOf : Layout → ℕ → ℕ → ℕ

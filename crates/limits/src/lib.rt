@@ -4,12 +4,12 @@ ghost use mathlib.Core.Path.{_≡_};
 ghost use Prim.Native.Nat.{_≤_};
 ghost use Rattle.limits.specs.Limits.{Limited, sizeOf, lengthOf, RefusalIs};
 
-// (k+1) × (I+A+C) + U + 1.
+// (k+1) × (I+A+C+1) + U + 1.
 pub fn size(layout: Layout, k: usize) -> usize
     requires { ⌜ Limited layout × (k ≤ 255) ⌝ }
     ensures { λ r. ⌜ r ≡ sizeOf layout k ⌝ }
 {
-    (k + 1) * (layout.i + layout.a + layout.c) + layout.u + 1
+    (k + 1) * (layout.i + layout.a + layout.c + 1) + layout.u + 1
 }
 
 // The length of a witness for b of k + 1 frames.

@@ -3,13 +3,11 @@
 use mathlib.Core.Path.{_≡_}
 use mathlib.Core.Bool.{Bool, false, not, _&&_}
 use mathlib.Core.List.{List, [], _∷_, _++_, map}
-use Prim.Native.Nat.{ℕ, _+_, _-_, _*_, _≤_, _<_, _^_}
-use lib.Dec.{leb}
+use Prim.Native.Nat.{ℕ, _+_, _*_, _≤_, _<_, _^_}
 use lib.ListN.{length, getD}
 use Rattle.aiger.specs.Lists.{upto}
 use Rattle.aiger.specs.Circuit.{var}
 use Rattle.aiger.specs.Frames.{value, freeBit}
-use Rattle.aiger.specs.Fold.{repeated}
 
 -- the larger operand stands on the left
 pub record Pair : Type 0 where
@@ -53,12 +51,6 @@ Equal n gs d e = (x : ℕ) → x < 2 ^ n → edgeValue n gs (freeBit n x) d ≡ 
 abbrev pub Opposite : ℕ → List Pair → ℕ → ℕ → Type 0
 Opposite n gs d e = (x : ℕ) → x < 2 ^ n → edgeValue n gs (freeBit n x) d ≡ not (edgeValue n gs (freeBit n x) e)
 
--- the right operand is repeated one gate down, where the left one is a gate: the right one is an earlier node, and never has the left one
--- below it
-unfoldable pub deep : ℕ → List Pair → ℕ → ℕ → Bool
-deep n gs left right =
-    leb (n + 1) (var left) && repeated (pairAt gs (var left - (n + 1)) .left) (pairAt gs (var left - (n + 1)) .right) left right
-
 -- what holds of every graph that is built
 pub record Built (n : ℕ) (gs : List Pair) : Type 0 where
   -- operands are defined earlier, the larger one first; none is constant, and they are neither equal nor opposite
@@ -67,8 +59,6 @@ pub record Built (n : ℕ) (gs : List Pair) : Type 0 where
   pub nonconstant : (i : ℕ) → i < length gs → 2 ≤ pairAt gs i .right
   -- no two gates have the same operands
   pub apart : (i j : ℕ) → i < length gs → j < i → pairAt gs i .left ≡ pairAt gs j .left → pairAt gs i .right ≡ pairAt gs j .right → ⊥
-  -- no operand is repeated one gate down
-  pub shallow : (i : ℕ) → i < length gs → deep n gs (pairAt gs i .left) (pairAt gs i .right) ≡ false
   -- with twelve free bits or fewer, no gate is equal or opposite in function to a node before it
   pub unequal : n ≤ 12 → (i : ℕ) → i < length gs → (k : ℕ) → k < n + 1 + i → Equal n gs (2 * k) (2 * (n + 1 + i)) → ⊥
   pub unopposite : n ≤ 12 → (i : ℕ) → i < length gs → (k : ℕ) → k < n + 1 + i → Opposite n gs (2 * k) (2 * (n + 1 + i)) → ⊥

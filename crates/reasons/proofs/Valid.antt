@@ -15,7 +15,7 @@ use Rattle.memory.specs.declared.Arena.{Arena}
 use Rattle.clauses.specs.Clause.{Among, Holds, Valid, Always, GateOf}
 use Rattle.clauses.proofs.Resolution.{opposite-node, opposite-sign, left-holds, right-holds, above-holds}
 use Rattle.reasons.specs.Reason.{isFalse, isReason, keptLength, keptLiteral, belowLiteral, aboveLiteral, lengthOf, literalOf}
-use Rattle.reasons.specs.Claims.{Same, Alike, Sound}
+use Rattle.reasons.specs.Claims.{Same, Sound}
 
 pub same-refl : (net : Netlist) (arena : Arena) (w : List ℕ) → Same net arena w w
 same-refl net arena w = record { long = refl; node = λ v f h. refl; clause = λ p h. refl; head = λ c f h k. refl }
@@ -33,30 +33,7 @@ pub same-cond : {net : Netlist} {arena : Arena} (w u x : List ℕ) (b : Bool) �
 same-cond w u x true s t = s
 same-cond w u x false s t = t
 
-pub alike : {net : Netlist} {arena : Arena} {w u : List ℕ} → Same net arena w u → Alike net arena w u
-alike s =
-    record {
-      long = s .long;
-      node = λ v f h. s .node v f (omega arith);
-      fixed = λ v. ap fixed (s .node v 2 (omega arith));
-      clause = s .clause;
-      head = s .head;
-    }
-
-pub alike-refl : (net : Netlist) (arena : Arena) (w : List ℕ) → Alike net arena w w
-alike-refl net arena w = alike (same-refl net arena w)
-
-pub alike-trans : {net : Netlist} {arena : Arena} {w u x : List ℕ} → Alike net arena w u → Alike net arena u x → Alike net arena w x
-alike-trans a b =
-    record {
-      long = b .long ∙ a .long;
-      node = λ v f h. b .node v f h ∙ a .node v f h;
-      fixed = λ v. b .fixed v ∙ a .fixed v;
-      clause = λ p h. b .clause p h ∙ a .clause p h;
-      head = λ c f h k. b .head c f h k ∙ a .head c f h k;
-    }
-
-module _ {hit : (ℕ → Bool) → Type 0} {net : Netlist} {arena : Arena} {w u : List ℕ} (same : Alike net arena w u) (sound : Sound hit net arena w) where
+module _ {hit : (ℕ → Bool) → Type 0} {net : Netlist} {arena : Arena} {w u : List ℕ} (same : Same net arena w u) (sound : Sound hit net arena w) where
   length-same : (c : ℕ) → c < arena .count → keptLength u net c ≡ keptLength w net c
   length-same c h = ap (λ (k : ℕ). k % 1048576) (same .head c 1 h (omega arith))
 
@@ -67,7 +44,7 @@ module _ {hit : (ℕ → Bool) → Type 0} {net : Netlist} {arena : Arena} {w u 
       ap (λ (k : ℕ). getD u (14 * net .nodes + k + i) 0) (same .head c 0 h (omega arith))
       ∙ ap (λ (k : ℕ). getD u k 0) e ∙ same .clause (p + i) (omega (arith, sound .inside c h)) ∙ ap (λ (k : ℕ). getD w k 0) (sym e)
 
-  below-same : (g k i : ℕ) → k < 2 → belowLiteral u (net .nodes) g k i ≡ belowLiteral w (net .nodes) g k i
+  below-same : (g k i : ℕ) → k < 3 → belowLiteral u (net .nodes) g k i ≡ belowLiteral w (net .nodes) g k i
   unfolding belowLiteral
   below-same g k i l = ap (cond (eqb i 0) (2 * g + 1)) (same .node g k l)
 
@@ -77,18 +54,18 @@ module _ {hit : (ℕ → Bool) → Type 0} {net : Netlist} {arena : Arena} {w u 
       ap₂ (λ (x y : ℕ). cond (eqb i 0) (2 * g) (cond (eqb i 1) (opposite x) (opposite y))) (same .node g 0 (omega arith)) (same .node g 1 (omega arith))
 
   -- a reason has the same literals
-  alike-length : (r : ℕ) → T (isReason net arena r) → lengthOf u net r ≡ lengthOf w net r
+  pub reason-length : (r : ℕ) → T (isReason net arena r) → lengthOf u net r ≡ lengthOf w net r
   unfolding isReason lengthOf
-  alike-length r = go (eqb (r % 4) 3)
+  reason-length r = go (eqb (r % 4) 3)
     where
       go : (b : Bool) → T (cond b (ltb (r / 4) (arena .count)) (ltb (r / 4) (net .nodes)))
           → cond b (keptLength u net (r / 4)) (cond (eqb (r % 4) 2) 3 2) ≡ cond b (keptLength w net (r / 4)) (cond (eqb (r % 4) 2) 3 2)
       go true t = length-same (r / 4) (ltb→lt (r / 4) (arena .count) t)
       go false t = refl
 
-  alike-literal : (r i : ℕ) → T (isReason net arena r) → i < lengthOf w net r → literalOf u net r i ≡ literalOf w net r i
+  pub reason-literal : (r i : ℕ) → T (isReason net arena r) → i < lengthOf w net r → literalOf u net r i ≡ literalOf w net r i
   unfolding isReason lengthOf literalOf
-  alike-literal r i = go (eqb (r % 4) 3) (eqb (r % 4) 2) refl refl
+  reason-literal r i = go (eqb (r % 4) 3) (eqb (r % 4) 2) refl refl
     where
       go : (b d : Bool) → eqb (r % 4) 3 ≡ b → eqb (r % 4) 2 ≡ d → T (cond b (ltb (r / 4) (arena .count)) (ltb (r / 4) (net .nodes)))
           → i < cond b (keptLength w net (r / 4)) (cond d 3 2)
@@ -98,11 +75,11 @@ module _ {hit : (ℕ → Bool) → Type 0} {net : Netlist} {arena : Arena} {w u 
       go false true e f t l = above-same (r / 4) i
       go false false e f t l = let p = eqb-false (r % 4) 3 e in let q = eqb-false (r % 4) 2 f in below-same (r / 4) (r % 4) i (small p q)
         where
-          small : (r % 4 ≡ 3 → ⊥) → (r % 4 ≡ 2 → ⊥) → r % 4 < 2
+          small : (r % 4 ≡ 3 → ⊥) → (r % 4 ≡ 2 → ⊥) → r % 4 < 3
           small p q = omega arith
 
-  pub sound-alike : Sound hit net arena u
-  sound-alike =
+  pub sound-same : Sound hit net arena u
+  sound-same =
       record {
         room = sound .room;
         within = omega (arith, sound .within, same .long);
@@ -110,23 +87,13 @@ module _ {hit : (ℕ → Bool) → Type 0} {net : Netlist} {arena : Arena} {w u 
             sound .gate a h v l
             ∙ ap₂ (λ (x y : ℕ). value a x && value a y) (sym (same .node v 0 (omega arith))) (sym (same .node v 1 (omega arith)));
         zero = sound .zero;
-        fixed = λ l e. sound .fixed l (sym (same .fixed (l / 2)) ∙ e);
+        fixed = λ l e. sound .fixed l (ap fixed (sym (same .node (l / 2) 2 (omega arith))) ∙ e);
         inside = λ c h. omega (arith, sound .inside c h, same .head c 0 h (omega arith), length-same c h);
         valid = λ c h a t.
             let r = sound .valid c h a t in
             let i = r .1 .0 in
             (r .0, (i, subst (λ (k : ℕ). i < k) (sym (length-same c h)) (r .1 .1), literal-same c i h (r .1 .1) ∙ r .1 .2), r .2);
       }
-
-module _ {hit : (ℕ → Bool) → Type 0} {net : Netlist} {arena : Arena} {w u : List ℕ} (same : Same net arena w u) (sound : Sound hit net arena w) where
-  pub sound-same : Sound hit net arena u
-  sound-same = sound-alike (alike same) sound
-
-  pub reason-length : (r : ℕ) → T (isReason net arena r) → lengthOf u net r ≡ lengthOf w net r
-  reason-length r t = alike-length (alike same) sound r t
-
-  pub reason-literal : (r i : ℕ) → T (isReason net arena r) → i < lengthOf w net r → literalOf u net r i ≡ literalOf w net r i
-  reason-literal r i t l = alike-literal (alike same) sound r i t l
 
 module _ {hit : (ℕ → Bool) → Type 0} {net : Netlist} {arena : Arena} {w : List ℕ} (sound : Sound hit net arena w) where
   -- what is noted to be false is false in every hit

@@ -18,14 +18,6 @@ pub record Same (net : Netlist) (arena : Arena) (w u : List ℕ) : Type 0 where
   pub clause : (p : ℕ) → p < arena .used → getD u (14 * net .nodes + p) 0 ≡ getD w (14 * net .nodes + p) 0
   pub head : (c f : ℕ) → c < arena .count → f < 2 → head u (net .words) c f ≡ head w (net .words) c f
 
--- the same, but of word 2 only what is fixed: the bits of the floor may differ
-pub record Alike (net : Netlist) (arena : Arena) (w u : List ℕ) : Type 0 where
-  pub long : length u ≡ length w
-  pub node : (v f : ℕ) → f < 2 → field u (net .nodes) v f ≡ field w (net .nodes) v f
-  pub fixed : (v : ℕ) → fixed (field u (net .nodes) v 2) ≡ fixed (field w (net .nodes) v 2)
-  pub clause : (p : ℕ) → p < arena .used → getD u (14 * net .nodes + p) 0 ≡ getD w (14 * net .nodes + p) 0
-  pub head : (c f : ℕ) → c < arena .count → f < 2 → head u (net .words) c f ≡ head w (net .words) c f
-
 -- gates and what is fixed hold in every hit, and so does each kept clause
 pub record Sound (hit : (ℕ → Bool) → Type 0) (net : Netlist) (arena : Arena) (w : List ℕ) : Type 0 where
   pub room : 14 * net .nodes + arena .used + 6 * arena .count ≤ net .words

@@ -20,9 +20,9 @@ use Rattle.aiger.specs.Write.{countRow, write}
 use Rattle.aiger.specs.Frames.{valueAt, freeBits, run}
 use Rattle.aiger.specs.Search.{reaches}
 use Rattle.aiger.specs.Memory.{Holds}
-use Rattle.aiger.specs.Fold.{valueOn, output, leads, reduced, foldRules, folds}
+use Rattle.aiger.specs.Fold.{valueOn, output, shaped, plain, alike, leads, reduced, folds}
 use Rattle.aiger.specs.Operations.{Loaded, Operated, FoldEffect, Folded, foldTests}
-use Rattle.aiger.proofs.Tests.{and-left, and-right, or-cases, true-T, below-at, all-at}
+use Rattle.aiger.proofs.Tests.{and-left, and-right, or-cases, true-T, below-at}
 use Rattle.meaning.proofs.Lists.{equal-of-beq}
 use Rattle.meaning.proofs.Shape.{FoldShape, shape-out, shape-right, shape-defined, shape-acyclic, input-count, shape-bits, shape-values}
 use Rattle.meaning.proofs.Leaves.{Leaf, leaf-equal, leaf-no-gate, no-gate-leaf}
@@ -60,14 +60,20 @@ module _ (c : Circuit) (b t : ℕ) (d : Circuit) (f : T (folds c b t d)) where
   unfolding folds
   parts =
       let n = freeBits c t in
-      let rules = foldRules c b t d in
+      let t1 = shaped n d in
+      let t2 = every plain (d .gates) in
+      let t3 = pairwise (λ g h. not (alike g h)) (d .gates) in
+      let t4 = every (λ g. leads d (length (d .gates)) (var (g .lit))) (d .gates) in
+      let t5 = ltb 12 n || reduced d n in
+      let p : ℕ → Bool = λ x. Bool·beq (valueOn d n x (output d)) (reaches c b t x) in
+      let u5 = and-left (t1 && t2 && t3 && t4 && t5) (everyBelow (2 ^ n) p) f in
+      let u4 = and-left (t1 && t2 && t3 && t4) t5 u5 in
+      let values = and-right (t1 && t2 && t3 && t4 && t5) (everyBelow (2 ^ n) p) f in
       record {
-        shape = shape-out n d (all-at rules f 0);
-        leading = all-at rules f 4;
-        least = all-at rules f 5;
-        hit = λ x h.
-            equal-of-beq (valueOn d n x (output d)) (reaches c b t x)
-            (below-at (2 ^ n) (λ x. Bool·beq (valueOn d n x (output d)) (reaches c b t x)) (all-at rules f 6) x h);
+        shape = shape-out n d (and-left t1 t2 (and-left (t1 && t2) t3 (and-left (t1 && t2 && t3) t4 u4)));
+        leading = and-right (t1 && t2 && t3) t4 u4;
+        least = and-right (t1 && t2 && t3 && t4) t5 u5;
+        hit = λ x h. equal-of-beq (valueOn d n x (output d)) (reaches c b t x) (below-at (2 ^ n) p values x h);
       }
 
   fold-shape : FoldShape (freeBits c t) d

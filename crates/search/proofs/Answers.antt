@@ -41,8 +41,6 @@ module _ {m : List ℕ} (held : Holds m (circuitIn m)) {b k D : ℕ} {work out :
         bound = q .bound;
         some = leb→le 1 D (and-left (leb 1 D) (leb D 4294967296) (q .right));
         most = leb→le D 4294967296 (and-right (leb 1 D) (leb D 4294967296) (q .right));
-        units = q .small;
-        words = q .words;
         room = omega (arith, q .words);
         output = length-enough W (length out) (both .1);
       }

@@ -4,7 +4,7 @@ use mathlib.Core.List.{List}
 use Prim.Native.Nat.{ℕ, zero, suc, _+_, _-_, _≤_, _<_, _^_}
 use native.Mathlib.Numerals.{add-one}
 use native.Mathlib.Omega.{arith}
-use borrow.Author.Count.{below-more}
+use borrow.Author.Count.{below-none, below-more}
 use lib.Dec.{T}
 use Rattle.aiger.specs.Circuit.{Circuit}
 use Rattle.aiger.specs.Load.{gives}
@@ -12,17 +12,10 @@ use Rattle.aiger.specs.Search.{Question, question, Decision, Outcome, permitted
 use Rattle.aiger.specs.Frames.{freeBits, run}
 use Rattle.aiger.specs.Witness.{witness}
 use Rattle.aiger.specs.Operations.{shown}
-use Rattle.meaning.proofs.Decisions as decisions
 use Rattle.meaning.proofs.Outcomes.{Clear, Quiet, found-in, none-in, spent-in, first-witness}
 use Rattle.enumeration.specs.Choice.{decisionAt}
 use Rattle.enumeration.proofs.Laws.{hit-first, clear-none, spent-first}
-use Rattle.machine.specs.Layers.{Layered}
-use Rattle.machine.proofs.Theorems.{QuietBefore, Says, layered-says}
-use Rattle.transitions.specs.Transitions.{machineOf}
-use Rattle.transitions.proofs.Bridge.{fair, reaches-of, prefixes-of}
-use Rattle.reachable.specs.Quota.{quota}
-use Rattle.reachable.specs.Layers.{layered}
-use Rattle.search.specs.Chosen.{outcomeOf, chosenFrom, byLayers, chosen}
+use Rattle.search.specs.Chosen.{outcomeOf, chosenFrom, chosen}
 use Rattle.search.specs.Steps.{Answered}
 
 module _ (q : Question) (k D : ℕ) where
@@ -37,69 +30,29 @@ module _ (q : Question) (k D : ℕ) where
       spent-in q k D t (record { within = l; quiet = h; first = spent-first (q .hitting t) (q .places t) 0 D e })
 
   -- frames from t on, where none before it has a hit
-  pub from : (n t : ℕ) → t + n ≡ k + 1 → Quiet q t → T (permittedOf q k D (chosenFrom q k D t n))
+  from : (n t : ℕ) → t + n ≡ k + 1 → Quiet q t → T (permittedOf q k D (chosenFrom q k D t n))
   unfolding chosenFrom
   from zero t e h = none-in q k D k (record { bound = refl; quiet = subst (Quiet q) (omega arith) h })
   from (suc n) t e h =
       step t (omega arith) h (chosenFrom q k D (suc t) n) (λ r. from n (suc t) (omega arith) (subst (Quiet q) (add-one t) r))
       (decisionAt q t D) refl
 
+  pub from-start : T (permittedOf q k D (chosenFrom q k D 0 (k + 1)))
+  from-start = from (k + 1) 0 (omega arith) (below-none (λ u. Clear q u (q .places u)))
+
 module _ (c : Circuit) (b k D : ℕ) where
-  -- frames of the machine without a hit are frames of the circuit without one
-  quiet-of : (t : ℕ) → QuietBefore (machineOf c b) t → Quiet (question c b) t
-  quiet-of t q u l x a h r = q u l x (subst (λ (n : ℕ). x < n) (sym (prefixes-of c b u)) h) (subst T (reaches-of c b u x) r)
-
-  -- the first hit of the machine is that of the circuit
-  first-of : {t x : ℕ} → Says (machineOf c b) (fair c b) (k + 1) (Layered.hit t x) → decisions.FirstHit (reaches c b t) (2 ^ freeBits c t) 0 x
-  first-of {t} {x} (l, q, f) =
-      record {
-        from = omega arith;
-        fits = subst (λ (n : ℕ). x < n) (prefixes-of c b t) (f .fits);
-        first = λ y a h r. f .first y h (subst T (reaches-of c b t y) r);
-        hit = subst T (sym (reaches-of c b t x)) (f .hits);
-      }
-
-  -- what the layers say is permitted
-  layers-permitted : (o : Layered) → Says (machineOf c b) (fair c b) (k + 1) o → T (permitted c b k D (byLayers c b k D o))
-  layers-permitted (Layered.hit t x) (l, q, f) =
-      found-in (question c b) k D t (record { within = omega arith; quiet = quiet-of t q; place = x; first = first-of (l, q, f) })
-  layers-permitted Layered.clear q = none-in (question c b) k D k (record { bound = refl; quiet = quiet-of (k + 1) q })
-  layers-permitted (Layered.gaveUp t) (l, q) = from (question c b) k D (k + 1 - t) t (omega arith) (quiet-of t q)
-
   -- the chosen outcome is permitted
   pub chosen-permitted : T (permitted c b k D (chosen c b k D))
-  unfolding chosen layered
-  chosen-permitted = layers-permitted (layered c b k) (layered-says (machineOf c b) (fair c b) (quota c) (k + 1))
+  unfolding chosen
+  chosen-permitted = from-start (question c b) k D
 
   -- the outcome is what frames t to k give
   abbrev pub Left : ℕ → Type 0
   Left t = chosen c b k D ≡ chosenFrom (question c b) k D t (k + 1 - t)
 
-  -- the outcome is what the layers say
-  pub chosen-found : {t x : ℕ} → layered c b k ≡ Layered.hit t x → chosen c b k D ≡ Outcome.found t
+  pub left-start : Left 0
   unfolding chosen
-  chosen-found e = ap (byLayers c b k D) e
-
-  -- and the first hit that they say is the one that is shown
-  pub layers-shown : {t x : ℕ} → layered c b k ≡ Layered.hit t x → witness b (run c t x) ≡ firstWitness c b t
-  unfolding layered
-  layers-shown {t} {x} e =
-      sym
-      (first-witness c b t x
-      (first-of (subst (Says (machineOf c b) (fair c b) (k + 1)) e (layered-says (machineOf c b) (fair c b) (quota c) (k + 1)))))
-
-  pub chosen-none : layered c b k ≡ Layered.clear → chosen c b k D ≡ Outcome.none k
-  unfolding chosen
-  chosen-none e = ap (byLayers c b k D) e
-
-  pub chosen-left : {t : ℕ} → layered c b k ≡ Layered.gaveUp t → Left t
-  unfolding chosen
-  chosen-left e = ap (byLayers c b k D) e
-
-  -- they are given up at a frame up to the one after the bound
-  pub left-within : {t : ℕ} → layered c b k ≡ Layered.gaveUp t → t ≤ k + 1
-  unfolding layered
-  left-within e = subst (Says (machineOf c b) (fair c b) (k + 1)) e (layered-says (machineOf c b) (fair c b) (quota c) (k + 1)) .0
+  left-start = ap (chosenFrom (question c b) k D 0) (omega arith)
 
   -- what frame t decides
   unroll : (t : ℕ) → t ≤ k → chosenFrom (question c b) k D t (k + 1 - t) ≡ outcomeOf (decisionAt (question c b) t D) t (chosenFrom (question c b) k D (t + 1) (k + 1 - (t + 1)))

@@ -1,5 +1,3 @@
 pub mod Choice
 pub mod Answers
 pub mod Theorems
-pub mod ByLayers
-pub mod Within

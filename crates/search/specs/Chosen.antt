@@ -1,11 +1,9 @@
 -- What the search chooses where several outcomes are permitted, and what its answers mean. Assumes nothing.
-use Prim.Native.Nat.{ℕ, zero, suc, _+_, _-_}
+use Prim.Native.Nat.{ℕ, zero, suc, _+_}
 use Rattle.aiger.specs.Circuit.{Circuit}
 use Rattle.aiger.specs.Load.{Answer, refused, gives}
 use Rattle.aiger.specs.Search.{Question, question, Decision, Outcome}
 use Rattle.enumeration.specs.Choice.{decisionAt}
-use Rattle.machine.specs.Layers.{Layered}
-use Rattle.reachable.specs.Layers.{layered}
 use Rattle.search.specs.declared.SearchAnswer.{SearchAnswer}
 use Rattle.search.specs.declared.SearchAnswer.the-variants.{Found, Nothing, Spent, Refused}
 
@@ -20,14 +18,8 @@ unfoldable pub chosenFrom : Question → ℕ → ℕ → ℕ → ℕ → Outcome
 chosenFrom q k D t zero = Outcome.none k
 chosenFrom q k D t (suc n) = outcomeOf (decisionAt q t D) t (chosenFrom q k D (suc t) n)
 
--- what the layers of states say; where they are given up at frame t, what the frames from t on give
-abbrev pub byLayers : Circuit → ℕ → ℕ → ℕ → Layered → Outcome
-byLayers c b k D (Layered.hit t x) = Outcome.found t
-byLayers c b k D Layered.clear = Outcome.none k
-byLayers c b k D (Layered.gaveUp t) = chosenFrom (question c b) k D t (k + 1 - t)
-
 unfoldable pub chosen : Circuit → ℕ → ℕ → ℕ → Outcome
-chosen c b k D = byLayers c b k D (layered c b k)
+chosen c b k D = chosenFrom (question c b) k D 0 (k + 1)
 
 -- the answer that each case of the enum is
 abbrev pub said : SearchAnswer → Answer Outcome

@@ -1,7 +1,7 @@
 -- What the functions of the search require and answer. Assumes nothing.
 use mathlib.Core.Path.{_≡_}
 use mathlib.Core.List.{List}
-use Prim.Native.Nat.{ℕ, _*_, _≤_, _<_}
+use Prim.Native.Nat.{ℕ, _≤_, _<_}
 use lib.ListN.{length}
 use Rattle.aiger.specs.Circuit.{Circuit}
 use Rattle.aiger.specs.Load.{Answer, gives}
@@ -21,8 +21,6 @@ pub record SearchFits (m : List ℕ) (p : Layout) (order : List ℕ) (b k D : �
   pub bound : k ≤ 255
   pub some : 1 ≤ D
   pub most : D ≤ 4294967296
-  pub units : size (circuitIn m) k ≤ 65536
-  pub words : 16 * size (circuitIn m) k ≤ length work
   pub room : size (circuitIn m) k ≤ length work
   pub output : witnessLength (circuitIn m) b k ≤ length out
 

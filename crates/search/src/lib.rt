@@ -2,15 +2,12 @@
 use circuit::Held;
 use enumeration::Frame;
 use layout::Layout;
-use reachable::Layers;
 ghost use mathlib.Core.Path.{_≡_};
-ghost use Prim.Native.Nat.{_+_, _-_, _≤_};
 ghost use Rattle.aiger.specs.Circuit.{Circuit};
-ghost use Rattle.aiger.specs.Search.{question};
 ghost use Rattle.aiger.specs.Operations.{judge, budgetRight, searchTests, Searched};
 ghost use Rattle.layout.specs.Words.{circuitIn};
+ghost use Rattle.search.specs.Chosen.{chosen, said};
 ghost use Rattle.limits.specs.Limits.{Limited, CountsOf, told};
-ghost use Rattle.search.specs.Chosen.{chosenFrom, chosen, said};
 ghost use Rattle.search.specs.Steps.{SearchFits, Answered};
 
 // What a search answers: the first frame with a hit; no frame up to the bound has one; the frame whose budget is spent; the number of a
@@ -45,23 +42,21 @@ fn refusal(layout: Layout, b: u64, k: u64, d: u64, room: usize, len: usize) -> u
     0
 }
 
-// The search of frames t to k of a circuit that is ready, frame after frame.
-fn search_from(
+// The search of frames 0 to k of a circuit that is ready.
+fn search_frames(
     m: &[u32],
     layout: Layout,
     order: &[u32],
     b: usize,
-    start: usize,
     k: usize,
     d: u64,
     work: &mut [u32],
     out: &mut [u8],
 ) -> SearchAnswer
     requires { ⌜ SearchFits (now m) layout (now order) b k d (now work) (now out) ⌝ }
-    requires { ⌜ (start ≤ k + 1) × (chosen (circuitIn (now m)) b k d ≡ chosenFrom (question (circuitIn (now m)) b) k d start (k + 1 - start)) ⌝ }
     ensures { λ r. ⌜ Answered (circuitIn (now (m .entry))) b k d (now (out .entry)) (said r) (now (out .exit)) ⌝ }
 {
-    let mut t = start;
+    let mut t = 0;
     while t <= k {
         match enumeration::first_hit(m, layout, order, b, t, d, work) {
             Frame::Hit => {
@@ -77,30 +72,6 @@ fn search_from(
         }
     }
     SearchAnswer::Nothing(k as u32)
-}
-
-// The search of frames 0 to k of a circuit that is ready: by layers of states, and where there are too many, frame after frame.
-fn search_frames(
-    m: &[u32],
-    layout: Layout,
-    order: &[u32],
-    b: usize,
-    k: usize,
-    d: u64,
-    work: &mut [u32],
-    out: &mut [u8],
-) -> SearchAnswer
-    requires { ⌜ SearchFits (now m) layout (now order) b k d (now work) (now out) ⌝ }
-    ensures { λ r. ⌜ Answered (circuitIn (now (m .entry))) b k d (now (out .entry)) (said r) (now (out .exit)) ⌝ }
-{
-    match reachable::search_layers(m, layout, order, b, k, work) {
-        Layers::Hit(t) => {
-            witness::write_witness(out, m, layout, b as u32, t, work);
-            SearchAnswer::Found(t as u32)
-        }
-        Layers::Clear => SearchAnswer::Nothing(k as u32),
-        Layers::GaveUp(t) => search_from(m, layout, order, b, t, k, d, work, out),
-    }
 }
 
 // Whether bad line b can be reached within bound k, with a budget of d sequences for each frame.

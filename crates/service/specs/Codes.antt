@@ -1,16 +1,13 @@
 -- The operations' answers as numbers. Assumes nothing.
 use mathlib.Core.Path.{_≡_}
-use mathlib.Core.Bool.{Bool, true, false, cond}
+use mathlib.Core.Bool.{Bool, true, false}
 use mathlib.Core.List.{List, []}
 use Prim.Native.Nat.{ℕ, _+_, _*_, _^_}
-use lib.Dec.{leb}
-use lib.ListN.{length}
 use Rattle.aiger.specs.Circuit.{Circuit}
-use Rattle.aiger.specs.Load.{Answer, refused, gives, load, _>>=_}
+use Rattle.aiger.specs.Load.{Answer, refused, gives}
 use Rattle.aiger.specs.Search.{Outcome}
 use Rattle.aiger.specs.Memory.{Holds}
-use Rattle.aiger.specs.Operations.{front, HoldsNone, Loaded, Searched, Written, Replayed, Folded}
-use Rattle.load.specs.Preview.{countsOf, wordsNeeded}
+use Rattle.aiger.specs.Operations.{HoldsNone, Loaded, Searched, Written, Replayed, Folded}
 use Rattle.layout.specs.Words.{circuitIn}
 use Rattle.search.specs.Chosen.{chosen}
 use Rattle.fold.specs.Chosen as fold
@@ -24,24 +21,6 @@ pub record LoadCode (m f : List ℕ) (r : ℕ) (m′ : List ℕ) : Type 0 where
   pub answer : Answer (List ℕ)
   pub loaded : Loaded m f answer m′
   pub code : r ≡ loadCode answer
-
--- seven counts at the front, where there is room for them
-abbrev pub shown : List ℕ → List ℕ → List ℕ
-shown counts out = cond (leb 7 (length out)) (front counts out) out
-
--- 0 for an accepted file, else 2 to the 32 times the number of the refusal; and the words needed
-abbrev pub previewCode : Answer (List ℕ) → ℕ → ℕ
-previewCode (refused n) words = 2 ^ 32 * n + words
-previewCode (gives counts) words = words
-
--- the counts of an accepted file
-abbrev pub shownCounts : Answer (List ℕ) → List ℕ → List ℕ
-shownCounts (refused n) out = out
-shownCounts (gives counts) out = shown counts out
-
-pub record PreviewCode (room : ℕ) (f out : List ℕ) (r : ℕ) (out′ : List ℕ) : Type 0 where
-  pub code : r ≡ previewCode (load room f >>= λ c. gives (countsOf c)) (wordsNeeded f)
-  pub counts : out′ ≡ shownCounts (load room f >>= λ c. gives (countsOf c)) out
 
 -- 0 for a circuit, else 9
 pub data TestCode (m : List ℕ) : ℕ → Type 0 where

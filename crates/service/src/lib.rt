@@ -1,17 +1,14 @@
 // The public operations for programs in C and Rust: numbers and slices only. A slice is a pointer and a length.
 use circuit::Held;
 use fold::FoldAnswer;
-use load::Counts;
 use load::LoadAnswer;
 use replay::ReplayAnswer;
 use search::SearchAnswer;
 use write::WriteAnswer;
 ghost use mathlib.Core.Path.{_≡_};
-ghost use lib.ListN.{length};
 ghost use Rattle.aiger.specs.Operations.{Searched, Written};
 ghost use Rattle.search.specs.Chosen.{chosen};
-ghost use Rattle.load.specs.Answers.{numbers};
-ghost use Rattle.service.specs.Codes.{shown, LoadCode, PreviewCode, TestCode, SearchCode, ReplayCode, WriteCode, FoldCode};
+ghost use Rattle.service.specs.Codes.{LoadCode, TestCode, SearchCode, ReplayCode, WriteCode, FoldCode};
 
 // Loads a file: 0, and the counts M I L O A B C are words 0 to 6 of circuit memory; or the number of the refusal.
 #[no_mangle]
@@ -21,40 +18,6 @@ pub extern "C" fn yunverok_load(file: &[u8], memory: &mut [u32]) -> u32
     match load::load(file, memory) {
         LoadAnswer::Loaded(_) => 0,
         LoadAnswer::Refused(n) => n,
-    }
-}
-
-// Puts the counts of an accepted file at the front of out, where there is room for seven.
-fn put_counts(k: Counts, out: &mut [u32])
-    ensures { λ _. ⌜ now (out .exit) ≡ shown (numbers k) (now (out .entry)) ⌝ }
-{
-    if out.len() < 7 {
-        return;
-    }
-    out[0] = k.m;
-    out[1] = k.i;
-    out[2] = k.l;
-    out[3] = k.o;
-    out[4] = k.a;
-    out[5] = k.b;
-    out[6] = k.c;
-}
-
-// Preview of a load: the words needed for a file that load would accept, and its counts at the front of counts; or 2^32 times the
-// number of the refusal, and the words needed.
-#[no_mangle]
-pub extern "C" fn yunverok_preview(file: &[u8], memory: &[u32], counts: &mut [u32]) -> u64
-    ensures { λ r. ⌜ PreviewCode (length (now (memory .entry))) (now (file .entry)) (now (counts .entry)) r (now (counts .exit)) ⌝ }
-{
-    let judgement = load::preview(file, memory);
-    let answer = judgement.answer;
-    let needed = judgement.needed as u64;
-    match answer {
-        LoadAnswer::Refused(n) => 0x1_0000_0000 * n as u64 + needed,
-        LoadAnswer::Loaded(k) => {
-            put_counts(k, counts);
-            needed
-        }
     }
 }
 

@@ -17,13 +17,13 @@ add-n c = search needs
 
 mul-n : tie.Need-mul-n
 mul-n c =
-    let S = c .before .before .before .before in
+    let S = c .before .before .before .before .before in
     let R = S .pre .0 in
     omega (arith, bits-few (S .args .layout .i) (S .args .t) (inputs-few (R .held) (R .layout-of)) (S .pre .1 .0 .1))
 
 add-n-2 : tie.Need-add-n-2
 add-n-2 c =
-    let S = c .before .before .before .before in
+    let S = c .before .before .before .before .before in
     let R = S .pre .0 in
     omega (arith, bits-few (S .args .layout .i) (S .args .t) (inputs-few (R .held) (R .layout-of)) (S .pre .1 .0 .1), R .layout-of .u-is, starts-few (R .held) (R .layout-of))
 
@@ -32,14 +32,14 @@ tries-requires c κs = search needs
 
 first-below-requires : tie.Need-first-below-requires
 first-below-requires c κs =
-    let S = c .before .before .before .before .before in
+    let S = c .before .before .before .before .before .before in
     let N = c .tries in
     let R = S .pre .0 in
     (R, ((S .pre .1 .0 .0, omega (arith, N .ensures, S .pre .1 .0)), ((bits-are (circuitIn (S .args .m .now)) (S .args .t) (R .layout-of .u-is) (inputs-are (R .held) (R .layout-of))), R .layout-of .u-is)))
 
 put-free-requires : tie.Need-put-free-requires
 put-free-requires c κs =
-    let S = c .before .before .before .before .before .before .before .before in
+    let S = c .before .before .before .before .before .before .before .before .before in
     let R = S .pre .0 in
     omega (arith, (bits-are (circuitIn (S .args .m .now)) (S .args .t) (R .layout-of .u-is) (inputs-are (R .held) (R .layout-of))), S .pre .1 .1)
 
@@ -48,7 +48,7 @@ same-length c = search needs
 
 returns : tie.Need-returns
 returns c =
-    let S = c .before .before .before .before .before .before .before .before .before .before .before in
+    let S = c .before .before .before .before .before .before .before .before .before .before .before .before in
     let N = c .before .before .before .before .before .before .tries in
     let F = c .before .before .before .before .before .first-below in
     let W = c .before .before .put-free in
@@ -60,7 +60,7 @@ covers-requires c κs = search needs
 
 returns-2 : tie.Need-returns-2
 returns-2 c =
-    let S = c .before .before .before .before .before .before .before .before .before in
+    let S = c .before .before .before .before .before .before .before .before .before .before in
     let N = c .before .before .before .before .tries in
     let F = c .before .before .before .first-below in
     let W = c .before .covers in
@@ -69,7 +69,7 @@ returns-2 c =
 
 returns-3 : tie.Need-returns-3
 returns-3 c =
-    let S = c .before .before .before .before .before .before .before .before .before in
+    let S = c .before .before .before .before .before .before .before .before .before .before in
     let N = c .before .before .before .before .tries in
     let F = c .before .before .before .first-below in
     let W = c .before .covers in

@@ -6,9 +6,7 @@ use Rattle.graph.proofs.make_ordered.Statement.{statement}
 use Rattle.graph.proofs.make_ordered.Tie as tie
 
 simplify-requires : tie.Need-simplify-requires
-simplify-requires c κs =
-    let o = c .before .before .pre .0 in
-    record { sized = o .stored .sized; inside = o .left }
+simplify-requires c κs = search needs
 
 enum-known-e : tie.Need-enum-known-e
 enum-known-e c = search needs
@@ -21,21 +19,18 @@ enum-told c = search needs
 
 make-gate-requires : tie.Need-make-gate-requires
 make-gate-requires c κs =
-    let s = c .before .before .before .before .before .before in
+    let s = c .before .before .before .before .before in
     gate-proper (s .args .work .now) (s .args .g) (s .args .left) (s .args .right) (s .pre .0) (s .pre .1)
     (sym (c .before .before .before .simplify .ensures) ∙ c .before .enum-told .given .1)
 
-same-length : tie.Need-same-length
-same-length c = search needs
-
 returns : tie.Need-returns
 returns c =
-    let s = c .before .before .before .before .before .before .before in
+    let s = c .before .before .before .before .before .before in
     known-made (s .args .work .now) (s .args .g) (s .args .left) (s .args .right) (s .pre .0) (s .pre .1) _ (c .from-word .result) (c .from-word .ensures)
     (sym (c .before .before .before .before .simplify .ensures) ∙ c .before .before .e .given .1)
 
-same-length-2 : tie.Need-same-length-2
-same-length-2 c = search needs
+same-length : tie.Need-same-length
+same-length c = search needs
 
 returns-2 : tie.Need-returns-2
 returns-2 c = c .before .before .make-gate .ensures
@@ -49,7 +44,6 @@ make-ordered-spec =
     from-word-requires
     enum-told
     make-gate-requires
-    same-length
     returns
-    same-length-2
+    same-length
     returns-2)

@@ -6,8 +6,8 @@ use Rattle.limits.proofs.Sizes.{product-small}
 use Rattle.limits.proofs.size.Statement.{statement}
 use Rattle.limits.proofs.size.Tie as tie
 
-small : (s : tie.Start) → (s .args .k + 1) * (s .args .layout .i + s .args .layout .a + s .args .layout .c) ≤ 856064
-small s = product-small (s .args .k) (s .args .layout .i + s .args .layout .a + s .args .layout .c) (omega (arith, s .pre .1)) (omega (arith, s .pre .0))
+small : (s : tie.Start) → (s .args .k + 1) * (s .args .layout .i + s .args .layout .a + s .args .layout .c + 1) ≤ 856320
+small s = product-small (s .args .k) (s .args .layout .i + s .args .layout .a + s .args .layout .c + 1) (omega (arith, s .pre .1)) (omega (arith, s .pre .0))
 
 add-result : tie.Need-add-result
 add-result c = search needs

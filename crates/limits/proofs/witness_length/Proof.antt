@@ -7,7 +7,7 @@ use Rattle.limits.proofs.Sizes.{product-small}
 use Rattle.limits.proofs.witness_length.Statement.{statement}
 use Rattle.limits.proofs.witness_length.Tie as tie
 
-small : (s : tie.Start) → (s .args .k + 1) * (s .args .layout .i + 1) ≤ 856064
+small : (s : tie.Start) → (s .args .k + 1) * (s .args .layout .i + 1) ≤ 856320
 small s = product-small (s .args .k) (s .args .layout .i + 1) (omega (arith, s .pre .1)) (omega (arith, s .pre .0))
 
 ten : (n : tie.After-digit-count) → n .digit-count .result ≤ 10

@@ -1,131 +1,202 @@
--- `search::search_frames` meets its contract: what the layers of states say, or what the frames from the one where they are given up give.
--- Assumes nothing.
-use mathlib.Core.Path.{_≡_, refl, ap, _∙_, subst}
+-- `search::search_frames` meets its contract. The loop's invariant: the chosen outcome is what the frames from t on give, and the output
+-- is as it was. Assumes nothing.
+use mathlib.Core.Path.{_≡_, refl, ap, ap₂, _∙_, subst}
 use mathlib.Core.List.{List}
-use Prim.Native.Nat.{ℕ, _+_, _-_, _≤_}
+use Prim.Native.Nat.{_+_, _-_, _≤_}
 use native.Mathlib.Nat.{le-trans}
 use native.Mathlib.Omega.{arith}
+use borrow.Author.Needs.{needs}
 use lib.ListN.{length}
 use Rattle.aiger.specs.Search.{Outcome}
-use Rattle.aiger.specs.Operations.{front}
+use Rattle.aiger.specs.Operations.{front, shown}
 use Rattle.layout.specs.Words.{circuitIn}
 use Rattle.frames.proofs.Facts.{bad-count}
+use Rattle.enumeration.specs.Frame.{FrameIs}
+use Rattle.enumeration.specs.declared.Frame.{Frame}
 use Rattle.limits.proofs.Sizes.{bits-within, length-within, limited}
-use Rattle.search.proofs.Choice.{chosen-found, layers-shown, chosen-none, chosen-left, left-within, answered}
-use Rattle.search.proofs.ByLayers.{of-hit, of-clear, of-left}
-use borrow.Author.Needs.{needs}
+use Rattle.search.proofs.Choice.{Left, left-start, hit-shown, left-found, left-spent, left-more, left-none, answered}
 use Rattle.search.proofs.search_frames.Statement.{statement}
 use Rattle.search.proofs.search_frames.Tie as tie
 
-search-layers-requires : tie.Need-search-layers-requires
-search-layers-requires c κs = let p = c .before .before .before .before .before .pre in (p .ready, ((p .bad, p .bound), (p .words, p .units)))
+abbrev Inv-loop : tie.InvT-loop
+Inv-loop m layout order b k d work₀ out₀ t₀ work out t =
+    (t ≤ k + 1) × (length work ≡ length work₀) × (out ≡ out₀) × Left (circuitIn m) b k d t
 
-enum-known-t : tie.Need-enum-known-t
-enum-known-t c = search needs
+abbrev μ-loop : tie.MeasureT-loop
+μ-loop m layout order b k d work₀ out₀ t₀ work out t = k + 1 - t
 
-cast-write-witness : tie.Need-cast-write-witness
-cast-write-witness c = let p = c .before .before .before .before .before .before .before .before .before .before .before .before .pre in omega (arith, p .bad, limited (p .ready .held) (p .ready .layout-of) .bads, p .ready .layout-of .b-is)
+-- the answer on frame t is the variant that the match found
+told : (n : tie.After-first-hit Inv-loop μ-loop) (r : Frame) → n .first-hit .result ≡ r
+    → let s = n .before .before .before .before .before .before .before .before .args in
+    FrameIs (circuitIn (s .m .now)) (s .b) (n .before .before .before .loop .t) (s .d) (n .first-hit .last .1 .1 .1 .1 .1 .1 .0) r
+told n r e =
+    let s = n .before .before .before .before .before .before .before .before .args in
+    subst (FrameIs (circuitIn (s .m .now)) (s .b) (n .before .before .before .loop .t) (s .d) (n .first-hit .last .1 .1 .1 .1 .1 .1 .0)) e
+    (n .first-hit .ensures)
 
-write-witness-requires : tie.Need-write-witness-requires
-write-witness-requires c κs =
+loop-holds : tie.Need-loop-holds Inv-loop μ-loop
+loop-holds c =
+    let s = c .before .before .before .before .args in
+    (omega arith, refl, refl, left-start (circuitIn (s .m .now)) (s .b) (s .k) (s .d))
+
+first-hit-requires : tie.Need-first-hit-requires Inv-loop μ-loop
+first-hit-requires c κs =
+    let s = c .before .before .before .before .before .before .before in
+    let p = s .pre in
+    let l = c .before .before .loop in
+    let i = c .before .loop-test .taken in
+    let f = bits-within (circuitIn (s .args .m .now)) (l .t) (s .args .k) (omega (arith, i)) in
+    (p .ready, ((p .bad, omega (arith, i, p .bound), omega (arith, p .some), omega (arith, p .most)), omega (arith, f, p .room, l .inv .1)))
+
+enum-told : tie.Need-enum-told Inv-loop μ-loop
+enum-told c = search needs
+
+cast-write-witness : tie.Need-cast-write-witness Inv-loop μ-loop
+cast-write-witness c =
     let s = c .before .before .before .before .before .before .before .before .before .before .before .before .before in
     let p = s .pre in
+    omega (arith, p .bad, limited (p .ready .held) (p .ready .layout-of) .bads, p .ready .layout-of .b-is)
+
+write-witness-requires : tie.Need-write-witness-requires Inv-loop μ-loop
+write-witness-requires c κs =
+    let s = c .before .before .before .before .before .before .before .before .before .before .before .before .before .before in
+    let p = s .pre in
+    let n = c .before .before .before .before .before .before in
+    let l = n .before .before .before .loop in
+    let i = n .before .before .loop-test .taken in
     let C = circuitIn (s .args .m .now) in
-    let h = of-hit C (s .args .b) (s .args .k) (c .before .before .before .before .before .before .before .search-layers .last .1 .1 .1 .1 .1 .0) (c .before .before .before .before .before .before .before .search-layers .result) (c .before .before .before .before .before .before .before .search-layers .ensures) (c .before .before .before .t .given .1) in
+    let kept = n .first-hit .kept .1 .1 .1 .1 .1 .1 .0 ∙ l .inv .1 in
     record {
       holds = p .ready .held;
       layout = p .ready .layout-of;
       bad = omega (arith, p .bad, bad-count (s .args .m .now));
-      frame = omega (arith, h .within, p .bound);
-      bits = le-trans (bits-within C _ (s .args .k) (h .within)) (omega (arith, p .room, c .before .before .before .before .before .before .before .search-layers .kept .1 .1 .1 .1 .1 .0));
-      room = le-trans (length-within C _ _ (s .args .k) (h .within)) (p .output);
+      frame = omega (arith, i, p .bound);
+      bits = le-trans (bits-within C _ (s .args .k) (omega (arith, i))) (omega (arith, p .room, kept));
+      room = le-trans (length-within C _ _ (s .args .k) (omega (arith, i))) (omega (arith, p .output, ap length (l .inv .2)));
     }
 
-cast-t18 : tie.Need-cast-t18
-cast-t18 c =
-    let h = of-hit (circuitIn (c .before .before .before .before .before .before .before .before .before .before .before .before .before .before .before .before .args .m .now)) (c .before .before .before .before .before .before .before .before .before .before .before .before .before .before .before .before .args .b) (c .before .before .before .before .before .before .before .before .before .before .before .before .before .before .before .before .args .k) (c .before .before .before .before .before .before .before .before .before .before .search-layers .last .1 .1 .1 .1 .1 .0) (c .before .before .before .before .before .before .before .before .before .before .search-layers .result) (c .before .before .before .before .before .before .before .before .before .before .search-layers .ensures) (c .before .before .before .before .before .before .t .given .1) in
-    omega (arith, h .within, c .before .before .before .before .before .before .before .before .before .before .before .before .before .before .before .before .pre .bound)
+cast-t17 : tie.Need-cast-t17 Inv-loop μ-loop
+cast-t17 c =
+    let n = c .before .before .before .before .before .before .before .before .before in
+    let s = n .before .before .before .before .before .before .before .before in
+    omega (arith, n .before .before .loop-test .taken, s .pre .bound)
 
-enum-told : tie.Need-enum-told
-enum-told c = search needs
+same-length : tie.Need-same-length Inv-loop μ-loop
+same-length c =
+    let n = c .before .before .before .before .before .before .before .before .before in
+    n .first-hit .kept .1 .1 .1 .1 .1 .1 .0 ∙ n .before .before .before .loop .inv .1
 
-cast-t21 : tie.Need-cast-t21
-cast-t21 c = omega (arith, c .before .before .before .before .before .before .before .before .before .before .pre .bound)
+same-length-2 : tie.Need-same-length-2 Inv-loop μ-loop
+same-length-2 c =
+    let n = c .before .before .before .before .before .before .before .before .before in
+    c .before .before .write-witness .kept .0 ∙ ap length (n .before .before .before .loop .inv .2)
 
-enum-known-t-2 : tie.Need-enum-known-t-2
-enum-known-t-2 c = search needs
+returns : tie.Need-returns Inv-loop μ-loop
+returns c =
+    let n = c .before .before .before .before .before .before .before .before .before in
+    let s = n .before .before .before .before .before .before .before .before .args in
+    let l = n .before .before .before .loop in
+    let C = circuitIn (s .m .now) in
+    let f = told n _ (c .before .before .before .before .before .enum-told .given .1) in
+    let o = Outcome.found (l .t) in
+    answered C (s .b) (s .k) (s .d) o
+    (left-found C (s .b) (s .k) (s .d) (l .t) (f .0) (omega (arith, n .before .before .loop-test .taken)) (l .inv .3) (f .1))
+    (c .before .before .write-witness .ensures (f .0) (f .2)
+    ∙ ap₂ (λ (x y : List _). front x y) (hit-shown C (s .b) (s .k) (s .d) (l .t) (f .0) (f .1)) (l .inv .2))
 
-search-from-requires : tie.Need-search-from-requires
-search-from-requires c κs =
-    let s = c .before .before .before .before .before .before .before .before .before .before .before .before .before in
-    let p = s .pre in
-    let C = circuitIn (s .args .m .now) in
-    let e = of-left C (s .args .b) (s .args .k) (c .before .before .before .before .before .before .before .search-layers .last .1 .1 .1 .1 .1 .0) (c .before .before .before .before .before .before .before .search-layers .result) (c .before .before .before .before .before .before .before .search-layers .ensures) (c .before .before .before .t2 .given .1) in
-    let z = c .before .before .before .before .before .before .before .search-layers .kept .1 .1 .1 .1 .1 .0 in (
-      record {
-        ready = p .ready;
-        bad = p .bad;
-        bound = p .bound;
-        some = p .some;
-        most = p .most;
-        units = p .units;
-        words = omega (arith, p .words, z);
-        room = omega (arith, p .room, z);
-        output = p .output;
-      },
-      (left-within C (s .args .b) (s .args .k) (s .args .d) e, chosen-left C (s .args .b) (s .args .k) (s .args .d) e),
+enum-told-2 : tie.Need-enum-told-2 Inv-loop μ-loop
+enum-told-2 c = search needs
+
+add-t : tie.Need-add-t Inv-loop μ-loop
+add-t c =
+    let n = c .before .before .before .before in
+    let s = n .before .before .before .before .before .before .before .before in
+    omega (arith, n .before .before .loop-test .taken, s .pre .bound)
+
+loop-less : tie.Need-loop-less Inv-loop μ-loop
+loop-less c = omega (arith, c .before .before .before .before .before .before .loop-test .taken)
+
+loop-again : tie.Need-loop-again Inv-loop μ-loop
+loop-again c =
+    let n = c .before .before .before .before in
+    let s = n .before .before .before .before .before .before .before .before .args in
+    let l = n .before .before .before .loop in
+    let i = n .before .before .loop-test .taken in
+    let e = told n _ (c .enum-told2 .given .1) in (
+      omega (arith, i),
+      n .first-hit .kept .1 .1 .1 .1 .1 .1 .0 ∙ l .inv .1,
+      l .inv .2,
+      left-more (circuitIn (s .m .now)) (s .b) (s .k) (s .d) (l .t) (omega (arith, i)) (l .inv .3) e,
     )
 
-same-length : tie.Need-same-length
-same-length c = c .before .before .before .before .before .before .before .before .before .before .search-layers .kept .1 .1 .1 .1 .1 .0
+enum-told-3 : tie.Need-enum-told-3 Inv-loop μ-loop
+enum-told-3 c = search needs
 
-same-length-2 : tie.Need-same-length-2
-same-length-2 c = c .before .before .write-witness .kept .0
+cast-t20 : tie.Need-cast-t20 Inv-loop μ-loop
+cast-t20 c =
+    let n = c .before .before .before .before in
+    let s = n .before .before .before .before .before .before .before .before in
+    omega (arith, n .before .before .loop-test .taken, s .pre .bound)
 
-returns : tie.Need-returns
-returns c =
-    let s = c .before .before .before .before .before .before .before .before .before .before .before .before .before .before .before .before .args in
-    let C = circuitIn (s .m .now) in
-    let h = of-hit C (s .b) (s .k) (c .before .before .before .before .before .before .before .before .before .before .search-layers .last .1 .1 .1 .1 .1 .0) (c .before .before .before .before .before .before .before .before .before .before .search-layers .result) (c .before .before .before .before .before .before .before .before .before .before .search-layers .ensures) (c .before .before .before .before .before .before .t .given .1) in
-    answered C (s .b) (s .k) (s .d) (Outcome.found _) (chosen-found C (s .b) (s .k) (s .d) (h .says))
-    (c .before .before .write-witness .ensures (h .place) (h .bits) ∙ ap (λ (z : List ℕ). front z (s .out .now)) (layers-shown C (s .b) (s .k) (s .d) (h .says)))
+same-length-3 : tie.Need-same-length-3 Inv-loop μ-loop
+same-length-3 c =
+    let n = c .before .before .before .before in
+    n .first-hit .kept .1 .1 .1 .1 .1 .1 .0 ∙ n .before .before .before .loop .inv .1
 
-same-length-3 : tie.Need-same-length-3
-same-length-3 c = c .before .before .before .before .search-layers .kept .1 .1 .1 .1 .1 .0
+same-length-4 : tie.Need-same-length-4 Inv-loop μ-loop
+same-length-4 c = ap length (c .before .before .before .before .before .before .before .loop .inv .2)
 
-returns-2 : tie.Need-returns-2
+returns-2 : tie.Need-returns-2 Inv-loop μ-loop
 returns-2 c =
-    let s = c .before .before .before .before .before .before .before .before .before .before .args in
+    let n = c .before .before .before .before in
+    let s = n .before .before .before .before .before .before .before .before .args in
+    let l = n .before .before .before .loop in
     let C = circuitIn (s .m .now) in
-    answered C (s .b) (s .k) (s .d) (Outcome.none (s .k)) (chosen-none C (s .b) (s .k) (s .d) (of-clear C (s .b) (s .k) (c .before .before .before .before .search-layers .last .1 .1 .1 .1 .1 .0) (c .before .before .before .before .search-layers .result) (c .before .before .before .before .search-layers .ensures) (c .enum-told .given .1))) refl
+    let e = told n _ (c .enum-told3 .given .1) in
+    answered C (s .b) (s .k) (s .d) (Outcome.spent (l .t))
+    (left-spent C (s .b) (s .k) (s .d) (l .t) (omega (arith, n .before .before .loop-test .taken)) (l .inv .3) e) (l .inv .2)
 
-same-length-4 : tie.Need-same-length-4
-same-length-4 c = c .before .before .before .before .search-from .kept .1 .1 .1 .1 .1 .1 .1 .0 ∙ c .before .before .before .before .before .before .before .before .before .before .before .before .search-layers .kept .1 .1 .1 .1 .1 .0
+cast-t21 : tie.Need-cast-t21 Inv-loop μ-loop
+cast-t21 c = omega (arith, c .before .before .before .before .before .before .pre .bound)
 
-same-length-5 : tie.Need-same-length-5
-same-length-5 c = c .before .before .before .before .search-from .kept .1 .1 .1 .1 .1 .1 .1 .1 .0
+same-length-5 : tie.Need-same-length-5 Inv-loop μ-loop
+same-length-5 c = c .before .loop .inv .1
 
-returns-3 : tie.Need-returns-3
-returns-3 c = c .before .before .before .before .search-from .ensures
+same-length-6 : tie.Need-same-length-6 Inv-loop μ-loop
+same-length-6 c = ap length (c .before .loop .inv .2)
+
+returns-3 : tie.Need-returns-3 Inv-loop μ-loop
+returns-3 c =
+    let s = c .before .before .before .before .before .before .args in
+    let l = c .before .loop in
+    let C = circuitIn (s .m .now) in
+    answered C (s .b) (s .k) (s .d) (Outcome.none (s .k)) (left-none C (s .b) (s .k) (s .d) (l .t) (omega (arith, c .loop-test .left)) (l .inv .3)) (l .inv .2)
 
 pub search-frames-spec : {M : Type 1} → statement M
 search-frames-spec =
     tie.close
     (tie.spec
-    search-layers-requires
-    enum-known-t
+    Inv-loop
+    μ-loop
+    loop-holds
+    first-hit-requires
+    enum-told
     cast-write-witness
     write-witness-requires
-    cast-t18
-    enum-told
-    cast-t21
-    enum-known-t-2
-    search-from-requires
+    cast-t17
     same-length
     same-length-2
     returns
+    enum-told-2
+    add-t
+    loop-less
+    loop-again
+    enum-told-3
+    cast-t20
     same-length-3
-    returns-2
     same-length-4
+    returns-2
+    cast-t21
     same-length-5
+    same-length-6
     returns-3)

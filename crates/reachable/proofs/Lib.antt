@@ -1,4 +1,0 @@
-pub mod Quotas
-pub mod Frames
-pub mod Steps
-pub mod Ends

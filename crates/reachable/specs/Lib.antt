@@ -1,2 +1,0 @@
-pub mod Quota
-pub mod Layers

@@ -1,3 +1,0 @@
--- The laws of `trail`. Assumes nothing.
-pub mod Turns
-pub mod Frame
