@@ -1,6 +1,5 @@
 -- From what the operations answer to what is printed. Assumes nothing.
 use mathlib.Core.Path.{_≡_, sym, ap, _∙_, subst}
-use mathlib.Core.Bool.{Bool}
 use mathlib.Core.List.{List}
 use Prim.Native.Nat.{ℕ, _≤_}
 use native.Mathlib.Omega.{arith}
@@ -12,17 +11,20 @@ use Rattle.aiger.specs.Circuit.{Circuit}
 use Rattle.aiger.specs.Load.{Answer, refused, gives, test, load}
 use Rattle.aiger.specs.Write.{write}
 use Rattle.aiger.specs.Memory.{Holds}
-use Rattle.aiger.specs.Operations.{front, foldTests, Folded, Replayed, Written}
+use Rattle.aiger.specs.Operations.{front, foldTests, Folded, Written}
+use Rattle.completions.specs.Either.{Verdict}
+use Rattle.completions.specs.Operations.{EitherReplayed}
 use Rattle.layout.specs.Words.{circuitIn}
 use Rattle.roundtrip.proofs.LoadWrite.{text-short}
 use Rattle.roundtrip.proofs.LoadValid.{gives-same}
 use Rattle.roundtrip.proofs.Holding.{held, held-valid, one-circuit}
-use Rattle.roundtrip.proofs.Determined.{written-same, replayed-same}
+use Rattle.roundtrip.proofs.Determined.{written-same}
+use Rattle.replay.proofs.Theorems.{either-same}
 use Rattle.job.specs.Replies.{Shows}
 use Rattle.job.proofs.Printing.{Stored}
 use Rattle.fold.specs.Chosen.{chosen}
 use Rattle.commands.specs.Refusal.{refusalText}
-use Rattle.commands.specs.Texts.{textOf, yesText, replayAnswer, writeText, replayText, FoldPrints}
+use Rattle.commands.specs.Texts.{textOf, verdictText, replayAnswer, writeText, replayText, FoldPrints}
 use Rattle.commands.specs.Replies.{Leaves, FoldTexts}
 
 -- the front of an output that has a text at its front
@@ -59,12 +61,12 @@ module _ {m out out′ : List ℕ} {a : Answer ℕ} (h : Holds m (circuitIn m)) 
       omega arith
 
 -- replay, on a loaded circuit
-pub replay-says : {m text : List ℕ} {a : Answer Bool} → Holds m (circuitIn m) → Replayed m text a → a ≡ replayAnswer (circuitIn m) text
-replay-says {m} h r = replayed-same r (Replayed.says (circuitIn m) h)
+pub replay-says : {m text : List ℕ} {a : Answer Verdict} → Holds m (circuitIn m) → EitherReplayed m text a → a ≡ replayAnswer (circuitIn m) text
+replay-says {m} h r = either-same r (EitherReplayed.says (circuitIn m) h)
 
-pub replay-shown : {m text : List ℕ} {a b : Answer Bool} {line : List ℕ} {n : ℕ} → Holds m (circuitIn m) → Replayed m text a → a ≡ b
-    → Shows line n (textOf yesText b) → Shows line n (textOf yesText (replayAnswer (circuitIn m) text))
-replay-shown {line = line} {n = n} h r e s = subst (λ (x : Answer Bool). Shows line n (textOf yesText x)) (sym e ∙ replay-says h r) s
+pub replay-shown : {m text : List ℕ} {a b : Answer Verdict} {line : List ℕ} {n : ℕ} → Holds m (circuitIn m) → EitherReplayed m text a → a ≡ b
+    → Shows line n (textOf verdictText b) → Shows line n (textOf verdictText (replayAnswer (circuitIn m) text))
+replay-shown {line = line} {n = n} h r e s = subst (λ (x : Answer Verdict). Shows line n (textOf verdictText x)) (sym e ∙ replay-says h r) s
 
 -- fold, on a loaded circuit
 pub fold-refused : {m w out w′ out′ : List ℕ} {c : Circuit} {b t : ℕ} {a : Answer ℕ} {n : ℕ} → Holds m c → Folded chosen m b t w out a w′ out′
@@ -103,9 +105,9 @@ module _ (m f : List ℕ) (room : length m ≡ 33032) where
     unfolding writeText
     write-text = rw (rw room at (s .accepted)) (ap write same)
 
-    pub replay-text : (text : List ℕ) → textOf yesText (replayAnswer (circuitIn m′) text) ≡ replayText f text
+    pub replay-text : (text : List ℕ) → textOf verdictText (replayAnswer (circuitIn m′) text) ≡ replayText f text
     unfolding replayText
-    replay-text text = rw (rw room at (s .accepted)) (ap (λ (c : Circuit). textOf yesText (replayAnswer c text)) same)
+    replay-text text = rw (rw room at (s .accepted)) (ap (λ (c : Circuit). textOf verdictText (replayAnswer c text)) same)
 
     pub fold-text : {b t w o : ℕ} → w ≡ 1048576 → o ≡ 1572928 → {text : List ℕ} → FoldTexts (circuitIn m′) b t w o text
         → FoldPrints f b t text

@@ -16,7 +16,7 @@ ghost use Rattle.layout.specs.Words.{circuitIn};
 ghost use Rattle.write.specs.Output.{Room, Placed};
 ghost use Rattle.job.specs.Replies.{Shows};
 ghost use Rattle.commands.specs.Refusal.{cause, refusalText};
-ghost use Rattle.commands.specs.Texts.{textOf, yesText, replayAnswer, writeText, replayText, FoldPrints};
+ghost use Rattle.commands.specs.Texts.{textOf, verdictText, replayAnswer, writeText, replayText, FoldPrints};
 ghost use Rattle.commands.specs.Replies.{Leaves, FoldTexts};
 ghost use Rattle.commands.specs.Arguments.{numberOf, meant};
 
@@ -98,6 +98,7 @@ fn put_job_cause(line: &mut [u8], at: usize, n: u32) -> usize
             at,
             b"the witness is malformed, or its b is not below B",
         ),
+        16 => put(line, at, b"the witness holds more than 16 x"),
         _ => at,
     }
 }
@@ -163,11 +164,12 @@ pub fn write(file: &[u8], m: &mut [u32], out: &mut [u8], line: &mut [u8]) -> Rep
 // Replays a witness on the circuit in m. The answer is the length of what is to be printed.
 fn replay_loaded(m: &[u32], witness: &[u8], line: &mut [u8]) -> usize
     requires { ⌜ Holds (now m) (circuitIn (now m)) × (128 ≤ length (now line)) ⌝ }
-    ensures { λ r. ⌜ Shows (now (line .exit)) r (textOf yesText (replayAnswer (circuitIn (now (m .entry))) (now (witness .entry)))) ⌝ }
+    ensures { λ r. ⌜ Shows (now (line .exit)) r (textOf verdictText (replayAnswer (circuitIn (now (m .entry))) (now (witness .entry)))) ⌝ }
 {
     match replay::replay(m, witness) {
-        ReplayAnswer::Yes => put(line, 0, b"yes\n"),
+        ReplayAnswer::All => put(line, 0, b"all\n"),
         ReplayAnswer::No => put(line, 0, b"no\n"),
+        ReplayAnswer::Mixed => put(line, 0, b"mixed\n"),
         ReplayAnswer::Refused(n) => write_refusal(line, n),
     }
 }

@@ -52,14 +52,15 @@ pub extern "C" fn yunverok_search(
     }
 }
 
-// Replays a witness: 1 for yes, 0 for no, or the number of the refusal, 9 or 14.
+// Replays a witness: 1 for all, 0 for no, 2 for mixed, or the number of the refusal, 9, 14 or 16.
 #[no_mangle]
 pub extern "C" fn yunverok_replay(memory: &[u32], text: &[u8]) -> u32
     ensures { λ r. ⌜ ReplayCode (now (memory .entry)) (now (text .entry)) r ⌝ }
 {
     match replay::replay(memory, text) {
-        ReplayAnswer::Yes => 1,
+        ReplayAnswer::All => 1,
         ReplayAnswer::No => 0,
+        ReplayAnswer::Mixed => 2,
         ReplayAnswer::Refused(n) => n,
     }
 }

@@ -1,0 +1,4 @@
+pub mod Examples
+pub mod Completions
+pub mod Forms
+pub mod Widening

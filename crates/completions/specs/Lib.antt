@@ -1,0 +1,4 @@
+pub mod Either
+pub mod Operations
+pub mod Examples
+pub mod Forms
