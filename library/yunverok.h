@@ -1,4 +1,4 @@
-/* Yunverok: load, search, fold, replay and write AIGER circuits. The functions are proved: crates/service/src/lib.rt has their
+/* Yunverok: load, search, fold, replay, widen and write AIGER circuits. The functions are proved: crates/service/src/lib.rt has their
    contracts, which this page tells in words.
 
    What is lent. A slice is a pointer and a length in elements. The memory must exist; pointers to words must be aligned for uint32_t;
@@ -23,7 +23,9 @@
      5  a line missing or malformed, a wrong tail   12  size above 65,536, or work shorter than 16 * size words
      6  literal, definition or reset wrong          13  out too short
      7  a used variable is undefined                14  witness malformed, or its b not below B
-   load makes 1 to 8, each over the whole file; test 9; search and fold 9 to 13; replay 9 and 14; write 9 and 13.
+                                                    16  witness with more than 16 x
+   load makes 1 to 8, each over the whole file; test 9; search and fold 9 to 13; replay 9, 14 and 16; widen 9, 14, 16 and then 13;
+   write 9 and 13.
 
    Stack. The greatest depth that tests/harness/run measured, in bytes; it does not grow with the circuit:
      load 103,135    test 53,663    search 94,991    fold 74,447    replay 53,871    write 53,855
@@ -64,9 +66,16 @@ uint32_t yunverok_test(const uint32_t *memory, size_t memory_len);
 uint64_t yunverok_search(const uint32_t *memory, size_t memory_len, uint64_t b, uint64_t k, uint64_t d, uint32_t *work, size_t work_len,
                          uint8_t *out, size_t out_len);
 
-/* Replays a witness of 1 to 256 frames. Answers 1 for yes: its start agrees with every reset and its last frame is a hit of its bad
-   line; 0 for no; or the number of the refusal, 9 or 14. Changes nothing. */
+/* Replays a witness of 1 to 256 frames. In the lines after line b it may hold x for up to 16 bits that may be either; a completion
+   has 0 or 1 for each, and hits if its start agrees with every reset and its last frame is a hit of its bad line. Answers 1 for all,
+   every completion hits; 0 for no, none does; 2 for mixed; or the number of the refusal, 9, 14 or 16. Changes nothing. */
 uint32_t yunverok_replay(const uint32_t *memory, size_t memory_len, const uint8_t *text, size_t text_len);
+
+/* Widens a witness: from its last bit to its first, puts x where every completion still hits, until the text holds 16. Answers the
+   length of the text, which is that of the given one and stands at the front of out; or 2^32 + n for a refusal, n 9, 14, 16 or 13.
+   A witness to which replay does not answer all is copied as it is. out needs the witness's length; the bytes past the text are as
+   they were. With many x a call can take long: each of at most 65,536 completions may be evaluated for each bit. */
+uint64_t yunverok_widen(const uint32_t *memory, size_t memory_len, const uint8_t *text, size_t text_len, uint8_t *out, size_t out_len);
 
 /* Writes the circuit as an AIGER file in ASCII: seven header numbers, definitions in file order, a reset only where it is not 0, no
    tail. Answers the length of the text, which stands at the front of out; or 2^32 + n for a refusal, n 9 or 13. out needs the text's

@@ -72,7 +72,7 @@ pub fn agree() -> Option<usize> {
     let empty = reference::image(&load("aag 0 0 0 0 0\n").ok()?);
     let all = SEARCHES.iter().all(search_says)
         && REFUSED.iter().all(|&(file, number)| load(file) == Err(number))
-        && REPLAYS.iter().all(|&(witness, yes)| reference::replay(&memory, witness.as_bytes()) == Ok(yes))
+        && REPLAYS.iter().all(|&(witness, yes)| reference::replay(&memory, witness.as_bytes()) == Ok(if yes { reference::Verdict::All } else { reference::Verdict::No }))
         && reference::search_tests(&empty, 0, 0, 1, 16, 100) == Err(10)
         && FOLDS.iter().all(fold_says);
     all.then_some(SEARCHES.len() + REFUSED.len() + REPLAYS.len() + FOLDS.len() + 1)

@@ -73,7 +73,8 @@ impl Harness {
             30..=33 => self.on_memory(large, Harness::test_job),
             34..=57 => self.on_memory(large, Harness::search_job),
             58..=71 => self.on_memory(large, Harness::fold_job),
-            72..=87 => self.on_memory(large, Harness::replay_job),
+            72..=83 => self.on_memory(large, Harness::replay_job),
+            84..=90 => self.on_memory(large, Harness::widen_job),
             _ => self.on_memory(large, Harness::write_job),
         }
     }
@@ -515,11 +516,30 @@ impl Harness {
             _ => generate::witness(&mut self.random, c, b, rows),
         };
         let mut text = made;
+        self.put_eithers(c, &mut text);
         if self.random.one_in(5) {
             generate::damage_text(&mut self.random, &mut text);
         }
         text.truncate(LONGEST_TEXT);
         text
+    }
+
+    /// Puts `x` for some bits, few enough that the reference ends soon, or more than 16.
+    fn put_eithers(&mut self, c: &Circuit, text: &mut [u8]) {
+        let bits = bit_places(text);
+        let most = (0..16).rev().find(|&n| (run_cost(c, text) << n) < 1_000_000).unwrap_or(0);
+        let n = match self.random.below(12) {
+            0..=5 => 0,
+            6..=9 => 1 + self.random.below(4).min(most),
+            10 => self.random.below(most + 1),
+            _ => self.random.choose(&[15, 16, 17, 18]),
+        };
+        let n = if most < n && n < 17 { most } else { n };
+        for _ in 0..n {
+            if !bits.is_empty() {
+                text[bits[self.random.below(bits.len() as u64) as usize]] = b'x';
+            }
+        }
     }
 
     fn replay_job(&mut self, large: bool, memory: Loan) {
@@ -532,13 +552,43 @@ impl Harness {
             service::yunverok_replay(memory.words(), memory.len, witness.pointer, witness.len).into()
         });
         let expected = reference::replay(&words, &text);
-        let number = expected.map_or_else(u64::from, u64::from);
+        let number = expected.map_or_else(u64::from, |verdict| verdict as u64);
         let faults = if code == number { vec![] } else { vec![format!("answered {code}, expected {number}")] };
         match expected {
-            Ok(yes) => self.tally.answer(Operation::Replay, if yes { "yes" } else { "no" }),
+            Ok(verdict) => self.tally.answer(Operation::Replay, ["no", "all", "mixed"][verdict as usize]),
             Err(number) => self.tally.refusal(Operation::Replay, number),
         }
         self.settle(Operation::Replay, &loans, faults, &|| format!("witness: {}\n{}", text.escape_ascii(), shown(&words)));
+    }
+
+    // Widen
+
+    fn widen_job(&mut self, large: bool, memory: Loan) {
+        let words = self.words(&memory);
+        let c = reference::held(&words).unwrap_or_default();
+        let text = self.witness(&c, large);
+        let bits = text.iter().filter(|byte| b"01x".contains(byte)).count() as u64;
+        if (run_cost(&c, &text) * bits) << bits.min(16) > 20_000_000 {
+            return;
+        }
+        let witness = self.lend_text(&text);
+        let out_len = self.near(text.len() as u64);
+        let out = self.lend_some(Kind::Output, out_len, 1);
+        let loans = [memory, witness, out];
+        let code = self.perform(Operation::Widen, large, &loans, &mut || unsafe {
+            service::yunverok_widen(memory.words(), memory.len, witness.pointer, witness.len, out.pointer, out.len)
+        });
+        let expected = reference::widen(&words, &text, out.len as u64);
+        let number = expected.as_ref().map_or_else(|&number| (1 << 32) + u64::from(number), |text| text.len() as u64);
+        let faults = if code == number { vec![] } else { vec![format!("answered {code:#x}, expected {number:#x}")] };
+        match expected {
+            Ok(wide) => {
+                self.store(&out).expect(out.offset, &wide);
+                self.tally.answer(Operation::Widen, if wide == text { "copied" } else { "widened" });
+            }
+            Err(number) => self.tally.refusal(Operation::Widen, number),
+        }
+        self.settle(Operation::Widen, &loans, faults, &|| format!("witness: {}\n{}", text.escape_ascii(), shown(&words)));
     }
 
     // Write
@@ -564,6 +614,18 @@ impl Harness {
         }
         self.settle(Operation::Write, &loans, faults, &|| format!("output {} bytes\n{}", out.len, shown(&words)));
     }
+}
+
+/// Where bits stand after the second line.
+fn bit_places(text: &[u8]) -> Vec<usize> {
+    let body = text.iter().enumerate().filter(|(_, &byte)| byte == b'\n').nth(1).map_or(text.len(), |(at, _)| at);
+    (body..text.len()).filter(|&i| b"01".contains(&text[i])).collect()
+}
+
+/// About what one completion of a witness costs.
+fn run_cost(c: &Circuit, text: &[u8]) -> u64 {
+    let rows = text.iter().filter(|&&byte| byte == b'\n').count();
+    ((c.gates.len() + c.latches.len() + c.inputs.len() + 4) * (rows + 1)) as u64
 }
 
 /// What a search's answer says.

@@ -1,4 +1,4 @@
-//! The five operations as document 01 describes them, in plain Rust. For load, write and replay this computes the answer and every lent
+//! The six operations as the papers describe them, in plain Rust. For load, write and replay this computes the answer and every lent
 //! word; of search and fold, where several answers are permitted, it judges the one that was given. Circuit memory has the layout of
 //! docs/MEMORY.md. It is written from document 01 alone, to be seen to be right; speed does not matter.
 
@@ -529,14 +529,83 @@ fn read_witness(c: &Circuit, bytes: &[u8]) -> Option<Witness> {
     well_formed.then_some(Witness { b, start, rows })
 }
 
-pub fn replay(memory: &[u32], bytes: &[u8]) -> Result<bool, u32> {
-    let c = held(memory).ok_or(9u32)?;
-    let witness = read_witness(&c, bytes).ok_or(14u32)?;
+/// What replay says of the completions of a witness.
+#[derive(Clone, Copy, Debug, PartialEq)]
+pub enum Verdict {
+    No,
+    All,
+    Mixed,
+}
+
+/// Where `x` stands after the second line.
+fn either_places(bytes: &[u8]) -> Vec<usize> {
+    let feeds: Vec<usize> = (0..bytes.len()).filter(|&i| bytes[i] == b'\n').collect();
+    let body = feeds.get(1).map_or(bytes.len(), |&at| at + 1);
+    (body..bytes.len()).filter(|&i| bytes[i] == b'x').collect()
+}
+
+fn completion(bytes: &[u8], places: &[usize], v: u64) -> Vec<u8> {
+    let mut text = bytes.to_vec();
+    for (i, &place) in places.iter().enumerate() {
+        text[place] = if v >> i & 1 == 1 { b'1' } else { b'0' };
+    }
+    text
+}
+
+/// Whether a text without `x` is a hit.
+fn is_hit(c: &Circuit, text: &[u8]) -> bool {
+    let witness = read_witness(c, text).expect("a witness");
     let agrees = c.latches.iter().zip(&witness.start).all(|(latch, &value)| latch.free() || (latch.reset == 1) == value);
     let words = |row: &[bool]| row.iter().map(|&value| if value { !0 } else { 0 }).collect::<Vec<u64>>();
     let rows = witness.rows.concat();
-    let hits = Evaluator::new(&c).hits(witness.b, &words(&witness.start), &words(&rows), witness.rows.len() as u64);
-    Ok(agrees && hits & 1 == 1)
+    let hits = Evaluator::new(c).hits(witness.b, &words(&witness.start), &words(&rows), witness.rows.len() as u64);
+    agrees && hits & 1 == 1
+}
+
+fn verdict(c: &Circuit, bytes: &[u8]) -> Verdict {
+    let places = either_places(bytes);
+    let mut seen = [false; 2];
+    for v in 0..1u64 << places.len() {
+        seen[usize::from(is_hit(c, &completion(bytes, &places, v)))] = true;
+        if seen[0] && seen[1] {
+            return Verdict::Mixed;
+        }
+    }
+    if seen[1] { Verdict::All } else { Verdict::No }
+}
+
+fn witness_tests(memory: &[u32], bytes: &[u8]) -> Result<Circuit, u32> {
+    let c = held(memory).ok_or(9u32)?;
+    let places = either_places(bytes);
+    read_witness(&c, &completion(bytes, &places, 0)).ok_or(14u32)?;
+    if places.len() > 16 { Err(16) } else { Ok(c) }
+}
+
+pub fn replay(memory: &[u32], bytes: &[u8]) -> Result<Verdict, u32> {
+    Ok(verdict(&witness_tests(memory, bytes)?, bytes))
+}
+
+/// The widened witness, by trying each text with one `x` more.
+pub fn widen(memory: &[u32], bytes: &[u8], out_len: u64) -> Result<Vec<u8>, u32> {
+    let c = witness_tests(memory, bytes)?;
+    if out_len < bytes.len() as u64 {
+        return Err(13);
+    }
+    let mut text = bytes.to_vec();
+    if verdict(&c, &text) != Verdict::All {
+        return Ok(text);
+    }
+    let body = bytes.iter().enumerate().filter(|(_, &byte)| byte == b'\n').nth(1).map_or(0, |(at, _)| at + 1);
+    for i in (body..text.len()).rev() {
+        let byte = text[i];
+        if (byte == b'0' || byte == b'1') && either_places(&text).len() < 16 {
+            text[i] = b'x';
+            if verdict(&c, &text) != Verdict::All {
+                text[i] = byte;
+            }
+        }
+    }
+    Ok(text)
 }
 
 // Fold

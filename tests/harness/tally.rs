@@ -10,21 +10,22 @@ pub enum Operation {
     Fold,
     Replay,
     Write,
+    Widen,
 }
 
-pub const NAMES: [&str; 6] = ["load", "test", "search", "fold", "replay", "write"];
+pub const NAMES: [&str; 7] = ["load", "test", "search", "fold", "replay", "write", "widen"];
 
 #[derive(Default)]
 pub struct Tally {
     pub jobs: u64,
-    by_operation: [u64; 6],
-    answers: [BTreeMap<&'static str, u64>; 6],
-    refusals: [[u64; 15]; 6],
+    by_operation: [u64; 7],
+    answers: [BTreeMap<&'static str, u64>; 7],
+    refusals: [[u64; 17]; 7],
     folds_by_bits: BTreeMap<u64, u64>,
     loads_with: BTreeMap<&'static str, u64>,
     found_by_frame: BTreeMap<u64, u64>,
     /// Greatest depth of stack and number of measured jobs, of small and of large jobs.
-    depth: [[(usize, u64); 2]; 6],
+    depth: [[(usize, u64); 2]; 7],
     pub large: u64,
     pub repeated: u64,
     pub fold_repeated_otherwise: u64,

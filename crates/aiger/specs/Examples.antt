@@ -14,10 +14,10 @@ use Rattle.aiger.specs.Frames.{freeBits}
 use Rattle.aiger.specs.Search.{Outcome, found, none, spent, permitted}
 use Rattle.aiger.specs.Write.{write}
 use Rattle.aiger.specs.Fold.{plain, alike, folds}
-use Rattle.aiger.specs.Witness.{readWitness, confirms}
+use Rattle.aiger.specs.Witness.{Verdict, all, no, mixed, shows, verdict}
 use Rattle.aiger.specs.Memory.{image}
 use Rattle.aiger.specs.Signature.{draw, patternBit}
-use Rattle.aiger.specs.Operations.{searchTests, foldTests}
+use Rattle.aiger.specs.Operations.{searchTests, foldTests, witnessTests, widening}
 use Rattle.aiger.specs.Program.{report}
 
 unfoldable pub keep : {A : Type 0} → (A → Bool) → List A → List A
@@ -45,17 +45,26 @@ unfoldable pub refusalOf : {A : Type 0} → Answer A → ℕ
 refusalOf (refused n) = n
 refusalOf (gives a) = 0
 
+abbrev pub wordOf : Verdict → String
+wordOf all = "all"
+wordOf no = "no"
+wordOf mixed = "mixed"
+
 pub data Example : Type 0 where
   -- file, b, k, D, and what may be answered: these answers and no others
   searched : String → ℕ → ℕ → ℕ → List String → Example
   -- file, b, k, D, the words of working memory, the bytes of output, and the number of the refusal, 0 for none
   searchRefused : String → ℕ → ℕ → ℕ → ℕ → ℕ → ℕ → Example
-  -- file, witness, and yes or no
-  replayed : String → String → Bool → Example
-  -- file, a text's first lines, how many empty lines and then a line `.` follow, and whether that is a witness
-  witnessed : String → String → ℕ → Bool → Example
-  -- file, and a text that is no witness
-  noWitness : String → String → Example
+  -- file, witness, and what replay says
+  replayed : String → String → String → Example
+  -- file, a text's first lines, how many empty lines and then a line `.` follow, and the number of replay's refusal, 0 for none
+  witnessed : String → String → ℕ → ℕ → Example
+  -- file, a text, and the number of replay's refusal
+  noWitness : String → String → ℕ → Example
+  -- file, witness, and what widening writes
+  widens : String → String → String → Example
+  -- file, witness, the bytes of output, and the number of widening's refusal, 0 for none
+  widenRefused : String → String → ℕ → ℕ → Example
   -- file, b, t, a text, and whether fold may write it
   folded : String → ℕ → ℕ → String → Bool → Example
   -- two operands, and whether a folded gate may have them, whatever n is
@@ -83,19 +92,26 @@ onLoaded f p = elim (load 8192 (bytes f)) [ refused n ↦ false | gives c ↦ p 
 unfoldable pub holds : Example → Bool
 holds (searched f b k D answers) = onLoaded f (λ c. sameTexts (map (report c b) (keep (permitted c b k D) (outcomes c k))) answers)
 holds (searchRefused f b k D room len n) = onLoaded f (λ c. eqb (refusalOf (searchTests c b k D room len)) n)
-holds (replayed f w says) = onLoaded f (λ c. elim (readWitness c (bytes w)) [ Option.none ↦ false | Option.some x ↦ Bool·beq (confirms c x) says ])
-holds (noWitness f w) = onLoaded f (λ c. elim (readWitness c (bytes w)) [ Option.none ↦ true | Option.some x ↦ false ])
+holds (replayed f w says) =
+    onLoaded f (λ c. elim (witnessTests c (bytes w)) [ refused n ↦ false | gives h ↦ same (bytes (wordOf (verdict (shows c (h .0)) (h .1)))) (bytes says) ])
+holds (noWitness f w n) = onLoaded f (λ c. eqb (refusalOf (witnessTests c (bytes w))) n)
+holds (widens f w u) = onLoaded f (λ c. elim (widening c (bytes w) 64) [ refused n ↦ false | gives v ↦ same v (bytes u) ])
+holds (widenRefused f w len n) = onLoaded f (λ c. eqb (refusalOf (widening c (bytes w) len)) n)
 holds (folded f b t w says) = onLoaded f (λ c. onLoaded w (λ d. same (write d) (bytes w) && Bool·beq (folds c b t d) says))
 holds (operandPair l r says) = Bool·beq (plain (record { lit = 0; left = l; right = r })) says
 holds (operandPairs l r m s says) = Bool·beq (alike (record { lit = 0; left = l; right = r }) (record { lit = 0; left = m; right = s })) says
 holds (foldRefused f b t room len n) = onLoaded f (λ c. eqb (refusalOf (foldTests c b t room len)) n)
 holds (written f w) = onLoaded f (λ c. same (write c) (bytes w))
-holds (witnessed f w n says) = onLoaded f (λ c. elim (readWitness c (bytes w ++ replicate n 10 ++ bytes ".\n")) [ Option.none ↦ not says | Option.some x ↦ says ])
+holds (witnessed f w n number) = onLoaded f (λ c. eqb (refusalOf (witnessTests c (bytes w ++ replicate n 10 ++ bytes ".\n"))) number)
 holds (stored f words) = onLoaded f (λ c. same (take (length words) (image c)) words && eqb (length (image c)) (needed (c .maxVar)))
 holds (longFile f more n) = eqb (refusalOf (load 8192 (bytes f ++ replicate more 0))) n
 holds (drawn i w) = eqb (draw i) w
 holds (patterned j p says) = Bool·beq (patternBit j p) says
 holds (refusal room f n) = eqb (refusalOf (load room (bytes f))) n
+
+-- two inputs, bad where one of them is true
+abbrev pub Either : String
+Either = "aag 3 2 0 0 1 1\n2\n4\n7\n6 3 5\n"
 
 -- document 01's shift register: two latches after one input, bad when both are true
 abbrev S : String
@@ -124,8 +140,8 @@ starred =
     ∷ searched S 0 1 16 ("none 1\n" ∷ [])
     ∷ searched S 0 2 7 ("found 2\n1\nb0\n00\n1\n1\n0\n.\n" ∷ [])
     ∷ searched S 0 2 6 ("found 2\n1\nb0\n00\n1\n1\n0\n.\n" ∷ "spent 2\n" ∷ [])
-    ∷ replayed S "1\nb0\n00\n0\n1\n0\n.\n" false
-    ∷ replayed S "1\nb0\n10\n1\n1\n0\n.\n" false
+    ∷ replayed S "1\nb0\n00\n0\n1\n0\n.\n" "no"
+    ∷ replayed S "1\nb0\n10\n1\n1\n0\n.\n" "no"
     ∷ folded S 0 2 "aag 4 3 0 1 1 0 0\n2\n4\n6\n8\n8 4 2\n" true
     ∷ searched "aag 2 1 0 0 1 1\n2\n4\n4 2 3\n" 0 0 2 ("none 0\n" ∷ [])
     ∷ searched "aag 1 0 1 0 0 1\n2 2 2\n2\n" 0 0 2 ("found 0\n1\nb0\n1\n\n.\n" ∷ [])
@@ -175,22 +191,44 @@ further =
     ∷ foldRefused S 0 2 111 232 12
     ∷ foldRefused S 0 2 112 231 13
     -- replay
-    ∷ replayed S "1\nb0\n00\n1\n1\n0\n.\n" true
-    ∷ replayed S "1\nb0\n00\n1\n1\n0\n0\n.\n" false
-    ∷ replayed H "1\nb0\n1\n\n.\n" true
-    ∷ replayed "aag 1 0 1 0 0 1\n2 2 1\n3\n" "1\nb0\n0\n\n.\n" false
-    ∷ replayed F "1\nb0\n1\n0\n.\n" true
-    ∷ replayed F "1\nb0\n1\n1\n.\n" false
-    ∷ noWitness S "1\nb1\n00\n1\n1\n0\n.\n"
-    ∷ noWitness S "1\nb0\n00\n.\n"
-    ∷ noWitness S "1\nb0\n00\n1\n1\n0\n"
-    ∷ noWitness S "1\nb0\n00\n1\n1\n0\n.\n\n"
-    ∷ noWitness S "1\nb0\n0\n1\n1\n0\n.\n"
-    ∷ noWitness S "1\nb0\n00\nx\n.\n"
-    ∷ noWitness S "1\nb0 \n00\n1\n.\n"
-    ∷ witnessed H "1\nb0\n1\n" 0 false
-    ∷ witnessed H "1\nb0\n1\n" 256 true
-    ∷ witnessed H "1\nb0\n1\n" 257 false
+    ∷ replayed S "1\nb0\n00\n1\n1\n0\n.\n" "all"
+    ∷ replayed S "1\nb0\n00\n1\n1\n0\n0\n.\n" "no"
+    ∷ replayed H "1\nb0\n1\n\n.\n" "all"
+    ∷ replayed "aag 1 0 1 0 0 1\n2 2 1\n3\n" "1\nb0\n0\n\n.\n" "no"
+    ∷ replayed F "1\nb0\n1\n0\n.\n" "all"
+    ∷ replayed F "1\nb0\n1\n1\n.\n" "no"
+    ∷ noWitness S "1\nb1\n00\n1\n1\n0\n.\n" 14
+    ∷ noWitness S "1\nb0\n00\n.\n" 14
+    ∷ noWitness S "1\nb0\n00\n1\n1\n0\n" 14
+    ∷ noWitness S "1\nb0\n00\n1\n1\n0\n.\n\n" 14
+    ∷ noWitness S "1\nb0\n0\n1\n1\n0\n.\n" 14
+    ∷ noWitness S "1\nb0\n00\ny\n.\n" 14
+    ∷ noWitness S "1\nb0 \n00\n1\n.\n" 14
+    ∷ witnessed H "1\nb0\n1\n" 0 14
+    ∷ witnessed H "1\nb0\n1\n" 256 0
+    ∷ witnessed H "1\nb0\n1\n" 257 14
+    -- replay and widening of witnesses that hold `x`
+    ∷ replayed S "1\nb0\n00\n1\n1\nx\n.\n" "all"
+    ∷ replayed S "1\nb0\n00\n1\nx\n0\n.\n" "mixed"
+    ∷ replayed S "1\nb0\n00\n0\nx\nx\n.\n" "no"
+    ∷ replayed S "1\nb0\nx0\n1\n1\n0\n.\n" "mixed"
+    ∷ replayed H "1\nb0\nx\n\n.\n" "mixed"
+    ∷ noWitness S "1\nbx\n00\n1\n1\n0\n.\n" 14
+    ∷ noWitness S "x\nb0\n00\n1\n1\n0\n.\n" 14
+    ∷ noWitness S "1\nb0\n00x1\n1\n0\n.\n" 14
+    ∷ noWitness S "1\nb0\n00\n1\n1\n0\nx\n" 14
+    ∷ noWitness S "1\nb0\n00\nx\nx\nx\nx\nx\nx\nx\nx\nx\nx\nx\nx\nx\nx\nx\nx\n.\n" 0
+    ∷ noWitness S "1\nb0\nx0\nx\nx\nx\nx\nx\nx\nx\nx\nx\nx\nx\nx\nx\nx\nx\nx\n.\n" 16
+    ∷ widens S "1\nb0\n00\n1\n1\n0\n.\n" "1\nb0\n00\n1\n1\nx\n.\n"
+    ∷ widens S "1\nb0\n00\n1\n1\nx\n.\n" "1\nb0\n00\n1\n1\nx\n.\n"
+    ∷ widens S "1\nb0\n00\n1\n0\n1\n.\n" "1\nb0\n00\n1\n0\n1\n.\n"
+    ∷ widens S "1\nb0\nx0\n1\n1\n0\n.\n" "1\nb0\nx0\n1\n1\n0\n.\n"
+    ∷ widens Either "1\nb0\n\n11\n.\n" "1\nb0\n\n1x\n.\n"
+    ∷ widens Either "1\nb0\n\n01\n.\n" "1\nb0\n\nx1\n.\n"
+    ∷ widenRefused S "1\nb0\n00\n1\n1\n0\n.\n" 16 0
+    ∷ widenRefused S "1\nb0\n00\n1\n1\n0\n.\n" 15 13
+    ∷ widenRefused S "1\nb0\nx0\nx\nx\nx\nx\nx\nx\nx\nx\nx\nx\nx\nx\nx\nx\nx\nx\n.\n" 0 16
+    ∷ widenRefused S "1\nb1\n00\n1\n1\n0\n.\n" 0 14
     -- fold: each text breaks one rule
     ∷ folded S 0 2 "aag 4 3 0 1 1 0 0\n2\n4\n6\n8\n8 2 4\n" false
     ∷ folded S 0 2 "aag 4 3 0 1 1 0 0\n2\n4\n6\n9\n8 4 2\n" false

@@ -11,7 +11,7 @@ use Rattle.aiger.specs.Circuit.{Circuit}
 use Rattle.aiger.specs.Load.{Answer, refused, gives, test, read, load, _>>=_, _>>_}
 use Rattle.aiger.specs.Frames.{size, run}
 use Rattle.aiger.specs.Search.{Outcome, permitted}
-use Rattle.aiger.specs.Witness.{witness, witnessLength, readWitness, confirms}
+use Rattle.aiger.specs.Witness.{witness, witnessLength, eithers, Verdict, shows, verdict, readEither, widenedText}
 use Rattle.aiger.specs.Write.{countRow, write}
 use Rattle.aiger.specs.Memory.{Holds, image}
 use Rattle.aiger.specs.Fold.{folds}
@@ -88,10 +88,29 @@ pub data Folded (m : List ℕ) (b t : ℕ) (w out : List ℕ) : Answer ℕ → L
   writes : (c d : Circuit) {w′ : List ℕ} → Holds m c → foldTests c b t (length w) (length out) ≡ gives tt → T (folds c b t d)
       → Folded m b t w out (gives (length (write d))) w′ (front (write d) out)
 
--- replay: yes or no, 9, or 14 where the text is no witness of the circuit
-pub data Replayed (m text : List ℕ) : Answer Bool → Type 0 where
+-- replay's tests 14 and 16, and what was read: "More than 16 `x` is 16, tested after 14"
+unfoldable pub witnessTests : Circuit → List ℕ → Answer (ℕ × List ℕ)
+witnessTests c text = read 14 (readEither c text) >>= λ h. test 16 (leb (eithers (h .1)) 16) >> gives h
+
+-- replay: all, no or mixed by the completions, or 9, 14, 16
+pub data Replayed (m text : List ℕ) : Answer Verdict → Type 0 where
   noCircuit : HoldsNone m → Replayed m text (refused 9)
-  says : (c : Circuit) → Holds m c → Replayed m text (read 14 (readWitness c text) >>= λ x. gives (confirms c x))
+  says : (c : Circuit) → Holds m c → Replayed m text (witnessTests c text >>= λ h. gives (verdict (shows c (h .0)) (h .1)))
+
+-- widening's tests 14, 16 and 13, where the output has `len` bytes, and the widened witness
+unfoldable pub widening : Circuit → List ℕ → ℕ → Answer (List ℕ)
+widening c text len = witnessTests c text >>= λ h. test 13 (leb (length text) len) >> gives (widenedText c text h)
+
+-- an output that has a text at its front, unless it was refused
+abbrev pub leaving : Answer (List ℕ) → List ℕ → List ℕ
+leaving (refused n) out = out
+leaving (gives text) out = front text out
+
+-- widening: the widened witness at the front of the output, and as the answer its length, which is the given witness's
+pub data Widened (m text out : List ℕ) : Answer ℕ → List ℕ → Type 0 where
+  noCircuit : HoldsNone m → Widened m text out (refused 9) out
+  says : (c : Circuit) → Holds m c
+      → Widened m text out (widening c text (length out) >>= λ w. gives (length w)) (leaving (widening c text (length out)) out)
 
 -- write: the length of the text, 9 or 13; "Bytes past the text stay."
 pub data Written (m out : List ℕ) : Answer ℕ → List ℕ → Type 0 where

@@ -4,7 +4,7 @@ use Prim.Native.Nat.{ℕ}
 use lib.ListN.{getD}
 use Rattle.aiger.specs.Text.{bytes, digits}
 
--- the causes of document 01's table, by their numbers; there is no number 0
+-- the causes of the papers' table, by their numbers; there is no number 0, and none of these programs gives 15
 abbrev pub causes : List (List ℕ)
 causes =
     []
@@ -22,6 +22,8 @@ causes =
     ∷ bytes "the size is above 65,536, or working memory is too short"
     ∷ bytes "the output is too short"
     ∷ bytes "the witness is malformed, or its b is not below B"
+    ∷ []
+    ∷ bytes "the witness holds more than 16 x"
     ∷ []
 
 -- the words of cause n

@@ -1,9 +1,10 @@
-// The work of the programs write, replay and fold: from the bytes of files to what is printed. Each leaves what is to be printed at the
+// The work of the programs write, replay, widen and fold: from the bytes of files to what is printed. Each leaves what is to be printed at the
 // fronts of line and, save replay, out.
 use fold::FoldAnswer;
 use load::LoadAnswer;
 use numbers::Put;
 use replay::ReplayAnswer;
+use widen::WidenAnswer;
 use write::WriteAnswer;
 ghost use mathlib.Core.Path.{_≡_};
 ghost use mathlib.Core.List.{_++_};
@@ -11,12 +12,13 @@ ghost use Prim.Native.Nat.{_+_, _≤_};
 ghost use lib.ListN.{length, take};
 ghost use Rattle.aiger.specs.Text.{digits};
 ghost use Rattle.aiger.specs.Memory.{Holds};
+ghost use Rattle.aiger.specs.Operations.{widening};
 ghost use Rattle.aiger.specs.Write.{write};
 ghost use Rattle.layout.specs.Words.{circuitIn};
 ghost use Rattle.write.specs.Output.{Room, Placed};
 ghost use Rattle.job.specs.Replies.{Shows};
 ghost use Rattle.commands.specs.Refusal.{cause, refusalText};
-ghost use Rattle.commands.specs.Texts.{textOf, yesText, replayAnswer, writeText, replayText, FoldPrints};
+ghost use Rattle.commands.specs.Texts.{textOf, verdictText, replayAnswer, writeText, replayText, widenText, FoldPrints};
 ghost use Rattle.commands.specs.Replies.{Leaves, FoldTexts};
 ghost use Rattle.commands.specs.Arguments.{numberOf, meant};
 
@@ -98,6 +100,7 @@ fn put_job_cause(line: &mut [u8], at: usize, n: u32) -> usize
             at,
             b"the witness is malformed, or its b is not below B",
         ),
+        16 => put(line, at, b"the witness holds more than 16 x"),
         _ => at,
     }
 }
@@ -163,11 +166,12 @@ pub fn write(file: &[u8], m: &mut [u32], out: &mut [u8], line: &mut [u8]) -> Rep
 // Replays a witness on the circuit in m. The answer is the length of what is to be printed.
 fn replay_loaded(m: &[u32], witness: &[u8], line: &mut [u8]) -> usize
     requires { ⌜ Holds (now m) (circuitIn (now m)) × (128 ≤ length (now line)) ⌝ }
-    ensures { λ r. ⌜ Shows (now (line .exit)) r (textOf yesText (replayAnswer (circuitIn (now (m .entry))) (now (witness .entry)))) ⌝ }
+    ensures { λ r. ⌜ Shows (now (line .exit)) r (textOf verdictText (replayAnswer (circuitIn (now (m .entry))) (now (witness .entry)))) ⌝ }
 {
     match replay::replay(m, witness) {
-        ReplayAnswer::Yes => put(line, 0, b"yes\n"),
+        ReplayAnswer::All => put(line, 0, b"all\n"),
         ReplayAnswer::No => put(line, 0, b"no\n"),
+        ReplayAnswer::Mixed => put(line, 0, b"mixed\n"),
         ReplayAnswer::Refused(n) => write_refusal(line, n),
     }
 }
@@ -181,6 +185,35 @@ pub fn replay(file: &[u8], witness: &[u8], m: &mut [u32], line: &mut [u8]) -> us
     match load::load(file, m) {
         LoadAnswer::Refused(n) => write_refusal(line, n),
         LoadAnswer::Loaded(_) => replay_loaded(m, witness, line),
+    }
+}
+
+// Widens a witness on the circuit in m.
+fn widen_loaded(m: &[u32], witness: &[u8], out: &mut [u8], line: &mut [u8]) -> Report
+    requires { ⌜ Holds (now m) (circuitIn (now m)) × (128 ≤ length (now line)) ⌝ }
+    ensures { λ r. ⌜
+        Leaves (now (line .exit)) (now (out .exit)) r
+        (textOf (λ w. w) (widening (circuitIn (now (m .entry))) (now (witness .entry)) (length (now (out .entry)))))
+        ⌝ }
+{
+    match widen::widen(m, witness, out) {
+        WidenAnswer::Length(n) => Report { line: 0, out: n },
+        WidenAnswer::Refused(n) => refuse(line, n),
+    }
+}
+
+// Loads a file and widens a witness on its circuit.
+pub fn widen(file: &[u8], witness: &[u8], m: &mut [u32], out: &mut [u8], line: &mut [u8]) -> Report
+    requires { ⌜ (length (now m) ≡ 33032) × (128 ≤ length (now line)) ⌝ }
+    ensures prints { λ r. ⌜
+        take (r .line) (now (line .exit)) ++ take (r .out) (now (out .exit))
+        ≡ widenText (now (file .entry)) (now (witness .entry)) (length (now (out .entry)))
+        ⌝ }
+    ensures within { λ r. ⌜ (r .line ≤ length (now (line .exit))) × (r .out ≤ length (now (out .exit))) ⌝ }
+{
+    match load::load(file, m) {
+        LoadAnswer::Refused(n) => refuse(line, n),
+        LoadAnswer::Loaded(_) => widen_loaded(m, witness, out, line),
     }
 }
 

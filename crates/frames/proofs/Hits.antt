@@ -32,7 +32,7 @@ and-swap true false false = refl
 and-swap false b c = refl
 
 -- the first number aside
-below-first : (n : ℕ) (p : ℕ → Bool) → everyBelow (suc n) p ≡ (p 0 && everyBelow n (λ i. p (suc i)))
+pub below-first : (n : ℕ) (p : ℕ → Bool) → everyBelow (suc n) p ≡ (p 0 && everyBelow n (λ i. p (suc i)))
 below-first zero p = sym (and-true (p 0))
 below-first (suc n) p =
     ap (λ (b : Bool). b && p (suc n)) (below-first n p) ∙ and-assoc (p 0) (everyBelow n (λ i. p (suc i))) (p (suc n))
@@ -43,7 +43,7 @@ every-below p [] d = refl
 every-below p (x ∷ xs) d = below-first (length xs) (λ i. p (getD (x ∷ xs) i d)) ∙ ap (λ (b : Bool). p x && b) (every-below p xs d)
 
 -- tests that agree below n
-below-same : (n : ℕ) (p q : ℕ → Bool) → ((i : ℕ) → i < n → p i ≡ q i) → everyBelow n p ≡ everyBelow n q
+pub below-same : (n : ℕ) (p q : ℕ → Bool) → ((i : ℕ) → i < n → p i ≡ q i) → everyBelow n p ≡ everyBelow n q
 below-same zero p q h = refl
 below-same (suc n) p q h = ap₂ (λ (x y : Bool). x && y) (below-same n p q (λ i l. h i (omega arith))) (h n (omega arith))
 

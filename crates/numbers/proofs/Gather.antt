@@ -1,22 +1,21 @@
--- What the loop of `read_number` keeps: the digits at a position are those that were read, which stand for the total, and those that
--- are left.
+-- What the loop of `read_number` keeps: the digits at a position are those that the buffer holds and those that are left.
 -- Assumes nothing.
 use mathlib.Core.Path.{_≡_, refl, sym, ap, _∙_, subst}
 use mathlib.Core.Bool.{Bool, true, false, cond}
 use mathlib.Core.List.{List, [], _∷_, _++_, append-assoc, append-nil}
-use Prim.Native.Nat.{ℕ, suc, _+_, _-_, _*_, _^_, _≤_, _<_}
+use Prim.Native.Nat.{ℕ, suc, _+_, _^_, _≤_, _<_}
 use native.Mathlib.Numerals.{add-one}
 use native.Mathlib.Omega.{arith}
 use borrow.Author.Tests.{le-leb, lt-leb, ne-eqb}
 use lib.Dec.{T}
-use lib.ListN.{length, getD, take, drop, length-append, length-drop, drop-of-length-le}
-use lib.Seq.{drop-cons, getD-drop, take-suc, length-take-le}
+use lib.ListN.{length, getD, take, drop, set, length-append, length-set, drop-of-length-le}
+use lib.Seq.{drop-cons, take-suc-set, length-take-le}
 use Rattle.aiger.specs.Lists.{every}
 use Rattle.aiger.specs.Text.{isDigit, isNumber, decimal, span, Token, malformed, endedBy, token}
 use Rattle.aiger.proofs.Tests.{and, every-left, T-true}
-use Rattle.numbers.specs.Number.{NumberAt, Digits, part}
+use Rattle.numbers.specs.Number.{NumberAt, Gathered}
 use Rattle.numbers.specs.declared.Number.the-variants.{Spaced, Ended, Malformed}
-use Rattle.numbers.proofs.Run.{overlong, small-more, small-in}
+use Rattle.numbers.proofs.Run.{overlong}
 
 digit : (b : ℕ) → 48 ≤ b → b < 58 → isDigit b ≡ true
 digit b p q =
@@ -60,85 +59,63 @@ cond-same : (b : Bool) (t : Token) → cond b t t ≡ t
 cond-same true t = refl
 cond-same false t = refl
 
--- one more digit
-decimal-more : (n : ℕ) (w : List ℕ) (c : ℕ) → decimal n (w ++ (c ∷ [])) ≡ decimal n w * 10 + (c - 48)
-unfolding decimal
-decimal-more n [] c = refl
-decimal-more n (d ∷ w) c = decimal-more (n * 10 + (d - 48)) w c
-
-pub record Gathering (s : List ℕ) (at total count i : ℕ) : Type 0 where
+pub record Gathering (s buffer : List ℕ) (at count i : ℕ) : Type 0 where
   pub few : count ≤ 10
-  pub inside : count ≤ length (drop at s)
+  pub full : length buffer ≡ 10
   pub here : i ≡ at + count
-  pub run : (span (drop at s)) .0 ≡ part s at count ++ (span (drop i s)) .0
+  pub run : (span (drop at s)) .0 ≡ take count buffer ++ (span (drop i s)) .0
   pub rest : (span (drop at s)) .1 ≡ (span (drop i s)) .1
-  pub value : total ≡ decimal 0 (part s at count)
-  pub small : total < 10 ^ count
 
-pub start : (s : List ℕ) (at : ℕ) → Gathering s at 0 0 at
-unfolding decimal
-start s at =
-    record { few = omega arith; inside = omega arith; here = omega arith; run = refl; rest = refl; value = refl; small = omega arith }
+pub start : (s buffer : List ℕ) (at : ℕ) → length buffer ≡ 10 → Gathering s buffer at 0 at
+start s buffer at h = record { few = omega arith; full = h; here = omega arith; run = refl; rest = refl }
 
-module _ {s : List ℕ} {at total count i : ℕ} (g : Gathering s at total count i) where
-  pub turn : count < 10 → i < length s → 48 ≤ getD s i 0 → getD s i 0 < 58 → (d : ℕ) → d ≡ getD s i 0 - 48
-      → Gathering s at (total * 10 + d) (count + 1) (i + 1)
-  turn room p lo hi d e =
+module _ {s buffer : List ℕ} {at count i : ℕ} (g : Gathering s buffer at count i) where
+  pub turn : count < 10 → i < length s → 48 ≤ getD s i 0 → getD s i 0 < 58 → Gathering s (set buffer count (getD s i 0)) at (count + 1) (i + 1)
+  turn room p lo hi =
       let m = span-more s i p (digit (getD s i 0) lo hi) in
-      let q : count < length (drop at s) = omega (arith, length-drop at s, g .here) in
-      let x : getD (drop at s) count 0 ≡ getD s i 0 = getD-drop at s count 0 ∙ ap (λ (k : ℕ). getD s k 0) (sym (g .here)) in
-      let y : part s at (count + 1) ≡ part s at count ++ (getD s i 0 ∷ []) =
-      ap (λ (k : ℕ). take k (drop at s)) (add-one count) ∙ take-suc (drop at s) count 0 q
-      ∙ ap (λ (c : ℕ). part s at count ++ (c ∷ [])) x
-      in
+      let q : count < length buffer = omega arith in
       record {
         few = omega arith;
-        inside = omega arith;
-        here = omega (arith, g .here);
-        run = g .run ∙ rw (m, y, append-assoc);
+        full = length-set buffer count (getD s i 0) ∙ g .full;
+        here = omega arith;
+        run = g .run ∙ rw (m, add-one count, take-suc-set buffer count (getD s i 0) q, append-assoc);
         rest = g .rest ∙ rw m;
-        value = rw (y, decimal-more, ← g .value, e);
-        small = small-more count total d (g .small) (omega arith);
       }
 
-  -- what was read are digits
-  pub held : Digits s at count
+  -- what the buffer holds are digits
+  pub held : Gathered buffer count
   held = record {
     few = g .few;
-    held = g .inside;
-    all = every-left isDigit (part s at count) ((span (drop i s)) .0) (subst (λ (w : List ℕ). T (every isDigit w)) (g .run) (span-all (drop at s)));
+    held = omega arith;
+    all = every-left isDigit (take count buffer) ((span (drop i s)) .0) (subst (λ (w : List ℕ). T (every isDigit w)) (g .run) (span-all (drop at s)));
   }
 
-  -- the total fits
-  pub low-total : count < 10 → total < 10 ^ 9
-  low-total h = small-in count 9 total (omega arith) (g .small)
-
   -- where no digit is left, the token goes by the buffer and by what is left
-  stopped : (f : List ℕ) → span (drop i s) ≡ ([], f) → token (drop at s) ≡ cond (isNumber (part s at count)) (endedBy (decimal 0 (part s at count)) f) malformed
+  stopped : (f : List ℕ) → span (drop i s) ≡ ([], f) → token (drop at s) ≡ cond (isNumber (take count buffer)) (endedBy (decimal 0 (take count buffer)) f) malformed
   unfolding token
   stopped f e =
-      let a : (span (drop at s)) .0 ≡ part s at count = g .run ∙ rw e (append-nil _) in
+      let a : (span (drop at s)) .0 ≡ take count buffer = g .run ∙ rw e (append-nil _) in
       let b : (span (drop at s)) .1 ≡ f = g .rest ∙ rw e in
       rw (a, b)
 
-  pub by-space : i < length s → getD s i 0 ≡ 32 → isNumber (part s at count) ≡ true → NumberAt s at (Spaced total (i + 1))
+  pub by-space : i < length s → getD s i 0 ≡ 32 → isNumber (take count buffer) ≡ true → (v : ℕ) → v ≡ decimal 0 (take count buffer) → v < 10 ^ 10 → NumberAt s at (Spaced v (i + 1))
   unfolding endedBy
-  by-space p b n =
+  by-space p b n v e small =
       record {
-        meaning = sym (stopped _ (span-stop s i p (low (getD s i 0) (omega arith))) ∙ rw (n, b, ← g .value));
-        place = record { past = omega arith; inside = omega arith; small = small-in count 10 total (g .few) (g .small) };
+        meaning = sym (stopped _ (span-stop s i p (low (getD s i 0) (omega arith))) ∙ rw (n, b, ← e));
+        place = record { past = omega arith; inside = omega arith; small = small };
       }
 
-  pub by-line : i < length s → getD s i 0 ≡ 10 → isNumber (part s at count) ≡ true → NumberAt s at (Ended total (i + 1))
+  pub by-line : i < length s → getD s i 0 ≡ 10 → isNumber (take count buffer) ≡ true → (v : ℕ) → v ≡ decimal 0 (take count buffer) → v < 10 ^ 10 → NumberAt s at (Ended v (i + 1))
   unfolding endedBy
-  by-line p b n =
+  by-line p b n v e small =
       record {
-        meaning = sym (stopped _ (span-stop s i p (low (getD s i 0) (omega arith))) ∙ rw (n, b, ← g .value));
-        place = record { past = omega arith; inside = omega arith; small = small-in count 10 total (g .few) (g .small) };
+        meaning = sym (stopped _ (span-stop s i p (low (getD s i 0) (omega arith))) ∙ rw (n, b, ← e));
+        place = record { past = omega arith; inside = omega arith; small = small };
       }
 
   -- the digits are no number
-  pub no-number : i < length s → isDigit (getD s i 0) ≡ false → isNumber (part s at count) ≡ false → NumberAt s at Malformed
+  pub no-number : i < length s → isDigit (getD s i 0) ≡ false → isNumber (take count buffer) ≡ false → NumberAt s at Malformed
   no-number p d n = record { meaning = sym (stopped _ (span-stop s i p d) ∙ rw n); place = tt }
 
   -- the byte after the digits ends no number
@@ -158,5 +135,5 @@ module _ {s : List ℕ} {at total count i : ℕ} (g : Gathering s at total count
   eleventh z p lo hi =
       let w : List ℕ = (span (drop (i + 1) s)) .0 in
       let n : length ((span (drop at s)) .0) ≡ 10 + suc (length w) =
-      rw (g .run, span-more s i p (digit (getD s i 0) lo hi), length-append, length-take-le count (drop at s) (g .inside), z) in
+      rw (g .run, span-more s i p (digit (getD s i 0) lo hi), length-append, length-take-le count buffer (omega arith), z) in
       record { meaning = sym (rw (overlong ((span (drop at s)) .0) (omega arith))); place = tt }

@@ -31,12 +31,8 @@ pub record NumberAt (s : List ℕ) (at : ℕ) (r : Number) : Type 0 where
   pub meaning : meant s r ≡ token (drop at s)
   pub place : Placed s at r
 
--- count bytes of a text from `at` on
-abbrev pub part : List ℕ → ℕ → ℕ → List ℕ
-part s at count = take count (drop at s)
-
--- they are in the text and digits, ten at most
-pub record Digits (s : List ℕ) (at count : ℕ) : Type 0 where
+-- the first count bytes of a buffer are digits, ten at most
+pub record Gathered (buffer : List ℕ) (count : ℕ) : Type 0 where
   pub few : count ≤ 10
-  pub held : count ≤ length (drop at s)
-  pub all : T (every isDigit (take count (drop at s)))
+  pub held : count ≤ length buffer
+  pub all : T (every isDigit (take count buffer))

@@ -1,8 +1,9 @@
 // Decimal numbers of the ASCII AIGER format, read from a text and written to one.
 ghost use mathlib.Core.Path.{_≡_};
-ghost use lib.ListN.{length};
-ghost use Rattle.aiger.specs.Text.{isNumber, digits};
-ghost use Rattle.numbers.specs.Number.{NumberAt, Digits, part};
+ghost use Prim.Native.Nat.{_<_, _^_};
+ghost use lib.ListN.{length, take};
+ghost use Rattle.aiger.specs.Text.{isNumber, decimal, digits};
+ghost use Rattle.numbers.specs.Number.{NumberAt, Gathered};
 ghost use Rattle.numbers.specs.Put.{lastDigits, putAt};
 
 // What stands at a position of a text: the value, and the position past the byte that ended it.
@@ -26,10 +27,10 @@ fn wide(x: u8) -> u64
     x as u64
 }
 
-// Whether the count digits at `at` are a number: at least one, and no leading zero unless it stands alone.
-fn is_number(s: &[u8], at: usize, count: usize) -> bool
-    requires { ⌜ Digits (now s) at count ⌝ }
-    ensures { λ r. ⌜ r ≡ isNumber (part (now (s .entry)) at count) ⌝ }
+// Whether the first count digits are a number: at least one, and no leading zero unless it stands alone.
+fn is_number(buffer: &[u8; 10], count: usize) -> bool
+    requires { ⌜ Gathered (now buffer) count ⌝ }
+    ensures { λ r. ⌜ r ≡ isNumber (take count (now (buffer .entry))) ⌝ }
 {
     if count == 0 {
         return false;
@@ -37,14 +38,27 @@ fn is_number(s: &[u8], at: usize, count: usize) -> bool
     if count == 1 {
         return true;
     }
-    s[at] != b'0'
+    buffer[0] != b'0'
 }
 
-// Reads the number at a position. Its value is made digit by digit.
+// The number that the first count digits stand for.
+fn value(buffer: &[u8; 10], count: usize) -> u64
+    requires { ⌜ Gathered (now buffer) count ⌝ }
+    ensures { λ r. ⌜ (r ≡ decimal 0 (take count (now (buffer .entry)))) × (r < 10 ^ 10) ⌝ }
+{
+    let mut total: u64 = 0;
+    let mut k: usize = 0;
+    while k < count {
+        total = total * 10 + wide(buffer[k] - b'0');
+        k += 1;
+    }
+    total
+}
+
 pub fn read_number(s: &[u8], at: usize) -> Number
     ensures { λ r. ⌜ NumberAt (now (s .entry)) at r ⌝ }
 {
-    let mut total: u64 = 0;
+    let mut buffer = [0u8; 10];
     let mut count: usize = 0;
     let mut i = at;
     while i < s.len() {
@@ -54,19 +68,21 @@ pub fn read_number(s: &[u8], at: usize) -> Number
                 if count == 10 {
                     return Number::Malformed;
                 }
-                total = total * 10 + wide(b - b'0');
+                buffer[count] = b;
                 count += 1;
                 i += 1;
             }
             b' ' => {
-                if is_number(s, at, count) {
-                    return Number::Spaced(total, i + 1);
+                if is_number(&buffer, count) {
+                    let v = value(&buffer, count);
+                    return Number::Spaced(v, i + 1);
                 }
                 return Number::Malformed;
             }
             b'\n' => {
-                if is_number(s, at, count) {
-                    return Number::Ended(total, i + 1);
+                if is_number(&buffer, count) {
+                    let v = value(&buffer, count);
+                    return Number::Ended(v, i + 1);
                 }
                 return Number::Malformed;
             }

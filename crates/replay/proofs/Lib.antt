@@ -1,6 +1,5 @@
-pub mod Starts
-pub mod Rows
-pub mod Runs
+pub mod Lines
+pub mod Shapes
 pub mod Answers
-pub mod Reading
+pub mod Plain
 pub mod Theorems

@@ -1,18 +1,17 @@
--- Load, search, write and replay answer and leave one thing only. Assumes nothing.
+-- Load, search, write, replay and widening answer and leave one thing only. Assumes nothing.
 use mathlib.Core.Path.{_≡_, refl, sym, ap, ap₂, _∙_}
-use mathlib.Core.Bool.{Bool}
 use mathlib.Core.List.{List, _∷_}
 use Prim.Native.Nat.{ℕ}
 use native.Mathlib.Omega.{arith}
 use lib.Dec.{leb}
 use lib.ListN.{length}
 use Rattle.aiger.specs.Circuit.{Circuit}
-use Rattle.aiger.specs.Load.{Answer, refused, gives, test, read, _>>=_}
-use Rattle.aiger.specs.Witness.{readWitness, confirms}
+use Rattle.aiger.specs.Load.{Answer, refused, gives, test, _>>=_}
+use Rattle.aiger.specs.Witness.{Verdict, shows, verdict}
 use Rattle.aiger.specs.Search.{Outcome}
 use Rattle.aiger.specs.Write.{countRow, write}
 use Rattle.aiger.specs.Memory.{Holds, image}
-use Rattle.aiger.specs.Operations.{front, Loaded, Written, Replayed, Searched, Said, refusal, saidOf, shown, searchTests}
+use Rattle.aiger.specs.Operations.{front, Loaded, Written, witnessTests, Replayed, widening, leaving, Widened, Searched, Said, refusal, saidOf, shown, searchTests}
 use Rattle.roundtrip.proofs.LoadValid.{gives-same}
 use Rattle.roundtrip.proofs.Holding.{one-circuit}
 
@@ -51,12 +50,23 @@ written-same {out = out} (Written.writes c h s) (Written.writes d k t) =
     (ap (λ (x : Circuit). gives (length (write x))) same, ap (λ (x : Circuit). front (write x) out) same)
 
 -- replay answers one thing
-pub replayed-same : {m text : List ℕ} {a b : Answer Bool} → Replayed m text a → Replayed m text b → a ≡ b
+pub replayed-same : {m text : List ℕ} {a b : Answer Verdict} → Replayed m text a → Replayed m text b → a ≡ b
 replayed-same (Replayed.noCircuit f) (Replayed.noCircuit g) = refl
 replayed-same (Replayed.noCircuit f) (Replayed.says d k) = absurd (f d k)
 replayed-same (Replayed.says c h) (Replayed.noCircuit g) = absurd (g c h)
 replayed-same {text = text} (Replayed.says c h) (Replayed.says d k) =
-    ap (λ (x : Circuit). read 14 (readWitness x text) >>= λ w. gives (confirms x w)) (one-circuit h k)
+    ap (λ (x : Circuit). witnessTests x text >>= λ h. gives (verdict (shows x (h .0)) (h .1))) (one-circuit h k)
+
+-- widening answers one thing and leaves one output
+pub widened-same : {m text out o₁ o₂ : List ℕ} {a b : Answer ℕ} → Widened m text out a o₁ → Widened m text out b o₂ → (a ≡ b) × (o₁ ≡ o₂)
+widened-same (Widened.noCircuit f) (Widened.noCircuit g) = (refl, refl)
+widened-same (Widened.noCircuit f) (Widened.says d k) = absurd (f d k)
+widened-same (Widened.says c h) (Widened.noCircuit g) = absurd (g c h)
+widened-same {text = text} {out = out} (Widened.says c h) (Widened.says d k) =
+    let same = one-circuit h k in (
+      ap (λ (x : Circuit). widening x text (length out) >>= λ w. gives (length w)) same,
+      ap (λ (x : Circuit). leaving (widening x text (length out)) out) same,
+    )
 
 -- the tests of a search are those of the one circuit that is held
 tests : {m : List ℕ} {c d : Circuit} → Holds m c → Holds m d → (b k D n : ℕ) {p q : ℕ} → p ≡ q

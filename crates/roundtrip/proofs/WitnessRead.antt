@@ -145,7 +145,7 @@ ended-exact n m (c ∷ f) r e = go (eqb c 32) (eqb c 10) refl e
         let v : f ≡ r = cc in
         (u, ap₂ (λ (x : ℕ) (xs : List ℕ). x ∷ xs) (eqb-true c 10 q) v)
 
-token-exact : (f : List ℕ) (n : ℕ) (r : List ℕ) → token f ≡ ended n r → n < 10 ^ 10 → f ≡ digits n ++ 10 ∷ r
+pub token-exact : (f : List ℕ) (n : ℕ) (r : List ℕ) → token f ≡ ended n r → n < 10 ^ 10 → f ≡ digits n ++ 10 ∷ r
 unfolding token
 token-exact f n r e h = go (isNumber ((span f) .0)) refl e
   where

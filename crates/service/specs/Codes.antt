@@ -1,12 +1,12 @@
 -- The operations' answers as numbers. Assumes nothing.
 use mathlib.Core.Path.{_≡_}
-use mathlib.Core.Bool.{Bool, true, false}
 use mathlib.Core.List.{List, []}
 use Prim.Native.Nat.{ℕ, _+_, _*_, _^_}
 use Rattle.aiger.specs.Circuit.{Circuit}
 use Rattle.aiger.specs.Load.{Answer, refused, gives}
 use Rattle.aiger.specs.Memory.{Holds}
-use Rattle.aiger.specs.Operations.{HoldsNone, Loaded, Said, refusal, found, none, spent, Searched, Written, Replayed, Folded}
+use Rattle.aiger.specs.Witness.{Verdict}
+use Rattle.aiger.specs.Operations.{HoldsNone, Loaded, Said, refusal, found, none, spent, Searched, Written, Replayed, Widened, Folded}
 use Rattle.layout.specs.Words.{circuitIn}
 use Rattle.search.specs.Chosen.{chosen}
 
@@ -36,13 +36,14 @@ pub record SearchCode (m : List ℕ) (b k D : ℕ) (w out : List ℕ) (r : ℕ) 
   pub searched : Searched chosen m b k D w out said w′ out′
   pub code : r ≡ searchCode said
 
-abbrev pub replayCode : Answer Bool → ℕ
-replayCode (gives true) = 1
-replayCode (gives false) = 0
+abbrev pub replayCode : Answer Verdict → ℕ
+replayCode (gives Verdict.all) = 1
+replayCode (gives Verdict.no) = 0
+replayCode (gives Verdict.mixed) = 2
 replayCode (refused n) = n
 
 pub record ReplayCode (m text : List ℕ) (r : ℕ) : Type 0 where
-  pub answer : Answer Bool
+  pub answer : Answer Verdict
   pub replayed : Replayed m text answer
   pub code : r ≡ replayCode answer
 
@@ -53,6 +54,11 @@ writeCode (refused n) = 2 ^ 32 + n
 pub record WriteCode (m out : List ℕ) (r : ℕ) (out′ : List ℕ) : Type 0 where
   pub answer : Answer ℕ
   pub written : Written m out answer out′
+  pub code : r ≡ writeCode answer
+
+pub record WidenCode (m text out : List ℕ) (r : ℕ) (out′ : List ℕ) : Type 0 where
+  pub answer : Answer ℕ
+  pub widened : Widened m text out answer out′
   pub code : r ≡ writeCode answer
 
 pub record FoldCode (m : List ℕ) (b t : ℕ) (w out : List ℕ) (r : ℕ) (w′ out′ : List ℕ) : Type 0 where

@@ -4,11 +4,12 @@ use fold::FoldAnswer;
 use load::LoadAnswer;
 use replay::ReplayAnswer;
 use search::SearchAnswer;
+use widen::WidenAnswer;
 use write::WriteAnswer;
 ghost use mathlib.Core.Path.{_≡_};
 ghost use Rattle.aiger.specs.Operations.{Searched, Written};
 ghost use Rattle.search.specs.Chosen.{chosen};
-ghost use Rattle.service.specs.Codes.{LoadCode, TestCode, SearchCode, ReplayCode, WriteCode, FoldCode};
+ghost use Rattle.service.specs.Codes.{LoadCode, TestCode, SearchCode, ReplayCode, WidenCode, WriteCode, FoldCode};
 
 // Loads a file: 0, and the counts M I L O A B C are words 0 to 6 of circuit memory; or the number of the refusal.
 #[no_mangle]
@@ -52,15 +53,27 @@ pub extern "C" fn yunverok_search(
     }
 }
 
-// Replays a witness: 1 for yes, 0 for no, or the number of the refusal, 9 or 14.
+// Replays a witness: 1 for all, 0 for no, 2 for mixed, or the number of the refusal, 9, 14 or 16.
 #[no_mangle]
 pub extern "C" fn yunverok_replay(memory: &[u32], text: &[u8]) -> u32
     ensures { λ r. ⌜ ReplayCode (now (memory .entry)) (now (text .entry)) r ⌝ }
 {
     match replay::replay(memory, text) {
-        ReplayAnswer::Yes => 1,
+        ReplayAnswer::All => 1,
         ReplayAnswer::No => 0,
+        ReplayAnswer::Mixed => 2,
         ReplayAnswer::Refused(n) => n,
+    }
+}
+
+// Widens a witness: the length of the text, or 2^32 + number for a refusal.
+#[no_mangle]
+pub extern "C" fn yunverok_widen(memory: &[u32], text: &[u8], out: &mut [u8]) -> u64
+    ensures { λ r. ⌜ WidenCode (now (memory .entry)) (now (text .entry)) (now (out .entry)) r (now (out .exit)) ⌝ }
+{
+    match widen::widen(memory, text, out) {
+        WidenAnswer::Length(n) => n as u64,
+        WidenAnswer::Refused(n) => 0x1_0000_0000 + n as u64,
     }
 }
 

@@ -11,12 +11,12 @@ use lib.ListN.{length, take, drop, getD}
 use Rattle.aiger.specs.Lists.{same}
 use Rattle.aiger.specs.Text.{Token, spaced, ended, malformed, bytes, token, onToken, when, _>>_, _>>=_}
 use Rattle.aiger.specs.Circuit.{Circuit}
-use Rattle.aiger.specs.Witness.{readRun, readWitness}
+use Rattle.aiger.specs.Witness.{readRun, readWitness, heading}
 use Rattle.numbers.specs.Number.{NumberAt}
 use Rattle.numbers.specs.declared.Number.{Number}
 use Rattle.numbers.specs.declared.Number.the-variants.{Ended}
 use Rattle.numbers.proofs.Reading.{NotEnded, not-ended, on-ended}
-use Rattle.witness.specs.Heading.{heading, meant, Within, Placed, HeadingAt}
+use Rattle.witness.specs.Heading.{meant, Within, Placed, HeadingAt}
 use Rattle.witness.specs.declared.Heading.{Heading}
 use Rattle.witness.specs.declared.Heading.the-variants.{Read, Malformed}
 
@@ -91,12 +91,9 @@ pub no-answer : {w : List ℕ} → none ≡ heading w → HeadingAt w Malformed
 no-answer e = record { meaning = e; place = tt }
 
 -- what a caller learns from an answer
-module _ {text : List ℕ} {r : Heading} (h : HeadingAt text r) (c : Circuit) where
-  pub on-read : {b next : ℕ} → r ≡ Read b next → (readWitness c text ≡ readRun c b (drop next text)) × Within text b next
-  on-read e = (
-    heading-read c text ∙ ap (λ (o : Option (ℕ × List ℕ)). o >>= λ x. readRun c (x .0) (x .1)) (sym (h .meaning) ∙ ap (meant text) e),
-    subst (Placed text) e (h .place),
-  )
+module _ {text : List ℕ} {r : Heading} (h : HeadingAt text r) where
+  pub on-read : {b next : ℕ} → r ≡ Read b next → (heading text ≡ some (b, drop next text)) × Within text b next
+  on-read e = (sym (h .meaning) ∙ ap (meant text) e, subst (Placed text) e (h .place))
 
-  pub on-malformed : r ≡ Malformed → readWitness c text ≡ none
-  on-malformed e = heading-read c text ∙ ap (λ (o : Option (ℕ × List ℕ)). o >>= λ x. readRun c (x .0) (x .1)) (sym (h .meaning) ∙ ap (meant text) e)
+  pub on-malformed : r ≡ Malformed → heading text ≡ none
+  on-malformed e = sym (h .meaning) ∙ ap (meant text) e

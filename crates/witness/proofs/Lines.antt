@@ -9,7 +9,7 @@ use native.Mathlib.Nat.{add-zero}
 use native.Mathlib.Numerals.{add-one}
 use native.Mathlib.Decide.{ℕ-discrete}
 use native.Mathlib.Omega.{arith}
-use borrow.Author.Tests.{eq-eqb, ne-eqb}
+use borrow.Author.Tests.{eq-eqb, ne-eqb, eqb-true, eqb-false}
 use lib.Dec.{eqb}
 use lib.ListN.{length, drop, getD, length-map, length-drop, drop-of-length-le}
 use lib.Seq.{drop-cons}
@@ -17,6 +17,8 @@ use Rattle.aiger.specs.Lists.{same, from}
 use Rattle.aiger.specs.Text.{bytes, when, _>>_}
 use Rattle.aiger.specs.Witness.{bits}
 use Rattle.roundtrip.proofs.Lists.{from-length}
+use Rattle.completions.specs.Forms.{Bit, Symbol, SameForm}
+use Rattle.completions.proofs.Forms.{bit-test, form-other, form-not}
 use Rattle.witness.specs.Line.{values, meant, Within, Placed, LineAt}
 use Rattle.witness.specs.declared.Bits.{Bits}
 use Rattle.witness.specs.declared.Bits.the-variants.{Read, Malformed}
@@ -57,14 +59,6 @@ no-bit text at (suc n) (suc i) h l a b =
     rw (drop-cons text at 0 (omega arith), no-bit text (suc at) n i (omega arith) (omega arith) (rw e at a) (rw e at b))
     (skip (eqb (getD text at 0) 48 || eqb (getD text at 0) 49))
 
--- a byte that is a bit
-abbrev pub IsBit : ℕ → Type 0
-IsBit x = (x ≡ 48) ⊎ (x ≡ 49)
-
-bit-test : (x : ℕ) → IsBit x → eqb x 48 || eqb x 49 ≡ true
-bit-test x (inl e) = rw e
-bit-test x (inr e) = rw e
-
 -- bits that no line feed ends
 pub no-line : (text : List ℕ) (at count : ℕ) → at + count < length text → (getD text (at + count) 0 ≡ 10 → ⊥) → bits count (drop at text) ≡ none
 unfolding bits
@@ -76,7 +70,7 @@ no-line text at (suc n) l a =
     rw (drop-cons text at 0 (omega arith), no-line text (suc at) n (omega arith) (rw e at a)) (skip (eqb (getD text at 0) 48 || eqb (getD text at 0) 49))
 
 -- bits, and a line feed
-line : (text : List ℕ) (at count : ℕ) → at + count < length text → ((i : ℕ) → i < count → IsBit (getD text (at + i) 0)) → getD text (at + count) 0 ≡ 10
+line : (text : List ℕ) (at count : ℕ) → at + count < length text → ((i : ℕ) → i < count → Bit (getD text (at + i) 0)) → getD text (at + count) 0 ≡ 10
     → some (values text at count, drop (at + count + 1) text) ≡ bits count (drop at text)
 unfolding bits
 line text at zero l h e =
@@ -84,18 +78,15 @@ line text at zero l h e =
     rw (drop-cons text at 0 (omega arith), eq-eqb (getD text at 0) 10 (rw z at e), z, add-one at)
 line text at (suc n) l h e =
     let z : at + suc n ≡ suc at + n = omega arith in
-    let first : IsBit (getD text at 0) = rw (add-zero at) at (h 0 (omega arith)) in
+    let first : Bit (getD text at 0) = rw (add-zero at) at (h 0 (omega arith)) in
     let more = line text (suc at) n (omega arith) (λ i k. let y : suc at + i ≡ at + suc i = omega arith in rw y (h (suc i) (omega arith))) (rw z at e) in
     rw (drop-cons text at 0 (omega arith), bit-test (getD text at 0) first, z, ← more)
-
-pub bit-range : (x : ℕ) → 48 ≤ x → x ≤ 49 → IsBit x
-bit-range x h l = elim (ℕ-discrete x 48) [ yes e ↦ inl e | no n ↦ inr (omega arith) ]
 
 -- the answers
 pub no-answer : {text : List ℕ} {at count : ℕ} → bits count (drop at text) ≡ none → LineAt text at count Malformed
 no-answer e = record { meaning = sym e; place = tt }
 
-pub answer : (text : List ℕ) (at count : ℕ) → at + count < length text → ((i : ℕ) → i < count → IsBit (getD text (at + i) 0)) → getD text (at + count) 0 ≡ 10
+pub answer : (text : List ℕ) (at count : ℕ) → at + count < length text → ((i : ℕ) → i < count → Bit (getD text (at + i) 0)) → getD text (at + count) 0 ≡ 10
     → LineAt text at count (Read (at + count + 1))
 answer text at count l h e = record { meaning = line text at count l h e; place = record { past = refl; inside = omega arith } }
 
@@ -143,3 +134,49 @@ not-dot text at h n = two-left text at h ∙ rw (ne-eqb (getD text at 0) 46 n)
 
 pub dot : (text : List ℕ) (at : ℕ) → length text - at ≡ 2 → getD text at 0 ≡ 46 → same (drop at text) (bytes ".\n") ≡ eqb (getD text (at + 1) 0) 10
 dot text at h e = two-left text at h ∙ rw (eq-eqb (getD text at 0) 46 e)
+
+-- ---- bytes that are no bits, in a text of the same form
+
+feed-no-bit : Bit 10 → ⊥
+feed-no-bit (inl e) = omega arith
+feed-no-bit (inr e) = omega arith
+
+dot-no-bit : Bit 46 → ⊥
+dot-no-bit (inl e) = omega arith
+dot-no-bit (inr e) = omega arith
+
+feed-no-symbol : Symbol 10 → ⊥
+feed-no-symbol (inl b) = feed-no-bit b
+feed-no-symbol (inr e) = omega arith
+
+dot-no-symbol : Symbol 46 → ⊥
+dot-no-symbol (inl b) = dot-no-bit b
+dot-no-symbol (inr e) = omega arith
+
+module _ {w u : List ℕ} (h : SameForm w u) (i : ℕ) where
+  pub same-feed : getD w i 0 ≡ 10 → getD u i 0 ≡ 10
+  same-feed e = form-other h i feed-no-symbol e
+
+  pub no-feed : (getD w i 0 ≡ 10 → ⊥) → getD u i 0 ≡ 10 → ⊥
+  no-feed n e = form-not h i feed-no-bit n e
+
+  pub same-dot : getD w i 0 ≡ 46 → getD u i 0 ≡ 46
+  same-dot e = form-other h i dot-no-symbol e
+
+  pub no-dot : (getD w i 0 ≡ 46 → ⊥) → getD u i 0 ≡ 46 → ⊥
+  no-dot n e = form-not h i dot-no-bit n e
+
+  -- whether a line feed stands there
+  pub feed-test : eqb (getD w i 0) 10 ≡ eqb (getD u i 0) 10
+  feed-test = go (eqb (getD w i 0) 10) refl
+    where
+      go : (b : Bool) → eqb (getD w i 0) 10 ≡ b → b ≡ eqb (getD u i 0) 10
+      go true e = sym (eq-eqb (getD u i 0) 10 (same-feed (eqb-true (getD w i 0) 10 e)))
+      go false e = sym (ne-eqb (getD u i 0) 10 (no-feed (λ q. eqb-false (getD w i 0) 10 e q)))
+
+-- a byte that is no bit and no `x`, in a line
+pub no-symbol : {w u : List ℕ} → SameForm w u → (at count i : ℕ) → i < count → at + i < length u → (Symbol (getD w (at + i) 0) → ⊥)
+    → bits count (drop at u) ≡ none
+no-symbol {w} {u} h at count i l k n =
+    let e : getD u (at + i) 0 ≡ getD w (at + i) 0 = h .at (at + i) .other n in
+    no-bit u at count i l k (λ q. n (inl (inl (sym e ∙ q)))) (λ q. n (inl (inr (sym e ∙ q))))

@@ -3,15 +3,10 @@ use mathlib.Core.Path.{_≡_}
 use mathlib.Core.List.{List}
 use mathlib.Core.Option.{Option, none, some}
 use Prim.Native.Nat.{ℕ, _^_, _≤_, _<_}
-use lib.ListN.{length, take, drop}
-use Rattle.aiger.specs.Lists.{same}
-use Rattle.aiger.specs.Text.{bytes, token, onToken, _>>_, when}
+use lib.ListN.{length, drop}
+use Rattle.aiger.specs.Witness.{heading}
 use Rattle.witness.specs.declared.Heading.{Heading}
 use Rattle.witness.specs.declared.Heading.the-variants.{Read, Malformed}
-
--- the lines `1` and `b` with a number, and the bytes after them
-unfoldable pub heading : List ℕ → Option (ℕ × List ℕ)
-heading w = when (same (take 3 w) (bytes "1\nb")) >> onToken (token (drop 3 w)) (λ b f. none) (λ b f. some (b, f))
 
 -- an answer on a text, as `heading` has it
 abbrev pub meant : List ℕ → Heading → Option (ℕ × List ℕ)

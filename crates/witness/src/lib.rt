@@ -3,6 +3,7 @@ ghost use mathlib.Core.Path.{_≡_};
 ghost use mathlib.Core.Bool.{true, cond};
 ghost use Prim.Native.Nat.{ℕ, _+_, _≤_, _<_};
 ghost use lib.Dec.{eqb};
+ghost use mathlib.Core.List.{List};
 ghost use lib.ListN.{length, drop};
 ghost use Rattle.aiger.specs.Lists.{same};
 ghost use Rattle.aiger.specs.Text.{bytes};
@@ -10,6 +11,7 @@ ghost use Rattle.aiger.specs.Frames.{freeStarts, starts, run};
 ghost use Rattle.aiger.specs.Witness.{bitLine, witness};
 ghost use Rattle.aiger.specs.Operations.{front};
 ghost use Rattle.layout.specs.Words.{circuitIn};
+ghost use Rattle.completions.specs.Forms.{isSymbol, SameForm};
 ghost use Rattle.witness.specs.Writing.{freeAt, rowOf, headingText, SequenceIn, StartsFit, WitnessFits};
 ghost use Rattle.witness.specs.Line.{LineAt};
 ghost use Rattle.witness.specs.Heading.{HeadingAt};
@@ -151,9 +153,16 @@ pub fn write_witness(out: &mut [u8], m: &[u32], layout: Layout, b: u32, t: usize
     out[end + 1] = b'\n';
 }
 
-// A line of count bits at `at`.
+// Whether a byte is a bit or `x`.
+fn is_symbol(byte: u8) -> bool
+    ensures { λ r. ⌜ r ≡ isSymbol byte ⌝ }
+{
+    (byte == b'0') | (byte == b'1') | (byte == b'x')
+}
+
+// A line of count bits at `at`, where `x` may stand for a bit: in every text of the same form, so in every completion.
 pub fn read_bits(text: &[u8], at: usize, count: usize) -> Bits
-    ensures { λ r. ⌜ LineAt (now (text .entry)) at count r ⌝ }
+    ensures { λ r. ⌜ ((u : List ℕ) → SameForm (now (text .entry)) u → LineAt u at count r) ⌝ }
 {
     if text.len() <= at {
         return Bits::Malformed;
@@ -163,14 +172,10 @@ pub fn read_bits(text: &[u8], at: usize, count: usize) -> Bits
     }
     let mut i: usize = 0;
     while i < count {
-        match text[at + i] {
-            b'0'..=b'1' => {
-                i += 1;
-            }
-            _ => {
-                return Bits::Malformed;
-            }
+        if !is_symbol(text[at + i]) {
+            return Bits::Malformed;
         }
+        i += 1;
     }
     if text[at + count] != b'\n' {
         return Bits::Malformed;
@@ -180,7 +185,7 @@ pub fn read_bits(text: &[u8], at: usize, count: usize) -> Bits
 
 // Whether the line `.` stands at `at` and ends the text.
 pub fn is_end(text: &[u8], at: usize) -> bool
-    ensures { λ r. ⌜ r ≡ same (drop at (now (text .entry))) (bytes ".\n") ⌝ }
+    ensures { λ r. ⌜ ((u : List ℕ) → SameForm (now (text .entry)) u → r ≡ same (drop at u) (bytes ".\n")) ⌝ }
 {
     if text.len() <= at {
         return false;

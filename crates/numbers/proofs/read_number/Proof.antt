@@ -4,60 +4,70 @@ use mathlib.Core.Path.{refl, sym, _∙_}
 use Prim.Native.Nat.{ℕ, _-_}
 use native.Mathlib.Omega.{arith}
 use lib.ListN.{length, getD}
-use Rattle.numbers.proofs.Gather.{Gathering, start, turn, held, low-total, low, high, by-space, by-line, no-number, no-end, text-end, eleventh}
+use Rattle.numbers.proofs.Gather.{Gathering, start, turn, held, low, high, by-space, by-line, no-number, no-end, text-end, eleventh}
 use Rattle.numbers.proofs.read_number.Statement.{statement}
 use Rattle.numbers.proofs.read_number.Tie as tie
 
 abbrev Inv-loop : tie.InvT-loop
-Inv-loop s at total₀ count₀ i₀ total count i = Gathering s at total count i
+Inv-loop s at buffer₀ count₀ i₀ buffer count i = Gathering s buffer at count i
 
 abbrev μ-loop : tie.MeasureT-loop
-μ-loop s at total₀ count₀ i₀ total count i = length s - i
+μ-loop s at buffer₀ count₀ i₀ buffer count i = length s - i
 
 -- the byte at i
 abbrev byte : tie.At-loop Inv-loop μ-loop → ℕ
 byte l = getD (l .before .before .args .s .now) (l .loop .i) 0
 
 loop-holds : tie.Need-loop-holds Inv-loop μ-loop
-loop-holds c = start _ _
+loop-holds c = start _ _ _ refl
 
 shared-slice-read-b : tie.Need-shared-slice-read-b Inv-loop μ-loop
 shared-slice-read-b c = omega arith
 
 is-number-requires : tie.Need-is-number-requires Inv-loop μ-loop
-is-number-requires c κs = held (c .before .before .before .loop .inv)
+is-number-requires c κs = held (c .before .before .before .before .loop .inv)
 
-add-t12 : tie.Need-add-t12 Inv-loop μ-loop
-add-t12 c = omega arith
+value-requires : tie.Need-value-requires Inv-loop μ-loop
+value-requires c κs = held (c .before .before .before .before .before .before .before .loop .inv)
+
+add-t16 : tie.Need-add-t16 Inv-loop μ-loop
+add-t16 c = omega arith
 
 returns : tie.Need-returns Inv-loop μ-loop
 returns c =
-    let m = c .before .before in
+    let t = c .before .before in
+    let m = t .before .before .before in
     let l = m .before .before .before in
-    by-space (l .loop .inv) (m .before .before .loop-test .taken) (m .match .keys1) (sym (c .before .is-number .ensures) ∙ c .if1 .taken)
+    by-space (l .loop .inv) (m .before .before .loop-test .taken) (m .match .keys1)
+    (sym (t .before .is-number .ensures) ∙ t .if1 .taken) (c .value .result) (c .value .ensures .0) (c .value .ensures .1)
 
 returns-2 : tie.Need-returns-2 Inv-loop μ-loop
 returns-2 c =
-    let m = c .before .before in
+    let m = c .before .before .before in
     let l = m .before .before .before in
     no-number (l .loop .inv) (m .before .before .loop-test .taken)
     (low (byte l) (omega (arith, m .match .keys1))) (sym (c .before .is-number .ensures) ∙ c .if1 .left)
 
 is-number-requires-2 : tie.Need-is-number-requires-2 Inv-loop μ-loop
-is-number-requires-2 c κs = held (c .before .before .before .loop .inv)
+is-number-requires-2 c κs = held (c .before .before .before .before .loop .inv)
 
-add-t14 : tie.Need-add-t14 Inv-loop μ-loop
-add-t14 c = omega arith
+value-requires-2 : tie.Need-value-requires-2 Inv-loop μ-loop
+value-requires-2 c κs = held (c .before .before .before .before .before .before .before .loop .inv)
+
+add-t20 : tie.Need-add-t20 Inv-loop μ-loop
+add-t20 c = omega arith
 
 returns-3 : tie.Need-returns-3 Inv-loop μ-loop
 returns-3 c =
-    let m = c .before .before in
+    let t = c .before .before in
+    let m = t .before .before .before in
     let l = m .before .before .before in
-    by-line (l .loop .inv) (m .before .before .loop-test .taken) (m .match .keys2) (sym (c .before .is-number2 .ensures) ∙ c .if2 .taken)
+    by-line (l .loop .inv) (m .before .before .loop-test .taken) (m .match .keys2)
+    (sym (t .before .is-number2 .ensures) ∙ t .if2 .taken) (c .value2 .result) (c .value2 .ensures .0) (c .value2 .ensures .1)
 
 returns-4 : tie.Need-returns-4 Inv-loop μ-loop
 returns-4 c =
-    let m = c .before .before in
+    let m = c .before .before .before in
     let l = m .before .before .before in
     no-number (l .loop .inv) (m .before .before .loop-test .taken)
     (low (byte l) (omega (arith, m .match .keys2))) (sym (c .before .is-number2 .ensures) ∙ c .if2 .left)
@@ -67,18 +77,8 @@ returns-5 c =
     let l = c .before .before .before .before .before .before in
     eleventh (l .loop .inv) (omega arith) (omega arith) (omega arith) (omega arith)
 
-mul-total : tie.Need-mul-total Inv-loop μ-loop
-mul-total c =
-    let l = c .before .before .before .before .before .before in
-    omega (arith, low-total (l .loop .inv) (omega arith))
-
-wide-requires : tie.Need-wide-requires Inv-loop μ-loop
-wide-requires c κs = tt
-
-add-total : tie.Need-add-total Inv-loop μ-loop
-add-total c =
-    let l = c .before .before .before .before .before .before .before in
-    omega (arith, low-total (l .loop .inv) (omega arith), c .wide .ensures)
+array-write-buffer : tie.Need-array-write-buffer Inv-loop μ-loop
+array-write-buffer c = omega arith
 
 add-count : tie.Need-add-count Inv-loop μ-loop
 add-count c = omega arith
@@ -91,8 +91,8 @@ loop-less c = omega arith
 
 loop-again : tie.Need-loop-again Inv-loop μ-loop
 loop-again c =
-    let l = c .before .before .before .before .before .before .before in
-    turn (l .loop .inv) (omega arith) (omega arith) (omega arith) (omega arith) (c .wide .result) (c .wide .ensures)
+    let l = c .before .before .before .before .before .before in
+    turn (l .loop .inv) (omega arith) (omega arith) (omega arith) (omega arith)
 
 returns-6 : tie.Need-returns-6 Inv-loop μ-loop
 returns-6 c =
@@ -122,17 +122,17 @@ read-number-spec =
     loop-holds
     shared-slice-read-b
     is-number-requires
-    add-t12
+    value-requires
+    add-t16
     returns
     returns-2
     is-number-requires-2
-    add-t14
+    value-requires-2
+    add-t20
     returns-3
     returns-4
     returns-5
-    mul-total
-    wide-requires
-    add-total
+    array-write-buffer
     add-count
     add-i
     loop-less

@@ -1,27 +1,28 @@
 -- `witness::is_end` meets its contract: each answer by how many bytes are left, and by those bytes. Assumes nothing.
-use mathlib.Core.Path.{sym}
+use mathlib.Core.Path.{sym, _∙_}
+use Prim.Native.Nat.{_+_}
 use native.Mathlib.Omega.{arith}
 use borrow.Author.Needs.{needs}
-use Rattle.witness.proofs.Lines.{not-end, not-dot, dot}
+use Rattle.witness.proofs.Lines.{not-end, not-dot, dot, same-dot, no-dot, feed-test}
 use Rattle.witness.proofs.is_end.Statement.{statement}
 use Rattle.witness.proofs.is_end.Tie as tie
 
 returns : tie.Need-returns
-returns c = let a = c .before .args in sym (not-end (a .text .now) (a .at) (λ e. omega arith))
+returns c = λ u h. let a = c .before .args in sym (not-end u (a .at) (λ e. omega (arith, h .size)))
 
 sub-if2 : tie.Need-sub-if2
 sub-if2 c = search needs
 
 returns-2 : tie.Need-returns-2
-returns-2 c = let a = c .before .before .args in sym (not-end (a .text .now) (a .at) (c .if2 .taken))
+returns-2 c = λ u h. let a = c .before .before .args in sym (not-end u (a .at) (λ e. c .if2 .taken (omega (arith, h .size))))
 
 shared-slice-read-if3 : tie.Need-shared-slice-read-if3
 shared-slice-read-if3 c = search needs
 
 returns-3 : tie.Need-returns-3
-returns-3 c =
+returns-3 c = λ u h.
     let a = c .before .before .before .before .args in
-    sym (not-dot (a .text .now) (a .at) (c .before .before .if2 .left) (c .if3 .taken))
+    sym (not-dot u (a .at) (omega (arith, h .size, c .before .before .if2 .left)) (no-dot h (a .at) (c .if3 .taken)))
 
 add-result : tie.Need-add-result
 add-result c = search needs
@@ -30,9 +31,10 @@ shared-slice-read-result : tie.Need-shared-slice-read-result
 shared-slice-read-result c = search needs
 
 returns-4 : tie.Need-returns-4
-returns-4 c =
+returns-4 c = λ u h.
     let a = c .before .before .before .before .before .args in
-    sym (dot (a .text .now) (a .at) (c .before .before .before .if2 .left) (c .before .if3 .left))
+    feed-test h (a .at + 1)
+    ∙ sym (dot u (a .at) (omega (arith, h .size, c .before .before .before .if2 .left)) (same-dot h (a .at) (c .before .if3 .left)))
 
 pub is-end-spec : {M : Type 1} → statement M
 is-end-spec = tie.close (tie.spec returns sub-if2 returns-2 shared-slice-read-if3 returns-3 add-result shared-slice-read-result returns-4)

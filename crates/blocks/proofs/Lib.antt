@@ -1,0 +1,4 @@
+pub mod Words
+pub mod Starts
+pub mod Runs
+pub mod Judging

@@ -1,0 +1,1 @@
+// Laws of witnesses that hold `x` stand in proofs/: completions, and widening. This crate has no code.
