@@ -1,0 +1,13 @@
+pub mod Runs
+pub mod Numbers
+pub mod Ranks
+pub mod Shape
+pub mod Accepted
+pub mod Acyclic
+pub mod Parted
+pub mod Fronts
+pub mod Naming
+pub mod Sections
+pub mod Contents
+pub mod Images
+pub mod Tables
