@@ -14,8 +14,8 @@ use Rattle.aiger.specs.Witness.{witness}
 use Rattle.aiger.specs.Operations.{shown}
 use Rattle.meaning.proofs.Decisions as decisions
 use Rattle.meaning.proofs.Outcomes.{Clear, Quiet, found-in, none-in, spent-in, first-witness}
-use Rattle.enumeration.specs.Choice.{decisionAt}
-use Rattle.enumeration.proofs.Laws.{hit-first, clear-none, spent-first}
+use Rattle.decision.specs.Reach.{decisionOf}
+use Rattle.decision.proofs.Deciding.{decided-says}
 use Rattle.machine.specs.Layers.{Layered}
 use Rattle.machine.proofs.Theorems.{QuietBefore, Says, layered-says}
 use Rattle.transitions.specs.Transitions.{machineOf}
@@ -25,24 +25,20 @@ use Rattle.reachable.specs.Layers.{layered}
 use Rattle.search.specs.Chosen.{outcomeOf, chosenFrom, byLayers, chosen}
 use Rattle.search.specs.Steps.{Answered}
 
-module _ (q : Question) (k D : ℕ) where
+module _ (q : Question) (f : ℕ → Decision) (k D : ℕ) (right : (t : ℕ) → decisions.Says (q .hitting t) (q .places t) 0 D (f t)) where
   -- one frame, where the later ones give a permitted outcome
   step : (t : ℕ) → t ≤ k → Quiet q t → (later : Outcome) → (Quiet q (t + 1) → T (permittedOf q k D later)) → (d : Decision)
-      → decisionAt q t D ≡ d → T (permittedOf q k D (outcomeOf d t later))
-  step t l h later r (Decision.hit x) e =
-      found-in q k D t (record { within = l; quiet = h; place = x; first = hit-first (q .hitting t) (q .places t) 0 D e })
-  step t l h later r Decision.clear e =
-      r (below-more (λ u. Clear q u (q .places u)) t h (clear-none (q .hitting t) (q .places t) 0 D e))
-  step t l h later r Decision.spent e =
-      spent-in q k D t (record { within = l; quiet = h; first = spent-first (q .hitting t) (q .places t) 0 D e })
+      → decisions.Says (q .hitting t) (q .places t) 0 D d → T (permittedOf q k D (outcomeOf d t later))
+  step t l h later r (Decision.hit x) s = found-in q k D t (record { within = l; quiet = h; place = x; first = s })
+  step t l h later r Decision.clear s = r (below-more (λ u. Clear q u (q .places u)) t h s)
+  step t l h later r Decision.spent s = spent-in q k D t (record { within = l; quiet = h; first = s })
 
   -- frames from t on, where none before it has a hit
-  pub from : (n t : ℕ) → t + n ≡ k + 1 → Quiet q t → T (permittedOf q k D (chosenFrom q k D t n))
+  pub from : (n t : ℕ) → t + n ≡ k + 1 → Quiet q t → T (permittedOf q k D (chosenFrom f k t n))
   unfolding chosenFrom
   from zero t e h = none-in q k D k (record { bound = refl; quiet = subst (Quiet q) (omega arith) h })
   from (suc n) t e h =
-      step t (omega arith) h (chosenFrom q k D (suc t) n) (λ r. from n (suc t) (omega arith) (subst (Quiet q) (add-one t) r))
-      (decisionAt q t D) refl
+      step t (omega arith) h (chosenFrom f k (suc t) n) (λ r. from n (suc t) (omega arith) (subst (Quiet q) (add-one t) r)) (f t) (right t)
 
 module _ (c : Circuit) (b k D : ℕ) where
   -- frames of the machine without a hit are frames of the circuit without one
@@ -64,7 +60,8 @@ module _ (c : Circuit) (b k D : ℕ) where
   layers-permitted (Layered.hit t x) (l, q, f) =
       found-in (question c b) k D t (record { within = omega arith; quiet = quiet-of t q; place = x; first = first-of (l, q, f) })
   layers-permitted Layered.clear q = none-in (question c b) k D k (record { bound = refl; quiet = quiet-of (k + 1) q })
-  layers-permitted (Layered.gaveUp t) (l, q) = from (question c b) k D (k + 1 - t) t (omega arith) (quiet-of t q)
+  layers-permitted (Layered.gaveUp t) (l, q) =
+      from (question c b) (λ u. decisionOf c b u D) k D (λ u. decided-says c b u D (decisionOf c b u D) refl) (k + 1 - t) t (omega arith) (quiet-of t q)
 
   -- the chosen outcome is permitted
   pub chosen-permitted : T (permitted c b k D (chosen c b k D))
@@ -73,7 +70,7 @@ module _ (c : Circuit) (b k D : ℕ) where
 
   -- the outcome is what frames t to k give
   abbrev pub Left : ℕ → Type 0
-  Left t = chosen c b k D ≡ chosenFrom (question c b) k D t (k + 1 - t)
+  Left t = chosen c b k D ≡ chosenFrom (λ u. decisionOf c b u D) k t (k + 1 - t)
 
   -- the outcome is what the layers say
   pub chosen-found : {t x : ℕ} → layered c b k ≡ Layered.hit t x → chosen c b k D ≡ Outcome.found t
@@ -102,33 +99,33 @@ module _ (c : Circuit) (b k D : ℕ) where
   left-within e = subst (Says (machineOf c b) (fair c b) (k + 1)) e (layered-says (machineOf c b) (fair c b) (quota c) (k + 1)) .0
 
   -- what frame t decides
-  unroll : (t : ℕ) → t ≤ k → chosenFrom (question c b) k D t (k + 1 - t) ≡ outcomeOf (decisionAt (question c b) t D) t (chosenFrom (question c b) k D (t + 1) (k + 1 - (t + 1)))
+  unroll : (t : ℕ) → t ≤ k → chosenFrom (λ u. decisionOf c b u D) k t (k + 1 - t) ≡ outcomeOf (decisionOf c b t D) t (chosenFrom (λ u. decisionOf c b u D) k (t + 1) (k + 1 - (t + 1)))
   unfolding chosenFrom
   unroll t l =
       let n = k + 1 - (t + 1) in
       let e : k + 1 - t ≡ suc n = omega arith in
-      ap (chosenFrom (question c b) k D t) e ∙ ap (λ (s : ℕ). outcomeOf (decisionAt (question c b) t D) t (chosenFrom (question c b) k D s n)) (sym (add-one t))
+      ap (chosenFrom (λ u. decisionOf c b u D) k t) e ∙ ap (λ (s : ℕ). outcomeOf (decisionOf c b t D) t (chosenFrom (λ u. decisionOf c b u D) k s n)) (sym (add-one t))
 
-  decide : (t : ℕ) → t ≤ k → Left t → {d : Decision} → decisionAt (question c b) t D ≡ d
-      → chosen c b k D ≡ outcomeOf d t (chosenFrom (question c b) k D (t + 1) (k + 1 - (t + 1)))
-  decide t l i e = i ∙ unroll t l ∙ ap (λ (d : Decision). outcomeOf d t (chosenFrom (question c b) k D (t + 1) (k + 1 - (t + 1)))) e
+  decide : (t : ℕ) → t ≤ k → Left t → {d : Decision} → decisionOf c b t D ≡ d
+      → chosen c b k D ≡ outcomeOf d t (chosenFrom (λ u. decisionOf c b u D) k (t + 1) (k + 1 - (t + 1)))
+  decide t l i e = i ∙ unroll t l ∙ ap (λ (d : Decision). outcomeOf d t (chosenFrom (λ u. decisionOf c b u D) k (t + 1) (k + 1 - (t + 1)))) e
 
   -- the first hit that is decided is the one that is shown
-  pub hit-shown : (t x : ℕ) → decisionAt (question c b) t D ≡ Decision.hit x → witness b (run c t x) ≡ firstWitness c b t
-  hit-shown t x e = sym (first-witness c b t x (hit-first (reaches c b t) (2 ^ freeBits c t) 0 D e))
+  pub hit-shown : (t x : ℕ) → decisionOf c b t D ≡ Decision.hit x → witness b (run c t x) ≡ firstWitness c b t
+  hit-shown t x e = sym (first-witness c b t x (decided-says c b t D (Decision.hit x) e))
 
-  pub left-found : (t x : ℕ) → t ≤ k → Left t → decisionAt (question c b) t D ≡ Decision.hit x → chosen c b k D ≡ Outcome.found t
+  pub left-found : (t x : ℕ) → t ≤ k → Left t → decisionOf c b t D ≡ Decision.hit x → chosen c b k D ≡ Outcome.found t
   left-found t x l i e = decide t l i e
 
-  pub left-spent : (t : ℕ) → t ≤ k → Left t → decisionAt (question c b) t D ≡ Decision.spent → chosen c b k D ≡ Outcome.spent t
+  pub left-spent : (t : ℕ) → t ≤ k → Left t → decisionOf c b t D ≡ Decision.spent → chosen c b k D ≡ Outcome.spent t
   left-spent t l i e = decide t l i e
 
-  pub left-more : (t : ℕ) → t ≤ k → Left t → decisionAt (question c b) t D ≡ Decision.clear → Left (t + 1)
+  pub left-more : (t : ℕ) → t ≤ k → Left t → decisionOf c b t D ≡ Decision.clear → Left (t + 1)
   left-more t l i e = decide t l i e
 
   pub left-none : (t : ℕ) → k < t → Left t → chosen c b k D ≡ Outcome.none k
   unfolding chosenFrom
-  left-none t l i = let e : k + 1 - t ≡ 0 = omega arith in i ∙ ap (chosenFrom (question c b) k D t) e
+  left-none t l i = let e : k + 1 - t ≡ 0 = omega arith in i ∙ ap (chosenFrom (λ u. decisionOf c b u D) k t) e
 
   -- the answer that says and shows an outcome
   pub answered : (o : Outcome) → chosen c b k D ≡ o → {out out′ : List ℕ} → out′ ≡ shown c b o out → Answered c b k D out (gives o) out′

@@ -1,5 +1,5 @@
+pub mod Within
 pub mod Choice
 pub mod Answers
 pub mod Theorems
 pub mod ByLayers
-pub mod Within

@@ -2,8 +2,8 @@
 use Prim.Native.Nat.{ℕ, zero, suc, _+_, _-_}
 use Rattle.aiger.specs.Circuit.{Circuit}
 use Rattle.aiger.specs.Load.{Answer, refused, gives}
-use Rattle.aiger.specs.Search.{Question, question, Decision, Outcome}
-use Rattle.enumeration.specs.Choice.{decisionAt}
+use Rattle.aiger.specs.Search.{Decision, Outcome}
+use Rattle.decision.specs.Reach.{decisionOf}
 use Rattle.machine.specs.Layers.{Layered}
 use Rattle.reachable.specs.Layers.{layered}
 use Rattle.search.specs.declared.SearchAnswer.{SearchAnswer}
@@ -15,16 +15,16 @@ outcomeOf (Decision.hit x) t later = Outcome.found t
 outcomeOf Decision.clear t later = later
 outcomeOf Decision.spent t later = Outcome.spent t
 
--- n frames from t on, of a search up to bound k
-unfoldable pub chosenFrom : Question → ℕ → ℕ → ℕ → ℕ → Outcome
-chosenFrom q k D t zero = Outcome.none k
-chosenFrom q k D t (suc n) = outcomeOf (decisionAt q t D) t (chosenFrom q k D (suc t) n)
+-- n frames from t on, of a search up to bound k, where f says what is decided of each frame
+unfoldable pub chosenFrom : (ℕ → Decision) → ℕ → ℕ → ℕ → Outcome
+chosenFrom f k t zero = Outcome.none k
+chosenFrom f k t (suc n) = outcomeOf (f t) t (chosenFrom f k (suc t) n)
 
 -- what the layers of states say; where they are given up at frame t, what the frames from t on give
 abbrev pub byLayers : Circuit → ℕ → ℕ → ℕ → Layered → Outcome
 byLayers c b k D (Layered.hit t x) = Outcome.found t
 byLayers c b k D Layered.clear = Outcome.none k
-byLayers c b k D (Layered.gaveUp t) = chosenFrom (question c b) k D t (k + 1 - t)
+byLayers c b k D (Layered.gaveUp t) = chosenFrom (λ u. decisionOf c b u D) k t (k + 1 - t)
 
 unfoldable pub chosen : Circuit → ℕ → ℕ → ℕ → Outcome
 chosen c b k D = byLayers c b k D (layered c b k)

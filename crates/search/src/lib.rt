@@ -6,10 +6,10 @@ use reachable::Layers;
 ghost use mathlib.Core.Path.{_≡_};
 ghost use Prim.Native.Nat.{_+_, _-_, _≤_};
 ghost use Rattle.aiger.specs.Circuit.{Circuit};
-ghost use Rattle.aiger.specs.Search.{question};
 ghost use Rattle.aiger.specs.Operations.{judge, budgetRight, searchTests, Searched};
 ghost use Rattle.layout.specs.Words.{circuitIn};
 ghost use Rattle.limits.specs.Limits.{Limited, CountsOf, told};
+ghost use Rattle.decision.specs.Reach.{decisionOf};
 ghost use Rattle.search.specs.Chosen.{chosenFrom, chosen, said};
 ghost use Rattle.search.specs.Steps.{SearchFits, Answered};
 
@@ -58,12 +58,12 @@ fn search_from(
     out: &mut [u8],
 ) -> SearchAnswer
     requires { ⌜ SearchFits (now m) layout (now order) b k d (now work) (now out) ⌝ }
-    requires { ⌜ (start ≤ k + 1) × (chosen (circuitIn (now m)) b k d ≡ chosenFrom (question (circuitIn (now m)) b) k d start (k + 1 - start)) ⌝ }
+    requires { ⌜ (start ≤ k + 1) × (chosen (circuitIn (now m)) b k d ≡ chosenFrom (λ u. decisionOf (circuitIn (now m)) b u d) k start (k + 1 - start)) ⌝ }
     ensures { λ r. ⌜ Answered (circuitIn (now (m .entry))) b k d (now (out .entry)) (said r) (now (out .exit)) ⌝ }
 {
     let mut t = start;
     while t <= k {
-        match enumeration::first_hit(m, layout, order, b, t, d, work) {
+        match decision::decide(m, layout, order, b, t, d, work) {
             Frame::Hit => {
                 witness::write_witness(out, m, layout, b as u32, t, work);
                 return SearchAnswer::Found(t as u32);

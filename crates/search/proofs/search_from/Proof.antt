@@ -11,9 +11,10 @@ use Rattle.aiger.specs.Search.{Outcome}
 use Rattle.aiger.specs.Operations.{front}
 use Rattle.layout.specs.Words.{circuitIn}
 use Rattle.frames.proofs.Facts.{bad-count}
-use Rattle.enumeration.specs.Frame.{FrameIs}
+use Rattle.decision.specs.Decided.{FrameDecided}
 use Rattle.enumeration.specs.declared.Frame.{Frame}
 use Rattle.limits.proofs.Sizes.{bits-within, length-within, limited}
+use Rattle.search.proofs.Within.{size-within}
 use Rattle.search.proofs.Choice.{Left, hit-shown, left-found, left-spent, left-more, left-none, answered}
 use Rattle.search.proofs.search_from.Statement.{statement}
 use Rattle.search.proofs.search_from.Tie as tie
@@ -26,27 +27,35 @@ abbrev μ-loop : tie.MeasureT-loop
 μ-loop m layout order b start k d work₀ out₀ t₀ work out t = k + 1 - t
 
 -- the answer on frame t is the variant that the match found
-told : (n : tie.After-first-hit Inv-loop μ-loop) (r : Frame) → n .first-hit .result ≡ r
+told : (n : tie.After-decide Inv-loop μ-loop) (r : Frame) → n .decide .result ≡ r
     → let s = n .before .before .before .before .before .before .before .before .args in
-    FrameIs (circuitIn (s .m .now)) (s .b) (n .before .before .before .loop .t) (s .d) (n .first-hit .last .1 .1 .1 .1 .1 .1 .0) r
+    FrameDecided (circuitIn (s .m .now)) (s .b) (n .before .before .before .loop .t) (s .d) (n .decide .last .1 .1 .1 .1 .1 .1 .0) r
 told n r e =
     let s = n .before .before .before .before .before .before .before .before .args in
-    subst (FrameIs (circuitIn (s .m .now)) (s .b) (n .before .before .before .loop .t) (s .d) (n .first-hit .last .1 .1 .1 .1 .1 .1 .0)) e
-    (n .first-hit .ensures)
+    subst (FrameDecided (circuitIn (s .m .now)) (s .b) (n .before .before .before .loop .t) (s .d) (n .decide .last .1 .1 .1 .1 .1 .1 .0)) e
+    (n .decide .ensures)
 
 loop-holds : tie.Need-loop-holds Inv-loop μ-loop
 loop-holds c =
     let s = c .before .before .before .before in
     (s .pre .1 .0, refl, refl, s .pre .1 .1)
 
-first-hit-requires : tie.Need-first-hit-requires Inv-loop μ-loop
-first-hit-requires c κs =
+decide-requires : tie.Need-decide-requires Inv-loop μ-loop
+decide-requires c κs =
     let s = c .before .before .before .before .before .before .before in
     let p = s .pre .0 in
     let l = c .before .before .loop in
     let i = c .before .loop-test .taken in
-    let f = bits-within (circuitIn (s .args .m .now)) (l .t) (s .args .k) (omega (arith, i)) in
-    (p .ready, ((p .bad, omega (arith, i, p .bound), omega (arith, p .some), omega (arith, p .most)), omega (arith, f, p .room, l .inv .1)))
+    let f = size-within (circuitIn (s .args .m .now)) (l .t) (s .args .k) (omega (arith, i)) in
+    record {
+      ready = p .ready;
+      bad = p .bad;
+      last = omega (arith, i, p .bound);
+      some = p .some;
+      budget = p .most;
+      units = omega (arith, f, p .units);
+      held = omega (arith, f, p .words, l .inv .1);
+    }
 
 enum-told : tie.Need-enum-told Inv-loop μ-loop
 enum-told c = search needs
@@ -65,7 +74,7 @@ write-witness-requires c κs =
     let l = n .before .before .before .loop in
     let i = n .before .before .loop-test .taken in
     let C = circuitIn (s .args .m .now) in
-    let kept = n .first-hit .kept .1 .1 .1 .1 .1 .1 .0 ∙ l .inv .1 in
+    let kept = n .decide .kept .1 .1 .1 .1 .1 .1 .0 ∙ l .inv .1 in
     record {
       holds = p .ready .held;
       layout = p .ready .layout-of;
@@ -84,7 +93,7 @@ cast-t18 c =
 same-length : tie.Need-same-length Inv-loop μ-loop
 same-length c =
     let n = c .before .before .before .before .before .before .before .before .before in
-    n .first-hit .kept .1 .1 .1 .1 .1 .1 .0 ∙ n .before .before .before .loop .inv .1
+    n .decide .kept .1 .1 .1 .1 .1 .1 .0 ∙ n .before .before .before .loop .inv .1
 
 same-length-2 : tie.Need-same-length-2 Inv-loop μ-loop
 same-length-2 c =
@@ -124,7 +133,7 @@ loop-again c =
     let i = n .before .before .loop-test .taken in
     let e = told n _ (c .enum-told2 .given .1) in (
       omega (arith, i),
-      n .first-hit .kept .1 .1 .1 .1 .1 .1 .0 ∙ l .inv .1,
+      n .decide .kept .1 .1 .1 .1 .1 .1 .0 ∙ l .inv .1,
       l .inv .2,
       left-more (circuitIn (s .m .now)) (s .b) (s .k) (s .d) (l .t) (omega (arith, i)) (l .inv .3) e,
     )
@@ -141,7 +150,7 @@ cast-t21 c =
 same-length-3 : tie.Need-same-length-3 Inv-loop μ-loop
 same-length-3 c =
     let n = c .before .before .before .before in
-    n .first-hit .kept .1 .1 .1 .1 .1 .1 .0 ∙ n .before .before .before .loop .inv .1
+    n .decide .kept .1 .1 .1 .1 .1 .1 .0 ∙ n .before .before .before .loop .inv .1
 
 same-length-4 : tie.Need-same-length-4 Inv-loop μ-loop
 same-length-4 c = ap length (c .before .before .before .before .before .before .before .loop .inv .2)
@@ -179,7 +188,7 @@ search-from-spec =
     Inv-loop
     μ-loop
     loop-holds
-    first-hit-requires
+    decide-requires
     enum-told
     cast-write-witness
     write-witness-requires
