@@ -76,7 +76,7 @@ module _ (hit : (ℕ → Bool) → Type 0) where
         | inr f ↦ absurd (not-both a (g .0) (f a h) (g .2))
       ]
 
-  -- "two clauses that hold, resolved on a variable, hold": x need not be in d, nor its complement in c
+  -- two clauses that hold, resolved on a variable, hold: x need not be in d, nor its complement in c
   pub resolved : (c d e : ℕ → Type 0) (x : ℕ) → Valid hit c → Valid hit d → Covers hit c (opposite x) e → Covers hit d x e → Valid hit e
   resolved c d e x first second left right a h = go (ℕ-discrete (first a h .0) (opposite x))
     where

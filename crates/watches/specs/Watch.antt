@@ -56,6 +56,7 @@ rewatched w net arena t f s x =
     stood (attached (linked w net arena f (t .link) (following w (net .words) (t .clause) s)) net (t .clause) s x)
     (at t (following w (net .words) (t .clause) s) (t .link))
 
+-- the violated clause, after which none is visited
 abbrev pub clashed : State → ℕ → State
 clashed t why =
     record {
@@ -64,7 +65,7 @@ clashed t why =
       level = t .level;
       ticks = t .ticks;
       clash = why;
-      clause = t .clause;
+      clause = 4294967295;
       link = t .link;
     }
 

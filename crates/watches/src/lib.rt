@@ -136,7 +136,7 @@ fn close(work: &mut [u32], net: Netlist, t: State, o: u32, s: u8) -> State
             level: t.level,
             ticks: t.ticks,
             clash: 4 * t.clause + 3,
-            clause: t.clause,
+            clause: 4294967295,
             link: t.link,
         };
     }

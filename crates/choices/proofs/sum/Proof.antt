@@ -1,0 +1,23 @@
+-- `choices::sum` meets its contract. Assumes nothing.
+use borrow.Author.Tests.{le-ltb, lt-ltb}
+use Rattle.choices.specs.Choices as Ch
+use borrow.Author.Needs.{needs}
+use Rattle.choices.proofs.sum.Statement.{statement}
+use Rattle.choices.proofs.sum.Tie as tie
+
+sub-if1 : tie.Need-sub-if1
+sub-if1 c = search needs
+
+add-result : tie.Need-add-result
+add-result c = search needs
+
+returns : tie.Need-returns
+unfolding Ch.sum
+returns c = rw (lt-ltb _ _ (c .if1 .taken)) (cc)
+
+returns-2 : tie.Need-returns-2
+unfolding Ch.sum
+returns-2 c = rw (le-ltb _ _ (c .if1 .left)) (cc)
+
+pub sum-spec : {M : Type 1} → statement M
+sum-spec = tie.close (tie.spec sub-if1 add-result returns returns-2)

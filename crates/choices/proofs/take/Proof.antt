@@ -1,0 +1,21 @@
+-- `choices::take` meets its contract. Assumes nothing.
+use Rattle.choices.specs.Choices as Ch
+use borrow.Author.Needs.{needs}
+use Rattle.choices.proofs.take.Statement.{statement}
+use Rattle.choices.proofs.take.Tie as tie
+
+decide-requires : tie.Need-decide-requires
+decide-requires c κs = search needs
+
+with-trail-requires : tie.Need-with-trail-requires
+with-trail-requires c κs = search needs
+
+same-length : tie.Need-same-length
+same-length c = search needs
+
+returns : tie.Need-returns
+unfolding Ch.taken
+returns c = record { words = cc; search = cc }
+
+pub take-spec : {M : Type 1} → statement M
+take-spec = tie.close (tie.spec decide-requires with-trail-requires same-length returns)

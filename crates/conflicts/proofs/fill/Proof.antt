@@ -1,0 +1,64 @@
+-- `conflicts::fill` meets its contract. The invariant: what is left of the nodes ends as all of them do. Assumes nothing.
+use Rattle.conflicts.proofs.Turns.{filled-none, filled-more}
+use Rattle.conflicts.specs.Conflicts.{filled}
+use Rattle.heap.specs.Heap.{Heaped}
+use lib.ListN as N
+use native.Mathlib.Omega.{arith}
+use mathlib.Core.Path.{_≡_, refl, sym, ap, _∙_}
+use borrow.Author.Needs.{needs}
+use Rattle.conflicts.proofs.fill.Statement.{statement}
+use Rattle.conflicts.proofs.fill.Tie as tie
+
+abbrev Inv-loop : tie.InvT-loop
+Inv-loop work₀ net n h₀ v₀ left₀ work h v left =
+    (N.length work ≡ N.length work₀) × (filled work net h v left ≡ filled work₀ net h₀ v₀ left₀)
+
+abbrev μ-loop : tie.MeasureT-loop
+μ-loop work₀ net n h₀ v₀ left₀ work h v left = left
+
+loop-holds : tie.Need-loop-holds Inv-loop μ-loop
+loop-holds c = (refl, refl)
+
+admit-requires : tie.Need-admit-requires Inv-loop μ-loop
+admit-requires c κs = search needs
+
+next-node-requires : tie.Need-next-node-requires Inv-loop μ-loop
+next-node-requires c κs = search needs
+
+sub-left : tie.Need-sub-left Inv-loop μ-loop
+sub-left c = omega arith
+
+loop-less : tie.Need-loop-less Inv-loop μ-loop
+loop-less c = omega arith
+
+loop-again : tie.Need-loop-again Inv-loop μ-loop
+loop-again c =
+    let l = c .before .before .before .before .before .before .loop in
+    let s = c .before .before .before .before .before .before .before .before .args in
+    let more = filled-more (l .work) (s .net) (l .h) (l .v) (l .left) (omega arith) in
+    (cc, sym (cc more))
+
+same-length : tie.Need-same-length Inv-loop μ-loop
+same-length c = c .before .loop .inv .0
+
+returns : tie.Need-returns Inv-loop μ-loop
+returns c =
+    let l = c .before .loop in
+    let s = c .before .before .before .args in
+    let all = sym (filled-none (l .work) (s .net) (l .h) (l .v) (l .left) (omega arith)) ∙ l .inv .1 in
+    record { words = ap (λ (t : Heaped). t .words) all; heap = ap (λ (t : Heaped). t .heap) all }
+
+pub fill-spec : {M : Type 1} → statement M
+fill-spec =
+    tie.close
+    (tie.spec
+    Inv-loop
+    μ-loop
+    loop-holds
+    admit-requires
+    next-node-requires
+    sub-left
+    loop-less
+    loop-again
+    same-length
+    returns)

@@ -1,0 +1,23 @@
+-- `conflicts::work_of` meets its contract. Assumes nothing.
+use borrow.Author.Tests.{le-ltb, lt-ltb}
+use Rattle.conflicts.specs.Conflicts as Cf
+use borrow.Author.Needs.{needs}
+use Rattle.conflicts.proofs.work_of.Statement.{statement}
+use Rattle.conflicts.proofs.work_of.Tie as tie
+
+cast-result : tie.Need-cast-result
+cast-result c = search needs
+
+add-result : tie.Need-add-result
+add-result c = search needs
+
+returns : tie.Need-returns
+unfolding Cf.workOf
+returns c = rw (lt-ltb _ _ (c .if1 .taken)) (cc)
+
+returns-2 : tie.Need-returns-2
+unfolding Cf.workOf
+returns-2 c = rw (le-ltb _ _ (c .if1 .left)) (cc)
+
+pub work-of-spec : {M : Type 1} → statement M
+work-of-spec = tie.close (tie.spec cast-result add-result returns returns-2)

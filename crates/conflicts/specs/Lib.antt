@@ -1,0 +1,2 @@
+-- What the contracts of `conflicts` cite. Assumes nothing.
+pub mod Conflicts

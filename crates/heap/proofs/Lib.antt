@@ -1,0 +1,3 @@
+-- The laws of `heap`. Assumes nothing.
+pub mod Turns
+pub mod Frame

@@ -1,0 +1,95 @@
+-- `heap::down` meets its contract. The invariant: what is left of the way ends as all of it does. Assumes nothing.
+use Rattle.heap.proofs.Turns.{downed-none, downed-stop, downed-more}
+use Rattle.heap.specs.Heap.{downed, isBelow, larger, child}
+use Prim.Native.Nat.{ℕ}
+use mathlib.Core.Bool.{Bool}
+use lib.ListN as N
+use native.Mathlib.Omega.{arith}
+use mathlib.Core.Path.{_≡_, refl, sym, ap, _∙_}
+use borrow.Author.Needs.{needs}
+use Rattle.heap.proofs.down.Statement.{statement}
+use Rattle.heap.proofs.down.Tie as tie
+
+abbrev Inv-loop : tie.InvT-loop
+Inv-loop work₀ nodes size v n at₀ left₀ work at left =
+    (N.length work ≡ N.length work₀) × (downed work nodes size v at left ≡ downed work₀ nodes size v at₀ left₀)
+
+abbrev μ-loop : tie.MeasureT-loop
+μ-loop work₀ nodes size v n at₀ left₀ work at left = left
+
+loop-holds : tie.Need-loop-holds Inv-loop μ-loop
+loop-holds c = (refl, refl)
+
+child-requires : tie.Need-child-requires Inv-loop μ-loop
+child-requires c κs = search needs
+
+larger-requires : tie.Need-larger-requires Inv-loop μ-loop
+larger-requires c κs = search needs
+
+is-below-requires : tie.Need-is-below-requires Inv-loop μ-loop
+is-below-requires c κs = search needs
+
+lift-requires : tie.Need-lift-requires Inv-loop μ-loop
+lift-requires c κs = search needs
+
+sub-left : tie.Need-sub-left Inv-loop μ-loop
+sub-left c = omega arith
+
+loop-less : tie.Need-loop-less Inv-loop μ-loop
+loop-less c = omega arith
+
+loop-again : tie.Need-loop-again Inv-loop μ-loop
+loop-again c =
+    let l = c .before .before .before .before .before .before .before .before .before .before .before .loop in
+    let s = c .before .before .before .before .before .before .before .before .before .before .before .before .before .args in
+    let e = c .before .before .before .before .before .before .before .larger .ensures ∙ ap (larger (l .work) (s .nodes) (s .size)) (c .before .before .before .before .before .before .before .before .child .ensures) in
+    let more = downed-more (l .work) (s .nodes) (s .size) (s .v) (l .at) (l .left) (omega arith) (sym (ap (λ (k : ℕ). isBelow (l .work) (s .nodes) (s .size) k (s .v)) e) ∙ sym (c .before .before .before .before .before .is-below .ensures) ∙ c .before .before .before .before .if1 .taken) in
+    (cc, sym (cc (more, e)))
+
+seat-requires : tie.Need-seat-requires Inv-loop μ-loop
+seat-requires c κs = search needs
+
+same-length : tie.Need-same-length Inv-loop μ-loop
+same-length c = cc
+
+returns : tie.Need-returns Inv-loop μ-loop
+returns c =
+    let l = c .before .before .before .before .before .before .before .before .before .before .before .loop in
+    let s = c .before .before .before .before .before .before .before .before .before .before .before .before .before .args in
+    let e = c .before .before .before .before .before .before .before .larger .ensures ∙ ap (larger (l .work) (s .nodes) (s .size)) (c .before .before .before .before .before .before .before .before .child .ensures) in
+    let stop = downed-stop (l .work) (s .nodes) (s .size) (s .v) (l .at) (l .left) (sym (ap (λ (k : ℕ). isBelow (l .work) (s .nodes) (s .size) k (s .v)) e) ∙ sym (c .before .before .before .before .before .is-below .ensures) ∙ c .before .before .before .before .if1 .left) in
+    cc stop
+
+seat-requires-2 : tie.Need-seat-requires-2 Inv-loop μ-loop
+seat-requires-2 c κs = search needs
+
+same-length-2 : tie.Need-same-length-2 Inv-loop μ-loop
+same-length-2 c = cc
+
+returns-2 : tie.Need-returns-2 Inv-loop μ-loop
+returns-2 c =
+    let l = c .before .before .before .before .before .loop in
+    let s = c .before .before .before .before .before .before .before .args in
+    let none = downed-none (l .work) (s .nodes) (s .size) (s .v) (l .at) (l .left) (omega arith) in
+    cc none
+
+pub down-spec : {M : Type 1} → statement M
+down-spec =
+    tie.close
+    (tie.spec
+    Inv-loop
+    μ-loop
+    loop-holds
+    child-requires
+    larger-requires
+    is-below-requires
+    lift-requires
+    sub-left
+    loop-less
+    loop-again
+    seat-requires
+    same-length
+    returns
+    seat-requires-2
+    same-length-2
+    returns-2)

@@ -1,0 +1,31 @@
+-- `heap::is_above` meets its contract. Assumes nothing.
+use borrow.Author.Tests.{eq-eqb, ne-eqb}
+use Rattle.heap.specs.Heap as Hp
+use borrow.Author.Needs.{needs}
+use Rattle.heap.proofs.is_above.Statement.{statement}
+use Rattle.heap.proofs.is_above.Tie as tie
+
+returns : tie.Need-returns
+unfolding Hp.isAbove
+returns c = rw (eq-eqb _ _ (c .if1 .taken)) (cc)
+
+parent-requires : tie.Need-parent-requires
+parent-requires c κs = search needs
+
+at-place-requires : tie.Need-at-place-requires
+at-place-requires c κs = search needs
+
+field-requires : tie.Need-field-requires
+field-requires c κs = search needs
+
+field-requires-2 : tie.Need-field-requires-2
+field-requires-2 c κs = search needs
+
+returns-2 : tie.Need-returns-2
+unfolding Hp.isAbove
+returns-2 c = rw (ne-eqb _ _ (c .before .before .before .before .if1 .left)) (cc)
+
+pub is-above-spec : {M : Type 1} → statement M
+is-above-spec =
+    tie.close
+    (tie.spec returns parent-requires at-place-requires field-requires field-requires-2 returns-2)

@@ -1,0 +1,20 @@
+-- `heap::parent` meets its contract. Assumes nothing.
+use borrow.Author.Tests.{eq-eqb, ne-eqb}
+use Rattle.heap.specs.Heap as Hp
+use borrow.Author.Needs.{needs}
+use Rattle.heap.proofs.parent.Statement.{statement}
+use Rattle.heap.proofs.parent.Tie as tie
+
+sub-result : tie.Need-sub-result
+sub-result c = search needs
+
+returns : tie.Need-returns
+unfolding Hp.parent
+returns c = rw (eq-eqb _ _ (c .if1 .taken)) (cc)
+
+returns-2 : tie.Need-returns-2
+unfolding Hp.parent
+returns-2 c = rw (ne-eqb _ _ (c .if1 .left)) (cc)
+
+pub parent-spec : {M : Type 1} → statement M
+parent-spec = tie.close (tie.spec sub-result returns returns-2)

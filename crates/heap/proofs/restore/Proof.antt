@@ -1,0 +1,63 @@
+-- `heap::restore` meets its contract. The invariant: what is left of the trail ends as all of it does. Assumes nothing.
+use Rattle.heap.proofs.Turns.{restored-none, restored-more}
+use Rattle.heap.specs.Heap.{Heaped, restored}
+use lib.ListN as N
+use native.Mathlib.Omega.{arith}
+use mathlib.Core.Path.{_≡_, refl, sym, ap, _∙_}
+use borrow.Author.Needs.{needs}
+use Rattle.heap.proofs.restore.Statement.{statement}
+use Rattle.heap.proofs.restore.Tie as tie
+
+abbrev Inv-loop : tie.InvT-loop
+Inv-loop work₀ net from n h₀ left₀ work h left =
+    (N.length work ≡ N.length work₀) × (restored work net h from left ≡ restored work₀ net h₀ from left₀)
+
+abbrev μ-loop : tie.MeasureT-loop
+μ-loop work₀ net from n h₀ left₀ work h left = left
+
+loop-holds : tie.Need-loop-holds Inv-loop μ-loop
+loop-holds c = (refl, refl)
+
+sub-left : tie.Need-sub-left Inv-loop μ-loop
+sub-left c = omega arith
+
+field-requires : tie.Need-field-requires Inv-loop μ-loop
+field-requires c κs = search needs
+
+admit-requires : tie.Need-admit-requires Inv-loop μ-loop
+admit-requires c κs = search needs
+
+loop-less : tie.Need-loop-less Inv-loop μ-loop
+loop-less c = omega arith
+
+loop-again : tie.Need-loop-again Inv-loop μ-loop
+loop-again c =
+    let l = c .before .before .before .before .before .before .before .loop in
+    let s = c .before .before .before .before .before .before .before .before .before .args in
+    let more = restored-more (l .work) (s .net) (l .h) (s .from) (l .left) (omega arith) in
+    (cc, sym (cc more))
+
+same-length : tie.Need-same-length Inv-loop μ-loop
+same-length c = c .before .loop .inv .0
+
+returns : tie.Need-returns Inv-loop μ-loop
+returns c =
+    let l = c .before .loop in
+    let s = c .before .before .before .args in
+    let all = sym (restored-none (l .work) (s .net) (l .h) (s .from) (l .left) (omega arith)) ∙ l .inv .1 in
+    record { words = ap (λ (t : Heaped). t .words) all; heap = ap (λ (t : Heaped). t .heap) all }
+
+pub restore-spec : {M : Type 1} → statement M
+restore-spec =
+    tie.close
+    (tie.spec
+    Inv-loop
+    μ-loop
+    loop-holds
+    sub-left
+    field-requires
+    admit-requires
+    loop-less
+    loop-again
+    same-length
+    returns)

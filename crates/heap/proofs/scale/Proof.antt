@@ -1,0 +1,62 @@
+-- `heap::scale` meets its contract. The invariant: what is left of the nodes ends as all of them do. Assumes nothing.
+use Rattle.heap.proofs.Turns.{scaled-none, scaled-more}
+use Rattle.heap.specs.Heap.{scaled}
+use lib.ListN as N
+use native.Mathlib.Omega.{arith}
+use mathlib.Core.Path.{_≡_, refl, sym, ap, _∙_}
+use borrow.Author.Needs.{needs}
+use Rattle.heap.proofs.scale.Statement.{statement}
+use Rattle.heap.proofs.scale.Tie as tie
+
+abbrev Inv-loop : tie.InvT-loop
+Inv-loop work₀ nodes n left₀ work left =
+    (N.length work ≡ N.length work₀) × (scaled work nodes left ≡ scaled work₀ nodes left₀)
+
+abbrev μ-loop : tie.MeasureT-loop
+μ-loop work₀ nodes n left₀ work left = left
+
+loop-holds : tie.Need-loop-holds Inv-loop μ-loop
+loop-holds c = (refl, refl)
+
+sub-left : tie.Need-sub-left Inv-loop μ-loop
+sub-left c = omega arith
+
+field-requires : tie.Need-field-requires Inv-loop μ-loop
+field-requires c κs = search needs
+
+set-field-requires : tie.Need-set-field-requires Inv-loop μ-loop
+set-field-requires c κs = search needs
+
+loop-less : tie.Need-loop-less Inv-loop μ-loop
+loop-less c = omega arith
+
+loop-again : tie.Need-loop-again Inv-loop μ-loop
+loop-again c =
+    let l = c .before .before .before .before .before .before .before .loop in
+    let s = c .before .before .before .before .before .before .before .before .before .args in
+    let more = scaled-more (l .work) (s .nodes) (l .left) (omega arith) in
+    (cc, sym (cc more))
+
+same-length : tie.Need-same-length Inv-loop μ-loop
+same-length c = c .before .loop .inv .0
+
+returns : tie.Need-returns Inv-loop μ-loop
+returns c =
+    let l = c .before .loop in
+    let s = c .before .before .before .args in
+    sym (scaled-none (l .work) (s .nodes) (l .left) (omega arith)) ∙ l .inv .1
+
+pub scale-spec : {M : Type 1} → statement M
+scale-spec =
+    tie.close
+    (tie.spec
+    Inv-loop
+    μ-loop
+    loop-holds
+    sub-left
+    field-requires
+    set-field-requires
+    loop-less
+    loop-again
+    same-length
+    returns)

@@ -1,0 +1,83 @@
+-- `heap::skim` meets its contract. The invariant: what is left of the heap ends as all of it does. Assumes nothing.
+use Rattle.heap.proofs.Turns.{skimmed-none, skimmed-stop, skimmed-more}
+use Rattle.heap.specs.Heap.{Heaped, skimmed, nodeAt}
+use Rattle.memory.specs.Record.{field}
+use Prim.Native.Nat.{ℕ}
+use lib.ListN as N
+use native.Mathlib.Omega.{arith}
+use mathlib.Core.Path.{_≡_, refl, sym, ap, _∙_}
+use borrow.Author.Needs.{needs}
+use Rattle.heap.proofs.skim.Statement.{statement}
+use Rattle.heap.proofs.skim.Tie as tie
+
+abbrev Inv-loop : tie.InvT-loop
+Inv-loop work₀ nodes n h₀ left₀ work h left =
+    (N.length work ≡ N.length work₀) × (skimmed work nodes h left ≡ skimmed work₀ nodes h₀ left₀)
+
+abbrev μ-loop : tie.MeasureT-loop
+μ-loop work₀ nodes n h₀ left₀ work h left = left
+
+loop-holds : tie.Need-loop-holds Inv-loop μ-loop
+loop-holds c = (refl, refl)
+
+at-place-requires : tie.Need-at-place-requires Inv-loop μ-loop
+at-place-requires c κs = search needs
+
+field-requires : tie.Need-field-requires Inv-loop μ-loop
+field-requires c κs = search needs
+
+same-length : tie.Need-same-length Inv-loop μ-loop
+same-length c = c .before .before .before .before .before .before .loop .inv .0
+
+returns : tie.Need-returns Inv-loop μ-loop
+returns c =
+    let l = c .before .before .before .before .before .before .loop in
+    let s = c .before .before .before .before .before .before .before .before .args in
+    let e = c .before .field .ensures ∙ ap (λ (k : ℕ). field (l .work) (s .nodes) k 5) (c .before .before .before .at-place .ensures) in
+    let all = sym (skimmed-stop (l .work) (s .nodes) (l .h) (l .left) (sym e ∙ c .if1 .taken)) ∙ l .inv .1 in
+    record { words = ap (λ (t : Heaped). t .words) all; heap = ap (λ (t : Heaped). t .heap) all }
+
+drop-top-requires : tie.Need-drop-top-requires Inv-loop μ-loop
+drop-top-requires c κs = search needs
+
+sub-left : tie.Need-sub-left Inv-loop μ-loop
+sub-left c = omega arith
+
+loop-less : tie.Need-loop-less Inv-loop μ-loop
+loop-less c = omega arith
+
+loop-again : tie.Need-loop-again Inv-loop μ-loop
+loop-again c =
+    let l = c .before .before .before .before .before .before .before .before .before .before .loop in
+    let s = c .before .before .before .before .before .before .before .before .before .before .before .before .args in
+    let e = c .before .before .before .before .before .field .ensures ∙ ap (λ (k : ℕ). field (l .work) (s .nodes) k 5) (c .before .before .before .before .before .before .before .at-place .ensures) in
+    let more = skimmed-more (l .work) (s .nodes) (l .h) (l .left) (omega arith) (λ z. c .before .before .before .before .if1 .left (e ∙ z)) in
+    (cc, sym (cc more))
+
+same-length-2 : tie.Need-same-length-2 Inv-loop μ-loop
+same-length-2 c = c .before .loop .inv .0
+
+returns-2 : tie.Need-returns-2 Inv-loop μ-loop
+returns-2 c =
+    let l = c .before .loop in
+    let s = c .before .before .before .args in
+    let all = sym (skimmed-none (l .work) (s .nodes) (l .h) (l .left) (omega arith)) ∙ l .inv .1 in
+    record { words = ap (λ (t : Heaped). t .words) all; heap = ap (λ (t : Heaped). t .heap) all }
+
+pub skim-spec : {M : Type 1} → statement M
+skim-spec =
+    tie.close
+    (tie.spec
+    Inv-loop
+    μ-loop
+    loop-holds
+    at-place-requires
+    field-requires
+    same-length
+    returns
+    drop-top-requires
+    sub-left
+    loop-less
+    loop-again
+    same-length-2
+    returns-2)

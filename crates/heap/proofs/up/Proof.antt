@@ -1,0 +1,87 @@
+-- `heap::up` meets its contract. The invariant: what is left of the way ends as all of it does. Assumes nothing.
+use Rattle.heap.proofs.Turns.{upped-none, upped-stop, upped-more}
+use Rattle.heap.specs.Heap.{upped, isAbove}
+use lib.ListN as N
+use native.Mathlib.Omega.{arith}
+use mathlib.Core.Path.{_≡_, refl, sym, ap, _∙_}
+use borrow.Author.Needs.{needs}
+use Rattle.heap.proofs.up.Statement.{statement}
+use Rattle.heap.proofs.up.Tie as tie
+
+abbrev Inv-loop : tie.InvT-loop
+Inv-loop work₀ nodes i v n at₀ left₀ work at left =
+    (N.length work ≡ N.length work₀) × (upped work nodes v at left ≡ upped work₀ nodes v at₀ left₀)
+
+abbrev μ-loop : tie.MeasureT-loop
+μ-loop work₀ nodes i v n at₀ left₀ work at left = left
+
+loop-holds : tie.Need-loop-holds Inv-loop μ-loop
+loop-holds c = (refl, refl)
+
+is-above-requires : tie.Need-is-above-requires Inv-loop μ-loop
+is-above-requires c κs = search needs
+
+lower-requires : tie.Need-lower-requires Inv-loop μ-loop
+lower-requires c κs = search needs
+
+parent-requires : tie.Need-parent-requires Inv-loop μ-loop
+parent-requires c κs = search needs
+
+sub-left : tie.Need-sub-left Inv-loop μ-loop
+sub-left c = omega arith
+
+loop-less : tie.Need-loop-less Inv-loop μ-loop
+loop-less c = omega arith
+
+loop-again : tie.Need-loop-again Inv-loop μ-loop
+loop-again c =
+    let l = c .before .before .before .before .before .before .before .before .before .loop in
+    let s = c .before .before .before .before .before .before .before .before .before .before .before .args in
+    let more = upped-more (l .work) (s .nodes) (s .v) (l .at) (l .left) (omega arith) (sym (c .before .before .before .before .before .before .is-above .ensures) ∙ c .before .before .before .before .before .if1 .taken) in
+    (cc, sym (cc more))
+
+seat-requires : tie.Need-seat-requires Inv-loop μ-loop
+seat-requires c κs = search needs
+
+same-length : tie.Need-same-length Inv-loop μ-loop
+same-length c = cc
+
+returns : tie.Need-returns Inv-loop μ-loop
+returns c =
+    let l = c .before .before .before .before .before .before .before .before .loop in
+    let s = c .before .before .before .before .before .before .before .before .before .before .args in
+    let stop = upped-stop (l .work) (s .nodes) (s .v) (l .at) (l .left) (sym (c .before .before .before .before .before .is-above .ensures) ∙ c .before .before .before .before .if1 .left) in
+    cc stop
+
+seat-requires-2 : tie.Need-seat-requires-2 Inv-loop μ-loop
+seat-requires-2 c κs = search needs
+
+same-length-2 : tie.Need-same-length-2 Inv-loop μ-loop
+same-length-2 c = cc
+
+returns-2 : tie.Need-returns-2 Inv-loop μ-loop
+returns-2 c =
+    let l = c .before .before .before .before .before .loop in
+    let s = c .before .before .before .before .before .before .before .args in
+    let none = upped-none (l .work) (s .nodes) (s .v) (l .at) (l .left) (omega arith) in
+    cc none
+
+pub up-spec : {M : Type 1} → statement M
+up-spec =
+    tie.close
+    (tie.spec
+    Inv-loop
+    μ-loop
+    loop-holds
+    is-above-requires
+    lower-requires
+    parent-requires
+    sub-left
+    loop-less
+    loop-again
+    seat-requires
+    same-length
+    returns
+    seat-requires-2
+    same-length-2
+    returns-2)

@@ -1,0 +1,2 @@
+-- What the contracts of `heap` cite. Assumes nothing.
+pub mod Heap

@@ -1,0 +1,2 @@
+-- What the contracts of `learning` cite. Assumes nothing.
+pub mod Learning

@@ -1,0 +1,5 @@
+-- The laws of `netlist`. Assumes nothing.
+pub mod Building
+pub mod Links
+pub mod Records
+pub mod Premises

@@ -1,0 +1,2 @@
+-- What the contract of `netlist` cites. Assumes nothing.
+pub mod Netlist

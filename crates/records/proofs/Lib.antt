@@ -1,0 +1,4 @@
+-- The laws of `records`. Assumes nothing.
+pub mod Turns
+pub mod Words
+pub mod Moves

@@ -1,0 +1,34 @@
+-- `records::move_node` meets its contract. Assumes nothing.
+use borrow.Author.Tests.{eq-eqb, ne-eqb}
+use Rattle.records.specs.Steps as S
+use borrow.Author.Needs.{needs}
+use Rattle.records.proofs.move_node.Statement.{statement}
+use Rattle.records.proofs.move_node.Tie as tie
+use Rattle.records.proofs.move_node.Reads as reads
+use Rattle.records.proofs.move_node.Lts as lts
+use Rattle.records.proofs.move_to.Reads as move-to-reads
+use Rattle.records.proofs.word.Reads as word-reads
+
+word-requires : tie.Need-word-requires
+word-requires c κs = search needs
+
+same-length : tie.Need-same-length
+same-length c = search needs
+
+returns : tie.Need-returns
+unfolding S.moved
+returns c = rw (← c .before .word .ensures, eq-eqb _ _ (c .if1 .taken))
+
+move-to-requires : tie.Need-move-to-requires
+move-to-requires c κs = search needs
+
+same-length-2 : tie.Need-same-length-2
+same-length-2 c = search needs
+
+returns-2 : tie.Need-returns-2
+unfolding S.moved
+returns-2 c = rw (← c .before .before .before .before .before .word .ensures, ne-eqb _ _ (c .before .before .before .before .if1 .left)) (cc)
+
+pub move-node-spec : {M : Type 1} → statement M
+move-node-spec =
+    tie.close (tie.spec word-requires same-length returns move-to-requires same-length-2 returns-2)

@@ -1,0 +1,45 @@
+-- `records::set_leaf` meets its contract. Assumes nothing.
+use Rattle.records.specs.Steps as S
+use borrow.Author.Needs.{needs}
+use Rattle.records.proofs.set_leaf.Statement.{statement}
+use Rattle.records.proofs.set_leaf.Tie as tie
+use Rattle.records.proofs.set_leaf.Reads as reads
+use Rattle.records.proofs.set_leaf.Lts as lts
+use Rattle.records.proofs.edge_to.Reads as edge-to-reads
+use Rattle.records.proofs.first_fact.Reads as first-fact-reads
+use Rattle.records.proofs.put_three.Reads as put-three-reads
+use Rattle.records.proofs.word.Reads as word-reads
+
+edge-to-requires : tie.Need-edge-to-requires
+edge-to-requires c κs = search needs
+
+word-requires : tie.Need-word-requires
+word-requires c κs = search needs
+
+first-fact-requires : tie.Need-first-fact-requires
+first-fact-requires c κs = search needs
+
+mul-put-three : tie.Need-mul-put-three
+mul-put-three c = search needs
+
+put-three-requires : tie.Need-put-three-requires
+put-three-requires c κs = search needs
+
+same-length : tie.Need-same-length
+same-length c = search needs
+
+returns : tie.Need-returns
+unfolding S.leafSet
+returns c = cc
+
+pub set-leaf-spec : {M : Type 1} → statement M
+set-leaf-spec =
+    tie.close
+    (tie.spec
+    edge-to-requires
+    word-requires
+    first-fact-requires
+    mul-put-three
+    put-three-requires
+    same-length
+    returns)

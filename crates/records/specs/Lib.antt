@@ -1,0 +1,2 @@
+-- What the contracts of `records` cite. Assumes nothing.
+pub mod Steps

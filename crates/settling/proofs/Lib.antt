@@ -1,0 +1,3 @@
+-- The laws of `settling`. Assumes nothing.
+pub mod Turns
+pub mod Sound

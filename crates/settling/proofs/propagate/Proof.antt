@@ -1,0 +1,84 @@
+-- `settling::propagate` meets its contract. The invariant: what is left of the trail ends as all of it does. Assumes nothing.
+use Rattle.settling.proofs.Turns.{propagated-none, propagated-end, propagated-stop, propagated-more}
+use Rattle.settling.specs.Settling.{propagated}
+use Rattle.trail.specs.Trail.{Stood}
+use lib.ListN as N
+use native.Mathlib.Omega.{arith}
+use mathlib.Core.Path.{_≡_, refl, sym, ap, _∙_}
+use borrow.Author.Needs.{needs}
+use Rattle.settling.proofs.propagate.Statement.{statement}
+use Rattle.settling.proofs.propagate.Tie as tie
+
+abbrev Inv-loop : tie.InvT-loop
+Inv-loop work₀ net arena n t₀ left₀ work t left =
+    (N.length work ≡ N.length work₀) × (propagated work net arena t left ≡ propagated work₀ net arena t₀ left₀)
+
+abbrev μ-loop : tie.MeasureT-loop
+μ-loop work₀ net arena n t₀ left₀ work t left = left
+
+loop-holds : tie.Need-loop-holds Inv-loop μ-loop
+loop-holds c = (refl, refl)
+
+same-length : tie.Need-same-length Inv-loop μ-loop
+same-length c = c .before .before .before .loop .inv .0
+
+returns : tie.Need-returns Inv-loop μ-loop
+returns c =
+    let l = c .before .before .before .loop in
+    let s = c .before .before .before .before .before .args in
+    let all = sym (propagated-end (l .work) (s .net) (s .arena) (l .t) (l .left) (c .if1 .taken)) ∙ l .inv .1 in
+    record { words = ap (λ (t : Stood). t .words) all; state = ap (λ (t : Stood). t .state) all }
+
+same-length-2 : tie.Need-same-length-2 Inv-loop μ-loop
+same-length-2 c = c .before .before .before .before .before .loop .inv .0
+
+returns-2 : tie.Need-returns-2 Inv-loop μ-loop
+returns-2 c =
+    let l = c .before .before .before .before .before .loop in
+    let s = c .before .before .before .before .before .before .before .args in
+    let all = sym (propagated-stop (l .work) (s .net) (s .arena) (l .t) (l .left) (c .before .before .if1 .left) (c .if2 .taken)) ∙ l .inv .1 in
+    record { words = ap (λ (t : Stood). t .words) all; state = ap (λ (t : Stood). t .state) all }
+
+follow-requires : tie.Need-follow-requires Inv-loop μ-loop
+follow-requires c κs = search needs
+
+sub-left : tie.Need-sub-left Inv-loop μ-loop
+sub-left c = omega arith
+
+loop-less : tie.Need-loop-less Inv-loop μ-loop
+loop-less c = omega arith
+
+loop-again : tie.Need-loop-again Inv-loop μ-loop
+loop-again c =
+    let l = c .before .before .before .before .before .before .before .before .before .loop in
+    let s = c .before .before .before .before .before .before .before .before .before .before .before .args in
+    let more = propagated-more (l .work) (s .net) (s .arena) (l .t) (l .left) (omega arith) (c .before .before .before .before .before .before .if1 .left) (c .before .before .before .before .if2 .left) in
+    (cc, sym (cc more))
+
+same-length-3 : tie.Need-same-length-3 Inv-loop μ-loop
+same-length-3 c = c .before .loop .inv .0
+
+returns-3 : tie.Need-returns-3 Inv-loop μ-loop
+returns-3 c =
+    let l = c .before .loop in
+    let s = c .before .before .before .args in
+    let all = sym (propagated-none (l .work) (s .net) (s .arena) (l .t) (l .left) (omega arith)) ∙ l .inv .1 in
+    record { words = ap (λ (t : Stood). t .words) all; state = ap (λ (t : Stood). t .state) all }
+
+pub propagate-spec : {M : Type 1} → statement M
+propagate-spec =
+    tie.close
+    (tie.spec
+    Inv-loop
+    μ-loop
+    loop-holds
+    same-length
+    returns
+    same-length-2
+    returns-2
+    follow-requires
+    sub-left
+    loop-less
+    loop-again
+    same-length-3
+    returns-3)

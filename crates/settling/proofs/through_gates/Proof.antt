@@ -1,0 +1,25 @@
+-- `settling::through_gates` meets its contract. Assumes nothing.
+use Rattle.settling.specs.Settling as S
+use borrow.Author.Needs.{needs}
+use Rattle.settling.proofs.through_gates.Statement.{statement}
+use Rattle.settling.proofs.through_gates.Tie as tie
+
+look-requires : tie.Need-look-requires
+look-requires c κs = search needs
+
+field-requires : tie.Need-field-requires
+field-requires c κs = search needs
+
+look-up-requires : tie.Need-look-up-requires
+look-up-requires c κs = search needs
+
+same-length : tie.Need-same-length
+same-length c = search needs
+
+returns : tie.Need-returns
+unfolding S.throughGates
+returns c = record { words = cc; state = cc }
+
+pub through-gates-spec : {M : Type 1} → statement M
+through-gates-spec =
+    tie.close (tie.spec look-requires field-requires look-up-requires same-length returns)

@@ -1,0 +1,2 @@
+-- What the contracts of `settling` cite. Assumes nothing.
+pub mod Settling

@@ -1,0 +1,3 @@
+-- The laws of `solver`. Assumes nothing.
+pub mod Bits
+pub mod Solving

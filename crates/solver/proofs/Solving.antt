@@ -1,0 +1,128 @@
+-- From the verdict on a netlist to the first sequence that makes the root true. Assumes nothing.
+use mathlib.Core.Path.{_≡_, refl, sym, ap, ap₂, _∙_, subst}
+use mathlib.Core.Bool.{Bool, true, false}
+use mathlib.Core.List.{List}
+use Prim.Native.Nat.{ℕ, _+_, _*_, _^_, _≤_, _<_}
+use native.Mathlib.Omega.{arith}
+use lib.Dec.{T}
+use lib.ListN.{length}
+use Rattle.aiger.specs.Circuit.{var}
+use Rattle.aiger.specs.Frames.{value, freeBit}
+use Rattle.nodes.specs.Graph.{Pair, nodes, edgeValue, Built}
+use Rattle.nodes.specs.Store.{pairsOf}
+use Rattle.nodes.specs.declared.Graph.{Graph}
+use Rattle.nodes.proofs.Laws.{length-pairsOf, nodes-pairsOf}
+use Rattle.cone.specs.Cone.{keptBefore, renumbered}
+use Rattle.cone.proofs.Cone.{before-bound}
+use Rattle.memory.specs.declared.Netlist.{Netlist}
+use Rattle.clauses.specs.Floor.{Floor, prefix}
+use Rattle.floor.proofs.Rise.{bits}
+use Rattle.conflicts.specs.Conflicts.{ran, Ran, Result}
+use Rattle.conflicts.specs.declared.Verdict.{Verdict}
+use Rattle.conflicts.specs.declared.Verdict.the-variants.{Found, Clear, Out}
+use Rattle.choices.specs.Begun.{Begun}
+use Rattle.conflicts.proofs.Theorems.{found-first, clear-none}
+use Rattle.netlist.specs.Netlist.{netNodes, netWords, netOf, Marked, NetlistIs}
+use Rattle.netlist.proofs.Records.{net-long, nodes-more, none-known, val, val-zero, val-free, obeyed, left-before, right-before, root-inside, root-value}
+use Rattle.netlist.proofs.Premises.{Hits, Hit, hits-hit, hits-root, hit-gate, hit-never, clean, first-true, none-true}
+use Rattle.solver.specs.Solved.{bitsPut, solved, NoneBelow, FirstTrue, SolvedIs}
+use Rattle.solver.proofs.Bits.{put-free, prefix-place}
+
+module _ (n : ℕ) (gs : List Pair) (root words : ℕ) (room : 14 * netNodes n gs root ≤ words) (built : Built n gs) (inside : var root < nodes n gs) where
+  -- the words of the netlist meet what the search supposes
+  pub begun : Begun (Hit n gs root words room built inside) (Hits n gs root words room built inside) (val n gs root words room built inside) (netOf n gs root words) (netWords n gs root words)
+  unfolding netOf
+  begun =
+      record {
+        small = nodes-more n gs root words room;
+        room = room;
+        within = omega (arith, net-long n gs root words room);
+        free = val-free n gs root words room built inside;
+        bound = λ x h. h .place;
+        obeys = hits-hit n gs root words room built inside;
+        top = hits-root n gs root words room built inside;
+        gate = hit-gate n gs root words room built inside;
+        never = hit-never n gs root words room built inside;
+        none = val-zero n gs root words room built inside;
+        obeyed = λ x v l h. obeyed n gs root words room built inside x v h;
+        left = left-before n gs root words room built inside;
+        right = right-before n gs root words room built inside;
+        root = root-inside n gs root words room built inside;
+        unfixed = λ v. none-known n gs root words room v .0;
+        low = λ v. none-known n gs root words room v .1;
+        clean = clean n gs root words room built inside;
+      }
+
+  -- the words that the search leaves
+  abbrev left-words : ℕ → List ℕ
+  left-words e = ran (netWords n gs root words) (netOf n gs root words) e .words
+
+  pub found-true : (e : ℕ) → ran (netWords n gs root words) (netOf n gs root words) e .verdict ≡ Found
+      → length (ran (netWords n gs root words) (netOf n gs root words) e .words) ≡ words
+      → FirstTrue n gs root (prefix (bits (ran (netWords n gs root words) (netOf n gs root words) e .words) (netNodes n gs root)) n)
+      (bitsPut (ran (netWords n gs root words) (netOf n gs root words) e .words) (netNodes n gs root) 0 n)
+  unfolding netOf
+  found-true e q size =
+      let u = left-words e in
+      let p = prefix (bits u (netNodes n gs root)) n in
+      let f = found-first (Hit n gs root words room built inside) (Hits n gs root words room built inside) (val n gs root words room built inside) (netOf n gs root words) (netWords n gs root words) begun e q in
+      record {
+        place = prefix-place u (netNodes n gs root) n;
+        true-there = subst T (root-value n gs root words room built inside p) (f .1);
+        first = first-true n gs root words room built inside p (f .0);
+        bits = put-free u (netNodes n gs root) n (nodes-more n gs root words room) (omega arith);
+      }
+
+  pub clear-false : (e : ℕ) → ran (netWords n gs root words) (netOf n gs root words) e .verdict ≡ Clear → NoneBelow n gs root (2 ^ n)
+  clear-false e q x l =
+      none-true n gs root words room built inside
+      (clear-none (Hit n gs root words room built inside) (Hits n gs root words room built inside) (val n gs root words room built inside) (netOf n gs root words) (netWords n gs root words) begun e q) x
+
+-- ---- a graph in memory
+
+module _ (work : List ℕ) (g : Graph) (root : ℕ) (k : Marked work g root) where
+  pub net-room : 14 * netNodes (g .free) (pairsOf work g) root ≤ length work
+  unfolding netNodes
+  net-room =
+      omega (arith, before-bound (g .free) (pairsOf work g) root (length (pairsOf work g)), length-pairsOf work g, k .sized .leaves, k .sized .nodes, k .exact)
+
+  pub net-inside : var root < nodes (g .free) (pairsOf work g)
+  net-inside = omega (arith, nodes-pairsOf work g (k .sized .leaves), k .inside)
+
+module _ (work mid last : List ℕ) (g : Graph) (root e : ℕ) (k : Marked work g root) (net : Netlist) (r : Verdict)
+    (built : NetlistIs (g .free) (pairsOf work g) root work mid net) (given : Ran last r (ran mid net e)) where
+  same-run : ran mid net e ≡ ran (netWords (g .free) (pairsOf work g) root (length work)) (netOf (g .free) (pairsOf work g) root (length work)) e
+  same-run = ap₂ (λ (u : List ℕ) (m : Netlist). ran u m e) (built .words-are) (built .net-is)
+
+  same-verdict : ran (netWords (g .free) (pairsOf work g) root (length work)) (netOf (g .free) (pairsOf work g) root (length work)) e .verdict ≡ r
+  same-verdict = sym (given .verdict ∙ ap (λ (x : Result). x .verdict) same-run)
+
+  same-words : last ≡ ran (netWords (g .free) (pairsOf work g) root (length work)) (netOf (g .free) (pairsOf work g) root (length work)) e .words
+  same-words = given .words ∙ ap (λ (x : Result). x .words) same-run
+
+  pub free-few : net .free ≤ 65536
+  unfolding netOf
+  free-few = omega (arith, ap (λ (m : Netlist). m .free) (built .net-is), k .sized .leaves, k .sized .nodes, k .sized .room)
+
+  pub solved-found : (end : List ℕ) → r ≡ Found → length last ≡ length work → end ≡ bitsPut last (net .nodes) 0 (net .free)
+      → SolvedIs (g .free) (pairsOf work g) root work e end Found
+  unfolding solved netOf
+  solved-found end q size put =
+      let w = netWords (g .free) (pairsOf work g) root (length work) in
+      let m = netOf (g .free) (pairsOf work g) root (length work) in
+      let N = netNodes (g .free) (pairsOf work g) root in
+      let f =
+      found-true (g .free) (pairsOf work g) root (length work) (net-room work g root k) (k .built) (net-inside work g root k) e (same-verdict ∙ q)
+      (ap length (sym same-words) ∙ size) in
+      let z : end ≡ bitsPut (ran w m e .words) N 0 (g .free) =
+      put ∙ ap₂ (λ (u : List ℕ) (x : Netlist). bitsPut u (x .nodes) 0 (x .free)) same-words (built .net-is) in
+      (same-verdict ∙ q, (prefix (bits (ran w m e .words) N) (g .free), subst (FirstTrue (g .free) (pairsOf work g) root (prefix (bits (ran w m e .words) N) (g .free))) (sym z) f))
+
+  pub solved-clear : (end : List ℕ) → r ≡ Clear → SolvedIs (g .free) (pairsOf work g) root work e end Clear
+  unfolding solved
+  solved-clear end q =
+      (same-verdict ∙ q, clear-false (g .free) (pairsOf work g) root (length work) (net-room work g root k) (k .built) (net-inside work g root k) e (same-verdict ∙ q))
+
+  pub solved-out : (end : List ℕ) → r ≡ Out → SolvedIs (g .free) (pairsOf work g) root work e end Out
+  unfolding solved
+  solved-out end q = same-verdict ∙ q
