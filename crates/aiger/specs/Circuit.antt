@@ -9,14 +9,13 @@ use lib.ListN.{length}
 use Rattle.aiger.specs.Lists.{all, every, member, distinct}
 use Rattle.aiger.specs.Bits.{odd}
 
--- "A latch line is its literal, its next literal and, optionally, a reset: 0, 1, or its own literal for a latch with a free start.
--- Without a reset it starts at 0."
+-- Clause 1.5: a latch, its next literal and its reset, which is 0, 1 or, for a free start, the latch itself; 0 where the line has none
 pub record Latch : Type 0 where
   pub lit : ℕ
   pub next : ℕ
   pub reset : ℕ
 
--- "A gate line is its literal and two operands"
+-- Clause 1.6: a gate and its two operands
 pub record Gate : Type 0 where
   pub lit : ℕ
   pub left : ℕ
@@ -32,7 +31,7 @@ pub record Circuit : Type 0 where
   pub constraints : List ℕ
   pub gates : List Gate
 
--- "Literal 2v is variable v and 2v+1 its complement."
+-- Clause 1.8: literal 2v stands for variable v, 2v + 1 for its complement
 abbrev pub var : ℕ → ℕ
 var l = l / 2
 
@@ -46,7 +45,7 @@ used c =
     map (λ l. l .next) (c .latches) ++ c .outputs ++ c .bads ++ c .constraints
     ++ map (λ g. g .left) (c .gates) ++ map (λ g. g .right) (c .gates)
 
--- each literal is at most 2M+1; "an input, latch or gate literal is even, at least 2, and defined only one time"; each reset is right
+-- Clause 1.9: each literal is at most 2M + 1; what is defined is even, at least 2 and not defined twice; each reset is right
 abbrev pub literalTests : Circuit → List Bool
 literalTests c =
     every (λ l. leb l (2 * c .maxVar + 1)) (defined c ++ used c)
@@ -55,11 +54,11 @@ literalTests c =
     ∷ every (λ l. leb (l .reset) 1 || eqb (l .reset) (l .lit)) (c .latches)
     ∷ []
 
--- number 6: "literal above 2M+1, wrong or repeated definition, wrong reset"
+-- Clause 6.1, number 6: all of these hold
 unfoldable pub literalsRight : Circuit → Bool
 literalsRight c = all (literalTests c)
 
--- number 7: "a used variable is undefined"; variable 0 is the constant
+-- Clause 6.1, number 7: each variable that is used has a definition; variable 0 is the constant
 unfoldable pub usedDefined : Circuit → Bool
 usedDefined c = every (λ l. member (var l) (0 ∷ map var (defined c))) (used c)
 
@@ -73,11 +72,17 @@ unfoldable pub operands : Option Gate → (ℕ → Bool) → Bool
 operands none p = true
 operands (some g) p = p (var (g .left)) && p (var (g .right))
 
--- going from gates to their operands, every way from variable v leaves the gates within n steps
+-- Every way from variable v leaves the gates within n steps, where a step goes from a gate to one of its operands:
+-- - a variable that no gate defines is outside: no step leads from it, and nothing is asked;
+-- - with no step left, v must be such a variable;
+-- - else both operands must leave within one step less
 unfoldable pub settles : List Gate → ℕ → ℕ → Bool
 settles gs zero v = operands (gateOf gs v) (λ _. false)
 settles gs (suc n) v = operands (gateOf gs v) (settles gs n)
 
--- number 8: "gates depend on themselves", unless as many steps as there are gates leave the gates
+-- Clause 6.1, number 8: no gate depends on itself:
+-- - a gate that depends on itself lies on a way that never leaves the gates;
+-- - a way that is longer than the number of gates has met a gate twice;
+-- - so it is enough that from each gate every way leaves within as many steps as there are gates
 unfoldable pub acyclic : Circuit → Bool
 acyclic c = every (λ g. settles (c .gates) (length (c .gates)) (var (g .lit))) (c .gates)

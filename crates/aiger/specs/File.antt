@@ -1,5 +1,5 @@
 -- The file: its header, its lines and its tail. Assumes nothing.
-use mathlib.Core.Bool.{Bool, true, false}
+use mathlib.Core.Bool.{Bool, true, false, not, _&&_, _||_}
 use mathlib.Core.List.{List, [], _∷_, map}
 use mathlib.Core.Option.{Option, none, some}
 use Prim.Native.Nat.{ℕ, _+_}
@@ -20,7 +20,7 @@ pub record Header : Type 0 where
   pub J : ℕ
   pub F : ℕ
 
--- "five to nine numbers M I L O A B C J F; missing ones are 0"
+-- Clause 1.3: the nine numbers of a header, 0 for those that are left out
 abbrev pub counts : List ℕ → Header
 counts n =
     record {
@@ -35,23 +35,44 @@ counts n =
       F = getD n 8 0;
     }
 
--- "The header is `aag` and five to nine numbers"; and the bytes after it
-unfoldable pub header : List ℕ → Option (Header × List ℕ)
-header f = do
-  when (same (take 4 f) (bytes "aag "))
+-- Clause 1.3: the header's first word in text form
+unfoldable pub isText : List ℕ → Bool
+isText f = same (take 4 f) (bytes "aag ")
+
+-- Clause 12.1: the header's first word in binary form
+unfoldable pub isBinary : List ℕ → Bool
+isBinary f = same (take 4 f) (bytes "aig ")
+
+-- a header whose first word is right, where `named` says so: its numbers, and the bytes after it
+abbrev pub heading : Bool → List ℕ → Option (Header × List ℕ)
+heading named f = do
+  when named
   n ← row 9 (drop 4 f)
   when (leb 5 (length (n .0)))
   some (counts (n .0), n .1)
 
--- "M 4,096; I 256; L 1,024; O 64; A 3,072; B 16; C 16; J and F 0; and I+L+A at most M"
+-- Clauses 1.3 and 12.1: the header, `aag` or `aig` and its numbers
+unfoldable pub header : List ℕ → Option (Header × List ℕ)
+header f = heading (isText f || isBinary f) f
+
+-- Clause 1.3: the header of a file in text form
+unfoldable pub textHeader : List ℕ → Option (Header × List ℕ)
+textHeader f = heading (isText f) f
+
+-- Clause 1.11: the greatest counts
 abbrev pub countTests : Header → List Bool
 countTests h =
-    leb (h .M) 4096 ∷ leb (h .I) 256 ∷ leb (h .L) 1024 ∷ leb (h .O) 64 ∷ leb (h .A) 3072 ∷ leb (h .B) 16 ∷ leb (h .C) 16 ∷ eqb (h .J) 0 ∷ eqb (h .F) 0
+    leb (h .M) 4096 ∷ leb (h .I) 256 ∷ leb (h .L) 1024 ∷ leb (h .O) 64 ∷ leb (h .A) 3072 ∷ leb (h .B) 16 ∷ leb (h .C) 16
+    ∷ eqb (h .J) 0 ∷ eqb (h .F) 0
     ∷ leb (h .I + h .L + h .A) (h .M) ∷ []
 
--- number 3: "a count too large, or I+L+A above M"
+-- Clause 6.1, number 3: no count is too large
 unfoldable pub countsFit : Header → Bool
 countsFit h = all (countTests h)
+
+-- Clauses 6.1 and 12.1, number 3: no count is too large, and in binary form every variable has a definition
+unfoldable pub countsRight : Bool → Header → Bool
+countsRight binary h = countsFit h && (not binary || eqb (h .I + h .L + h .A) (h .M))
 
 -- the counts of a circuit
 abbrev pub headerOf : Circuit → Header
@@ -68,7 +89,7 @@ headerOf c =
       F = 0;
     }
 
--- "After the gates the file ends, or a line `c` follows and then arbitrary bytes, which are ignored."
+-- Clause 1.7: nothing follows, or a line `c` and then any bytes
 unfoldable pub isTail : List ℕ → Bool
 isTail [] = true
 isTail (c ∷ f) = same (take 2 (c ∷ f)) (bytes "c\n")
@@ -83,7 +104,7 @@ latch r = record { lit = getD r 0 0; next = getD r 1 0; reset = getD r 2 0 }
 abbrev pub gate : List ℕ → Gate
 gate r = record { lit = getD r 0 0; left = getD r 1 0; right = getD r 2 0 }
 
--- "Then come I inputs, L latches, O outputs, B bad properties and C constraints, one a line, then A gates."
+-- Clause 1.4: the sections in their order, a line for each entry
 unfoldable pub body : Header → List ℕ → Option Circuit
 body h f = do
   i ← rows 1 1 (h .I) f

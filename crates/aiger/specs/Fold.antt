@@ -18,8 +18,8 @@ valueOn d n x l = valueAt d (record { start = []; rows = map (freeBit n x) (upto
 abbrev pub output : Circuit → ℕ
 output d = getD (d .outputs) 0 0
 
--- "n inputs (variables 1 to n), no latch, one output .., and gates numbered upward from n+1, the larger operand first, operands
--- defined earlier. M is n + A."
+-- Clauses 5.1 and 5.2: variables 1 to n are the inputs, there is no latch and one output, gates follow from n + 1 on with earlier
+-- operands, the larger one first, and M is n + A
 unfoldable pub shaped : ℕ → Circuit → Bool
 shaped n d =
     eqb (d .maxVar) (n + length (d .gates)) && same (d .inputs) (map (λ j. 2 * (j + 1)) (upto n)) && eqb (length (d .latches)) 0
@@ -27,7 +27,7 @@ shaped n d =
     && same (map (λ g. g .lit) (d .gates)) (map (λ i. 2 * (n + 1 + i)) (upto (length (d .gates))))
     && every (λ g. ltb (g .right) (g .left) && ltb (g .left) (g .lit)) (d .gates)
 
--- "No gate has a constant operand, equal operands or opposite operands."
+-- Clause 5.3: operands are neither constant nor equal nor opposite
 unfoldable pub plain : Gate → Bool
 plain g = leb 2 (g .left) && leb 2 (g .right) && not (eqb (var (g .left)) (var (g .right)))
 
@@ -35,19 +35,23 @@ plain g = leb 2 (g .left) && leb 2 (g .right) && not (eqb (var (g .left)) (var (
 unfoldable pub alike : Gate → Gate → Bool
 alike g h = eqb (g .left) (h .left) && eqb (g .right) (h .right)
 
--- "Every gate leads to the output": v is the output's variable, or an operand of a gate that leads to it, within n gates
+-- Clause 5.5: every gate leads to the output: v is the output's variable, or an operand of a gate that leads to it, within n gates
 unfoldable pub leads : Circuit → ℕ → ℕ → Bool
 leads d zero v = eqb v (var (output d))
-leads d (suc n) v = eqb v (var (output d)) || any (λ g. member v (var (g .left) ∷ var (g .right) ∷ []) && leads d n (var (g .lit))) (d .gates)
+leads d (suc n) v =
+    eqb v (var (output d)) || any (λ g. member v (var (g .left) ∷ var (g .right) ∷ []) && leads d n (var (g .lit))) (d .gates)
 
 -- literals l and m are equal in function, or opposite
 unfoldable pub twins : Circuit → ℕ → ℕ → ℕ → Bool
 twins d n l m =
-    everyBelow (2 ^ n) (λ x. Bool·beq (valueOn d n x l) (valueOn d n x m)) || everyBelow (2 ^ n) (λ x. not (Bool·beq (valueOn d n x l) (valueOn d n x m)))
+    everyBelow (2 ^ n) (λ x. Bool·beq (valueOn d n x l) (valueOn d n x m))
+    || everyBelow (2 ^ n) (λ x. not (Bool·beq (valueOn d n x l) (valueOn d n x m)))
 
--- "no two gates are equal or opposite in function, and none is constant or equal or opposite to an input"
+-- Clause 5.6: no two gates have one function or opposite ones, and none has that of a constant, an input or its complement
 unfoldable pub reduced : Circuit → ℕ → Bool
-reduced d n = pairwise (λ g h. not (twins d n (g .lit) (h .lit))) (d .gates) && every (λ g. every (λ l. not (twins d n l (g .lit))) (0 ∷ d .inputs)) (d .gates)
+reduced d n =
+    pairwise (λ g h. not (twins d n (g .lit) (h .lit))) (d .gates)
+    && every (λ g. every (λ l. not (twins d n l (g .lit))) (0 ∷ d .inputs)) (d .gates)
 
 -- the complement of a literal
 abbrev pub complement : ℕ → ℕ

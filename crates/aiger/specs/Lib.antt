@@ -3,10 +3,11 @@ pub mod Bits
 pub mod Text
 pub mod Circuit
 pub mod File
+pub mod Binary
 pub mod Load
 pub mod Frames
-pub mod Search
 pub mod Witness
+pub mod Search
 pub mod Write
 pub mod Memory
 pub mod Fold

@@ -27,7 +27,7 @@ content c =
 unfoldable pub image : Circuit → List ℕ
 image c = content c ++ replicate (needed (c .maxVar) - length (content c)) 0
 
--- "A circuit is accepted if circuit memory holds the needed words as an accepted load of its file leaves them."
+-- Clause 2.8: the needed words are those that an accepted load leaves
 pub record Holds (m : List ℕ) (c : Circuit) : Type 0 where
   pub file : List ℕ
   pub accepted : load (length m) file ≡ gives c

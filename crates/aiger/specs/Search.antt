@@ -1,10 +1,13 @@
 -- What a search may answer. Assumes nothing.
-use mathlib.Core.Bool.{Bool, not, _&&_}
-use Prim.Native.Nat.{ℕ, _+_, _^_}
+use mathlib.Core.Bool.{Bool, not, cond, _&&_}
+use mathlib.Core.List.{List, []}
+use mathlib.Core.Option.{Option}
+use Prim.Native.Nat.{ℕ, zero, suc, _+_, _^_}
 use lib.Dec.{leb, ltb, eqb}
 use Rattle.aiger.specs.Lists.{everyBelow}
 use Rattle.aiger.specs.Circuit.{Circuit}
-use Rattle.aiger.specs.Frames.{Space, space, runIn, hits, freeBits}
+use Rattle.aiger.specs.Frames.{Space, space, runIn, hits, freeBits, run}
+use Rattle.aiger.specs.Witness.{witness}
 
 -- ---- the places of one frame: sequence x stands at place x, and p says which places hit
 
@@ -15,6 +18,15 @@ onward lo p x = leb lo x && p x
 -- no place from lo up to hi hits
 abbrev pub clearFrom : (ℕ → Bool) → ℕ → ℕ → Bool
 clearFrom p lo hi = everyBelow hi (λ x. not (onward lo p x))
+
+-- the least number below n that passes
+unfoldable pub leastBelow : ℕ → (ℕ → Bool) → Option ℕ
+leastBelow zero p = Option.none
+leastBelow (suc n) p = elim (leastBelow n p) [ Option.some x ↦ Option.some x | Option.none ↦ cond (p n) (Option.some n) Option.none ]
+
+-- the first hit from lo on, where there are `places` in all
+abbrev pub firstFrom : (ℕ → Bool) → ℕ → ℕ → Option ℕ
+firstFrom p places lo = leastBelow places (onward lo p)
 
 -- the first hit, by its place; no hit; or more places than the budget, of which the first ones do not hit
 pub data Decision : Type 0 where
@@ -35,9 +47,9 @@ pub record Question : Type 0 where
   pub places : ℕ → ℕ
   pub hitting : ℕ → ℕ → Bool
 
--- found t, with the sequence whose witness is shown; none k; spent t
+-- what a search answers: found t, none k or spent t
 pub data Outcome : Type 0 where
-  found : ℕ → ℕ → Outcome
+  found : ℕ → Outcome
   none : ℕ → Outcome
   spent : ℕ → Outcome
 
@@ -45,22 +57,30 @@ pub data Outcome : Type 0 where
 abbrev pub decidesAt : Question → ℕ → ℕ → Decision → Bool
 decidesAt q t D d = decides (q .hitting t) (q .places t) 0 D d
 
+-- frame t has no hit
+abbrev pub clearAt : Question → ℕ → Bool
+clearAt q t = clearFrom (q .hitting t) 0 (q .places t)
+
 -- no frame before t has a hit
 abbrev pub clearBefore : Question → ℕ → Bool
-clearBefore q t = everyBelow t (λ u. decidesAt q u 0 Decision.clear)
+clearBefore q t = everyBelow t (clearAt q)
 
--- what a search up to bound k with budget D may give:
--- "found t: t is the first frame with a hit; the witness is the first hit in counting order;
--- none k: no frame from 0 to k has a hit;
--- spent t: frames before t have no hit, 2 to the power n at frame t exceeds D, and none of the first D sequences of frame t hits."
+-- the first hit of frame t
+abbrev pub firstAt : Question → ℕ → Option ℕ
+firstAt q t = firstFrom (q .hitting t) (q .places t) 0
+
+-- what a search up to bound k with budget D may answer:
+-- Clause 3.2: found t, where t is the first frame with a hit;
+-- Clause 3.3: none k, where frames 0 to k have no hit;
+-- Clause 3.4: spent t, where frames before t have no hit, frame t has more than D places, and its first D do not hit
 unfoldable pub permittedOf : Question → ℕ → ℕ → Outcome → Bool
-permittedOf q k D (Outcome.found t x) = leb t k && clearBefore q t && decidesAt q t D (Decision.hit x)
+permittedOf q k D (Outcome.found t) = leb t k && clearBefore q t && not (clearAt q t)
 permittedOf q k D (Outcome.none j) = eqb j k && clearBefore q (k + 1)
 permittedOf q k D (Outcome.spent t) = leb t k && clearBefore q t && decidesAt q t D Decision.spent
 
 -- ---- the question about bad line b of a circuit
 
--- "A sequence of frame t reaches the property if it hits b at t": sequence x of a space
+-- Clauses 2.5 and 2.7: sequence x of a space hits bad line b at frame t
 unfoldable pub reachesIn : Space → Circuit → ℕ → ℕ → ℕ → Bool
 reachesIn s c b t x = hits c b (runIn s t x) t
 
@@ -72,3 +92,7 @@ question c b = record { places = λ t. 2 ^ freeBits c t; hitting = reaches c b }
 
 abbrev pub permitted : Circuit → ℕ → ℕ → ℕ → Outcome → Bool
 permitted c b k D o = permittedOf (question c b) k D o
+
+-- Clause 3.2: the witness that found t shows is that of the first hit in counting order
+unfoldable pub firstWitness : Circuit → ℕ → ℕ → List ℕ
+firstWitness c b t = elim (firstAt (question c b) t) [ Option.some x ↦ witness b (run c t x) | Option.none ↦ [] ]

@@ -30,7 +30,7 @@ when false = none
 abbrev pub isDigit : ℕ → Bool
 isDigit c = leb 48 c && leb c 57
 
--- "A number is 1 to 10 decimal digits with no leading zero, except 0 itself."
+-- Clause 1.1: one to ten digits, the first of several not 0
 unfoldable pub isNumber : List ℕ → Bool
 isNumber w = every isDigit w && leb 1 (length w) && leb (length w) 10 && (not (eqb (getD w 0 0) 48) || eqb (length w) 1)
 
@@ -44,7 +44,7 @@ unfoldable pub span : List ℕ → List ℕ × List ℕ
 span [] = ([], [])
 span (c ∷ f) = cond (isDigit c) (c ∷ (span f) .0, (span f) .1) ([], c ∷ f)
 
--- "One space separates numbers and a line feed ends each line": a number with what ends it, and the bytes after that
+-- Clause 1.2: a space or a line feed ends a number: a number with what ends it, and the bytes after that
 pub data Token : Type 0 where
   spaced : ℕ → List ℕ → Token
   ended : ℕ → List ℕ → Token

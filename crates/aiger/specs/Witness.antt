@@ -10,7 +10,7 @@ use Rattle.aiger.specs.Text.{bytes, token, onToken, digits, _>>=_, _>>_,
 use Rattle.aiger.specs.Circuit.{Circuit, Latch}
 use Rattle.aiger.specs.Frames.{Run, hits, isFree}
 
--- a line of bits; "a line may be empty"
+-- a line of bits, which may be empty
 abbrev pub bitLine : List Bool → List ℕ
 bitLine [] = bytes "\n"
 bitLine (b ∷ bs) = cond b 49 48 ∷ bitLine bs
@@ -19,7 +19,7 @@ abbrev pub bitLines : List (List Bool) → List ℕ
 bitLines [] = []
 bitLines (r ∷ rs) = bitLine r ++ bitLines rs
 
--- "lines `1`, `b` with b, the L start values, t+1 lines of I input values, and `.`"
+-- Clause 3.5: the lines of a witness: `1`, `b` and the number, the start values, a line for each frame, and `.`
 unfoldable pub witness : ℕ → Run → List ℕ
 witness b r = bytes "1\nb" ++ digits b ++ bytes "\n" ++ bitLine (r .start) ++ bitLines (r .rows) ++ bytes ".\n"
 
@@ -52,7 +52,7 @@ readRun c b w = do
   when (leb 1 (length rows))
   some (record { bad = b; run = record { start = start .0; rows = rows } })
 
--- "Replay reads a witness in that form, of 1 to 256 frames"; its b is below B
+-- Clause 4.1: a witness of 1 to 256 frames, read in that form; its b is below B
 unfoldable pub readWitness : Circuit → List ℕ → Option Witness
 readWitness c w = when (same (take 3 w) (bytes "1\nb")) >> onToken (token (drop 3 w)) (λ b f. none) (readRun c)
 
@@ -62,6 +62,6 @@ agrees [] bs = true
 agrees (l ∷ ls) [] = false
 agrees (l ∷ ls) (b ∷ bs) = (isFree l || eqb (l .reset) (cond b 1 0)) && agrees ls bs
 
--- "yes if its start agrees with every reset and its last frame is a hit of b; otherwise no"
+-- Clause 4.2: whether the start agrees with every reset and the last frame is a hit of b
 unfoldable pub confirms : Circuit → Witness → Bool
 confirms c w = agrees (c .latches) (w .run .start) && hits c (w .bad) (w .run) (length (w .run .rows) - 1)

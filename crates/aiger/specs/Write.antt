@@ -20,7 +20,7 @@ linesOf ((n ∷ ns) ∷ ls) = lineOf n ns ++ linesOf ls
 abbrev pub literalRow : ℕ → List ℕ
 literalRow l = l ∷ []
 
--- "a reset only where it is not 0"
+-- Clause 7.1: a reset is written where it is not 0
 unfoldable pub latchRow : Latch → List ℕ
 latchRow l = l .lit ∷ l .next ∷ cond (eqb (l .reset) 0) [] (l .reset ∷ [])
 
@@ -32,7 +32,7 @@ abbrev pub countRow : Circuit → List ℕ
 countRow c =
     length (c .inputs) ∷ length (c .latches) ∷ length (c .outputs) ∷ length (c .gates) ∷ length (c .bads) ∷ length (c .constraints) ∷ []
 
--- "Write gives seven header numbers, definitions in file order, a reset only where it is not 0, and no tail."
+-- Clause 7.1: seven header numbers, the sections in their order, no tail
 unfoldable pub write : Circuit → List ℕ
 write c =
     bytes "aag " ++ lineOf (c .maxVar) (countRow c)

@@ -1,4 +1,4 @@
--- The circuit that a cone makes is a fold. Assumes nothing.
+-- The circuit that a cone makes is a fold. Clauses 5.5, 5.6. Assumes nothing.
 use mathlib.Core.Path.{_≡_, refl, sym, ap, _∙_, subst}
 use mathlib.Core.Bool.{Bool, true, false, not, _&&_, _||_, Bool·beq}
 use mathlib.Core.List.{List, [], _∷_, map}

@@ -10,18 +10,24 @@ use lib.Pow.{pow-mono}
 use lib.Dec.{T, leb, le→leb}
 use lib.ListN.{length}
 use Rattle.aiger.specs.Circuit.{Circuit}
-use Rattle.aiger.specs.Frames.{freeBits}
+use Rattle.aiger.specs.Frames.{freeBits, size}
 use Rattle.aiger.specs.Search.{Decision, onward, decides, question, reaches}
 use Rattle.aiger.proofs.Tests.{and, and-right}
 use Rattle.meaning.proofs.Decisions.{Says, decides-in}
 use Rattle.enumeration.specs.Choice.{leastBelow, decided, decision, decisionAt}
-use Rattle.enumeration.proofs.Least.{Least, least}
+use Rattle.meaning.proofs.Decisions.{Least, least-below}
 use Rattle.enumeration.proofs.Laws.{hit-first, clear-none, spent-first}
 use Rattle.support.specs.Counting.{rank, passed}
 use Rattle.support.specs.Support.{support}
-use Rattle.support.proofs.Counting.{rank-bound, passed-all, passed-most, passed-least}
+use Rattle.support.proofs.Counting.{rank-bound, passed-all, passed-most, passed-least, passed-mono}
 use Rattle.unroll.specs.Chosen.{unrolled}
-use Rattle.decision.specs.Reach.{reach, decisionOf}
+use Rattle.conflicts.specs.declared.Verdict.{Verdict}
+use Rattle.conflicts.specs.declared.Verdict.the-variants.{Found, Clear, Out}
+use Rattle.conflicts.specs.Conflicts.{Result}
+use Rattle.conflicts.proofs.Theorems.{more-effort}
+use Rattle.netlist.specs.Netlist.{netWords, netOf}
+use Rattle.solver.specs.Solved.{solved}
+use Rattle.decision.specs.Reach.{effort, searched, decidedOr, tried, reach, decisionOf}
 
 module _ (p : ℕ → Bool) (places R : ℕ) where
   passes : (x : ℕ) → T (p x) → T (onward 0 p x)
@@ -29,7 +35,7 @@ module _ (p : ℕ → Bool) (places R : ℕ) where
 
   pub hit-at : (x : ℕ) → x < R → x < places → T (p x) → ((y : ℕ) → y < x → T (p y) → ⊥) → decision p places 0 R ≡ Decision.hit x
   unfolding decision
-  hit-at x l f t first = go (leastBelow (min places (0 + R)) (onward 0 p)) (least (onward 0 p) (min places (0 + R)))
+  hit-at x l f t first = go (leastBelow (min places (0 + R)) (onward 0 p)) (least-below (onward 0 p) (min places (0 + R)))
     where
       go : (o : Option ℕ) → Least (onward 0 p) (min places (0 + R)) o → decided o (cond (leb places (0 + R)) Decision.clear Decision.spent) ≡ Decision.hit x
       go (some z) h =
@@ -40,7 +46,7 @@ module _ (p : ℕ → Bool) (places R : ℕ) where
 
   none-at : ((y : ℕ) → y < min places (0 + R) → T (p y) → ⊥) → decision p places 0 R ≡ cond (leb places (0 + R)) Decision.clear Decision.spent
   unfolding decision
-  none-at none-below = go (leastBelow (min places (0 + R)) (onward 0 p)) (least (onward 0 p) (min places (0 + R)))
+  none-at none-below = go (leastBelow (min places (0 + R)) (onward 0 p)) (least-below (onward 0 p) (min places (0 + R)))
     where
       go : (o : Option ℕ) → Least (onward 0 p) (min places (0 + R)) o
           → decided o (cond (leb places (0 + R)) Decision.clear Decision.spent) ≡ cond (leb places (0 + R)) Decision.clear Decision.spent
@@ -56,16 +62,35 @@ module _ (p : ℕ → Bool) (places R : ℕ) where
       none-at (λ y h. n y (omega arith)) ∙ ap (λ (b : Bool). cond b Decision.clear Decision.spent) (lt-leb places (0 + R) (omega arith))
 
 module _ (c : Circuit) (b t D : ℕ) where
+  tried-most : tried c b t D ≤ 2 ^ freeBits c t
+  unfolding tried
+  tried-most = passed-most (support (freeBits c t) (unrolled c b t .gates) (unrolled c b t .edge)) (freeBits c t) (max D 16384)
+
   pub reach-most : reach c b t D ≤ 2 ^ freeBits c t
   unfolding reach
-  reach-most = passed-most (support (freeBits c t) (unrolled c b t .gates) (unrolled c b t .edge)) (freeBits c t) (max D 16384)
+  reach-most = go (searched c b t D)
+    where
+      go : (v : Verdict) → decidedOr v (2 ^ freeBits c t) (tried c b t D) ≤ 2 ^ freeBits c t
+      go Found = omega arith
+      go Clear = omega arith
+      go Out = tried-most
+
+  -- what is tried is passed
+  pub reach-tried : tried c b t D ≤ reach c b t D
+  unfolding reach
+  reach-tried = go (searched c b t D)
+    where
+      go : (v : Verdict) → tried c b t D ≤ decidedOr v (2 ^ freeBits c t) (tried c b t D)
+      go Found = tried-most
+      go Clear = tried-most
+      go Out = omega arith
 
   -- the first D sequences, and the first 16,384
   pub reach-least : (min (2 ^ freeBits c t) D ≤ reach c b t D) × (min (2 ^ freeBits c t) 16384 ≤ reach c b t D)
-  unfolding reach
+  unfolding tried
   reach-least =
       let h = passed-least (support (freeBits c t) (unrolled c b t .gates) (unrolled c b t .edge)) (freeBits c t) (max D 16384) in
-      (omega arith, omega arith)
+      (omega (arith, reach-tried), omega (arith, reach-tried))
 
   -- what is decided says of the frame what a decision with a budget of D says
   pub decided-says : (d : Decision) → decisionOf c b t D ≡ d → Says (reaches c b t) (2 ^ freeBits c t) 0 D d
@@ -86,7 +111,7 @@ module _ (p : ℕ → Bool) (places R : ℕ) where
   -- the place of a hit is one that is tried
   pub hit-tried : {x : ℕ} → decision p places 0 R ≡ Decision.hit x → x < min places (0 + R)
   unfolding decision
-  hit-tried {x} e = go (leastBelow (min places (0 + R)) (onward 0 p)) (least (onward 0 p) (min places (0 + R))) (leb places (0 + R)) e
+  hit-tried {x} e = go (leastBelow (min places (0 + R)) (onward 0 p)) (least-below (onward 0 p) (min places (0 + R))) (leb places (0 + R)) e
     where
       go : (o : Option ℕ) → Least (onward 0 p) (min places (0 + R)) o → (q : Bool) → decided o (cond q Decision.clear Decision.spent) ≡ Decision.hit x → x < min places (0 + R)
       go (some z) h q e = let s : z ≡ x = cc in subst (λ (y : ℕ). y < min places (0 + R)) s (h .0)
@@ -104,27 +129,68 @@ module _ (p : ℕ → Bool) (places R : ℕ) where
       go none false w e = let z : _≡_ {A = ℕ} 0 1 = cc in absurd (omega arith)
 
 module _ (c : Circuit) (b t D : ℕ) where
-  -- a first hit among the first 16,384 sequences is what is decided
-  pub tried-hit : {x : ℕ} → decisionAt (question c b) t 16384 ≡ Decision.hit x → decisionOf c b t D ≡ Decision.hit x
+  -- a first hit among the sequences that are tried on the circuit is what is decided
+  pub tried-hit : (F : ℕ) → F ≤ 16384 → {x : ℕ} → decisionAt (question c b) t F ≡ Decision.hit x → decisionOf c b t D ≡ Decision.hit x
   unfolding decisionOf
-  tried-hit {x} e =
+  tried-hit F few {x} e =
       let places = 2 ^ freeBits c t in
-      let l = hit-tried (reaches c b t) places 16384 e in
-      let f = hit-first (reaches c b t) places 0 16384 e in
+      let l = hit-tried (reaches c b t) places F e in
+      let f = hit-first (reaches c b t) places 0 F e in
       hit-at (reaches c b t) places (reach c b t D) x (omega (arith, reach-least c b t D .1)) (f .fits) (f .hit) (λ y h. f .first y (omega arith) h)
 
   reach-all : 2 ^ freeBits c t ≤ 16384 → reach c b t D ≡ 2 ^ freeBits c t
-  unfolding reach
+  unfolding tried
   reach-all h =
       let s = support (freeBits c t) (unrolled c b t .gates) (unrolled c b t .edge) in
       let m : 2 ^ rank s (freeBits c t) ≤ 2 ^ freeBits c t = pow-mono (rank-bound s (freeBits c t)) in
-      passed-all s (freeBits c t) (max D 16384) (omega arith)
+      let e = passed-all s (freeBits c t) (max D 16384) (omega arith) in
+      omega (arith, reach-tried c b t D, reach-most c b t D)
 
   -- and so is none, where there are no more
-  pub tried-clear : decisionAt (question c b) t 16384 ≡ Decision.clear → decisionOf c b t D ≡ Decision.clear
+  pub tried-clear : (F : ℕ) → F ≤ 16384 → decisionAt (question c b) t F ≡ Decision.clear → decisionOf c b t D ≡ Decision.clear
   unfolding decisionOf
-  tried-clear e =
+  tried-clear F few e =
       let places = 2 ^ freeBits c t in
-      let all = clear-tried (reaches c b t) places 16384 e in
-      clear-at (reaches c b t) places (reach c b t D) (omega (arith, reach-all all))
-      (λ y h. clear-none (reaches c b t) places 0 16384 e y (omega arith) h)
+      let all = clear-tried (reaches c b t) places F e in
+      clear-at (reaches c b t) places (reach c b t D) (omega (arith, reach-all (omega arith)))
+      (λ y h. clear-none (reaches c b t) places 0 F e y (omega arith) h)
+
+-- ---- more budget passes no fewer sequences
+
+effort-more : (units D E : ℕ) → D ≤ E → effort units D ≤ effort units E
+unfolding effort
+effort-more units D E h = omega arith
+
+-- a frame that the conflict search decides with a budget of D it decides alike with a larger one
+pub searched-more : (c : Circuit) (b t D E : ℕ) → D ≤ E → (searched c b t D ≡ Out → ⊥) → searched c b t E ≡ searched c b t D
+unfolding searched solved
+searched-more c b t D E h n =
+    let o = unrolled c b t in
+    let w = netWords (freeBits c t) (o .gates) (o .edge) (16 * size c t) in
+    let net = netOf (freeBits c t) (o .gates) (o .edge) (16 * size c t) in
+    ap (λ (r : Result). r .verdict) (more-effort w net (effort (size c t) D) (effort (size c t) E) (effort-more (size c t) D E h) n)
+
+tried-more : (c : Circuit) (b t D E : ℕ) → D ≤ E → tried c b t D ≤ tried c b t E
+unfolding tried
+tried-more c b t D E h =
+    passed-mono (support (freeBits c t) (unrolled c b t .gates) (unrolled c b t .edge)) (freeBits c t) (max D 16384) (max E 16384) (omega arith)
+
+pub reach-more : (c : Circuit) (b t D E : ℕ) → D ≤ E → reach c b t D ≤ reach c b t E
+unfolding reach
+reach-more c b t D E h = go (searched c b t D) refl
+  where
+    all : (v : Verdict) → searched c b t D ≡ v → (v ≡ Out → ⊥) → decidedOr v (2 ^ freeBits c t) (tried c b t E) ≤ decidedOr (searched c b t E) (2 ^ freeBits c t) (tried c b t E)
+    all v e n =
+        let s : v ≡ searched c b t E = sym (searched-more c b t D E h (λ q. n (sym e ∙ q)) ∙ e) in
+        subst (λ (u : Verdict). decidedOr v (2 ^ freeBits c t) (tried c b t E) ≤ decidedOr u (2 ^ freeBits c t) (tried c b t E)) s (omega arith)
+
+    go : (v : Verdict) → searched c b t D ≡ v
+        → decidedOr v (2 ^ freeBits c t) (tried c b t D) ≤ decidedOr (searched c b t E) (2 ^ freeBits c t) (tried c b t E)
+    go Found e = all Found e (λ q. let z : _≡_ {A = ℕ} 0 1 = cc in omega arith)
+    go Clear e = all Clear e (λ q. let z : _≡_ {A = ℕ} 0 1 = cc in omega arith)
+    go Out e = out (searched c b t E)
+      where
+        out : (v : Verdict) → tried c b t D ≤ decidedOr v (2 ^ freeBits c t) (tried c b t E)
+        out Found = tried-most c b t D
+        out Clear = tried-most c b t D
+        out Out = tried-more c b t D E h

@@ -1,19 +1,23 @@
 -- From the graph of the hit and what its places have to the decision on the frame. Assumes nothing.
 use mathlib.Core.Path.{_≡_, refl, sym, ap, ap₂, _∙_, subst}
 use mathlib.Core.Bool.{Bool, true, false}
-use mathlib.Core.List.{List}
+use mathlib.Core.List.{List, _++_}
+use mathlib.Core.Logic.{_⊎_, ⊎-elim}
 use Prim.Native.Nat.{ℕ, _+_, _*_, _^_, _≤_, _<_, max}
 use native.Mathlib.Decide.{decLt}
 use native.Mathlib.Omega.{arith}
 use borrow.Author.Tests.{leb-false, lt-leb}
 use lib.Pow.{pow-mono}
 use lib.Dec.{T, leb}
-use lib.ListN.{length, getD}
+use lib.ListN.{length, getD, take, length-take, List·getD-append}
+use Rattle.aiger.specs.Bits.{nonzero}
 use Rattle.aiger.specs.Circuit.{Circuit, var}
-use Rattle.aiger.specs.Frames.{freeBits, freeBit}
+use Rattle.aiger.specs.Frames.{freeBits, freeBit, size}
 use Rattle.aiger.specs.Search.{Decision, question, reaches}
 use Rattle.enumeration.specs.Choice.{decisionAt}
 use Rattle.enumeration.specs.Frame.{FreeBits}
+use Rattle.enumeration.specs.declared.Frame.{Frame}
+use Rattle.enumeration.specs.declared.Frame.the-variants as F
 use Rattle.enumeration.proofs.Laws.{spent-first}
 use Rattle.nodes.specs.Graph.{Pair, edgeValue, Built}
 use Rattle.nodes.specs.Store.{pairsOf}
@@ -32,9 +36,15 @@ use Rattle.simulation.specs.Store.{Net}
 use Rattle.simulation.specs.Found.{rootAt, NoHit, FirstHit}
 use Rattle.unroll.specs.Chosen.{unrolled}
 use Rattle.unroll.specs.Unrolled.{Unrolled}
-use Rattle.decision.specs.Reach.{reach, decisionOf}
-use Rattle.decision.specs.Decided.{Exhausted}
-use Rattle.decision.proofs.Deciding.{hit-at, clear-at, spent-at, reach-most}
+use Rattle.conflicts.specs.declared.Verdict.{Verdict}
+use Rattle.conflicts.specs.declared.Verdict.the-variants.{Found, Clear, Out}
+use Rattle.netlist.specs.Netlist.{Marked}
+use Rattle.solver.specs.Solved.{solved, SolvedIs}
+use Rattle.decision.specs.Reach.{effort, searched, decidedOr, tried, reach, decisionOf}
+use Rattle.decision.specs.Decided.{Exhausted, Prepared, Scannable, Scanned, FrameDecided}
+use Rattle.decision.proofs.Deciding.{hit-at, clear-at, spent-at, reach-most, reach-tried}
+
+-- ---- the graph, when its cone is marked
 
 module _ {c : Circuit} {b t room : ℕ} {work : List ℕ} {made : Made} (u : Unrolled c b t work room made) where
   pub markable : Markable work (made .graph) (edgeWord (made .edge))
@@ -45,80 +55,159 @@ module _ {c : Circuit} {b t room : ℕ} {work : List ℕ} {made : Made} (u : Unr
         inside = omega (arith, u .node, word-node (made .edge));
       }
 
-  module _ (last : List ℕ) (marked : ConeMarked work last (made .graph) (edgeWord (made .edge))) (size : length last ≡ length work) where
-    abbrev gs : List Pair
-    gs = pairsOf last (made .graph)
+  pub prepared : (last : List ℕ) → ConeMarked work last (made .graph) (edgeWord (made .edge)) → length last ≡ length work → room ≡ size c t → Prepared c b t last made
+  prepared last marked long is =
+      let s = u .stored .sized in
+      record {
+        net =
+            record {
+              sized = record { leaves = s .leaves; nodes = s .nodes; room = s .room; held = omega (arith, s .held) };
+              pairs = refl;
+              built = subst (Built (made .graph .free)) (sym (marked .pairs)) (u .stored .built);
+              marks = cone-marks work last (made .graph) (edgeWord (made .edge)) marked;
+              inside = omega (arith, u .node, word-node (made .edge));
+            };
+        free = u .free;
+        room = u .room-is ∙ is;
+        hit = λ x h. ap₂ (λ (m : ℕ) (hs : List Pair). rootAt m hs (edgeWord (made .edge)) x) (u .free) (marked .pairs) ∙ u .hit x h;
+        chosen = u .chosen ∙ ap (λ (hs : List Pair). record { gates = hs; edge = edgeWord (made .edge) }) (sym (marked .pairs));
+      }
 
-    abbrev root : ℕ
-    root = edgeWord (made .edge)
+module _ {c : Circuit} {b t : ℕ} {work : List ℕ} {made : Made} (u : Prepared c b t work made) where
+  -- none of the first 1,024 sequences hits
+  pub scannable : (D : ℕ) → D ≤ 4294967296 → Exhausted c b t → Scannable work (made .graph) (edgeWord (made .edge)) D
+  scannable D h e =
+      let s = spent-first (reaches c b t) (2 ^ freeBits c t) 0 (e .first) (e .spent) in
+      record {
+        net = u .net;
+        known =
+            elim (decLt (freeBits c t) 10) [
+              | yes l ↦
+                  (let k : freeBits c t ≤ 9 = omega arith in
+                  let m : 2 ^ freeBits c t ≤ 2 ^ 9 = pow-mono k in
+                  absurd (omega (arith, s .beyond, e .some)))
+              | no l ↦ omega (arith, u .free)
+            ];
+        budget = h;
+        none = λ x l t₁.
+            let k : x < e .first = omega (arith, e .some) in
+            s .first x (omega arith) (omega arith) (subst T (u .hit x (omega (arith, s .beyond))) t₁);
+      }
 
-    abbrev n : ℕ
-    n = made .graph .free
+  -- what is tried of the graph
+  tried-is : (D : ℕ) → passed (support (made .graph .free) (pairsOf work (made .graph)) (edgeWord (made .edge))) (made .graph .free) (max D 16384) ≡ tried c b t D
+  unfolding tried
+  tried-is D = ap₂ (λ (m : ℕ) (o : Outcome). passed (support m (o .gates) (o .edge)) m (max D 16384)) (u .free) (sym (u .chosen))
 
-    pub net : Net (pairsOf last (made .graph)) (edgeWord (made .edge)) last (made .graph)
-    net =
-        let s = u .stored .sized in
+  module _ (D : ℕ) where
+    scan-hit : {after : List ℕ} {x : ℕ} → FirstHit (made .graph .free) (pairsOf work (made .graph)) (edgeWord (made .edge)) (max D 16384) after x
+        → (decisionOf c b t D ≡ Decision.hit x) × FreeBits (freeBits c t) x after
+    unfolding decisionOf
+    scan-hit {after} {x} f =
+        let l : x < reach c b t D = omega (arith, f .below, tried-is D, reach-tried c b t D) in
+        let k : x < 2 ^ freeBits c t = omega (arith, reach-most c b t D) in
+        (hit-at (reaches c b t) (2 ^ freeBits c t) (reach c b t D) x l k (subst T (u .hit x k) (f .hit)) (λ y h s. f .first y h (subst T (sym (u .hit y (omega arith))) s)), subst (λ (m : ℕ). FreeBits m x after) (u .free) (f .bits))
+
+    scan-clear : (2 ^ rank (support (made .graph .free) (pairsOf work (made .graph)) (edgeWord (made .edge))) (made .graph .free) ≤ max D 16384) × NoHit (made .graph .free) (pairsOf work (made .graph)) (edgeWord (made .edge)) (2 ^ made .graph .free)
+        → decisionOf c b t D ≡ Decision.clear
+    unfolding decisionOf
+    scan-clear f =
+        let s = support (made .graph .free) (pairsOf work (made .graph)) (edgeWord (made .edge)) in
+        let e : 2 ^ made .graph .free ≡ 2 ^ freeBits c t = ap (λ (m : ℕ). 2 ^ m) (u .free) in
+        clear-at (reaches c b t) (2 ^ freeBits c t) (reach c b t D)
+        (omega (arith, tried-is D, reach-tried c b t D, passed-all s (made .graph .free) (max D 16384) (f .0)))
+        (λ y h w. f .1 y (omega arith) (subst T (sym (u .hit y h)) w))
+
+    reach-part : searched c b t D ≡ Out → reach c b t D ≡ tried c b t D
+    unfolding reach
+    reach-part o = ap (λ (v : Verdict). decidedOr v (2 ^ freeBits c t) (tried c b t D)) o
+
+    scan-spent : searched c b t D ≡ Out → (max D 16384 < 2 ^ rank (support (made .graph .free) (pairsOf work (made .graph)) (edgeWord (made .edge))) (made .graph .free)) × NoHit (made .graph .free) (pairsOf work (made .graph)) (edgeWord (made .edge)) (passed (support (made .graph .free) (pairsOf work (made .graph)) (edgeWord (made .edge))) (made .graph .free) (max D 16384))
+        → decisionOf c b t D ≡ Decision.spent
+    unfolding decisionOf
+    scan-spent o f =
+        let s = support (made .graph .free) (pairsOf work (made .graph)) (edgeWord (made .edge)) in
+        let e : 2 ^ made .graph .free ≡ 2 ^ freeBits c t = ap (λ (m : ℕ). 2 ^ m) (u .free) in
+        let p : passed s (made .graph .free) (max D 16384) ≡ reach c b t D = tried-is D ∙ sym (reach-part o) in
+        let k : passed s (made .graph .free) (max D 16384) < 2 ^ made .graph .free =
+        leb-false (2 ^ made .graph .free) (passed s (made .graph .free) (max D 16384))
+        (passed-covers s (made .graph .free) (max D 16384) ∙ lt-leb (2 ^ rank s (made .graph .free)) (max D 16384) (f .0)) in
+        spent-at (reaches c b t) (2 ^ freeBits c t) (reach c b t D) (omega arith)
+        (λ y h w. f .1 y (omega arith) (subst T (sym (u .hit y (omega (arith, reach-most c b t D)))) w))
+
+    -- the places of the support decide the frame, where the conflict search has not, or they are no more than are tried
+    pub scanned : (after : List ℕ) (r : Frame)
+        → (searched c b t D ≡ Out) ⊎ (2 ^ rank (support (made .graph .free) (pairsOf work (made .graph)) (edgeWord (made .edge))) (made .graph .free) ≤ max D 16384)
+        → Scanned (made .graph .free) (pairsOf work (made .graph)) (edgeWord (made .edge)) (max D 16384) after r → FrameDecided c b t D after r
+    scanned after F.Hit o f = let h = scan-hit (f .1) in (f .0, h .0, h .1)
+    scanned after F.Clear o f = scan-clear f
+    scanned after F.Spent o f =
+        ⊎-elim (λ (e : searched c b t D ≡ Out). scan-spent e f)
+        (λ (l : 2 ^ rank (support (made .graph .free) (pairsOf work (made .graph)) (edgeWord (made .edge))) (made .graph .free) ≤ max D 16384).
+        absurd (omega (arith, f .0)))
+        o
+
+    -- ---- the conflict search
+
+    -- the graph has all words to itself
+    pub marked : length work ≡ 16 * size c t → Marked work (made .graph) (edgeWord (made .edge))
+    marked e =
         record {
-          sized = record { leaves = s .leaves; nodes = s .nodes; room = s .room; held = omega (arith, s .held) };
-          pairs = refl;
-          built = subst (Built (made .graph .free)) (sym (marked .pairs)) (u .stored .built);
-          marks = cone-marks work last (made .graph) (edgeWord (made .edge)) marked;
-          inside = omega (arith, u .node, word-node (made .edge));
+          sized = u .net .sized;
+          exact = e ∙ ap (λ (x : ℕ). 16 * x) (sym (u .room));
+          built = u .net .built;
+          marks = u .net .marks;
+          inside = u .net .inside;
         }
 
-    -- the root is true exactly where the frame is hit
-    root-reaches : (x : ℕ) → x < 2 ^ freeBits c t → rootAt (made .graph .free) (pairsOf last (made .graph)) (edgeWord (made .edge)) x ≡ reaches c b t x
-    root-reaches x h =
-        ap₂ (λ (m : ℕ) (hs : List Pair). rootAt m hs (edgeWord (made .edge)) x) (u .free) (marked .pairs) ∙ u .hit x h
+    searched-is : length work ≡ 16 * size c t → (e : ℕ) → e ≡ effort (size c t) D
+        → solved (made .graph .free) (pairsOf work (made .graph)) (edgeWord (made .edge)) (length work) e ≡ searched c b t D
+    unfolding searched
+    searched-is long e q =
+        ap₂ (λ (m : ℕ) (o : Outcome). solved m (o .gates) (o .edge) (length work) e) (u .free) (sym (u .chosen))
+        ∙ ap₂ (solved (freeBits c t) (unrolled c b t .gates) (unrolled c b t .edge)) long q
 
-    -- none of the first 16,384 sequences hits
-    pub none-known : Exhausted c b t → NoHit (made .graph .free) (pairsOf last (made .graph)) (edgeWord (made .edge)) (2 ^ 14)
-    none-known e x h t₁ =
-        let s = spent-first (reaches c b t) (2 ^ freeBits c t) 0 16384 e in
-        s .first x (omega arith) (omega arith) (subst T (root-reaches x (omega (arith, s .beyond))) t₁)
-
-    pub bits-known : Exhausted c b t → 14 ≤ made .graph .free
-    bits-known e =
-        let s = spent-first (reaches c b t) (2 ^ freeBits c t) 0 16384 e in
-        elim (decLt (freeBits c t) 14) [
-          | yes l ↦ (let k : freeBits c t ≤ 13 = omega arith in let m : 2 ^ freeBits c t ≤ 2 ^ 13 = pow-mono k in absurd (omega (arith, s .beyond)))
-          | no l ↦ omega (arith, u .free)
-        ]
-
-    -- what is passed is the reach
-    reach-is : (D : ℕ) → passed (support (made .graph .free) (pairsOf last (made .graph)) (edgeWord (made .edge))) (made .graph .free) (max D 16384) ≡ reach c b t D
+    reach-found : searched c b t D ≡ Found → reach c b t D ≡ 2 ^ freeBits c t
     unfolding reach
-    reach-is D =
-        let z : unrolled c b t ≡ record { gates = pairsOf last (made .graph); edge = edgeWord (made .edge) } =
-        u .chosen ∙ ap (λ (hs : List Pair). record { gates = hs; edge = edgeWord (made .edge) }) (sym (marked .pairs)) in
-        ap₂ (λ (m : ℕ) (o : Outcome). passed (support m (o .gates) (o .edge)) m (max D 16384)) (u .free) (sym z)
+    reach-found o = ap (λ (v : Verdict). decidedOr v (2 ^ freeBits c t) (tried c b t D)) o
 
-    module _ (D : ℕ) where
-      pub graph-hit : {after : List ℕ} {x : ℕ} → FirstHit (made .graph .free) (pairsOf last (made .graph)) (edgeWord (made .edge)) (max D 16384) after x
-          → (decisionOf c b t D ≡ Decision.hit x) × FreeBits (freeBits c t) x after
-      unfolding decisionOf
-      graph-hit {after} {x} f =
-          let l : x < reach c b t D = omega (arith, f .below, reach-is D) in
-          let k : x < 2 ^ freeBits c t = omega (arith, reach-most c b t D) in
-          (hit-at (reaches c b t) (2 ^ freeBits c t) (reach c b t D) x l k (subst T (root-reaches x k) (f .hit)) (λ y h s. f .first y h (subst T (sym (root-reaches y (omega arith))) s)), subst (λ (m : ℕ). FreeBits m x after) (u .free) (f .bits))
+    reach-clear : searched c b t D ≡ Clear → reach c b t D ≡ 2 ^ freeBits c t
+    unfolding reach
+    reach-clear o = ap (λ (v : Verdict). decidedOr v (2 ^ freeBits c t) (tried c b t D)) o
 
-      pub graph-clear : (2 ^ rank (support (made .graph .free) (pairsOf last (made .graph)) (edgeWord (made .edge))) (made .graph .free) ≤ max D 16384) × NoHit (made .graph .free) (pairsOf last (made .graph)) (edgeWord (made .edge)) (2 ^ made .graph .free)
-          → decisionOf c b t D ≡ Decision.clear
+    module _ (long : length work ≡ 16 * size c t) (e : ℕ) (q : e ≡ effort (size c t) D) (after : List ℕ) where
+      pub solved-hit : SolvedIs (made .graph .free) (pairsOf work (made .graph)) (edgeWord (made .edge)) work e after Found → FrameDecided c b t D after F.Hit
       unfolding decisionOf
-      graph-clear f =
-          let s = support (made .graph .free) (pairsOf last (made .graph)) (edgeWord (made .edge)) in
-          let e : 2 ^ made .graph .free ≡ 2 ^ freeBits c t = ap (λ (m : ℕ). 2 ^ m) (u .free) in
-          clear-at (reaches c b t) (2 ^ freeBits c t) (reach c b t D) (omega (arith, reach-is D, passed-all s (made .graph .free) (max D 16384) (f .0)))
-          (λ y h w. f .1 y (omega arith) (subst T (sym (root-reaches y h)) w))
+      solved-hit f =
+          let x = f .1 .0 in
+          let h = f .1 .1 in
+          let r = reach-found (sym (searched-is long e q) ∙ f .0) in
+          let p : 2 ^ made .graph .free ≡ 2 ^ freeBits c t = ap (λ (m : ℕ). 2 ^ m) (u .free) in
+          let k : x < 2 ^ freeBits c t = omega (arith, h .place) in (
+            x,
+            hit-at (reaches c b t) (2 ^ freeBits c t) (reach c b t D) x (omega arith) k (subst T (u .hit x k) (h .true-there))
+                (λ y l s. h .first y l (subst T (sym (u .hit y (omega arith))) s)),
+            subst (λ (m : ℕ). FreeBits m x after) (u .free) (h .bits),
+          )
 
-      pub graph-spent : (max D 16384 < 2 ^ rank (support (made .graph .free) (pairsOf last (made .graph)) (edgeWord (made .edge))) (made .graph .free)) × NoHit (made .graph .free) (pairsOf last (made .graph)) (edgeWord (made .edge)) (passed (support (made .graph .free) (pairsOf last (made .graph)) (edgeWord (made .edge))) (made .graph .free) (max D 16384))
-          → decisionOf c b t D ≡ Decision.spent
+      pub solved-clear : SolvedIs (made .graph .free) (pairsOf work (made .graph)) (edgeWord (made .edge)) work e after Clear → FrameDecided c b t D after F.Clear
       unfolding decisionOf
-      graph-spent f =
-          let s = support (made .graph .free) (pairsOf last (made .graph)) (edgeWord (made .edge)) in
-          let e : 2 ^ made .graph .free ≡ 2 ^ freeBits c t = ap (λ (m : ℕ). 2 ^ m) (u .free) in
-          let k : passed s (made .graph .free) (max D 16384) < 2 ^ made .graph .free =
-          leb-false (2 ^ made .graph .free) (passed s (made .graph .free) (max D 16384))
-          (passed-covers s (made .graph .free) (max D 16384) ∙ lt-leb (2 ^ rank s (made .graph .free)) (max D 16384) (f .0)) in
-          spent-at (reaches c b t) (2 ^ freeBits c t) (reach c b t D) (omega (arith, reach-is D))
-          (λ y h w. f .1 y (omega (arith, reach-is D)) (subst T (sym (root-reaches y (omega (arith, reach-most c b t D)))) w))
+      solved-clear f =
+          let r = reach-clear (sym (searched-is long e q) ∙ f .0) in
+          let p : 2 ^ made .graph .free ≡ 2 ^ freeBits c t = ap (λ (m : ℕ). 2 ^ m) (u .free) in
+          clear-at (reaches c b t) (2 ^ freeBits c t) (reach c b t D) (omega arith) (λ y h w. f .1 y (omega arith) (subst T (sym (u .hit y h)) w))
+
+      pub solved-out : SolvedIs (made .graph .free) (pairsOf work (made .graph)) (edgeWord (made .edge)) work e after Out → searched c b t D ≡ Out
+      solved-out f = sym (searched-is long e q) ∙ f
+
+-- ---- the frame's words are the first ones of working memory
+
+pub part-decided : (c : Circuit) (b t D : ℕ) (part rest : List ℕ) (r : Frame) → freeBits c t ≤ length part → FrameDecided c b t D part r
+    → FrameDecided c b t D (part ++ rest) r
+part-decided c b t D part rest F.Hit l f =
+    (f .0, f .1, λ j h. ap nonzero (List·getD-append part rest 0 j (omega arith)) ∙ f .2 j h)
+part-decided c b t D part rest F.Clear l f = f
+part-decided c b t D part rest F.Spent l f = f
+
+pub part-long : (n : ℕ) (xs : List ℕ) → n ≤ length xs → length (take n xs) ≡ n
+part-long n xs h = simp length-take (omega arith)

@@ -1,4 +1,4 @@
 -- The laws of what is decided of a frame. Assumes nothing.
 pub mod Deciding
 pub mod Graphs
-pub mod Sizes
+pub mod Counted

@@ -1,11 +1,11 @@
 -- What the treatment of a frame requires, answers and leaves. Assumes nothing.
 use mathlib.Core.Path.{_≡_}
 use mathlib.Core.List.{List}
-use Prim.Native.Nat.{ℕ, _*_, _≤_, _<_}
+use Prim.Native.Nat.{ℕ, _*_, _^_, _≤_, _<_}
 use lib.ListN.{length}
 use Rattle.aiger.specs.Circuit.{Circuit}
 use Rattle.aiger.specs.Frames.{freeBits, size}
-use Rattle.aiger.specs.Search.{question, Decision}
+use Rattle.aiger.specs.Search.{question, reaches, Decision}
 use Rattle.enumeration.specs.Choice.{decisionAt}
 use Rattle.layout.specs.Words.{word, circuitIn}
 use Rattle.layout.specs.declared.Layout.{Layout}
@@ -13,6 +13,16 @@ use Rattle.frames.specs.Lanes.{Ready}
 use Rattle.enumeration.specs.Frame.{FreeBits}
 use Rattle.enumeration.specs.declared.Frame.{Frame}
 use Rattle.enumeration.specs.declared.Frame.the-variants.{Hit, Clear, Spent}
+use Rattle.nodes.specs.Graph.{Pair}
+use Rattle.nodes.specs.Store.{pairsOf}
+use Rattle.nodes.specs.Edges.{edgeWord}
+use Rattle.nodes.specs.declared.Graph.{Graph}
+use Rattle.graph.specs.declared.Made.{Made}
+use Rattle.support.specs.Counting.{rank, passed}
+use Rattle.support.specs.Support.{support}
+use Rattle.simulation.specs.Store.{Net}
+use Rattle.simulation.specs.Found.{rootAt, NoHit, FirstHit}
+use Rattle.unroll.specs.Chosen.{unrolled}
 use Rattle.decision.specs.Reach.{decisionOf}
 
 -- a circuit in memory m that is ready to be evaluated, and 16 words of working memory for each unit of the size at bound t
@@ -31,6 +41,30 @@ FrameDecided c b t D work Hit = (x : ℕ) × (decisionOf c b t D ≡ Decision.hi
 FrameDecided c b t D work Clear = decisionOf c b t D ≡ Decision.clear
 FrameDecided c b t D work Spent = decisionOf c b t D ≡ Decision.spent
 
--- the frame has more than 16,384 sequences, and none of the first 16,384 hits
-abbrev pub Exhausted : Circuit → ℕ → ℕ → Type 0
-Exhausted c b t = decisionAt (question c b) t 16384 ≡ Decision.spent
+-- the frame has more sequences than were tried, which are 1,024 or more, and none of them hits
+pub record Exhausted (c : Circuit) (b t : ℕ) : Type 0 where
+  pub first : ℕ
+  pub some : 1024 ≤ first
+  pub spent : decisionAt (question c b) t first ≡ Decision.spent
+
+-- the graph of the hit stands in working memory, with the marks of its cone
+pub record Prepared (c : Circuit) (b t : ℕ) (work : List ℕ) (made : Made) : Type 0 where
+  pub net : Net (pairsOf work (made .graph)) (edgeWord (made .edge)) work (made .graph)
+  pub free : made .graph .free ≡ freeBits c t
+  pub room : made .graph .room ≡ size c t
+  -- the root is true exactly where the frame is hit
+  pub hit : (x : ℕ) → x < 2 ^ freeBits c t → rootAt (made .graph .free) (pairsOf work (made .graph)) (edgeWord (made .edge)) x ≡ reaches c b t x
+  pub chosen : unrolled c b t ≡ record { gates = pairsOf work (made .graph); edge = edgeWord (made .edge) }
+
+-- where the places of the support may be tried, and none of the first 1,024 sequences hits
+pub record Scannable (work : List ℕ) (g : Graph) (root D : ℕ) : Type 0 where
+  pub net : Net (pairsOf work g) root work g
+  pub known : 10 ≤ g .free
+  pub budget : D ≤ 4294967296
+  pub none : NoHit (g .free) (pairsOf work g) root (2 ^ 10)
+
+-- what a budget of D places of the support finds
+abbrev pub Scanned : ℕ → List Pair → ℕ → ℕ → List ℕ → Frame → Type 0
+Scanned n gs root D work Hit = (x : ℕ) × FirstHit n gs root D work x
+Scanned n gs root D work Clear = (2 ^ rank (support n gs root) n ≤ D) × NoHit n gs root (2 ^ n)
+Scanned n gs root D work Spent = (D < 2 ^ rank (support n gs root) n) × NoHit n gs root (passed (support n gs root) n D)

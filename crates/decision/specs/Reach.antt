@@ -1,18 +1,45 @@
 -- What is decided of a frame, as a function of circuit, b, t and D. Document 01 leaves it to the program whether it is spent or decides
--- beyond its budget. Here D places of the support are tried, and no fewer than 16,384: the support are the free bits that lead to the hit in
--- the graph that unrolling gives, and the other free bits are 0 in the first hit. Assumes nothing.
-use Prim.Native.Nat.{ℕ, max}
+-- beyond its budget. Here all places are passed where the conflict search comes to an end within its effort. Where it does not, D places of
+-- the support are tried, and no fewer than 16,384: the support are the free bits that lead to the hit in the graph that unrolling gives, and
+-- the other free bits are 0 in the first hit. Assumes nothing.
+use mathlib.Core.Path.{_≡_}
+use Prim.Native.Nat.{ℕ, _+_, _*_, _^_, min, max}
 use Rattle.aiger.specs.Circuit.{Circuit}
-use Rattle.aiger.specs.Frames.{freeBits}
+use Rattle.aiger.specs.Frames.{freeBits, size}
 use Rattle.aiger.specs.Search.{question, Decision}
 use Rattle.enumeration.specs.Choice.{decisionAt}
 use Rattle.support.specs.Counting.{passed}
 use Rattle.support.specs.Support.{support}
 use Rattle.unroll.specs.Chosen.{unrolled}
+use Rattle.conflicts.specs.declared.Verdict.{Verdict}
+use Rattle.conflicts.specs.declared.Verdict.the-variants.{Found, Clear, Out}
+use Rattle.solver.specs.Solved.{solved}
+
+-- the effort of the conflict search, in steps of its work, at a size and a budget of D: it does not fall with D
+unfoldable pub effort : ℕ → ℕ → ℕ
+effort units D = 16384 + 16 * units + 32 * min D 8388608
+
+-- what the conflict search says of frame t
+unfoldable pub searched : Circuit → ℕ → ℕ → ℕ → Verdict
+searched c b t D = solved (freeBits c t) (unrolled c b t .gates) (unrolled c b t .edge) (16 * size c t) (effort (size c t) D)
+
+-- it decides nothing: its effort is used up, or a guard stopped it
+abbrev pub Undecided : Circuit → ℕ → ℕ → ℕ → Type 0
+Undecided c b t D = searched c b t D ≡ Out
+
+-- all, where the search comes to an end, else a part
+abbrev pub decidedOr : Verdict → ℕ → ℕ → ℕ
+decidedOr Found all part = all
+decidedOr Clear all part = all
+decidedOr Out all part = part
+
+-- how many sequences of frame t are passed when D places of the support are tried, and no fewer than 16,384
+unfoldable pub tried : Circuit → ℕ → ℕ → ℕ → ℕ
+tried c b t D = passed (support (freeBits c t) (unrolled c b t .gates) (unrolled c b t .edge)) (freeBits c t) (max D 16384)
 
 -- how many sequences of frame t are passed, in counting order, where none of them hits
 unfoldable pub reach : Circuit → ℕ → ℕ → ℕ → ℕ
-reach c b t D = passed (support (freeBits c t) (unrolled c b t .gates) (unrolled c b t .edge)) (freeBits c t) (max D 16384)
+reach c b t D = decidedOr (searched c b t D) (2 ^ freeBits c t) (tried c b t D)
 
 unfoldable pub decisionOf : Circuit → ℕ → ℕ → ℕ → Decision
 decisionOf c b t D = decisionAt (question c b) t (reach c b t D)

@@ -1,31 +1,156 @@
-// What a frame has: the first sequences are tried on the circuit, and the others on the graph of the hit, over its support alone.
+// What a frame has: the first sequences are tried on the circuit. Then the graph of the hit is searched: over its support alone where that is
+// small, else by conflicts, and over its support again where those took all their effort.
+use conflicts::Verdict;
 use enumeration::Frame;
+use graph::Made;
 use layout::Layout;
+use nodes::Edge;
+use nodes::Graph;
 use simulation::Found;
 ghost use mathlib.Core.Path.{_≡_};
-ghost use Prim.Native.Nat.{_+_, _*_, _≤_, max};
+ghost use mathlib.Core.Bool.{cond};
+ghost use Prim.Native.Nat.{ℕ, _+_, _*_, _^_, _≤_, min, max};
+ghost use lib.Dec.{T};
+ghost use lib.ListN.{length};
+ghost use Rattle.aiger.specs.Bits.{nonzero};
+ghost use Rattle.aiger.specs.Frames.{size};
 ghost use Rattle.layout.specs.Words.{circuitIn};
-ghost use Rattle.decision.specs.Decided.{FrameFits, Exhausted, FrameDecided};
+ghost use Rattle.nodes.specs.Store.{field, pairsOf, Sized};
+ghost use Rattle.nodes.specs.Edges.{edgeWord};
+ghost use Rattle.cone.specs.Store.{Marks};
+ghost use Rattle.support.specs.Counting.{rank};
+ghost use Rattle.support.specs.Support.{support};
+ghost use Rattle.decision.specs.Reach as R;
+ghost use Rattle.decision.specs.Decided.{FrameFits, Exhausted, FrameDecided, Prepared, Scannable, Scanned};
 
-// So many sequences are tried on the circuit: 2 to the power 14.
-const FIRST: u64 = 16384;
+// So many places of the support are tried in any case: 2 to the power 14.
+const LEAST: u64 = 16384;
 
-// The larger of d and the number of sequences that are tried on the circuit.
+// So many sequences are tried on the circuit, where there are more than 2 to the power 14: 2 to the power 10.
+const FIRST: u64 = 1024;
+
+// So many of the budget add to the effort of the conflict search.
+const MOST: u64 = 8388608;
+
+// The larger of d and the number of places that are tried in any case.
 fn places(d: u64) -> u64
     ensures { λ r. ⌜ r ≡ max d 16384 ⌝ }
 {
-    if d < FIRST { FIRST } else { d }
+    if d < LEAST { LEAST } else { d }
 }
 
-// The size at bound t.
-fn units(layout: Layout, t: usize) -> usize
-    requires { ⌜ (layout .i ≤ 256) × (layout .a ≤ 3072) × (layout .c ≤ 16) × (layout .u ≤ 1024) × (t ≤ 255) ⌝ }
-    ensures { λ r. ⌜ r ≡ (t + 1) * (layout .i + layout .a + layout .c) + layout .u + 1 ⌝ }
+// How many sequences are tried on the circuit.
+fn first_places(layout: Layout, t: usize) -> u64
+    requires { ⌜ (layout .i ≤ 256) × (layout .u ≤ 1024) × (t ≤ 255) ⌝ }
+    ensures { λ r. ⌜ (1024 ≤ r) × (r ≤ 16384) ⌝ }
 {
-    (t + 1) * (layout.i + layout.a + layout.c) + layout.u + 1
+    if layout.u + layout.i * (t + 1) <= 14 {
+        LEAST
+    } else {
+        FIRST
+    }
 }
 
-// The first hit by the graph of the hit, where none of the sequences hits that are tried on the circuit.
+// What of the budget adds to the effort of the conflict search.
+fn share(d: u64) -> u64
+    ensures { λ r. ⌜ r ≡ min d 8388608 ⌝ }
+{
+    if d < MOST { d } else { MOST }
+}
+
+// The effort of the conflict search at a size and a budget.
+fn effort(size: usize, d: u64) -> u64
+    requires { ⌜ size ≤ 65536 ⌝ }
+    ensures { λ r. ⌜ r ≡ R.effort size d ⌝ }
+{
+    16384 + 16 * (size as u64) + 32 * share(d)
+}
+
+// 1 if node k is marked, else 0.
+fn mark_of(work: &[u32], k: usize) -> usize
+    requires { ⌜ 16 * k + 16 ≤ length (now work) ⌝ }
+    ensures { λ r. ⌜ r ≡ cond (nonzero (field (now (work .entry)) k 10)) 1 0 ⌝ }
+{
+    if work[16 * k + 10] == 0 { 0 } else { 1 }
+}
+
+// How many free bits are marked.
+fn support_size(work: &[u32], g: Graph) -> usize
+    requires { ⌜ Sized g (length (now work)) ⌝ }
+    ensures { λ r. ⌜ ((root : ℕ) → Marks (pairsOf (now (work .entry)) g) (now (work .entry)) g root → r ≡ rank (support (g .free) (pairsOf (now (work .entry)) g) root) (g .free)) ⌝ }
+{
+    let free = g.free;
+    let mut r = 0;
+    let mut i = 0;
+    while i < free {
+        r += mark_of(work, free - i);
+        i += 1;
+    }
+    r
+}
+
+// Whether all places of a support of s free bits are tried before any conflict search, on a graph of so many nodes.
+fn is_small(s: usize, nodes: usize, d: u64) -> bool
+    requires { ⌜ nodes ≤ 65536 ⌝ }
+    ensures { λ r. ⌜ (T r → 2 ^ s ≤ max d 16384) ⌝ }
+{
+    if 20 < s {
+        return false;
+    }
+    let all = 1u64 << s;
+    if 4294967296 < all * (nodes as u64) {
+        return false;
+    }
+    all <= places(d)
+}
+
+// The graph of the hit, with the marks of its cone.
+fn prepare(m: &[u32], layout: Layout, order: &[u32], b: usize, t: usize, work: &mut [u32]) -> Made
+    requires { ⌜ FrameFits (now work) (now m) layout (now order) b t 1 ⌝ }
+    ensures { λ r. ⌜ Prepared (circuitIn (now (m .entry))) b t (now (work .exit)) r ⌝ }
+{
+    let room = limits::size(layout, t);
+    let made = unroll::unroll(work, m, layout, order, b, t, layout.u, room);
+    let graph = made.graph;
+    let root = made.edge;
+    cone::mark(work, graph, root);
+    made
+}
+
+// What the places of the support have, where none of the sequences hits that are tried on the circuit.
+fn scan(work: &mut [u32], g: Graph, root: Edge, d: u64) -> Frame
+    requires { ⌜ Scannable (now work) g (edgeWord root) d ⌝ }
+    ensures { λ r. ⌜ Scanned (g .free) (pairsOf (now (work .entry)) g) (edgeWord root) (max d 16384) (now (work .exit)) r ⌝ }
+{
+    match simulation::first_hit(work, g, root, 10, places(d)) {
+        Found::Hit => Frame::Hit,
+        Found::Clear => Frame::Clear,
+        Found::Spent => Frame::Spent,
+    }
+}
+
+// What frame t has by the places of the support, where neither the sequences that are tried on the circuit nor the conflict search decide.
+fn search_support(
+    m: &[u32],
+    layout: Layout,
+    order: &[u32],
+    b: usize,
+    t: usize,
+    d: u64,
+    work: &mut [u32],
+) -> Frame
+    requires { ⌜ FrameFits (now work) (now m) layout (now order) b t d ⌝ }
+    requires { ⌜ Exhausted (circuitIn (now m)) b t ⌝ }
+    requires { ⌜ R.Undecided (circuitIn (now m)) b t d ⌝ }
+    ensures { λ r. ⌜ FrameDecided (circuitIn (now (m .entry))) b t d (now (work .exit)) r ⌝ }
+{
+    let made = prepare(m, layout, order, b, t, work);
+    let graph = made.graph;
+    let root = made.edge;
+    scan(work, graph, root, d)
+}
+
+// What frame t has, where none of the sequences hits that are tried on the circuit, in exactly the words of the frame.
 fn search_graph(
     m: &[u32],
     layout: Layout,
@@ -37,17 +162,21 @@ fn search_graph(
 ) -> Frame
     requires { ⌜ FrameFits (now work) (now m) layout (now order) b t d ⌝ }
     requires { ⌜ Exhausted (circuitIn (now m)) b t ⌝ }
+    requires { ⌜ length (now work) ≡ 16 * size (circuitIn (now m)) t ⌝ }
     ensures { λ r. ⌜ FrameDecided (circuitIn (now (m .entry))) b t d (now (work .exit)) r ⌝ }
 {
-    let room = units(layout, t);
-    let made = unroll::unroll(work, m, layout, order, b, t, layout.u, room);
+    let made = prepare(m, layout, order, b, t, work);
     let graph = made.graph;
     let root = made.edge;
-    cone::mark(work, graph, root);
-    match simulation::first_hit(work, graph, root, 14, places(d)) {
-        Found::Hit => Frame::Hit,
-        Found::Clear => Frame::Clear,
-        Found::Spent => Frame::Spent,
+    let s = support_size(work, graph);
+    if is_small(s, graph.nodes, d) {
+        return scan(work, graph, root, d);
+    }
+    let e = effort(graph.room, d);
+    match solver::first_hit(work, graph, root, e) {
+        Verdict::Found => Frame::Hit,
+        Verdict::Clear => Frame::Clear,
+        Verdict::Out => search_support(m, layout, order, b, t, d, work),
     }
 }
 
@@ -64,9 +193,13 @@ pub fn decide(
     requires { ⌜ FrameFits (now work) (now m) layout (now order) b t d ⌝ }
     ensures { λ r. ⌜ FrameDecided (circuitIn (now (m .entry))) b t d (now (work .exit)) r ⌝ }
 {
-    match enumeration::first_hit(m, layout, order, b, t, FIRST, work) {
+    let first = first_places(layout, t);
+    match enumeration::first_hit(m, layout, order, b, t, first, work) {
         Frame::Hit => Frame::Hit,
         Frame::Clear => Frame::Clear,
-        Frame::Spent => search_graph(m, layout, order, b, t, d, work),
+        Frame::Spent => {
+            let words = 16 * limits::size(layout, t);
+            search_graph(m, layout, order, b, t, d, &mut work[..words])
+        }
     }
 }

@@ -11,7 +11,8 @@ use lib.Dec.{ltb}
 use lib.ListN.{length, getD, drop, drop-of-length-le}
 use lib.Seq.{drop-cons}
 use Rattle.aiger.specs.Text.{_>>=_}
-use Rattle.differences.specs.Groups.{groups, difference, DifferenceAt}
+use Rattle.aiger.specs.Binary.{groups, difference}
+use Rattle.differences.specs.Groups.{DifferenceAt}
 use Rattle.differences.specs.declared.Difference.the-variants.{Read, Malformed}
 
 -- t and s times a number

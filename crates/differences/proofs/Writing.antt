@@ -11,7 +11,7 @@ use borrow.Author.Tests.{lt-ltb, le-ltb}
 use lib.ListN.{length, getD, take, drop, set, length-append}
 use lib.Seq.{set-at, drop-cons, length-take-le, append-snoc}
 use Rattle.aiger.specs.Text.{_>>=_}
-use Rattle.differences.specs.Groups.{groups, difference, grouped, differenceText}
+use Rattle.aiger.specs.Binary.{groups, difference, grouped, differenceText}
 
 -- ---- one group
 

@@ -2,7 +2,8 @@
 ghost use mathlib.Core.Path.{_≡_};
 ghost use Prim.Native.Nat.{_+_, _≤_};
 ghost use lib.ListN.{length};
-ghost use Rattle.differences.specs.Groups.{DifferenceAt, differenceText, Placed-in};
+ghost use Rattle.aiger.specs.Binary.{differenceText};
+ghost use Rattle.differences.specs.Groups.{DifferenceAt, Placed-in};
 
 // What stands at a position of a text: the number and the position past it; or none, or one that is too large.
 pub enum Difference {

@@ -1,39 +1,30 @@
 -- A block of 64 sequences, frame by frame: the words of the variables are the values of 64 runs. Assumes nothing.
 use mathlib.Core.Path.{_≡_, sym, ap, ap₂, _∙_, subst}
-use mathlib.Core.Bool.{Bool, false}
+use mathlib.Core.Bool.{Bool, false, _&&_}
 use mathlib.Core.List.{List, []}
 use Prim.Native.Nat.{ℕ, suc, _+_, _-_, _*_, _≤_, _<_}
-use native.Mathlib.Nat.{mul-suc, mul-le-mul-left, mul-le-mul-right}
+use native.Mathlib.Nat.{mul-suc, mul-le-mul-left}
 use native.Mathlib.Numerals.{add-one}
 use native.Mathlib.Omega.{arith}
 use lib.Dec.{T}
+use lib.Bits.{bitAnd}
 use lib.ListN.{length, getD}
 use Rattle.aiger.specs.Bits.{bit}
 use Rattle.aiger.specs.Circuit.{Circuit, var, literalsRight, usedDefined, acyclic}
-use Rattle.aiger.specs.Frames.{freeStarts, freeBits, freeBit, run, state}
+use Rattle.aiger.specs.Frames.{freeStarts, freeBits, freeBit, run, state, allowed}
 use Rattle.aiger.specs.Search.{reaches, reachesIn}
 use Rattle.layout.specs.Words.{word}
 use Rattle.layout.specs.declared.Layout.{Layout}
-use Rattle.words.proofs.Bits.{bit-none}
+use Rattle.words.proofs.Bits.{bit-none, bit-all, bit-and}
 use Rattle.meaning.proofs.Defined.{inputAt, latchAt, input-in, latch-in, definition, input-latch}
 use Rattle.meaning.proofs.Values.{Valuation, state-start}
 use Rattle.meaning.proofs.Sequences.{run-input}
-use Rattle.frames.specs.Lanes.{lane, Ready, Evaluated, Advanced, hitIn}
-use Rattle.frames.proofs.Laws.{hit-of-run, next-leaves}
-use Rattle.enumeration.specs.Blocks.{startBit, Given}
-use Rattle.enumeration.proofs.Starts.{start-of-run}
-
--- a circuit that is ready is so with another number of words, if they suffice
-pub ready-with : {m : List ℕ} {layout : Layout} {order : List ℕ} {count n : ℕ} → Ready m layout order count → word m 0 < n → Ready m layout order n
-ready-with r h = record { held = r .held; layout-of = r .layout-of; ordered = r .ordered; ranks = r .ranks; room = h }
-
--- the inputs have the free bits from top - 1 down; the latches have their start values
-abbrev pub InputsGiven : Circuit → ℕ → ℕ → List ℕ → List ℕ → Type 0
-InputsGiven c top block before after = Given (λ i. var (inputAt c i)) (λ i p. freeBit top (block * 64 + p) i) (length (c .inputs)) before after
-
-abbrev pub StartsGiven : Circuit → ℕ → ℕ → List ℕ → List ℕ → Type 0
-StartsGiven c n block before after =
-    Given (λ j. var (latchAt c j .lit)) (λ j p. startBit c n (block * 64 + p) j) (length (c .latches)) before after
+use Rattle.meaning.proofs.Allowed.{barred}
+use Rattle.frames.specs.Lanes.{lane, Ready, Evaluated, Advanced, badIn}
+use Rattle.frames.proofs.Laws.{hit-of-run, next-leaves, allowed-start, allowed-more}
+use Rattle.frames.specs.Starts.{startBit}
+use Rattle.enumeration.specs.Blocks.{Given, InputsGiven, StartsGiven, Constrained}
+use Rattle.frames.proofs.Starts.{start-of-run, latches-room}
 
 -- the words are the values of frame u in the runs of the block's sequences
 abbrev pub Valued : Circuit → ℕ → ℕ → ℕ → List ℕ → Type 0
@@ -41,24 +32,13 @@ Valued c t block u values =
     (p : ℕ) → p < 64
     → Valuation c (getD (run c t (block * 64 + p) .rows) u []) (state c (run c t (block * 64 + p)) u) (lane values p)
 
+-- `left` are the runs that are allowed at frame u
+abbrev pub Left : Circuit → ℕ → ℕ → ℕ → ℕ → Type 0
+Left c t block u left = (p : ℕ) → p < 64 → bit left p ≡ allowed c (run c t (block * 64 + p)) u
+
 -- top free bits remain before the inputs of frame u are given theirs
 abbrev pub Remaining : Circuit → ℕ → ℕ → ℕ → Type 0
 Remaining c t u top = freeStarts c + length (c .inputs) * u + top ≡ freeBits c t
-
--- the number of free bits, and that it is small
-pub bits-are : (c : Circuit) (t : ℕ) {free i : ℕ} → free ≡ freeStarts c → i ≡ length (c .inputs) → free + i * (t + 1) ≡ freeBits c t
-unfolding freeBits
-bits-are c t e f = ap₂ (λ (x y : ℕ). x + y * (t + 1)) e f
-
-pub bits-few : (i t : ℕ) → i ≤ 256 → t ≤ 255 → i * (t + 1) ≤ 65536
-bits-few i t h l =
-    let a : i * (t + 1) ≤ 256 * (t + 1) = mul-le-mul-right (t + 1) h in
-    omega arith
-
--- the latches' free bits are among the free bits; the inputs' remain after them
-pub latches-room : (c : Circuit) (t : ℕ) → freeStarts c ≤ freeBits c t
-unfolding freeBits
-latches-room c t = omega arith
 
 pub row-first : (c : Circuit) (t n free : ℕ) → n ≡ freeBits c t → free ≡ freeStarts c → Remaining c t 0 (n - free)
 row-first c t n free e f = omega (arith, latches-room c t)
@@ -126,8 +106,28 @@ module _ (c : Circuit) (right : T (literalsRight c)) where
         v .values p hp (getD (r .rows) (suc u) []) (state c r (suc u))
         (next-leaves right known a r u d p hp (w p hp) (kept-constant top block g p) (kept-latch top block g p) (given-row top block g p t (suc u) (omega arith) q hp)))
 
+    -- the runs that are allowed at frame 0, and at the frame after u
+    pub left-start : (t block left : ℕ) (values : List ℕ) → Valued c t block 0 values → Constrained c 18446744073709551615 values left → Left c t block 0 left
+    left-start t block left values w h p hp =
+        allowed-start right known a (run c t (block * 64 + p)) (h p hp) (bit-all 64 p hp) (w p hp)
+
+    pub left-next : (t block u from left : ℕ) (values : List ℕ) → Valued c t block (u + 1) values → Left c t block u from → Constrained c from values left
+        → Left c t block (u + 1) left
+    left-next t block u from left values w l h p hp =
+        let r = run c t (block * 64 + p) in
+        subst (λ (n : ℕ). bit left p ≡ allowed c r n) (sym (add-one u))
+        (allowed-more right known a r u (h p hp) (l p hp)
+        (subst (λ (n : ℕ). Valuation c (getD (r .rows) n []) (state c r n) (lane values p)) (add-one u) (w p hp)))
+
     -- the hits of frame t
-    pub valued-hits : (t block b : ℕ) (values : List ℕ) (hits : ℕ) → Valued c t block t values
-        → ((p : ℕ) → p < 64 → bit hits p ≡ hitIn c b (lane values p)) → (p : ℕ) → p < 64 → bit hits p ≡ reaches c b t (block * 64 + p)
+    pub valued-hits : (t block b left : ℕ) (values : List ℕ) (bad : ℕ) → Valued c t block t values → Left c t block t left
+        → ((p : ℕ) → p < 64 → bit bad p ≡ badIn c b (lane values p)) → (p : ℕ) → p < 64 → bit (bitAnd left bad) p ≡ reaches c b t (block * 64 + p)
     unfolding reaches reachesIn run
-    valued-hits t block b values hits w h p hp = h p hp ∙ hit-of-run right known a (run c t (block * 64 + p)) t (w p hp) b
+    valued-hits t block b left values bad w l h p hp =
+        bit-and left bad p ∙ ap₂ (λ (x y : Bool). x && y) (l p hp) (h p hp) ∙ hit-of-run right known a (run c t (block * 64 + p)) t (w p hp) b
+
+-- where no run is allowed at a frame, none hits at it or later
+pub none-left : (c : Circuit) (t block u b : ℕ) → u ≤ t → Left c t block u 0 → (p : ℕ) → p < 64 → bit 0 p ≡ reaches c b t (block * 64 + p)
+unfolding reaches reachesIn run
+none-left c t block u b k l p hp =
+    bit-none p ∙ sym (barred c (run c t (block * 64 + p)) b t u k (sym (l p hp) ∙ bit-none p))

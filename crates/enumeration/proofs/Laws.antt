@@ -8,14 +8,13 @@ use borrow.Author.Tests.{leb-true, leb-false}
 use lib.Dec.{T, leb, leb→le, le→leb}
 use Rattle.aiger.specs.Search.{Decision, onward, decides}
 use Rattle.aiger.proofs.Tests.{and, and-left, and-right}
-use Rattle.meaning.proofs.Decisions.{NoneFrom, FirstHit, Exceeded, Says, decides-in}
+use Rattle.meaning.proofs.Decisions.{Least, least-below, NoneFrom, FirstHit, Exceeded, Says, decides-in}
 use Rattle.enumeration.specs.Choice.{leastBelow, decided, decision}
-use Rattle.enumeration.proofs.Least.{Least, least}
 
 module _ (p : ℕ → Bool) (places lo D : ℕ) where
   says : Says p places lo D (decision p places lo D)
   unfolding decision
-  says = go (leastBelow total (onward lo p)) (least (onward lo p) total) (leb places (lo + D)) refl
+  says = go (leastBelow total (onward lo p)) (least-below (onward lo p) total) (leb places (lo + D)) refl
     where
       total : ℕ
       total = min places (lo + D)

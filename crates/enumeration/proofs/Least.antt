@@ -15,24 +15,9 @@ use Rattle.aiger.specs.Frames.{freeBits}
 use Rattle.aiger.specs.Search.{Decision, question, onward, reaches}
 use Rattle.aiger.proofs.Tests.{T-true, and, and-right}
 use Rattle.words.proofs.Bits.{bit-none}
+pub use Rattle.meaning.proofs.Decisions.{Least, least-below}
 use Rattle.enumeration.specs.Choice.{leastBelow, decided, decision, decisionAt}
 use Rattle.enumeration.specs.Blocks.{First}
-
--- o is the least number below n that passes, if there is one
-abbrev pub Least : (ℕ → Bool) → ℕ → Option ℕ → Type 0
-Least p n (some x) = (x < n) × T (p x) × ((y : ℕ) → y < x → T (p y) → ⊥)
-Least p n none = (y : ℕ) → y < n → T (p y) → ⊥
-
-pub least : (p : ℕ → Bool) (n : ℕ) → Least p n (leastBelow n p)
-unfolding leastBelow
-least p zero = λ y l t. not-suc-le-zero l
-least p (suc n) = go (leastBelow n p) (least p n) (p n) refl
-  where
-    go : (o : Option ℕ) → Least p n o → (b : Bool) → p n ≡ b → Least p (suc n) (elim o [ some x ↦ some x | none ↦ cond b (some n) none ])
-    go (some x) h b e = (omega arith, h .1, h .2)
-    go none h true e = (omega arith, T-true e, h)
-    go none h false e =
-        λ y l t. ⊎-elim (λ q. subst T (ap p q ∙ e) t) (λ k. h y k t) (eq-or-lt-of-le (le-of-suc-le-suc l))
 
 module _ {p : ℕ → Bool} {n r : ℕ} (f : First p n r) where
   -- what First finds is the least
@@ -87,14 +72,14 @@ module _ (p : ℕ → Bool) (places lo D : ℕ) {r : ℕ} (f : First (onward lo 
   unfolding decision
   first-hit l =
       ap (λ (o : Option ℕ). decided o (cond (leb places (lo + D)) Decision.clear Decision.spent))
-      (first-some f (leastBelow total (onward lo p)) (least (onward lo p) total) l)
+      (first-some f (leastBelow total (onward lo p)) (least-below (onward lo p) total) l)
 
   -- where none is, the frame is clear if the budget covers it, and else the budget is spent
   no-hit : r ≡ total → (q : Bool) → leb places (lo + D) ≡ q → decision p places lo D ≡ cond q Decision.clear Decision.spent
   unfolding decision
   no-hit l q e =
       ap (λ (o : Option ℕ). decided o (cond (leb places (lo + D)) Decision.clear Decision.spent))
-      (first-none f (leastBelow total (onward lo p)) (least (onward lo p) total) l)
+      (first-none f (leastBelow total (onward lo p)) (least-below (onward lo p) total) l)
       ∙ ap (λ (x : Bool). cond x Decision.clear Decision.spent) e
 
 -- from the first place on

@@ -1,5 +1,3 @@
-pub mod Facts
-pub mod Starts
 pub mod Stores
 pub mod Blocks
 pub mod Least

@@ -3,14 +3,10 @@
 -- `hit-first`, `clear-none` and `spent-first`. Assumes nothing.
 use mathlib.Core.Bool.{Bool, cond}
 use mathlib.Core.Option.{Option, none, some}
-use Prim.Native.Nat.{ℕ, zero, suc, _+_, min}
+use Prim.Native.Nat.{ℕ, _+_, min}
 use lib.Dec.{leb}
+pub use Rattle.aiger.specs.Search.{leastBelow}
 use Rattle.aiger.specs.Search.{Question, Decision, onward}
-
--- the least number below n that passes
-unfoldable pub leastBelow : ℕ → (ℕ → Bool) → Option ℕ
-leastBelow zero p = none
-leastBelow (suc n) p = elim (leastBelow n p) [ some x ↦ some x | none ↦ cond (p n) (some n) none ]
 
 abbrev pub decided : Option ℕ → Decision → Decision
 decided (some x) d = Decision.hit x

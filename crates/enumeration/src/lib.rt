@@ -14,7 +14,8 @@ ghost use Rattle.layout.specs.Words.{word, circuitIn};
 ghost use Rattle.layout.specs.Layout.{LayoutOf};
 ghost use Rattle.meaning.specs.Frame.{inputAt, latchAt};
 ghost use Rattle.frames.specs.Lanes.{Ready};
-ghost use Rattle.enumeration.specs.Blocks.{startBit, Given, First};
+ghost use Rattle.frames.specs.Starts.{startBit};
+ghost use Rattle.enumeration.specs.Blocks.{Given, FirstFrame, NextFrame, First};
 ghost use Rattle.enumeration.specs.Frame.{FreeBits, FrameIs};
 
 // What a frame has: a first hit; no hit; or more sequences than the budget, of which the first ones do not hit.
@@ -22,30 +23,6 @@ pub enum Frame {
     Hit,
     Clear,
     Spent,
-}
-
-// 1 for a latch with a free start, else 0.
-pub fn free_start(lit: u32, reset: u32) -> usize
-    ensures { λ r. ⌜ r ≡ cond (eqb reset lit) 1 0 ⌝ }
-{
-    if reset == lit { 1 } else { 0 }
-}
-
-// The number of latches with a free start.
-pub fn free_starts(m: &[u32], layout: Layout) -> usize
-    requires { ⌜ Holds (now m) (circuitIn (now m)) ⌝ }
-    requires { ⌜ LayoutOf (now m) layout ⌝ }
-    ensures { λ r. ⌜ r ≡ freeStarts (circuitIn (now (m .entry))) ⌝ }
-{
-    let count = layout.l;
-    let latches = layout.latches;
-    let mut free = 0;
-    let mut j = 0;
-    while j < count {
-        free += free_start(m[latches + 3 * j], m[latches + 3 * j + 2]);
-        j += 1;
-    }
-    free
 }
 
 // The start values of a latch in a block of 64 sequences. Where its start is free it has bit k of each sequence.
@@ -72,7 +49,7 @@ fn put_starts(m: &[u32], layout: Layout, n: usize, block: u64, values: &mut [u64
     while j < count {
         let lit = m[latches + 3 * j];
         let reset = m[latches + 3 * j + 2];
-        left -= free_start(lit, reset);
+        left -= layout::free_start(lit, reset);
         let v = (lit / 2) as usize;
         values[v] = start_word(lit, reset, left, block);
         j += 1;
@@ -95,7 +72,51 @@ pub fn put_inputs(m: &[u32], layout: Layout, top: usize, block: u64, values: &mu
     }
 }
 
-// Which of the 64 sequences of a block hit b at frame t. n is the number of free bits, free that of the latches.
+// The values of frame 0 in a block of 64 sequences, and in which of them its constraints hold. n is the number of free bits, top that of
+// the inputs.
+fn first_frame(
+    m: &[u32],
+    layout: Layout,
+    order: &[u32],
+    n: usize,
+    top: usize,
+    block: u64,
+    values: &mut [u64],
+) -> u64
+    requires { ⌜ Ready (now m) layout (now order) (length (now values)) ⌝ }
+    requires { ⌜ (freeStarts (circuitIn (now m)) ≤ n) × (layout .i ≤ top) ⌝ }
+    ensures { λ r. ⌜ FirstFrame (circuitIn (now (m .entry))) n top block (now (values .exit)) r ⌝ }
+{
+    values[0] = 0;
+    put_starts(m, layout, n, block, values);
+    put_inputs(m, layout, top, block, values);
+    frames::eval_gates(m, layout, order, values);
+    frames::constrain(m, layout, order, 0xffff_ffff_ffff_ffff, values)
+}
+
+// The values of the next frame, and in which of the sequences `from` its constraints hold. top free bits are left for the inputs.
+fn next_frame(
+    m: &[u32],
+    layout: Layout,
+    order: &[u32],
+    top: usize,
+    block: u64,
+    from: u64,
+    values: &mut [u64],
+    state: &mut [u64],
+) -> u64
+    requires { ⌜ Ready (now m) layout (now order) (length (now values)) ⌝ }
+    requires { ⌜ (layout .i ≤ top) × (1024 ≤ length (now state)) ⌝ }
+    ensures { λ r. ⌜ NextFrame (circuitIn (now (m .entry))) top block from (now (values .entry)) (now (values .exit)) r ⌝ }
+{
+    frames::advance(m, layout, order, values, state);
+    put_inputs(m, layout, top, block, values);
+    frames::eval_gates(m, layout, order, values);
+    frames::constrain(m, layout, order, from, values)
+}
+
+// Which of the 64 sequences of a block hit b at frame t. n is the number of free bits, free that of the latches. The frames after one by
+// which every sequence of the block has broken a constraint are not evaluated.
 fn block_hits(
     m: &[u32],
     layout: Layout,
@@ -115,19 +136,17 @@ fn block_hits(
 {
     let inputs = layout.i;
     let mut top = n - free;
-    values[0] = 0;
-    put_starts(m, layout, n, block, values);
-    put_inputs(m, layout, top, block, values);
-    frames::eval_gates(m, layout, order, values);
+    let mut left = first_frame(m, layout, order, n, top, block, values);
     let mut u = 0;
     while u < t {
-        frames::advance(m, layout, order, values, state);
+        if left == 0 {
+            return 0;
+        }
         top -= inputs;
-        put_inputs(m, layout, top, block, values);
-        frames::eval_gates(m, layout, order, values);
+        left = next_frame(m, layout, order, top, block, left, values, state);
         u += 1;
     }
-    frames::hit_word(m, layout, order, b, values)
+    left & frames::bad_word(m, layout, order, b, values)
 }
 
 // The smaller of 2 to the power n and d.
@@ -257,7 +276,7 @@ pub fn first_hit(
     requires { ⌜ freeBits (circuitIn (now m)) t ≤ length (now work) ⌝ }
     ensures { λ r. ⌜ FrameIs (circuitIn (now (m .entry))) b t d (now (work .exit)) r ⌝ }
 {
-    let free = free_starts(m, layout);
+    let free = layout.u;
     let n = free + layout.i * (t + 1);
     let total = tries(n, d);
     let x = first_below(m, layout, order, b, t, n, free, total);

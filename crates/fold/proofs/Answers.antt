@@ -1,35 +1,38 @@
 -- From the test of the memory and the tests 10 to 13 to the answer of fold. Assumes nothing.
 use mathlib.Core.Path.{_≡_, _∙_}
-use mathlib.Core.List.{List}
-use Prim.Native.Nat.{ℕ, _≤_}
+use mathlib.Core.Bool.{true}
+use mathlib.Core.List.{List, [], _∷_}
+use Prim.Native.Nat.{ℕ, _+_, _*_, _≤_}
 use native.Mathlib.Omega.{arith}
+use lib.Dec.{leb}
 use lib.ListN.{length}
 use Rattle.aiger.specs.Load.{refused, gives}
-use Rattle.aiger.specs.Frames.{freeStarts}
+use Rattle.aiger.specs.Frames.{freeStarts, size}
 use Rattle.aiger.specs.Memory.{Holds}
-use Rattle.aiger.specs.Operations.{Folded, foldTests}
+use Rattle.aiger.specs.Operations.{need, judge, Operated, Folded, foldTests}
 use Rattle.layout.specs.Words.{circuitIn}
 use Rattle.layout.specs.Layout.{LayoutOf}
 use Rattle.layout.specs.Order.{Ordered}
 use Rattle.layout.specs.declared.Layout.{Layout}
 use Rattle.frames.proofs.Facts.{counts, top-is, bad-count}
-use Rattle.search.specs.Steps.{told}
-use Rattle.search.proofs.Refusals.{told-refused, told-passed}
+use Rattle.limits.specs.Limits.{told}
+use Rattle.limits.proofs.Refusals.{told-refused, told-passed, passed, length-enough}
 use Rattle.fold.specs.Chosen.{chosen}
 use Rattle.fold.specs.Answer.{FoldFits, FoldShown}
-use Rattle.fold.proofs.Refusals.{passed}
 
 module _ {m : List ℕ} (held : Holds m (circuitIn m)) {b t : ℕ} {work out : List ℕ} where
   -- a number other than 0 is the answer
-  pub refused-with : (n : ℕ) → foldTests (circuitIn m) b t (length work) (length out) ≡ told n → (n ≡ 0 → ⊥)
+  pub refused-with : (n : ℕ) → judge (foldTests (circuitIn m) b t (length work) (length out)) ≡ told n → (n ≡ 0 → ⊥)
       → Folded chosen m b t work out (refused n) work out
-  refused-with n e h = Folded.refuses (circuitIn m) held (e ∙ told-refused n h)
+  refused-with n e h = Operated.refuses (circuitIn m) held (e ∙ told-refused n h)
 
   -- where all tests pass, the frame can be folded
   pub fits : {p : Layout} {order : List ℕ} {starts : ℕ} → LayoutOf m p → Ordered (circuitIn m) order → 3072 ≤ length order → starts ≡ freeStarts (circuitIn m) → {n : ℕ}
-      → foldTests (circuitIn m) b t (length work) (length out) ≡ told n → n ≡ 0 → FoldFits m p order b t starts work out
+      → judge (foldTests (circuitIn m) b t (length work) (length out)) ≡ told n → n ≡ 0 → FoldFits m p order b t starts work out
   fits a o l s {n} e z =
-      let q = passed (circuitIn m) b t (length work) (length out) (e ∙ told-passed n z) in
+      let N = 24 * size (circuitIn m) t + 64 in
+      let both = passed (circuitIn m) b t true (length work) (need 13 (leb N (length out)) ∷ []) (e ∙ told-passed n z) in
+      let q = both .0 in
       record {
         ready = record { held = held; layout-of = a; ordered = o; ranks = l; room = omega (arith, counts held .maxVar, top-is m) };
         bad = omega (arith, q .bad, bad-count m);
@@ -37,11 +40,12 @@ module _ {m : List ℕ} (held : Holds m (circuitIn m)) {b t : ℕ} {work out : L
         starts-are = s;
         small = q .small;
         words = q .words;
-        output = q .output;
+        output = length-enough N (length out) (both .1);
       }
 
   -- the text that is written is the answer
-  pub written-with : {n : ℕ} → foldTests (circuitIn m) b t (length work) (length out) ≡ told n → n ≡ 0 → {r : ℕ} {work′ out′ : List ℕ}
+  pub written-with : {n : ℕ} → judge (foldTests (circuitIn m) b t (length work) (length out)) ≡ told n → n ≡ 0 → {r : ℕ} {work′ out′ : List ℕ}
       → FoldShown (circuitIn m) b t out r out′ → Folded chosen m b t work out (gives r) work′ out′
   written-with {n} e z {r} {work′} {out′} f =
-      rw (f .shown .count, f .shown .contents) (Folded.writes (circuitIn m) held (e ∙ told-passed n z) (f .permitted) (f .short))
+      Operated.acts (circuitIn m) held (e ∙ told-passed n z)
+      (record { permitted = f .permitted; short = f .short; count = f .shown .count; shows = f .shown .contents })

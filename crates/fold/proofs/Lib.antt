@@ -1,6 +1,5 @@
 pub mod Parts
 pub mod Lines
-pub mod Refusals
 pub mod Folding
 pub mod Answers
 pub mod Examples

@@ -34,4 +34,7 @@ texts =
     ∷ record { file = "aag 6 3 0 0 3 1\n2\n4\n6\n12\n8 2 4\n10 8 2\n12 10 6\n"; b = 0; t = 0; text = "aag 5 3 0 1 2 0 0\n2\n4\n6\n10\n8 4 2\n10 8 6\n" }
     ∷ record { file = "aag 4 2 0 0 2 1\n2\n4\n8\n6 2 4\n8 5 6\n"; b = 0; t = 0; text = "aag 2 2 0 1 0 0 0\n2\n4\n0\n" }
     ∷ record { file = "aag 4 2 0 0 2 1\n2\n4\n8\n6 2 4\n8 7 5\n"; b = 0; t = 0; text = "aag 2 2 0 1 0 0 0\n2\n4\n5\n" }
+    -- the constraints of both frames: they forbid the input that the hit needs, or ask for it
+    ∷ record { file = "aag 3 1 1 0 0 1 1\n2\n4 2\n4\n3\n"; b = 0; t = 1; text = "aag 2 2 0 1 0 0 0\n2\n4\n0\n" }
+    ∷ record { file = "aag 3 1 1 0 0 1 1\n2\n4 2\n4\n2\n"; b = 0; t = 1; text = "aag 3 2 0 1 1 0 0\n2\n4\n6\n6 4 2\n" }
     ∷ []

@@ -10,10 +10,9 @@ ghost use Prim.Native.Nat.{_+_, _-_, _*_, _≤_, _<_};
 ghost use lib.ListN.{length};
 ghost use Rattle.aiger.specs.Write.{write};
 ghost use Rattle.aiger.specs.Circuit.{Circuit, var};
-ghost use Rattle.aiger.specs.Frames.{freeStarts};
-ghost use Rattle.aiger.specs.Operations.{foldTests, Folded};
+ghost use Rattle.aiger.specs.Operations.{judge, foldTests, Folded};
 ghost use Rattle.layout.specs.Words.{circuitIn};
-ghost use Rattle.search.specs.Steps.{Limited, CountsOf, told};
+ghost use Rattle.limits.specs.Limits.{Limited, CountsOf, told};
 ghost use Rattle.nodes.specs.Edges.{edgeWord};
 ghost use Rattle.write.specs.Output.{Room, Placed};
 ghost use Rattle.fold.specs.Text.{literalOf, literalWord, gateText, gatesText, inputsText, headText, NodeFits, GateFits, GatesFit, foldedIn, Writable, Shown};
@@ -119,25 +118,16 @@ fn write_folded(work: &[u32], g: Graph, root: Edge, kept: usize, out: &mut [u8])
     write_gates(work, g, out, gates)
 }
 
-// The number of the first of the tests 10 to 13 that fails, or 0. starts is the number of latches with a free start, room the words of
-// working memory and len the bytes of output.
-fn refusal(layout: Layout, starts: usize, b: u64, t: u64, room: usize, len: usize) -> u32
-    requires { ⌜ Limited layout × (starts ≤ 1024) ⌝ }
-    ensures { λ r. ⌜ ((c : Circuit) → CountsOf c layout → starts ≡ freeStarts c → foldTests c b t room len ≡ told r) ⌝ }
+// The number of the first of the tests 10 to 13 that fails, or 0. room is the words of working memory and len the bytes of output.
+pub fn refusal(layout: Layout, b: u64, t: u64, room: usize, len: usize) -> u32
+    requires { ⌜ Limited layout ⌝ }
+    ensures { λ r. ⌜ ((c : Circuit) → CountsOf c layout → judge (foldTests c b t room len) ≡ told r) ⌝ }
 {
-    if layout.b as u64 <= b {
-        return 10;
+    let number = limits::refusal(layout, b, t, true, room);
+    if number != 0 {
+        return number;
     }
-    if 255 < t {
-        return 11;
-    }
-    let units = search::size(layout, starts, t as usize);
-    if 65536 < units {
-        return 12;
-    }
-    if room < 16 * units {
-        return 12;
-    }
+    let units = limits::size(layout, t as usize);
     if len < 24 * units + 64 {
         return 13;
     }
@@ -158,7 +148,7 @@ fn fold_frame(
     requires { ⌜ FoldFits (now m) layout (now order) b t starts (now work) (now out) ⌝ }
     ensures { λ r. ⌜ FoldShown (circuitIn (now (m .entry))) b t (now (out .entry)) r (now (out .exit)) ⌝ }
 {
-    let room = search::size(layout, starts, t);
+    let room = limits::size(layout, t);
     let made = unroll::unroll(work, m, layout, order, b, t, starts, room);
     let graph = made.graph;
     let root = made.edge;
@@ -175,11 +165,19 @@ pub fn fold(m: &[u32], b: u64, t: u64, work: &mut [u32], out: &mut [u8]) -> Fold
     let Held::Circuit(layout) = circuit::held_in(m, &mut order) else {
         return FoldAnswer::Refused(9);
     };
-    let starts = enumeration::free_starts(m, layout);
-    let number = refusal(layout, starts, b, t, work.len(), out.len());
+    let number = refusal(layout, b, t, work.len(), out.len());
     if number != 0 {
         return FoldAnswer::Refused(number);
     }
-    let length = fold_frame(m, layout, &order, b as usize, t as usize, starts, work, out);
+    let length = fold_frame(
+        m,
+        layout,
+        &order,
+        b as usize,
+        t as usize,
+        layout.u,
+        work,
+        out,
+    );
     FoldAnswer::Length(length)
 }

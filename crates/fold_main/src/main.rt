@@ -7,7 +7,7 @@ ghost use lib.ListN.{length};
 fn say_help() {
     say(b"fold FILE b t\n\n");
     say(
-        b"Loads the ASCII AIGER 1.9 file FILE and prints the hit of bad line b at frame t as an AIGER file with no latch:\n",
+        b"Loads the AIGER 1.9 file FILE and prints the hit of bad line b at frame t as an AIGER file with no latch:\n",
     );
     say(
         b"its inputs are the free start values and the inputs of frames 0 to t, its output is the hit.\n\n",

@@ -175,3 +175,7 @@ module _ {m : List ℕ} {layout : Layout} {order : List ℕ} {count : ℕ} (r : 
   pub constraint-below : (i : ℕ) → i < layout .c → var (word m (layout .constraints + i)) < count
   constraint-below i l =
       subst (λ (x : ℕ). var x < count) (constraint-place i l) (known-below _ (constraint-known (circuitIn m) (known (r .held)) i))
+
+-- a circuit that is ready is so with another number of words, if they suffice
+pub ready-with : {m : List ℕ} {layout : Layout} {order : List ℕ} {count n : ℕ} → Ready m layout order count → word m 0 < n → Ready m layout order n
+ready-with r h = record { held = r .held; layout-of = r .layout-of; ordered = r .ordered; ranks = r .ranks; room = h }

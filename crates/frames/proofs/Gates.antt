@@ -42,4 +42,9 @@ module _ {c : Circuit} (right : T (literalsRight c)) {order : List ℕ} (o : Ord
 
   -- all gates
   pub upto-end : {before after : List ℕ} → Upto c order (length (c .gates)) before after → Evaluated c before after
-  upto-end u = record { size = u .size; values = λ p b. evaluation.upto-end right o (u .lanes p b) }
+  upto-end u =
+      record {
+        size = u .size;
+        values = λ p b. evaluation.upto-end right o (u .lanes p b);
+        others = λ p b v n. u .lanes p b .others v (λ j l e. n (getD order j 0) (o .gate j l) e);
+      }

@@ -13,7 +13,7 @@ use Rattle.aiger.specs.Frames.{value}
 use Rattle.layout.specs.Words.{word, circuitIn}
 use Rattle.layout.specs.declared.Layout.{Layout}
 use Rattle.words.proofs.Bits.{bit-and}
-use Rattle.frames.specs.Lanes.{Ready, hitIn}
+use Rattle.frames.specs.Lanes.{Ready, constrainedIn, badIn}
 use Rattle.frames.proofs.Facts.{constraint-place, constraints-are, bad-place}
 
 and-assoc : (a b c : Bool) → ((a && b) && c) ≡ (a && (b && c))
@@ -23,13 +23,6 @@ and-assoc false b c = refl
 and-true : (a : Bool) → (a && true) ≡ a
 and-true true = refl
 and-true false = refl
-
-and-swap : (a b c : Bool) → ((a && b) && c) ≡ ((a && c) && b)
-and-swap true true true = refl
-and-swap true true false = refl
-and-swap true false true = refl
-and-swap true false false = refl
-and-swap false b c = refl
 
 -- the first number aside
 below-first : (n : ℕ) (p : ℕ → Bool) → everyBelow (suc n) p ≡ (p 0 && everyBelow n (λ i. p (suc i)))
@@ -48,18 +41,25 @@ below-same zero p q h = refl
 below-same (suc n) p q h = ap₂ (λ (x y : Bool). x && y) (below-same n p q (λ i l. h i (omega arith))) (h n (omega arith))
 
 -- one constraint more
-pub hit-more : (hit x p k : ℕ) (q : ℕ → Bool) (b : Bool) → bit hit p ≡ (everyBelow k q && b) → bit x p ≡ q k
-    → bit (bitAnd hit x) p ≡ (everyBelow (k + 1) q && b)
-hit-more hit x p k q b h e =
-    bit-and hit x p ∙ ap₂ (λ (x y : Bool). x && y) h e ∙ and-swap (everyBelow k q) b (q k)
-    ∙ ap (λ (n : ℕ). everyBelow n q && b) (sym (add-one k))
+pub constrained-more : (left x p k from : ℕ) (q : ℕ → Bool) → bit left p ≡ (bit from p && everyBelow k q) → bit x p ≡ q k
+    → bit (bitAnd left x) p ≡ (bit from p && everyBelow (k + 1) q)
+constrained-more left x p k from q h e =
+    bit-and left x p ∙ ap₂ (λ (x y : Bool). x && y) h e ∙ and-assoc (bit from p) (everyBelow k q) (q k)
+    ∙ ap (λ (n : ℕ). bit from p && everyBelow n q) (sym (add-one k))
 
--- the constraints and the bad line, at the words where they stand
-pub hit-end : {m : List ℕ} {layout : Layout} {order : List ℕ} {count : ℕ} (r : Ready m layout order count) (b : ℕ) → b < word m 5 → (w : ℕ → Bool)
-    → (everyBelow (layout .c) (λ j. value w (word m (layout .constraints + j))) && value w (word m (layout .bads + b))) ≡ hitIn (circuitIn m) b w
-hit-end {m} {layout} r b l w =
+-- before the first
+pub constrained-start : (from p : ℕ) → bit from p ≡ (bit from p && true)
+constrained-start from p = sym (and-true (bit from p))
+
+-- the constraints at the words where they stand
+pub constrained-end : {m : List ℕ} {layout : Layout} {order : List ℕ} {count : ℕ} (r : Ready m layout order count) (w : ℕ → Bool)
+    → everyBelow (layout .c) (λ j. value w (word m (layout .constraints + j))) ≡ constrainedIn (circuitIn m) w
+constrained-end {m} {layout} r w =
     let cs : List ℕ = circuitIn m .constraints in
-    ap₂ (λ (x y : Bool). x && y)
-    (below-same (layout .c) (λ j. value w (word m (layout .constraints + j))) (λ j. value w (getD cs j 0)) (λ j h. ap (value w) (sym (constraint-place r j h)))
-    ∙ ap (λ (n : ℕ). everyBelow n (λ j. value w (getD cs j 0))) (constraints-are r) ∙ every-below (value w) cs 0)
-    (ap (value w) (sym (bad-place r b l)))
+    below-same (layout .c) (λ j. value w (word m (layout .constraints + j))) (λ j. value w (getD cs j 0)) (λ j h. ap (value w) (sym (constraint-place r j h)))
+    ∙ ap (λ (n : ℕ). everyBelow n (λ j. value w (getD cs j 0))) (constraints-are r) ∙ every-below (value w) cs 0
+
+-- the bad line at the word where it stands
+pub bad-end : {m : List ℕ} {layout : Layout} {order : List ℕ} {count : ℕ} (r : Ready m layout order count) (b : ℕ) → b < word m 5 → (w : ℕ → Bool)
+    → value w (word m (layout .bads + b)) ≡ badIn (circuitIn m) b w
+bad-end r b l w = ap (value w) (sym (bad-place r b l))

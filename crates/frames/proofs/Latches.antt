@@ -32,6 +32,7 @@ module _ {m : List ℕ} {layout : Layout} {order : List ℕ} {count : ℕ} (r : 
             let h : j < layout .l = omega (arith, latches-are r) in
             subst (λ (x : Latch). lane after p (var (x .lit)) ≡ value (lane before p) (x .next)) (sym (latch-place r j h))
             (ap (λ (x : ℕ). bit x p) (s .new j h) ∙ n j h p b);
+        others = λ v k. s .others v (λ j l e. k j (omega (arith, latches-are r)) (ap (λ (x : Latch). var (x .lit)) (latch-place r j l) ∙ e));
         constant = λ p b. ap (λ (x : ℕ). bit x p) (s .others 0 latch-nonzero);
         size = size;
       }

@@ -6,3 +6,5 @@ pub mod Gates
 pub mod Hits
 pub mod Latches
 pub mod Laws
+pub mod Places
+pub mod Starts

@@ -13,7 +13,7 @@ use Rattle.layout.specs.Words.{word, circuitIn}
 use Rattle.layout.specs.Order.{Ordered}
 use Rattle.layout.specs.Layout.{LayoutOf}
 use Rattle.layout.specs.declared.Layout.{Layout}
-use Rattle.meaning.specs.Frame.{inputAt, latchAt, Valuation}
+use Rattle.meaning.specs.Frame.{inputAt, latchAt, gateAt, Valuation}
 
 -- the values of the variables in run p
 abbrev pub lane : List ℕ → ℕ → ℕ → Bool
@@ -33,18 +33,28 @@ pub record Leaves (c : Circuit) (row st : List Bool) (w : ℕ → Bool) : Type 0
   pub input : (i : ℕ) → i < length (c .inputs) → w (var (inputAt c i)) ≡ getD row i false
   pub latch : (j : ℕ) → j < length (c .latches) → w (var (latchAt c j .lit)) ≡ getD st j false
 
--- in each run, whatever frame the leaves stood for before, all values are that frame's after
+-- in each run, whatever frame the leaves stood for before, all values are that frame's after; what is no gate's variable keeps its value
 pub record Evaluated (c : Circuit) (before after : List ℕ) : Type 0 where
   pub values : (p : ℕ) → p < 64 → (row st : List Bool) → Leaves c row st (lane before p) → Valuation c row st (lane after p)
+  pub others : (p : ℕ) → p < 64 → (v : ℕ) → ((i : ℕ) → i < length (c .gates) → var (gateAt c i .lit) ≡ v → ⊥) → lane after p v ≡ lane before p v
   pub size : length after ≡ length before
+
+-- every constraint is true
+abbrev pub constrainedIn : Circuit → (ℕ → Bool) → Bool
+constrainedIn c w = every (value w) (c .constraints)
+
+-- bad line b is true
+abbrev pub badIn : Circuit → ℕ → (ℕ → Bool) → Bool
+badIn c b w = value w (getD (c .bads) b 0)
 
 -- every constraint is true, and bad line b is
 abbrev pub hitIn : Circuit → ℕ → (ℕ → Bool) → Bool
-hitIn c b w = every (value w) (c .constraints) && value w (getD (c .bads) b 0)
+hitIn c b w = constrainedIn c w && badIn c b w
 
--- in each run, each latch has after the value that its next literal had before; the constant keeps its value
+-- in each run, each latch has after the value that its next literal had before; what is no latch's variable keeps its word
 pub record Advanced (c : Circuit) (before after : List ℕ) : Type 0 where
   pub latch : (p : ℕ) → p < 64 → (j : ℕ) → j < length (c .latches) → lane after p (var (latchAt c j .lit)) ≡ value (lane before p) (latchAt c j .next)
+  pub others : (v : ℕ) → ((j : ℕ) → j < length (c .latches) → var (latchAt c j .lit) ≡ v → ⊥) → getD after v 0 ≡ getD before v 0
   pub constant : (p : ℕ) → p < 64 → lane after p 0 ≡ lane before p 0
   pub size : length after ≡ length before
 

@@ -1,13 +1,14 @@
 // The values of a frame, for 64 runs at a time: the word of a variable has its value in run p as bit p.
 use layout::Layout;
 ghost use mathlib.Core.Path.{_≡_};
+ghost use mathlib.Core.Bool.{_&&_};
 ghost use Prim.Native.Nat.{ℕ, _+_, _*_, _/_, _≤_, _<_};
 ghost use lib.ListN.{length, getD};
 ghost use Rattle.aiger.specs.Bits.{bit};
 ghost use Rattle.aiger.specs.Circuit.{var};
 ghost use Rattle.aiger.specs.Frames.{value};
 ghost use Rattle.layout.specs.Words.{word, gateIn, circuitIn};
-ghost use Rattle.frames.specs.Lanes.{lane, Ready, Evaluated, Advanced, hitIn, GateRoom, Gated, Apart, Stored};
+ghost use Rattle.frames.specs.Lanes.{lane, Ready, Evaluated, Advanced, constrainedIn, badIn, GateRoom, Gated, Apart, Stored};
 
 // The word of literal l.
 fn literal_value(values: &[u64], l: u32) -> u64
@@ -45,22 +46,30 @@ pub fn eval_gates(m: &[u32], layout: Layout, order: &[u32], values: &mut [u64])
     }
 }
 
-// In which runs the frame is a hit of bad line b: every constraint is true, and the bad line is.
-pub fn hit_word(m: &[u32], layout: Layout, order: &[u32], b: usize, values: &[u64]) -> u64
+// In which of the runs `from` every constraint is true in the frame.
+pub fn constrain(m: &[u32], layout: Layout, order: &[u32], from: u64, values: &[u64]) -> u64
     requires { ⌜ Ready (now m) layout (now order) (length (now values)) ⌝ }
-    requires { ⌜ b < word (now m) 5 ⌝ }
-    ensures { λ r. ⌜ ((p : ℕ) → p < 64 → bit r p ≡ hitIn (circuitIn (now (m .entry))) b (lane (now (values .entry)) p)) ⌝ }
+    ensures { λ r. ⌜ ((p : ℕ) → p < 64 → bit r p ≡ (bit from p && constrainedIn (circuitIn (now (m .entry))) (lane (now (values .entry)) p))) ⌝ }
 {
-    let bads = layout.bads;
     let count = layout.c;
     let constraints = layout.constraints;
-    let mut hit = literal_value(values, m[bads + b]);
+    let mut left = from;
     let mut k = 0;
     while k < count {
-        hit = hit & literal_value(values, m[constraints + k]);
+        left = left & literal_value(values, m[constraints + k]);
         k += 1;
     }
-    hit
+    left
+}
+
+// In which runs bad line b is true in the frame.
+pub fn bad_word(m: &[u32], layout: Layout, order: &[u32], b: usize, values: &[u64]) -> u64
+    requires { ⌜ Ready (now m) layout (now order) (length (now values)) ⌝ }
+    requires { ⌜ b < word (now m) 5 ⌝ }
+    ensures { λ r. ⌜ ((p : ℕ) → p < 64 → bit r p ≡ badIn (circuitIn (now (m .entry))) b (lane (now (values .entry)) p)) ⌝ }
+{
+    let bads = layout.bads;
+    literal_value(values, m[bads + b])
 }
 
 // The words of the next literals.

@@ -25,7 +25,7 @@ hasOperands gs left right i = eqb (pairAt gs i .left) left && eqb (pairAt gs i .
 unfoldable pub isTwin : ℕ → List Pair → ℕ → ℕ → ℕ → Bool
 isTwin n gs left right e = everyBelow (2 ^ n) (λ x. Bool·beq (edgeUnder n gs e x) (bothUnder n gs left right x))
 
--- the edge that is equal in function, with twelve free bits or fewer: "above 12 no merge by function is made"
+-- the edge that is equal in function, with twelve free bits or fewer (Clause 5.9: above twelve no merge by function is made)
 unfoldable pub twinOf : ℕ → List Pair → ℕ → ℕ → Option ℕ
 twinOf n gs left right = cond (leb n 12) (lastBelow (isTwin n gs left right) (2 * nodes n gs)) none
 

@@ -1,4 +1,4 @@
--- The rules by which a conjunction is an edge that is there already. Assumes nothing.
+-- The rules by which a conjunction is an edge that is there already. Clauses 5.3 and 12.5. Assumes nothing.
 use mathlib.Core.Bool.{not, cond, _&&_}
 use mathlib.Core.List.{List}
 use Prim.Native.Nat.{ℕ, _+_, _-_}

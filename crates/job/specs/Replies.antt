@@ -6,11 +6,11 @@ use lib.Dec.{T}
 use lib.ListN.{length, take}
 use Rattle.aiger.specs.Text.{bytes, digits}
 use Rattle.aiger.specs.Circuit.{Circuit}
-use Rattle.aiger.specs.Load.{refused, gives}
+use Rattle.aiger.specs.Load.{Answer, refused, gives}
 use Rattle.aiger.specs.Search.{Outcome, permitted}
 use Rattle.aiger.specs.Witness.{witnessLength}
 use Rattle.aiger.specs.Memory.{Holds}
-use Rattle.aiger.specs.Operations.{Said, searchTests}
+use Rattle.aiger.specs.Operations.{judge, searchTests}
 use Rattle.aiger.specs.Program.{report, refusalLine}
 use Rattle.layout.specs.Words.{circuitIn}
 use Rattle.search.specs.Chosen.{chosen}
@@ -24,19 +24,19 @@ pub record Shows (out : List ℕ) (n : ℕ) (text : List ℕ) : Type 0 where
   pub inside : n ≤ length out
   pub contents : take n out ≡ text
 
--- the line for what a search says
-abbrev pub saidText : Said → List ℕ
-saidText (Said.refusal n) = refusalLine n
-saidText (Said.found t) = bytes "found " ++ digits t ++ bytes "\n"
-saidText (Said.none k) = bytes "none " ++ digits k ++ bytes "\n"
-saidText (Said.spent t) = bytes "spent " ++ digits t ++ bytes "\n"
+-- the line for what a search answers
+abbrev pub saidText : Answer Outcome → List ℕ
+saidText (refused n) = refusalLine n
+saidText (gives (Outcome.found t)) = bytes "found " ++ digits t ++ bytes "\n"
+saidText (gives (Outcome.none k)) = bytes "none " ++ digits k ++ bytes "\n"
+saidText (gives (Outcome.spent t)) = bytes "spent " ++ digits t ++ bytes "\n"
 
 -- the length of the witness for b that stands at the front of the output
-abbrev pub shownLength : Circuit → ℕ → Said → ℕ
-shownLength c b (Said.refusal n) = 0
-shownLength c b (Said.found t) = witnessLength c b t
-shownLength c b (Said.none k) = 0
-shownLength c b (Said.spent t) = 0
+abbrev pub shownLength : Circuit → ℕ → Answer Outcome → ℕ
+shownLength c b (refused n) = 0
+shownLength c b (gives (Outcome.found t)) = witnessLength c b t
+shownLength c b (gives (Outcome.none k)) = 0
+shownLength c b (gives (Outcome.spent t)) = 0
 
 -- what a found frame t says of b, t and the memory
 pub record FoundFits (m : List ℕ) (b t : ℕ) : Type 0 where
@@ -57,8 +57,8 @@ pub record Refuses (line : List ℕ) (n : ℕ) (r : Report) : Type 0 where
 
 -- what may be printed for a loaded circuit, where working memory has `room` words and the output `len` bytes
 pub data Printed (c : Circuit) (q : Query) (room len : ℕ) : List ℕ → Type 0 where
-  refuses : {n : ℕ} → searchTests c (q .b) (q .k) (q .d) room len ≡ refused n → Printed c q room len (refusalLine n)
-  answers : searchTests c (q .b) (q .k) (q .d) room len ≡ gives tt → (o : Outcome) → chosen c (q .b) (q .k) (q .d) ≡ o → T (permitted c (q .b) (q .k) (q .d) o)
+  refuses : {n : ℕ} → judge (searchTests c (q .b) (q .k) (q .d) room len) ≡ refused n → Printed c q room len (refusalLine n)
+  answers : judge (searchTests c (q .b) (q .k) (q .d) room len) ≡ gives tt → (o : Outcome) → chosen c (q .b) (q .k) (q .d) ≡ o → T (permitted c (q .b) (q .k) (q .d) o)
       → Printed c q room len (report c (q .b) o)
 
 -- the line and the witness are left at the fronts of line and out

@@ -121,7 +121,7 @@ pub fn shown_length(m: &[u32], b: u64, answer: SearchAnswer) -> usize
         return 0;
     };
     let layout = layout::with_starts(m, layout::layout_of(m));
-    search::witness_length(layout, b as u32, t as usize)
+    limits::witness_length(layout, b as u32, t as usize)
 }
 
 // Searches the circuit in m.

@@ -16,7 +16,7 @@ use Rattle.machine.proofs.First.{none-is}
 use Rattle.states.specs.Table.{Fits}
 use Rattle.states.specs.Trace.{Trace, Holds}
 use Rattle.states.proofs.Laws.{trace-kept, holds-next}
-use Rattle.transitions.specs.Transitions.{valuesIn, nextNumber, machineOf}
+use Rattle.transitions.specs.Transitions.{valuesIn, nextIn, machineOf}
 use Rattle.layers.specs.Rows.{metRows, RowsMet, FirstRow, BlockMet}
 use Rattle.layers.specs.Asked.{AskedOf}
 use Rattle.layers.specs.declared.Asked.the-variants.{Hit, Met}
@@ -89,7 +89,7 @@ module _ (c : Circuit) (b lo hi quota : ℕ) (r₀ hd₀ : List ℕ) where
                 let y = a .holds rows t (length es) x (expanded (machineOf c b) es lo (64 * q)) (k .holds t es h) (omega (arith, k .longer))
                 (rows-in c b (q % blocks) (mod-lt q (pow-pos (length (c .inputs) - 6)))) (trace t es h) in
                 subst (Holds rows (suc t) (length es) quota met₂ r₂ hd₂)
-                (ap (λ (z : ℕ). metRows (λ v. nextNumber c z (q % blocks * 64 + v)) (λ v. x * rows + (64 * (q % blocks) + v)) n (expanded (machineOf c b) es lo (64 * q))) (state-is t es h)
+                (ap (λ (z : ℕ). metRows (λ v. nextIn c z (q % blocks * 64 + v)) (λ v. x * rows + (64 * (q % blocks) + v)) n (expanded (machineOf c b) es lo (64 * q))) (state-is t es h)
                 ∙ sym (expand-block c b q es lo)) y;
             quiet = λ t es h. quiet-block c b q es lo (k .quiet t es h) p (before t es h) w;
           }

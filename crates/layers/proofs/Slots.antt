@@ -19,7 +19,7 @@ use Rattle.machine.specs.Machine.{Machine}
 use Rattle.machine.specs.Layers.{Entry, stateOf, placeOf, meet, slotEntry, slotPlace, slotStep, slotHit, expanded, layerSlots, firstBelow}
 use Rattle.machine.proofs.Expand.{over, rest, under, quotient-below}
 use Rattle.machine.proofs.First.{first-is, none-is}
-use Rattle.transitions.specs.Transitions.{valuesIn, nextNumber, machineOf}
+use Rattle.transitions.specs.Transitions.{valuesIn, nextIn, machineOf}
 use Rattle.layers.specs.Rows.{metRows}
 
 module _ (c : Circuit) (b : ℕ) where
@@ -101,53 +101,53 @@ module _ (c : Circuit) (b : ℕ) where
       unfolding machineOf
       place-at p l = ap₂ (λ (x : ℕ) (y : ℕ). placeOf es (lo + x) * rows + y) (slot-over p l) (slot-rest p l)
 
-      step-at : (p : ℕ) → p < 64 → slotStep m es lo (64 * q + p) ≡ cond (ltb (block * 64 + p) rows) (some (nextNumber c (stateOf es e) (block * 64 + p))) none
+      step-at : (p : ℕ) → p < 64 → slotStep m es lo (64 * q + p) ≡ cond (ltb (block * 64 + p) rows) (nextIn c (stateOf es e) (block * 64 + p)) none
       unfolding machineOf
-      step-at p l = ap₂ (λ (x : ℕ) (y : ℕ). cond (ltb y rows) (some (nextNumber c (stateOf es (lo + x)) y)) none) (slot-over p l) (slot-rest p l)
+      step-at p l = ap₂ (λ (x : ℕ) (y : ℕ). cond (ltb y rows) (nextIn c (stateOf es (lo + x)) y) none) (slot-over p l) (slot-rest p l)
 
       hit-at : (p : ℕ) → p < 64 → slotHit m es lo (64 * q + p) ≡ (ltb (block * 64 + p) rows && hitIn c b (valuesIn c (stateOf es e) (block * 64 + p)))
       unfolding machineOf
       hit-at p l = ap₂ (λ (x : ℕ) (y : ℕ). ltb y rows && hitIn c b (valuesIn c (stateOf es (lo + x)) y)) (slot-over p l) (slot-rest p l)
 
       -- ---- the next states of a block
-      abbrev numbers : ℕ → ℕ
-      numbers p = nextNumber c (stateOf es e) (block * 64 + p)
+      abbrev next : ℕ → Option ℕ
+      next p = nextIn c (stateOf es e) (block * 64 + p)
 
       abbrev places : ℕ → ℕ
       places p = placeOf es e * rows + (64 * block + p)
 
-      step-in : (p : ℕ) → p < n → slotStep m es lo (64 * q + p) ≡ some (numbers p)
+      step-in : (p : ℕ) → p < n → slotStep m es lo (64 * q + p) ≡ next p
       step-in p l =
-          step-at p (omega arith) ∙ ap (λ (t : Bool). cond t (some (numbers p)) none) (lt-ltb (block * 64 + p) rows (row-in block p block-in l))
+          step-at p (omega arith) ∙ ap (λ (t : Bool). cond t (next p) none) (lt-ltb (block * 64 + p) rows (row-in block p block-in l))
 
       step-out : (p : ℕ) → n ≤ p → p < 64 → slotStep m es lo (64 * q + p) ≡ none
       step-out p h l =
-          step-at p l ∙ ap (λ (t : Bool). cond t (some (numbers p)) none) (le-ltb (block * 64 + p) rows (row-out block p block-in h l))
+          step-at p l ∙ ap (λ (t : Bool). cond t (next p) none) (le-ltb (block * 64 + p) rows (row-out block p block-in h l))
 
-      expand-part : (p : ℕ) → p ≤ 64 → expanded m es lo (64 * q + p) ≡ metRows numbers places (min p n) (expanded m es lo (64 * q))
+      expand-part : (p : ℕ) → p ≤ 64 → expanded m es lo (64 * q + p) ≡ metRows next places (min p n) (expanded m es lo (64 * q))
       unfolding expanded metRows meet
-      expand-part zero l = ap (expanded m es lo) {x = 64 * q + 0} {y = 64 * q} (omega arith) ∙ ap (λ (k : ℕ). metRows numbers places k (expanded m es lo (64 * q))) {x = 0} {y = min 0 n} (omega arith)
+      expand-part zero l = ap (expanded m es lo) {x = 64 * q + 0} {y = 64 * q} (omega arith) ∙ ap (λ (k : ℕ). metRows next places k (expanded m es lo (64 * q))) {x = 0} {y = min 0 n} (omega arith)
       expand-part (suc p) l = ap (expanded m es lo) {x = 64 * q + suc p} {y = suc (64 * q + p)} (omega arith) ∙ go (decLt p n) (expand-part p (omega arith))
         where
-          go : Dec (p < n) → expanded m es lo (64 * q + p) ≡ metRows numbers places (min p n) (expanded m es lo (64 * q))
-              → expanded m es lo (suc (64 * q + p)) ≡ metRows numbers places (min (suc p) n) (expanded m es lo (64 * q))
+          go : Dec (p < n) → expanded m es lo (64 * q + p) ≡ metRows next places (min p n) (expanded m es lo (64 * q))
+              → expanded m es lo (suc (64 * q + p)) ≡ metRows next places (min (suc p) n) (expanded m es lo (64 * q))
           go (yes h) r =
               let u : min p n ≡ p = omega arith in
               let v : min (suc p) n ≡ suc p = omega arith in
               let g : slotPlace m es lo (64 * q + p) ≡ places p = place-at p (omega arith) ∙ omega arith in
               ap₂ (λ (o : Option ℕ) (y : ℕ). meet o y (expanded m es lo (64 * q + p))) (step-in p h) g
-              ∙ ap (meet (some (numbers p)) (places p)) (r ∙ ap (λ (k : ℕ). metRows numbers places k (expanded m es lo (64 * q))) u)
-              ∙ ap (λ (k : ℕ). metRows numbers places k (expanded m es lo (64 * q))) (sym v)
+              ∙ ap (meet (next p) (places p)) (r ∙ ap (λ (k : ℕ). metRows next places k (expanded m es lo (64 * q))) u)
+              ∙ ap (λ (k : ℕ). metRows next places k (expanded m es lo (64 * q))) (sym v)
           go (no h) r =
               let v : min p n ≡ min (suc p) n = omega arith in
               ap (λ (o : Option ℕ). meet o (slotPlace m es lo (64 * q + p)) (expanded m es lo (64 * q + p))) (step-out p (omega arith) (omega arith))
-              ∙ r ∙ ap (λ (k : ℕ). metRows numbers places k (expanded m es lo (64 * q))) v
+              ∙ r ∙ ap (λ (k : ℕ). metRows next places k (expanded m es lo (64 * q))) v
 
-      pub expand-block : expanded m es lo (64 * (q + 1)) ≡ metRows numbers places n (expanded m es lo (64 * q))
+      pub expand-block : expanded m es lo (64 * (q + 1)) ≡ metRows next places n (expanded m es lo (64 * q))
       expand-block =
           let v : min 64 n ≡ n = omega arith in
           ap (expanded m es lo) {x = 64 * (q + 1)} {y = 64 * q + 64} (omega arith) ∙ expand-part 64 (omega arith)
-          ∙ ap (λ (k : ℕ). metRows numbers places k (expanded m es lo (64 * q))) v
+          ∙ ap (λ (k : ℕ). metRows next places k (expanded m es lo (64 * q))) v
 
       -- ---- the hits of a block
       module _ (none-yet : (z : ℕ) → z < 64 * q → T (slotHit m es lo z) → ⊥) (r : ℕ)

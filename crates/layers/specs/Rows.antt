@@ -1,9 +1,9 @@
 -- The rows of a block, met one after the other. Assumes nothing.
 use mathlib.Core.Path.{_≡_}
-use mathlib.Core.Bool.{false}
+use mathlib.Core.Bool.{true, false, cond}
 use mathlib.Core.Logic.{_⊎_}
 use mathlib.Core.List.{List}
-use mathlib.Core.Option.{some}
+use mathlib.Core.Option.{Option, none, some}
 use Prim.Native.Nat.{ℕ, zero, suc, _+_, _*_, _^_, _≤_, _<_, min}
 use lib.Dec.{T}
 use lib.ListN.{length, getD}
@@ -14,28 +14,32 @@ use Rattle.machine.specs.Layers.{Entry, meet}
 use Rattle.aiger.specs.Bits.{bit}
 use Rattle.states.specs.Table.{Fits, Meets}
 use Rattle.states.specs.Trace.{Trace, Holds}
-use Rattle.transitions.specs.Transitions.{latchesOf, rowOf, valuesIn, nextNumber}
+use Rattle.transitions.specs.Transitions.{latchesOf, rowOf, valuesIn, nextIn}
 
--- the states numbers p, after prefixes place p, for p below n
-unfoldable pub metRows : (ℕ → ℕ) → (ℕ → ℕ) → ℕ → List Entry → List Entry
-metRows numbers place zero es = es
-metRows numbers place (suc n) es = meet (some (numbers n)) (place n) (metRows numbers place n es)
+-- where row p leads: to state numbers p, or nowhere where it is not among the rows `left`
+abbrev pub leading : ℕ → (ℕ → ℕ) → ℕ → Option ℕ
+leading left numbers p = cond (bit left p) (some (numbers p)) none
 
--- n rows from `first` on of record e, which lead to the states `numbers`, are met: what the table holds after
-pub record RowsMet (numbers : ℕ → ℕ) (quota count e first n : ℕ) (r hd : List ℕ) (count′ : ℕ) (r′ hd′ : List ℕ) : Type 0 where
+-- the states `next p` that there are, after prefixes place p, for p below n
+unfoldable pub metRows : (ℕ → Option ℕ) → (ℕ → ℕ) → ℕ → List Entry → List Entry
+metRows next place zero es = es
+metRows next place (suc n) es = meet (next n) (place n) (metRows next place n es)
+
+-- n rows from `first` on of record e, which lead to the states `next`, are met: what the table holds after
+pub record RowsMet (next : ℕ → Option ℕ) (quota count e first n : ℕ) (r hd : List ℕ) (count′ : ℕ) (r′ hd′ : List ℕ) : Type 0 where
   pub longer : count ≤ count′
   pub words : (j : ℕ) → j < 4 * count → getD r′ j 0 ≡ getD r j 0
   pub fits : Fits quota count′ r′ hd′
   pub holds :
       (rows t lo x : ℕ) (es : List Entry) → Holds rows (suc t) lo quota count r hd es → e < count → first + n ≤ rows → Trace rows r t e x
-      → Holds rows (suc t) lo quota count′ r′ hd′ (metRows numbers (λ p. x * rows + (first + p)) n es)
+      → Holds rows (suc t) lo quota count′ r′ hd′ (metRows next (λ p. x * rows + (first + p)) n es)
 
--- What becomes of the number of records, the rows that are left and the table at row p: nothing where a row before it leads to its state; else its state
+-- What becomes of the number of records, the rows that are left and the table at row p: nothing where it is not left; else its state
 -- is met, and with it those rows are left out that lead there too.
 pub data RowStep (numbers : ℕ → ℕ) (quota e row p met left : ℕ) (r hd : List ℕ) : ℕ → ℕ → List ℕ → List ℕ → Type 0 where
   skipped : bit left p ≡ false → RowStep numbers quota e row p met left r hd met left r hd
-  taken : {met′ left′ : ℕ} {r′ hd′ : List ℕ} → Meets quota met (numbers p) e row r hd met′ r′ hd′
-      → ((q : ℕ) → q < 64 → bit left′ q ≡ false → (bit left q ≡ false) ⊎ (numbers q ≡ numbers p))
+  taken : {met′ left′ : ℕ} {r′ hd′ : List ℕ} → bit left p ≡ true → Meets quota met (numbers p) e row r hd met′ r′ hd′
+      → ((q : ℕ) → q < 64 → bit left′ q ≡ false → (bit left q ≡ false) ⊎ (numbers q ≡ numbers p)) → ((q : ℕ) → bit left′ q ≡ true → bit left q ≡ true)
       → RowStep numbers quota e row p met left r hd met′ left′ r′ hd′
 
 -- the words are the values of state s with the rows of a block
@@ -53,4 +57,4 @@ pub record FirstRow (c : Circuit) (b s block : ℕ) (values : List ℕ) (r : ℕ
 abbrev pub BlockMet : Circuit → List ℕ → ℕ → ℕ → ℕ → ℕ → List ℕ → List ℕ → ℕ → List ℕ → List ℕ → Type 0
 BlockMet c values quota count e block r hd count′ r′ hd′ =
     (s : ℕ) → Valued c s block values
-    → RowsMet (λ p. nextNumber c s (block * 64 + p)) quota count e (64 * block) (min 64 (2 ^ length (c .inputs))) r hd count′ r′ hd′
+    → RowsMet (λ p. nextIn c s (block * 64 + p)) quota count e (64 * block) (min 64 (2 ^ length (c .inputs))) r hd count′ r′ hd′

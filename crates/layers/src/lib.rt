@@ -18,7 +18,7 @@ ghost use Rattle.aiger.specs.Memory.{Holds};
 ghost use Rattle.layout.specs.Layout.{LayoutOf};
 ghost use Rattle.states.specs.Trace as trace;
 ghost use Rattle.transitions.specs.Transitions.{numberOf, latchesOf, rowOf, valuesIn, nextNumber, machineOf};
-ghost use Rattle.layers.specs.Rows.{RowsMet, RowStep, FirstRow, BlockMet};
+ghost use Rattle.layers.specs.Rows.{leading, RowsMet, RowStep, FirstRow, BlockMet};
 ghost use Rattle.layers.specs.Asked.{AskedOf};
 
 // What a layer has: a first hit, by its record and row; or none, and the number of records with those of the next layer.
@@ -27,7 +27,8 @@ pub enum Asked {
     Met(usize),
 }
 
-// The number of records, or one more than quota, and the rows that are left to be met.
+// The number of records, or one more than quota, and the rows that are left to be met: those that break no constraint and lead where no
+// row before them leads.
 struct Pending {
     met: usize,
     left: u64,
@@ -55,7 +56,7 @@ fn same_rows(state: &[u64], latches: usize, p: u32) -> u64
     same
 }
 
-// Meets the state that row p of a block leads to, unless a row before it leads there. row is its number.
+// Meets the state that row p of a block leads to, where the row is left. row is its number.
 fn meet_row(
     state: &[u64],
     latches: usize,
@@ -85,7 +86,8 @@ fn meet_row(
     }
 }
 
-// Meets the states that rows `first` to `first + n - 1` of record e lead to. Word j of state is latch j of the next state, row by row.
+// Meets the states that those of rows `first` to `first + n - 1` of record e lead to that are left. Word j of state is latch j of the
+// next state, row by row.
 fn meet_rows(
     state: &[u64],
     latches: usize,
@@ -93,18 +95,15 @@ fn meet_rows(
     first: u32,
     e: u32,
     quota: usize,
-    count: usize,
+    start: Pending,
     records: &mut [u32],
     heads: &mut [u32],
 ) -> usize
-    requires { ⌜ Fits quota count (now records) (now heads) ⌝ }
+    requires { ⌜ Fits quota (start .met) (now records) (now heads) ⌝ }
     requires { ⌜ (latches ≤ length (now state)) × (latches ≤ 32) × (n ≤ 64) × (first ≤ 65536) ⌝ }
-    ensures { λ r. ⌜ RowsMet (λ p. numberOf (map (λ j. bit (getD (now (state .entry)) j 0) p) (upto latches))) quota count e first n (now (records .entry)) (now (heads .entry)) r (now (records .exit)) (now (heads .exit)) ⌝ }
+    ensures { λ r. ⌜ RowsMet (λ p. leading (start .left) (λ q. numberOf (map (λ j. bit (getD (now (state .entry)) j 0) q) (upto latches))) p) quota (start .met) e first n (now (records .entry)) (now (heads .entry)) r (now (records .exit)) (now (heads .exit)) ⌝ }
 {
-    let mut pending = Pending {
-        met: count,
-        left: 0xffff_ffff_ffff_ffff,
-    };
+    let mut pending = start;
     let mut p = 0;
     while p < n {
         pending = meet_row(
@@ -160,11 +159,13 @@ fn first_row(
     ensures { λ r. ⌜ FirstRow (circuitIn (now (m .entry))) b s block (now (values .exit)) r ⌝ }
 {
     transitions::eval_rows(m, layout, order, s, block, values);
-    let hits = frames::hit_word(m, layout, order, b, values);
+    let bad = frames::bad_word(m, layout, order, b, values);
+    let hits = frames::constrain(m, layout, order, bad, values);
     words::first_difference(hits, 0)
 }
 
-// Meets the states that the rows of a block of record e lead to, where values are those of its rows.
+// Meets the states that the rows of a block of record e lead to, where values are those of its rows. A row that breaks a constraint leads
+// to no state.
 fn meet_block(
     m: &[u32],
     layout: Layout,
@@ -185,6 +186,7 @@ fn meet_block(
 {
     let latches = layout.l;
     let n = lanes(layout.i);
+    let left = frames::constrain(m, layout, order, 0xffff_ffff_ffff_ffff, values);
     frames::next_state(m, layout, values, state);
     meet_rows(
         state,
@@ -193,7 +195,7 @@ fn meet_block(
         (64 * block) as u32,
         e,
         quota,
-        count,
+        Pending { met: count, left },
         records,
         heads,
     )

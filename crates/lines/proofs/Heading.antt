@@ -1,33 +1,33 @@
 -- Laws of the header: its name, its numbers in a buffer of zeros, and their limits. Assumes nothing.
 use mathlib.Core.Path.{_≡_, refl, sym, ap, _∙_}
-use mathlib.Core.Bool.{Bool, true, false, _&&_}
+use mathlib.Core.Bool.{Bool, true, false, _&&_, _||_}
 use mathlib.Core.List.{List, [], _∷_, _++_}
 use mathlib.Core.Option.{none, some}
 use Prim.Native.Nat.{ℕ, _+_, _^_, _≤_, _<_}
 use native.Mathlib.Decide.{decLt}
 use native.Mathlib.Omega.{arith}
 use borrow.Author.Tests.{le-leb, lt-leb, leb-true}
-use lib.Dec.{T, leb, eqb}
+use lib.Dec.{T, leb, eqb, leb→le}
 use lib.ListN.{length, getD, take, drop, List·getD-eq-default}
 use lib.Seq.{getD-take, length-take-le}
 use Rattle.aiger.specs.Lists.{all}
 use Rattle.aiger.specs.Text.{row}
-use Rattle.aiger.specs.File.{header, counts, countsFit}
+use Rattle.aiger.specs.File.{isText, isBinary, header, counts, countTests, countsFit, countsRight}
 use Rattle.aiger.proofs.Tests.{true-T, T-true, all-at}
 use Rattle.lines.proofs.Tests.{and-true, and-false, and-assoc}
 use Rattle.lines.specs.Lines.{RowRead}
-use Rattle.lines.specs.Header.{countsOf, countsMeant, HeaderAt, namedAag, limitsHold}
+use Rattle.lines.specs.Header.{countsOf, countsMeant, HeaderAt, named, limitsHold}
 use Rattle.lines.specs.declared.Counts.{Counts}
 use Rattle.lines.specs.declared.Header.the-variants.{Read, Malformed}
 
 -- the name
 
-pub named-short : (s : List ℕ) → length s < 4 → false ≡ namedAag s
-named-short [] h = refl
-named-short (a ∷ []) h = rw (and-false (eqb a 97))
-named-short (a ∷ b ∷ []) h = rw (and-false (eqb b 97), and-false (eqb a 97))
-named-short (a ∷ b ∷ c ∷ []) h = rw (and-false (eqb c 103), and-false (eqb b 97), and-false (eqb a 97))
-named-short (a ∷ b ∷ c ∷ d ∷ s) h = absurd (omega arith)
+pub named-short : (l : ℕ) (s : List ℕ) → length s < 4 → false ≡ named l s
+named-short l [] h = refl
+named-short l (a ∷ []) h = rw (and-false (eqb a 97))
+named-short l (a ∷ b ∷ []) h = rw (and-false (eqb b l), and-false (eqb a 97))
+named-short l (a ∷ b ∷ c ∷ []) h = rw (and-false (eqb c 103), and-false (eqb b l), and-false (eqb a 97))
+named-short l (a ∷ b ∷ c ∷ d ∷ s) h = absurd (omega arith)
 
 grouped : (a b c d : Bool) → (a && b && c && d) ≡ (a && (b && (c && (d && true))))
 grouped true true true d = sym (and-true d)
@@ -35,12 +35,26 @@ grouped true true false d = refl
 grouped true false c d = refl
 grouped false b c d = refl
 
-pub named-long : (s : List ℕ) → 4 ≤ length s → (eqb (getD s 0 0) 97 && eqb (getD s 1 0) 97 && eqb (getD s 2 0) 103 && eqb (getD s 3 0) 32) ≡ namedAag s
-named-long [] h = absurd (omega arith)
-named-long (a ∷ []) h = absurd (omega arith)
-named-long (a ∷ b ∷ []) h = absurd (omega arith)
-named-long (a ∷ b ∷ c ∷ []) h = absurd (omega arith)
-named-long (a ∷ b ∷ c ∷ d ∷ s) h = grouped (eqb a 97) (eqb b 97) (eqb c 103) (eqb d 32)
+pub named-long : (l : ℕ) (s : List ℕ) → 4 ≤ length s
+    → (eqb (getD s 0 0) 97 && eqb (getD s 1 0) l && eqb (getD s 2 0) 103 && eqb (getD s 3 0) 32) ≡ named l s
+named-long l [] h = absurd (omega arith)
+named-long l (a ∷ []) h = absurd (omega arith)
+named-long l (a ∷ b ∷ []) h = absurd (omega arith)
+named-long l (a ∷ b ∷ c ∷ []) h = absurd (omega arith)
+named-long l (a ∷ b ∷ c ∷ d ∷ s) h = grouped (eqb a 97) (eqb b l) (eqb c 103) (eqb d 32)
+
+-- the letters of the two forms
+pub named-text : (s : List ℕ) → named 97 s ≡ isText s
+unfolding isText
+named-text s = refl
+
+pub named-binary : (s : List ℕ) → named 105 s ≡ isBinary s
+unfolding isBinary
+named-binary s = refl
+
+-- either of the two words
+abbrev pub named-either : List ℕ → Bool
+named-either s = isText s || isBinary s
 
 -- the numbers
 
@@ -65,11 +79,11 @@ all-small l k b z j = go (decLt j k)
 
 -- the answers
 
-pub not-named : (s : List ℕ) → namedAag s ≡ false → HeaderAt s Malformed
+pub not-named : (s : List ℕ) → named-either s ≡ false → HeaderAt s Malformed
 unfolding header
 not-named s e = record { meaning = rw e; place = tt }
 
-module _ (s : List ℕ) (named : namedAag s ≡ true) where
+module _ (s : List ℕ) (named : named-either s ≡ true) where
   pub no-row : row 9 (drop 4 s) ≡ none → HeaderAt s Malformed
   unfolding header
   no-row e = record { meaning = rw (named, e); place = tt }
@@ -131,3 +145,23 @@ module _ (c : Counts) where
 
   pub limits-fail : limitsHold c ≡ false → false ≡ countsFit (countsMeant c)
   limits-fail e = sym (parted ∙ ap (λ b. b && leb (c .i + c .l + c .a) (c .m)) e)
+
+  -- number 3 in either form
+  pub right-not : (binary : Bool) → countsFit (countsMeant c) ≡ false → false ≡ countsRight binary (countsMeant c)
+  unfolding countsRight
+  right-not binary e = sym (rw e)
+
+  pub right-text : countsFit (countsMeant c) ≡ true → true ≡ countsRight false (countsMeant c)
+  unfolding countsRight
+  right-text e = sym (rw e)
+
+  pub right-binary : countsFit (countsMeant c) ≡ true → eqb (c .i + c .l + c .a) (c .m) ≡ countsRight true (countsMeant c)
+  unfolding countsRight
+  right-binary e = sym (rw e)
+
+  -- counts that fit are small
+  pub fit-bounded : countsFit (countsMeant c) ≡ true → (c .i ≤ 256) × (c .l ≤ 1024) × (c .a ≤ 3072)
+  unfolding countsFit
+  fit-bounded e =
+      let at = all-at (countTests (countsMeant c)) (T-true e) in
+      (leb→le (c .i) 256 (at 1), leb→le (c .l) 1024 (at 2), leb→le (c .a) 3072 (at 4))

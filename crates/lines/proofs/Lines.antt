@@ -71,7 +71,7 @@ abbrev pub prefixed : List (List ℕ) → Option (List (List ℕ) × List ℕ) �
 prefixed rs none = none
 prefixed rs (some q) = some (rs ++ q .0, q .1)
 
-prefixed-none : (o : Option (List (List ℕ) × List ℕ)) → o ≡ prefixed [] o
+pub prefixed-none : (o : Option (List (List ℕ) × List ℕ)) → o ≡ prefixed [] o
 prefixed-none none = refl
 prefixed-none (some q) = refl
 
@@ -80,16 +80,16 @@ prefixed-one : (rs : List (List ℕ)) (r : List ℕ) (o : Option (List (List ℕ
 prefixed-one rs r none = refl
 prefixed-one rs r (some q) = rw append-assoc
 
-one-fewer : (n : ℕ) → 0 < n → n ≡ suc (n - 1)
+pub one-fewer : (n : ℕ) → 0 < n → n ≡ suc (n - 1)
 one-fewer n h = omega arith
 
 module _ (least most k : ℕ) (f : List ℕ) (rs : List (List ℕ)) where
-  rows-more : (r g : List ℕ) → row most f ≡ some (r, g) → least ≤ length r
+  pub rows-more : (r g : List ℕ) → row most f ≡ some (r, g) → least ≤ length r
       → prefixed rs (rows least most (suc k) f) ≡ prefixed (rs ++ (r ∷ [])) (rows least most k g)
   unfolding rows
   rows-more r g e l = rw (e, le-leb least (length r) l) (prefixed-one rs r (rows least most k g))
 
-  rows-bad : NoLine least (row most f) → prefixed rs (rows least most (suc k) f) ≡ none
+  pub rows-bad : NoLine least (row most f) → prefixed rs (rows least most (suc k) f) ≡ none
   unfolding rows
   rows-bad b = go (row most f) b
     where

@@ -1,13 +1,12 @@
 -- What reading a header answers, and the limits of its numbers. Assumes nothing.
 use mathlib.Core.Path.{_≡_}
 use mathlib.Core.Bool.{Bool, _&&_}
-use mathlib.Core.List.{List}
+use mathlib.Core.List.{List, [], _∷_}
 use mathlib.Core.Option.{Option, none, some}
 use Prim.Native.Nat.{ℕ, _^_, _≤_, _<_}
 use lib.Dec.{leb, eqb}
 use lib.ListN.{length, getD, take, drop}
 use Rattle.aiger.specs.Lists.{same}
-use Rattle.aiger.specs.Text.{bytes}
 use Rattle.aiger.specs.File as file
 use Rattle.lines.specs.declared.Counts.{Counts}
 use Rattle.lines.specs.declared.Header.{Header}
@@ -58,9 +57,9 @@ pub record HeaderAt (s : List ℕ) (r : Header) : Type 0 where
   pub meaning : meantHeader s r ≡ file.header s
   pub place : Placed s r
 
--- s begins with `aag` and a space
-abbrev pub namedAag : List ℕ → Bool
-namedAag s = same (take 4 s) (bytes "aag ")
+-- s begins with `a`, a letter, `g` and a space
+abbrev pub named : ℕ → List ℕ → Bool
+named letter s = same (take 4 s) (97 ∷ letter ∷ 103 ∷ 32 ∷ [])
 
 -- the limit of each number by itself
 abbrev pub limitsHold : Counts → Bool

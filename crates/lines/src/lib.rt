@@ -1,11 +1,11 @@
-// Lines of numbers of the ASCII AIGER format: one line, runs of lines, the header line with its limits, and the tail.
+// Lines of numbers of the AIGER formats: one line, runs of lines, the header line with its limits, and the tail.
 use numbers::Number;
 ghost use mathlib.Core.Path.{_≡_};
 ghost use Prim.Native.Nat.{_+_, _*_, _≤_};
 ghost use lib.ListN.{length, drop};
-ghost use Rattle.aiger.specs.File.{countsFit, isTail};
+ghost use Rattle.aiger.specs.File.{isBinary, countsFit, countsRight, isTail};
 ghost use Rattle.lines.specs.Lines.{RowAt, Stored, LineAt, RowsAt, narrowed};
-ghost use Rattle.lines.specs.Header.{HeaderAt, countsOf, countsMeant, limitsHold, namedAag};
+ghost use Rattle.lines.specs.Header.{HeaderAt, countsOf, countsMeant, limitsHold, named};
 
 // A line of numbers: how many there are, and the position past it.
 pub enum Row {
@@ -94,7 +94,7 @@ fn store_words(words: &[u64], most: usize, limit: u32, out: &mut [u32], from: us
 }
 
 // Reads a line of least to most numbers, and stores it as most words, missing numbers as 0.
-fn read_line(
+pub fn read_line(
     s: &[u8],
     at: usize,
     least: usize,
@@ -156,14 +156,21 @@ pub fn read_rows(
     Rows::Read(next, fits)
 }
 
-// Whether s begins with `aag` and a space.
-fn is_named(s: &[u8]) -> bool
-    ensures { λ r. ⌜ r ≡ namedAag (now (s .entry)) ⌝ }
+// Whether s begins with the first word of a header that has this second letter.
+fn is_named(s: &[u8], letter: u8) -> bool
+    ensures { λ r. ⌜ r ≡ named letter (now (s .entry)) ⌝ }
 {
     if s.len() < 4 {
         return false;
     }
-    (s[0] == b'a') & (s[1] == b'a') & (s[2] == b'g') & (s[3] == b' ')
+    (s[0] == b'a') & (s[1] == letter) & (s[2] == b'g') & (s[3] == b' ')
+}
+
+// Whether s begins with the first word of the binary form.
+pub fn is_binary(s: &[u8]) -> bool
+    ensures { λ r. ⌜ r ≡ isBinary (now (s .entry)) ⌝ }
+{
+    is_named(s, b'i')
 }
 
 fn counts_of(list: &[u64; 9]) -> Counts
@@ -182,11 +189,13 @@ fn counts_of(list: &[u64; 9]) -> Counts
     }
 }
 
-// Reads the header line: `aag` and five to nine numbers, missing ones as 0.
+// Reads the header line: `aag` or `aig` and five to nine numbers, missing ones as 0.
 pub fn read_header(s: &[u8]) -> Header
     ensures { λ r. ⌜ HeaderAt (now (s .entry)) r ⌝ }
 {
-    if is_named(s) {
+    let text = is_named(s, b'a');
+    let binary = is_binary(s);
+    if text | binary {
         let mut list = [0u64; 9];
         match read_row(s, 4, 9, &mut list) {
             Row::Read(count, next) => {
@@ -224,6 +233,19 @@ pub fn counts_fit(c: Counts) -> bool
 {
     if within_limits(c) {
         return c.i + c.l + c.a <= c.m;
+    }
+    false
+}
+
+// Whether the numbers are right for a file in binary form, where every variable has a definition, or in text form.
+pub fn counts_right(c: Counts, binary: bool) -> bool
+    ensures { λ r. ⌜ r ≡ countsRight binary (countsMeant c) ⌝ }
+{
+    if counts_fit(c) {
+        if binary {
+            return c.i + c.l + c.a == c.m;
+        }
+        return true;
     }
     false
 }

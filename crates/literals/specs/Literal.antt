@@ -13,7 +13,7 @@ signed v b = record { 0 = record { 0 = v }; 1 = b }
 abbrev pub literal : ℕ → Lit
 literal w = signed (circuit.var w) (odd w)
 
--- "Literal 2v is variable v and 2v+1 its complement."
+-- Clause 1.8: literal 2v stands for variable v, 2v + 1 for its complement
 abbrev pub wordOf : Lit → ℕ
 wordOf l = 2 * l .0 .0 + cond (l .1) 1 0
 

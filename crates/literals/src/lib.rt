@@ -1,4 +1,5 @@
 // Variables, literals and nodes as types of their own, so that none is taken for another.
+// Clause 11.6: variables, literals and nodes are types of their own.
 ghost use mathlib.Core.Path.{_≡_};
 ghost use Rattle.literals.specs.Literal.{literal, wordOf, complemented};
 

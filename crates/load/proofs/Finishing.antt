@@ -9,20 +9,22 @@ use borrow.Author.Tests.{le-leb, lt-leb}
 use lib.Dec.{leb→le, eqb→eq}
 use lib.ListN.{length, take, drop, length-append}
 use Rattle.aiger.specs.Circuit.{Circuit, literalsRight, usedDefined, acyclic}
-use Rattle.aiger.specs.File.{Header, header, countsFit, countTests, headerOf, body}
+use Rattle.aiger.specs.File.{Header, isBinary, header, countsFit, countsRight, countTests, headerOf}
 use Rattle.aiger.specs.Load as spec
-use Rattle.aiger.specs.Load.{Answer, refused, gives, test, read, needed, _>>=_, _>>_}
+use Rattle.aiger.specs.Load.{Answer, refused, gives, test, read, sections, needed, _>>=_, _>>_}
 use Rattle.aiger.specs.Write.{countRow}
 use Rattle.aiger.specs.Memory.{content, image}
 use Rattle.aiger.specs.Operations.{front, Loaded}
 use Rattle.aiger.proofs.Tests.{T-true, all-at}
 use Rattle.layout.specs.Words.{word, contentEnd, circuitIn}
 use Rattle.roundtrip.proofs.Lists.{upto-length}
-use Rattle.roundtrip.proofs.LoadValid.{body-counted, same-header, load-valid}
+use Rattle.roundtrip.proofs.LoadValid.{sections-counted, right-fit, same-header, load-valid}
 use Rattle.roundtrip.proofs.Content.{words-take, content-length, circuit-in}
 use Rattle.lines.specs.Header.{countsMeant}
 use Rattle.lines.specs.declared.Counts as lines
-use Rattle.layout.specs.Layout.{Counted}
+use Rattle.layout.specs.declared.Layout.{Layout}
+use Rattle.layout.specs.Layout.{PlacesOf, Counted}
+use Rattle.sections.specs.Sections.{headerAt}
 use Rattle.roundtrip.proofs.Counts.{counted}
 use Rattle.validity.specs.Validity.{judged}
 use Rattle.load.specs.declared.Counts.{Counts}
@@ -31,7 +33,7 @@ use Rattle.load.specs.declared.LoadAnswer.the-variants as LoadAnswer
 use Rattle.load.specs.declared.Judgement.{Judgement}
 use Rattle.load.specs.Answers.{answered, numbers}
 use Rattle.load.specs.Preview.{countsOf, wordsNeeded, Previewed, JudgedAs, Judges}
-use Rattle.load.specs.Steps.{narrowed, headerMeant, headerAt, accepts, loadBody, CircuitJudged}
+use Rattle.load.specs.Steps.{narrowed, headerMeant, accepts, loadBody, CircuitJudged}
 
 -- the greatest counts
 pub record Limits (k : Counts) : Type 0 where
@@ -67,11 +69,10 @@ pub limits-read : (h : lines.Counts) → countsFit (countsMeant h) ≡ true → 
 limits-read h e = limits-of (countsMeant h) e
 
 -- counts within their limits have no justice and no fairness
-pub fit-narrowed : (h : lines.Counts) → countsFit (countsMeant h) ≡ true → countsFit (headerMeant (narrowed h)) ≡ true
+pub same-narrowed : (h : lines.Counts) → countsFit (countsMeant h) ≡ true → headerMeant (narrowed h) ≡ countsMeant h
 unfolding countsFit
-fit-narrowed h e =
+same-narrowed h e =
     let at = all-at (countTests (countsMeant h)) (T-true e) in
-    let same : headerMeant (narrowed h) ≡ countsMeant h =
     λ t. record {
       M = h .m;
       I = h .i;
@@ -82,8 +83,10 @@ fit-narrowed h e =
       C = h .c;
       J = sym (eqb→eq (h .j) 0 (at 7)) t;
       F = sym (eqb→eq (h .f) 0 (at 8)) t;
-    } in
-    ap countsFit same ∙ e
+    }
+
+pub fit-narrowed : (h : lines.Counts) → countsFit (countsMeant h) ≡ true → countsFit (headerMeant (narrowed h)) ≡ true
+fit-narrowed h e = ap countsFit (same-narrowed h e) ∙ e
 
 -- the counts in the first seven words
 
@@ -94,15 +97,26 @@ module _ (k : Counts) (w : List ℕ) (r : List ℕ) (e : w ≡ numbers k ++ r) w
   pub limit-stored : 2 * k .m + 1 ≡ 2 * word w 0 + 1
   limit-stored = rw e
 
+  pub few-stored : countsFit (headerMeant k) ≡ true → (p : Layout) → PlacesOf w p → (p .i + p .l + p .a ≤ 4096) × (p .o + p .b + p .c ≤ 96)
+  few-stored f p q =
+      let h : headerAt w ≡ headerMeant k = header-stored in
+      let i : word w 1 ≡ k .i = ap (λ (x : Header). x .I) h in
+      let l : word w 2 ≡ k .l = ap (λ (x : Header). x .L) h in
+      let o : word w 3 ≡ k .o = ap (λ (x : Header). x .O) h in
+      let a : word w 4 ≡ k .a = ap (λ (x : Header). x .A) h in
+      let b : word w 5 ≡ k .b = ap (λ (x : Header). x .B) h in
+      let c : word w 6 ≡ k .c = ap (λ (x : Header). x .C) h in
+      (omega (arith, q .i-is, q .l-is, q .a-is, limits k f), omega (arith, q .o-is, q .b-is, q .c-is, limits k f))
+
   pub room-stored : countsFit (headerMeant k) ≡ true → 12391 ≤ length w → contentEnd w ≤ length w
   room-stored f h = rw e (omega (arith, limits k f, ap length (sym e)))
 
 -- the content of a circuit with the counts k
 
-module _ (k : Counts) (g : List ℕ) (c : Circuit) (b : body (headerMeant k) g ≡ some c) where
+module _ (binary : Bool) (k : Counts) (g : List ℕ) (c : Circuit) (b : sections binary (headerMeant k) g ≡ gives c) where
   same-counts : numbers k ≡ c .maxVar ∷ countRow c
   same-counts =
-      let n = body-counted (headerMeant k) g c b in
+      let n = sections-counted binary (headerMeant k) g c b in
       λ t.
       sym (n .maxVar) t ∷ sym (n .inputs) t ∷ sym (n .latches) t ∷ sym (n .outputs) t ∷ sym (n .gates) t ∷ sym (n .bads) t
       ∷ sym (n .constraints) t ∷ []
@@ -119,28 +133,28 @@ module _ (k : Counts) (g : List ℕ) (c : Circuit) (b : body (headerMeant k) g �
     counts-stored f =
         let fit : countsFit (headerOf (circuitIn w)) ≡ true =
         ap (λ (d : Circuit). countsFit (headerOf d)) same-circuit
-        ∙ ap countsFit (same-header (headerMeant k) c (body-counted (headerMeant k) g c b) f) ∙ f in
+        ∙ ap countsFit (same-header (headerMeant k) c (sections-counted binary (headerMeant k) g c b) f) ∙ f in
         let end : contentEnd w ≡ length (content c) = sym (content-length w) ∙ ap (λ (d : Circuit). length (content d)) same-circuit in
         counted w fit (omega (arith, ap length e, length-append (content c) r))
 
     pub top-stored : word w 0 ≡ k .m
     unfolding content
-    top-stored = ap (λ (x : List ℕ). word x 0) e ∙ body-counted (headerMeant k) g c b .maxVar
+    top-stored = ap (λ (x : List ℕ). word x 0) e ∙ sections-counted binary (headerMeant k) g c b .maxVar
 
     -- load of the lines accepts what the words say
-    pub body-accepts : accepts (circuitIn w) ≡ loadBody (headerMeant k) g
+    pub body-accepts : accepts (circuitIn w) ≡ loadBody binary (headerMeant k) g
     unfolding loadBody
     body-accepts = ap accepts same-circuit ∙ rw b
 
   -- a circuit whose literals are not right
-  pub body-large : literalsRight c ≡ false → loadBody (headerMeant k) g ≡ refused 6
+  pub body-large : literalsRight c ≡ false → loadBody binary (headerMeant k) g ≡ refused 6
   unfolding loadBody accepts judged
   body-large e = rw (b, e)
 
 -- no circuit
-pub body-malformed : (h : Header) (g : List ℕ) → body h g ≡ none → loadBody h g ≡ refused 5
+pub body-refused : (binary : Bool) (h : Header) (g : List ℕ) {n : ℕ} → sections binary h g ≡ refused n → loadBody binary h g ≡ refused n
 unfolding loadBody
-body-malformed h g e = rw e
+body-refused binary h g e = rw e
 
 -- the causes 6 to 8, and what is stored
 
@@ -160,11 +174,11 @@ chain c true true false = refl
 chain c true false z = refl
 chain c false y z = refl
 
-after-body : (o : Option Circuit)
-    → (read 5 o >>= λ c. test 6 (literalsRight c) >> (test 7 (usedDefined c) >> (test 8 (acyclic c) >> gives c))) ≡ (read 5 o >>= accepts)
+after-body : (o : Answer Circuit)
+    → (o >>= λ c. test 6 (literalsRight c) >> (test 7 (usedDefined c) >> (test 8 (acyclic c) >> gives c))) ≡ (o >>= accepts)
 unfolding accepts judged
-after-body none = refl
-after-body (some c) = chain c (literalsRight c) (usedDefined c) (acyclic c)
+after-body (refused n) = refl
+after-body (gives c) = chain c (literalsRight c) (usedDefined c) (acyclic c)
 
 module _ (room : ℕ) (f : List ℕ) where
   pub refused-empty : length f < 1 → spec.load room f ≡ refused 1
@@ -183,21 +197,22 @@ module _ (room : ℕ) (f : List ℕ) where
     refused-header e = rw (le-leb 1 (length f) some-byte, le-leb (length f) 65536 short, e)
 
     module _ (h : lines.Counts) (at : ℕ) (e : header f ≡ some (countsMeant h, drop at f)) where
-      pub refused-counts : countsFit (countsMeant h) ≡ false → spec.load room f ≡ refused 3
+      pub refused-counts : countsRight (isBinary f) (countsMeant h) ≡ false → spec.load room f ≡ refused 3
       unfolding spec.load
       refused-counts n = rw (le-leb 1 (length f) some-byte, le-leb (length f) 65536 short, e, n)
 
-      module _ (n : countsFit (countsMeant h) ≡ true) where
+      module _ (n : countsRight (isBinary f) (countsMeant h) ≡ true) where
         pub refused-room : room < needed (h .m) → spec.load room f ≡ refused 4
         unfolding spec.load
         refused-room l =
             rw (le-leb 1 (length f) some-byte, le-leb (length f) 65536 short, e, n, lt-leb (needed (h .m)) room l)
 
-        pub load-rest : needed (h .m) ≤ room → spec.load room f ≡ loadBody (headerMeant (narrowed h)) (drop at f)
-        unfolding spec.load loadBody body
+        pub load-rest : needed (h .m) ≤ room → spec.load room f ≡ loadBody (isBinary f) (headerMeant (narrowed h)) (drop at f)
+        unfolding spec.load loadBody
         load-rest l =
             rw (le-leb 1 (length f) some-byte, le-leb (length f) 65536 short, e, n, le-leb (needed (h .m)) room l)
-            (after-body (body (countsMeant h) (drop at f)))
+            (after-body (sections (isBinary f) (countsMeant h) (drop at f))
+            ∙ ap (λ (x : Header). sections (isBinary f) x (drop at f) >>= accepts) (sym (same-narrowed h (right-fit (isBinary f) (countsMeant h) n))))
 
 -- the words needed
 
@@ -218,22 +233,22 @@ module _ (f : List ℕ) where
     none-header e = rw (le-leb 1 (length f) some-byte, le-leb (length f) 65536 short, e)
 
     module _ (h : lines.Counts) (at : ℕ) (e : header f ≡ some (countsMeant h, drop at f)) where
-      pub none-counts : countsFit (countsMeant h) ≡ false → 0 ≡ wordsNeeded f
+      pub none-counts : countsRight (isBinary f) (countsMeant h) ≡ false → 0 ≡ wordsNeeded f
       unfolding wordsNeeded
       none-counts n = rw (le-leb 1 (length f) some-byte, le-leb (length f) 65536 short, e, n)
 
-      pub some-words : countsFit (countsMeant h) ≡ true → needed (h .m) ≡ wordsNeeded f
+      pub some-words : countsRight (isBinary f) (countsMeant h) ≡ true → needed (h .m) ≡ wordsNeeded f
       unfolding wordsNeeded
       some-words n = rw (le-leb 1 (length f) some-byte, le-leb (length f) 65536 short, e, n)
 
 -- ---- a judgement, and what is stored after it
 
--- the lines make a circuit, which stands in the words
-pub lines-judged : (k : Counts) (g : List ℕ) (c : Circuit) → body (headerMeant k) g ≡ some c → (w r : List ℕ) → w ≡ content c ++ r
-    → (x : LoadAnswer) → CircuitJudged (circuitIn w) k x → JudgedAs (loadBody (headerMeant k) g) w x
-lines-judged k g c b w r e (LoadAnswer.Loaded k′) z =
-    (c, sym (body-accepts k g c b w r e) ∙ z .1 ∙ ap gives (same-circuit k g c b w r e), ap numbers (z .0) ∙ same-counts k g c b, r, e)
-lines-judged k g c b w r e (LoadAnswer.Refused n) z = sym (body-accepts k g c b w r e) ∙ z
+-- the sections make a circuit, which stands in the words
+pub sections-judged : (binary : Bool) (k : Counts) (g : List ℕ) (c : Circuit) → sections binary (headerMeant k) g ≡ gives c → (w r : List ℕ)
+    → w ≡ content c ++ r → (x : LoadAnswer) → CircuitJudged (circuitIn w) k x → JudgedAs (loadBody binary (headerMeant k) g) w x
+sections-judged y k g c b w r e (LoadAnswer.Loaded k′) z =
+    (c, sym (body-accepts y k g c b w r e) ∙ z .1 ∙ ap gives (same-circuit y k g c b w r e), ap numbers (z .0) ∙ same-counts y k g c b, r, e)
+sections-judged y k g c b w r e (LoadAnswer.Refused n) z = sym (body-accepts y k g c b w r e) ∙ z
 
 pub file-judged : {a b : Answer Circuit} → a ≡ b → (w : List ℕ) (x : LoadAnswer) → JudgedAs b w x → JudgedAs a w x
 file-judged e w (LoadAnswer.Loaded k) z = (z .0, e ∙ z .1, z .2, z .3, z .4)

@@ -8,9 +8,10 @@ use native.Mathlib.Omega.{arith}
 use lib.Dec.{leb}
 use lib.ListN.{length}
 use Rattle.aiger.specs.Circuit.{Circuit}
-use Rattle.aiger.specs.File.{Header, header, countsFit}
+use Rattle.aiger.specs.File.{Header, isBinary, header, countsRight}
 use Rattle.aiger.specs.Load.{Answer, gives, test, read, needed, _>>=_, _>>_}
 use Rattle.aiger.specs.Operations.{Loaded}
+use Rattle.roundtrip.proofs.LoadValid.{right-fit}
 use Rattle.load.specs.Answers.{answered}
 use Rattle.load.specs.Preview.{countsOf, orZero, wordsNeeded, Previewed}
 use Rattle.load.proofs.Finishing.{limits-of}
@@ -21,15 +22,15 @@ pub words-few : (f : List ℕ) → wordsNeeded f ≤ 33032
 unfolding wordsNeeded
 words-few f = go (leb 1 (length f) && leb (length f) 65536) (header f)
   where
-    within : (h : Header) (b : Bool) → countsFit h ≡ b → orZero (test 3 b >> gives (needed (h .M))) ≤ 33032
-    within h true e = omega (arith, limits-of h e)
+    within : (h : Header) (b : Bool) → countsRight (isBinary f) h ≡ b → orZero (test 3 b >> gives (needed (h .M))) ≤ 33032
+    within h true e = omega (arith, limits-of h (right-fit (isBinary f) h e))
     within h false e = omega arith
 
     go : (b : Bool) (o : Option (Header × List ℕ))
-        → orZero (test 1 b >> read 2 o >>= λ h. test 3 (countsFit (h .0)) >> gives (needed (h .0 .M))) ≤ 33032
+        → orZero (test 1 b >> read 2 o >>= λ h. test 3 (countsRight (isBinary f) (h .0)) >> gives (needed (h .0 .M))) ≤ 33032
     go false o = omega arith
     go true none = omega arith
-    go true (some h) = within (h .0) (countsFit (h .0)) refl
+    go true (some h) = within (h .0) (countsRight (isBinary f) (h .0)) refl
 
 pub preview-load : (m f m′ : List ℕ) (a : Answer (List ℕ)) (r : Judgement) → Loaded m f a m′ → Previewed (length m) f r → answered (r .answer) ≡ a
 preview-load m f m′ a r (Loaded.refuses e) p = p .answer ∙ ap (λ (x : Answer Circuit). x >>= λ c. gives (countsOf c)) e

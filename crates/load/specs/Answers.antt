@@ -6,7 +6,7 @@ use Rattle.load.specs.declared.Counts.{Counts}
 use Rattle.load.specs.declared.LoadAnswer.{LoadAnswer}
 use Rattle.load.specs.declared.LoadAnswer.the-variants.{Loaded, Refused}
 
--- "An accepted load returns M, I, L, O, A, B, C"
+-- Clause 6.6: the counts that an accepted load answers
 abbrev pub numbers : Counts → List ℕ
 numbers k = k .m ∷ k .i ∷ k .l ∷ k .o ∷ k .a ∷ k .b ∷ k .c ∷ []
 

@@ -1,4 +1,4 @@
--- What a judgement of a file says: what load would answer, and the words that the file's circuit needs. Assumes nothing.
+-- What a judgement of a file says: what load would answer, and the words that the file's circuit needs. Clause 12.8. Assumes nothing.
 use mathlib.Core.Path.{_≡_}
 use mathlib.Core.Bool.{_&&_}
 use mathlib.Core.List.{List, _∷_, _++_}
@@ -6,7 +6,7 @@ use Prim.Native.Nat.{ℕ}
 use lib.Dec.{leb}
 use lib.ListN.{length}
 use Rattle.aiger.specs.Circuit.{Circuit}
-use Rattle.aiger.specs.File.{header, countsFit}
+use Rattle.aiger.specs.File.{isBinary, header, countsRight}
 use Rattle.aiger.specs.Load.{Answer, refused, gives, test, read, load, needed, _>>=_, _>>_}
 use Rattle.aiger.specs.Write.{countRow}
 use Rattle.aiger.specs.Memory.{content}
@@ -29,7 +29,7 @@ unfoldable pub wordsNeeded : List ℕ → ℕ
 wordsNeeded f =
     orZero
     (test 1 (leb 1 (length f) && leb (length f) 65536) >> read 2 (header f) >>= λ h.
-    test 3 (countsFit (h .0)) >> gives (needed (h .0 .M)))
+    test 3 (countsRight (isBinary f) (h .0)) >> gives (needed (h .0 .M)))
 
 -- preview: load's answer on a memory of `room` words, and the words needed
 pub record Previewed (room : ℕ) (f : List ℕ) (r : Judgement) : Type 0 where

@@ -1,8 +1,6 @@
-// Load: an ASCII AIGER file into circuit memory.
-use layout::Layout;
+// Load: an AIGER file, in text or binary form, into circuit memory.
 use lines::Header;
-use lines::Rows;
-use lines::read_rows;
+use sections::Body;
 use validity::Checked;
 ghost use mathlib.Core.Path.{_≡_};
 ghost use mathlib.Core.Bool.{true};
@@ -13,13 +11,13 @@ ghost use Rattle.aiger.specs.File.{countsFit};
 ghost use Rattle.aiger.specs.Load.{needed};
 ghost use Rattle.aiger.specs.Memory.{image};
 ghost use Rattle.aiger.specs.Operations.{Loaded, front};
-ghost use Rattle.layout.specs.Words.{word, contentEnd, circuitIn};
+ghost use Rattle.layout.specs.Words.{word, circuitIn};
 ghost use Rattle.lines.specs.Header.{countsMeant};
-ghost use Rattle.layout.specs.Layout.{PlacesOf, Counted};
+ghost use Rattle.layout.specs.Layout.{Counted};
 ghost use Rattle.load.specs.declared.LoadAnswer.the-variants.{Refused};
 ghost use Rattle.load.specs.Answers.{answered, numbers};
 ghost use Rattle.load.specs.Preview.{Previewed, JudgedAs, Judges};
-ghost use Rattle.load.specs.Steps.{narrowed, headerMeant, headerAt, CircuitJudged, loadBody, BodyAt};
+ghost use Rattle.load.specs.Steps.{narrowed, headerMeant, CircuitJudged, loadBody};
 
 // The numbers that an accepted load returns: the largest variable, and how many inputs, latches, outputs, gates, bad lines and
 // constraints there are.
@@ -43,13 +41,6 @@ pub enum LoadAnswer {
 pub struct Judgement {
     pub answer: LoadAnswer,
     pub needed: usize,
-}
-
-// The lines of a file: read and stored; read, with a number above the limit; or malformed.
-enum Body {
-    Read,
-    Large,
-    Malformed,
 }
 
 // A header's counts as words.
@@ -80,42 +71,6 @@ fn store_counts(words: &mut [u32], k: Counts)
     words[4] = k.a;
     words[5] = k.b;
     words[6] = k.c;
-}
-
-// Reads the lines after the header, and stores their numbers after the counts, which words has.
-fn read_body(s: &[u8], at: usize, p: Layout, limit: u32, words: &mut [u32]) -> Body
-    requires { ⌜ at ≤ length (now s) ⌝ }
-    requires { ⌜ PlacesOf (now words) p ⌝ }
-    requires { ⌜ contentEnd (now words) ≤ length (now words) ⌝ }
-    requires { ⌜ limit ≡ 2 * word (now words) 0 + 1 ⌝ }
-    ensures { λ r. ⌜ BodyAt (headerAt (now (words .entry))) (drop at (now (s .entry))) (now (words .exit)) r ⌝ }
-{
-    let Rows::Read(at, inputs) = read_rows(s, at, 1, 1, p.i, limit, words, 7) else {
-        return Body::Malformed;
-    };
-    let Rows::Read(at, latches) = read_rows(s, at, 2, 3, p.l, limit, words, p.latches) else {
-        return Body::Malformed;
-    };
-    let Rows::Read(at, outputs) = read_rows(s, at, 1, 1, p.o, limit, words, p.outputs) else {
-        return Body::Malformed;
-    };
-    let Rows::Read(at, bads) = read_rows(s, at, 1, 1, p.b, limit, words, p.bads) else {
-        return Body::Malformed;
-    };
-    let Rows::Read(at, constraints) = read_rows(s, at, 1, 1, p.c, limit, words, p.constraints)
-    else {
-        return Body::Malformed;
-    };
-    let Rows::Read(at, gates) = read_rows(s, at, 3, 3, p.a, limit, words, p.gates) else {
-        return Body::Malformed;
-    };
-    if !lines::is_tail(s, at) {
-        return Body::Malformed;
-    }
-    if inputs & latches & outputs & bads & constraints & gates {
-        return Body::Read;
-    }
-    Body::Large
 }
 
 // Copies the first n words.
@@ -167,18 +122,26 @@ fn judge_circuit(k: Counts, words: &[u32], order: &mut [u32]) -> LoadAnswer
     }
 }
 
-// Judges the lines after a header with the counts k. The content of an accepted circuit is left in words.
-fn judge_lines(s: &[u8], at: usize, k: Counts, words: &mut [u32], order: &mut [u32]) -> LoadAnswer
+// Judges the sections after a header with the counts k, in binary or text form. The content of an accepted circuit is left in words.
+fn judge_sections(
+    s: &[u8],
+    at: usize,
+    binary: bool,
+    k: Counts,
+    words: &mut [u32],
+    order: &mut [u32],
+) -> LoadAnswer
     requires { ⌜ at ≤ length (now s) ⌝ }
     requires { ⌜ countsFit (headerMeant k) ≡ true ⌝ }
     requires { ⌜ 12391 ≤ length (now words) ⌝ }
     requires { ⌜ 3072 ≤ length (now order) ⌝ }
-    ensures { λ r. ⌜ JudgedAs (loadBody (headerMeant k) (drop at (now (s .entry)))) (now (words .exit)) r ⌝ }
+    ensures { λ r. ⌜ JudgedAs (loadBody binary (headerMeant k) (drop at (now (s .entry)))) (now (words .exit)) r ⌝ }
 {
     store_counts(words, k);
     let p = layout::layout_of(words);
-    match read_body(s, at, p, 2 * k.m + 1, words) {
+    match sections::read_sections(s, at, binary, p, 2 * k.m + 1, words) {
         Body::Malformed => LoadAnswer::Refused(5),
+        Body::Damaged => LoadAnswer::Refused(15),
         Body::Large => LoadAnswer::Refused(6),
         Body::Read => judge_circuit(k, words, order),
     }
@@ -209,7 +172,8 @@ fn judge(file: &[u8], room: usize, words: &mut [u32], order: &mut [u32]) -> Judg
     let Header::Read(h, at) = lines::read_header(file) else {
         return refused(2);
     };
-    if !lines::counts_fit(h) {
+    let binary = lines::is_binary(file);
+    if !lines::counts_right(h, binary) {
         return refused(3);
     }
     let needed = 8 * (h.m as usize + 1) + 256;
@@ -219,7 +183,7 @@ fn judge(file: &[u8], room: usize, words: &mut [u32], order: &mut [u32]) -> Judg
             needed,
         };
     }
-    let answer = judge_lines(file, at, narrow(h), words, order);
+    let answer = judge_sections(file, at, binary, narrow(h), words, order);
     Judgement { answer, needed }
 }
 

@@ -1,4 +1,4 @@
--- Gates that depend on themselves: the test of number 8 is true exactly when no gate reaches itself. Assumes nothing.
+-- Gates that depend on themselves: the test of number 8 is true exactly when no gate reaches itself. Clause 6.1. Assumes nothing.
 use mathlib.Core.Path.{_≡_, refl, sym, ap, _∙_, subst}
 use mathlib.Core.Bool.{Bool, true, false, _&&_}
 use mathlib.Core.List.{List, [], _∷_, map, List·Memᴰ, List·Memᴰ·head, List·Memᴰ·cases-cons, Memᴰ·cast, Memᴰ·map, Memᴰ·of-map}

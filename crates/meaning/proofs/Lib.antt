@@ -2,6 +2,7 @@ pub mod Lists
 pub mod Defined
 pub mod Cycles
 pub mod Values
+pub mod Runs
 pub mod Decisions
 pub mod Outcomes
 pub mod Bits
@@ -10,3 +11,4 @@ pub mod Prefixes
 pub mod Shape
 pub mod Leaves
 pub mod Embedding
+pub mod Allowed

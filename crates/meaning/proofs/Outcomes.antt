@@ -1,7 +1,9 @@
--- What a search may answer: each permitted outcome in plain terms, and which outcomes exclude each other. Assumes nothing.
+-- What a search may answer: each permitted outcome in plain terms, and which outcomes exclude each other. Clauses 3.2, 3.3, 3.4.
+-- Assumes nothing.
 use mathlib.Core.Path.{_≡_, sym, ap, ap₂, _∙_, subst}
-use mathlib.Core.Bool.{_&&_}
-use mathlib.Core.List.{List, [], _∷_, _++_, map, List·Memᴰ, List·Memᴰ·head, List·Memᴰ·tail, Memᴰ·append-left, Memᴰ·append-right, Memᴰ·map}
+use mathlib.Core.Bool.{not, _&&_}
+use mathlib.Core.List.{List, [], _++_, map, List·Memᴰ, Memᴰ·append-left, Memᴰ·append-right, Memᴰ·map}
+use mathlib.Core.Option.{Option}
 use Prim.Native.Nat.{ℕ, _+_, _≤_, _<_, _^_}
 use native.Mathlib.Nat.{le-antisymm}
 use native.Mathlib.Decide.{decLe}
@@ -9,16 +11,17 @@ use native.Mathlib.Omega.{arith}
 use lib.Dec.{T, leb, eqb, leb→le, le→leb, eqb→eq, eqb-refl}
 use Rattle.aiger.specs.Lists.{upto}
 use Rattle.aiger.specs.Circuit.{Circuit}
-use Rattle.aiger.specs.Frames.{freeBits}
-use Rattle.aiger.specs.Search.{Question, question, Decision, Outcome, decidesAt, clearBefore, permittedOf, permitted}
-use Rattle.aiger.specs.Examples.{join, outcomes}
+use Rattle.aiger.specs.Frames.{freeBits, run}
+use Rattle.aiger.specs.Search.{Question, question, Decision, Outcome, decidesAt, clearAt, clearBefore, permittedOf, reaches, permitted, firstWitness}
+use Rattle.aiger.specs.Witness.{witness}
+use Rattle.aiger.specs.Examples.{outcomes}
 use Rattle.aiger.proofs.Tests.{and, and-left, and-right, below-at, below-all}
 use Rattle.meaning.proofs.Lists.{upto-in}
-use Rattle.meaning.proofs.Decisions.{NoneFrom, FirstHit, Exceeded, decides-out, decides-in, first-same}
+use Rattle.meaning.proofs.Decisions.{NoneFrom, FirstHit, Exceeded, clear-out, clear-in, decides-out, decides-in, first-same, first-from, not-clear, hit-clear}
 
 -- the outcome is not spent
 abbrev pub Decided : Outcome → Type 0
-Decided (Outcome.found t x) = Unit {0}
+Decided (Outcome.found t) = Unit {0}
 Decided (Outcome.none k) = Unit {0}
 Decided (Outcome.spent t) = ⊥
 
@@ -33,17 +36,17 @@ module _ (q : Question) where
 
   -- the test in plain terms, out and in
   pub before-out : (t : ℕ) → T (clearBefore q t) → Quiet t
-  before-out t h u l = decides-out (q .hitting u) (q .places u) 0 0 Decision.clear (below-at t (λ v. decidesAt q v 0 Decision.clear) h u l)
+  before-out t h u l = clear-out (q .hitting u) 0 (q .places u) (below-at t (clearAt q) h u l)
 
   pub before-in : (t : ℕ) → Quiet t → T (clearBefore q t)
-  before-in t h =
-      below-all t (λ v. decidesAt q v 0 Decision.clear) (λ u l. decides-in (q .hitting u) (q .places u) 0 0 Decision.clear (h u l))
+  before-in t h = below-all t (clearAt q) (λ u l. clear-in (q .hitting u) 0 (q .places u) (h u l))
 
-  -- found t with sequence x: t is the first frame with a hit, and x the first hit there
-  pub record Found (k t x : ℕ) : Type 0 where
+  -- found t: t is the first frame with a hit, and `place` is the first hit there
+  pub record Found (k t : ℕ) : Type 0 where
     pub within : t ≤ k
     pub quiet : Quiet t
-    pub first : FirstHit (q .hitting t) (q .places t) 0 x
+    pub place : ℕ
+    pub first : FirstHit (q .hitting t) (q .places t) 0 place
 
   -- none j: the bound is j, and no frame up to it has a hit
   pub record None (k j : ℕ) : Type 0 where
@@ -58,26 +61,22 @@ module _ (q : Question) where
 
   module _ (k D : ℕ) where
     -- a permitted found is a Found, and the other way round
-    pub found-out : (t x : ℕ) → T (permittedOf q k D (Outcome.found t x)) → Found k t x
+    pub found-out : (t : ℕ) → T (permittedOf q k D (Outcome.found t)) → Found k t
     unfolding permittedOf
-    found-out t x h =
+    found-out t h =
         let p1 = leb t k in
         let p2 = clearBefore q t in
-        let p3 = decidesAt q t D (Decision.hit x) in
+        let p3 = not (clearAt q t) in
         let h2 = and-left (p1 && p2) p3 h in
-        record {
-          within = leb→le t k (and-left p1 p2 h2);
-          quiet = before-out t (and-right p1 p2 h2);
-          first = decides-out (q .hitting t) (q .places t) 0 D (Decision.hit x) (and-right (p1 && p2) p3 h);
-        }
+        let f = not-clear (q .hitting t) (q .places t) 0 (and-right (p1 && p2) p3 h) in
+        record { within = leb→le t k (and-left p1 p2 h2); quiet = before-out t (and-right p1 p2 h2); place = f .0; first = f .1 }
 
-    pub found-in : (t x : ℕ) → Found k t x → T (permittedOf q k D (Outcome.found t x))
+    pub found-in : (t : ℕ) → Found k t → T (permittedOf q k D (Outcome.found t))
     unfolding permittedOf
-    found-in t x f =
+    found-in t f =
         let p1 = leb t k in
         let p2 = clearBefore q t in
-        and (p1 && p2) (decidesAt q t D (Decision.hit x)) (and p1 p2 (le→leb t k (f .within)) (before-in t (f .quiet)))
-        (decides-in (q .hitting t) (q .places t) 0 D (Decision.hit x) (f .first))
+        and (p1 && p2) (not (clearAt q t)) (and p1 p2 (le→leb t k (f .within)) (before-in t (f .quiet))) (hit-clear (q .hitting t) (f .first))
 
     -- a permitted none is a None, and the other way round
     pub none-out : (j : ℕ) → T (permittedOf q k D (Outcome.none j)) → None k j
@@ -115,61 +114,57 @@ module _ (q : Question) where
 
   -- ---- which outcomes exclude each other
 
-  later : {k t x k′ t′ x′ : ℕ} → Found k t x → Found k′ t′ x′ → t ≤ t′
-  later {t = t} {t′ = t′} {x′ = x′} f g =
+  later : {k t k′ t′ : ℕ} → Found k t → Found k′ t′ → t ≤ t′
+  later {t = t} {t′ = t′} f g =
       let a = g .first in
-      elim (decLe t t′) [ yes h ↦ h | no h ↦ absurd (f .quiet t′ (omega arith) x′ (a .from) (a .fits) (a .hit)) ]
+      elim (decLe t t′) [ yes h ↦ h | no h ↦ absurd (f .quiet t′ (omega arith) (g .place) (a .from) (a .fits) (a .hit)) ]
 
-  -- found has one frame and one sequence, whatever the bounds
-  pub found-same : {k t x k′ t′ x′ : ℕ} → Found k t x → Found k′ t′ x′ → (t ≡ t′) × (x ≡ x′)
-  found-same {k} {t} {x} {k′} {t′} {x′} f g =
-      let e : t ≡ t′ = le-antisymm (later f g) (later g f) in
-      let f′ : Found k t′ x = subst (λ (u : ℕ). Found k u x) e f in
-      (e, first-same (q .hitting t′) (f′ .first) (g .first))
+  -- found has one frame, whatever the bounds
+  pub found-same : {k t k′ t′ : ℕ} → Found k t → Found k′ t′ → t ≡ t′
+  found-same f g = le-antisymm (later f g) (later g f)
 
-  -- the same of two answers, whatever the bounds and budgets
-  pub found-unique : (k D t x k′ D′ t′ x′ : ℕ) → T (permittedOf q k D (Outcome.found t x)) → T (permittedOf q k′ D′ (Outcome.found t′ x′))
-      → (t ≡ t′) × (x ≡ x′)
-  found-unique k D t x k′ D′ t′ x′ p r = found-same (found-out k D t x p) (found-out k′ D′ t′ x′ r)
+  -- and one sequence there
+  pub place-same : {k k′ t : ℕ} (f : Found k t) (g : Found k′ t) → f .place ≡ g .place
+  place-same {t = t} f g = first-same (q .hitting t) (f .first) (g .first)
 
   -- none up to a bound and found within that bound exclude each other
-  pub none-found : {k j k′ t x : ℕ} → None k j → Found k′ t x → t ≤ k → ⊥
-  none-found {t = t} {x = x} n f l = let a = f .first in n .quiet t (omega arith) x (a .from) (a .fits) (a .hit)
+  pub none-found : {k j k′ t : ℕ} → None k j → Found k′ t → t ≤ k → ⊥
+  none-found {t = t} n f l = let a = f .first in n .quiet t (omega arith) (f .place) (a .from) (a .fits) (a .hit)
 
   -- two answers for the same bound that are not spent are the same, whatever the budgets
   pub answer-same : (k D D′ : ℕ) (o o′ : Outcome) → Decided o → Decided o′ → T (permittedOf q k D o) → T (permittedOf q k D′ o′) → o ≡ o′
-  answer-same k D D′ (Outcome.found t x) (Outcome.found t′ x′) d d′ p r =
-      let e = found-unique k D t x k D′ t′ x′ p r in
-      ap₂ Outcome.found (e .0) (e .1)
-  answer-same k D D′ (Outcome.found t x) (Outcome.none j) d d′ p r =
-      let f = found-out k D t x p in
+  answer-same k D D′ (Outcome.found t) (Outcome.found t′) d d′ p r = ap Outcome.found (found-same (found-out k D t p) (found-out k D′ t′ r))
+  answer-same k D D′ (Outcome.found t) (Outcome.none j) d d′ p r =
+      let f = found-out k D t p in
       absurd (none-found (none-out k D′ j r) f (f .within))
-  answer-same k D D′ (Outcome.none j) (Outcome.found t x) d d′ p r =
-      let f = found-out k D′ t x r in
+  answer-same k D D′ (Outcome.none j) (Outcome.found t) d d′ p r =
+      let f = found-out k D′ t r in
       absurd (none-found (none-out k D j p) f (f .within))
   answer-same k D D′ (Outcome.none j) (Outcome.none j′) d d′ p r = ap Outcome.none (none-out k D j p .bound ∙ sym (none-out k D′ j′ r .bound))
-  answer-same k D D′ (Outcome.found t x) (Outcome.spent t′) d d′ p r = absurd d′
+  answer-same k D D′ (Outcome.found t) (Outcome.spent t′) d d′ p r = absurd d′
   answer-same k D D′ (Outcome.none j) (Outcome.spent t′) d d′ p r = absurd d′
   answer-same k D D′ (Outcome.spent t) o′ d d′ p r = absurd d
 
+-- ---- the witness that is shown
+
+-- where x is the first hit of frame t, the first witness is that of its run
+pub first-witness : (c : Circuit) (b t x : ℕ) → FirstHit (reaches c b t) (2 ^ freeBits c t) 0 x → firstWitness c b t ≡ witness b (run c t x)
+unfolding firstWitness
+first-witness c b t x f =
+    ap (λ (o : Option ℕ). elim o [ Option.some y ↦ witness b (run c t y) | Option.none ↦ [] ]) (first-from (reaches c b t) f)
+
 -- ---- the outcomes that the examples try
 
-join-in : {A B : Type 0} (f : A → List B) {a : A} {b : B} {l : List A} → List·Memᴰ a l → List·Memᴰ b (f a) → List·Memᴰ b (join f l)
-unfolding join
-join-in f {b = b} (List·Memᴰ·head {xs = xs} e) m = Memᴰ·append-left (join f xs) (subst (λ x. List·Memᴰ b (f x)) e m)
-join-in f (List·Memᴰ·tail {x = x} d) m = Memᴰ·append-right (f x) (join-in f d m)
-
 -- every permitted outcome is among those that the examples try
-pub covered : (c : Circuit) (b k D : ℕ) (o : Outcome) → T (permitted c b k D o) → List·Memᴰ o (outcomes c k)
+pub covered : (c : Circuit) (b k D : ℕ) (o : Outcome) → T (permitted c b k D o) → List·Memᴰ o (outcomes k)
 unfolding outcomes
-covered c b k D (Outcome.found t x) h =
-    let f = found-out (question c b) k D t x h in
+covered c b k D (Outcome.found t) h =
+    let f = found-out (question c b) k D t h in
     Memᴰ·append-left (map Outcome.spent (upto (k + 2))) (Memᴰ·append-left (map Outcome.none (upto (k + 2)))
-    (join-in (λ u. map (Outcome.found u) (upto (2 ^ freeBits c u + 1))) (upto-in (k + 2) t (omega (arith, f .within)))
-    (Memᴰ·map (Outcome.found t) (upto-in (2 ^ freeBits c t + 1) x (omega (arith, f .first .fits))))))
+    (Memᴰ·map Outcome.found (upto-in (k + 2) t (omega (arith, f .within)))))
 covered c b k D (Outcome.none j) h =
-    Memᴰ·append-left (map Outcome.spent (upto (k + 2))) (Memᴰ·append-right (join (λ u. map (Outcome.found u) (upto (2 ^ freeBits c u + 1))) (upto (k + 2)))
+    Memᴰ·append-left (map Outcome.spent (upto (k + 2))) (Memᴰ·append-right (map Outcome.found (upto (k + 2)))
     (Memᴰ·map Outcome.none (upto-in (k + 2) j (omega (arith, none-out (question c b) k D j h .bound)))))
 covered c b k D (Outcome.spent t) h =
-    Memᴰ·append-right (join (λ u. map (Outcome.found u) (upto (2 ^ freeBits c u + 1))) (upto (k + 2)) ++ map Outcome.none (upto (k + 2)))
+    Memᴰ·append-right (map Outcome.found (upto (k + 2)) ++ map Outcome.none (upto (k + 2)))
     (Memᴰ·map Outcome.spent (upto-in (k + 2) t (omega (arith, spent-out (question c b) k D t h .within))))

@@ -1,4 +1,4 @@
--- Sequences and runs: the run of a sequence bit by bit, and that the runs of sequences are all runs. Assumes nothing.
+-- Sequences and runs: the run of a sequence bit by bit, and that the runs of sequences are all runs. Clauses 2.3, 2.4. Assumes nothing.
 use mathlib.Core.Path.{_≡_, refl, sym, ap, ap₂, _∙_, subst}
 use mathlib.Core.Bool.{Bool, true, false, cond, _||_}
 use mathlib.Core.List.{List, [], _∷_, _++_}

@@ -1,4 +1,4 @@
--- The values in a frame: the equations that they satisfy, and that these equations determine them. Assumes nothing.
+-- The values in a frame: the equations that they satisfy, and that these equations determine them. Clause 2.6. Assumes nothing.
 use mathlib.Core.Path.{_≡_, refl, sym, ap, ap₂, _∙_, subst}
 use mathlib.Core.Bool.{Bool, true, false, not, cond, _&&_}
 use mathlib.Core.List.{List, [], _∷_, map, List·Memᴰ}

@@ -1,4 +1,6 @@
 // Decimal numbers of the ASCII AIGER format, read from a text and written to one.
+// Clause 12.3: digits are converted while they are read, and none is kept.
+// Clause 11.4: a match with ranges tells bytes apart.
 ghost use mathlib.Core.Path.{_≡_};
 ghost use lib.ListN.{length};
 ghost use Rattle.aiger.specs.Text.{isNumber, digits};

@@ -13,7 +13,7 @@ use Rattle.reachable.specs.Layers.{layered, FoundOf, LayersOf}
 use Rattle.reachable.specs.declared.Found.{Found}
 use Rattle.reachable.specs.declared.Found.the-variants.{At, Nowhere, Left}
 use Rattle.reachable.specs.declared.Layers.the-variants.{Hit, Clear, GaveUp}
-use Rattle.reachable.proofs.Quotas.{bits-below}
+use Rattle.limits.proofs.Sizes.{bits-within}
 
 module _ (c : Circuit) (b k : ℕ) (records : List ℕ) (r : Found) (f : FoundOf c b k records r) where
   -- the first hit, in plain terms
@@ -49,7 +49,7 @@ module _ (c : Circuit) (b k : ℕ) (records : List ℕ) (r : Found) (f : FoundOf
     pub asks : k ≤ 255 → u ≤ 16 → size c k ≤ length records
         → (t ≤ 255) × (row < 2 ^ i) × (u ≤ 16) × (i ≤ 16) × (4 * e + 4 ≤ length records) × (u + i * (t + 1) ≤ length records)
     asks l h w =
-        (omega (arith, p .within), subst (λ (x : ℕ). row < 2 ^ x) (sym is) (p .row-in), h, omega (arith, p .narrow), p .inside, omega (arith, bits-is, bits-below c t k (p .within)))
+        (omega (arith, p .within), subst (λ (x : ℕ). row < 2 ^ x) (sym is) (p .row-in), h, omega (arith, p .narrow), p .inside, omega (arith, bits-is, bits-within c t k (p .within)))
 
     pub asks-trace : (y : ℕ) × Trace (2 ^ i) records t e y
     asks-trace = (p .prefix, subst (λ (x : ℕ). Trace (2 ^ x) records t e (p .prefix)) (sym is) (p .trace))

@@ -11,15 +11,16 @@ use lib.Dec.{T, leb, leb→le}
 use lib.ListN.{length}
 use lib.Pow.{pow-pos}
 use Rattle.aiger.specs.Circuit.{Circuit}
-use Rattle.aiger.specs.Frames.{freeStarts, size, freeBits}
+use Rattle.aiger.specs.Frames.{freeStarts, size}
 use Rattle.aiger.proofs.Tests.{T-true, and-left, and-right}
 use Rattle.aiger.specs.Memory.{Holds}
 use Rattle.layout.specs.Words.{circuitIn}
 use Rattle.layout.specs.Layout.{LayoutOf}
 use Rattle.layout.specs.declared.Layout.{Layout}
-use Rattle.frames.proofs.Facts.{counts, constraint-count, gate-count}
-use Rattle.enumeration.proofs.Facts.{inputs-are, latches-are}
-use Rattle.enumeration.proofs.Starts.{starts-few}
+use Rattle.frames.proofs.Facts.{counts, gate-count}
+use Rattle.frames.proofs.Places.{inputs-are, latches-are}
+use Rattle.limits.specs.Limits.{sizeOf}
+use Rattle.limits.proofs.Sizes.{product-small, size-is, counts-of, limited}
 use Rattle.reachable.specs.Quota.{effort, quota}
 
 -- a larger dividend has no smaller quotient
@@ -83,14 +84,6 @@ module _ (c : Circuit) where
           )
       go false e h = absurd (omega arith)
 
-  -- the free bits of a frame are fewer than its units
-  pub bits-below : (t k : ℕ) → t ≤ k → freeBits c t ≤ size c k
-  unfolding size freeBits
-  bits-below t k l =
-      let n = length (c .inputs) + length (c .gates) + length (c .constraints) in
-      let a : length (c .inputs) * (t + 1) ≤ n * (k + 1) = mul-le-mul {n₁ = length (c .inputs)} {m₁ = t + 1} {n₂ = n} {m₂ = k + 1} (omega arith) (omega arith) in
-      omega (arith, mul-comm n (k + 1))
-
   pub quota-many : (t : ℕ) → 16 < length (c .inputs) → quota c t ≡ 0
   unfolding quota
   quota-many t l = ap (λ (b : Bool). cond (b && (leb (length (c .latches)) 32 && leb (freeStarts c) 16)) (min (4 * size c t) ((40000 + 128 * size c t) / effort c)) 0) (lt-leb I 16 l)
@@ -123,9 +116,6 @@ module _ {m : List ℕ} {p : Layout} (held : Holds m (circuitIn m)) (a : LayoutO
   gates-is : p .a ≡ length (circuitIn m .gates)
   gates-is = a .a-is ∙ sym (gate-count m)
 
-  constraints-is : p .c ≡ length (circuitIn m .constraints)
-  constraints-is = a .c-is ∙ sym (constraint-count m)
-
   pub gates-small : p .a ≤ 3072
   gates-small = omega (arith, gates-is, counts held .gates)
 
@@ -133,23 +123,15 @@ module _ {m : List ℕ} {p : Layout} (held : Holds m (circuitIn m)) (a : LayoutO
   unfolding effort
   effort-is words rows w r = let x = inputs-is in let y = latches-is in let z = gates-is in cc
 
-  pub units-is : (t : ℕ) → (t + 1) * (p .i + p .a + p .c) + p .u + 1 ≡ size (circuitIn m) t
-  unfolding size
-  units-is t = let x = inputs-is in let z = gates-is in let y = constraints-is in let u = a .u-is in cc
-
   -- nothing wraps
-  pub units-few : p .i + p .a + p .c ≤ 3344
-  units-few = omega (arith, inputs-is, gates-is, constraints-is, counts held .inputs, counts held .gates, counts held .constraints)
-
-  pub starts-small : p .u ≤ 1024
-  starts-small = omega (arith, a .u-is, starts-few held a)
-
-  pub units-small : (t : ℕ) → t ≤ 255 → (t + 1) * (p .i + p .a + p .c) ≤ 856064
-  units-small t l = mul-le-mul {n₁ = t + 1} {m₁ = p .i + p .a + p .c} {n₂ = 256} {m₂ = 3344} (omega arith) units-few
+  pub size-few : (t : ℕ) → t ≤ 255 → sizeOf p t ≤ 1048576
+  size-few t l =
+      let n = limited held a in
+      omega (arith, n .starts, product-small t (p .i + p .a + p .c + 1) l (omega (arith, n .inputs, n .gates, n .constraints)))
 
   -- the quota, from what the code computes
-  pub quota-from : (t units each : ℕ) → units ≡ size (circuitIn m) t → each ≡ effort (circuitIn m) → p .i ≤ 16 → p .l ≤ 32 → p .u ≤ 16
+  pub quota-from : (t units each : ℕ) → units ≡ sizeOf p t → each ≡ effort (circuitIn m) → p .i ≤ 16 → p .l ≤ 32 → p .u ≤ 16
       → min (4 * units) ((40000 + 128 * units) / each) ≡ quota (circuitIn m) t
   quota-from t units each x y i l u =
-      ap₂ (λ (s e : ℕ). min (4 * s) ((40000 + 128 * s) / e)) x y
+      ap₂ (λ (s e : ℕ). min (4 * s) ((40000 + 128 * s) / e)) (x ∙ size-is (counts-of held a) t) y
       ∙ sym (quota-is (circuitIn m) t (omega (arith, inputs-is)) (omega (arith, latches-is)) (omega (arith, a .u-is)))

@@ -51,17 +51,6 @@ fn effort(m: &[u32], layout: Layout) -> usize
     (gates + latches + 1) * words + (latches + 8) * rows
 }
 
-// The size for bound t.
-fn units(m: &[u32], layout: Layout, t: usize) -> usize
-    requires { ⌜ Holds (now m) (circuitIn (now m)) ⌝ }
-    requires { ⌜ LayoutOf (now m) layout ⌝ }
-    requires { ⌜ t ≤ 255 ⌝ }
-    ensures { λ r. ⌜ (r ≡ size (circuitIn (now (m .entry))) t) × (r ≤ 1048576) ⌝ }
-{
-    let each = layout.i + layout.a + layout.c;
-    (t + 1) * each + layout.u + 1
-}
-
 // How many states may be met by frame t + 1.
 fn quota(m: &[u32], layout: Layout, t: usize) -> usize
     requires { ⌜ Holds (now m) (circuitIn (now m)) ⌝ }
@@ -78,7 +67,7 @@ fn quota(m: &[u32], layout: Layout, t: usize) -> usize
     if 16 < layout.u {
         return 0;
     }
-    let size = units(m, layout, t);
+    let size = limits::size(layout, t);
     let each = effort(m, layout);
     let most = 4 * size;
     let affordable = (40000 + 128 * size) / each;

@@ -20,7 +20,3 @@ past n m false r h e = let z : n ≡ m = cc in absurd (h z)
 
 pub given : {A : Type 0} {a : A} {m : ℕ} → gives a ≡ refused m → ⊥
 given e = let z : _≡_ {A = ℕ} 0 1 = cc in omega arith
-
-pub other : (n m : ℕ) (b : Bool) → (n ≡ m → ⊥) → test n b ≡ refused m → ⊥
-other n m true h e = given e
-other n m false h e = let z : n ≡ m = cc in h z

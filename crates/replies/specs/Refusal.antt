@@ -4,13 +4,13 @@ use Prim.Native.Nat.{ℕ}
 use lib.ListN.{getD}
 use Rattle.aiger.specs.Text.{bytes, digits}
 
--- the causes of document 01's table, by their numbers; there is no number 0
+-- Clauses 6.1, 12.1, 12.2, 12.6 and 12.7: the causes by their numbers; there is no number 0
 abbrev pub causes : List (List ℕ)
 causes =
     []
     ∷ bytes "the file is empty or over 65,536 bytes"
     ∷ bytes "the header is malformed"
-    ∷ bytes "a count is too large, or I+L+A is above M"
+    ∷ bytes "a count is too large, or I+L+A is above M, or not M in binary form"
     ∷ bytes "circuit memory is too short"
     ∷ bytes "a line is missing or malformed, or the tail is wrong"
     ∷ bytes "a literal is above 2M+1, or a definition or reset is wrong"
@@ -22,6 +22,10 @@ causes =
     ∷ bytes "the size is above 65,536, or working memory is too short"
     ∷ bytes "the output is too short"
     ∷ bytes "the witness is malformed, or its b is not below B"
+    ∷ bytes "a difference is cut short, too long, or gives a wrong operand"
+    ∷ bytes "the witness holds more than 16 x"
+    ∷ bytes "the circuits differ in I or O, or O is 0 or above 16"
+    ∷ bytes "the user, the input or the pin value is wrong"
     ∷ []
 
 -- the words of cause n

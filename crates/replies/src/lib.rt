@@ -16,23 +16,27 @@ pub struct Report {
 }
 
 // Where the words of each cause begin, by its number; the last entry is where they end.
-const STARTS: [usize; 16] = [
+const STARTS: [usize; 20] = [
     0,
     0,
     38,
     61,
-    102,
-    129,
-    181,
-    239,
-    267,
-    293,
-    324,
-    340,
-    381,
-    437,
-    460,
-    509,
+    127,
+    154,
+    206,
+    264,
+    292,
+    318,
+    349,
+    365,
+    406,
+    462,
+    485,
+    534,
+    595,
+    627,
+    679,
+    724,
 ];
 
 // Puts a text at a position of line. The answer is the position past it.
@@ -45,7 +49,8 @@ pub fn put(line: &mut [u8], at: usize, text: &[u8]) -> usize
     end
 }
 
-fn put_number(line: &mut [u8], at: usize, n: u32) -> usize
+// Puts the digits of n at a position of line. The answer is the position past them.
+pub fn put_number(line: &mut [u8], at: usize, n: u32) -> usize
     requires { ⌜ Room (now line) at (digits n) ⌝ }
     ensures { λ r. ⌜ Placed (now (line .entry)) at (digits n) r (now (line .exit)) ⌝ }
 {
@@ -70,13 +75,13 @@ fn put_cause(line: &mut [u8], at: usize, n: u32) -> usize
     requires { ⌜ at + 80 ≤ length (now line) ⌝ }
     ensures { λ r. ⌜ Placed (now (line .entry)) at (cause n) r (now (line .exit)) ⌝ }
 {
-    if 14 < n {
+    if 18 < n {
         return at;
     }
     let words: &[u8] = b"\
         the file is empty or over 65,536 bytes\
         the header is malformed\
-        a count is too large, or I+L+A is above M\
+        a count is too large, or I+L+A is above M, or not M in binary form\
         circuit memory is too short\
         a line is missing or malformed, or the tail is wrong\
         a literal is above 2M+1, or a definition or reset is wrong\
@@ -87,7 +92,11 @@ fn put_cause(line: &mut [u8], at: usize, n: u32) -> usize
         k or t is above 255, or D is out of range\
         the size is above 65,536, or working memory is too short\
         the output is too short\
-        the witness is malformed, or its b is not below B";
+        the witness is malformed, or its b is not below B\
+        a difference is cut short, too long, or gives a wrong operand\
+        the witness holds more than 16 x\
+        the circuits differ in I or O, or O is 0 or above 16\
+        the user, the input or the pin value is wrong";
     let i = n as usize;
     let from = STARTS[i];
     let to = STARTS[i + 1];

@@ -1,4 +1,5 @@
--- What fold writes, load accepts within its limits and refuses past them; the output of the circuit that it gives is the hit, and for n at
+-- What fold writes, load accepts within its limits and refuses past them; the output of the circuit that it gives is the hit,
+-- and for n at Clauses 5.1, 5.2.
 -- most 12 it has no gate exactly where the hit is constant, an input or an input's complement. This holds of every circuit that fold may
 -- write. Assumes nothing.
 use mathlib.Core.Path.{_≡_, refl, sym, ap, _∙_}
@@ -21,7 +22,7 @@ use Rattle.aiger.specs.Frames.{valueAt, freeBits, run}
 use Rattle.aiger.specs.Search.{reaches}
 use Rattle.aiger.specs.Memory.{Holds}
 use Rattle.aiger.specs.Fold.{valueOn, output, leads, reduced, foldRules, folds}
-use Rattle.aiger.specs.Operations.{Loaded, Folded}
+use Rattle.aiger.specs.Operations.{Loaded, Operated, FoldEffect, Folded, foldTests}
 use Rattle.aiger.proofs.Tests.{and-left, and-right, or-cases, true-T, below-at, all-at}
 use Rattle.meaning.proofs.Lists.{equal-of-beq}
 use Rattle.meaning.proofs.Shape.{FoldShape, shape-out, shape-right, shape-defined, shape-acyclic, input-count, shape-bits, shape-values}
@@ -200,22 +201,24 @@ pub record Reloads (m : List ℕ) (b t : ℕ) (text : List ℕ) : Type 0 where
   pub refuses : (room : ℕ) → (Loadable room c t d → ⊥) → load room text ≡ refused (refusal c t d)
   pub hit : (x : ℕ) → x < 2 ^ freeBits c t → valueOn d (freeBits c t) x (output d) ≡ reaches c b t x
 
-reloads : {chosen : Circuit → ℕ → ℕ → Circuit} {m w out w′ out′ : List ℕ} {b t n : ℕ} {a : Answer ℕ} → Folded chosen m b t w out a w′ out′ → a ≡ gives n
-    → Reloads m b t (take n out′)
-reloads (Folded.noCircuit h) q = let z : _≡_ {A = ℕ} 0 1 = cc in absurd (omega arith)
-reloads (Folded.refuses c h e) q = let z : _≡_ {A = ℕ} 0 1 = cc in absurd (omega arith)
-reloads {chosen = chosen} {out = out} {b = b} {t = t} (Folded.writes c h e f l) q =
+reloads : {chosen : Circuit → ℕ → ℕ → Circuit} {m w out : List ℕ} {left : List ℕ × List ℕ} {b t n : ℕ} {a : Answer ℕ}
+    → Operated m (λ c. foldTests c b t (length w) (length out)) (w, out) (FoldEffect chosen b t out) a left → a ≡ gives n
+    → Reloads m b t (take n (left .1))
+reloads (Operated.noCircuit h) q = let z : _≡_ {A = ℕ} 0 1 = cc in absurd (omega arith)
+reloads (Operated.refuses c h e) q = let z : _≡_ {A = ℕ} 0 1 = cc in absurd (omega arith)
+reloads {chosen = chosen} {out = out} {left = left} {b = b} {t = t} {n = n} (Operated.acts c h e f) q =
     let d : Circuit = chosen c b t in
-    let s = take-at (write d) (drop (length (write d)) out) _ (gives-same q) in
+    let s : take n (left .1) ≡ write d =
+    ap (take n) (f .shows) ∙ take-at (write d) (drop (length (write d)) out) n (sym (f .count) ∙ gives-same q) in
     record {
       c = c;
       d = d;
       held = h;
-      permitted = f;
+      permitted = f .permitted;
       text-is = s;
-      loads = λ room l. rw s (folded-loads c b t d f l);
-      refuses = λ room l. rw s (folded-refused c b t d f room l);
-      hit = folded-output c b t d f;
+      loads = λ room l. rw s (folded-loads c b t d (f .permitted) l);
+      refuses = λ room l. rw s (folded-refused c b t d (f .permitted) room l);
+      hit = folded-output c b t d (f .permitted);
     }
 
 -- a folded text loads exactly where it is within load's limits, and its output is the hit

@@ -1,4 +1,5 @@
--- Which circuit a memory holds: one at most, the one that its words say, where that one is valid and zeros follow. Assumes nothing.
+-- Which circuit a memory holds: one at most, the one that its words say, where that one is valid and zeros follow. Clause 2.8.
+-- Assumes nothing.
 use mathlib.Core.Path.{_≡_, refl, sym, ap, _∙_, subst}
 use mathlib.Core.List.{List, _++_, append-assoc}
 use mathlib.Core.Logic.{_↔_}

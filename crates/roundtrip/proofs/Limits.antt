@@ -16,7 +16,8 @@ use Rattle.aiger.specs.Load.{refused, load, needed}
 use Rattle.aiger.specs.Write.{lineOf, linesOf, literalRow, latchRow, gateRow, countRow, write}
 use Rattle.aiger.proofs.Tests.{and}
 use Rattle.roundtrip.proofs.Text.{below}
-use Rattle.roundtrip.proofs.LoadWrite.{Valid, head-text, head-back, some-byte, text-short}
+use Rattle.aiger.proofs.Forms.{counts-text}
+use Rattle.roundtrip.proofs.LoadWrite.{Valid, head-text, head-back, writes-text, some-byte, text-short}
 
 -- ---- each line takes a byte at least, so the counts of a circuit are at most the length of its text
 
@@ -76,7 +77,14 @@ pub load-many : (room : ℕ) (c : Circuit) → length (write c) ≤ 65536 → c 
     → load room (write c) ≡ refused 3
 unfolding load
 load-many room c l h e =
-    rw (le-leb 1 (length (write c)) (some-byte c), le-leb (length (write c)) 65536 l, head-text c (heads-below c h l), e)
+    rw (
+      le-leb 1 (length (write c)) (some-byte c),
+      le-leb (length (write c)) 65536 l,
+      writes-text c,
+      head-text c (heads-below c h l),
+      counts-text (headerOf c),
+      e,
+    )
 
 -- number 4: what some memory can hold, and this one is too short for
 pub load-small : {most : ℕ} {c : Circuit} → Valid most c → (room : ℕ) → room < needed (c .maxVar) → load room (write c) ≡ refused 4
@@ -85,7 +93,9 @@ load-small {most} {c} v room h =
     rw (
       le-leb 1 (length (write c)) (some-byte c),
       le-leb (length (write c)) 65536 (text-short v),
+      writes-text c,
       head-back v,
+      counts-text (headerOf c),
       v .fit,
       lt-leb (needed (c .maxVar)) room h,
     )

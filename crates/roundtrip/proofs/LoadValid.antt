@@ -1,19 +1,20 @@
 -- An accepted load gives a valid circuit. Assumes nothing.
 use mathlib.Core.Path.{_≡_, refl, sym, ap, _∙_, subst}
-use mathlib.Core.Bool.{Bool, true, false, _&&_}
-use mathlib.Core.List.{List, [], _∷_}
+use mathlib.Core.Bool.{Bool, true, false, not, _&&_, _||_}
+use mathlib.Core.List.{List, [], _∷_, map}
 use mathlib.Core.Option.{Option, none, some}
-use Prim.Native.Nat.{ℕ, zero, suc, _≤_}
+use Prim.Native.Nat.{ℕ, zero, suc, _+_, _*_, _≤_}
 use native.Mathlib.Omega.{arith}
-use lib.Dec.{leb, eqb→eq}
+use lib.Dec.{leb, eqb, eqb→eq}
 use borrow.Author.Tests.{leb-true}
 use lib.ListN.{length, length-map}
 use Rattle.aiger.specs.Text.{row, rows, when}
 use Rattle.aiger.specs.Text as Text
-use Rattle.aiger.specs.Circuit.{Circuit, literalsRight, usedDefined, acyclic}
-use Rattle.aiger.specs.File.{headerOf, Header, header, countsFit, isTail, body, first, latch, gate, countTests}
-use Rattle.aiger.specs.Load.{Answer, refused, gives, _>>=_, test, read, load, needed}
-use Rattle.aiger.proofs.Tests.{T-true, all-at}
+use Rattle.aiger.specs.Circuit.{Circuit, Gate, literalsRight, usedDefined, acyclic}
+use Rattle.aiger.specs.File.{headerOf, Header, isBinary, header, countsFit, countsRight, isTail, body, first, latch, gate, countTests}
+use Rattle.aiger.specs.Binary.{implied, latchesFrom, gateBy, gatesFrom}
+use Rattle.aiger.specs.Load.{Answer, refused, gives, _>>=_, test, read, binaryBody, sections, load, needed}
+use Rattle.aiger.proofs.Tests.{T-true, true-T, and-left, all-at}
 use Rattle.roundtrip.proofs.LoadWrite.{Valid}
 
 -- a chain that gives something: its first part gives something too
@@ -89,6 +90,101 @@ body-counted h f c e =
       constraints = length-map (k .0 .0) first ∙ rows-length 1 1 (h .C) (b .0 .1) (k .0) (k .1);
     })
 
+-- ---- the binary form
+
+pub implied-length : (v n : ℕ) → length (implied v n) ≡ n
+unfolding implied
+implied-length v zero = refl
+implied-length v (suc n) = ap suc (implied-length (suc v) n)
+
+pub latches-length : (v : ℕ) (rs : List (List ℕ)) → length (latchesFrom v rs) ≡ length rs
+unfolding latchesFrom
+latches-length v [] = refl
+latches-length v (r ∷ rs) = ap suc (latches-length (suc v) rs)
+
+-- as many gates are read as were asked for
+pub gates-length : (v n : ℕ) (f : List ℕ) (r : List Gate × List ℕ) → gatesFrom v n f ≡ some r → length (r .0) ≡ n
+unfolding gatesFrom
+gates-length v zero f r h =
+    let e : _≡_ {A = List Gate × List ℕ} ([], f) r = cc in
+    ap (λ (x : List Gate × List ℕ). length (x .0)) (sym e)
+gates-length v (suc n) f r h =
+    let a = some-bind (gateBy (2 * v) f) _ r h in
+    let d = some-bind (gatesFrom (suc v) n (a .0 .1)) _ r (a .2) in
+    let e : _≡_ {A = List Gate × List ℕ} (a .0 .0 ∷ d .0 .0, d .0 .1) r = some-same (d .2) in
+    ap (λ (x : List Gate × List ℕ). length (x .0)) (sym e) ∙ ap suc (gates-length (suc v) n (a .0 .1) (d .0) (d .1))
+
+-- what the sections of a file in binary form are, where they give a circuit
+pub record BinaryParts (h : Header) (f : List ℕ) (c : Circuit) : Type 0 where
+  pub l : List (List ℕ) × List ℕ
+  pub o : List (List ℕ) × List ℕ
+  pub b : List (List ℕ) × List ℕ
+  pub k : List (List ℕ) × List ℕ
+  pub g : List Gate × List ℕ
+  pub l-is : rows 1 2 (h .L) f ≡ some l
+  pub o-is : rows 1 1 (h .O) (l .1) ≡ some o
+  pub b-is : rows 1 1 (h .B) (o .1) ≡ some b
+  pub k-is : rows 1 1 (h .C) (b .1) ≡ some k
+  pub g-is : gatesFrom (h .I + h .L + 1) (h .A) (k .1) ≡ some g
+  pub circuit : record {
+    maxVar = h .M;
+    inputs = implied 1 (h .I);
+    latches = latchesFrom (h .I + 1) (l .0);
+    outputs = map first (o .0);
+    bads = map first (b .0);
+    constraints = map first (k .0);
+    gates = g .0;
+  } ≡ c
+
+pub binary-parts : (h : Header) (f : List ℕ) (c : Circuit) → binaryBody h f ≡ gives c → BinaryParts h f c
+unfolding binaryBody
+binary-parts h f c e =
+    let l = gives-bind (read 5 (rows 1 2 (h .L) f)) _ c e in
+    let o = gives-bind (read 5 (rows 1 1 (h .O) (l .0 .1))) _ c (l .2) in
+    let b = gives-bind (read 5 (rows 1 1 (h .B) (o .0 .1))) _ c (o .2) in
+    let k = gives-bind (read 5 (rows 1 1 (h .C) (b .0 .1))) _ c (b .2) in
+    let g = gives-bind (read 15 (gatesFrom (h .I + h .L + 1) (h .A) (k .0 .1))) _ c (k .2) in
+    let t = gives-bind (test 5 (isTail (g .0 .1))) _ c (g .2) in
+    record {
+      l = l .0;
+      o = o .0;
+      b = b .0;
+      k = k .0;
+      g = g .0;
+      l-is = gives-read 5 (rows 1 2 (h .L) f) (l .0) (l .1);
+      o-is = gives-read 5 (rows 1 1 (h .O) (l .0 .1)) (o .0) (o .1);
+      b-is = gives-read 5 (rows 1 1 (h .B) (o .0 .1)) (b .0) (b .1);
+      k-is = gives-read 5 (rows 1 1 (h .C) (b .0 .1)) (k .0) (k .1);
+      g-is = gives-read 15 (gatesFrom (h .I + h .L + 1) (h .A) (k .0 .1)) (g .0) (g .1);
+      circuit = gives-same (t .2);
+    }
+
+pub binary-counted : (h : Header) (f : List ℕ) (c : Circuit) → binaryBody h f ≡ gives c → Counted h c
+binary-counted h f c e =
+    let p = binary-parts h f c e in
+    subst (Counted h) (p .circuit)
+    (record {
+      maxVar = refl;
+      inputs = implied-length 1 (h .I);
+      latches = latches-length (h .I + 1) (p .l .0) ∙ rows-length 1 2 (h .L) f (p .l) (p .l-is);
+      outputs = length-map (p .o .0) first ∙ rows-length 1 1 (h .O) (p .l .1) (p .o) (p .o-is);
+      gates = gates-length (h .I + h .L + 1) (h .A) (p .k .1) (p .g) (p .g-is);
+      bads = length-map (p .b .0) first ∙ rows-length 1 1 (h .B) (p .o .1) (p .b) (p .b-is);
+      constraints = length-map (p .k .0) first ∙ rows-length 1 1 (h .C) (p .b .1) (p .k) (p .k-is);
+    })
+
+-- the circuit that the sections give has the header's counts
+pub sections-counted : (binary : Bool) (h : Header) (f : List ℕ) (c : Circuit) → sections binary h f ≡ gives c → Counted h c
+unfolding sections
+sections-counted true h f c e = binary-counted h f c e
+sections-counted false h f c e = body-counted h f c (gives-read 5 (body h f) c e)
+
+-- counts that are right fit
+pub right-fit : (binary : Bool) (h : Header) → countsRight binary h ≡ true → countsFit h ≡ true
+unfolding countsRight
+right-fit binary h e =
+    true-T (countsFit h) (and-left (countsFit h) (not binary || eqb (h .I + h .L + h .A) (h .M)) (T-true e))
+
 -- a header whose counts fit is that of the circuit
 pub same-header : (h : Header) (c : Circuit) → Counted h c → countsFit h ≡ true → headerOf c ≡ h
 unfolding countsFit
@@ -118,14 +214,15 @@ load-valid {room} f {c} e =
     let a1 = gives-bind (test 1 (leb 1 (length f) && leb (length f) 65536)) _ c e in
     let a2 = gives-bind (read 2 (header f)) _ c (a1 .2) in
     let h = a2 .0 .0 in
-    let a3 = gives-bind (test 3 (countsFit h)) _ c (a2 .2) in
+    let a3 = gives-bind (test 3 (countsRight (isBinary f) h)) _ c (a2 .2) in
     let a4 = gives-bind (test 4 (leb (needed (h .M)) room)) _ c (a3 .2) in
-    let a5 = gives-bind (read 5 (body h (a2 .0 .1))) _ c (a4 .2) in
+    let a5 = gives-bind (sections (isBinary f) h (a2 .0 .1)) _ c (a4 .2) in
     let d = a5 .0 in
     let a6 = gives-bind (test 6 (literalsRight d)) _ c (a5 .2) in
     let a7 = gives-bind (test 7 (usedDefined d)) _ c (a6 .2) in
     let a8 = gives-bind (test 8 (acyclic d)) _ c (a7 .2) in
     subst (Valid room) (gives-same (a8 .2))
-    (valid-of room h d (body-counted h (a2 .0 .1) d (gives-read 5 (body h (a2 .0 .1)) d (a5 .1))) (gives-test 3 (countsFit h) (a3 .0) (a3 .1))
+    (valid-of room h d (sections-counted (isBinary f) h (a2 .0 .1) d (a5 .1))
+    (right-fit (isBinary f) h (gives-test 3 (countsRight (isBinary f) h) (a3 .0) (a3 .1)))
     (leb-true (needed (h .M)) room (gives-test 4 (leb (needed (h .M)) room) (a4 .0) (a4 .1))) (gives-test 6 (literalsRight d) (a6 .0) (a6 .1))
     (gives-test 7 (usedDefined d) (a7 .0) (a7 .1)) (gives-test 8 (acyclic d) (a8 .0) (a8 .1)))

@@ -1,6 +1,6 @@
--- What write gives loads again, as the same circuit. Assumes nothing.
+-- What write gives loads again, as the same circuit. Clauses 1.4, 7.1. Assumes nothing.
 use mathlib.Core.Path.{_≡_, refl, ap, ap₂}
-use mathlib.Core.Bool.{Bool, true, cond, _&&_, _||_}
+use mathlib.Core.Bool.{Bool, true, false, cond, _&&_, _||_}
 use mathlib.Core.List.{List, [], _∷_, _++_, map, append-assoc, append-nil}
 use mathlib.Core.Logic.{⊎-elim}
 use mathlib.Core.Option.{some}
@@ -12,9 +12,10 @@ use lib.ListN.{length, getD, length-map, length-append}
 use Rattle.aiger.specs.Lists.{every}
 use Rattle.aiger.specs.Text.{rows}
 use Rattle.aiger.specs.Circuit.{Circuit, Latch, Gate, defined, used, literalTests, literalsRight, usedDefined, acyclic}
-use Rattle.aiger.specs.File.{header, countTests, countsFit, headerOf, isTail, body, first, latch, gate}
-use Rattle.aiger.specs.Load.{gives, load, needed}
+use Rattle.aiger.specs.File.{isText, isBinary, header, countTests, countsFit, countsRight, headerOf, isTail, body, first, latch, gate}
+use Rattle.aiger.specs.Load.{gives, sections, load, needed}
 use Rattle.aiger.specs.Write.{linesOf, literalRow, latchRow, gateRow, countRow, write}
+use Rattle.aiger.proofs.Forms.{counts-text}
 use Rattle.aiger.proofs.Tests.{and, T-true, every-left, every-right, every-unmap, every-map, every-imp, all-at, or-cases}
 use Rattle.roundtrip.proofs.Text.{below, rowFits, row-line, rows-lines, every-below, line-short, lines-short}
 
@@ -107,8 +108,13 @@ body-text c f =
 
 -- the header is read back where its numbers have at most 10 digits
 pub head-text : (c : Circuit) → T (every (below (10 ^ 10)) (c .maxVar ∷ countRow c)) → header (write c) ≡ some (headerOf c, bodyText c)
-unfolding header write
+unfolding isText header write
 head-text c h = simp (append-assoc, append-nil, row-line 9 (c .maxVar) (countRow c) (lit< tt) h)
+
+-- write gives the text form
+pub writes-text : (c : Circuit) → isBinary (write c) ≡ false
+unfolding isBinary write
+writes-text c = refl
 
 -- a text is not empty
 pub some-byte : (c : Circuit) → 1 ≤ length (write c)
@@ -237,12 +243,14 @@ module _ {room : ℕ} {c : Circuit} (v : Valid room c) where
 
   -- what write gives loads as the same circuit
   pub load-write : load room (write c) ≡ gives c
-  unfolding load
+  unfolding sections load
   load-write =
       simp (
         le-leb 1 (length (write c)) (some-byte c),
         le-leb (length (write c)) 65536 text-short,
+        writes-text c,
         head-back,
+        counts-text,
         v .fit,
         le-leb (needed (c .maxVar)) room (v .held),
         body-text c fits,

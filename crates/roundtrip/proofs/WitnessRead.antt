@@ -1,4 +1,4 @@
--- What is read as a witness is the text of that witness: no other text is read as it. Assumes nothing.
+-- What is read as a witness is the text of that witness: no other text is read as it. Clauses 3.5, 4.1. Assumes nothing.
 use mathlib.Core.Path.{_≡_, refl, sym, ap, ap₂, _∙_, subst}
 use mathlib.Core.Bool.{Bool, true, false, not, cond, _&&_, _||_}
 use mathlib.Core.List.{List, [], _∷_, _++_, append-assoc}

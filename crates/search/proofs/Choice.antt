@@ -7,14 +7,17 @@ use native.Mathlib.Omega.{arith}
 use borrow.Author.Count.{below-more}
 use lib.Dec.{T}
 use Rattle.aiger.specs.Circuit.{Circuit}
-use Rattle.aiger.specs.Search.{Question, question, Decision, Outcome, permittedOf, permitted}
-use Rattle.aiger.specs.Operations.{saidOf, shown}
+use Rattle.aiger.specs.Load.{gives}
+use Rattle.aiger.specs.Search.{Question, question, Decision, Outcome, permittedOf, reaches, permitted, firstWitness}
+use Rattle.aiger.specs.Frames.{freeBits, run}
+use Rattle.aiger.specs.Witness.{witness}
+use Rattle.aiger.specs.Operations.{shown}
 use Rattle.meaning.proofs.Decisions as decisions
-use Rattle.meaning.proofs.Outcomes.{Clear, Quiet, found-in, none-in, spent-in}
+use Rattle.meaning.proofs.Outcomes.{Clear, Quiet, found-in, none-in, spent-in, first-witness}
 use Rattle.decision.specs.Reach.{decisionOf}
 use Rattle.decision.proofs.Deciding.{decided-says}
 use Rattle.machine.specs.Layers.{Layered}
-use Rattle.machine.proofs.Theorems.{QuietBefore, FirstHit, Says, layered-says}
+use Rattle.machine.proofs.Theorems.{QuietBefore, Says, layered-says}
 use Rattle.transitions.specs.Transitions.{machineOf}
 use Rattle.transitions.proofs.Bridge.{fair, reaches-of, prefixes-of}
 use Rattle.reachable.specs.Quota.{quota}
@@ -26,7 +29,7 @@ module _ (q : Question) (f : ℕ → Decision) (k D : ℕ) (right : (t : ℕ) �
   -- one frame, where the later ones give a permitted outcome
   step : (t : ℕ) → t ≤ k → Quiet q t → (later : Outcome) → (Quiet q (t + 1) → T (permittedOf q k D later)) → (d : Decision)
       → decisions.Says (q .hitting t) (q .places t) 0 D d → T (permittedOf q k D (outcomeOf d t later))
-  step t l h later r (Decision.hit x) s = found-in q k D t x (record { within = l; quiet = h; first = s })
+  step t l h later r (Decision.hit x) s = found-in q k D t (record { within = l; quiet = h; place = x; first = s })
   step t l h later r Decision.clear s = r (below-more (λ u. Clear q u (q .places u)) t h s)
   step t l h later r Decision.spent s = spent-in q k D t (record { within = l; quiet = h; first = s })
 
@@ -42,21 +45,20 @@ module _ (c : Circuit) (b k D : ℕ) where
   quiet-of : (t : ℕ) → QuietBefore (machineOf c b) t → Quiet (question c b) t
   quiet-of t q u l x a h r = q u l x (subst (λ (n : ℕ). x < n) (sym (prefixes-of c b u)) h) (subst T (reaches-of c b u x) r)
 
+  -- the first hit of the machine is that of the circuit
+  first-of : {t x : ℕ} → Says (machineOf c b) (fair c b) (k + 1) (Layered.hit t x) → decisions.FirstHit (reaches c b t) (2 ^ freeBits c t) 0 x
+  first-of {t} {x} (l, q, f) =
+      record {
+        from = omega arith;
+        fits = subst (λ (n : ℕ). x < n) (prefixes-of c b t) (f .fits);
+        first = λ y a h r. f .first y h (subst T (reaches-of c b t y) r);
+        hit = subst T (sym (reaches-of c b t x)) (f .hits);
+      }
+
   -- what the layers say is permitted
   layers-permitted : (o : Layered) → Says (machineOf c b) (fair c b) (k + 1) o → T (permitted c b k D (byLayers c b k D o))
   layers-permitted (Layered.hit t x) (l, q, f) =
-      found-in (question c b) k D t x
-      (record {
-        within = omega arith;
-        quiet = quiet-of t q;
-        first =
-            record {
-              from = omega arith;
-              fits = subst (λ (n : ℕ). x < n) (prefixes-of c b t) (f .fits);
-              first = λ y a h r. f .first y h (subst T (reaches-of c b t y) r);
-              hit = subst T (sym (reaches-of c b t x)) (f .hits);
-            };
-      })
+      found-in (question c b) k D t (record { within = omega arith; quiet = quiet-of t q; place = x; first = first-of (l, q, f) })
   layers-permitted Layered.clear q = none-in (question c b) k D k (record { bound = refl; quiet = quiet-of (k + 1) q })
   layers-permitted (Layered.gaveUp t) (l, q) =
       from (question c b) (λ u. decisionOf c b u D) k D (λ u. decided-says c b u D (decisionOf c b u D) refl) (k + 1 - t) t (omega arith) (quiet-of t q)
@@ -71,9 +73,17 @@ module _ (c : Circuit) (b k D : ℕ) where
   Left t = chosen c b k D ≡ chosenFrom (λ u. decisionOf c b u D) k t (k + 1 - t)
 
   -- the outcome is what the layers say
-  pub chosen-found : {t x : ℕ} → layered c b k ≡ Layered.hit t x → chosen c b k D ≡ Outcome.found t x
+  pub chosen-found : {t x : ℕ} → layered c b k ≡ Layered.hit t x → chosen c b k D ≡ Outcome.found t
   unfolding chosen
   chosen-found e = ap (byLayers c b k D) e
+
+  -- and the first hit that they say is the one that is shown
+  pub layers-shown : {t x : ℕ} → layered c b k ≡ Layered.hit t x → witness b (run c t x) ≡ firstWitness c b t
+  unfolding layered
+  layers-shown {t} {x} e =
+      sym
+      (first-witness c b t x
+      (first-of (subst (Says (machineOf c b) (fair c b) (k + 1)) e (layered-says (machineOf c b) (fair c b) (quota c) (k + 1)))))
 
   pub chosen-none : layered c b k ≡ Layered.clear → chosen c b k D ≡ Outcome.none k
   unfolding chosen
@@ -100,7 +110,11 @@ module _ (c : Circuit) (b k D : ℕ) where
       → chosen c b k D ≡ outcomeOf d t (chosenFrom (λ u. decisionOf c b u D) k (t + 1) (k + 1 - (t + 1)))
   decide t l i e = i ∙ unroll t l ∙ ap (λ (d : Decision). outcomeOf d t (chosenFrom (λ u. decisionOf c b u D) k (t + 1) (k + 1 - (t + 1)))) e
 
-  pub left-found : (t x : ℕ) → t ≤ k → Left t → decisionOf c b t D ≡ Decision.hit x → chosen c b k D ≡ Outcome.found t x
+  -- the first hit that is decided is the one that is shown
+  pub hit-shown : (t x : ℕ) → decisionOf c b t D ≡ Decision.hit x → witness b (run c t x) ≡ firstWitness c b t
+  hit-shown t x e = sym (first-witness c b t x (decided-says c b t D (Decision.hit x) e))
+
+  pub left-found : (t x : ℕ) → t ≤ k → Left t → decisionOf c b t D ≡ Decision.hit x → chosen c b k D ≡ Outcome.found t
   left-found t x l i e = decide t l i e
 
   pub left-spent : (t : ℕ) → t ≤ k → Left t → decisionOf c b t D ≡ Decision.spent → chosen c b k D ≡ Outcome.spent t
@@ -114,6 +128,6 @@ module _ (c : Circuit) (b k D : ℕ) where
   left-none t l i = let e : k + 1 - t ≡ 0 = omega arith in i ∙ ap (chosenFrom (λ u. decisionOf c b u D) k t) e
 
   -- the answer that says and shows an outcome
-  pub answered : (o : Outcome) → chosen c b k D ≡ o → {out out′ : List ℕ} → out′ ≡ shown c b o out → Answered c b k D out (saidOf o) out′
+  pub answered : (o : Outcome) → chosen c b k D ≡ o → {out out′ : List ℕ} → out′ ≡ shown c b o out → Answered c b k D out (gives o) out′
   answered o e {out} q =
-      record { says = sym (ap saidOf e); shows = q ∙ sym (ap (λ (x : Outcome). shown c b x out) e) }
+      record { says = sym (ap gives e); shows = q ∙ sym (ap (λ (x : Outcome). shown c b x out) e) }

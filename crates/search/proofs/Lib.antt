@@ -1,7 +1,6 @@
-pub mod Sizes
-pub mod Refusals
+pub mod Within
 pub mod Choice
 pub mod Answers
 pub mod Theorems
+pub mod Constraints
 pub mod ByLayers
-pub mod Within

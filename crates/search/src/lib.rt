@@ -4,15 +4,14 @@ use enumeration::Frame;
 use layout::Layout;
 use reachable::Layers;
 ghost use mathlib.Core.Path.{_≡_};
-ghost use Prim.Native.Nat.{_+_, _-_, _≤_, _<_};
+ghost use Prim.Native.Nat.{_+_, _-_, _≤_};
 ghost use Rattle.aiger.specs.Circuit.{Circuit};
-ghost use Rattle.aiger.specs.Frames.{freeStarts, size};
-ghost use Rattle.aiger.specs.Witness.{witnessLength};
-ghost use Rattle.aiger.specs.Operations.{Searched, searchTests};
+ghost use Rattle.aiger.specs.Operations.{judge, budgetRight, searchTests, Searched};
 ghost use Rattle.layout.specs.Words.{circuitIn};
+ghost use Rattle.limits.specs.Limits.{Limited, CountsOf, told};
 ghost use Rattle.decision.specs.Reach.{decisionOf};
 ghost use Rattle.search.specs.Chosen.{chosenFrom, chosen, said};
-ghost use Rattle.search.specs.Steps.{Limited, CountsOf, told, SearchFits, Answered};
+ghost use Rattle.search.specs.Steps.{SearchFits, Answered};
 
 // What a search answers: the first frame with a hit; no frame up to the bound has one; the frame whose budget is spent; the number of a
 // refusal.
@@ -23,49 +22,24 @@ pub enum SearchAnswer {
     Refused(u32),
 }
 
-// (k+1) × (I+A+C) + U + 1, where U is free.
-pub fn size(layout: Layout, free: usize, k: usize) -> usize
-    requires { ⌜ Limited layout × (free ≤ 1024) × (k ≤ 255) ⌝ }
-    ensures { λ r. ⌜ ((c : Circuit) → CountsOf c layout → free ≡ freeStarts c → r ≡ size c k) ⌝ }
+// Whether a budget is right.
+fn is_budget(d: u64) -> bool
+    ensures { λ r. ⌜ r ≡ budgetRight d ⌝ }
 {
-    (k + 1) * (layout.i + layout.a + layout.c) + free + 1
+    (1 <= d) & (d <= 4294967296)
 }
 
-// The length of a witness for b of k + 1 frames.
-pub fn witness_length(layout: Layout, b: u32, k: usize) -> usize
-    requires { ⌜ Limited layout × (k ≤ 255) ⌝ }
-    ensures { λ r. ⌜ ((c : Circuit) → CountsOf c layout → r ≡ witnessLength c b k) ⌝ }
+// The number of the first of the tests 10 to 13 that fails, or 0. room is the words of working memory and len the bytes of output.
+pub fn refusal(layout: Layout, b: u64, k: u64, d: u64, room: usize, len: usize) -> u32
+    requires { ⌜ Limited layout ⌝ }
+    ensures { λ r. ⌜ ((c : Circuit) → CountsOf c layout → judge (searchTests c b k d room len) ≡ told r) ⌝ }
 {
-    let number = numbers::digit_count(b);
-    3 + number + 1 + (layout.l + 1) + (k + 1) * (layout.i + 1) + 2
-}
-
-// The number of the first of the tests 10 to 13 that fails, or 0. free is the number of latches with a free start, room the words of
-// working memory and len the bytes of output.
-fn refusal(layout: Layout, free: usize, b: u64, k: u64, d: u64, room: usize, len: usize) -> u32
-    requires { ⌜ Limited layout × (free ≤ 1024) ⌝ }
-    ensures { λ r. ⌜ ((c : Circuit) → CountsOf c layout → free ≡ freeStarts c → searchTests c b k d room len ≡ told r) ⌝ }
-{
-    if layout.b as u64 <= b {
-        return 10;
+    let budget = is_budget(d);
+    let number = limits::refusal(layout, b, k, budget, room);
+    if number != 0 {
+        return number;
     }
-    if 255 < k {
-        return 11;
-    }
-    if d == 0 {
-        return 11;
-    }
-    if 4294967296 < d {
-        return 11;
-    }
-    let units = size(layout, free, k as usize);
-    if 65536 < units {
-        return 12;
-    }
-    if room < 16 * units {
-        return 12;
-    }
-    if len < witness_length(layout, b as u32, k as usize) {
+    if len < limits::witness_length(layout, b as u32, k as usize) {
         return 13;
     }
     0
@@ -137,8 +111,7 @@ pub fn search(m: &[u32], b: u64, k: u64, d: u64, work: &mut [u32], out: &mut [u8
     let Held::Circuit(layout) = circuit::held_in(m, &mut order) else {
         return SearchAnswer::Refused(9);
     };
-    let free = enumeration::free_starts(m, layout);
-    let number = refusal(layout, free, b, k, d, work.len(), out.len());
+    let number = refusal(layout, b, k, d, work.len(), out.len());
     if number != 0 {
         return SearchAnswer::Refused(number);
     }

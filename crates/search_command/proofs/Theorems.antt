@@ -1,24 +1,23 @@
--- The lent memories suffice: 13 does not occur, and 12 only for a size above 65,536. Assumes nothing.
-use mathlib.Core.Path.{_≡_}
-use mathlib.Core.Bool.{Bool, true, false, _&&_}
-use mathlib.Core.List.{List}
+-- The lent memories suffice: 13 does not occur, and 12 only for a size above 65,536. Clause 6.4. Assumes nothing.
+use mathlib.Core.Path.{_≡_, sym, _∙_}
+use mathlib.Core.Bool.{Bool, _&&_}
+use mathlib.Core.List.{List, [], _∷_}
 use Prim.Native.Nat.{ℕ, _+_, _*_, _≤_, _<_}
 use native.Mathlib.Decide.{decLt}
 use native.Mathlib.Nat.{mul-le-mul-left, mul-le-mul-right}
 use native.Mathlib.Omega.{arith}
-use borrow.Author.Tests.{le-leb, ltb-true}
-use lib.Dec.{leb, ltb, leb→le}
+use lib.Dec.{T, leb, ltb, leb→le, le→leb, ltb→lt}
 use lib.ListN.{length}
 use Rattle.aiger.specs.Circuit.{Circuit}
-use Rattle.aiger.specs.Load.{Answer, refused, gives, test, load, _>>_}
+use Rattle.aiger.specs.Load.{refused, gives, load}
 use Rattle.aiger.specs.Frames.{size}
 use Rattle.aiger.specs.Witness.{witnessLength}
-use Rattle.aiger.specs.Operations.{searchTests}
-use Rattle.aiger.proofs.Tests.{T-true, and-left}
+use Rattle.aiger.specs.Operations.{Test, need, judge, badTest, budgetRight, searchTests}
+use Rattle.aiger.proofs.Tests.{and, and-left}
 use Rattle.numbers.proofs.Digits.{digits-short}
 use Rattle.roundtrip.proofs.LoadWrite.{Counts, counts-fit}
 use Rattle.roundtrip.proofs.LoadValid.{load-valid}
-use Rattle.replies.proofs.Loading.{past, given, other}
+use Rattle.limits.proofs.Refusals.{judge-past, judge-passed, judge-last}
 
 -- no witness is longer
 short : (c : Circuit) (b k : ℕ) → Counts c → b < length (c .bads) → k ≤ 255 → witnessLength c b k ≤ 66825
@@ -32,8 +31,8 @@ short c b k n l t =
     omega (arith, digits-short 9 1 b (omega (arith, n .bads)), n .latches)
 
 module _ (c : Circuit) (b k D : ℕ) where
-  abbrev budgeted : Bool
-  budgeted = leb k 255 && leb 1 D && leb D 4294967296
+  abbrev bounded : Bool
+  bounded = leb k 255 && budgetRight D
 
   abbrev words-needed : Bool
   words-needed = leb (size c k) 65536 && leb (16 * size c k) 1048576
@@ -41,34 +40,38 @@ module _ (c : Circuit) (b k D : ℕ) where
   abbrev bytes-needed : Bool
   bytes-needed = leb (witnessLength c b k) 66825
 
+  abbrev last : List Test
+  last = need 13 bytes-needed ∷ []
+
   -- the tests before number 12 are passed
-  sized : (n : ℕ) → (10 ≡ n → ⊥) → (11 ≡ n → ⊥) → searchTests c b k D 1048576 66825 ≡ refused n
-      → (ltb b (length (c .bads)) ≡ true) × (budgeted ≡ true) × ((test 12 words-needed >> test 13 bytes-needed) ≡ refused n)
-  unfolding searchTests
+  sized : (n : ℕ) → (10 ≡ n → ⊥) → (11 ≡ n → ⊥) → judge (searchTests c b k D 1048576 66825) ≡ refused n
+      → T (ltb b (length (c .bads))) × T bounded × (judge (need 12 words-needed ∷ last) ≡ refused n)
   sized n p q e =
-      let after = test 12 words-needed >> test 13 bytes-needed in
-      let x = past 10 n (ltb b (length (c .bads))) (test 11 budgeted >> after) p e in
-      let y = past 11 n budgeted after q (x .1) in
+      let after = need 12 words-needed ∷ last in
+      let x = judge-past (badTest c b) (need 11 bounded ∷ after) n p e in
+      let y = judge-past (need 11 bounded) after n q (x .1) in
       (x .0, y .0, y .1)
 
-  pub output-suffices : (f : List ℕ) → load 33032 f ≡ gives c → searchTests c b k D 1048576 66825 ≡ refused 13 → ⊥
+  -- the witness fits where the first tests are passed
+  enough : (f : List ℕ) → load 33032 f ≡ gives c → T (ltb b (length (c .bads))) → T bounded → T bytes-needed
+  enough f l p q =
+      let bound = leb→le k 255 (and-left (leb k 255) (budgetRight D) q) in
+      le→leb (witnessLength c b k) 66825 (short c b k (counts-fit c (load-valid f l .fit)) (ltb→lt b (length (c .bads)) p) bound)
+
+  pub output-suffices : (f : List ℕ) → load 33032 f ≡ gives c → judge (searchTests c b k D 1048576 66825) ≡ refused 13 → ⊥
   output-suffices f l e =
       let s = sized 13 (λ q. omega arith) (λ q. omega arith) e in
-      let x = past 12 13 words-needed (test 13 bytes-needed) (λ q. omega arith) (s .2) in
-      let first = leb k 255 && leb 1 D in
-      let bound = leb→le k 255 (and-left (leb k 255) (leb 1 D) (and-left first (leb D 4294967296) (T-true (s .1)))) in
-      let w = short c b k (counts-fit c (load-valid f l .fit)) (ltb-true b (length (c .bads)) (s .0)) bound in
-      let t : bytes-needed ≡ true = le-leb (witnessLength c b k) 66825 w in
-      given (rw t at (x .1))
+      let x = judge-past (need 12 words-needed) last 13 (λ q. omega arith) (s .2) in
+      judge-last 13 13 bytes-needed (enough f l (s .0) (s .1)) (x .1)
 
-  pub work-suffices : searchTests c b k D 1048576 66825 ≡ refused 12 → 65536 < size c k
-  work-suffices e =
+  pub work-suffices : (f : List ℕ) → load 33032 f ≡ gives c → judge (searchTests c b k D 1048576 66825) ≡ refused 12 → 65536 < size c k
+  work-suffices f g e =
       elim (decLt 65536 (size c k)) [
         | yes l ↦ l
         | no l ↦
-            let s : leb (size c k) 65536 ≡ true = le-leb (size c k) 65536 (omega arith) in
-            let w : leb (16 * size c k) 1048576 ≡ true = le-leb (16 * size c k) 1048576 (omega arith) in
-            let r = sized 12 (λ q. omega arith) (λ q. omega arith) e .2 in
-            let y : test 13 bytes-needed ≡ refused 12 = rw (s, w) at r in
-            absurd (other 13 12 bytes-needed (λ q. omega arith) y)
+            let s = le→leb (size c k) 65536 (omega arith) in
+            let w = le→leb (16 * size c k) 1048576 (omega arith) in
+            let r = sized 12 (λ q. omega arith) (λ q. omega arith) e in
+            let p = and (leb (size c k) 65536) (leb (16 * size c k) 1048576) s w in
+            absurd (judge-last 13 12 bytes-needed (enough f g (r .0) (r .1)) (sym (judge-passed (need 12 words-needed) last p) ∙ r .2))
       ]

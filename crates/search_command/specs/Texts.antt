@@ -3,33 +3,34 @@ use mathlib.Core.List.{List, [], _++_}
 use Prim.Native.Nat.{ℕ}
 use Rattle.aiger.specs.Text.{bytes, digits}
 use Rattle.aiger.specs.Circuit.{Circuit}
-use Rattle.aiger.specs.Load.{gives, load, _>>=_}
-use Rattle.aiger.specs.Frames.{run}
-use Rattle.aiger.specs.Search.{Outcome}
-use Rattle.aiger.specs.Witness.{witness}
-use Rattle.aiger.specs.Operations.{Said, saidOf, searchTests}
+use Rattle.aiger.specs.Load.{Answer, refused, gives, load, _>>=_}
+use Rattle.aiger.specs.Search.{Outcome, firstWitness}
+use Rattle.aiger.specs.Operations.{judge, searchTests}
 use Rattle.search.specs.Chosen.{chosen}
 use Rattle.replies.specs.Refusal.{refusalText}
 use Rattle.replies.specs.Reply.{Reply, replyOf}
 
--- the line for what a search says
-abbrev pub saidWords : Said → List ℕ
-saidWords (Said.refusal n) = refusalText n
-saidWords (Said.found t) = bytes "found " ++ digits t ++ bytes "\n"
-saidWords (Said.none k) = bytes "none " ++ digits k ++ bytes "\n"
-saidWords (Said.spent t) = bytes "spent " ++ digits t ++ bytes "\n"
+-- the line for what a search answers
+abbrev pub outcomeWords : Outcome → List ℕ
+outcomeWords (Outcome.found t) = bytes "found " ++ digits t ++ bytes "\n"
+outcomeWords (Outcome.none k) = bytes "none " ++ digits k ++ bytes "\n"
+outcomeWords (Outcome.spent t) = bytes "spent " ++ digits t ++ bytes "\n"
+
+abbrev pub saidWords : Answer Outcome → List ℕ
+saidWords (refused n) = refusalText n
+saidWords (gives o) = outcomeWords o
 
 -- the witness that is printed after it
 abbrev pub witnessOf : Circuit → ℕ → Outcome → List ℕ
-witnessOf c b (Outcome.found t x) = witness b (run c t x)
+witnessOf c b (Outcome.found t) = firstWitness c b t
 witnessOf c b (Outcome.none k) = []
 witnessOf c b (Outcome.spent t) = []
 
 -- the reply on a loaded circuit, where working memory has `room` words and the output `len` bytes
 unfoldable pub searchedReply : Circuit → ℕ → ℕ → ℕ → ℕ → ℕ → Reply
 searchedReply c b k D room len =
-    replyOf (λ o. record { line = saidWords (saidOf o); out = witnessOf c b o })
-    (searchTests c b k D room len >>= λ _. gives (chosen c b k D))
+    replyOf (λ o. record { line = outcomeWords o; out = witnessOf c b o })
+    (judge (searchTests c b k D room len) >>= λ _. gives (chosen c b k D))
 
 -- the reply on a file. Circuit memory has 33,032 words, working memory 1,048,576 and the output 66,825 bytes, so that 4 and 13 never
 -- come, and 12 only for a size above 65,536

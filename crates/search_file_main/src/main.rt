@@ -8,7 +8,7 @@ ghost use lib.ListN.{length};
 fn say_help() {
     say(b"search FILE b k D\n\n");
     say(
-        b"Loads the ASCII AIGER 1.9 file FILE and searches frames 0 to k for a hit of bad line b, with a budget of D sequences\n",
+        b"Loads the AIGER 1.9 file FILE and searches frames 0 to k for a hit of bad line b, with a budget of D sequences\n",
     );
     say(b"for each frame. Prints one of\n");
     say(

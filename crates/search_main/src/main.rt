@@ -10,6 +10,7 @@ fn say(text: &[u8]) {
     }
 }
 
+// Clauses 8.2 and 11.5: the memories that are lent.
 fn main() {
     let mut text = [0u8; 65537];
     let mut m: [u32; 8192] = [0; 8192];

@@ -1,4 +1,4 @@
-// Runs the search program on each file that an argument names, and prints the name and what the search program prints.
+// Clause 9.2: runs the search program on each file that an argument names, and prints the name and what the search program prints.
 use files::say;
 
 fn say_search(input: &[u8]) {

@@ -13,18 +13,19 @@ use lib.Dec.{T, ltb}
 use lib.ListN.{length, getD}
 use lib.Pow.{pow-pos, pow-mono, pow-add}
 use lib.Seq.{ext-getD}
+use Rattle.aiger.specs.Lists.{everyBelow}
 use Rattle.aiger.specs.Circuit.{Circuit}
-use Rattle.aiger.specs.Frames.{Run, value, frame, state, valueAt, allowed, hits, freeStarts, freeBits, freeBit, run, space}
+use Rattle.aiger.specs.Frames.{Run, value, frame, state, valueAt, constrained, allowed, hits, freeStarts, freeBits, freeBit, run, space}
 use Rattle.aiger.specs.Search.{reaches, reachesIn}
 use Rattle.aiger.proofs.Tests.{T-true, and-left}
 use Rattle.meaning.proofs.Values.{length-state}
 use Rattle.meaning.proofs.Sequences.{Shaped, run-shaped}
-use Rattle.frames.specs.Lanes.{hitIn}
+use Rattle.frames.specs.Lanes.{constrainedIn, hitIn}
 use Rattle.machine.specs.Machine.{Machine, prefixes, stepped, stateAfter, hitFrom, hitsAt}
 use Rattle.machine.proofs.Expand.{Fair}
-use Rattle.transitions.specs.Transitions.{numberOf, latchesOf, rowOf, valuesIn, startNumber, nextNumber, machineOf}
+use Rattle.transitions.specs.Transitions.{numberOf, latchesOf, rowOf, valuesIn, startNumber, nextNumber, nextIn, machineOf}
 use Rattle.transitions.proofs.Numbers.{latches-number}
-use Rattle.transitions.proofs.Prefixes.{last-row, prefix-state, first-start}
+use Rattle.transitions.proofs.Prefixes.{last-row, prefix-state, prefix-before, first-start}
 
 module _ (c : Circuit) (b : ℕ) where
   abbrev W : ℕ
@@ -46,7 +47,7 @@ module _ (c : Circuit) (b : ℕ) where
       record {
         some-row = pow-pos W;
         slotted = slots-enough;
-        step-row = λ s r x e. go r (nextNumber c s r) x (ltb r (2 ^ W)) refl e;
+        step-row = λ s r x e. go r (nextIn c s r) x (ltb r (2 ^ W)) refl e;
         hit-row = λ s r h. ltb-true r (2 ^ W) (is-true (ltb r (2 ^ W)) (and-left (ltb r (2 ^ W)) (hitIn c b (valuesIn c s r)) h));
       }
     where
@@ -54,7 +55,7 @@ module _ (c : Circuit) (b : ℕ) where
       is-true true h = refl
       is-true false h = absurd h
 
-      go : (r n x : ℕ) (q : Bool) → ltb r (2 ^ W) ≡ q → _≡_ {A = Option ℕ} (cond q (some n) none) (some x) → r < 2 ^ W
+      go : (r : ℕ) (n : Option ℕ) (x : ℕ) (q : Bool) → ltb r (2 ^ W) ≡ q → cond q n none ≡ some x → r < 2 ^ W
       go r n x true e h = ltb-true r (2 ^ W) e
       go r n x false e h = absurd (let z : _≡_ {A = ℕ} 0 1 = cc in omega arith)
 
@@ -68,28 +69,56 @@ module _ (c : Circuit) (b : ℕ) where
   values-of t x =
       ap₂ (frame c) (latches-number (length (c .latches)) (state c (run c t x) t) (length-state c (run c t x) t (run-shaped c t x .start))) (sym (last-row c t x))
 
-  step-of : (t y : ℕ) → stepped (machineOf c b) (some (numberOf (state c (run c t y) t))) (y % 2 ^ W) ≡ some (numberOf (state c (run c t y) (suc t)))
-  unfolding machineOf nextNumber state
-  step-of t y =
-      ap (λ (q : Bool). cond q (some (nextNumber c (numberOf (state c (run c t y) t)) (y % 2 ^ W))) none) (row-small y)
-      ∙ ap (λ (w : ℕ → Bool). some (numberOf (map (λ l. value w (l .next)) (c .latches)))) (values-of t y)
+  -- the constraints in that state with that row
+  constrained-of : (t x : ℕ) → constrainedIn c (valuesIn c (numberOf (state c (run c t x) t)) (x % 2 ^ W)) ≡ constrained c (run c t x) t
+  unfolding constrained valueAt
+  constrained-of t x = ap (constrainedIn c) (values-of t x)
 
-  -- the state that a run has in frame t, by the machine
-  pub state-of : (t x : ℕ) → stateAfter (machineOf c b) t (x / 2 ^ W) ≡ some (numberOf (state c (run c t x) t))
+  step-of : (t y : ℕ) → stepped (machineOf c b) (some (numberOf (state c (run c t y) t))) (y % 2 ^ W)
+      ≡ cond (constrained c (run c t y) t) (some (numberOf (state c (run c t y) (suc t)))) none
+  unfolding machineOf nextIn nextNumber state
+  step-of t y =
+      ap (λ (q : Bool). cond q (nextIn c (numberOf (state c (run c t y) t)) (y % 2 ^ W)) none) (row-small y)
+      ∙ ap₂ (λ (q : Bool) (w : ℕ → Bool). cond q (some (numberOf (map (λ l. value w (l .next)) (c .latches)))) none) (constrained-of t y) (values-of t y)
+
+  -- a state that is there where a test passes: one step more, and a hit
+  step-where : (q p : Bool) (n m r : ℕ) → stepped (machineOf c b) (some n) r ≡ cond p (some m) none
+      → stepped (machineOf c b) (cond q (some n) none) r ≡ cond (q && p) (some m) none
+  step-where true p n m r e = e
+  step-where false p n m r e = refl
+
+  hit-where : (q : Bool) (n r : ℕ) → hitFrom (machineOf c b) (cond q (some n) none) r ≡ (q && hitFrom (machineOf c b) (some n) r)
+  hit-where true n r = refl
+  hit-where false n r = refl
+
+  -- the state that a run has in frame t, by the machine, where no frame before breaks a constraint
+  pub state-of : (t x : ℕ) → stateAfter (machineOf c b) t (x / 2 ^ W)
+      ≡ cond (everyBelow t (constrained c (run c t x))) (some (numberOf (state c (run c t x) t))) none
   unfolding stateAfter machineOf state startNumber
   state-of zero x = ap (λ (l : List Bool). some (numberOf l)) (first-start c x)
   state-of (suc t) x =
       let y = x / 2 ^ W in
       let m = machineOf c b in
-      ap (λ (o : Option ℕ). stepped m o (y % 2 ^ W)) (state-of t y) ∙ step-of t y
-      ∙ ap (λ (l : List Bool). some (numberOf l)) (sym (prefix-state c t x (suc t) (omega arith)))
+      ap (λ (o : Option ℕ). stepped m o (y % 2 ^ W)) (state-of t y)
+      ∙ step-where (everyBelow t (constrained c (run c t y))) (constrained c (run c t y) t) (numberOf (state c (run c t y) t))
+      (numberOf (state c (run c t y) (suc t))) (y % 2 ^ W) (step-of t y)
+      ∙ ap₂ (λ (q : Bool) (l : List Bool). cond q (some (numberOf l)) none) (sym (prefix-before c t x)) (sym (prefix-state c t x (suc t) (omega arith)))
+
+  and-assoc : (p q r : Bool) → (p && (q && r)) ≡ ((p && q) && r)
+  and-assoc true q r = refl
+  and-assoc false q r = refl
 
   -- a sequence hits where its prefix leads to a state that hits with its last row
   pub reaches-of : (t x : ℕ) → reaches c b t x ≡ hitsAt (machineOf c b) t x
-  unfolding reaches reachesIn run hits allowed valueAt hitsAt machineOf
+  unfolding reaches reachesIn run hits allowed constrained valueAt hitsAt machineOf
   reaches-of t x =
+      let r = run c t x in
+      let n = numberOf (state c r t) in
       sym (ap (λ (o : Option ℕ). hitFrom (machineOf c b) o (x % 2 ^ W)) (state-of t x)
-      ∙ ap (λ (q : Bool). q && hitIn c b (valuesIn c (numberOf (state c (run c t x) t)) (x % 2 ^ W))) (row-small x) ∙ ap (hitIn c b) (values-of t x))
+      ∙ hit-where (everyBelow t (constrained c r)) n (x % 2 ^ W)
+      ∙ ap (λ (q : Bool). everyBelow t (constrained c r) && (q && hitIn c b (valuesIn c n (x % 2 ^ W)))) (row-small x)
+      ∙ ap (λ (w : ℕ → Bool). everyBelow t (constrained c r) && hitIn c b w) (values-of t x)
+      ∙ and-assoc (everyBelow t (constrained c r)) (constrained c r t) (valueAt c r t (getD (c .bads) b 0)))
 
   -- the sequences of a frame are its prefixes of one frame more
   pub prefixes-of : (t : ℕ) → prefixes (machineOf c b) (suc t) ≡ 2 ^ freeBits c t

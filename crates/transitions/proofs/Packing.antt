@@ -16,8 +16,8 @@ use Rattle.aiger.proofs.Tests.{T-true}
 use Rattle.meaning.proofs.Lists.{length-from, length-map-upto, getD-map-upto}
 use Rattle.meaning.proofs.Defined.{latchAt}
 use Rattle.meaning.proofs.Sequences.{run-shaped, run-reset, run-free}
-use Rattle.enumeration.specs.Blocks.{freeBefore, startBit}
-use Rattle.enumeration.proofs.Starts.{free-more, free-part}
+use Rattle.frames.specs.Starts.{freeBefore, startBit}
+use Rattle.frames.proofs.Starts.{free-more, free-part}
 use Rattle.transitions.specs.Transitions.{numberOf, startNumber}
 use Rattle.transitions.proofs.Numbers.{bit-over, number-small}
 use Rattle.transitions.proofs.Prefixes.{first-start}

@@ -1,6 +1,6 @@
 -- The run of a sequence of frame t + 1 begins with that of its prefix, a sequence of frame t; its last row is the rest. Assumes nothing.
 use mathlib.Core.Path.{_≡_, refl, sym, ap, ap₂, _∙_, subst}
-use mathlib.Core.Bool.{Bool, true, false, cond}
+use mathlib.Core.Bool.{Bool, true, false, cond, _&&_}
 use mathlib.Core.List.{List, [], _∷_, map}
 use Prim.Native.Nat.{ℕ, zero, suc, _+_, _-_, _*_, _/_, _%_, _^_, _≤_, _<_}
 use native.Mathlib.Nat.{mul-suc}
@@ -9,10 +9,10 @@ use native.Mathlib.Omega.{arith}
 use lib.Dec.{T, eqb}
 use lib.ListN.{length, getD, take}
 use lib.Seq.{ext-getD}
-use Rattle.aiger.specs.Lists.{tally, upto}
+use Rattle.aiger.specs.Lists.{every, everyBelow, tally, upto}
 use Rattle.aiger.specs.Bits.{bit}
 use Rattle.aiger.specs.Circuit.{Circuit, Latch}
-use Rattle.aiger.specs.Frames.{Run, value, frame, state, isFree, freeStarts, freeBits, freeBit, starts, run, space}
+use Rattle.aiger.specs.Frames.{Run, value, frame, state, valueAt, constrained, isFree, freeStarts, freeBits, freeBit, starts, run, space}
 use Rattle.aiger.proofs.Tests.{T-true}
 use Rattle.meaning.proofs.Lists.{length-map-upto, getD-map-upto}
 use Rattle.meaning.proofs.Defined.{latchAt}
@@ -93,6 +93,19 @@ module _ (c : Circuit) where
     prefix-state zero l = prefix-start
     prefix-state (suc u) l =
         ap₂ (λ (s : List Bool) (r : List Bool). map (λ k. value (frame c s r) (k .next)) (c .latches)) (prefix-state u (omega arith)) (prefix-row u (omega arith))
+
+    -- and so are the constraints that hold in its frames
+    pub prefix-constrained : (u : ℕ) → u ≤ t → constrained c (run c (suc t) x) u ≡ constrained c (run c t (x / 2 ^ W)) u
+    unfolding constrained valueAt
+    prefix-constrained u l =
+        ap₂ (λ (s : List Bool) (r : List Bool). every (value (frame c s r)) (c .constraints)) (prefix-state u (omega arith)) (prefix-row u (omega arith))
+
+    pub prefix-before : everyBelow (suc t) (constrained c (run c (suc t) x)) ≡ everyBelow (suc t) (constrained c (run c t (x / 2 ^ W)))
+    prefix-before = go (suc t) (omega arith)
+      where
+        go : (n : ℕ) → n ≤ suc t → everyBelow n (constrained c (run c (suc t) x)) ≡ everyBelow n (constrained c (run c t (x / 2 ^ W)))
+        go zero l = refl
+        go (suc n) l = ap₂ (λ (a b : Bool). a && b) (go n (omega arith)) (prefix-constrained n (omega arith))
 
   -- the start of a run of frame 0
   pub first-start : (x : ℕ) → space c .startOf (freeBit (freeStarts c) (x / 2 ^ W)) ≡ run c 0 x .start

@@ -15,7 +15,7 @@ use Rattle.words.proofs.Bits.{bit-none}
 use Rattle.meaning.proofs.Lists.{mem-at, getD-map, length-map-upto, getD-map-upto}
 use Rattle.meaning.proofs.Defined.{Known, noLatch, inputAt, latchAt, input-in, latch-in, definition, input-latch, next-known, bad-known, constraint-known}
 use Rattle.meaning.proofs.Values.{Valuation, valuation-frame, value-eq}
-use Rattle.frames.specs.Lanes.{lane, Leaves, Evaluated, hitIn}
+use Rattle.frames.specs.Lanes.{lane, Leaves, Evaluated, constrainedIn, hitIn}
 use Rattle.enumeration.specs.Blocks.{Given}
 use Rattle.transitions.specs.Transitions.{numberOf, latchesOf, rowOf, valuesIn, nextNumber}
 
@@ -59,9 +59,13 @@ module _ (c : Circuit) (right : T (literalsRight c)) where
     every-is [] h = refl
     every-is (l ∷ ls) h = ap₂ (λ (x y : Bool). x && y) (value-is l (h l (List·Memᴰ·head refl))) (every-is ls (λ k m. h k (List·Memᴰ·tail m)))
 
+    -- whether the row breaks a constraint
+    pub constrained-is : constrainedIn c w ≡ constrainedIn c (valuesIn c s r)
+    constrained-is = every-is (c .constraints) constraint-in
+
     -- a hit of the row
     pub hit-is : (b : ℕ) → hitIn c b w ≡ hitIn c b (valuesIn c s r)
-    hit-is b = ap₂ (λ (x y : Bool). x && y) (every-is (c .constraints) constraint-in) (value-is (getD (c .bads) b 0) (bad-known c known b))
+    hit-is b = ap₂ (λ (x y : Bool). x && y) constrained-is (value-is (getD (c .bads) b 0) (bad-known c known b))
 
     -- the state that the row leads to, from the words of the next literals
     pub next-is : (state : List ℕ) (p n : ℕ) → n ≡ length (c .latches) → ((j : ℕ) → j < n → bit (getD state j 0) p ≡ value w (latchAt c j .next))

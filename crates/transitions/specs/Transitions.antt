@@ -9,7 +9,7 @@ use Rattle.aiger.specs.Lists.{upto}
 use Rattle.aiger.specs.Bits.{bit}
 use Rattle.aiger.specs.Circuit.{Circuit}
 use Rattle.aiger.specs.Frames.{value, frame, freeStarts, freeBit, space}
-use Rattle.frames.specs.Lanes.{hitIn}
+use Rattle.frames.specs.Lanes.{constrainedIn, hitIn}
 use Rattle.machine.specs.Machine.{Machine}
 
 -- latches as a number: latch j is bit j
@@ -37,6 +37,10 @@ startNumber c y = numberOf (space c .startOf (freeBit (freeStarts c) y))
 unfoldable pub nextNumber : Circuit → ℕ → ℕ → ℕ
 nextNumber c s r = numberOf (map (λ l. value (valuesIn c s r) (l .next)) (c .latches))
 
+-- the same, or none where the row breaks a constraint
+unfoldable pub nextIn : Circuit → ℕ → ℕ → Option ℕ
+nextIn c s r = cond (constrainedIn c (valuesIn c s r)) (some (nextNumber c s r)) none
+
 -- The machine of a circuit and bad line b. Rows beyond the last, which fill the last word of 64, lead nowhere.
 unfoldable pub machineOf : Circuit → ℕ → Machine
 machineOf c b =
@@ -45,6 +49,6 @@ machineOf c b =
       rows = 2 ^ length (c .inputs);
       slots = 64 * 2 ^ (length (c .inputs) - 6);
       start = startNumber c;
-      step = λ s r. cond (ltb r (2 ^ length (c .inputs))) (some (nextNumber c s r)) none;
+      step = λ s r. cond (ltb r (2 ^ length (c .inputs))) (nextIn c s r) none;
       hit = λ s r. ltb r (2 ^ length (c .inputs)) && hitIn c b (valuesIn c s r);
     }

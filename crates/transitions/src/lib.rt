@@ -87,7 +87,7 @@ pub fn start_number(m: &[u32], layout: Layout, y: u64) -> u32
         let lit = m[latches + 3 * j];
         let reset = m[latches + 3 * j + 2];
         n = 2 * n + start_bit(lit, reset, y, left);
-        left += enumeration::free_start(lit, reset) as u32;
+        left += layout::free_start(lit, reset) as u32;
     }
     n as u32
 }

@@ -13,7 +13,7 @@ use Rattle.layout.specs.declared.Layout.{Layout}
 use Rattle.meaning.proofs.Defined.{inputAt, latchAt, input-in, latch-in, definition}
 use Rattle.frames.specs.Lanes.{Ready, Apart}
 use Rattle.frames.proofs.Facts.{right}
-use Rattle.enumeration.proofs.Facts.{inputs-are, latches-are, input-var, latch-var, input-small, inputs-differ}
+use Rattle.frames.proofs.Places.{inputs-are, latches-are, input-var, latch-var, input-small, inputs-differ}
 use Rattle.unroll.specs.Map.{inputVar, latchVar}
 
 module _ {m : List ℕ} {layout : Layout} {order : List ℕ} {count : ℕ} (r : Ready m layout order count) where
@@ -54,12 +54,12 @@ row-within i u t h =
     let p : i * (u + 1 + 1) ≤ i * (t + 1) = product-le i (omega arith) in
     omega (arith, product-next i (u + 1))
 
--- (t + 1) (i + a + c) is at least the nodes of t + 1 frames and c constraints
-products : (i a c t : ℕ) → i * (t + 1) + (a + a * t) + c ≤ (t + 1) * (i + a + c)
+-- (t + 1) (i + a + c + 1) is at least the inputs, gates and constraints of t + 1 frames and one node more
+products : (i a c t : ℕ) → i * (t + 1) + (a + c) * (t + 1) + 1 ≤ (t + 1) * (i + a + c + 1)
 products i a c t =
-    omega (arith, mul-comm (t + 1) (i + a + c), product-next (i + a + c) t, product-next i t, add-mul (i + a) c t, add-mul i a t)
+    omega (arith, mul-comm (t + 1) (i + a + c + 1), add-mul (i + a + c) 1 (t + 1), add-mul (i + a) c (t + 1), add-mul i a (t + 1), add-mul a c (t + 1))
 
--- there is room for the nodes of frames 0 to t and the constraints
-pub size-enough : (c : Circuit) (t : ℕ) → freeBits c t + 1 + (length (c .gates) + length (c .gates) * t) + length (c .constraints) ≤ size c t
+-- there is room for the nodes of frames 0 to t, their constraints and the bad line
+pub size-enough : (c : Circuit) (t : ℕ) → freeBits c t + 1 + (length (c .gates) + length (c .constraints)) * (t + 1) + 1 ≤ size c t
 unfolding freeBits size
 size-enough c t = omega (arith, products (length (c .inputs)) (length (c .gates)) (length (c .constraints)) t)

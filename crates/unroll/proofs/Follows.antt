@@ -20,8 +20,8 @@ use Rattle.layout.specs.declared.Layout.{Layout}
 use Rattle.meaning.specs.Frame.{inputAt, latchAt}
 use Rattle.frames.specs.Lanes.{Ready}
 use Rattle.frames.proofs.Evaluation.{gateOn}
-use Rattle.enumeration.specs.Blocks.{freeBefore}
-use Rattle.enumeration.proofs.Facts.{inputs-are, latches-are, input-var, latch-var, latch-place}
+use Rattle.frames.specs.Starts.{freeBefore}
+use Rattle.frames.proofs.Places.{inputs-are, latches-are, input-var, latch-var, latch-place}
 use Rattle.literals.specs.Literal.{literal}
 use Rattle.nodes.specs.Graph.{Pair}
 use Rattle.nodes.specs.Store.{pairOf, pairsOf}
@@ -29,7 +29,7 @@ use Rattle.nodes.specs.Edges.{wordEdge, edgeWord, opposite}
 use Rattle.nodes.specs.declared.Graph.{Graph}
 use Rattle.graph.specs.Chosen.{Outcome, conjoin}
 use Rattle.graph.specs.Stored.{emptyGraph}
-use Rattle.unroll.specs.Chosen.{Mapping, literalIn, filled, gateMade, gatesMade, leavesMade, frameMade, starting, moving, framesMade}
+use Rattle.unroll.specs.Chosen.{Mapping, literalIn, filled, gateMade, gatesMade, leavesMade, frameMade, starting, moving, firstMade, nextMade, constrainedMade, framesMade}
 use Rattle.unroll.specs.Map.{literalEdge, startEdge, freeEdge, Written, latchVar, inputVar, startWord, nextWord, inputWord, Blank, Agrees}
 
 -- the edge of a literal
@@ -140,22 +140,40 @@ module _ {m : List ℕ} {layout : Layout} {order : List ℕ} {count : ℕ} (r : 
       → Written (latchVar m (layout .latches)) (startWord m (layout .latches)) (layout .l) blank started
       → Written (inputVar m) (inputWord first) (layout .i) started full
       → ((s : Mapping) → Agrees s work g full → Agrees (gatesMade (circuitIn m) n (length (circuitIn m .gates)) s) last h after)
-      → Agrees (framesMade (circuitIn m) n 0) last h after
-  unfolding framesMade
+      → Agrees (firstMade (circuitIn m) n) last h after
   first-follows n {first} {work} {blank} {full = full} {last = last} {after = after} {g = g} {h = h} e z gs p q f =
       let c : Circuit = circuitIn m in
       let s : Mapping = record { gates = []; edges = λ v. 0 } in
       subst (λ (i : ℕ). Agrees (frameMade c n i (starting c) s) last h after) e
       (f (leavesMade c first (starting c) s) (leaves-follow first (starting c) s start-words (record { gates = gs; edges = z }) p q))
 
--- one frame more
-pub frames-follow : (c : Circuit) (n : ℕ) {last after : List ℕ} {h : Graph} (u first : ℕ) → first ≡ freeStarts c + length (c .inputs) * (u + 1)
-    → Agrees (frameMade c n first (moving c (framesMade c n u)) (framesMade c n u)) last h after → Agrees (framesMade c n (u + 1)) last h after
+-- frame 0 with its constraints, and one frame more
+pub framing-first : (c : Circuit) (n : ℕ) {last map : List ℕ} {h : Graph} {e : ℕ} → ((v : ℕ) → getD map v 0 ≡ firstMade c n .edges v)
+    → constrainedMade c n 1 (firstMade c n) ≡ record { gates = pairsOf last h; edge = e }
+    → Agrees (framesMade c n 0 .mapping) last h map × (e ≡ framesMade c n 0 .left)
 unfolding framesMade
-frames-follow c n {last} {after} {h} u first e a =
-    rw (add-one u)
-    (subst (λ (i : ℕ). Agrees (frameMade c n i (moving c (framesMade c n u)) (framesMade c n u)) last h after)
-    (e ∙ ap (λ (i : ℕ). freeStarts c + length (c .inputs) * i) (add-one u)) a)
+framing-first c n s q = (
+  record { gates = sym (ap (λ (o : Outcome). o .gates) q); edges = s },
+  sym (ap (λ (o : Outcome). o .edge) q),
+)
+
+pub framing-next : (c : Circuit) (n u first : ℕ) → first ≡ freeStarts c + length (c .inputs) * (u + 1) → {last map : List ℕ} {h : Graph} {from e : ℕ}
+    → from ≡ framesMade c n u .left → ((v : ℕ) → getD map v 0 ≡ nextMade c n first (framesMade c n u .mapping) .edges v)
+    → constrainedMade c n from (nextMade c n first (framesMade c n u .mapping)) ≡ record { gates = pairsOf last h; edge = e }
+    → Agrees (framesMade c n (u + 1) .mapping) last h map × (e ≡ framesMade c n (u + 1) .left)
+unfolding framesMade
+framing-next c n u first at {last} {map} {h} {from} {e} f s q =
+    let i : first ≡ freeStarts c + length (c .inputs) * suc u = at ∙ ap (λ (k : ℕ). freeStarts c + length (c .inputs) * k) (add-one u) in
+    let z = framesMade c n u .mapping in
+    let q′ : constrainedMade c n (framesMade c n u .left) (nextMade c n (freeStarts c + length (c .inputs) * suc u) z) ≡ record { gates = pairsOf last h; edge = e } =
+    ap₂ (λ (a b : ℕ). constrainedMade c n a (nextMade c n b z)) (sym f) (sym i) ∙ q in
+    subst (λ (k : ℕ). Agrees (framesMade c n k .mapping) last h map × (e ≡ framesMade c n k .left)) (sym (add-one u)) (
+      record {
+        gates = sym (ap (λ (o : Outcome). o .gates) q′);
+        edges = λ v. s v ∙ ap (λ (b : ℕ). nextMade c n b z .edges v) i;
+      },
+      sym (ap (λ (o : Outcome). o .edge) q′),
+    )
 
 -- a graph without gates
 pub no-gates : (work : List ℕ) (free room : ℕ) {g : Graph} → g ≡ emptyGraph free room → pairsOf work g ≡ []

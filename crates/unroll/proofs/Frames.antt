@@ -1,6 +1,6 @@
--- Frames in a graph: the leaves of frame 0 and of the frame after another, and the hits of the last one. Assumes nothing.
-use mathlib.Core.Path.{_≡_, sym, ap, ap₂, _∙_, subst}
-use mathlib.Core.Bool.{Bool, false, cond}
+-- Frames in a graph: the leaves of frame 0 and of the frame after another, their constraints, and the hits of the last one. Assumes nothing.
+use mathlib.Core.Path.{_≡_, sym, ap, ap₂, _∙_, subst, fun-ext}
+use mathlib.Core.Bool.{Bool, true, false, cond, _&&_}
 use mathlib.Core.List.{List, []}
 use Prim.Native.Nat.{ℕ, suc, _+_, _*_, _^_, _≤_, _<_}
 use native.Mathlib.Numerals.{add-one}
@@ -8,35 +8,36 @@ use native.Mathlib.Omega.{arith}
 use lib.Dec.{eqb}
 use lib.ListN.{length, getD}
 use Rattle.aiger.specs.Circuit.{Circuit, Latch, var}
-use Rattle.aiger.specs.Frames.{value, isFree, freeBit, freeBits, freeStarts, run, state}
+use Rattle.aiger.specs.Frames.{value, isFree, freeBit, freeBits, freeStarts, run, state, allowed}
 use Rattle.aiger.specs.Search.{reaches, reachesIn}
 use Rattle.layout.specs.Words.{word, circuitIn}
 use Rattle.layout.specs.declared.Layout.{Layout}
 use Rattle.meaning.proofs.Defined.{inputAt, latchAt, input-latch, next-known}
 use Rattle.meaning.proofs.Values.{Valuation, valuation-value, state-start, state-next-at}
 use Rattle.meaning.proofs.Sequences.{run-input, input-number}
-use Rattle.frames.specs.Lanes.{Ready, Leaves}
-use Rattle.frames.proofs.Facts.{right, known, no-cycle, gates-are}
-use Rattle.frames.proofs.Laws.{hit-of-run}
-use Rattle.enumeration.specs.Blocks.{freeBefore, startBit}
-use Rattle.enumeration.proofs.Facts.{inputs-are, latches-are, input-var, latch-var, latch-place}
-use Rattle.enumeration.proofs.Starts.{count-part, start-of-run}
-use Rattle.enumeration.proofs.Blocks.{latches-room}
+use Rattle.frames.specs.Lanes.{Ready, Leaves, badIn}
+use Rattle.frames.proofs.Facts.{right, known, no-cycle, gates-are, constraints-are}
+use Rattle.frames.proofs.Laws.{hit-of-run, allowed-start, allowed-more}
+use Rattle.frames.specs.Starts.{freeBefore, startBit}
+use Rattle.frames.proofs.Places.{inputs-are, latches-are, input-var, latch-var, latch-place}
+use Rattle.frames.proofs.Starts.{count-part, start-of-run}
+use Rattle.frames.proofs.Starts.{latches-room}
 use Rattle.literals.specs.Literal.{literal}
 use Rattle.nodes.specs.Graph.{Pair, edgeValue}
 use Rattle.nodes.specs.Store.{pairsOf}
-use Rattle.nodes.specs.Edges.{edgeWord}
+use Rattle.nodes.specs.Edges.{edgeOf, edgeWord}
 use Rattle.nodes.specs.declared.Graph.{Graph}
-use Rattle.nodes.proofs.Laws.{edge-false}
+use Rattle.nodes.specs.declared.Edge.{Edge}
+use Rattle.nodes.proofs.Laws.{edge-false, edge-true, word-node, nodes-pairsOf}
 use Rattle.graph.specs.Stored.{Stored}
 use Rattle.graph.specs.declared.Made.{Made}
-use Rattle.unroll.specs.Map.{Written, latchVar, inputVar, startWord, nextWord, inputWord, Blank, Edges, Valued, Extensible, GatesMapped, FirstMapped, NextMapped, FramesMapped, HitMapped, FramesFit}
+use Rattle.unroll.specs.Map.{Written, latchVar, inputVar, startWord, nextWord, inputWord, Blank, Edges, mapped, Valued, Allowed, Extensible, GatesMapped, FirstMapped, NextMapped, ConstrainedMapped, Framed, FrameNext, HitMapped, FramesFit}
 use Rattle.unroll.proofs.Edges.{literal-edge, free-node, start-node, literal-value, free-value, start-value}
 use Rattle.unroll.proofs.Stores.{written-edges}
 use Rattle.unroll.proofs.Facts.{input-nonzero, latch-nonzero, product-next, product-le}
-use Rattle.unroll.proofs.Growth.{grown-none, grown-more, grown-count}
-use Rattle.unroll.specs.Chosen.{leavesMade, moving, framesMade}
-use Rattle.unroll.proofs.Follows.{next-words, leaves-follow, first-follows, frames-follow}
+use Rattle.unroll.proofs.Growth.{mapped-kept}
+use Rattle.unroll.specs.Chosen.{leavesMade, moving, firstMade, nextMade, framesMade}
+use Rattle.unroll.proofs.Follows.{next-words, leaves-follow, first-follows, framing-first, framing-next}
 
 module _ {m : List ℕ} {layout : Layout} {order : List ℕ} {count : ℕ} (r : Ready m layout order count) where
   -- ---- the inputs
@@ -179,38 +180,87 @@ module _ {m : List ℕ} {layout : Layout} {order : List ℕ} {count : ℕ} (r : 
               w .follows (leavesMade (circuitIn m) first words z) (leaves-follow r first words z (next-words r states old next z a) a s i);
         }
 
-  -- ---- the frames up to u
-
-  pub frames-extensible : {t starts u n : ℕ} {work : List ℕ} {g : Graph} {map last : List ℕ} {h : Graph} {after : List ℕ} → FramesFit m layout t starts work g map → u + 1 ≤ t
-      → FramesMapped (circuitIn m) t u n work g map last h after → Extensible (layout .a) last h after
-  frames-extensible {t} {starts} {u} f l w =
-      let a = length (circuitIn m .gates) in
-      record {
-        stored = w .grown .stored;
-        room = omega (arith, w .grown .most, w .grown .room, f .extensible .room, ap (λ (k : ℕ). k * t) (gates-are r), gates-are r, product-next a u, product-le a l);
-        edges = w .edges;
-      }
-
   -- ---- the hits of the last frame
 
-  pub reached : (b t n : ℕ) (work : List ℕ) (g : Graph) (map last : List ℕ) (made : Made) → Valued (circuitIn m) t t n work g map
-      → HitMapped (circuitIn m) b n work g map last made → (x : ℕ) → x < 2 ^ n
+  pub reached : (b t n : ℕ) (work : List ℕ) (before : Made) (map last : List ℕ) (made : Made) → Valued (circuitIn m) t t n work (before .graph) map
+      → Allowed (circuitIn m) t t n work before → HitMapped (circuitIn m) b n work before map last made → (x : ℕ) → x < 2 ^ n
       → edgeValue n (pairsOf last (made .graph)) (freeBit n x) (edgeWord (made .edge)) ≡ reaches (circuitIn m) b t x
   unfolding reaches reachesIn run
-  reached b t n work g map last made v w x l =
-      w .hit x l ∙ hit-of-run (right (r .held)) (known (r .held)) (no-cycle (r .held)) (run (circuitIn m) t x) t (v x l) b
+  reached b t n work before map last made v a w x l =
+      let c = circuitIn m in
+      w .hit x l ∙ ap (λ (y : Bool). y && badIn c b (mapped n work (before .graph) map x)) (a x l)
+      ∙ hit-of-run (right (r .held)) (known (r .held)) (no-cycle (r .held)) (run c t x) t (v x l) b
 
--- ---- frame after frame
+  -- ---- frame after frame
 
-pub frames-start : (c : Circuit) (t : ℕ) (work : List ℕ) (g : Graph) (map : List ℕ) → Stored work g → Edges g map → FramesMapped c t 0 (g .free) work g map work g map
-frames-start c t work g map s b = record { grown = grown-count (omega arith) (grown-none work g s); edges = b; values = λ e v. v; follows = λ a. a }
+  -- the values of a frame stay where its constraints are conjoined
+  kept-values : (t u : ℕ) {from : Edge} {n : ℕ} {work map last : List ℕ} {g : Graph} {made : Made} → Edges g map → ConstrainedMapped (circuitIn m) from n work g map last made
+      → Valued (circuitIn m) t u n work g map → Valued (circuitIn m) t u n last (made .graph) map
+  kept-values t u {n = n} {map = map} s k v x l =
+      let c = circuitIn m in
+      subst (λ (w : ℕ → Bool). Valuation c (getD (run c t x .rows) u []) (state c (run c t x) u) w)
+      (sym (fun-ext (λ i. mapped-kept map (k .grown) s x i))) (v x l)
 
-pub frames-more : {c : Circuit} {n : ℕ} {work mid last : List ℕ} {g h i : Graph} {map middle after : List ℕ} (t u : ℕ) → u < t → FramesMapped c t u n work g map mid h middle
-    → (first : ℕ) → first ≡ freeStarts c + length (c .inputs) * (u + 1) → NextMapped c n first mid h middle last i after → FramesMapped c t (u + 1) n work g map last i after
-frames-more {c} {n} t u l f first at s =
-    record {
-      grown = grown-count (sym (product-next (length (c .gates)) u)) (grown-more (f .grown) (s .grown));
-      edges = s .edges;
-      values = λ bits v. s .values t u bits l at (f .values bits v);
-      follows = λ a. frames-follow c n u first at (s .follows (framesMade c n u) (f .follows a));
-    }
+  -- frame 0
+  pub framed-first : {work : List ℕ} {g : Graph} {mid : List ℕ} {h : Graph} {map last : List ℕ} {made : Made} → Stored work g → pairsOf work g ≡ []
+      → FirstMapped (circuitIn m) (g .free) work g mid h map → ConstrainedMapped (circuitIn m) (edgeOf 0 true) (h .free) mid h map last made
+      → (t : ℕ) → Framed (circuitIn m) t 0 (g .free) (g .room) last made map
+  framed-first {work} {g} {mid} {h} {map} {last} {made} s none f k′ t =
+      let c = circuitIn m in
+      let n = g .free in
+      let k = subst (λ (i : ℕ). ConstrainedMapped c (edgeOf 0 true) i mid h map last made) (f .grown .free) k′ in
+      let a = f .follows none in
+      let q = framing-first c n (a .edges) (k .follows (firstMade c n) a) in
+      record {
+        stored = k .grown .stored;
+        free = k .grown .free;
+        room-is = k .grown .room ∙ f .grown .room;
+        most = omega (arith, k .grown .most, f .grown .most, nodes-pairsOf work g (s .sized .leaves), ap length none);
+        edges = λ v. omega (arith, f .edges v, k .grown .least);
+        node = k .node;
+        values = λ bits. kept-values t 0 (f .edges) k (f .values t bits);
+        allowed = λ bits x l.
+            allowed-start (right (r .held)) (known (r .held)) (no-cycle (r .held)) (run c t x) (k .left x l) (edge-true n (pairsOf mid h) (freeBit n x)) (f .values t bits x l);
+        agrees = q .0;
+        left = q .1;
+      }
+
+  -- one frame more
+  pub framed-next : (first : ℕ) {work mid last map after : List ℕ} {before : Made} {h : Graph} {made : Made} → NextMapped (circuitIn m) (before .graph .free) first work (before .graph) map mid h after
+      → ConstrainedMapped (circuitIn m) (before .edge) (h .free) mid h after last made → FrameNext (circuitIn m) first work before map last made after
+  framed-next first {work = work} {mid = mid} {last = last} {map = map} {after = after} {before = before} {h = h} {made = made} s k′ t u room less at f =
+      let c = circuitIn m in
+      let n = before .graph .free in
+      let k = subst (λ (i : ℕ). ConstrainedMapped c (before .edge) i mid h after last made) (s .grown .free) k′ in
+      let a = s .follows (framesMade c n u .mapping) (f .agrees) in
+      let q = framing-next c n u first at (f .left) (a .edges) (k .follows (nextMade c n first (framesMade c n u .mapping)) a) in
+      let p : u + 1 ≡ suc u = add-one u in
+      record {
+        stored = k .grown .stored;
+        free = k .grown .free;
+        room-is = k .grown .room ∙ s .grown .room ∙ f .room-is;
+        most = omega (arith, k .grown .most, s .grown .most, f .most, product-next (length (c .gates) + length (c .constraints)) (u + 1));
+        edges = λ v. omega (arith, s .edges v, k .grown .least);
+        node = k .node;
+        values = λ bits. kept-values t (u + 1) (s .edges) k (s .values t u bits less at (f .values bits));
+        allowed = λ bits x l.
+            let v = s .values t u bits less at (f .values bits) x l in
+            let kept = s .grown .kept (freeBit n x) (edgeWord (before .edge)) (omega (arith, word-node (before .edge), f .node)) ∙ f .allowed bits x l in
+            subst (λ (i : ℕ). edgeValue n (pairsOf last (made .graph)) (freeBit n x) (edgeWord (made .edge)) ≡ allowed c (run c t x) i) (sym p)
+            (allowed-more (right (r .held)) (known (r .held)) (no-cycle (r .held)) (run c t x) u (k .left x l) kept
+            (subst (λ (i : ℕ). Valuation c (getD (run c t x .rows) i []) (state c (run c t x) i) (mapped n mid h after x)) p v));
+        agrees = q .0;
+        left = q .1;
+      }
+
+  -- there is room for the next frame
+  pub frame-room : {t u starts : ℕ} {work last after : List ℕ} {start made : Made} {map : List ℕ} → FramesFit m layout t starts work start map → u + 1 ≤ t
+      → Framed (circuitIn m) t u (start .graph .free) (start .graph .room) last made after → Extensible (layout .a + layout .c) last (made .graph) after
+  frame-room {t} {u} f l w =
+      let a = length (circuitIn m .gates) + length (circuitIn m .constraints) in
+      let e : layout .a + layout .c ≡ a = omega (arith, gates-are r, constraints-are r) in
+      record {
+        stored = w .stored;
+        room = omega (arith, w .most, w .room-is, f .room, e, ap (λ (k : ℕ). k * (t + 1)) e, product-next a (u + 1), product-le a {u = u + 1 + 1} {t = t + 1} (omega arith));
+        edges = w .edges;
+      }

@@ -1,21 +1,23 @@
 -- From the requirement of `unroll` to its contract: the room for each part of the graph, and the hit of the last frame. Assumes nothing.
-use mathlib.Core.Path.{_≡_, refl, ap, _∙_, subst}
-use mathlib.Core.List.{List}
-use Prim.Native.Nat.{ℕ, zero, suc, _+_, _*_, _≤_}
+use mathlib.Core.Path.{_≡_, refl, sym, ap, _∙_, subst}
+use mathlib.Core.List.{List, []}
+use Prim.Native.Nat.{ℕ, zero, suc, _+_, _*_, _≤_, _<_}
 use native.Mathlib.Omega.{arith}
-use lib.ListN.{length, replicate}
+use lib.ListN.{length, getD, replicate}
 use Rattle.aiger.specs.Frames.{freeBits}
 use Rattle.layout.specs.Words.{circuitIn}
 use Rattle.layout.specs.declared.Layout.{Layout}
 use Rattle.frames.proofs.Facts.{gates-are, constraints-are}
-use Rattle.enumeration.proofs.Facts.{inputs-are}
-use Rattle.enumeration.proofs.Blocks.{bits-are}
+use Rattle.frames.proofs.Places.{inputs-are}
+use Rattle.frames.proofs.Starts.{bits-are}
+use Rattle.nodes.specs.Store.{pairsOf}
 use Rattle.nodes.specs.declared.Graph.{Graph}
 use Rattle.graph.specs.Stored.{Stored, Enough, emptyGraph}
 use Rattle.graph.specs.declared.Made.{Made}
-use Rattle.unroll.specs.Chosen.{framesMade}
+use Rattle.graph.specs.Chosen.{conjoin}
+use Rattle.unroll.specs.Chosen.{literalIn, framesMade}
 use Rattle.unroll.specs.Chosen as chosen
-use Rattle.unroll.specs.Map.{Blank, Valued, Agrees, Extensible, FirstMapped, FramesMapped, HitMapped, FirstFits, FramesFit}
+use Rattle.unroll.specs.Map.{Blank, Extensible, Framed, HitMapped, FirstFits, FramesFit}
 use Rattle.unroll.specs.Unrolled.{UnrollFits, Unrolled}
 use Rattle.unroll.proofs.Facts.{product-le, size-enough}
 use Rattle.unroll.proofs.Frames.{reached}
@@ -30,18 +32,11 @@ module _ {work m : List ℕ} {layout : Layout} {order : List ℕ} {b t starts ro
   free-is : starts + layout .i * (t + 1) ≡ freeBits (circuitIn m) t
   free-is = bits-are (circuitIn m) t (f .starts-are) (inputs-are (f .ready .held) (f .ready .layout-of))
 
-  -- the free bits, the gates of each frame and the constraints
-  pub room-enough : starts + layout .i * (t + 1) + 1 + (layout .a + layout .a * t) + layout .c ≤ room
+  -- the free bits, the gates and constraints of each frame, and the bad line
+  pub room-enough : starts + layout .i * (t + 1) + 1 + (layout .a + layout .c) * (t + 1) + 1 ≤ room
   room-enough =
-      omega (
-        arith,
-        free-is,
-        size-enough (circuitIn m) t,
-        f .room-is,
-        gates-are (f .ready),
-        ap (λ (k : ℕ). k * t) (gates-are (f .ready)),
-        constraints-are (f .ready),
-      )
+      let e : layout .a + layout .c ≡ length (circuitIn m .gates) + length (circuitIn m .constraints) = omega (arith, gates-are (f .ready), constraints-are (f .ready)) in
+      omega (arith, free-is, size-enough (circuitIn m) t, f .room-is, ap (λ (k : ℕ). k * (t + 1)) e)
 
   pub start-enough : Enough (starts + layout .i * (t + 1)) room (length work)
   start-enough = record { leaves = omega (arith, room-enough); most = f .most; held = f .held }
@@ -62,77 +57,60 @@ module _ {work m : List ℕ} {layout : Layout} {order : List ℕ} {b t starts ro
           blank = z;
           extensible = record {
             stored = s;
-            room = omega (arith, nodes-are, room-are, room-enough);
+            room = omega (arith, nodes-are, room-are, room-enough, product-le (layout .a + layout .c) {u = 1} {t = t + 1} (omega arith));
             edges = λ v. omega (arith, z v, nodes-are);
           };
           starts-are = f .starts-are;
           bits = omega (arith, free-are, product-le (layout .i) {u = 1} {t = t + 1} (omega arith));
         }
 
-    module _ {second : List ℕ} {g : Graph} {map : List ℕ} (u : FirstMapped (circuitIn m) (e .free) first e second g map) where
+    module _ {second : List ℕ} {g : Made} {map : List ℕ}
+        (u : pairsOf first e ≡ [] → (t : ℕ) → Framed (circuitIn m) t 0 (e .free) (e .room) second g map) where
+      framed : Framed (circuitIn m) t 0 (e .free) (e .room) second g map
+      framed = u (no-gates first _ _ empty) t
+
       pub frames-fit : FramesFit m layout t starts second g map
       frames-fit =
           record {
-            extensible = record {
-              stored = u .grown .stored;
-              room = omega (arith, u .grown .most, u .grown .room, gates-are (f .ready), nodes-are, room-are, room-enough);
-              edges = u .edges;
-            };
+            framed =
+                subst (λ (n : ℕ). Framed (circuitIn m) t 0 n (g .graph .room) second g map) (sym (framed .free))
+                (subst (λ (n : ℕ). Framed (circuitIn m) t 0 (e .free) n second g map) (sym (framed .room-is)) framed);
+            room = omega (arith, framed .free, framed .room-is, free-are, room-are, room-enough);
             starts-are = f .starts-are;
-            bits = omega (arith, u .grown .free, free-are);
+            bits = omega (arith, framed .free, free-are);
           }
 
-      module _ {third : List ℕ} {h : Graph} {after : List ℕ} (v : FramesMapped (circuitIn m) t t (g .free) second g map third h after) where
-        pub hit-fits : Extensible (layout .c) third h after
+      module _ {third : List ℕ} {h : Made} {after : List ℕ} (v : Framed (circuitIn m) t t (g .graph .free) (g .graph .room) third h after) where
+        pub hit-fits : Extensible 1 third (h .graph) after
         hit-fits =
+            let d : layout .a + layout .c ≡ length (circuitIn m .gates) + length (circuitIn m .constraints) = omega (arith, gates-are (f .ready), constraints-are (f .ready)) in
             record {
-              stored = v .grown .stored;
-              room = omega (
-                arith,
-                v .grown .most,
-                v .grown .room,
-                u .grown .most,
-                u .grown .room,
-                gates-are (f .ready),
-                ap (λ (k : ℕ). k * t) (gates-are (f .ready)),
-                nodes-are,
-                room-are,
-                room-enough,
-              );
+              stored = v .stored;
+              room = omega (arith, v .most, v .room-is, framed .free, framed .room-is, free-are, room-are, room-enough, ap (λ (k : ℕ). k * (t + 1)) d);
               edges = v .edges;
             }
 
-        e-bits : e .free ≡ freeBits (circuitIn m) t
-        e-bits = free-are ∙ free-is
+        pub hit-node : h .edge .0 .0 < h .graph .nodes
+        hit-node = v .node
 
-        g-bits : g .free ≡ freeBits (circuitIn m) t
-        g-bits = u .grown .free ∙ e-bits
+        bits : g .graph .free ≡ freeBits (circuitIn m) t
+        bits = framed .free ∙ free-are ∙ free-is
 
-        h-bits : h .free ≡ freeBits (circuitIn m) t
-        h-bits = v .grown .free ∙ g-bits
-
-        -- the values of frame t
-        valued : Valued (circuitIn m) t t (freeBits (circuitIn m) t) third h after
-        valued =
-            subst (λ (n : ℕ). FramesMapped (circuitIn m) t t n second g map third h after) g-bits v .values refl
-            (subst (λ (n : ℕ). FirstMapped (circuitIn m) n first e second g map) e-bits u .values t refl)
-
-        -- the graph and the map are those of frames 0 to t
-        agreed : Agrees (framesMade (circuitIn m) (freeBits (circuitIn m) t) t) third h after
-        agreed =
-            subst (λ (n : ℕ). FramesMapped (circuitIn m) t t n second g map third h after) g-bits v .follows
-            (subst (λ (n : ℕ). FirstMapped (circuitIn m) n first e second g map) e-bits u .follows (no-gates first _ _ empty))
-
-        pub unrolled : (last : List ℕ) (made : Made) → HitMapped (circuitIn m) b (h .free) third h after last made → Unrolled (circuitIn m) b t last room made
+        pub unrolled : (last : List ℕ) (made : Made) → HitMapped (circuitIn m) b (h .graph .free) third h after last made → Unrolled (circuitIn m) b t last room made
         unfolding chosen.unrolled
         unrolled last made w =
-            let n = freeBits (circuitIn m) t in
-            let p = subst (λ (k : ℕ). HitMapped (circuitIn m) b k third h after last made) h-bits w in
+            let c = circuitIn m in
+            let n = freeBits c t in
+            let p = subst (λ (k : ℕ). HitMapped c b k third h after last made) (v .free ∙ bits) w in
+            let q = subst (λ (k : ℕ). Framed c t t k (g .graph .room) third h after) bits v in
+            let z = framesMade c n t in
             record {
               stored = p .grown .stored;
               free = p .grown .free;
-              room-is = p .grown .room ∙ v .grown .room ∙ u .grown .room ∙ room-are;
+              room-is = p .grown .room ∙ v .room-is ∙ framed .room-is ∙ room-are;
               node = p .node;
-              hit = reached (f .ready) b t n third h after last made valued p;
-              chosen = p .follows (framesMade (circuitIn m) n t) agreed;
+              hit = reached (f .ready) b t n third h after last made (q .values refl) (q .allowed refl) p;
+              chosen =
+                  ap (λ (l : ℕ). conjoin n (z .mapping .gates) l (literalIn (z .mapping .edges) (getD (c .bads) b 0))) (sym (q .left))
+                  ∙ p .follows (z .mapping) (q .agrees);
             }

@@ -9,7 +9,7 @@ use Rattle.aiger.specs.Circuit.{Circuit, Gate, var}
 use Rattle.aiger.specs.Frames.{freeBits, freeStarts}
 use Rattle.layout.specs.Order.{gateAt, depthFirst}
 use Rattle.meaning.specs.Frame.{inputAt, latchAt}
-use Rattle.enumeration.specs.Blocks.{freeBefore}
+use Rattle.frames.specs.Starts.{freeBefore}
 use Rattle.nodes.specs.Graph.{Pair}
 use Rattle.nodes.specs.Edges.{wordEdge, edgeWord, opposite}
 use Rattle.graph.specs.Chosen.{Outcome, conjoin}
@@ -61,18 +61,42 @@ starting c j = edgeWord (startEdge (latchAt c j .lit) (latchAt c j .reset) (free
 abbrev pub moving : Circuit → Mapping → ℕ → ℕ
 moving c s j = literalIn (s .edges) (latchAt c j .next)
 
--- frames 0 to u over n free bits
-unfoldable pub framesMade : Circuit → ℕ → ℕ → Mapping
-framesMade c n zero = frameMade c n (freeStarts c) (starting c) (record { gates = []; edges = λ v. 0 })
-framesMade c n (suc u) = frameMade c n (freeStarts c + length (c .inputs) * suc u) (moving c (framesMade c n u)) (framesMade c n u)
+-- the conjunction of edge `from` and the first k lines
+unfoldable pub linesMade : (ℕ → ℕ) → ℕ → ℕ → ℕ → Mapping → Outcome
+linesMade lines n from zero s = record { gates = s .gates; edge = from }
+linesMade lines n from (suc k) s =
+    conjoin n (linesMade lines n from k s .gates) (linesMade lines n from k s .edge) (literalIn (s .edges) (lines k))
 
--- the conjunction of a literal and the first k lines
-unfoldable pub lineMade : ℕ → (ℕ → ℕ) → ℕ → ℕ → Mapping → Outcome
-lineMade bad lines n zero s = record { gates = s .gates; edge = literalIn (s .edges) bad }
-lineMade bad lines n (suc k) s =
-    conjoin n (lineMade bad lines n k s .gates) (lineMade bad lines n k s .edge) (literalIn (s .edges) (lines k))
+-- the same with the constraints of a circuit
+abbrev pub constrainedMade : Circuit → ℕ → ℕ → Mapping → Outcome
+constrainedMade c n from s = linesMade (λ j. getD (c .constraints) j 0) n from (length (c .constraints)) s
 
--- the bad line and the constraints of frame t
+-- a frame, and the edge that is true where the constraints of all frames up to it hold
+pub record Framing : Type 0 where
+  pub mapping : Mapping
+  pub left : ℕ
+
+abbrev pub framing : (ℕ → ℕ) → Outcome → Framing
+framing edges o = record { mapping = record { gates = o .gates; edges = edges }; left = o .edge }
+
+-- frame 0, and the frame after another
+abbrev pub firstMade : Circuit → ℕ → Mapping
+firstMade c n = frameMade c n (freeStarts c) (starting c) (record { gates = []; edges = λ v. 0 })
+
+abbrev pub nextMade : Circuit → ℕ → ℕ → Mapping → Mapping
+nextMade c n first s = frameMade c n first (moving c s) s
+
+abbrev pub constrainedFrame : Circuit → ℕ → ℕ → Mapping → Framing
+constrainedFrame c n from s = framing (s .edges) (constrainedMade c n from s)
+
+-- frames 0 to u over n free bits; literal 1 is true
+unfoldable pub framesMade : Circuit → ℕ → ℕ → Framing
+framesMade c n zero = constrainedFrame c n 1 (firstMade c n)
+framesMade c n (suc u) =
+    constrainedFrame c n (framesMade c n u .left) (nextMade c n (freeStarts c + length (c .inputs) * suc u) (framesMade c n u .mapping))
+
+-- the constraints of frames 0 to t and the bad line
 unfoldable pub unrolled : Circuit → ℕ → ℕ → Outcome
 unrolled c b t =
-    lineMade (getD (c .bads) b 0) (λ j. getD (c .constraints) j 0) (freeBits c t) (length (c .constraints)) (framesMade c (freeBits c t) t)
+    let f = framesMade c (freeBits c t) t in
+    conjoin (freeBits c t) (f .mapping .gates) (f .left) (literalIn (f .mapping .edges) (getD (c .bads) b 0))

@@ -1,28 +1,29 @@
 -- Maps from variables to edges of a graph, and what the private functions do to them. The word of variable v is that of its edge.
 -- Assumes nothing.
 use mathlib.Core.Path.{_≡_}
-use mathlib.Core.Bool.{Bool}
+use mathlib.Core.Bool.{Bool, _&&_}
 use mathlib.Core.List.{List, []}
 use Prim.Native.Nat.{ℕ, _+_, _*_, _^_, _≤_, _<_}
 use lib.ListN.{length, getD}
 use Rattle.aiger.specs.Circuit.{Circuit, Gate, var}
-use Rattle.aiger.specs.Frames.{value, freeBit, freeBits, freeStarts, run, state}
+use Rattle.aiger.specs.Frames.{value, freeBit, freeBits, freeStarts, run, state, allowed}
 use Rattle.layout.specs.Words.{word, circuitIn}
 use Rattle.meaning.specs.Frame.{Valuation}
 use Rattle.literals.specs.Literal.{literal}
 use Rattle.layout.specs.declared.Layout.{Layout}
-use Rattle.frames.specs.Lanes.{Ready, Leaves, Computed, hitIn}
+use Rattle.frames.specs.Lanes.{Ready, Leaves, Computed, constrainedIn, badIn}
 use Rattle.frames.specs.Lanes as lanes
-use Rattle.enumeration.specs.Blocks.{freeBefore}
+use Rattle.frames.specs.Starts.{freeBefore}
 use Rattle.nodes.specs.Graph.{edgeValue}
 use Rattle.nodes.specs.Store.{pairsOf}
 use Rattle.nodes.specs.Edges.{edgeWord}
 use Rattle.nodes.specs.declared.Graph.{Graph}
+use Rattle.nodes.specs.declared.Edge.{Edge}
 use Rattle.graph.specs.Stored.{Stored}
 use Rattle.graph.specs.declared.Made.{Made}
-use Rattle.graph.specs.Chosen.{Outcome}
+use Rattle.graph.specs.Chosen.{conjoin}
 pub use Rattle.unroll.specs.Edges.{literalEdge, freeEdge, startEdge}
-use Rattle.unroll.specs.Chosen.{Mapping, gateMade, gatesMade, frameMade, moving, framesMade, lineMade}
+use Rattle.unroll.specs.Chosen.{Mapping, Framing, literalIn, gateMade, gatesMade, firstMade, nextMade, constrainedMade, framesMade}
 
 -- ---- words of a map
 
@@ -110,7 +111,7 @@ pub record FirstMapped (c : Circuit) (n : ℕ) (work : List ℕ) (g : Graph) (la
   pub grown : Grown n (length (c .gates)) work g last h
   pub edges : Edges h after
   pub values : (t : ℕ) → n ≡ freeBits c t → Valued c t 0 n last h after
-  pub follows : pairsOf work g ≡ [] → Agrees (framesMade c n 0) last h after
+  pub follows : pairsOf work g ≡ [] → Agrees (firstMade c n) last h after
 
 -- the frame after u, where its first input has free bit `first`
 pub record NextMapped (c : Circuit) (n first : ℕ) (work : List ℕ) (g : Graph) (map last : List ℕ) (h : Graph) (after : List ℕ) : Type 0 where
@@ -118,33 +119,63 @@ pub record NextMapped (c : Circuit) (n first : ℕ) (work : List ℕ) (g : Graph
   pub edges : Edges h after
   pub values : (t u : ℕ) → n ≡ freeBits c t → u < t → first ≡ freeStarts c + length (c .inputs) * (u + 1) → Valued c t u n work g map
       → Valued c t (u + 1) n last h after
-  pub follows : (s : Mapping) → Agrees s work g map → Agrees (frameMade c n first (moving c s) s) last h after
+  pub follows : (s : Mapping) → Agrees s work g map → Agrees (nextMade c n first s) last h after
 
--- the frames after frame 0, up to frame u of t
-pub record FramesMapped (c : Circuit) (t u n : ℕ) (work : List ℕ) (g : Graph) (map last : List ℕ) (h : Graph) (after : List ℕ) : Type 0 where
-  pub grown : Grown n (length (c .gates) * u) work g last h
-  pub edges : Edges h after
-  pub values : n ≡ freeBits c t → Valued c t 0 n work g map → Valued c t u n last h after
-  pub follows : Agrees (framesMade c n 0) work g map → Agrees (framesMade c n u) last h after
-
--- the conjunction of bad line b and the constraints
-pub record HitMapped (c : Circuit) (b n : ℕ) (work : List ℕ) (g : Graph) (map last : List ℕ) (made : Made) : Type 0 where
+-- the conjunction of edge `from` and the constraints
+pub record ConstrainedMapped (c : Circuit) (from : Edge) (n : ℕ) (work : List ℕ) (g : Graph) (map last : List ℕ) (made : Made) : Type 0 where
   pub grown : Grown n (length (c .constraints)) work g last (made .graph)
   pub node : made .edge .0 .0 < made .graph .nodes
-  pub hit : (x : ℕ) → x < 2 ^ n → edgeValue n (pairsOf last (made .graph)) (freeBit n x) (edgeWord (made .edge)) ≡ hitIn c b (mapped n work g map x)
+  pub left : (x : ℕ) → x < 2 ^ n
+      → edgeValue n (pairsOf last (made .graph)) (freeBit n x) (edgeWord (made .edge))
+      ≡ (edgeValue n (pairsOf work g) (freeBit n x) (edgeWord from) && constrainedIn c (mapped n work g map x))
   pub follows : (s : Mapping) → Agrees s work g map
-      → lineMade (getD (c .bads) b 0) (λ j. getD (c .constraints) j 0) n (length (c .constraints)) s
+      → constrainedMade c n (edgeWord from) s ≡ record { gates = pairsOf last (made .graph); edge = edgeWord (made .edge) }
+
+-- the edge is true for the sequences of frame t that are allowed at frame u
+abbrev pub Allowed : Circuit → ℕ → ℕ → ℕ → List ℕ → Made → Type 0
+Allowed c t u n work made =
+    (x : ℕ) → x < 2 ^ n → edgeValue n (pairsOf work (made .graph)) (freeBit n x) (edgeWord (made .edge)) ≡ allowed c (run c t x) u
+
+-- frames 0 to u of t, with their constraints: the gates of u + 1 frames and their constraints are the most that was made
+pub record Framed (c : Circuit) (t u n room : ℕ) (work : List ℕ) (made : Made) (map : List ℕ) : Type 0 where
+  pub stored : Stored work (made .graph)
+  pub free : made .graph .free ≡ n
+  pub room-is : made .graph .room ≡ room
+  pub most : made .graph .nodes ≤ n + 1 + (length (c .gates) + length (c .constraints)) * (u + 1)
+  pub edges : Edges (made .graph) map
+  pub node : made .edge .0 .0 < made .graph .nodes
+  pub values : n ≡ freeBits c t → Valued c t u n work (made .graph) map
+  pub allowed : n ≡ freeBits c t → Allowed c t u n work made
+  pub agrees : Agrees (framesMade c n u .mapping) work (made .graph) map
+  pub left : edgeWord (made .edge) ≡ framesMade c n u .left
+
+-- one frame more, whose first input has free bit `first`
+abbrev pub FrameNext : Circuit → ℕ → List ℕ → Made → List ℕ → List ℕ → Made → List ℕ → Type 0
+FrameNext c first work before map last made after =
+    (t u room : ℕ) → u < t → first ≡ freeStarts c + length (c .inputs) * (u + 1) → Framed c t u (before .graph .free) room work before map
+    → Framed c t (u + 1) (before .graph .free) room last made after
+
+-- the conjunction of the edge that is given with the graph and of bad line b
+pub record HitMapped (c : Circuit) (b n : ℕ) (work : List ℕ) (before : Made) (map last : List ℕ) (made : Made) : Type 0 where
+  pub grown : Grown n 1 work (before .graph) last (made .graph)
+  pub node : made .edge .0 .0 < made .graph .nodes
+  pub hit : (x : ℕ) → x < 2 ^ n
+      → edgeValue n (pairsOf last (made .graph)) (freeBit n x) (edgeWord (made .edge))
+      ≡ (edgeValue n (pairsOf work (before .graph)) (freeBit n x) (edgeWord (before .edge)) && badIn c b (mapped n work (before .graph) map x))
+  pub follows : (s : Mapping) → Agrees s work (before .graph) map
+      → conjoin n (s .gates) (edgeWord (before .edge)) (literalIn (s .edges) (getD (c .bads) b 0))
       ≡ record { gates = pairsOf last (made .graph); edge = edgeWord (made .edge) }
 
 -- what frame 0 requires of the graph
 pub record FirstFits (m : List ℕ) (layout : Layout) (starts : ℕ) (work : List ℕ) (g : Graph) (map : List ℕ) : Type 0 where
   pub blank : Blank map
-  pub extensible : Extensible (layout .a) work g map
+  pub extensible : Extensible (layout .a + layout .c) work g map
   pub starts-are : starts ≡ freeStarts (circuitIn m)
   pub bits : starts + layout .i ≤ g .free
 
 -- what the frames after it require
-pub record FramesFit (m : List ℕ) (layout : Layout) (t starts : ℕ) (work : List ℕ) (g : Graph) (map : List ℕ) : Type 0 where
-  pub extensible : Extensible (layout .a * t) work g map
+pub record FramesFit (m : List ℕ) (layout : Layout) (t starts : ℕ) (work : List ℕ) (first : Made) (map : List ℕ) : Type 0 where
+  pub framed : Framed (circuitIn m) t 0 (first .graph .free) (first .graph .room) work first map
+  pub room : first .graph .free + 1 + (layout .a + layout .c) * (t + 1) ≤ first .graph .room
   pub starts-are : starts ≡ freeStarts (circuitIn m)
-  pub bits : starts + layout .i * (t + 1) ≤ g .free
+  pub bits : starts + layout .i * (t + 1) ≤ first .graph .free

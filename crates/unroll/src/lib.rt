@@ -8,13 +8,15 @@ use literals::Var;
 use nodes::Edge;
 use nodes::Graph;
 ghost use mathlib.Core.Path.{_≡_};
+ghost use mathlib.Core.List.{[]};
 ghost use Prim.Native.Nat.{ℕ, _+_, _^_, _≤_, _<_};
 ghost use lib.ListN.{length, getD, set};
+ghost use Rattle.nodes.specs.Store.{pairsOf};
 ghost use Rattle.nodes.specs.Edges.{edgeWord};
 ghost use Rattle.layout.specs.Words.{word, gateIn, circuitIn};
 ghost use Rattle.frames.specs.Lanes.{Ready, GateRoom};
 ghost use Rattle.unroll.specs.Map.{literalEdge, freeEdge, startEdge, Prepared, Written, latchVar, inputVar, startWord, nextWord, inputWord};
-ghost use Rattle.unroll.specs.Map.{Extensible, GateMapped, GatesMapped, FirstMapped, NextMapped, FramesMapped, HitMapped, FirstFits, FramesFit};
+ghost use Rattle.unroll.specs.Map.{Extensible, GateMapped, GatesMapped, FirstMapped, NextMapped, ConstrainedMapped, Framed, FrameNext, HitMapped, FirstFits, FramesFit};
 ghost use Rattle.unroll.specs.Unrolled.{UnrollFits, Unrolled};
 
 // The edge of a literal.
@@ -73,7 +75,7 @@ fn put_starts(m: &[u32], layout: Layout, map: &mut [u32])
         let reset = m[latches + 3 * j + 2];
         let l = Lit::from_word(lit);
         put_edge(map, l.var(), start_edge(lit, reset, next));
-        next += enumeration::free_start(lit, reset);
+        next += layout::free_start(lit, reset);
         j += 1;
     }
 }
@@ -206,10 +208,70 @@ fn put_next(
     put_gates(work, g, m, layout, order, map)
 }
 
+// The conjunction of an edge and the constraints of a frame.
+fn constrain(work: &mut [u32], g: Graph, m: &[u32], layout: Layout, from: Edge, map: &[u32]) -> Made
+    requires { ⌜ Prepared (now m) layout (length (now map)) ⌝ }
+    requires { ⌜ Extensible (layout .c) (now work) g (now map) ⌝ }
+    requires { ⌜ from .0 .0 < g .nodes ⌝ }
+    ensures { λ r. ⌜ ConstrainedMapped (circuitIn (now (m .entry))) from (g .free) (now (work .entry)) g (now (map .entry)) (now (work .exit)) r ⌝ }
+{
+    let count = layout.c;
+    let constraints = layout.constraints;
+    let mut graph = g;
+    let mut left = from;
+    let mut done = 0;
+    while done < count {
+        let e = edge_of(map, Lit::from_word(m[constraints + done]));
+        let made = graph::make(work, graph, left, e);
+        graph = made.graph;
+        left = made.edge;
+        done += 1;
+    }
+    Made { graph, edge: left }
+}
+
+// Frame 0, and the edge that is true where its constraints hold.
+fn first_frame(
+    work: &mut [u32],
+    g: Graph,
+    m: &[u32],
+    layout: Layout,
+    order: &[u32],
+    starts: usize,
+    map: &mut [u32],
+) -> Made
+    requires { ⌜ Ready (now m) layout (now order) (length (now map)) ⌝ }
+    requires { ⌜ FirstFits (now m) layout starts (now work) g (now map) ⌝ }
+    ensures { λ r. ⌜ (pairsOf (now (work .entry)) g ≡ [] → (t : ℕ) → Framed (circuitIn (now (m .entry))) t 0 (g .free) (g .room) (now (work .exit)) r (now (map .exit))) ⌝ }
+{
+    let graph = put_first(work, g, m, layout, order, starts, map);
+    constrain(work, graph, m, layout, Edge(Node(0), true), map)
+}
+
+// The frame after one, and the edge that is true where the constraints of all frames up to it hold.
+fn next_frame(
+    work: &mut [u32],
+    before: Made,
+    m: &[u32],
+    layout: Layout,
+    order: &[u32],
+    first: usize,
+    map: &mut [u32],
+    state: &mut [u32],
+) -> Made
+    requires { ⌜ Ready (now m) layout (now order) (length (now map)) ⌝ }
+    requires { ⌜ Extensible (layout .a + layout .c) (now work) (before .graph) (now map) ⌝ }
+    requires { ⌜ (before .edge .0 .0 < before .graph .nodes) × (first + layout .i ≤ before .graph .free) × (1024 ≤ length (now state)) ⌝ }
+    ensures { λ r. ⌜ FrameNext (circuitIn (now (m .entry))) first (now (work .entry)) before (now (map .entry)) (now (work .exit)) r (now (map .exit)) ⌝ }
+{
+    let graph = put_next(work, before.graph, m, layout, order, first, map, state);
+    constrain(work, graph, m, layout, before.edge, map)
+}
+
 // The frames after frame 0, up to frame t.
 fn put_frames(
     work: &mut [u32],
-    g: Graph,
+    first: Made,
     m: &[u32],
     layout: Layout,
     order: &[u32],
@@ -217,20 +279,20 @@ fn put_frames(
     starts: usize,
     map: &mut [u32],
     state: &mut [u32],
-) -> Graph
+) -> Made
     requires { ⌜ Ready (now m) layout (now order) (length (now map)) ⌝ }
-    requires { ⌜ FramesFit (now m) layout t starts (now work) g (now map) ⌝ }
+    requires { ⌜ FramesFit (now m) layout t starts (now work) first (now map) ⌝ }
     requires { ⌜ 1024 ≤ length (now state) ⌝ }
-    ensures { λ r. ⌜ FramesMapped (circuitIn (now (m .entry))) t t (g .free) (now (work .entry)) g (now (map .entry)) (now (work .exit)) r (now (map .exit)) ⌝ }
+    ensures { λ r. ⌜ Framed (circuitIn (now (m .entry))) t t (first .graph .free) (first .graph .room) (now (work .exit)) r (now (map .exit)) ⌝ }
 {
     let inputs = layout.i;
-    let mut graph = g;
+    let mut made = first;
     let mut u = 0;
     while u < t {
         u += 1;
-        graph = put_next(
+        made = next_frame(
             work,
-            graph,
+            made,
             m,
             layout,
             order,
@@ -239,30 +301,26 @@ fn put_frames(
             state,
         );
     }
-    graph
+    made
 }
 
-// The conjunction of the bad line and the constraints.
-fn hit_edge(work: &mut [u32], g: Graph, m: &[u32], layout: Layout, b: usize, map: &[u32]) -> Made
+// The conjunction of an edge and the bad line.
+fn hit_edge(
+    work: &mut [u32],
+    frames: Made,
+    m: &[u32],
+    layout: Layout,
+    b: usize,
+    map: &[u32],
+) -> Made
     requires { ⌜ Prepared (now m) layout (length (now map)) ⌝ }
-    requires { ⌜ Extensible (layout .c) (now work) g (now map) ⌝ }
-    requires { ⌜ b < word (now m) 5 ⌝ }
-    ensures { λ r. ⌜ HitMapped (circuitIn (now (m .entry))) b (g .free) (now (work .entry)) g (now (map .entry)) (now (work .exit)) r ⌝ }
+    requires { ⌜ Extensible 1 (now work) (frames .graph) (now map) ⌝ }
+    requires { ⌜ (frames .edge .0 .0 < frames .graph .nodes) × (b < word (now m) 5) ⌝ }
+    ensures { λ r. ⌜ HitMapped (circuitIn (now (m .entry))) b (frames .graph .free) (now (work .entry)) frames (now (map .entry)) (now (work .exit)) r ⌝ }
 {
     let bads = layout.bads;
-    let count = layout.c;
-    let constraints = layout.constraints;
-    let mut graph = g;
-    let mut hit = edge_of(map, Lit::from_word(m[bads + b]));
-    let mut done = 0;
-    while done < count {
-        let e = edge_of(map, Lit::from_word(m[constraints + done]));
-        let made = graph::make(work, graph, hit, e);
-        graph = made.graph;
-        hit = made.edge;
-        done += 1;
-    }
-    Made { graph, edge: hit }
+    let e = edge_of(map, Lit::from_word(m[bads + b]));
+    graph::make(work, frames.graph, frames.edge, e)
 }
 
 // The hit of b at frame t. starts is the number of latches with a free start, room the number of nodes that working memory has
@@ -284,8 +342,8 @@ pub fn unroll(
     let mut state = [0u32; 1024];
     let free = starts + layout.i * (t + 1);
     let empty = graph::start(work, free, room);
-    let first = put_first(work, empty, m, layout, order, starts, &mut map);
-    let last = put_frames(
+    let first = first_frame(work, empty, m, layout, order, starts, &mut map);
+    let frames = put_frames(
         work,
         first,
         m,
@@ -296,5 +354,5 @@ pub fn unroll(
         &mut map,
         &mut state,
     );
-    hit_edge(work, last, m, layout, b, &map)
+    hit_edge(work, frames, m, layout, b, &map)
 }

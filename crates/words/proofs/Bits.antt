@@ -1,4 +1,4 @@
--- Bits of words, for every width together. Assumes nothing.
+-- Bits of words, for every width together. Clause 10.4. Assumes nothing.
 use mathlib.Core.Path.{_≡_, refl, sym, ap, _∙_, subst}
 use mathlib.Core.Bool.{Bool, true, false, not, xor, _&&_, _||_}
 use mathlib.Core.Logic.{_⊎_, inl, inr}

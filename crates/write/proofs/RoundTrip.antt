@@ -1,24 +1,22 @@
--- What write wrote, loaded, leaves the words that were written. Assumes nothing.
+-- What write wrote, loaded, leaves the words that were written. Clause 7.1. Assumes nothing.
 use mathlib.Core.Path.{_≡_, refl, sym, ap, _∙_}
 use mathlib.Core.List.{List, _∷_}
 use Prim.Native.Nat.{ℕ, _≤_}
 use native.Mathlib.Omega.{arith}
-use lib.Dec.{leb}
-use borrow.Author.Tests.{le-leb}
 use lib.ListN.{length, take, drop}
 use lib.Seq.{take-at}
 use Rattle.aiger.specs.Circuit.{Circuit}
-use Rattle.aiger.specs.Load.{Answer, gives, needed, test}
+use Rattle.aiger.specs.Load.{Answer, gives, needed}
 use Rattle.aiger.specs.Write.{countRow, write}
 use Rattle.aiger.specs.Memory.{Holds, image}
-use Rattle.aiger.specs.Operations.{front, Loaded, Written}
+use Rattle.aiger.specs.Operations.{front, Loaded, Operated, Written}
 use Rattle.layout.specs.Words.{word, circuitIn}
 use Rattle.roundtrip.proofs.Lists.{upto-length}
 use Rattle.roundtrip.proofs.LoadWrite.{text-short}
 use Rattle.roundtrip.proofs.LoadValid.{gives-same}
 use Rattle.roundtrip.proofs.Content.{words-take}
 use Rattle.roundtrip.proofs.Holding.{held, held-valid, held-again, loaded-holds, same-words}
-use Rattle.roundtrip.proofs.Determined.{loaded-same, written-same}
+use Rattle.roundtrip.proofs.Determined.{loaded-same, written-same, written-in}
 
 -- a written text is that of the circuit that the memory holds
 record Wrote (m out′ : List ℕ) (n : ℕ) : Type 0 where
@@ -29,10 +27,13 @@ own : {m : List ℕ} {c : Circuit} → Holds m c → Holds m (circuitIn m)
 own h = rw (held h) h
 
 wrote : {m out out′ : List ℕ} {a : Answer ℕ} {n : ℕ} → Written m out a out′ → a ≡ gives n → Wrote m out′ n
-wrote (Written.noCircuit f) q = let z : _≡_ {A = ℕ} 0 1 = cc in absurd (omega arith)
-wrote (Written.short c h t) q = let z : _≡_ {A = ℕ} 0 1 = cc in absurd (omega arith)
-wrote {out = out} (Written.writes c h t) q =
-    record { holds = own h; text = take-at (write c) (drop (length (write c)) out) _ (gives-same q) ∙ ap write (sym (held h)) }
+wrote (Operated.noCircuit f) q = let z : _≡_ {A = ℕ} 0 1 = cc in absurd (omega arith)
+wrote (Operated.refuses c h t) q = let z : _≡_ {A = ℕ} 0 1 = cc in absurd (omega arith)
+wrote {out = out} {n = n} (Operated.acts c h t f) q =
+    record {
+      holds = own h;
+      text = ap (take n) (f .shows) ∙ take-at (write c) (drop (length (write c)) out) n (sym (f .count) ∙ gives-same q) ∙ ap write (sym (held h));
+    }
 
 module _ (m : List ℕ) (h : Holds m (circuitIn m)) where
   top : circuitIn m .maxVar ≡ word m 0
@@ -68,8 +69,7 @@ pub load-write : {m f m′ out out′ : List ℕ} {r : List ℕ} {a : Answer ℕ
 load-write {m′ = m′} {out = out} l room w =
     let h = loaded l refl .0 in
     let n = length (write (circuitIn m′)) in
-    let t : test 13 (leb n (length out)) ≡ gives tt = rw (le-leb n (length out) (omega (arith, text-short (held-valid h)))) in
-    (n, written-same w (Written.writes (circuitIn m′) h t) .0)
+    (n, written-same w (written-in (circuitIn m′) h (omega (arith, text-short (held-valid h)))) .0)
 
 -- what load left, written and loaded again, is accepted with the same answer and leaves the same needed words
 pub load-write-load : {m f m′ out out′ m₂ m₂′ r : List ℕ} {n : ℕ} {a : Answer (List ℕ)} → Loaded m f (gives r) m′ → Written m′ out (gives n) out′

@@ -4,7 +4,7 @@ use files::say;
 fn say_help() {
     say(b"write FILE\n\n");
     say(
-        b"Loads the ASCII AIGER 1.9 file FILE and prints its circuit: a header of seven numbers, the definitions in\n",
+        b"Loads the AIGER 1.9 file FILE and prints its circuit: a header of seven numbers, the definitions in\n",
     );
     say(b"their order, a reset only where it is not 0, and no tail.\n\n");
     say(b"A file that is not accepted is refused with a number and its cause:\n");

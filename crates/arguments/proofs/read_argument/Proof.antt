@@ -1,85 +1,91 @@
--- `arguments::read_argument` meets its contract: the text and a line feed are read as one number. Assumes nothing.
-use mathlib.Core.Path.{_≡_, sym, ap, _∙_, subst}
-use mathlib.Core.List.{List, [], _∷_, _++_}
-use Prim.Native.Nat.{ℕ, _+_}
+-- `arguments::read_argument` meets its contract. The loop's invariant is `Reading`. Assumes nothing.
+use mathlib.Core.Path.{_≡_}
+use Prim.Native.Nat.{ℕ, _-_, _≤_}
 use native.Mathlib.Omega.{arith}
-use lib.ListN.{length, take, length-append}
-use Rattle.numbers.specs.Number.{NumberAt}
-use Rattle.numbers.specs.declared.Number.{Number}
-use Rattle.arguments.proofs.Numbers.{line-of, few, none-of, other, early, found}
-use borrow.Author.Needs.{needs}
+use lib.ListN.{length, getD}
+use Rattle.numbers.proofs.Run.{none, overlong}
+use Rattle.numbers.proofs.Gather.{low, high}
+use Rattle.arguments.proofs.Numbers.{Reading, start, none-of, turn, low-total, other, one, many, padded}
 use Rattle.arguments.proofs.read_argument.Statement.{statement}
 use Rattle.arguments.proofs.read_argument.Tie as tie
 
-abbrev Text : tie.After-copy → List ℕ
-Text k = k .before .before .before .before .args .text .now
+abbrev Inv-loop : tie.InvT-loop
+Inv-loop text n total₀ i₀ total i = Reading text total i
 
--- the text and a line feed
-line : (k : tie.After-copy) → take (length (Text k) + 1) (k .copy .last .1 .0) ≡ Text k ++ (10 ∷ [])
-line k = line-of (Text k) (k .copy .last .1 .0) (omega (arith, k .before .before .if1 .left)) (k .copy .ensures .1)
+abbrev μ-loop : tie.MeasureT-loop
+μ-loop text n total₀ i₀ total i = n - i
 
--- what was read
-abbrev Line : tie.After-read-number → List ℕ
-Line n = let k = n .before .before .before in take (length (Text k) + 1) (k .copy .last .1 .0)
+-- the byte at i
+abbrev byte : tie.At-loop Inv-loop μ-loop → ℕ
+byte l = getD (l .before .before .before .before .args .text .now) (l .loop .i) 0
 
--- the answer of the call is the variant that the match found
-at : (n : tie.After-read-number) {r : Number} → n .read-number .result ≡ r → NumberAt (Line n) 0 r
-at n e = subst (NumberAt (Line n) 0) e (n .read-number .ensures)
+returns : tie.Need-returns Inv-loop μ-loop
+returns c = none-of _ (none _ (omega arith))
 
-returns : tie.Need-returns
-returns c = let w = c .before .before .args .text .now in none-of w (λ h. omega (arith, few w h))
+returns-2 : tie.Need-returns-2 Inv-loop μ-loop
+returns-2 c = none-of _ (overlong _ (omega arith))
 
-slice-aggregate-copy : tie.Need-slice-aggregate-copy
-slice-aggregate-copy c = search needs
+loop-holds : tie.Need-loop-holds Inv-loop μ-loop
+loop-holds c = start _
 
-copy-requires : tie.Need-copy-requires
-copy-requires c κs = search needs
+shared-slice-read-b : tie.Need-shared-slice-read-b Inv-loop μ-loop
+shared-slice-read-b c = omega arith
 
-add-end : tie.Need-add-end
-add-end c = search needs
+mul-total : tie.Need-mul-total Inv-loop μ-loop
+mul-total c = omega (arith, low-total (c .before .before .before .before .loop .inv) (omega arith))
 
-array-share-prefix-line : tie.Need-array-share-prefix-line
-array-share-prefix-line c = search needs
+wide-requires : tie.Need-wide-requires Inv-loop μ-loop
+wide-requires c κs = tt
 
-slice-aggregate-read-number : tie.Need-slice-aggregate-read-number
-slice-aggregate-read-number c = let k = c .before .before in sym (ap length (line k) ∙ length-append (Text k) (10 ∷ []))
+add-total : tie.Need-add-total Inv-loop μ-loop
+add-total c = omega (arith, low-total (c .before .before .before .before .before .loop .inv) (omega arith), c .wide .ensures)
 
-read-number-requires : tie.Need-read-number-requires
-read-number-requires c κs = search needs
+add-i : tie.Need-add-i Inv-loop μ-loop
+add-i c = omega arith
 
-enum-known-v : tie.Need-enum-known-v
-enum-known-v c = search needs
+loop-less : tie.Need-loop-less Inv-loop μ-loop
+loop-less c = omega arith
 
-returns-2 : tie.Need-returns-2
-returns-2 c =
-    let n = c .before in
-    let w = n .before .before .before .before .before .before .before .args .text .now in
-    none-of w (other w _ (line (n .before .before .before)) (n .read-number .result) (n .read-number .ensures) (c .match .keys2))
+loop-again : tie.Need-loop-again Inv-loop μ-loop
+loop-again c = turn (c .before .before .before .before .before .loop .inv) (omega arith) (omega arith) (omega arith) (c .wide .result) (c .wide .ensures)
 
-returns-3 : tie.Need-returns-3
-returns-3 c =
-    let n = c .before .before .before .before in
-    let w = n .before .before .before .before .before .before .before .args .text .now in
-    none-of w (early w _ (line (n .before .before .before)) (at n (c .before .before .v .given .1)) (omega arith))
+returns-3 : tie.Need-returns-3 Inv-loop μ-loop
+returns-3 c = let L = c .before .before .before in other (L .loop .inv) (omega arith) (low (byte L) (omega arith))
 
-returns-4 : tie.Need-returns-4
-returns-4 c =
-    let n = c .before .before .before .before in
-    let w = n .before .before .before .before .before .before .before .args .text .now in
-    found w _ (line (n .before .before .before)) (at n (c .before .before .v .given .1)) (omega arith)
+returns-4 : tie.Need-returns-4 Inv-loop μ-loop
+returns-4 c = let L = c .before .before .before .before in other (L .loop .inv) (omega arith) (high (byte L) (omega arith))
+
+returns-5 : tie.Need-returns-5 Inv-loop μ-loop
+returns-5 c = one (c .before .before .loop .inv) (omega arith) (omega arith)
+
+shared-slice-read-if6 : tie.Need-shared-slice-read-if6 Inv-loop μ-loop
+shared-slice-read-if6 c = omega arith
+
+returns-6 : tie.Need-returns-6 Inv-loop μ-loop
+returns-6 c = padded (c .before .before .before .before .loop .inv) (omega arith) (omega arith) (omega arith) (omega arith)
+
+returns-7 : tie.Need-returns-7 Inv-loop μ-loop
+returns-7 c = many (c .before .before .before .before .loop .inv) (omega arith) (omega arith) (omega arith) (omega arith)
 
 pub read-argument-spec : {M : Type 1} → statement M
 read-argument-spec =
     tie.close
     (tie.spec
+    Inv-loop
+    μ-loop
     returns
-    slice-aggregate-copy
-    copy-requires
-    add-end
-    array-share-prefix-line
-    slice-aggregate-read-number
-    read-number-requires
-    enum-known-v
     returns-2
+    loop-holds
+    shared-slice-read-b
+    mul-total
+    wide-requires
+    add-total
+    add-i
+    loop-less
+    loop-again
     returns-3
-    returns-4)
+    returns-4
+    returns-5
+    shared-slice-read-if6
+    returns-6
+    returns-7)

@@ -1,66 +1,79 @@
-use mathlib.Core.Path.{_≡_, refl, sym, _∙_, subst}
-use Prim.Native.Nat.{ℕ, _+_, _*_, _^_, _≤_, _<_, max}
+-- `decision::search_graph` meets its contract. Assumes nothing.
+use mathlib.Core.Path.{_≡_, sym, ap, _∙_, subst}
+use mathlib.Core.Bool.{Bool, true}
+use mathlib.Core.Logic.{inr}
+use Prim.Native.Nat.{ℕ, _^_, _≤_, max}
 use native.Mathlib.Omega.{arith}
+use lib.Dec.{T}
 use denote.Ref.{now}
+use Rattle.aiger.specs.Frames.{size}
+use Rattle.layout.specs.Words.{circuitIn}
 use Rattle.nodes.specs.Store.{pairsOf}
 use Rattle.nodes.specs.Edges.{edgeWord}
-use Rattle.simulation.specs.Found.{FoundIs}
-use Rattle.simulation.specs.declared.Found.{Found}
-use Rattle.decision.proofs.Sizes.{few, size-is}
-use Rattle.decision.proofs.Graphs.{markable, net, bits-known, none-known, graph-hit, graph-clear, graph-spent}
+use Rattle.conflicts.specs.declared.Verdict.{Verdict}
+use Rattle.solver.specs.Solved.{SolvedIs}
+use Rattle.decision.specs.Reach.{effort}
+use Rattle.decision.proofs.Graphs.{scannable, scanned, marked, solved-hit, solved-clear, solved-out}
 use borrow.Author.Needs.{needs}
 use Rattle.decision.proofs.search_graph.Statement.{statement}
 use Rattle.decision.proofs.search_graph.Tie as tie
 use Rattle.decision.proofs.search_graph.Reads as reads
 use Rattle.decision.proofs.search_graph.Lts as lts
-use Rattle.cone.proofs.mark.Reads as mark-reads
-use Rattle.decision.proofs.places.Reads as places-reads
-use Rattle.decision.proofs.units.Reads as units-reads
-use Rattle.simulation.proofs.first_hit.Reads as first-hit-reads
-use Rattle.unroll.proofs.unroll.Reads as unroll-reads
+use Rattle.decision.proofs.effort.Reads as effort-reads
+use Rattle.decision.proofs.prepare.Reads as prepare-reads
+use Rattle.decision.proofs.scan.Reads as scan-reads
+use Rattle.decision.proofs.search_support.Reads as search-support-reads
+use Rattle.decision.proofs.support_size.Reads as support-size-reads
+use Rattle.solver.proofs.first_hit.Reads as first-hit-reads
 
--- what the scan of the graph's places found is the variant that the match found
-found : (n : tie.After-first-hit) (r : Found) → n .first-hit .result ≡ r
-    → let g = n .before .before .before .before .before .before .before .before .before .before .before .unroll .result in
-    FoundIs (g .graph .free) (pairsOf (n .before .before .before .before .before .mark .last .0) (g .graph)) (edgeWord (g .edge)) (max (n .before .before .before .before .before .before .before .before .before .before .before .before .before .before .before .before .before .args .d) 16384) (n .first-hit .last .0) r
-found n r e =
-    let g = n .before .before .before .before .before .before .before .before .before .before .before .unroll .result in
-    subst (FoundIs (g .graph .free) (pairsOf (n .before .before .before .before .before .mark .last .0) (g .graph)) (edgeWord (g .edge)) (max (n .before .before .before .before .before .before .before .before .before .before .before .before .before .before .before .before .before .args .d) 16384) (n .first-hit .last .0)) e
-    (subst (λ (d : ℕ). FoundIs (g .graph .free) (pairsOf (n .before .before .before .before .before .mark .last .0) (g .graph)) (edgeWord (g .edge)) d (n .first-hit .last .0) (n .first-hit .result)) (n .before .places .ensures) (n .first-hit .ensures))
+true-of : {b : Bool} → b ≡ true → T b
+true-of e = subst T (sym e) tt
 
-units-requires : tie.Need-units-requires
-units-requires c κs =
-    let s = c .before .before .before in
-    let f = few (s .pre .0 .ready .held) (s .pre .0 .ready .layout-of) in
-    (f .0, f .1, f .2, f .3, s .pre .0 .last)
+-- what the conflict search says is the variant that the match found
+told : (n : tie.After-first-hit) (r : Verdict) → n .first-hit .result ≡ r
+    → let p = n .before .before .before .before .before .before .before .before .before .before .before .prepare in
+    SolvedIs (p .result .graph .free) (pairsOf (p .last .1 .1 .1 .1 .1 .0) (p .result .graph)) (edgeWord (p .result .edge)) (p .last .1 .1 .1 .1 .1 .0) (n .before .before .effort .result) (n .first-hit .last .0) r
+told n r e =
+    let p = n .before .before .before .before .before .before .before .before .before .before .before .prepare in
+    subst (SolvedIs (p .result .graph .free) (pairsOf (p .last .1 .1 .1 .1 .1 .0) (p .result .graph)) (edgeWord (p .result .edge)) (p .last .1 .1 .1 .1 .1 .0) (n .before .before .effort .result) (n .first-hit .last .0)) e (n .first-hit .ensures)
 
-unroll-requires : tie.Need-unroll-requires
-unroll-requires c κs =
-    let s = c .before .before .before .before .before in
-    let r = s .pre .0 .ready in
-    let z = c .before .units .ensures ∙ size-is (r .held) (r .layout-of) (s .args .t) in
-    record {
-      ready = r;
-      bad = s .pre .0 .bad;
-      last = s .pre .0 .last;
-      starts-are = r .layout-of .u-is;
-      room-is = z;
-      most = omega (arith, z, s .pre .0 .units);
-      held = omega (arith, z, s .pre .0 .held);
-    }
+-- the effort is that of the frame
+enough : (n : tie.After-first-hit) → let s = n .before .before .before .before .before .before .before .before .before .before .before .before .before .before .before .before .args in n .before .before .effort .result ≡ effort (size (circuitIn (now (s .m))) (s .t)) (s .d)
+enough n =
+    let s = n .before .before .before .before .before .before .before .before .before .before .before .before .before .before .before .before .args in
+    n .before .before .effort .ensures ∙ ap (λ (x : ℕ). effort x (s .d)) (n .before .before .before .before .before .before .before .before .before .before .before .prepare .ensures .room)
 
-mark-requires : tie.Need-mark-requires
-mark-requires c κs = markable (c .before .before .before .before .before .unroll .ensures)
+prepare-requires : tie.Need-prepare-requires
+prepare-requires c κs = search needs
 
-places-requires : tie.Need-places-requires
-places-requires c κs = tt
+support-size-requires : tie.Need-support-size-requires
+support-size-requires c κs = search needs
+
+is-small-requires : tie.Need-is-small-requires
+is-small-requires c κs = omega (arith, c .before .before .before .before .before .before .prepare .ensures .net .sized .nodes, c .before .before .before .before .before .before .prepare .ensures .net .sized .room)
+
+scan-requires : tie.Need-scan-requires
+scan-requires c κs =
+    let s = c .before .before .before .before .before .before .before .before .before .before .before .before .before .before in
+    scannable (c .before .before .before .before .before .before .before .before .before .prepare .ensures) (s .args .d) (s .pre .0 .budget) (s .pre .1 .0)
+
+same-length : tie.Need-same-length
+same-length c = search needs
+
+returns : tie.Need-returns
+returns c =
+    let s = c .before .before .before .before .before .before .before .before .before .before .before .before .before .before .before .before .before in
+    let p = c .before .before .before .before .before .before .before .before .before .before .before .before .prepare in
+    let u = c .before .before .scan in
+    let k = c .before .before .before .before .before .before .support-size .ensures (edgeWord (p .result .edge)) (p .ensures .net .marks) in
+    let few = c .before .before .before .before .before .is-small .ensures (true-of (c .before .before .before .before .if1 .taken)) in
+    scanned (p .ensures) (s .args .d) (u .last .0) (u .result) (inr (subst (λ (x : ℕ). 2 ^ x ≤ max (s .args .d) 16384) k few)) (u .ensures)
+
+effort-requires : tie.Need-effort-requires
+effort-requires c κs = search needs
 
 first-hit-requires : tie.Need-first-hit-requires
-first-hit-requires c κs =
-    let s = c .before .before .before .before .before .before .before .before .before .before .before .before .before .before .before .before in
-    let u = c .before .before .before .before .before .before .before .before .before .before .unroll in
-    let k = c .before .before .before .before .mark in
-    (net (u .ensures) (k .last .0) (k .ensures) (k .kept .0), ((omega arith, bits-known (u .ensures) (k .last .0) (k .ensures) (k .kept .0) (s .pre .1), omega (arith, c .places .ensures, s .pre .0 .budget)), none-known (u .ensures) (k .last .0) (k .ensures) (k .kept .0) (s .pre .1)))
+first-hit-requires c κs = marked (c .before .before .before .before .before .before .before .before .before .before .prepare .ensures) (c .before .before .before .before .before .before .before .before .before .before .before .before .before .before .before .args .d) (c .before .before .before .before .before .before .before .before .before .before .prepare .kept .1 .1 .1 .1 .1 .0 ∙ c .before .before .before .before .before .before .before .before .before .before .before .before .before .before .before .pre .1 .1)
 
 enum-told : tie.Need-enum-told
 enum-told c = search needs
@@ -71,58 +84,62 @@ enum-told-2 c = search needs
 enum-told-3 : tie.Need-enum-told-3
 enum-told-3 c = search needs
 
-same-length : tie.Need-same-length
-same-length c = c .before .before .before .before .first-hit .kept .0 ∙ c .before .before .before .before .before .before .before .before .before .mark .kept .0 ∙ c .before .before .before .before .before .before .before .before .before .before .before .before .before .before .before .unroll .kept .0
-
-returns : tie.Need-returns
-returns c =
-    let n = c .before .before .before .before in
-    let s = n .before .before .before .before .before .before .before .before .before .before .before .before .before .before .before .before .before in
-    let u = n .before .before .before .before .before .before .before .before .before .before .before .unroll in
-    let k = n .before .before .before .before .before .mark in
-    let f = found n _ (c .enum-told .given .1) in
-    let r = graph-hit (u .ensures) (k .last .0) (k .ensures) (k .kept .0) (s .args .d) (f .1) in
-    (f .0, r .0, r .1)
+search-support-requires : tie.Need-search-support-requires
+search-support-requires c κs =
+    let n = c .before .before .before .before .before in
+    let s = c .before .before .before .before .before .before .before .before .before .before .before .before .before .before .before .before .before .before .before .before .before in
+    let f = s .pre .0 in
+    let e = n .first-hit .kept .0 ∙ n .before .before .before .before .before .before .before .before .before .before .before .prepare .kept .1 .1 .1 .1 .1 .0 in (
+      record { ready = f .ready; bad = f .bad; last = f .last; some = f .some; budget = f .budget; units = f .units; held = omega (arith, f .held, e) },
+      (
+        s .pre .1 .0,
+        solved-out (n .before .before .before .before .before .before .before .before .before .before .before .prepare .ensures) (s .args .d) (n .before .before .before .before .before .before .before .before .before .before .before .prepare .kept .1 .1 .1 .1 .1 .0 ∙ s .pre .1 .1) (n .before .before .effort .result) (enough n) (n .first-hit .last .0) (told n _ (c .before .enum-told3 .given .1)),
+      ),
+    )
 
 same-length-2 : tie.Need-same-length-2
-same-length-2 c = c .before .before .before .before .first-hit .kept .0 ∙ c .before .before .before .before .before .before .before .before .before .mark .kept .0 ∙ c .before .before .before .before .before .before .before .before .before .before .before .before .before .before .before .unroll .kept .0
+same-length-2 c = search needs
 
 returns-2 : tie.Need-returns-2
 returns-2 c =
     let n = c .before .before .before .before in
-    let s = n .before .before .before .before .before .before .before .before .before .before .before .before .before .before .before .before .before in
-    let u = n .before .before .before .before .before .before .before .before .before .before .before .unroll in
-    let k = n .before .before .before .before .before .mark in
-    let p = n .before .places .ensures in
-    graph-clear (u .ensures) (k .last .0) (k .ensures) (k .kept .0) (s .args .d) (found n _ (c .enum-told2 .given .1))
+    let s = c .before .before .before .before .before .before .before .before .before .before .before .before .before .before .before .before .before .before .before .before in
+    solved-hit (n .before .before .before .before .before .before .before .before .before .before .before .prepare .ensures) (s .args .d) (n .before .before .before .before .before .before .before .before .before .before .before .prepare .kept .1 .1 .1 .1 .1 .0 ∙ s .pre .1 .1) (n .before .before .effort .result) (enough n) (n .first-hit .last .0) (told n _ (c .enum-told .given .1))
 
 same-length-3 : tie.Need-same-length-3
-same-length-3 c = c .before .before .before .before .first-hit .kept .0 ∙ c .before .before .before .before .before .before .before .before .before .mark .kept .0 ∙ c .before .before .before .before .before .before .before .before .before .before .before .before .before .before .before .unroll .kept .0
+same-length-3 c = search needs
 
 returns-3 : tie.Need-returns-3
 returns-3 c =
     let n = c .before .before .before .before in
-    let s = n .before .before .before .before .before .before .before .before .before .before .before .before .before .before .before .before .before in
-    let u = n .before .before .before .before .before .before .before .before .before .before .before .unroll in
-    let k = n .before .before .before .before .before .mark in
-    let p = n .before .places .ensures in
-    graph-spent (u .ensures) (k .last .0) (k .ensures) (k .kept .0) (s .args .d) (found n _ (c .enum-told3 .given .1))
+    let s = c .before .before .before .before .before .before .before .before .before .before .before .before .before .before .before .before .before .before .before .before in
+    solved-clear (n .before .before .before .before .before .before .before .before .before .before .before .prepare .ensures) (s .args .d) (n .before .before .before .before .before .before .before .before .before .before .before .prepare .kept .1 .1 .1 .1 .1 .0 ∙ s .pre .1 .1) (n .before .before .effort .result) (enough n) (n .first-hit .last .0) (told n _ (c .enum-told2 .given .1))
+
+same-length-4 : tie.Need-same-length-4
+same-length-4 c = search needs
+
+returns-4 : tie.Need-returns-4
+returns-4 c = search needs
 
 pub search-graph-spec : {M : Type 1} → statement M
 search-graph-spec =
     tie.close
     (tie.spec
-    units-requires
-    unroll-requires
-    mark-requires
-    places-requires
+    prepare-requires
+    support-size-requires
+    is-small-requires
+    scan-requires
+    same-length
+    returns
+    effort-requires
     first-hit-requires
     enum-told
     enum-told-2
     enum-told-3
-    same-length
-    returns
+    search-support-requires
     same-length-2
     returns-2
     same-length-3
-    returns-3)
+    returns-3
+    same-length-4
+    returns-4)

@@ -8,7 +8,7 @@ use Rattle.aiger.specs.Frames.{freeBit}
 use Rattle.layout.specs.Words.{word, circuitIn}
 use Rattle.meaning.proofs.Defined.{inputAt}
 use Rattle.enumeration.specs.Blocks.{Given}
-use Rattle.enumeration.proofs.Facts.{inputs-are, inputs-inside, input-var, input-small, inputs-differ}
+use Rattle.frames.proofs.Places.{inputs-are, inputs-inside, input-var, input-small, inputs-differ}
 use Rattle.enumeration.proofs.Stores.{given-start, given-more}
 use Rattle.enumeration.proofs.put_inputs.Statement.{statement}
 use Rattle.enumeration.proofs.put_inputs.Tie as tie

@@ -6,9 +6,10 @@ use lib.ListN.{length, length-set}
 use Rattle.aiger.specs.Circuit.{var}
 use Rattle.layout.specs.Words.{word, circuitIn}
 use Rattle.meaning.proofs.Defined.{latchAt}
-use Rattle.enumeration.specs.Blocks.{freeBefore, startBit, Given}
-use Rattle.enumeration.proofs.Facts.{latches-are, latches-inside, latch-var, latch-small, latches-differ}
-use Rattle.enumeration.proofs.Starts.{free-none, count-more, count-part, start-in}
+use Rattle.frames.specs.Starts.{freeBefore, startBit}
+use Rattle.enumeration.specs.Blocks.{Given}
+use Rattle.frames.proofs.Places.{latches-are, latches-inside, latch-var, latch-small, latches-differ}
+use Rattle.frames.proofs.Starts.{free-none, count-more, count-part, start-in}
 use Rattle.enumeration.proofs.Stores.{given-start, given-more}
 use Rattle.enumeration.proofs.put_starts.Statement.{statement}
 use Rattle.enumeration.proofs.put_starts.Tie as tie

@@ -6,7 +6,7 @@ use lib.Dec.{T}
 use lib.ListN.{length}
 use Rattle.aiger.specs.Search.{reaches}
 use Rattle.layout.specs.Words.{circuitIn}
-use Rattle.enumeration.proofs.Blocks.{ready-with}
+use Rattle.frames.proofs.Facts.{ready-with}
 use Rattle.enumeration.proofs.Least.{block-before, block-here}
 use Rattle.enumeration.proofs.scan_blocks.Statement.{statement}
 use Rattle.enumeration.proofs.scan_blocks.Tie as tie

@@ -1,9 +1,8 @@
 -- `fold::fold` meets its contract: each answer by the test of the memory, by the tests 10 to 13, and by the text that is written.
 -- Assumes nothing.
 use native.Mathlib.Omega.{arith}
-use Rattle.aiger.specs.Operations.{Folded}
-use Rattle.enumeration.proofs.Starts.{starts-few}
-use Rattle.search.proofs.Sizes.{counts-of, limited}
+use Rattle.aiger.specs.Operations.{Operated}
+use Rattle.limits.proofs.Sizes.{counts-of, limited}
 use Rattle.fold.proofs.Answers.{refused-with, fits, written-with}
 use borrow.Author.Needs.{needs}
 use Rattle.fold.proofs.fold.Statement.{statement}
@@ -22,27 +21,20 @@ enum-told : tie.Need-enum-told
 enum-told c = search needs
 
 returns : tie.Need-returns
-returns c = Folded.noCircuit (rw (c .enum-told .given .1) at (c .before .before .before .held-in .ensures))
-
-free-starts-requires : tie.Need-free-starts-requires
-free-starts-requires c κs =
-    let l = c .before in
-    let h = rw (l .layout .given .1) at (l .before .before .before .held-in .ensures) in
-    (h .1, h .0)
+returns c = Operated.noCircuit (rw (c .enum-told .given .1) at (c .before .before .before .held-in .ensures))
 
 refusal-requires : tie.Need-refusal-requires
 refusal-requires c κs =
-    let l = c .before .before in
+    let l = c .before in
     let h = rw (l .layout .given .1) at (l .before .before .before .held-in .ensures) in
-    (limited (h .1) (h .0), omega (arith, c .free-starts .ensures, starts-few (h .1) (h .0)))
+    limited (h .1) (h .0)
 
 returns-2 : tie.Need-returns-2
 returns-2 c =
     let r = c .before in
-    let f = r .before in
-    let l = f .before .before in
+    let l = r .before .before in
     let h = rw (l .layout .given .1) at (l .before .before .before .held-in .ensures) in
-    refused-with (h .1) (r .refusal .result) (r .refusal .ensures _ (counts-of (h .1) (h .0)) (f .free-starts .ensures)) (c .if1 .taken)
+    refused-with (h .1) (r .refusal .result) (r .refusal .ensures _ (counts-of (h .1) (h .0))) (c .if1 .taken)
 
 slice-aggregate-fold-frame : tie.Need-slice-aggregate-fold-frame
 slice-aggregate-fold-frame c = search needs
@@ -50,12 +42,11 @@ slice-aggregate-fold-frame c = search needs
 fold-frame-requires : tie.Need-fold-frame-requires
 fold-frame-requires c κs =
     let r = c .before .before .before .before in
-    let f = r .before in
-    let l = f .before .before in
+    let l = r .before .before in
     let n = l .before .before .before in
     let h = rw (l .layout .given .1) at (n .held-in .ensures) in
-    fits (h .1) (h .0) (h .2) (omega (arith, n .held-in .kept .1 .0)) (f .free-starts .ensures)
-    (r .refusal .ensures _ (counts-of (h .1) (h .0)) (f .free-starts .ensures)) (c .before .before .before .if1 .left)
+    fits (h .1) (h .0) (h .2) (omega (arith, n .held-in .kept .1 .0)) (h .0 .u-is)
+    (r .refusal .ensures _ (counts-of (h .1) (h .0))) (c .before .before .before .if1 .left)
 
 same-length : tie.Need-same-length
 same-length c = search needs
@@ -68,10 +59,9 @@ returns-3 c =
     let s = c .before .before .before .before in
     let e = s .before .before .before .before in
     let r = e .before in
-    let f = r .before in
-    let l = f .before .before in
+    let l = r .before .before in
     let h = rw (l .layout .given .1) at (l .before .before .before .held-in .ensures) in
-    written-with (h .1) (r .refusal .ensures _ (counts-of (h .1) (h .0)) (f .free-starts .ensures)) (e .if1 .left) (s .fold-frame .ensures)
+    written-with (h .1) (r .refusal .ensures _ (counts-of (h .1) (h .0))) (e .if1 .left) (s .fold-frame .ensures)
 
 pub fold-spec : {M : Type 1} → statement M
 fold-spec =
@@ -82,7 +72,6 @@ fold-spec =
     enum-known-layout
     enum-told
     returns
-    free-starts-requires
     refusal-requires
     returns-2
     slice-aggregate-fold-frame

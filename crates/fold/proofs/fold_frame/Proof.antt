@@ -1,5 +1,5 @@
 -- `fold::fold_frame` meets its contract: the frame is unrolled, its cone marked, numbered and written. Assumes nothing.
-use mathlib.Core.Path.{_≡_, subst}
+use mathlib.Core.Path.{_≡_, _∙_, subst}
 use Prim.Native.Nat.{_+_, _*_, _≤_}
 use lib.ListN.{length}
 use Rattle.aiger.specs.Circuit.{Circuit}
@@ -8,8 +8,7 @@ use native.Mathlib.Omega.{arith}
 use Rattle.aiger.specs.Frames.{size}
 use Rattle.layout.specs.Words.{circuitIn}
 use Rattle.nodes.specs.Edges.{edgeWord}
-use Rattle.enumeration.proofs.Starts.{starts-few}
-use Rattle.search.proofs.Sizes.{counts-of, limited}
+use Rattle.limits.proofs.Sizes.{counts-of, limited, size-is}
 use Rattle.fold.specs.Text.{Writable}
 use Rattle.fold.proofs.Lines.{text-short}
 use Rattle.fold.proofs.Folding.{shown-as, markable, writable, is-chosen, permitted}
@@ -21,7 +20,7 @@ use Rattle.fold.proofs.fold_frame.Tie as tie
 room-is : (c : tie.After-size) → c .size .result ≡ size (circuitIn (c .before .before .before .before .before .args .m .now)) (c .before .before .before .before .before .args .t)
 room-is c =
     let s = c .before .before .before .before .before in
-    c .size .ensures (circuitIn (s .args .m .now)) (counts-of (s .pre .ready .held) (s .pre .ready .layout-of)) (s .pre .starts-are)
+    c .size .ensures ∙ size-is (counts-of (s .pre .ready .held) (s .pre .ready .layout-of)) (s .args .t)
 
 -- where the cone is numbered, its circuit can be written
 writes : (c : tie.After-assign)
@@ -36,7 +35,7 @@ size-requires c κs =
     let s = c .before .before .before .before in
     let h = s .pre .ready .held in
     let a = s .pre .ready .layout-of in
-    (limited h a, omega (arith, s .pre .starts-are, starts-few h a), s .pre .last)
+    (limited h a, s .pre .last)
 
 unroll-requires : tie.Need-unroll-requires
 unroll-requires c κs =

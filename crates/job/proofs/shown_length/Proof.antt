@@ -1,9 +1,10 @@
 -- `job::shown_length` meets its contract. Assumes nothing.
+use mathlib.Core.Path.{_∙_}
 use native.Mathlib.Omega.{arith}
 use Rattle.layout.specs.Words.{circuitIn}
 use Rattle.roundtrip.proofs.Counts.{counted}
 use Rattle.frames.proofs.Facts.{valid, counts, inside}
-use Rattle.search.proofs.Sizes.{counts-of, limited}
+use Rattle.limits.proofs.Sizes.{counts-of, limited, length-is}
 use Rattle.job.specs.Replies.{FoundFits}
 use Rattle.job.proofs.Replying.{other-length}
 use borrow.Author.Needs.{needs}
@@ -41,8 +42,9 @@ returns-2 : tie.Need-returns-2
 returns-2 c =
     let l = c .before in
     let k = l .before .before in
-    let m = k .before .before .before .before .args .m .now in
-    rw (k .before .answer .given .1) (c .witness-length .ensures (circuitIn m) (counts-of (fits k .holds) (l .with-starts .ensures)))
+    let s = k .before .before .before .before .args in
+    rw (k .before .answer .given .1)
+    (c .witness-length .ensures ∙ length-is (counts-of (fits k .holds) (l .with-starts .ensures)) (s .b) (k .before .answer .given .0 .0))
 
 pub shown-length-spec : {M : Type 1} → statement M
 shown-length-spec =

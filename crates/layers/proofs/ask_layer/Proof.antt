@@ -7,8 +7,8 @@ use native.Mathlib.Omega.{arith}
 use lib.ListN.{length, getD}
 use lib.Pow.{pow-pos, pow-mono}
 use Rattle.layout.specs.Words.{word, circuitIn}
-use Rattle.enumeration.proofs.Facts.{inputs-are}
-use Rattle.enumeration.proofs.Blocks.{ready-with}
+use Rattle.frames.proofs.Places.{inputs-are}
+use Rattle.frames.proofs.Facts.{ready-with}
 use Rattle.machine.proofs.Expand.{quotient-below}
 use Rattle.layers.specs.Rows.{FirstRow, BlockMet}
 use Rattle.layers.specs.Asked.{AskedOf}

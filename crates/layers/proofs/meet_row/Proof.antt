@@ -3,7 +3,7 @@ use mathlib.Core.Path.{_≡_, refl, sym, ap, _∙_, subst}
 use mathlib.Core.Bool.{Bool, true, false, not, xor, _&&_}
 use mathlib.Core.List.{List, map}
 use mathlib.Core.Logic.{_⊎_, inl, inr, ⊎-elim}
-use Prim.Native.Nat.{ℕ, _<_}
+use Prim.Native.Nat.{ℕ, zero, suc, _/_, _%_, _^_, _<_}
 use native.Mathlib.Omega.{arith}
 use lib.Bits.{bitAnd}
 use lib.ListN.{length, getD}
@@ -31,6 +31,23 @@ module _ (left same others : ℕ) (f : (q : ℕ) → q < 64 → bit others q ≡
   out : (q : ℕ) → q < 64 → bit (bitAnd left others) q ≡ false → (bit left q ≡ false) ⊎ (bit same q ≡ true)
   out q l e =
       cases (bit left q) (bit same q) (ap (λ (x : Bool). bit left q && x) (sym (f q l ∙ xor-true (bit same q))) ∙ sym (bit-and left others q) ∙ e)
+
+-- the bit of a row that is left
+nonzero-set : (n : ℕ) → (n ≡ 0 → ⊥) → nonzero n ≡ true
+nonzero-set zero h = absurd (h refl)
+nonzero-set (suc n) h = refl
+
+left-set : (left p : ℕ) → (left / 2 ^ p % 2 ≡ 0 → ⊥) → bit left p ≡ true
+unfolding bit
+left-set left p h = nonzero-set (left / 2 ^ p % 2) h
+
+first-of : (a b : Bool) → (a && b) ≡ true → a ≡ true
+first-of true b e = refl
+first-of false b e = e
+
+-- a row that stays was left before
+left-in : (left others q : ℕ) → bit (bitAnd left others) q ≡ true → bit left q ≡ true
+left-in left others q e = first-of (bit left q) (bit others q) (sym (bit-and left others q) ∙ e)
 
 shr-if1 : tie.Need-shr-if1
 shr-if1 c = search needs
@@ -61,10 +78,12 @@ returns-2 : tie.Need-returns-2
 returns-2 c =
     let a = c .before .before .before .before .before .before .before .before .before .before .before .before .before .before .args in
     let E = c .before .before .before .before .meet in
-    RowStep.taken (subst (λ (s : ℕ). Meets (a .quota) (a .pending .met) s (a .e) (a .row) (a .records .now) (a .heads .now) (E .result) (E .last .0) (E .last .1 .0)) (c .before .before .before .before .before .before .before .before .before .pack .ensures) (E .ensures))
+    RowStep.taken (left-set (a .pending .left) (a .p) (c .before .before .before .before .before .before .before .before .before .before .if1 .left))
+    (subst (λ (s : ℕ). Meets (a .quota) (a .pending .met) s (a .e) (a .row) (a .records .now) (a .heads .now) (E .result) (E .last .0) (E .last .1 .0)) (c .before .before .before .before .before .before .before .before .before .pack .ensures) (E .ensures))
     (λ q l g. ⊎-elim (λ h. inl h)
     (λ h. inr (ap numberOf (map-upto-eq (λ j. bit (getD (a .state .now) j 0) q) (λ j. bit (getD (a .state .now) j 0) (a .p)) (a .latches) (c .before .before .before .before .before .before .before .before .same-rows .ensures q l h))))
     (out (a .pending .left) (c .before .before .before .before .before .before .before .before .same-rows .result) (c .before .before .before .before .before .before .before .literal-word .result) (c .before .before .before .before .before .before .before .literal-word .ensures) q l g))
+    (λ q g. left-in (a .pending .left) (c .before .before .before .before .before .before .before .literal-word .result) q g)
 
 pub meet-row-spec : {M : Type 1} → statement M
 meet-row-spec =

@@ -1,4 +1,5 @@
--- `layers::meet_rows` meets its contract. The loop's invariant: the first p rows are met, and a row that is left out leads where one of them leads.
+-- `layers::meet_rows` meets its contract. The loop's invariant: the first p rows are met, and a row that is left out since leads where one of
+-- them leads.
 -- Assumes nothing.
 use mathlib.Core.Path.{_≡_, refl, sym, ap, _∙_, subst}
 use mathlib.Core.List.{List, map}
@@ -8,19 +9,19 @@ use lib.ListN.{length, getD}
 use Rattle.aiger.specs.Lists.{upto}
 use Rattle.aiger.specs.Bits.{bit}
 use Rattle.transitions.specs.Transitions.{numberOf}
-use Rattle.layers.specs.Rows.{RowsMet}
-use Rattle.layers.proofs.Rows.{rows-none, Treated, dropped-none, treated-more}
+use Rattle.layers.specs.Rows.{leading, RowsMet}
+use Rattle.layers.proofs.Rows.{Treated, treated-none, treated-more}
 use borrow.Author.Needs.{needs}
 use Rattle.layers.proofs.meet_rows.Statement.{statement}
 use Rattle.layers.proofs.meet_rows.Tie as tie
 
 abbrev Inv-loop : tie.InvT-loop
-Inv-loop state latches n first e quota count records₀ heads₀ pending₀ p₀ records heads pending p =
+Inv-loop state latches n first e quota records₀ heads₀ pending₀ p₀ records heads pending p =
     (p ≤ n) × (length records ≡ length records₀) × (length heads ≡ length heads₀)
-    × Treated (λ q. numberOf (map (λ j. bit (getD state j 0) q) (upto latches))) quota count e first p records₀ heads₀ (pending .met) (pending .left) records heads
+    × Treated (pending₀ .left) (λ q. numberOf (map (λ j. bit (getD state j 0) q) (upto latches))) quota (pending₀ .met) e first p records₀ heads₀ (pending .met) (pending .left) records heads
 
 abbrev μ-loop : tie.MeasureT-loop
-μ-loop state latches n first e quota count records₀ heads₀ pending₀ p₀ records heads pending p = n - p
+μ-loop state latches n first e quota records₀ heads₀ pending₀ p₀ records heads pending p = n - p
 
 abbrev numbers : List ℕ → ℕ → ℕ → ℕ
 numbers state latches p = numberOf (map (λ j. bit (getD state j 0) p) (upto latches))
@@ -31,10 +32,7 @@ loop-holds c =
       omega arith,
       refl,
       refl,
-      record {
-        rows = rows-none (numbers (a .state .now) (a .latches)) (a .quota) (a .count) (a .e) (a .first) (a .records .now) (a .heads .now) (c .before .before .before .pre .0);
-        dropped = dropped-none (numbers (a .state .now) (a .latches));
-      },
+      treated-none (a .start .left) (numbers (a .state .now) (a .latches)) (a .quota) (a .start .met) (a .e) (a .first) (a .records .now) (a .heads .now) (c .before .before .before .pre .0),
     )
 
 add-meet-row : tie.Need-add-meet-row Inv-loop μ-loop
@@ -57,7 +55,7 @@ loop-again c =
       omega arith,
       E .kept .1 .1 .1 .1 .1 .1 .1 .0 ∙ L .inv .1,
       E .kept .1 .1 .1 .1 .1 .1 .1 .1 .0 ∙ L .inv .2,
-      treated-more (numbers (a .state .now) (a .latches)) (a .quota) (a .count) (a .e) (a .first) (L .p) (a .records .now) (a .heads .now) (omega (arith, c .before .before .before .before .before .before .before .before .before .before .before .before .pre .1 .2)) (L .inv .3) (E .ensures),
+      treated-more (a .start .left) (numbers (a .state .now) (a .latches)) (a .quota) (a .start .met) (a .e) (a .first) (L .p) (a .records .now) (a .heads .now) (omega (arith, c .before .before .before .before .before .before .before .before .before .before .before .before .pre .1 .2)) (L .inv .3) (E .ensures),
     )
 
 same-length : tie.Need-same-length Inv-loop μ-loop
@@ -71,7 +69,7 @@ returns c =
     let a = c .before .before .before .before .before .args in
     let L = c .before .loop in
     let e : L .p ≡ a .n = omega arith in
-    subst (λ (n : ℕ). RowsMet (numbers (a .state .now) (a .latches)) (a .quota) (a .count) (a .e) (a .first) n (a .records .now) (a .heads .now) (L .pending .met) (L .records) (L .heads)) e (L .inv .3 .rows)
+    subst (λ (n : ℕ). RowsMet (leading (a .start .left) (numbers (a .state .now) (a .latches))) (a .quota) (a .start .met) (a .e) (a .first) n (a .records .now) (a .heads .now) (L .pending .met) (L .records) (L .heads)) e (L .inv .3 .rows)
 
 pub meet-rows-spec : {M : Type 1} → statement M
 meet-rows-spec =

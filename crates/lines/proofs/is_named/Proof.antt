@@ -5,7 +5,7 @@ use Rattle.lines.proofs.is_named.Statement.{statement}
 use Rattle.lines.proofs.is_named.Tie as tie
 
 returns : tie.Need-returns
-returns c = named-short (c .before .args .s .now) (c .if1 .taken)
+returns c = named-short (c .before .args .letter) (c .before .args .s .now) (c .if1 .taken)
 
 shared-slice-read-result : tie.Need-shared-slice-read-result
 shared-slice-read-result c = search needs
@@ -20,7 +20,9 @@ shared-slice-read-result-4 : tie.Need-shared-slice-read-result-4
 shared-slice-read-result-4 c = search needs
 
 returns-2 : tie.Need-returns-2
-returns-2 c = named-long (c .before .before .before .before .before .args .s .now) (c .before .before .before .before .if1 .left)
+returns-2 c =
+    let s = c .before .before .before .before .before in
+    named-long (s .args .letter) (s .args .s .now) (c .before .before .before .before .if1 .left)
 
 pub is-named-spec : {M : Type 1} → statement M
 is-named-spec =

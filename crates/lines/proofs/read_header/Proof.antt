@@ -1,29 +1,34 @@
 -- `lines::read_header` meets its contract: the numbers stand in a buffer of zeros. Assumes nothing.
-use mathlib.Core.Path.{_≡_, sym, _∙_, subst}
-use mathlib.Core.Bool.{true}
+use mathlib.Core.Path.{_≡_, sym, ap₂, _∙_, subst}
+use mathlib.Core.Bool.{Bool, true, _||_}
 use mathlib.Core.List.{List}
 use Prim.Native.Nat.{ℕ, _≤_}
 use native.Mathlib.Omega.{arith}
 use lib.ListN.{length, replicate}
 use Rattle.lines.specs.Lines.{RowAt}
-use Rattle.lines.specs.Header.{HeaderAt, namedAag}
+use Rattle.lines.specs.Header.{HeaderAt}
 use Rattle.lines.specs.declared.Counts.{Counts}
 use Rattle.lines.specs.declared.Row.{Row}
 use Rattle.lines.specs.declared.Header.the-variants.{Read}
 use Rattle.lines.proofs.Storing.{zeros}
-use Rattle.lines.proofs.Heading.{not-named, no-row, few, enough}
+use Rattle.lines.proofs.Heading.{named-text, named-either, not-named, no-row, few, enough}
 use borrow.Author.Needs.{needs}
 use Rattle.lines.proofs.read_header.Statement.{statement}
 use Rattle.lines.proofs.read_header.Tie as tie
 
 abbrev S : tie.After-read-row → List ℕ
-S n = n .before .before .before .before .before .args .s .now
+S n = n .before .before .before .before .before .before .args .s .now
 
 abbrev list : tie.After-read-row → List ℕ
 list n = n .read-row .last .1 .1 .1 .0
 
-named : (n : tie.After-read-row) → namedAag (S n) ≡ true
-named n = sym (n .before .before .before .is-named .ensures) ∙ n .before .before .if1 .taken
+-- the two tests of the name
+said : (t : tie.After-is-binary)
+    → (t .before .is-named .result || t .is-binary .result) ≡ named-either (t .before .before .before .args .s .now)
+said t = ap₂ (λ (a b : Bool). a || b) (t .before .is-named .ensures ∙ named-text _) (t .is-binary .ensures)
+
+named : (n : tie.After-read-row) → named-either (S n) ≡ true
+named n = sym (said (n .before .before .before)) ∙ n .before .before .if1 .taken
 
 room : (n : tie.After-read-row) → 9 ≤ length (list n)
 room n = omega (arith, n .read-row .kept .1 .1 .1 .0)
@@ -34,6 +39,9 @@ found n r e = subst (RowAt (S n) 4 9 (replicate 9 0) (list n)) e (n .read-row .e
 
 is-named-requires : tie.Need-is-named-requires
 is-named-requires c κs = search needs
+
+is-binary-requires : tie.Need-is-binary-requires
+is-binary-requires c κs = search needs
 
 slice-aggregate-read-row : tie.Need-slice-aggregate-read-row
 slice-aggregate-read-row c = search needs
@@ -69,13 +77,14 @@ returns-3 c =
     no-row (S n) (named n) (found n _ (c .enum-told .given .1))
 
 returns-4 : tie.Need-returns-4
-returns-4 c = not-named (c .before .before .before .args .s .now) (sym (c .before .is-named .ensures) ∙ c .if1 .left)
+returns-4 c = not-named (c .before .before .before .before .args .s .now) (sym (said (c .before)) ∙ c .if1 .left)
 
 pub read-header-spec : {M : Type 1} → statement M
 read-header-spec =
     tie.close
     (tie.spec
     is-named-requires
+    is-binary-requires
     slice-aggregate-read-row
     read-row-requires
     enum-known-count

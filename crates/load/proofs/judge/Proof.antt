@@ -1,6 +1,6 @@
 -- `load::judge` meets its contract: the tests 1 to 4, and then the lines. Assumes nothing.
 use mathlib.Core.Path.{_≡_, sym, ap, _∙_, subst}
-use mathlib.Core.Bool.{true}
+use mathlib.Core.Bool.{Bool, true}
 use mathlib.Core.List.{List}
 use mathlib.Core.Option.{some}
 use Prim.Native.Nat.{ℕ, _≤_}
@@ -12,7 +12,8 @@ use Rattle.aiger.specs.File as file
 use Rattle.lines.specs.Header.{HeaderAt, countsMeant}
 use Rattle.lines.specs.declared.Counts as lines
 use Rattle.lines.specs.declared.Header.{Header}
-use Rattle.load.specs.Steps.{headerMeant, loadBody}
+use Rattle.roundtrip.proofs.LoadValid.{right-fit}
+use Rattle.load.specs.Steps.{narrowed, headerMeant, loadBody}
 use Rattle.load.specs.declared.Counts.{Counts}
 use Rattle.load.proofs.Finishing.{limits-read, fit-narrowed, refused-empty, refused-long, refused-header, refused-counts, refused-room, load-rest, none-empty, none-long, none-header, none-counts, some-words, file-judged, judged-refused}
 use Rattle.load.proofs.judge.Statement.{statement}
@@ -50,11 +51,20 @@ head : (t : tie.After-h) → file.header (F (N t)) ≡ some (countsMeant (H t), 
 head t = sym (found (N t) _ (t .h .given .1) .meaning)
 
 -- what the test of the counts says
-said : (t : tie.After-counts-fit) → file.countsFit (countsMeant (H (t .before .before))) ≡ t .counts-fit .result
-said t = sym (t .counts-fit .ensures)
+said : (t : tie.After-counts-right)
+    → let h = t .before .before .before in
+    file.countsRight (file.isBinary (F (N h))) (countsMeant (H h)) ≡ t .counts-right .result
+said t =
+    let h = t .before .before .before in
+    ap (λ (b : Bool). file.countsRight b (countsMeant (H h))) (sym (t .before .is-binary .ensures)) ∙ sym (t .counts-right .ensures)
 
-fit : (t : tie.Else3) → file.countsFit (countsMeant (H (t .before .before .before))) ≡ true
-fit t = said (t .before) ∙ not-false _ (t .if3 .left)
+right : (t : tie.Else3)
+    → let h = t .before .before .before .before in
+    file.countsRight (file.isBinary (F (N h))) (countsMeant (H h)) ≡ true
+right t = said (t .before) ∙ not-false _ (t .if3 .left)
+
+fit : (t : tie.Else3) → file.countsFit (countsMeant (H (t .before .before .before .before))) ≡ true
+fit t = right-fit _ _ (right t)
 
 refused-requires : tie.Need-refused-requires
 refused-requires c κs = search needs
@@ -90,45 +100,48 @@ returns-3 c =
     let e = sym (found n _ (c .before .enum-told .given .1) .meaning) in
     judged-refused (c .refused3 .ensures) (refused-header (room n) (F n) (some-byte n) (short n) e) (none-header (F n) (some-byte n) (short n) e)
 
-counts-fit-requires : tie.Need-counts-fit-requires
-counts-fit-requires c κs = search needs
+is-binary-requires : tie.Need-is-binary-requires
+is-binary-requires c κs = search needs
+
+counts-right-requires : tie.Need-counts-right-requires
+counts-right-requires c κs = search needs
 
 refused-requires-4 : tie.Need-refused-requires-4
 refused-requires-4 c κs = search needs
 
 returns-4 : tie.Need-returns-4
 returns-4 c =
-    let t = c .before .before .before .before in
+    let t = c .before .before .before .before .before in
     let n = N t in
     let e = said (c .before .before) ∙ not-true _ (c .before .if3 .taken) in
     judged-refused (c .refused4 .ensures) (refused-counts (room n) (F n) (some-byte n) (short n) (H t) (next t) (head t) e)
     (none-counts (F n) (some-byte n) (short n) (H t) (next t) (head t) e)
 
 add-needed : tie.Need-add-needed
-add-needed c = omega (arith, limits-read (H (c .before .before .before)) (fit c))
+add-needed c = omega (arith, limits-read (H (c .before .before .before .before)) (fit c))
 
 mul-needed : tie.Need-mul-needed
-mul-needed c = omega (arith, limits-read (H (c .before .before .before)) (fit c))
+mul-needed c = omega (arith, limits-read (H (c .before .before .before .before)) (fit c))
 
 add-needed-2 : tie.Need-add-needed-2
-add-needed-2 c = omega (arith, limits-read (H (c .before .before .before)) (fit c))
+add-needed-2 c = omega (arith, limits-read (H (c .before .before .before .before)) (fit c))
 
 returns-5 : tie.Need-returns-5
 returns-5 c =
-    let t = c .before .before .before .before in
+    let t = c .before .before .before .before .before in
     let n = N t in
     record {
-      answer = refused-room (room n) (F n) (some-byte n) (short n) (H t) (next t) (head t) (fit (c .before)) (c .if4 .taken);
-      needed = some-words (F n) (some-byte n) (short n) (H t) (next t) (head t) (fit (c .before));
+      answer = refused-room (room n) (F n) (some-byte n) (short n) (H t) (next t) (head t) (right (c .before)) (c .if4 .taken);
+      needed = some-words (F n) (some-byte n) (short n) (H t) (next t) (head t) (right (c .before));
     }
 
 narrow-requires : tie.Need-narrow-requires
 narrow-requires c κs = fit (c .before)
 
-judge-lines-requires : tie.Need-judge-lines-requires
-judge-lines-requires c κs =
+judge-sections-requires : tie.Need-judge-sections-requires
+judge-sections-requires c κs =
     let e = c .before .before .before in
-    let t = e .before .before .before .before in
+    let t = e .before .before .before .before .before in
     let k = c .before .before .narrow .ensures in
     let s = N t .before .before .before .before .before .before in (
       found (N t) _ (t .h .given .1) .place .0,
@@ -145,16 +158,18 @@ returns-6 : tie.Need-returns-6
 returns-6 c =
     let y = c .before .before .before .before in
     let e = y .before .before .before .before in
-    let t = e .before .before .before .before in
+    let t = e .before .before .before .before .before in
     let n = N t in
     let k = y .before .before .before .narrow .ensures in
+    let b = e .before .before .before .is-binary .ensures in
     record {
       answer =
           file-judged
-          (load-rest (room n) (F n) (some-byte n) (short n) (H t) (next t) (head t) (fit (e .before)) (e .if4 .left)
-          ∙ ap (λ (x : Counts). loadBody (headerMeant x) (drop (next t) (F n))) (sym k))
-          _ (y .judge-lines .result) (y .judge-lines .ensures);
-      needed = some-words (F n) (some-byte n) (short n) (H t) (next t) (head t) (fit (e .before));
+          (load-rest (room n) (F n) (some-byte n) (short n) (H t) (next t) (head t) (right (e .before)) (e .if4 .left)
+          ∙ ap (λ (x : Bool). loadBody x (headerMeant (narrowed (H t))) (drop (next t) (F n))) (sym b)
+          ∙ ap (λ (x : Counts). loadBody (e .before .before .before .is-binary .result) (headerMeant x) (drop (next t) (F n))) (sym k))
+          _ (y .judge-sections .result) (y .judge-sections .ensures);
+      needed = some-words (F n) (some-byte n) (short n) (H t) (next t) (head t) (right (e .before));
     }
 
 pub judge-spec : {M : Type 1} → statement M
@@ -170,7 +185,8 @@ judge-spec =
     enum-told
     refused-requires-3
     returns-3
-    counts-fit-requires
+    is-binary-requires
+    counts-right-requires
     refused-requires-4
     returns-4
     add-needed
@@ -178,7 +194,7 @@ judge-spec =
     add-needed-2
     returns-5
     narrow-requires
-    judge-lines-requires
+    judge-sections-requires
     same-length
     same-length-2
     returns-6)

@@ -7,8 +7,8 @@ use lib.ListN.{length, getD}
 use Rattle.aiger.specs.Circuit.{Circuit}
 use Rattle.aiger.specs.Frames.{freeStarts, size}
 use Rattle.layout.specs.Words.{word, circuitIn}
-use Rattle.enumeration.proofs.Facts.{inputs-are, latches-are}
-use Rattle.enumeration.proofs.Blocks.{ready-with}
+use Rattle.frames.proofs.Places.{inputs-are, latches-are}
+use Rattle.frames.proofs.Facts.{ready-with}
 use Rattle.machine.specs.Layers.{started}
 use Rattle.states.specs.Trace.{Holds}
 use Rattle.states.proofs.Laws.{holds-none, holds-fits}

@@ -3,7 +3,7 @@ use mathlib.Core.Path.{_≡_, refl, sym, ap, _∙_, subst}
 use Prim.Native.Nat.{ℕ, _≤_, _<_}
 use native.Mathlib.Omega.{arith}
 use lib.ListN.{length, getD, length-replicate, getD-replicate}
-use Rattle.enumeration.proofs.Blocks.{ready-with}
+use Rattle.frames.proofs.Facts.{ready-with}
 use borrow.Author.Needs.{needs}
 use Rattle.reachable.proofs.find_first.Statement.{statement}
 use Rattle.reachable.proofs.find_first.Tie as tie

@@ -3,8 +3,9 @@ use mathlib.Core.Path.{_≡_, sym, _∙_}
 use Prim.Native.Nat.{ℕ, _+_, _*_, _/_, _≤_, _<_, min}
 use native.Mathlib.Omega.{arith}
 use Rattle.layout.specs.Words.{circuitIn}
-use Rattle.enumeration.proofs.Facts.{inputs-are, latches-are}
-use Rattle.reachable.proofs.Quotas.{effort-some, quota-many, quota-latches, quota-free, quota-from}
+use Rattle.frames.proofs.Places.{inputs-are, latches-are}
+use Rattle.limits.proofs.Sizes.{limited}
+use Rattle.reachable.proofs.Quotas.{effort-some, size-few, quota-many, quota-latches, quota-free, quota-from}
 use borrow.Author.Needs.{needs}
 use Rattle.reachable.proofs.quota.Statement.{statement}
 use Rattle.reachable.proofs.quota.Tie as tie
@@ -18,29 +19,29 @@ returns-2 c = sym (quota-latches (circuitIn (c .before .before .before .before .
 returns-3 : tie.Need-returns-3
 returns-3 c = sym (quota-free (circuitIn (c .before .before .before .before .before .before .before .args .m .now)) (c .before .before .before .before .before .before .before .args .t) (omega (arith, c .before .before .before .before .if1 .left, inputs-are (c .before .before .before .before .before .before .before .pre .0) (c .before .before .before .before .before .before .before .pre .1 .0))) (omega (arith, c .before .before .if2 .left, latches-are (c .before .before .before .before .before .before .before .pre .0) (c .before .before .before .before .before .before .before .pre .1 .0))) (omega (arith, c .if3 .taken, c .before .before .before .before .before .before .before .pre .1 .0 .u-is)))
 
-units-requires : tie.Need-units-requires
-units-requires c κs = (c .before .before .before .before .before .before .before .pre .0, (c .before .before .before .before .before .before .before .pre .1 .0, c .before .before .before .before .before .before .before .pre .1 .1))
+size-requires : tie.Need-size-requires
+size-requires c κs = (limited (c .before .before .before .before .before .before .before .pre .0) (c .before .before .before .before .before .before .before .pre .1 .0), c .before .before .before .before .before .before .before .pre .1 .1)
 
 effort-requires : tie.Need-effort-requires
 effort-requires c κs = (c .before .before .before .before .before .before .before .before .pre .0, (c .before .before .before .before .before .before .before .before .pre .1 .0, (omega (arith, c .before .before .before .before .before .if1 .left), omega (arith, c .before .before .before .if2 .left))))
 
 mul-most : tie.Need-mul-most
-mul-most c = omega (arith, c .before .units .ensures .1)
+mul-most c = omega (arith, c .before .size .ensures, size-few (c .before .before .before .before .before .before .before .before .before .pre .0) (c .before .before .before .before .before .before .before .before .before .pre .1 .0) (c .before .before .before .before .before .before .before .before .before .args .t) (c .before .before .before .before .before .before .before .before .before .pre .1 .1))
 
 mul-affordable : tie.Need-mul-affordable
-mul-affordable c = omega (arith, c .before .units .ensures .1)
+mul-affordable c = omega (arith, c .before .size .ensures, size-few (c .before .before .before .before .before .before .before .before .before .pre .0) (c .before .before .before .before .before .before .before .before .before .pre .1 .0) (c .before .before .before .before .before .before .before .before .before .args .t) (c .before .before .before .before .before .before .before .before .before .pre .1 .1))
 
 add-affordable : tie.Need-add-affordable
-add-affordable c = omega (arith, c .before .units .ensures .1)
+add-affordable c = omega (arith, c .before .size .ensures, size-few (c .before .before .before .before .before .before .before .before .before .pre .0) (c .before .before .before .before .before .before .before .before .before .pre .1 .0) (c .before .before .before .before .before .before .before .before .before .args .t) (c .before .before .before .before .before .before .before .before .before .pre .1 .1))
 
 div-affordable : tie.Need-div-affordable
 div-affordable c = omega (arith, c .effort .ensures, effort-some (circuitIn (c .before .before .before .before .before .before .before .before .before .args .m .now)))
 
 returns-4 : tie.Need-returns-4
-returns-4 c = omega (arith, c .if4 .taken, quota-from (c .before .before .before .before .before .before .before .before .before .before .pre .0) (c .before .before .before .before .before .before .before .before .before .before .pre .1 .0) (c .before .before .before .before .before .before .before .before .before .before .args .t) (c .before .before .units .result) (c .before .effort .result) (c .before .before .units .ensures .0) (c .before .effort .ensures) (omega (arith, c .before .before .before .before .before .before .before .if1 .left)) (omega (arith, c .before .before .before .before .before .if2 .left)) (omega (arith, c .before .before .before .if3 .left)))
+returns-4 c = omega (arith, c .if4 .taken, quota-from (c .before .before .before .before .before .before .before .before .before .before .pre .0) (c .before .before .before .before .before .before .before .before .before .before .pre .1 .0) (c .before .before .before .before .before .before .before .before .before .before .args .t) (c .before .before .size .result) (c .before .effort .result) (c .before .before .size .ensures) (c .before .effort .ensures) (omega (arith, c .before .before .before .before .before .before .before .if1 .left)) (omega (arith, c .before .before .before .before .before .if2 .left)) (omega (arith, c .before .before .before .if3 .left)))
 
 returns-5 : tie.Need-returns-5
-returns-5 c = omega (arith, c .if4 .left, quota-from (c .before .before .before .before .before .before .before .before .before .before .pre .0) (c .before .before .before .before .before .before .before .before .before .before .pre .1 .0) (c .before .before .before .before .before .before .before .before .before .before .args .t) (c .before .before .units .result) (c .before .effort .result) (c .before .before .units .ensures .0) (c .before .effort .ensures) (omega (arith, c .before .before .before .before .before .before .before .if1 .left)) (omega (arith, c .before .before .before .before .before .if2 .left)) (omega (arith, c .before .before .before .if3 .left)))
+returns-5 c = omega (arith, c .if4 .left, quota-from (c .before .before .before .before .before .before .before .before .before .before .pre .0) (c .before .before .before .before .before .before .before .before .before .before .pre .1 .0) (c .before .before .before .before .before .before .before .before .before .before .args .t) (c .before .before .size .result) (c .before .effort .result) (c .before .before .size .ensures) (c .before .effort .ensures) (omega (arith, c .before .before .before .before .before .before .before .if1 .left)) (omega (arith, c .before .before .before .before .before .if2 .left)) (omega (arith, c .before .before .before .if3 .left)))
 
 pub quota-spec : {M : Type 1} → statement M
 quota-spec =
@@ -49,7 +50,7 @@ quota-spec =
     returns
     returns-2
     returns-3
-    units-requires
+    size-requires
     effort-requires
     mul-most
     mul-affordable

@@ -3,7 +3,7 @@ use mathlib.Core.Path.{_≡_, refl, sym, ap, _∙_, subst}
 use Prim.Native.Nat.{ℕ, _≤_, _<_}
 use native.Mathlib.Omega.{arith}
 use Rattle.layout.specs.Words.{circuitIn}
-use Rattle.enumeration.proofs.Facts.{inputs-are}
+use Rattle.frames.proofs.Places.{inputs-are}
 use Rattle.reachable.specs.Layers.{LayersOf}
 use Rattle.reachable.proofs.Quotas.{quota-small}
 use Rattle.reachable.proofs.Frames.{rest-none}

@@ -2,9 +2,8 @@
 -- Assumes nothing.
 use native.Mathlib.Omega.{arith}
 use borrow.Author.Needs.{needs}
-use Rattle.aiger.specs.Operations.{Searched}
-use Rattle.enumeration.proofs.Starts.{starts-few}
-use Rattle.search.proofs.Sizes.{counts-of, limited}
+use Rattle.aiger.specs.Operations.{Operated}
+use Rattle.limits.proofs.Sizes.{counts-of, limited}
 use Rattle.search.proofs.Answers.{refused-with, fits, answered-with}
 use Rattle.search.proofs.search.Statement.{statement}
 use Rattle.search.proofs.search.Tie as tie
@@ -22,27 +21,20 @@ enum-told : tie.Need-enum-told
 enum-told c = search needs
 
 returns : tie.Need-returns
-returns c = Searched.noCircuit (rw (c .enum-told .given .1) at (c .before .before .before .held-in .ensures))
-
-free-starts-requires : tie.Need-free-starts-requires
-free-starts-requires c κs =
-    let l = c .before in
-    let h = rw (l .layout .given .1) at (l .before .before .before .held-in .ensures) in
-    (h .1, h .0)
+returns c = Operated.noCircuit (rw (c .enum-told .given .1) at (c .before .before .before .held-in .ensures))
 
 refusal-requires : tie.Need-refusal-requires
 refusal-requires c κs =
-    let l = c .before .before in
+    let l = c .before in
     let h = rw (l .layout .given .1) at (l .before .before .before .held-in .ensures) in
-    (limited (h .1) (h .0), omega (arith, c .free-starts .ensures, starts-few (h .1) (h .0)))
+    limited (h .1) (h .0)
 
 returns-2 : tie.Need-returns-2
 returns-2 c =
     let r = c .before in
-    let f = r .before in
-    let l = f .before .before in
+    let l = r .before .before in
     let h = rw (l .layout .given .1) at (l .before .before .before .held-in .ensures) in
-    refused-with (h .1) (r .refusal .result) (r .refusal .ensures _ (counts-of (h .1) (h .0)) (f .free-starts .ensures)) (c .if1 .taken)
+    refused-with (h .1) (r .refusal .result) (r .refusal .ensures _ (counts-of (h .1) (h .0))) (c .if1 .taken)
 
 slice-aggregate-search-frames : tie.Need-slice-aggregate-search-frames
 slice-aggregate-search-frames c = search needs
@@ -50,11 +42,10 @@ slice-aggregate-search-frames c = search needs
 search-frames-requires : tie.Need-search-frames-requires
 search-frames-requires c κs =
     let r = c .before .before .before .before in
-    let f = r .before in
-    let l = f .before .before in
+    let l = r .before .before in
     let n = l .before .before .before in
     let h = rw (l .layout .given .1) at (n .held-in .ensures) in
-    fits (h .1) (h .0) (h .2) (omega (arith, n .held-in .kept .1 .0)) (r .refusal .ensures _ (counts-of (h .1) (h .0)) (f .free-starts .ensures))
+    fits (h .1) (h .0) (h .2) (omega (arith, n .held-in .kept .1 .0)) (r .refusal .ensures _ (counts-of (h .1) (h .0)))
     (c .before .before .before .if1 .left)
 
 same-length : tie.Need-same-length
@@ -68,10 +59,9 @@ returns-3 c =
     let s = c .before .before .before .before in
     let e = s .before .before .before .before in
     let r = e .before in
-    let f = r .before in
-    let l = f .before .before in
+    let l = r .before .before in
     let h = rw (l .layout .given .1) at (l .before .before .before .held-in .ensures) in
-    answered-with (h .1) (r .refusal .ensures _ (counts-of (h .1) (h .0)) (f .free-starts .ensures)) (e .if1 .left) (s .search-frames .ensures)
+    answered-with (h .1) (r .refusal .ensures _ (counts-of (h .1) (h .0))) (e .if1 .left) (s .search-frames .ensures)
 
 pub search-spec : {M : Type 1} → statement M
 search-spec =
@@ -82,7 +72,6 @@ search-spec =
     enum-known-layout
     enum-told
     returns
-    free-starts-requires
     refusal-requires
     returns-2
     slice-aggregate-search-frames

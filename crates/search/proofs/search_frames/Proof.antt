@@ -1,15 +1,17 @@
 -- `search::search_frames` meets its contract: what the layers of states say, or what the frames from the one where they are given up give.
 -- Assumes nothing.
 use mathlib.Core.Path.{_≡_, refl, ap, _∙_, subst}
+use mathlib.Core.List.{List}
 use Prim.Native.Nat.{ℕ, _+_, _-_, _≤_}
 use native.Mathlib.Nat.{le-trans}
 use native.Mathlib.Omega.{arith}
 use lib.ListN.{length}
-use Rattle.aiger.specs.Search.{found, none}
+use Rattle.aiger.specs.Search.{Outcome}
+use Rattle.aiger.specs.Operations.{front}
 use Rattle.layout.specs.Words.{circuitIn}
 use Rattle.frames.proofs.Facts.{bad-count}
-use Rattle.search.proofs.Sizes.{bits-within, length-within, limited}
-use Rattle.search.proofs.Choice.{chosen-found, chosen-none, chosen-left, left-within, answered}
+use Rattle.limits.proofs.Sizes.{bits-within, length-within, limited}
+use Rattle.search.proofs.Choice.{chosen-found, layers-shown, chosen-none, chosen-left, left-within, answered}
 use Rattle.search.proofs.ByLayers.{of-hit, of-clear, of-left}
 use borrow.Author.Needs.{needs}
 use Rattle.search.proofs.search_frames.Statement.{statement}
@@ -85,7 +87,8 @@ returns c =
     let s = c .before .before .before .before .before .before .before .before .before .before .before .before .before .before .before .before .args in
     let C = circuitIn (s .m .now) in
     let h = of-hit C (s .b) (s .k) (c .before .before .before .before .before .before .before .before .before .before .search-layers .last .1 .1 .1 .1 .1 .0) (c .before .before .before .before .before .before .before .before .before .before .search-layers .result) (c .before .before .before .before .before .before .before .before .before .before .search-layers .ensures) (c .before .before .before .before .before .before .t .given .1) in
-    answered C (s .b) (s .k) (s .d) (found _ (h .place)) (chosen-found C (s .b) (s .k) (s .d) (h .says)) (c .before .before .write-witness .ensures (h .place) (h .bits))
+    answered C (s .b) (s .k) (s .d) (Outcome.found _) (chosen-found C (s .b) (s .k) (s .d) (h .says))
+    (c .before .before .write-witness .ensures (h .place) (h .bits) ∙ ap (λ (z : List ℕ). front z (s .out .now)) (layers-shown C (s .b) (s .k) (s .d) (h .says)))
 
 same-length-3 : tie.Need-same-length-3
 same-length-3 c = c .before .before .before .before .search-layers .kept .1 .1 .1 .1 .1 .0
@@ -94,7 +97,7 @@ returns-2 : tie.Need-returns-2
 returns-2 c =
     let s = c .before .before .before .before .before .before .before .before .before .before .args in
     let C = circuitIn (s .m .now) in
-    answered C (s .b) (s .k) (s .d) (none (s .k)) (chosen-none C (s .b) (s .k) (s .d) (of-clear C (s .b) (s .k) (c .before .before .before .before .search-layers .last .1 .1 .1 .1 .1 .0) (c .before .before .before .before .search-layers .result) (c .before .before .before .before .search-layers .ensures) (c .enum-told .given .1))) refl
+    answered C (s .b) (s .k) (s .d) (Outcome.none (s .k)) (chosen-none C (s .b) (s .k) (s .d) (of-clear C (s .b) (s .k) (c .before .before .before .before .search-layers .last .1 .1 .1 .1 .1 .0) (c .before .before .before .before .search-layers .result) (c .before .before .before .before .search-layers .ensures) (c .enum-told .given .1))) refl
 
 same-length-4 : tie.Need-same-length-4
 same-length-4 c = c .before .before .before .before .search-from .kept .1 .1 .1 .1 .1 .1 .1 .0 ∙ c .before .before .before .before .before .before .before .before .before .before .before .before .search-layers .kept .1 .1 .1 .1 .1 .0

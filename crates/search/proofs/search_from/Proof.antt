@@ -1,21 +1,21 @@
 -- `search::search_from` meets its contract. The loop's invariant: the chosen outcome is what the frames from t on give, and the output
 -- is as it was. Assumes nothing.
-use mathlib.Core.Path.{_≡_, refl, ap, _∙_, subst}
+use mathlib.Core.Path.{_≡_, refl, ap, ap₂, _∙_, subst}
 use mathlib.Core.List.{List}
 use Prim.Native.Nat.{_+_, _-_, _≤_}
 use native.Mathlib.Nat.{le-trans}
 use native.Mathlib.Omega.{arith}
 use borrow.Author.Needs.{needs}
 use lib.ListN.{length}
-use Rattle.aiger.specs.Search.{found, none, spent}
-use Rattle.aiger.specs.Operations.{shown}
+use Rattle.aiger.specs.Search.{Outcome}
+use Rattle.aiger.specs.Operations.{front}
 use Rattle.layout.specs.Words.{circuitIn}
 use Rattle.frames.proofs.Facts.{bad-count}
 use Rattle.decision.specs.Decided.{FrameDecided}
 use Rattle.enumeration.specs.declared.Frame.{Frame}
-use Rattle.search.proofs.Sizes.{bits-within, length-within, limited}
+use Rattle.limits.proofs.Sizes.{bits-within, length-within, limited}
 use Rattle.search.proofs.Within.{size-within}
-use Rattle.search.proofs.Choice.{Left, left-found, left-spent, left-more, left-none, answered}
+use Rattle.search.proofs.Choice.{Left, hit-shown, left-found, left-spent, left-more, left-none, answered}
 use Rattle.search.proofs.search_from.Statement.{statement}
 use Rattle.search.proofs.search_from.Tie as tie
 
@@ -107,10 +107,11 @@ returns c =
     let l = n .before .before .before .loop in
     let C = circuitIn (s .m .now) in
     let f = told n _ (c .before .before .before .before .before .enum-told .given .1) in
-    let o = found (l .t) (f .0) in
+    let o = Outcome.found (l .t) in
     answered C (s .b) (s .k) (s .d) o
     (left-found C (s .b) (s .k) (s .d) (l .t) (f .0) (omega (arith, n .before .before .loop-test .taken)) (l .inv .3) (f .1))
-    (c .before .before .write-witness .ensures (f .0) (f .2) ∙ ap (λ (z : List _). shown C (s .b) o z) (l .inv .2))
+    (c .before .before .write-witness .ensures (f .0) (f .2)
+    ∙ ap₂ (λ (x y : List _). front x y) (hit-shown C (s .b) (s .k) (s .d) (l .t) (f .0) (f .1)) (l .inv .2))
 
 enum-told-2 : tie.Need-enum-told-2 Inv-loop μ-loop
 enum-told-2 c = search needs
@@ -161,7 +162,7 @@ returns-2 c =
     let l = n .before .before .before .loop in
     let C = circuitIn (s .m .now) in
     let e = told n _ (c .enum-told3 .given .1) in
-    answered C (s .b) (s .k) (s .d) (spent (l .t))
+    answered C (s .b) (s .k) (s .d) (Outcome.spent (l .t))
     (left-spent C (s .b) (s .k) (s .d) (l .t) (omega (arith, n .before .before .loop-test .taken)) (l .inv .3) e) (l .inv .2)
 
 cast-t22 : tie.Need-cast-t22 Inv-loop μ-loop
@@ -178,7 +179,7 @@ returns-3 c =
     let s = c .before .before .before .before .before .before .args in
     let l = c .before .loop in
     let C = circuitIn (s .m .now) in
-    answered C (s .b) (s .k) (s .d) (none (s .k)) (left-none C (s .b) (s .k) (s .d) (l .t) (omega (arith, c .loop-test .left)) (l .inv .3)) (l .inv .2)
+    answered C (s .b) (s .k) (s .d) (Outcome.none (s .k)) (left-none C (s .b) (s .k) (s .d) (l .t) (omega (arith, c .loop-test .left)) (l .inv .3)) (l .inv .2)
 
 pub search-from-spec : {M : Type 1} → statement M
 search-from-spec =

@@ -6,8 +6,8 @@ use lib.ListN.{length, set, length-set}
 use lib.Seq.{getD-set-same}
 use Rattle.layout.specs.Words.{word, circuitIn}
 use Rattle.frames.proofs.Facts.{right}
-use Rattle.enumeration.proofs.Facts.{inputs-are}
-use Rattle.enumeration.proofs.Blocks.{ready-with}
+use Rattle.frames.proofs.Places.{inputs-are}
+use Rattle.frames.proofs.Facts.{ready-with}
 use Rattle.transitions.proofs.Rows.{rows-valued}
 use borrow.Author.Needs.{needs}
 use Rattle.transitions.proofs.eval_rows.Statement.{statement}

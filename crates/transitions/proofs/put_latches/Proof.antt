@@ -9,7 +9,7 @@ use Rattle.layout.specs.Words.{word, circuitIn}
 use Rattle.words.proofs.Bits.{join-high}
 use Rattle.meaning.proofs.Defined.{latchAt}
 use Rattle.enumeration.specs.Blocks.{Given}
-use Rattle.enumeration.proofs.Facts.{latches-are, latches-inside, latches-few, latch-var, latch-small, latches-differ}
+use Rattle.frames.proofs.Places.{latches-are, latches-inside, latches-few, latch-var, latch-small, latches-differ}
 use Rattle.enumeration.proofs.Stores.{given-start, given-more}
 use borrow.Author.Needs.{needs}
 use Rattle.transitions.proofs.put_latches.Statement.{statement}

@@ -12,9 +12,9 @@ use Rattle.aiger.specs.Bits.{bit}
 use Rattle.aiger.specs.Frames.{freeStarts}
 use Rattle.aiger.specs.Memory.{Holds}
 use Rattle.layout.specs.Words.{word, circuitIn}
-use Rattle.enumeration.specs.Blocks.{freeBefore, startBit}
-use Rattle.enumeration.proofs.Facts.{latches-are, latches-inside}
-use Rattle.enumeration.proofs.Starts.{free-none, free-all, count-more, start-in}
+use Rattle.frames.specs.Starts.{freeBefore, startBit}
+use Rattle.frames.proofs.Places.{latches-are, latches-inside}
+use Rattle.frames.proofs.Starts.{free-none, free-all, count-more, start-in}
 use Rattle.transitions.specs.Transitions.{numberOf, startNumber}
 use Rattle.transitions.proofs.Packing.{bit-few, above, above-start, above-end, above-more, above-small, start-list}
 use borrow.Author.Needs.{needs}

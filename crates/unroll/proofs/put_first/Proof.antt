@@ -25,7 +25,7 @@ put-gates-requires c κs =
       ready-with (S .pre .0) (Q .kept .1 .1 .1 .0 ∙ P .kept .1 .1 .0),
       record {
         stored = F .extensible .stored;
-        room = F .extensible .room;
+        room = omega (arith, F .extensible .room);
         edges = first-edges (S .pre .0) (F .blank) (P .ensures) (S .args .starts) (Q .ensures) (S .args .g) (F .extensible .stored .sized .leaves) (F .starts-are) (F .bits);
       },
     )

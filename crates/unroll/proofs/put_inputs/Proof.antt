@@ -8,7 +8,7 @@ use Rattle.literals.specs.declared.Var.{Var}
 use Rattle.nodes.specs.Edges.{edgeWord}
 use Rattle.nodes.specs.declared.Edge.{Edge}
 use Rattle.frames.proofs.Stores.{stored-start}
-use Rattle.enumeration.proofs.Facts.{inputs-inside}
+use Rattle.frames.proofs.Places.{inputs-inside}
 use Rattle.unroll.specs.Map.{Written, inputVar, inputWord}
 use Rattle.unroll.proofs.Edges.{free-node}
 use Rattle.unroll.proofs.Facts.{inputs-apart}

@@ -10,8 +10,8 @@ use Rattle.nodes.specs.Edges.{edgeWord}
 use Rattle.nodes.specs.declared.Edge.{Edge}
 use Rattle.frames.proofs.Facts.{latches-inside, latches-apart}
 use Rattle.frames.proofs.Stores.{stored-start}
-use Rattle.enumeration.specs.Blocks.{freeBefore}
-use Rattle.enumeration.proofs.Starts.{free-none, free-part, count-more, count-part, starts-few}
+use Rattle.frames.specs.Starts.{freeBefore}
+use Rattle.frames.proofs.Starts.{free-none, free-part, count-more, count-part, starts-few}
 use Rattle.unroll.specs.Map.{startEdge, Written, latchVar, startWord}
 use Rattle.unroll.proofs.Edges.{start-small}
 use Rattle.unroll.proofs.Stores.{put-more}

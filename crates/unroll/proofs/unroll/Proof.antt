@@ -2,7 +2,7 @@
 use mathlib.Core.Path.{_∙_}
 use native.Mathlib.Omega.{arith}
 use Rattle.unroll.proofs.Facts.{ready-with}
-use Rattle.unroll.proofs.Unrolling.{blank-zeros, room-enough, start-enough, first-fits, frames-fit, hit-fits, unrolled}
+use Rattle.unroll.proofs.Unrolling.{blank-zeros, room-enough, start-enough, first-fits, frames-fit, hit-fits, hit-node, unrolled}
 use borrow.Author.Needs.{needs}
 use Rattle.unroll.proofs.unroll.Statement.{statement}
 use Rattle.unroll.proofs.unroll.Tie as tie
@@ -19,14 +19,13 @@ add-free-2 c = omega (arith, room-enough (c .before .before .before .before .pre
 start-requires : tie.Need-start-requires
 start-requires c κs = start-enough (c .before .before .before .before .before .pre)
 
-slice-aggregate-put-first : tie.Need-slice-aggregate-put-first
-slice-aggregate-put-first c = search needs
+slice-aggregate-first-frame : tie.Need-slice-aggregate-first-frame
+slice-aggregate-first-frame c = search needs
 
-put-first-requires : tie.Need-put-first-requires
-put-first-requires c κs =
-    let S = c .before .before .before .before .before .before .before .before .before .before in
+first-frame-requires : tie.Need-first-frame-requires
+first-frame-requires c κs =
     let E = c .before .before .before .before .start in
-    (S .pre .ready, first-fits (S .pre) (E .ensures .0) (E .ensures .1) _ (blank-zeros 4097))
+    (c .before .before .before .before .before .before .before .before .before .before .pre .ready, first-fits (c .before .before .before .before .before .before .before .before .before .before .pre) (E .ensures .0) (E .ensures .1) _ (blank-zeros 4097))
 
 slice-aggregate-put-frames : tie.Need-slice-aggregate-put-frames
 slice-aggregate-put-frames c = search needs
@@ -36,10 +35,9 @@ slice-aggregate-put-frames-2 c = search needs
 
 put-frames-requires : tie.Need-put-frames-requires
 put-frames-requires c κs =
-    let S = c .before .before .before .before .before .before .before .before .before .before .before .before .before .before .before .before .before in
     let E = c .before .before .before .before .before .before .before .before .before .before .before .start in
-    let F = c .before .before .before .before .before .before .put-first in
-    (ready-with (S .pre .ready) (F .kept .1 .1 .1 .1 .1 .1 .0), (frames-fit (S .pre) (E .ensures .0) (E .ensures .1) (F .ensures), omega arith))
+    let F = c .before .before .before .before .before .before .first-frame in
+    (ready-with (c .before .before .before .before .before .before .before .before .before .before .before .before .before .before .before .before .before .pre .ready) (F .kept .1 .1 .1 .1 .1 .1 .0), (frames-fit (c .before .before .before .before .before .before .before .before .before .before .before .before .before .before .before .before .before .pre) (E .ensures .0) (E .ensures .1) (F .ensures), omega arith))
 
 slice-aggregate-hit-edge : tie.Need-slice-aggregate-hit-edge
 slice-aggregate-hit-edge c = search needs
@@ -48,26 +46,20 @@ hit-edge-requires : tie.Need-hit-edge-requires
 hit-edge-requires c κs =
     let S = c .before .before .before .before .before .before .before .before .before .before .before .before .before .before .before .before .before .before .before .before .before .before .before .before in
     let E = c .before .before .before .before .before .before .before .before .before .before .before .before .before .before .before .before .before .before .start in
-    let F = c .before .before .before .before .before .before .before .before .before .before .before .before .before .put-first in
-    let G = c .before .before .before .before .before .before .put-frames in
-    ((S .args .order .now, ready-with (S .pre .ready) (G .kept .1 .1 .1 .1 .1 .1 .1 .0 ∙ F .kept .1 .1 .1 .1 .1 .1 .0)), (hit-fits (S .pre) (E .ensures .0) (E .ensures .1) (F .ensures) (G .ensures), S .pre .bad))
+    let F = c .before .before .before .before .before .before .before .before .before .before .before .before .before .first-frame in
+    let G = c .before .before .before .before .before .before .put-frames in (
+      (S .args .order .now, ready-with (S .pre .ready) (G .kept .1 .1 .1 .1 .1 .1 .1 .0 ∙ F .kept .1 .1 .1 .1 .1 .1 .0)),
+      (hit-fits (S .pre) (E .ensures .0) (E .ensures .1) (F .ensures) (G .ensures), (hit-node (S .pre) (E .ensures .0) (E .ensures .1) (F .ensures) (G .ensures), S .pre .bad)),
+    )
 
 same-length : tie.Need-same-length
-same-length c =
-    let E = c .before .before .before .before .before .before .before .before .before .before .before .before .before .before .before .before .before .before .before .before .before .start in
-    let F = c .before .before .before .before .before .before .before .before .before .before .before .before .before .before .before .before .put-first in
-    let G = c .before .before .before .before .before .before .before .before .before .put-frames in
-    let H = c .before .before .hit-edge in
-    H .kept .0 ∙ G .kept .0 ∙ F .kept .0 ∙ E .kept .0
+same-length c = c .before .before .hit-edge .kept .0 ∙ c .before .before .before .before .before .before .before .before .before .put-frames .kept .0 ∙ c .before .before .before .before .before .before .before .before .before .before .before .before .before .before .before .before .first-frame .kept .0 ∙ c .before .before .before .before .before .before .before .before .before .before .before .before .before .before .before .before .before .before .before .before .before .start .kept .0
 
 returns : tie.Need-returns
 returns c =
-    let S = c .before .before .before .before .before .before .before .before .before .before .before .before .before .before .before .before .before .before .before .before .before .before .before .before .before .before .before in
     let E = c .before .before .before .before .before .before .before .before .before .before .before .before .before .before .before .before .before .before .before .before .before .start in
-    let F = c .before .before .before .before .before .before .before .before .before .before .before .before .before .before .before .before .put-first in
-    let G = c .before .before .before .before .before .before .before .before .before .put-frames in
     let H = c .before .before .hit-edge in
-    unrolled (S .pre) (E .ensures .0) (E .ensures .1) (F .ensures) (G .ensures) (H .last .0) (H .result) (H .ensures)
+    unrolled (c .before .before .before .before .before .before .before .before .before .before .before .before .before .before .before .before .before .before .before .before .before .before .before .before .before .before .before .pre) (E .ensures .0) (E .ensures .1) (c .before .before .before .before .before .before .before .before .before .before .before .before .before .before .before .before .first-frame .ensures) (c .before .before .before .before .before .before .before .before .before .put-frames .ensures) (H .last .0) (H .result) (H .ensures)
 
 pub unroll-spec : {M : Type 1} → statement M
 unroll-spec =
@@ -77,8 +69,8 @@ unroll-spec =
     mul-free
     add-free-2
     start-requires
-    slice-aggregate-put-first
-    put-first-requires
+    slice-aggregate-first-frame
+    first-frame-requires
     slice-aggregate-put-frames
     slice-aggregate-put-frames-2
     put-frames-requires

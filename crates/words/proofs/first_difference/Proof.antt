@@ -1,4 +1,4 @@
--- `words::first_difference` meets its contract, by the law for every width. Assumes nothing.
+-- `words::first_difference` meets its contract, by the law for every width. Clauses 5.8, 11.2. Assumes nothing.
 use Rattle.words.proofs.Bits.{first-difference}
 use Rattle.words.proofs.first_difference.Statement.{statement}
 use Rattle.words.proofs.first_difference.Tie as tie

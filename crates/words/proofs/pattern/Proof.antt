@@ -1,4 +1,5 @@
--- `words::pattern` meets its contract: one computed test over the whole table, at each entry and each bit. Assumes nothing.
+-- `words::pattern` meets its contract: one computed test over the whole table, at each entry and each bit. Clauses 5.7, 11.1.
+-- Assumes nothing.
 use Prim.Native.Nat.{ℕ, _<_}
 use mathlib.Core.Bool.{Bool, true, false, Bool·beq}
 use mathlib.Core.List.{List}

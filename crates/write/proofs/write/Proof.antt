@@ -1,6 +1,6 @@
 -- `write::write` meets its contract: each answer by the test of the memory and by the length of the text. Assumes nothing.
 use native.Mathlib.Omega.{arith}
-use Rattle.aiger.specs.Operations.{Written}
+use Rattle.aiger.specs.Operations.{Operated}
 use Rattle.write.proofs.Answers.{too-long, fitting}
 use borrow.Author.Needs.{needs}
 use Rattle.write.proofs.write.Statement.{statement}
@@ -16,7 +16,7 @@ enum-told : tie.Need-enum-told
 enum-told c = search needs
 
 returns : tie.Need-returns
-returns c = Written.noCircuit (rw (c .enum-told .given .1) at (c .before .before .test .ensures))
+returns c = Operated.noCircuit (rw (c .enum-told .given .1) at (c .before .before .test .ensures))
 
 text-length-requires : tie.Need-text-length-requires
 text-length-requires c κs =

@@ -1,0 +1,3 @@
+pub mod Implied
+pub mod Latches
+pub mod Differences

@@ -1,0 +1,5 @@
+pub mod Counts
+pub mod Links
+pub mod Blocks
+pub mod Users
+pub mod Taking

@@ -1,0 +1,15 @@
+-- `lines::is_binary` meets its contract. Assumes nothing.
+use mathlib.Core.Path.{_∙_}
+use Rattle.lines.proofs.Heading.{named-binary}
+use borrow.Author.Needs.{needs}
+use Rattle.lines.proofs.is_binary.Statement.{statement}
+use Rattle.lines.proofs.is_binary.Tie as tie
+
+is-named-requires : tie.Need-is-named-requires
+is-named-requires c κs = search needs
+
+returns : tie.Need-returns
+returns c = c .is-named .ensures ∙ named-binary (c .before .before .args .s .now)
+
+pub is-binary-spec : {M : Type 1} → statement M
+is-binary-spec = tie.close (tie.spec is-named-requires returns)

@@ -1,0 +1,4 @@
+pub mod Lines
+pub mod Literals
+pub mod Parts
+pub mod Binary

@@ -1,0 +1,294 @@
+-- `sections::read_binary` meets its contract: inputs, latches, one run of lines and gates, each stored where the layout says. Assumes nothing.
+use mathlib.Core.Path.{_≡_, sym, _∙_, subst}
+use mathlib.Core.List.{List, _++_}
+use native.Mathlib.Omega.{arith}
+use Prim.Native.Nat.{ℕ, _+_, _≤_}
+use borrow.Author.Needs.{needs}
+use borrow.Author.Tests.{not-true, not-false}
+use lib.ListN.{length, take, drop}
+use Rattle.aiger.specs.Binary.{implied}
+use Rattle.lines.specs.Lines.{RowsAt}
+use Rattle.lines.specs.declared.Rows.{Rows}
+use Rattle.binary.specs.Sections.{LatchesAt, GatesAt}
+use Rattle.binary.specs.declared.Gates.{Gates}
+use Rattle.sections.proofs.Parts.{Placed, placed, inputs-room}
+use Rattle.sections.proofs.Binary.{bad-latches, bad-roots, bad-gates, bad-tail, made, body-made, stored, large}
+use Rattle.sections.proofs.read_binary.Statement.{statement}
+use Rattle.sections.proofs.read_binary.Tie as tie
+
+-- for each call: the function's entry, the words after it, their number, and the answer, which is the variant that the match found
+
+abbrev start2 : tie.After-read-latches → tie.Start
+start2 n = n .before .before .before .before .before .before .before .before .before .before
+
+abbrev words1 : tie.After-read-latches → List ℕ
+words1 n = n .before .before .before .before .before .before .store-implied .last .0
+
+size1 : (n : tie.After-read-latches) → length (words1 n) ≡ length (start2 n .args .words .now)
+size1 n = n .before .before .before .before .before .before .store-implied .kept .0
+
+run1 : (n : tie.After-read-latches)
+    → let a = start2 n .args in
+    words1 n ≡ take 7 (a .words .now) ++ implied 1 (a .p .i) ++ drop (7 + a .p .i) (a .words .now)
+run1 n = n .before .before .before .before .before .before .store-implied .ensures
+
+abbrev words2 : tie.After-read-latches → List ℕ
+words2 n = n .read-latches .last .1 .1 .1 .1 .1 .0
+
+size2 : (n : tie.After-read-latches) → length (words2 n) ≡ length (start2 n .args .words .now)
+size2 n = n .read-latches .kept .1 .1 .1 .1 .1 .0 ∙ size1 n
+
+run2 : (n : tie.After-read-latches) (r : Rows) → n .read-latches .result ≡ r
+    → let a = start2 n .args in
+    LatchesAt (a .s .now) (a .at) (a .p .l) (a .p .i + 1) (a .limit) (words1 n) (a .p .latches) (words2 n) r
+run2 n r e =
+    let a = start2 n .args in
+    subst (λ (v : ℕ). LatchesAt (a .s .now) (a .at) (a .p .l) v (a .limit) (words1 n) (a .p .latches) (words2 n) r) (n .before .before .variable .ensures)
+    (rw (← e) (n .read-latches .ensures))
+
+-- the place after the latches
+abbrev T2 : tie.After-read-rows → tie.After-at
+T2 n = n .before .before .before .before .before
+
+abbrev before3 : tie.After-read-rows → tie.After-read-latches
+before3 n = T2 n .before .before .before .before
+
+abbrev start3 : tie.After-read-rows → tie.Start
+start3 n = start2 (before3 n)
+
+abbrev words3 : tie.After-read-rows → List ℕ
+words3 n = n .read-rows .last .1 .1 .1 .1 .1 .1 .0
+
+size3 : (n : tie.After-read-rows) → length (words3 n) ≡ length (start3 n .args .words .now)
+size3 n = n .read-rows .kept .1 .1 .1 .1 .1 .1 .0 ∙ size2 (before3 n)
+
+run3 : (n : tie.After-read-rows) (r : Rows) → n .read-rows .result ≡ r
+    → let a = start3 n .args in
+    RowsAt (a .s .now) (T2 n .at .given .0 .0) 1 1 (a .p .o + a .p .b + a .p .c) (a .limit) (words2 (before3 n)) (a .p .outputs) (words3 n) r
+run3 n r e = rw (← e) (n .read-rows .ensures)
+
+-- the place after the roots
+abbrev T3 : tie.After-read-gates → tie.After-at2
+T3 n = n .before .before .before .before .before
+
+abbrev before4 : tie.After-read-gates → tie.After-read-rows
+before4 n = T3 n .before .before .before .before
+
+abbrev start4 : tie.After-read-gates → tie.Start
+start4 n = start3 (before4 n)
+
+abbrev words4 : tie.After-read-gates → List ℕ
+words4 n = n .read-gates .last .1 .1 .1 .1 .0
+
+size4 : (n : tie.After-read-gates) → length (words4 n) ≡ length (start4 n .args .words .now)
+size4 n = n .read-gates .kept .1 .1 .1 .1 .0 ∙ size3 (before4 n)
+
+run4 : (n : tie.After-read-gates) (r : Gates) → n .read-gates .result ≡ r
+    → let a = start4 n .args in
+    GatesAt (a .s .now) (T3 n .at2 .given .0 .0) (a .p .a) (a .p .i + a .p .l + 1) (words3 (before4 n)) (a .p .gates) (words4 n) r
+run4 n r e =
+    let a = start4 n .args in
+    subst (λ (v : ℕ). GatesAt (a .s .now) (T3 n .at2 .given .0 .0) (a .p .a) v (words3 (before4 n)) (a .p .gates) (words4 n) r) (n .before .before .variable2 .ensures)
+    (rw (← e) (n .read-gates .ensures))
+
+few : (i l a : ℕ) → i + l + a ≤ 4096 → 1 + i ≤ 10000
+few i l a h = omega arith
+
+-- the parts of the layout
+places : (s : tie.Start) → Placed (s .args .p) (length (s .args .words .now))
+places s = placed (s .args .p) (s .pre .1 .0) (s .pre .1 .1 .0)
+
+store-implied-requires : tie.Need-store-implied-requires
+store-implied-requires c κs =
+    let s = c .before .before .before in
+    (inputs-room (places s), few (s .args .p .i) (s .args .p .l) (s .args .p .a) (s .pre .1 .1 .1 .1 .0))
+
+add-variable : tie.Need-add-variable
+add-variable c = search needs
+
+variable-requires : tie.Need-variable-requires
+variable-requires c κs = search needs
+
+read-latches-requires : tie.Need-read-latches-requires
+read-latches-requires c κs = search needs
+
+enum-known-at : tie.Need-enum-known-at
+enum-known-at c = search needs
+
+enum-told : tie.Need-enum-told
+enum-told c = search needs
+
+same-length : tie.Need-same-length
+same-length c = search needs
+
+returns : tie.Need-returns
+returns c =
+    let n = c .before .before .before .before in
+    let s = start2 n in
+    let a = s .args in
+    bad-latches (a .s .now) (a .at) (a .p) (a .limit) (a .words .now) (s .pre .1 .0) (run2 n _ (c .enum-told .given .1))
+
+add-roots : tie.Need-add-roots
+add-roots c =
+    let n = c .before .before .before .before .before .before in
+    omega (arith, start2 n .pre .1 .1 .1 .1 .1)
+
+add-roots-2 : tie.Need-add-roots-2
+add-roots-2 c =
+    let n = c .before .before .before .before .before .before .before in
+    omega (arith, start2 n .pre .1 .1 .1 .1 .1)
+
+read-rows-requires : tie.Need-read-rows-requires
+read-rows-requires c κs =
+    let t = c .before .before .before .before in
+    let n = t .before .before .before .before in
+    (run2 n _ (t .at .given .1) .inside, (omega arith, omega (arith, places (start2 n), size2 n)))
+
+enum-known-at-2 : tie.Need-enum-known-at-2
+enum-known-at-2 c = search needs
+
+enum-told-2 : tie.Need-enum-told-2
+enum-told-2 c = search needs
+
+same-length-2 : tie.Need-same-length-2
+same-length-2 c = search needs
+
+returns-2 : tie.Need-returns-2
+returns-2 c =
+    let n = c .before .before .before .before in
+    let s = start3 n in
+    let a = s .args in
+    let m = before3 n in
+    bad-roots (a .s .now) (a .at) (a .p) (a .limit) (a .words .now) (s .pre .1 .0) (run1 m) (run2 m _ (T2 n .at .given .1)) (run3 n _ (c .enum-told2 .given .1))
+
+add-variable-2 : tie.Need-add-variable-2
+add-variable-2 c = omega (arith, start3 (c .before .before .before .before .before .before) .pre .1 .1 .1 .1 .0)
+
+add-variable-3 : tie.Need-add-variable-3
+add-variable-3 c = omega (arith, start3 (c .before .before .before .before .before .before) .pre .1 .1 .1 .1 .0)
+
+variable-requires-2 : tie.Need-variable-requires-2
+variable-requires-2 c κs = omega (arith, start3 (c .before .before .before .before .before .before) .pre .1 .1 .1 .1 .0)
+
+read-gates-requires : tie.Need-read-gates-requires
+read-gates-requires c κs =
+    let t = c .before .before .before .before in
+    let n = t .before .before .before .before in
+    let s = start3 n in (
+      run3 n _ (t .at2 .given .1) .inside,
+      (omega (arith, places s, size3 n), omega (arith, s .pre .1 .1 .1 .1 .0, c .before .variable2 .ensures)),
+    )
+
+enum-known-end : tie.Need-enum-known-end
+enum-known-end c = search needs
+
+enum-told-3 : tie.Need-enum-told-3
+enum-told-3 c = search needs
+
+same-length-3 : tie.Need-same-length-3
+same-length-3 c = size4 (c .before .before .before .before)
+
+returns-3 : tie.Need-returns-3
+returns-3 c =
+    let n = c .before .before .before .before in
+    let s = start4 n in
+    let a = s .args in
+    let k = before4 n in
+    let m = before3 k in
+    bad-gates (a .s .now) (a .at) (a .p) (a .limit) (a .words .now) (s .pre .1 .0) (run1 m) (run2 m _ (T2 k .at .given .1))
+    (run3 k _ (T3 n .at2 .given .1)) (run4 n _ (c .enum-told3 .given .1))
+
+is-tail-requires : tie.Need-is-tail-requires
+is-tail-requires c κs = search needs
+
+same-length-4 : tie.Need-same-length-4
+same-length-4 c = size4 (c .before .before .before .before .before .before .before)
+
+returns-4 : tie.Need-returns-4
+returns-4 c =
+    let t = c .before .before .before in
+    let n = t .before .before .before .before in
+    let s = start4 n in
+    let a = s .args in
+    let k = before4 n in
+    let m = before3 k in
+    let r2 = run2 m _ (T2 k .at .given .1) in
+    let r3 = run3 k _ (T3 n .at2 .given .1) in
+    let r4 = run4 n _ (t .end .given .1) in
+    bad-tail (a .s .now) (a .at) (a .p) (a .limit) (a .words .now) (s .pre .1 .0) (run1 m) r2 r3 r4 (sym (c .before .is-tail .ensures) ∙ not-true _ (c .if1 .taken))
+
+same-length-5 : tie.Need-same-length-5
+same-length-5 c = size4 (c .before .before .before .before .before .before .before .before)
+
+returns-5 : tie.Need-returns-5
+returns-5 c =
+    let t = c .before .before .before .before in
+    let n = t .before .before .before .before in
+    let s = start4 n in
+    let a = s .args in
+    let k = before4 n in
+    let m = before3 k in
+    let r2 = run2 m _ (T2 k .at .given .1) in
+    let r3 = run3 k _ (T3 n .at2 .given .1) in
+    let r4 = run4 n _ (t .end .given .1) in
+    let e = sym (c .before .before .is-tail .ensures) ∙ not-false _ (c .before .if1 .left) in (
+      made (a .s .now) (a .at) (a .p) (a .limit) (a .words .now) (s .pre .1 .0) (run1 m) r2 r3 r4,
+      body-made (a .s .now) (a .at) (a .p) (a .limit) (a .words .now) (s .pre .1 .0) (run1 m) r2 r3 r4 e,
+      drop (a .p .end) (words4 n),
+      stored (a .s .now) (a .at) (a .p) (a .limit) (a .words .now) (s .pre .1 .0) (run1 m) r2 r3 r4 (places s) (omega (arith, s .pre .1 .1 .0)) (c .if2 .taken),
+    )
+
+same-length-6 : tie.Need-same-length-6
+same-length-6 c = size4 (c .before .before .before .before .before .before .before .before)
+
+returns-6 : tie.Need-returns-6
+returns-6 c =
+    let t = c .before .before .before .before in
+    let n = t .before .before .before .before in
+    let s = start4 n in
+    let a = s .args in
+    let k = before4 n in
+    let m = before3 k in
+    let r2 = run2 m _ (T2 k .at .given .1) in
+    let r3 = run3 k _ (T3 n .at2 .given .1) in
+    let r4 = run4 n _ (t .end .given .1) in
+    let e = sym (c .before .before .is-tail .ensures) ∙ not-false _ (c .before .if1 .left) in (
+      made (a .s .now) (a .at) (a .p) (a .limit) (a .words .now) (s .pre .1 .0) (run1 m) r2 r3 r4,
+      body-made (a .s .now) (a .at) (a .p) (a .limit) (a .words .now) (s .pre .1 .0) (run1 m) r2 r3 r4 e,
+      large (a .s .now) (a .at) (a .p) (a .limit) (a .words .now) (s .pre .1 .0) (run1 m) r2 r3 r4 (omega (arith, s .pre .1 .0, s .pre .1 .1 .1 .0)) (c .if2 .left),
+    )
+
+pub read-binary-spec : {M : Type 1} → statement M
+read-binary-spec =
+    tie.close
+    (tie.spec
+    store-implied-requires
+    add-variable
+    variable-requires
+    read-latches-requires
+    enum-known-at
+    enum-told
+    same-length
+    returns
+    add-roots
+    add-roots-2
+    read-rows-requires
+    enum-known-at-2
+    enum-told-2
+    same-length-2
+    returns-2
+    add-variable-2
+    add-variable-3
+    variable-requires-2
+    read-gates-requires
+    enum-known-end
+    enum-told-3
+    same-length-3
+    returns-3
+    is-tail-requires
+    same-length-4
+    returns-4
+    same-length-5
+    returns-5
+    same-length-6
+    returns-6)

@@ -1,0 +1,25 @@
+-- What reading the sections of a file answers and stores. Assumes nothing.
+use mathlib.Core.Path.{_≡_}
+use mathlib.Core.Bool.{Bool, false}
+use mathlib.Core.List.{List, _++_}
+use Prim.Native.Nat.{ℕ}
+use Rattle.aiger.specs.Circuit.{Circuit, literalsRight}
+use Rattle.aiger.specs.File.{Header}
+use Rattle.aiger.specs.Load.{refused, gives, sections}
+use Rattle.aiger.specs.Memory.{content}
+use Rattle.layout.specs.Words.{word}
+use Rattle.sections.specs.declared.Body.{Body}
+use Rattle.sections.specs.declared.Body.the-variants.{Read, Large, Malformed, Damaged}
+
+-- the counts that the first seven words encode
+abbrev pub headerAt : List ℕ → Header
+headerAt w =
+    record { M = word w 0; I = word w 1; L = word w 2; O = word w 3; A = word w 4; B = word w 5; C = word w 6; J = 0; F = 0 }
+
+-- the sections g after a header h, and the words w that they left: the circuit's content at the front, a circuit with a literal that is
+-- too large, a malformed line or tail, or a damaged gate
+abbrev pub BodyAt : Bool → Header → List ℕ → List ℕ → Body → Type 0
+BodyAt binary h g w Read = (c : Circuit) × (sections binary h g ≡ gives c) × (r : List ℕ) × (w ≡ content c ++ r)
+BodyAt binary h g w Large = (c : Circuit) × (sections binary h g ≡ gives c) × (literalsRight c ≡ false)
+BodyAt binary h g w Malformed = sections binary h g ≡ refused 5
+BodyAt binary h g w Damaged = sections binary h g ≡ refused 15

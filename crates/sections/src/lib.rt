@@ -1,0 +1,120 @@
+// The sections of an AIGER file after its header, in text form and in binary form, read into words as circuit memory has them.
+use binary::Gates;
+use layout::Layout;
+use lines::Rows;
+use lines::read_rows;
+ghost use mathlib.Core.Path.{_≡_};
+ghost use mathlib.Core.Bool.{true, false};
+ghost use Prim.Native.Nat.{_+_, _*_, _≤_};
+ghost use lib.ListN.{length, drop};
+ghost use Rattle.layout.specs.Words.{word, contentEnd};
+ghost use Rattle.layout.specs.Layout.{PlacesOf};
+ghost use Rattle.sections.specs.Sections.{headerAt, BodyAt};
+
+// The sections of a file: read and stored; read, with a number above the limit; a line or the tail malformed; or a gate of the binary form
+// damaged.
+pub enum Body {
+    Read,
+    Large,
+    Malformed,
+    Damaged,
+}
+
+// Reads the lines after a header in text form, and stores their numbers after the counts, which words has.
+fn read_text(s: &[u8], at: usize, p: Layout, limit: u32, words: &mut [u32]) -> Body
+    requires { ⌜ at ≤ length (now s) ⌝ }
+    requires { ⌜ PlacesOf (now words) p ⌝ }
+    requires { ⌜ contentEnd (now words) ≤ length (now words) ⌝ }
+    requires { ⌜ limit ≡ 2 * word (now words) 0 + 1 ⌝ }
+    ensures { λ r. ⌜ BodyAt false (headerAt (now (words .entry))) (drop at (now (s .entry))) (now (words .exit)) r ⌝ }
+{
+    let Rows::Read(at, inputs) = read_rows(s, at, 1, 1, p.i, limit, words, 7) else {
+        return Body::Malformed;
+    };
+    let Rows::Read(at, latches) = read_rows(s, at, 2, 3, p.l, limit, words, p.latches) else {
+        return Body::Malformed;
+    };
+    let Rows::Read(at, outputs) = read_rows(s, at, 1, 1, p.o, limit, words, p.outputs) else {
+        return Body::Malformed;
+    };
+    let Rows::Read(at, bads) = read_rows(s, at, 1, 1, p.b, limit, words, p.bads) else {
+        return Body::Malformed;
+    };
+    let Rows::Read(at, constraints) = read_rows(s, at, 1, 1, p.c, limit, words, p.constraints)
+    else {
+        return Body::Malformed;
+    };
+    let Rows::Read(at, gates) = read_rows(s, at, 3, 3, p.a, limit, words, p.gates) else {
+        return Body::Malformed;
+    };
+    if !lines::is_tail(s, at) {
+        return Body::Malformed;
+    }
+    if inputs & latches & outputs & bads & constraints & gates {
+        return Body::Read;
+    }
+    Body::Large
+}
+
+// A count that is a variable number.
+fn variable(n: usize) -> u32
+    requires { ⌜ n ≤ 5000 ⌝ }
+    ensures { λ r. ⌜ r ≡ n ⌝ }
+{
+    n as u32
+}
+
+// Reads what follows a header in binary form, and stores it after the counts, which words has. Outputs, bad lines and constraints are one
+// run of lines.
+fn read_binary(s: &[u8], at: usize, p: Layout, limit: u32, words: &mut [u32]) -> Body
+    requires { ⌜ at ≤ length (now s) ⌝ }
+    requires { ⌜ PlacesOf (now words) p ⌝ }
+    requires { ⌜ contentEnd (now words) ≤ length (now words) ⌝ }
+    requires { ⌜ limit ≡ 2 * word (now words) 0 + 1 ⌝ }
+    requires { ⌜ (p .i + p .l + p .a ≤ 4096) × (p .o + p .b + p .c ≤ 96) ⌝ }
+    ensures { λ r. ⌜ BodyAt true (headerAt (now (words .entry))) (drop at (now (s .entry))) (now (words .exit)) r ⌝ }
+{
+    binary::store_implied(words, 7, 1, p.i);
+    let latch = variable(p.i + 1);
+    let Rows::Read(at, latches) = binary::read_latches(s, at, p.l, latch, limit, words, p.latches)
+    else {
+        return Body::Malformed;
+    };
+    let roots = p.o + p.b + p.c;
+    let Rows::Read(at, fit) = read_rows(s, at, 1, 1, roots, limit, words, p.outputs) else {
+        return Body::Malformed;
+    };
+    let gate = variable(p.i + p.l + 1);
+    let Gates::Read(end) = binary::read_gates(s, at, p.a, gate, words, p.gates) else {
+        return Body::Damaged;
+    };
+    if !lines::is_tail(s, end) {
+        return Body::Malformed;
+    }
+    if latches & fit {
+        return Body::Read;
+    }
+    Body::Large
+}
+
+// Reads the sections after a header, in binary or text form, and stores their numbers after the counts, which words has.
+pub fn read_sections(
+    s: &[u8],
+    at: usize,
+    binary: bool,
+    p: Layout,
+    limit: u32,
+    words: &mut [u32],
+) -> Body
+    requires { ⌜ at ≤ length (now s) ⌝ }
+    requires { ⌜ PlacesOf (now words) p ⌝ }
+    requires { ⌜ contentEnd (now words) ≤ length (now words) ⌝ }
+    requires { ⌜ limit ≡ 2 * word (now words) 0 + 1 ⌝ }
+    requires { ⌜ (p .i + p .l + p .a ≤ 4096) × (p .o + p .b + p .c ≤ 96) ⌝ }
+    ensures { λ r. ⌜ BodyAt binary (headerAt (now (words .entry))) (drop at (now (s .entry))) (now (words .exit)) r ⌝ }
+{
+    if binary {
+        return read_binary(s, at, p, limit, words);
+    }
+    read_text(s, at, p, limit, words)
+}
