@@ -1,6 +1,6 @@
 -- The frames of a block of completions, one after the other: the words of the variables are the values of a frame. Assumes nothing.
 use mathlib.Core.Path.{_≡_, refl, sym, ap, ap₂, _∙_, subst}
-use mathlib.Core.Bool.{Bool, false, _&&_}
+use mathlib.Core.Bool.{Bool, true, false, _&&_}
 use mathlib.Core.List.{List, []}
 use Prim.Native.Nat.{ℕ, zero, suc, _+_, _-_, _*_, _≤_, _<_}
 use native.Mathlib.Nat.{suc-mul, mul-le-mul-left, mul-le-mul-right}
@@ -10,7 +10,7 @@ use lib.Dec.{eqb}
 use lib.ListN.{length, getD}
 use Rattle.aiger.specs.Bits.{bit}
 use Rattle.aiger.specs.Circuit.{Circuit, var}
-use Rattle.aiger.specs.Frames.{Run, state, hits}
+use Rattle.aiger.specs.Frames.{Run, state, constrained, allowed, hits}
 use Rattle.aiger.specs.Witness.{agrees}
 use Rattle.completions.specs.Either.{completion}
 use Rattle.layout.specs.Words.{word, circuitIn}
@@ -19,11 +19,12 @@ use Rattle.words.proofs.Bits.{bit-none, bit-and}
 use Rattle.meaning.specs.Frame.{inputAt, latchAt, Valuation}
 use Rattle.meaning.proofs.Defined.{input-in, latch-in, definition, input-latch}
 use Rattle.meaning.proofs.Values.{state-start}
-use Rattle.frames.specs.Lanes.{lane, Ready, Apart, Evaluated, Advanced, hitIn}
+use Rattle.meaning.proofs.Allowed.{allowed-first, allowed-next, barred}
+use Rattle.frames.specs.Lanes.{lane, Ready, Apart, Evaluated, Advanced, badIn}
 use Rattle.frames.proofs.Facts.{right, known, no-cycle, latches-are, latch-place}
-use Rattle.frames.proofs.Laws.{hit-of-run, next-latch, next-constant}
-use Rattle.enumeration.specs.Blocks.{Given}
-use Rattle.enumeration.proofs.Facts.{inputs-are, input-var, input-small, inputs-differ, latch-var}
+use Rattle.frames.proofs.Laws.{constrained-of-run, hit-of-run, next-latch, next-constant}
+use Rattle.enumeration.specs.Blocks.{Given, Constrained}
+use Rattle.frames.proofs.Places.{inputs-are, input-var, input-small, inputs-differ, latch-var}
 use Rattle.witness.specs.Line.{values}
 use Rattle.witness.proofs.Lines.{value-at, values-length}
 use Rattle.blocks.specs.Runs.{lineBit, Latches, Started, FrameGiven, RunAt}
@@ -47,6 +48,20 @@ abbrev pub Valued : List ℕ → List ℕ → ℕ → ℕ → ℕ → List ℕ �
 Valued m body block frames t words =
     (p : ℕ) → p < 64 → (r : Run) → RunAt (circuitIn m) (laneText body block p) frames r
     → Valuation (circuitIn m) (getD (r .rows) t []) (state (circuitIn m) r t) (lane words p)
+
+-- `left` are the completions that start as the resets say and are allowed at frame t
+abbrev pub Left : List ℕ → List ℕ → ℕ → ℕ → ℕ → ℕ → Type 0
+Left m body block frames t left =
+    (p : ℕ) → p < 64 → (r : Run) → RunAt (circuitIn m) (laneText body block p) frames r
+    → bit left p ≡ (agrees (circuitIn m .latches) (r .start) && allowed (circuitIn m) r t)
+
+and-assoc : (a b d : Bool) → ((a && b) && d) ≡ (a && (b && d))
+and-assoc true b d = refl
+and-assoc false b d = refl
+
+neither : (a b d : Bool) → false ≡ (a && b) → (b ≡ false → d ≡ false) → false ≡ (a && d)
+neither true b d e f = sym (f (sym e))
+neither false b d e f = refl
 
 module _ {m : List ℕ} {layout : Layout} {order : List ℕ} {count : ℕ} (R : Ready m layout order count) where
   abbrev c : Circuit
@@ -140,13 +155,35 @@ module _ {m : List ℕ} {layout : Layout} {order : List ℕ} {count : ℕ} (R : 
         (g p l (state c r (suc t)) (next-constant (right (R .held)) (known (R .held)) (no-cycle (R .held)) r t d p l v)
         (next-latch (right (R .held)) (known (R .held)) (no-cycle (R .held)) r t d p l v))
 
-    -- whether the start agrees and frame t is a hit
-    pub valued-hit : (t b agree x : ℕ) (begun words : List ℕ) → Started c body block begun
+    -- the completions that start as the resets say and are allowed at frame t: at frame 0, and at the frame after t
+    pub left-start : (agree left : ℕ) (begun words : List ℕ) → Started c body block begun
         → ((p : ℕ) → p < 64 → (start : List Bool) → Latches c start (lane begun p) → bit agree p ≡ agrees (c .latches) start)
-        → Valued m body block frames t words → ((p : ℕ) → p < 64 → bit x p ≡ hitIn c b (lane words p))
-        → (p : ℕ) → p < 64 → (r : Run) → RunAt c (laneText body block p) frames r → bit (bitAnd agree x) p ≡ (agrees (c .latches) (r .start) && hits c b r t)
-    valued-hit t b agree x begun words s a w h p l r q =
-        bit-and agree x p
+        → Valued m body block frames 0 words → Constrained c agree words left → Left m body block frames 0 left
+    left-start agree left begun words s a w h p l r q =
+        h p l
         ∙ ap₂ (λ (u v : Bool). u && v)
         (a p l (values (laneText body block p) 0 (length (c .latches))) (s .latches p l) ∙ ap (agrees (c .latches)) (sym (q .start-is)))
-        (h p l ∙ hit-of-run (right (R .held)) (known (R .held)) (no-cycle (R .held)) r t (w p l r q) b)
+        (constrained-of-run (right (R .held)) (known (R .held)) (no-cycle (R .held)) r 0 (w p l r q) ∙ sym (allowed-first c r))
+
+    pub left-next : (t from left : ℕ) (words : List ℕ) → Left m body block frames t from → Valued m body block frames (suc t) words → Constrained c from words left
+        → Left m body block frames (suc t) left
+    left-next t from left words f w h p l r q =
+        h p l
+        ∙ ap₂ (λ (u v : Bool). u && v) (f p l r q) (constrained-of-run (right (R .held)) (known (R .held)) (no-cycle (R .held)) r (suc t) (w p l r q))
+        ∙ and-assoc (agrees (c .latches) (r .start)) (allowed c r t) (constrained c r (suc t))
+        ∙ ap (λ (v : Bool). agrees (c .latches) (r .start) && v) (sym (allowed-next c r t))
+
+    -- whether the start agrees and frame t is a hit
+    pub valued-hit : (t b left bad : ℕ) (words : List ℕ) → Left m body block frames t left → Valued m body block frames t words
+        → ((p : ℕ) → p < 64 → bit bad p ≡ badIn c b (lane words p))
+        → (p : ℕ) → p < 64 → (r : Run) → RunAt c (laneText body block p) frames r → bit (bitAnd left bad) p ≡ (agrees (c .latches) (r .start) && hits c b r t)
+    valued-hit t b left bad words f w h p l r q =
+        bit-and left bad p ∙ ap₂ (λ (u v : Bool). u && v) (f p l r q) (h p l)
+        ∙ and-assoc (agrees (c .latches) (r .start)) (allowed c r t) (badIn c b (lane words p))
+        ∙ ap (λ (v : Bool). agrees (c .latches) (r .start) && v) (hit-of-run (right (R .held)) (known (R .held)) (no-cycle (R .held)) r t (w p l r q) b)
+
+    -- where none is left at a frame, none hits there or later
+    pub none-left : (t u b : ℕ) → u ≤ t → Left m body block frames u 0
+        → (p : ℕ) → p < 64 → (r : Run) → RunAt c (laneText body block p) frames r → bit 0 p ≡ (agrees (c .latches) (r .start) && hits c b r t)
+    none-left t u b k f p l r q =
+        bit-none p ∙ neither (agrees (c .latches) (r .start)) (allowed c r u) (hits c b r t) (sym (bit-none p) ∙ f p l r q) (barred c r b t u k)

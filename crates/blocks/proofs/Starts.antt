@@ -53,11 +53,10 @@ latchAgrees m latches values p j =
 
 pub agrees-end : {m : List ℕ} {layout : Layout} {order : List ℕ} {count : ℕ} → Ready m layout order count → (values : List ℕ) (p : ℕ) (start : List Bool)
     → Latches (circuitIn m) start (lane values p)
-    → (everyBelow (layout .l) (latchAgrees m (layout .latches) values p) && true) ≡ agrees (circuitIn m .latches) start
+    → everyBelow (layout .l) (latchAgrees m (layout .latches) values p) ≡ agrees (circuitIn m .latches) start
 agrees-end {m} {layout} R values p start s =
     let ls = circuitIn m .latches in
-    and-true (everyBelow (layout .l) (latchAgrees m (layout .latches) values p))
-    ∙ below-same (layout .l) (latchAgrees m (layout .latches) values p)
+    below-same (layout .l) (latchAgrees m (layout .latches) values p)
     (λ j. agreesOne (getD ls j noLatch .lit) (getD ls j noLatch .reset) (getD start j false))
     (λ j l.
     let e : latchAt (circuitIn m) j ≡ latchIn m (layout .latches + 3 * j) = latch-place R j l in

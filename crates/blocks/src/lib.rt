@@ -171,7 +171,8 @@ fn put_starts(
     put_line(m, latches, body, 0, 0, block, values)
 }
 
-// Which completions of a block start as the resets say and hit in their last frame.
+// Which completions of a block start as the resets say and hit in their last frame. The frames after one by which none is left that starts
+// so and breaks no constraint are not evaluated.
 fn block_word(
     m: &[u32],
     layout: Layout,
@@ -196,14 +197,19 @@ fn block_word(
     let agree = agree_word(m, layout, order, values);
     let mut at = layout.l + 1;
     seen = put_frame(m, layout, order, body, at, seen, block, values);
+    let mut left = frames::constrain(m, layout, order, agree, values);
     let mut u = 1;
     while u < frames {
+        if left == 0 {
+            return 0;
+        }
         frames::advance(m, layout, order, values, state);
         at += width;
         seen = put_frame(m, layout, order, body, at, seen, block, values);
+        left = frames::constrain(m, layout, order, left, values);
         u += 1;
     }
-    agree & frames::hit_word(m, layout, order, q.bad, values)
+    left & frames::bad_word(m, layout, order, q.bad, values)
 }
 
 // The word whose bits are all b.

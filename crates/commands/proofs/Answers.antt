@@ -1,22 +1,21 @@
 -- From what the operations answer to what is printed. Assumes nothing.
 use mathlib.Core.Path.{_≡_, refl, sym, ap, _∙_, subst}
-use mathlib.Core.Bool.{Bool}
 use mathlib.Core.List.{List}
 use Prim.Native.Nat.{ℕ, _≤_}
 use native.Mathlib.Omega.{arith}
-use borrow.Author.Tests.{le-leb}
-use lib.Dec.{leb}
 use lib.ListN.{length}
 use Rattle.aiger.specs.Circuit.{Circuit}
-use Rattle.aiger.specs.Load.{Answer, refused, gives, test, load}
+use Rattle.aiger.specs.Load.{Answer, refused, gives, load}
 use Rattle.aiger.specs.Write.{write}
 use Rattle.aiger.specs.Memory.{Holds}
-use Rattle.aiger.specs.Operations.{front, foldTests, Folded, Replayed, Written}
+use Rattle.aiger.specs.Operations.{front, Folded, Written}
+use Rattle.completions.specs.Either.{Verdict}
+use Rattle.completions.specs.Operations.{EitherReplayed}
 use Rattle.layout.specs.Words.{circuitIn}
 use Rattle.roundtrip.proofs.LoadWrite.{text-short}
 use Rattle.roundtrip.proofs.LoadValid.{gives-same}
-use Rattle.roundtrip.proofs.Holding.{held, held-valid, one-circuit}
-use Rattle.roundtrip.proofs.Determined.{written-same, replayed-same}
+use Rattle.roundtrip.proofs.Holding.{held, held-valid}
+use Rattle.roundtrip.proofs.Determined.{written-same, written-in, acted, refused-as}
 use Rattle.job.proofs.Printing.{Stored}
 use Rattle.fold.specs.Chosen.{chosen}
 use Rattle.replies.specs.Refusal.{refusalText}
@@ -27,7 +26,7 @@ use Rattle.commands.specs.Texts.{
   written,
   writeReply,
   textOf,
-  yesText,
+  verdictText,
   replayAnswer,
   replayText,
   foldedReply,
@@ -36,14 +35,14 @@ use Rattle.commands.specs.Texts.{
 
 -- write, on a loaded circuit
 module _ {m out out′ : List ℕ} {a : Answer ℕ} (h : Holds m (circuitIn m)) (room : 65536 ≤ length out) (w : Written m out a out′) where
-  fits : test 13 (leb (length (write (circuitIn m))) (length out)) ≡ gives tt
-  fits = rw (le-leb (length (write (circuitIn m))) (length out) (omega (arith, text-short (held-valid h))))
+  fits : Written m out (gives (length (write (circuitIn m)))) (front (write (circuitIn m)) out)
+  fits = written-in (circuitIn m) h (omega (arith, text-short (held-valid h)))
 
   pub write-gives : a ≡ gives (length (write (circuitIn m)))
-  write-gives = written-same w (Written.writes (circuitIn m) h fits) .0
+  write-gives = written-same w fits .0
 
   pub write-leaves : out′ ≡ front (write (circuitIn m)) out
-  write-leaves = written-same w (Written.writes (circuitIn m) h fits) .1
+  write-leaves = written-same w fits .1
 
   pub write-shown : (line : List ℕ) {n : ℕ} → a ≡ gives n
       → Leaves (written (circuitIn m)) line out (record { line = 0; out = n }) line out′
@@ -57,35 +56,31 @@ module _ {m out out′ : List ℕ} {a : Answer ℕ} (h : Holds m (circuitIn m)) 
       omega arith
 
 -- replay, on a loaded circuit
-pub replay-says : {m text : List ℕ} {a : Answer Bool} → Holds m (circuitIn m) → Replayed m text a → a ≡ replayAnswer (circuitIn m) text
-replay-says {m} h r = replayed-same r (Replayed.says (circuitIn m) h)
+pub replay-says : {m text : List ℕ} {a : Answer Verdict} → Holds m (circuitIn m) → EitherReplayed m text a → a ≡ replayAnswer (circuitIn m) text
+replay-says {a = refused n} h r = rw (refused-as h r refl .0)
+replay-says {a = gives v} h r = let e = acted h r refl in rw (e .0, e .1 .reads) (ap gives (e .1 .judged))
 
-pub replay-shown : {m text : List ℕ} {a b : Answer Bool} {line : List ℕ} {n : ℕ} {line′ : List ℕ} → Holds m (circuitIn m)
-    → Replayed m text a → a ≡ b → Fronts (textOf yesText b) line n line′
-    → Fronts (textOf yesText (replayAnswer (circuitIn m) text)) line n line′
+pub replay-shown : {m text : List ℕ} {a b : Answer Verdict} {line : List ℕ} {n : ℕ} {line′ : List ℕ} → Holds m (circuitIn m)
+    → EitherReplayed m text a → a ≡ b → Fronts (textOf verdictText b) line n line′
+    → Fronts (textOf verdictText (replayAnswer (circuitIn m) text)) line n line′
 replay-shown {line = line} {n = n} {line′ = line′} h r e s =
-    subst (λ (x : Answer Bool). Fronts (textOf yesText x) line n line′) (sym e ∙ replay-says h r) s
+    subst (λ (x : Answer Verdict). Fronts (textOf verdictText x) line n line′) (sym e ∙ replay-says h r) s
 
 -- fold, on a loaded circuit
 pub fold-refusal-left : {m w out w′ out′ : List ℕ} {c : Circuit} {b t : ℕ} {a : Answer ℕ} {n : ℕ} {line : List ℕ} {r : Report} {line′ : List ℕ}
     → Holds m c → Folded chosen m b t w out a w′ out′ → a ≡ refused n → Fronts (refusalText n) line (r .line) line′ → r .out ≡ 0
     → Leaves (foldedReply c b t (length w) (length out)) line out r line′ out′
 unfolding foldedReply
-fold-refusal-left {c = c} h (Folded.noCircuit f) e p q = absurd (f c h)
-fold-refusal-left {w = w} {out = out} {c = c} {b = b} {t = t} {n = n} h (Folded.refuses d {n = j} k z) e p q =
-    let y : j ≡ n = cc in
-    let x : foldTests c b t (length w) (length out) ≡ refused n = rw (one-circuit h k) (z ∙ ap refused y) in
-    rw x (refused-leaves n out p q)
-fold-refusal-left h (Folded.writes d k z y l) e p q = let z : _≡_ {A = ℕ} 0 1 = cc in absurd (omega arith)
+fold-refusal-left {out = out} {n = n} h f e p q =
+    let x = refused-as h f e in
+    rw (x .0, ap (λ (s : List ℕ × List ℕ). s .1) (x .1)) (refused-leaves n out p q)
 
 pub fold-shown : {m w out w′ out′ : List ℕ} {c : Circuit} {b t : ℕ} {a : Answer ℕ} {n : ℕ} → Holds m c → Folded chosen m b t w out a w′ out′
     → (line : List ℕ) → a ≡ gives n → Leaves (foldedReply c b t (length w) (length out)) line out (record { line = 0; out = n }) line out′
 unfolding foldedReply
-fold-shown {c = c} h (Folded.noCircuit f) line e = absurd (f c h)
-fold-shown h (Folded.refuses d k q) line e = let z : _≡_ {A = ℕ} 0 1 = cc in absurd (omega arith)
-fold-shown h (Folded.writes d k q p l) line e =
-    rw (one-circuit h k, q)
-    (record { line-is = fronts-none line; out-is = record { long = sym (gives-same e); contents = refl } })
+fold-shown h f line e =
+    let x = acted h f e in
+    rw (x .0) (record { line-is = fronts-none line; out-is = record { long = x .1 .count; contents = x .1 .shows } })
 
 -- a file that is not loaded, and one that is
 module _ (m f : List ℕ) (room : length m ≡ 33032) where
@@ -111,9 +106,9 @@ module _ (m f : List ℕ) (room : length m ≡ 33032) where
     unfolding writeReply
     write-text = rw (rw room at (s .accepted)) (ap written same)
 
-    pub replay-text : (text : List ℕ) → textOf yesText (replayAnswer (circuitIn m′) text) ≡ replayText f text
+    pub replay-text : (text : List ℕ) → textOf verdictText (replayAnswer (circuitIn m′) text) ≡ replayText f text
     unfolding replayText
-    replay-text text = rw (rw room at (s .accepted)) (ap (λ (c : Circuit). textOf yesText (replayAnswer c text)) same)
+    replay-text text = rw (rw room at (s .accepted)) (ap (λ (c : Circuit). textOf verdictText (replayAnswer c text)) same)
 
     pub fold-text : (b t : ℕ) → foldedReply (circuitIn m′) b t 1048576 1572928 ≡ foldReply f b t
     unfolding foldReply

@@ -17,7 +17,7 @@ ghost use Rattle.commands.specs.Texts.{
   written,
   writeReply,
   textOf,
-  yesText,
+  verdictText,
   replayAnswer,
   replayText,
   foldedReply,
@@ -25,7 +25,7 @@ ghost use Rattle.commands.specs.Texts.{
 };
 
 // Writes the circuit in m.
-fn write_loaded(m: &[u32], out: &mut [u8], line: &mut [u8]) -> Report
+pub fn write_loaded(m: &[u32], out: &mut [u8], line: &mut [u8]) -> Report
     requires { ⌜ Holds (now m) (circuitIn (now m)) × (65536 ≤ length (now out)) × (128 ≤ length (now line)) ⌝ }
     ensures { λ r. ⌜
         Leaves (written (circuitIn (now (m .entry)))) (now (line .entry)) (now (out .entry)) r (now (line .exit)) (now (out .exit))
@@ -55,12 +55,13 @@ pub fn write(file: &[u8], m: &mut [u32], out: &mut [u8], line: &mut [u8]) -> Rep
 fn replay_loaded(m: &[u32], witness: &[u8], line: &mut [u8]) -> usize
     requires { ⌜ Holds (now m) (circuitIn (now m)) × (128 ≤ length (now line)) ⌝ }
     ensures { λ r. ⌜
-        Fronts (textOf yesText (replayAnswer (circuitIn (now (m .entry))) (now (witness .entry)))) (now (line .entry)) r (now (line .exit))
+        Fronts (textOf verdictText (replayAnswer (circuitIn (now (m .entry))) (now (witness .entry)))) (now (line .entry)) r (now (line .exit))
         ⌝ }
 {
     match replay::replay(m, witness) {
-        ReplayAnswer::Yes => replies::put(line, 0, b"yes\n"),
+        ReplayAnswer::All => replies::put(line, 0, b"all\n"),
         ReplayAnswer::No => replies::put(line, 0, b"no\n"),
+        ReplayAnswer::Mixed => replies::put(line, 0, b"mixed\n"),
         ReplayAnswer::Refused(n) => replies::write_refusal(line, n),
     }
 }

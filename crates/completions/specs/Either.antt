@@ -28,7 +28,7 @@ unfoldable pub completion : ℕ → List ℕ → List ℕ
 completion v [] = []
 completion v (c ∷ w) = cond (isEither c) (cond (odd v) 49 48) c ∷ completion (cond (isEither c) (v / 2) v) w
 
--- a text of n `x` has the completions 0 to 2 to the power n - 1: p holds of every one
+-- Clause 12.2: the completions of a text of n `x` are the numbers below 2 to the power n: p holds of every one
 unfoldable pub allPass : (List ℕ → Bool) → List ℕ → Bool
 allPass p w = everyBelow (2 ^ eithers w) (λ v. p (completion v w))
 

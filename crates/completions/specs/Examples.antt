@@ -1,15 +1,17 @@
 -- Examples of witnesses that hold `x` as one table, and the test of a row. Assumes nothing.
-use mathlib.Core.Bool.{Bool, false}
+use mathlib.Core.Bool.{Bool, false, _&&_}
 use mathlib.Core.List.{List, [], _∷_}
+use mathlib.Core.Option.{none, some}
 use Prim.Native.Nat.{ℕ}
 use Prim.Native.String.{String}
 use lib.Dec.{eqb}
 use Rattle.aiger.specs.Lists.{same}
 use Rattle.aiger.specs.Text.{bytes}
-use Rattle.aiger.specs.Load.{refused, gives}
+use Rattle.aiger.specs.Circuit.{Circuit}
+use Rattle.aiger.specs.Operations.{Test, judge}
 use Rattle.aiger.specs.Examples.{refusalOf, onLoaded}
-use Rattle.completions.specs.Either.{Verdict, all, no, mixed, shows, verdict}
-use Rattle.completions.specs.Operations.{witnessTests, widening}
+use Rattle.completions.specs.Either.{Verdict, all, no, mixed, shows, verdict, readEither, widenedText}
+use Rattle.completions.specs.Operations.{eitherTests, widenTests}
 
 abbrev pub wordOf : Verdict → String
 wordOf all = "all"
@@ -26,12 +28,17 @@ pub data Example : Type 0 where
   -- file, witness, the bytes of output, and the number of widening's refusal, 0 for none
   widenRefused : String → String → ℕ → ℕ → Example
 
+-- a row about a circuit and a text that passes tests, by what was read of it
+abbrev onRead : String → String → (Circuit → List Test) → (Circuit → ℕ × List ℕ → Bool) → Bool
+onRead f w tests p =
+    onLoaded f (λ c. eqb (refusalOf (judge (tests c))) 0 && elim (readEither c (bytes w)) [ none ↦ false | some h ↦ p c h ])
+
 unfoldable pub holds : Example → Bool
 holds (replayed f w says) =
-    onLoaded f (λ c. elim (witnessTests c (bytes w)) [ refused n ↦ false | gives h ↦ same (bytes (wordOf (verdict (shows c (h .0)) (h .1)))) (bytes says) ])
-holds (noWitness f w n) = onLoaded f (λ c. eqb (refusalOf (witnessTests c (bytes w))) n)
-holds (widens f w u) = onLoaded f (λ c. elim (widening c (bytes w) 64) [ refused n ↦ false | gives v ↦ same v (bytes u) ])
-holds (widenRefused f w len n) = onLoaded f (λ c. eqb (refusalOf (widening c (bytes w) len)) n)
+    onRead f w (λ c. eitherTests c (bytes w)) (λ c h. same (bytes (wordOf (verdict (shows c (h .0)) (h .1)))) (bytes says))
+holds (noWitness f w n) = onLoaded f (λ c. eqb (refusalOf (judge (eitherTests c (bytes w)))) n)
+holds (widens f w u) = onRead f w (λ c. widenTests c (bytes w) 64) (λ c h. same (widenedText c (bytes w) h) (bytes u))
+holds (widenRefused f w len n) = onLoaded f (λ c. eqb (refusalOf (judge (widenTests c (bytes w) len))) n)
 
 -- two latches after one input, bad when both are true
 abbrev S : String

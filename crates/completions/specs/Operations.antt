@@ -1,34 +1,47 @@
--- What replay and widening answer on witnesses that may hold `x`, and what they leave: as in `aiger` `Operations`. Assumes nothing.
-use mathlib.Core.List.{List}
+-- Clause 12.2: what replay and widening answer on witnesses that may hold `x`, and what they leave, in the form of `aiger` `Operations`.
+-- Assumes nothing.
+use mathlib.Core.Path.{_≡_}
+use mathlib.Core.Bool.{Bool, true, false}
+use mathlib.Core.List.{List, [], _∷_, _++_}
+use mathlib.Core.Option.{Option, none, some}
 use Prim.Native.Nat.{ℕ}
 use lib.Dec.{leb}
 use lib.ListN.{length}
 use Rattle.aiger.specs.Circuit.{Circuit}
-use Rattle.aiger.specs.Load.{Answer, refused, gives, test, read, _>>=_, _>>_}
-use Rattle.aiger.specs.Memory.{Holds}
-use Rattle.aiger.specs.Operations.{front, HoldsNone}
+use Rattle.aiger.specs.Load.{Answer}
+use Rattle.aiger.specs.Operations.{front, Test, need, Operated, isSome}
 use Rattle.completions.specs.Either.{eithers, Verdict, shows, verdict, readEither, widenedText}
 
--- replay's tests 14 and 16, and what was read: "More than 16 `x` is 16, tested after 14"
-unfoldable pub witnessTests : Circuit → List ℕ → Answer (ℕ × List ℕ)
-witnessTests c text = read 14 (readEither c text) >>= λ h. test 16 (leb (eithers (h .1)) 16) >> gives h
+-- whether what was read holds at most 16 `x`
+abbrev pub fewEithers : Option (ℕ × List ℕ) → Bool
+fewEithers none = false
+fewEithers (some h) = leb (eithers (h .1)) 16
 
--- replay: all, no or mixed by the completions, or 9, 14, 16. For a witness without `x` all is the yes and no the no of `Replayed`
-pub data EitherReplayed (m text : List ℕ) : Answer Verdict → Type 0 where
-  noCircuit : HoldsNone m → EitherReplayed m text (refused 9)
-  says : (c : Circuit) → Holds m c → EitherReplayed m text (witnessTests c text >>= λ h. gives (verdict (shows c (h .0)) (h .1)))
+-- replay's tests: 14 where the text has not the form of a witness of the circuit, then 16 for more than 16 `x`
+abbrev pub eitherTests : Circuit → List ℕ → List Test
+eitherTests c text = need 14 (isSome (readEither c text)) ∷ need 16 (fewEithers (readEither c text)) ∷ []
 
--- widening's tests 14, 16 and 13, where the output has `len` bytes, and the widened witness
-unfoldable pub widening : Circuit → List ℕ → ℕ → Answer (List ℕ)
-widening c text len = witnessTests c text >>= λ h. test 13 (leb (length text) len) >> gives (widenedText c text h)
+-- replay: all, no or mixed by the completions of what follows line `b`. Nothing is lent to be written.
+pub record EitherReplayEffect (text : List ℕ) (c : Circuit) (says : Verdict) (left : Unit {0}) : Type 0 where
+  pub bad : ℕ
+  pub body : List ℕ
+  pub reads : readEither c text ≡ some (bad, body)
+  pub judged : says ≡ verdict (shows c bad) body
 
--- an output that has a text at its front, unless it was refused
-abbrev pub leaving : Answer (List ℕ) → List ℕ → List ℕ
-leaving (refused n) out = out
-leaving (gives text) out = front text out
+abbrev pub EitherReplayed : List ℕ → List ℕ → Answer Verdict → Type 0
+EitherReplayed m text a = Operated m (λ c. eitherTests c text) tt (EitherReplayEffect text) a tt
+
+-- widening's tests: replay's, then 13 for an output of `len` bytes that is shorter than the witness
+abbrev pub widenTests : Circuit → List ℕ → ℕ → List Test
+widenTests c text len = eitherTests c text ++ (need 13 (leb (length text) len) ∷ [])
 
 -- widening: the widened witness at the front of the output, and as the answer its length, which is the given witness's
-pub data Widened (m text out : List ℕ) : Answer ℕ → List ℕ → Type 0 where
-  noCircuit : HoldsNone m → Widened m text out (refused 9) out
-  says : (c : Circuit) → Holds m c
-      → Widened m text out (widening c text (length out) >>= λ w. gives (length w)) (leaving (widening c text (length out)) out)
+pub record WidenEffect (text out : List ℕ) (c : Circuit) (n : ℕ) (left : List ℕ) : Type 0 where
+  pub bad : ℕ
+  pub body : List ℕ
+  pub reads : readEither c text ≡ some (bad, body)
+  pub count : n ≡ length text
+  pub writes : left ≡ front (widenedText c text (bad, body)) out
+
+abbrev pub Widened : List ℕ → List ℕ → List ℕ → Answer ℕ → List ℕ → Type 0
+Widened m text out a out′ = Operated m (λ c. widenTests c text (length out)) out (WidenEffect text out) a out′

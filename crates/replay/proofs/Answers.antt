@@ -1,35 +1,41 @@
--- What replay answers, by what was read of the text. Assumes nothing.
+-- What is read of a witness, and what replay answers. Assumes nothing.
 use mathlib.Core.Path.{_≡_, refl, sym, ap, ap₂, _∙_, subst}
-use mathlib.Core.Bool.{Bool, true, false, _&&_}
+use mathlib.Core.Bool.{Bool, true, false, not}
 use mathlib.Core.List.{List, [], _∷_}
 use mathlib.Core.Option.{Option, none, some}
-use Prim.Native.Nat.{ℕ, _+_, _-_, _≤_, _<_}
+use Prim.Native.Nat.{ℕ, _+_, _-_, _*_, _≤_, _<_}
+use native.Mathlib.Decide.{decLt}
 use native.Mathlib.Omega.{arith}
-use borrow.Author.Tests.{lt-ltb, le-ltb, le-leb}
-use lib.ListN.{length, drop}
+use borrow.Author.Tests.{lt-ltb, le-ltb, le-leb, lt-leb}
+use lib.ListN.{length, take, drop, length-drop}
+use lib.Seq.{take-all}
 use Rattle.aiger.specs.Circuit.{Circuit}
-use Rattle.aiger.specs.Load.{refused, gives, read, _>>=_}
-use Rattle.aiger.specs.Frames.{Run, hits}
+use Rattle.aiger.specs.Load.{Answer, refused, gives}
+use Rattle.aiger.specs.Operations.{judge, Operated}
 use Rattle.aiger.specs.Memory.{Holds}
-use Rattle.aiger.specs.Witness.{Witness, bits, bitRows, readRun, readWitness, agrees, confirms}
-use Rattle.aiger.specs.Operations.{Replayed, says}
-use Rattle.layout.specs.Words.{circuitIn}
+use Rattle.aiger.specs.Witness.{Witness, bits, bitRows, readRun}
+use Rattle.completions.specs.Either.{heading, eithers, completion, allPass, nonePasses, Verdict, verdict, shows, readEither}
+use Rattle.completions.specs.Operations.{eitherTests, EitherReplayed}
+use Rattle.layout.specs.Words.{word, circuitIn}
 use Rattle.layout.specs.Layout.{LayoutOf}
+use Rattle.layout.specs.Order.{Ordered}
 use Rattle.layout.specs.declared.Layout.{Layout}
-use Rattle.frames.proofs.Facts.{bad-count}
-use Rattle.enumeration.proofs.Facts.{inputs-are, latches-are}
+use Rattle.frames.specs.Lanes.{Ready}
+use Rattle.frames.proofs.Facts.{counts, top-is, bad-count}
+use Rattle.frames.proofs.Places.{inputs-are, latches-are}
+use Rattle.completions.specs.Forms.{SameForm}
+use Rattle.completions.proofs.Completions.{completes}
+use Rattle.completions.proofs.Forms.{completes-form}
 use Rattle.witness.specs.Line.{values}
-use Rattle.replay.specs.Texts.{RowsAt, Counted, malformed, wellFormed, TextFits, RunAt}
-
--- where rows were counted, they were read
-pub some-rows : {text : List ℕ} {at count r : ℕ} → Counted text at count r → (r ≡ 0 → ⊥) → RowsAt text at count r
-some-rows (malformed e) h = absurd (h refl)
-some-rows (wellFormed w) h = w
+use Rattle.blocks.specs.Runs.{RunAt, BodyRead, Fits}
+use Rattle.replay.specs.Texts.{CountsOf, RowsAt, Counted, malformed, wellFormed, Framed}
+use Rattle.replay.specs.declared.Rows.{Rows}
+use Rattle.replay.specs.declared.Rows.the-variants.{Read, Malformed}
 
 -- ---- what is read after line `b`
 
 module _ (c : Circuit) (b : ℕ) (w : List ℕ) where
-  bad-none : length (c .bads) ≤ b → readRun c b w ≡ none
+  pub bad-none : length (c .bads) ≤ b → readRun c b w ≡ none
   unfolding readRun
   bad-none h = simp (le-ltb b (length (c .bads)) h)
 
@@ -52,91 +58,167 @@ module _ (c : Circuit) (b : ℕ) (w : List ℕ) where
       unfolding readRun
       rows-some rs l q = simp (lt-ltb b (length (c .bads)) h, e, q, le-leb 1 (length rs) l)
 
--- ---- the answers
+  -- whatever b is, where nothing is read for a b that there is
+  for-each : (b < length (c .bads) → readRun c b w ≡ none) → readRun c b w ≡ none
+  for-each f =
+      elim (decLt b (length (c .bads))) [
+        | yes l ↦ f l
+        | no n ↦ bad-none (omega arith)
+      ]
 
 empty : {A : Type 0} (xs : List A) → length xs ≡ 0 → xs ≡ []
 empty [] e = refl
 empty (x ∷ xs) e = absurd (omega arith)
 
-module _ {m : List ℕ} {layout : Layout} (held : Holds m (circuitIn m)) (a : LayoutOf m layout) (text : List ℕ) where
-  abbrev c : Circuit
-  c = circuitIn m
+-- ---- a body, line by line
 
-  answer : {w : Option Witness} → readWitness c text ≡ w → Replayed m text (read 14 w >>= λ x. gives (confirms c x))
-  answer e = subst (λ (w : Option Witness). Replayed m text (read 14 w >>= λ x. gives (confirms c x))) e (says c held)
+module _ (l i : ℕ) (body : List ℕ) (c : Circuit) (p : l ≡ length (c .latches)) (q : i ≡ length (c .inputs)) (b : ℕ) where
+  pub no-start : bits l (drop 0 body) ≡ none → readRun c b body ≡ none
+  no-start e = for-each c b body (λ h. start-none c b body h (ap (λ (n : ℕ). bits n body) (sym p) ∙ e))
 
-  -- the text is no witness
-  pub refuses : readWitness c text ≡ none → Replayed m text (refused 14)
-  refuses e = answer e
+  module _ (rows : ℕ) (s : bits l (drop 0 body) ≡ some (values body 0 l, drop rows body)) where
+    first : bits (length (c .latches)) body ≡ some (values body 0 (length (c .latches)), drop rows body)
+    first = subst (λ (n : ℕ). bits n body ≡ some (values body 0 n, drop rows body)) p s
 
-  module _ (b start : ℕ) (h : readWitness c text ≡ readRun c b (drop start text)) where
-    pub no-bad : layout .b ≤ b → Replayed m text (refused 14)
-    no-bad l = refuses (h ∙ bad-none c b (drop start text) (omega (arith, a .b-is, bad-count m)))
+    counted : {r : Rows} → Counted body rows i r → Counted body rows (length (c .inputs)) r
+    counted {r} n = subst (λ (k : ℕ). Counted body rows k r) q n
 
-    module _ (l : b < layout .b) where
-      below : b < length (c .bads)
-      below = omega (arith, a .b-is, bad-count m)
+    pub no-rows : Counted body rows i Malformed → readRun c b body ≡ none
+    no-rows n = for-each c b body (λ h. go h (counted n))
+      where
+        go : b < length (c .bads) → Counted body rows (length (c .inputs)) Malformed → readRun c b body ≡ none
+        go h (malformed e) = rows-none c b body h (values body 0 (length (c .latches))) (drop rows body) first e
 
-      pub no-start : bits (layout .l) (drop start text) ≡ none → Replayed m text (refused 14)
-      no-start e = refuses (h ∙ start-none c b (drop start text) below (ap (λ (n : ℕ). bits n (drop start text)) (sym (latches-are held a)) ∙ e))
+    pub zero-rows : {r : ℕ} → Counted body rows i (Read r) → r ≡ 0 → readRun c b body ≡ none
+    zero-rows n z = for-each c b body (λ h. go h (counted n) z)
+      where
+        go : {r : ℕ} → b < length (c .bads) → Counted body rows (length (c .inputs)) (Read r) → r ≡ 0 → readRun c b body ≡ none
+        go h (wellFormed w) z =
+            rows-empty c b body h (values body 0 (length (c .latches))) (drop rows body) first (w .read ∙ ap some (empty (w .rows) (w .size ∙ z)))
 
-      module _ (rows : ℕ) (s : bits (layout .l) (drop start text) ≡ some (values text start (layout .l), drop rows text)) where
-        first : bits (length (c .latches)) (drop start text) ≡ some (values text start (length (c .latches)), drop rows text)
-        first = subst (λ (n : ℕ). bits n (drop start text) ≡ some (values text start n, drop rows text)) (latches-are held a) s
+    pub body-read : {r : ℕ} → rows ≡ l + 1 → Counted body rows i (Read r) → (r ≡ 0 → ⊥) → b < length (c .bads) → BodyRead c b r body
+    body-read {r} e n o h = go (counted n)
+      where
+        go : Counted body rows (length (c .inputs)) (Read r) → BodyRead c b r body
+        go (wellFormed w) =
+            record {
+              run = record { start = values body 0 (length (c .latches)); rows = w .rows };
+              reads =
+                  rows-some c b body h (values body 0 (length (c .latches))) (drop rows body) first (w .rows) (omega (arith, w .size, o)) (w .read);
+              run-at =
+                  record {
+                    start-is = refl;
+                    row-is = λ u k.
+                        w .row u k ∙ ap (λ (n : ℕ). values body (n + u * (length (c .inputs) + 1)) (length (c .inputs))) (e ∙ ap (λ (n : ℕ). n + 1) p);
+                    frames-are = w .size;
+                  };
+            }
 
-        counted : {r : ℕ} → Counted text rows (layout .i) r → Counted text rows (length (c .inputs)) r
-        counted {r} n = subst (λ (k : ℕ). Counted text rows k r) (inputs-are held a) n
+-- the rows lie within the body
+pub rows-inside : {text : List ℕ} {at count r : ℕ} → Counted text at count (Read r) → at + r * (count + 1) ≤ length text
+rows-inside (wellFormed w) = w .inside
 
-        pub no-rows : {r : ℕ} → Counted text rows (layout .i) r → r ≡ 0 → Replayed m text (refused 14)
-        no-rows n z = refuses (h ∙ go (counted n) z)
-          where
-            go : {r : ℕ} → Counted text rows (length (c .inputs)) r → r ≡ 0 → readRun c b (drop start text) ≡ none
-            go (malformed e) z = rows-none c b (drop start text) below (values text start (length (c .latches))) (drop rows text) first e
-            go (wellFormed w) z =
-                rows-empty c b (drop start text) below (values text start (length (c .latches))) (drop rows text) first
-                (w .read ∙ ap some (empty (w .rows) (w .size ∙ z)))
+-- ---- the tests
 
-        module _ {r : ℕ} (n : Counted text rows (layout .i) r) (o : r ≡ 0 → ⊥) where
-          there : RowsAt text rows (length (c .inputs)) r
-          there = some-rows (counted n) o
+module _ (c : Circuit) (text : List ℕ) where
+  refused-read : readEither c text ≡ none → judge (eitherTests c text) ≡ refused 14
+  unfolding judge
+  refused-read e = rw e
 
-          -- the run that the text shows
-          shown : Run
-          shown = record { start = values text start (length (c .latches)); rows = there .rows }
+  read-headless : heading text ≡ none → readEither c text ≡ none
+  unfolding readEither
+  read-headless e = simp e
 
-          shown-at : RunAt c text start rows r shown
-          unfolding shown
-          shown-at = record { start-is = refl; row-is = there .row }
+  pub no-heading : heading text ≡ none → judge (eitherTests c text) ≡ refused 14
+  no-heading e = refused-read (read-headless e)
 
-          read-shown : readWitness c text ≡ some (record { bad = b; run = shown })
-          unfolding shown
-          read-shown =
-              h ∙ rows-some c b (drop start text) below (values text start (length (c .latches))) (drop rows text) first (there .rows)
-              (omega (arith, there .size, o)) (there .read)
+  module _ (b : ℕ) (body : List ℕ) where
+    pub too-many : readEither c text ≡ some (b, body) → 16 < eithers body → judge (eitherTests c text) ≡ refused 16
+    unfolding judge
+    too-many e l = rw (e, lt-leb (eithers body) 16 l)
 
-          confirms-shown : {x y : Bool} → x ≡ agrees (c .latches) (values text start (length (c .latches))) → y ≡ hits c b shown (r - 1)
-              → confirms c (record { bad = b; run = shown }) ≡ (x && y)
-          unfolding confirms shown
-          confirms-shown p q =
-              ap₂ (λ (u v : Bool). u && v) (sym p) (ap (λ (k : ℕ). hits c b shown (k - 1)) (there .size) ∙ sym q)
+    pub passed : readEither c text ≡ some (b, body) → eithers body ≤ 16 → judge (eitherTests c text) ≡ gives tt
+    unfolding judge
+    passed e l = rw (e, le-leb (eithers body) 16 l)
 
-          -- yes or no, where x says whether the start agrees and y whether the last frame hits
-          said : {x y : Bool} → x ≡ agrees (c .latches) (values text start (length (c .latches))) → y ≡ hits c b shown (r - 1)
-              → Replayed m text (gives (x && y))
-          said p q = subst (λ (z : Bool). Replayed m text (gives z)) (confirms-shown p q) (answer read-shown)
+    module _ (e : heading text ≡ some (b, body)) where
+      read-bodyless : readRun c b (completion 0 body) ≡ none → readEither c text ≡ none
+      unfolding readEither
+      read-bodyless q = simp (e, q)
 
-          pub wrong-start : {x : Bool} → x ≡ agrees (c .latches) (values text start (length (c .latches))) → x ≡ false → Replayed m text (gives false)
-          wrong-start p e = said (sym e ∙ p) refl
+      pub no-body : readRun c b (completion 0 body) ≡ none → judge (eitherTests c text) ≡ refused 14
+      no-body q = refused-read (read-bodyless q)
 
-          pub judged : {x : Bool} → x ≡ agrees (c .latches) (values text start (length (c .latches))) → x ≡ true → {y z : Bool}
-              → ((q : Run) → RunAt c text start rows r q → y ≡ hits c b q (r - 1)) → y ≡ z → Replayed m text (gives z)
-          judged p e q k = said (sym e ∙ p) (sym k ∙ q shown shown-at)
+      pub no-bad : length (c .bads) ≤ b → judge (eitherTests c text) ≡ refused 14
+      no-bad l = no-body (bad-none c b (completion 0 body) l)
 
-          -- the start values and the rows lie within the text
-          pub fits : rows ≡ start + layout .l + 1 → rows ≤ length text → TextFits layout text start rows r
-          fits e k =
-              record {
-                some-frame = omega (arith, o);
-                start-inside = omega arith;
-                rows-inside = some-rows n o .inside;
-              }
+      pub was-read : (x : Witness) → readRun c b (completion 0 body) ≡ some x → readEither c text ≡ some (b, body)
+      unfolding readEither
+      was-read x q = simp (e, q)
+
+-- the completion in which every `x` is 0 has the body's form
+pub zero-form : (body : List ℕ) → SameForm body (completion 0 body)
+zero-form body = completes-form (completes 0 body)
+
+-- a body whose frames were read fits
+pub body-fits : (c : Circuit) (b l i frames count : ℕ) (body : List ℕ) → l ≡ length (c .latches) → i ≡ length (c .inputs) → b < length (c .bads)
+    → ((u : List ℕ) → SameForm body u → Framed l i frames u) → count ≡ eithers body → count ≤ 16 → Fits c b frames count body
+body-fits c b l i frames count body p q h f e k =
+    let z = f (completion 0 body) (zero-form body) in
+    record {
+      form = λ u s. f u s .reads c p q b h;
+      some-frame = z .some-frame;
+      inside =
+          let o : l + 1 + frames * (i + 1) ≡ length (c .latches) + 1 + frames * (length (c .inputs) + 1) =
+          ap₂ (λ (x y : ℕ). x + 1 + frames * (y + 1)) p q in
+          omega (arith, z .inside, zero-form body .size);
+      eithers-are = e;
+      few = k;
+    }
+
+-- ---- the answers
+
+module _ {m : List ℕ} (c : Circuit) (held : Holds m c) (text : List ℕ) where
+  pub refuses : (n : ℕ) → judge (eitherTests c text) ≡ refused n → EitherReplayed m text (refused n)
+  refuses n e = Operated.refuses c held e
+
+  pub judged : (b : ℕ) (body : List ℕ) {a : Answer Verdict} → readEither c text ≡ some (b, body) → eithers body ≤ 16 → a ≡ gives (verdict (shows c b) body)
+      → EitherReplayed m text a
+  judged b body e l q =
+      subst (EitherReplayed m text) (sym q)
+      (Operated.acts c held (passed c text b body e l) (record { bad = b; body = body; reads = e; judged = refl }))
+
+-- the verdict, by what the blocks say
+module _ (p : List ℕ → Bool) (w : List ℕ) where
+  pub verdict-all : true ≡ allPass p w → Verdict.all ≡ verdict p w
+  unfolding verdict
+  verdict-all e = rw (sym e)
+
+  pub verdict-no : false ≡ allPass p w → true ≡ nonePasses p w → Verdict.no ≡ verdict p w
+  unfolding verdict
+  verdict-no e k = rw (sym e, sym k)
+
+  pub verdict-mixed : false ≡ allPass p w → false ≡ nonePasses p w → Verdict.mixed ≡ verdict p w
+  unfolding verdict
+  verdict-mixed e k = rw (sym e, sym k)
+
+  -- none passes where every completion fails
+  pub none-is : nonePasses p w ≡ allPass (λ u. not (p u)) w
+  unfolding nonePasses allPass
+  none-is = refl
+
+-- the part of a text from a position on
+pub rest-is : (text : List ℕ) (start : ℕ) → take (length text - start) (drop start text) ≡ drop start text
+rest-is text start = take-all (length text - start) (drop start text) (omega (arith, length-drop start text))
+
+-- ---- a circuit that is held
+
+module _ {m : List ℕ} {layout : Layout} (held : Holds m (circuitIn m)) (a : LayoutOf m layout) where
+  pub counts-of : CountsOf (circuitIn m) layout
+  counts-of = record { latches = latches-are held a; inputs = inputs-are held a; bads = omega (arith, a .b-is, bad-count m) }
+
+  pub ready-of : {order : List ℕ} → Ordered (circuitIn m) order → 3072 ≤ length order → Ready m layout order 4097
+  ready-of o l = record { held = held; layout-of = a; ordered = o; ranks = l; room = omega (arith, counts held .maxVar, top-is m) }
+
+  pub bad-word : {b : ℕ} → b < length (circuitIn m .bads) → b < word m 5
+  bad-word l = omega (arith, bad-count m)

@@ -1,6 +1,7 @@
-pub mod Starts
-pub mod Rows
-pub mod Runs
+pub mod Symbols
+pub mod Heads
+pub mod Lines
+pub mod Shapes
 pub mod Answers
-pub mod Reading
+pub mod Plain
 pub mod Theorems

@@ -1,8 +1,8 @@
--- Replay, hits and search: replay says yes exactly to the witnesses of hits, so to every witness that a search shows. Assumes nothing.
-use mathlib.Core.Path.{_≡_, refl, sym, ap, _∙_, subst}
-use mathlib.Core.Bool.{Bool, true, _&&_}
+-- Replay, hits and search: replay says all exactly to the witnesses whose completions are hits, so to every witness that a search shows.
+-- Clauses 4.1, 4.2 and 12.2. Assumes nothing.
+use mathlib.Core.Path.{_≡_, refl, sym, ap, ap₂, _∙_, subst}
+use mathlib.Core.Bool.{Bool, true, false, cond, _&&_}
 use mathlib.Core.List.{List, [], _∷_}
-use mathlib.Core.Logic.{_↔_}
 use mathlib.Core.Option.{Option, none, some}
 use Prim.Native.Nat.{ℕ, zero, suc, _+_, _-_, _^_, _≤_, _<_}
 use native.Mathlib.Nat.{not-suc-le-zero, le-of-suc-le-suc}
@@ -11,32 +11,54 @@ use native.Mathlib.Omega.{arith}
 use lib.Dec.{T}
 use lib.ListN.{length, getD}
 use Rattle.aiger.specs.Circuit.{Circuit}
-use Rattle.aiger.specs.Load.{Answer, gives, read, _>>=_}
+use Rattle.aiger.specs.Load.{Answer, gives}
 use Rattle.aiger.specs.Frames.{Run, freeBits, run, hits, allowed, valueAt}
-use Rattle.aiger.specs.Search.{question, Outcome, reaches, reachesIn, permitted}
-use Rattle.aiger.specs.Witness.{Witness, witness, readWitness, agrees, confirms}
+use Rattle.aiger.specs.Search.{question, Outcome, reaches, reachesIn, permitted, firstWitness}
+use Rattle.aiger.specs.Witness.{Witness, witness, readRun, readWitness, agrees, confirms}
 use Rattle.aiger.specs.Memory.{Holds}
-use Rattle.aiger.specs.Operations.{Replayed, noCircuit, says}
-use Rattle.aiger.proofs.Tests.{and-left, and-right, true-T, T-true}
+use Rattle.aiger.specs.Operations.{Replayed}
+use Rattle.completions.specs.Either.{Verdict, eithers, allPass, shows, verdict, readEither}
+use Rattle.completions.specs.Operations.{EitherReplayEffect, EitherReplayed}
+use Rattle.aiger.proofs.Tests.{and-left, and-right, true-T, T-true, not-both}
 use Rattle.roundtrip.proofs.LoadWrite.{counts-fit}
-use Rattle.roundtrip.proofs.Holding.{one-circuit, held-valid}
+use Rattle.roundtrip.proofs.Holding.{held-valid}
 use Rattle.roundtrip.proofs.Witness.{run-back}
-use Rattle.roundtrip.proofs.WitnessRead.{read-exact}
+use Rattle.roundtrip.proofs.LoadValid.{some-same}
+use Rattle.roundtrip.proofs.Determined.{alike-self, operated-same, acted}
 use Rattle.meaning.proofs.Values.{zero-value}
-use Rattle.meaning.proofs.Outcomes.{found-out, none-out}
+use Rattle.meaning.proofs.Outcomes.{found-out, none-out, first-witness}
 use Rattle.meaning.proofs.Sequences.{run-shaped, run-agrees, every-run}
-use Rattle.replay.proofs.Reading.{read-shaped}
+use Rattle.completions.specs.Forms.{Completes}
+use Rattle.completions.proofs.Completions.{all-at, all-from, none-at}
+use Rattle.replay.proofs.Shapes.{run-shaped-read, run-bad}
+use Rattle.replay.proofs.Answers.{judged, verdict-all}
+use Rattle.replay.proofs.Plain.{plain-read, verdict-passes, verdict-none}
 
--- the answer for a circuit and what was read
-abbrev judgement : Circuit → Option Witness → Answer Bool
-judgement c w = read 14 w >>= λ x. gives (confirms c x)
+-- replay answers one thing
+pub either-same : {m text : List ℕ} {a b : Answer Verdict} → EitherReplayed m text a → EitherReplayed m text b → a ≡ b
+either-same {text = text} r s =
+    operated-same (λ (o p : Unit {0}). Unit {0}) alike-self (λ c. refl) tt (λ c a b s t e f. (one-verdict c e f, tt)) r s .0
+  where
+    one-verdict : (c : Circuit) {x y : Verdict} {u v : Unit {0}} → EitherReplayEffect text c x u → EitherReplayEffect text c y v → x ≡ y
+    one-verdict c e f =
+        let z : _≡_ {A = ℕ × List ℕ} (e .bad, e .body) (f .bad, f .body) = some-same (sym (e .reads) ∙ f .reads) in
+        e .judged ∙ ap (λ (h : ℕ × List ℕ). verdict (shows c (h .0)) (h .1)) z ∙ sym (f .judged)
 
--- replay's answer is the one for the circuit that the memory holds
-judged : {m text : List ℕ} {a : Answer Bool} (c : Circuit) → Holds m c → Replayed m text a → a ≡ judgement c (readWitness c text)
-judged c h (noCircuit n) = absurd (n c h)
-judged {text = text} c h (says d k) = ap (λ (x : Circuit). judgement x (readWitness x text)) (one-circuit k h)
+-- a witness that the form without `x` reads is answered all where it is confirmed, else no
+pub plain-says : {m text : List ℕ} {a : Answer Verdict} (c : Circuit) → Holds m c → (w : Witness) → readWitness c text ≡ some w → EitherReplayed m text a
+    → a ≡ gives (cond (confirms c w) Verdict.all Verdict.no)
+plain-says {text = text} c h w e r =
+    let p = plain-read c text w e in
+    either-same r (judged c h text (p .bad) (p .body) (p .reads) (omega (arith, p .none-either)) refl) ∙ ap gives (p .shows-it)
 
--- ---- yes to every hit
+-- so for a witness without `x` all is the yes, and no the no, of replay without `x`
+pub all-is-yes : {m text : List ℕ} {a : Answer Verdict} {says : Bool} (c : Circuit) → Holds m c → Replayed m text (gives says) → EitherReplayed m text a
+    → a ≡ gives (cond says Verdict.all Verdict.no)
+all-is-yes {says = says} c h r s =
+    let e = acted h r refl .1 in
+    plain-says c h (e .witness) (e .reads) s ∙ ap (λ (x : Bool). gives (cond x Verdict.all Verdict.no)) (sym (e .judged))
+
+-- ---- all to every hit
 
 -- a bad line that is not there is never hit
 getD-past : (xs : List ℕ) (i : ℕ) → length xs ≤ i → getD xs i 0 ≡ 0
@@ -70,71 +92,87 @@ module _ {m : List ℕ} (c : Circuit) (h : Holds m c) where
   unfolding reaches reachesIn run
   reach-hit b t x p = p
 
-  -- replay says yes to the witness of every sequence of at most 256 frames that hits; b is then below B
-  pub hit-yes : {a : Answer Bool} (b t x : ℕ) → t ≤ 255 → T (reaches c b t x) → Replayed m (witness b (run c t x)) a → a ≡ gives true
-  hit-yes b t x l p r =
-      judged c h r
-      ∙ ap (judgement c) (run-back c b t x (bad-below b (run c t x) t (reach-hit b t x p)) (counts-fit c (held-valid h .fit) .bads) l)
-      ∙ ap gives (confirms-run b t x p)
+  -- replay says all to the witness of every sequence of at most 256 frames that hits; b is then below B
+  pub hit-all : {a : Answer Verdict} (b t x : ℕ) → t ≤ 255 → T (reaches c b t x) → EitherReplayed m (witness b (run c t x)) a → a ≡ gives Verdict.all
+  hit-all b t x l p r =
+      plain-says c h (record { bad = b; run = run c t x })
+      (run-back c b t x (bad-below b (run c t x) t (reach-hit b t x p)) (counts-fit c (held-valid h .fit) .bads) l) r
+      ∙ ap (λ (y : Bool). gives (cond y Verdict.all Verdict.no)) (confirms-run b t x p)
 
   -- so to every witness that a search shows
-  pub shown-yes : {a : Answer Bool} (b k D t x : ℕ) → T (permitted c b k D (Outcome.found t x)) → t ≤ 255 → Replayed m (witness b (run c t x)) a
-      → a ≡ gives true
-  shown-yes b k D t x p l r = hit-yes b t x l (found-out (question c b) k D t x p .first .hit) r
+  pub shown-all : {a : Answer Verdict} (b k D t : ℕ) → T (permitted c b k D (Outcome.found t)) → t ≤ 255 → EitherReplayed m (firstWitness c b t) a
+      → a ≡ gives Verdict.all
+  shown-all {a} b k D t p l r =
+      let f = found-out (question c b) k D t p in
+      hit-all b t (f .place) l (f .first .hit) (subst (λ (w : List ℕ). EitherReplayed m w a) (first-witness c b t (f .place) (f .first)) r)
 
--- ---- yes only to a hit
+-- ---- all only where every completion is a hit
 
--- the text is the witness of bad line b and of a sequence x of frame t that hits there
-pub record Hit (c : Circuit) (text : List ℕ) : Type 0 where
-  pub bad : ℕ
+-- a body, what follows line `b`, is that of a sequence x of frame t that hits bad line b there
+pub record Hit (c : Circuit) (b : ℕ) (body : List ℕ) : Type 0 where
   pub frame : ℕ
   pub sequence : ℕ
   pub few : frame ≤ 255
   pub fits : sequence < 2 ^ freeBits c frame
-  pub reached : T (reaches c bad frame sequence)
-  -- what is read from the text
-  pub reads : readWitness c text ≡ some (record { bad = bad; run = run c frame sequence })
-  pub text-is : text ≡ witness bad (run c frame sequence)
+  pub reached : T (reaches c b frame sequence)
+  -- what is read of the body
+  pub reads : readRun c b body ≡ some (record { bad = b; run = run c frame sequence })
 
-module _ (c : Circuit) (text : List ℕ) where
-  -- a witness that is confirmed is one of a sequence that hits
-  confirmed-hit : (w : Witness) → length (c .bads) ≤ 16 → readWitness c text ≡ some w → confirms c w ≡ true → Hit c text
+module _ (c : Circuit) (b : ℕ) (body : List ℕ) where
+  -- a body that is confirmed is one of a sequence that hits
+  confirmed-hit : (w : Witness) → readRun c b body ≡ some w → w .bad ≡ b → confirms c w ≡ true → Hit c b body
   unfolding confirms reaches reachesIn run
-  confirmed-hit w n e k =
-      let s = read-shaped c text e in
+  confirmed-hit w e z k =
+      let s = run-shaped-read c b body e in
       let t = s .frame in
       let both : T (agrees (c .latches) (w .run .start) && hits c (w .bad) (w .run) (length (w .run .rows) - 1)) = T-true k in
       let x = every-run c t (w .run) (s .shaped) (and-left (agrees (c .latches) (w .run .start)) (hits c (w .bad) (w .run) (length (w .run .rows) - 1)) both) in
       let last : length (w .run .rows) - 1 ≡ t = omega (arith, s .shaped .frames) in
-      let hit : T (hits c (w .bad) (w .run) t) =
-      subst (λ (n : ℕ). T (hits c (w .bad) (w .run) n)) last
-      (and-right (agrees (c .latches) (w .run .start)) (hits c (w .bad) (w .run) (length (w .run .rows) - 1)) both) in
+      let hit : T (hits c b (w .run) t) =
+      subst (λ (j : ℕ). T (hits c j (w .run) t)) z
+      (subst (λ (n : ℕ). T (hits c (w .bad) (w .run) n)) last
+      (and-right (agrees (c .latches) (w .run .start)) (hits c (w .bad) (w .run) (length (w .run .rows) - 1)) both)) in
       record {
-        bad = w .bad;
         frame = t;
         sequence = x .0;
         few = s .few;
         fits = x .1;
-        reached = subst (λ (r : Run). T (hits c (w .bad) r t)) (sym (x .2)) hit;
-        reads = e ∙ ap (λ (r : Run). some (record { bad = w .bad; run = r })) (sym (x .2));
-        text-is = read-exact c text w n e ∙ ap (witness (w .bad)) (sym (x .2));
+        reached = subst (λ (r : Run). T (hits c b r t)) (sym (x .2)) hit;
+        reads = e ∙ ap₂ (λ (j : ℕ) (r : Run). some (record { bad = j; run = r })) z (sym (x .2));
       }
 
-  by-witness : (o : Option Witness) → length (c .bads) ≤ 16 → readWitness c text ≡ o → gives true ≡ judgement c o → Hit c text
-  by-witness none n e q = let z : _≡_ {A = ℕ} 0 1 = cc in absurd (omega arith)
-  by-witness (some w) n e q = confirmed-hit w n e (cc)
+  by-read : (o : Option Witness) → readRun c b body ≡ o → elim o [ none ↦ false | some x ↦ confirms c x ] ≡ true → Hit c b body
+  by-read none e k = let z : _≡_ {A = ℕ} 0 1 = cc in absurd (omega arith)
+  by-read (some w) e k = confirmed-hit w e (run-bad c b body w e) k
 
-  -- what replay says yes to is a hit
-  pub yes-hit : {m : List ℕ} → Holds m c → Replayed m text (gives true) → Hit c text
-  yes-hit h r = by-witness (readWitness c text) (counts-fit c (held-valid h .fit) .bads) refl (judged c h r)
-
-  -- so it says yes exactly to the witnesses of hits
-  pub yes-exactly : {m : List ℕ} {a : Answer Bool} → Holds m c → Replayed m text a → (a ≡ gives true) ↔ Hit c text
-  yes-exactly {m} {a} h r = (
-    λ e. yes-hit h (subst (Replayed m text) e r),
-    λ y. hit-yes c h (y .bad) (y .frame) (y .sequence) (y .few) (y .reached) (subst (λ (s : List ℕ). Replayed m s a) (y .text-is) r),
-  )
+  -- what a body shows
+  pub shows-hit : T (shows c b body) → Hit c b body
+  unfolding shows
+  shows-hit t = by-read (readRun c b body) refl (true-T (shows c b body) t)
 
   -- and no search for it up to that frame or further may answer none
-  pub hit-not-none : (y : Hit c text) (k D j : ℕ) → y .frame ≤ k → T (permitted c (y .bad) k D (Outcome.none j)) → ⊥
-  hit-not-none y k D j l p = none-out (question c (y .bad)) k D j p .quiet (y .frame) (omega arith) (y .sequence) (omega arith) (y .fits) (y .reached)
+  pub hit-not-none : (y : Hit c b body) (k D j : ℕ) → y .frame ≤ k → T (permitted c b k D (Outcome.none j)) → ⊥
+  hit-not-none y k D j l p = none-out (question c b) k D j p .quiet (y .frame) (omega arith) (y .sequence) (omega arith) (y .fits) (y .reached)
+
+-- replay says all only to a witness each of whose completions is a hit
+pub all-hits : {m text : List ℕ} (c : Circuit) → Holds m c → EitherReplayed m text (gives Verdict.all)
+    → (h : ℕ × List ℕ) × (readEither c text ≡ some h) × ((u : List ℕ) → Completes (h .1) u → Hit c (h .0) u)
+all-hits c k r =
+    let e = acted k r refl .1 in
+    let p = verdict-passes (shows c (e .bad)) (e .body) (sym (e .judged)) in
+    ((e .bad, e .body), e .reads, λ u q. shows-hit c (e .bad) u (all-at (shows c (e .bad)) (e .body) p u q))
+
+-- and where each of them shows a hit it says all
+pub all-where : {m text : List ℕ} {a : Answer Verdict} (c : Circuit) → Holds m c → EitherReplayed m text a → (b : ℕ) (body : List ℕ)
+    → readEither c text ≡ some (b, body) → eithers body ≤ 16 → ((u : List ℕ) → Completes body u → T (shows c b u)) → a ≡ gives Verdict.all
+all-where {text = text} c k r b body e l f =
+    let v : Verdict.all ≡ verdict (shows c b) body = verdict-all (shows c b) body (sym (true-T (allPass (shows c b) body) (all-from (shows c b) body f))) in
+    either-same r (judged c k text b body e l refl) ∙ ap gives (sym v)
+
+-- no only where none of them is
+pub no-hits : {m text : List ℕ} (c : Circuit) → Holds m c → EitherReplayed m text (gives Verdict.no)
+    → (h : ℕ × List ℕ) × (readEither c text ≡ some h) × ((u : List ℕ) → Completes (h .1) u → T (shows c (h .0) u) → ⊥)
+no-hits c k r =
+    let e = acted k r refl .1 in
+    let p = verdict-none (shows c (e .bad)) (e .body) (sym (e .judged)) in
+    ((e .bad, e .body), e .reads, λ u q t. not-both (shows c (e .bad) u) (none-at (shows c (e .bad)) (e .body) p u q) t)

@@ -1,32 +1,30 @@
--- Where the run of a witness stands in its text, and what the private functions answer. Assumes nothing.
+-- What reading a witness answers, in each text of the same form. Assumes nothing.
 use mathlib.Core.Path.{_≡_}
-use mathlib.Core.Bool.{Bool, cond}
+use mathlib.Core.Bool.{Bool}
 use mathlib.Core.List.{List, []}
-use mathlib.Core.Option.{none, some}
+use mathlib.Core.Option.{Option, none, some}
 use Prim.Native.Nat.{ℕ, _+_, _*_, _≤_, _<_}
-use lib.Dec.{eqb}
 use lib.ListN.{length, getD, drop}
-use Rattle.aiger.specs.Circuit.{Circuit, var}
-use Rattle.aiger.specs.Frames.{Run}
-use Rattle.aiger.specs.Witness.{bitRows}
-use Rattle.layout.specs.Words.{word}
+use Rattle.aiger.specs.Circuit.{Circuit}
+use Rattle.aiger.specs.Load.{refused}
+use Rattle.aiger.specs.Witness.{readRun, bitRows}
+use Rattle.aiger.specs.Operations.{judge}
+use Rattle.completions.specs.Either.{readEither}
+use Rattle.completions.specs.Operations.{eitherTests}
 use Rattle.layout.specs.declared.Layout.{Layout}
 use Rattle.witness.specs.Line.{values}
+use Rattle.blocks.specs.Runs.{BodyRead, Fits}
+use Rattle.blocks.specs.declared.Question.{Question}
+use Rattle.replay.specs.declared.Rows.{Rows}
+use Rattle.replay.specs.declared.Rows.the-variants.{Read, Malformed}
+use Rattle.replay.specs.declared.Reading.{Reading}
+use Rattle.replay.specs.declared.Reading.the-variants as reading
 
--- the word of a bit of the text: the bit in each of 64 runs
-abbrev pub bitWord : ℕ → ℕ
-bitWord byte = cond (eqb byte 49) 0xffff_ffff_ffff_ffff 0
-
--- the word of the bit that stands k bytes after `at`
-abbrev pub wordAt : List ℕ → ℕ → ℕ → ℕ
-wordAt text at k = bitWord (getD text (at + k) 0)
-
--- the variables of input i and of latch j
-abbrev pub inputVar : List ℕ → ℕ → ℕ
-inputVar m i = var (word m (7 + i))
-
-abbrev pub latchVar : List ℕ → Layout → ℕ → ℕ
-latchVar m layout j = var (word m (layout .latches + 3 * j))
+-- the counts that reading a witness uses
+pub record CountsOf (c : Circuit) (layout : Layout) : Type 0 where
+  pub latches : layout .l ≡ length (c .latches)
+  pub inputs : layout .i ≡ length (c .inputs)
+  pub bads : layout .b ≡ length (c .bads)
 
 -- r rows of count bits stand at `at`, and the line that ends the text after them
 pub record RowsAt (text : List ℕ) (at count r : ℕ) : Type 0 where
@@ -36,18 +34,28 @@ pub record RowsAt (text : List ℕ) (at count r : ℕ) : Type 0 where
   pub row : (u : ℕ) → u < r → getD rows u [] ≡ values text (at + u * (count + 1)) count
   pub inside : at + r * (count + 1) ≤ length text
 
--- how many rows stand at `at`; 0 also where the text is malformed
-pub data Counted (text : List ℕ) (at count : ℕ) : ℕ → Type 0 where
-  malformed : bitRows count 256 (drop at text) ≡ none → Counted text at count 0
-  wellFormed : {r : ℕ} → RowsAt text at count r → Counted text at count r
+-- how many rows stand at `at`
+pub data Counted (text : List ℕ) (at count : ℕ) : Rows → Type 0 where
+  malformed : bitRows count 256 (drop at text) ≡ none → Counted text at count Malformed
+  wellFormed : {r : ℕ} → RowsAt text at count r → Counted text at count (Read r)
 
--- the start values and the rows lie within the text
-pub record TextFits (layout : Layout) (text : List ℕ) (start rows frames : ℕ) : Type 0 where
+-- what is read of a body: a run of so many frames for each circuit of l latches and i inputs, and each of its bad lines
+pub record Framed (l i frames : ℕ) (body : List ℕ) : Type 0 where
   pub some-frame : 1 ≤ frames
-  pub start-inside : start + layout .l ≤ length text
-  pub rows-inside : rows + frames * (layout .i + 1) ≤ length text
+  pub inside : l + 1 + frames * (i + 1) ≤ length body
+  pub reads : (c : Circuit) → l ≡ length (c .latches) → i ≡ length (c .inputs) → (b : ℕ) → b < length (c .bads) → BodyRead c b frames body
 
--- r is the run whose start values stand at `start`, and its frames at `rows`
-pub record RunAt (c : Circuit) (text : List ℕ) (start rows frames : ℕ) (r : Run) : Type 0 where
-  pub start-is : r .start ≡ values text start (length (c .latches))
-  pub row-is : (u : ℕ) → u < frames → getD (r .rows) u [] ≡ values text (rows + u * (length (c .inputs) + 1)) (length (c .inputs))
+abbrev pub FramesRead : ℕ → ℕ → List ℕ → Rows → Type 0
+FramesRead l i body (Read frames) = Framed l i frames body
+FramesRead l i body Malformed = (c : Circuit) → l ≡ length (c .latches) → i ≡ length (c .inputs) → (b : ℕ) → readRun c b body ≡ none
+
+-- a witness that was read: its body begins at `start`
+pub record Placed (c : Circuit) (text : List ℕ) (start : ℕ) (q : Question) : Type 0 where
+  pub inside : start ≤ length text
+  pub bad : q .bad < length (c .bads)
+  pub reads : readEither c text ≡ some (q .bad, drop start text)
+  pub fits : Fits c (q .bad) (q .frames) (q .eithers) (drop start text)
+
+abbrev pub WitnessRead : Circuit → List ℕ → Reading → Type 0
+WitnessRead c text (reading.Read start q) = Placed c text start q
+WitnessRead c text (reading.Refused n) = judge (eitherTests c text) ≡ refused n

@@ -1,211 +1,218 @@
-// Replay: whether a witness is a run that starts as the resets say and whose last frame is a hit.
+// Replay: whether the completions of a witness start as the resets say and hit in their last frame.
+use blocks::Question;
 use circuit::Held;
 use layout::Layout;
 use witness::Bits;
 use witness::Heading;
 ghost use mathlib.Core.Path.{_≡_};
-ghost use mathlib.Core.Bool.{cond, _||_};
-ghost use Prim.Native.Nat.{_+_, _-_, _*_, _≤_, _<_};
-ghost use lib.Dec.{eqb};
-ghost use lib.ListN.{length};
-ghost use Rattle.aiger.specs.Frames.{Run, hits};
-ghost use Rattle.aiger.specs.Witness.{agrees};
-ghost use Rattle.aiger.specs.Operations.{Replayed};
+ghost use mathlib.Core.List.{List};
+ghost use Prim.Native.Nat.{ℕ, _≤_, _<_};
+ghost use lib.ListN.{length, drop};
+ghost use Rattle.aiger.specs.Lists.{same};
+ghost use Rattle.aiger.specs.Text.{bytes};
+ghost use Rattle.aiger.specs.Circuit.{Circuit};
+ghost use Rattle.completions.specs.Either.{eithers};
+ghost use Rattle.completions.specs.Operations.{EitherReplayed};
 ghost use Rattle.layout.specs.Words.{word, circuitIn};
-ghost use Rattle.layout.specs.Layout.{LayoutOf};
-ghost use Rattle.frames.specs.Lanes.{Ready, Apart, Stored};
-ghost use Rattle.witness.specs.Line.{values};
-ghost use Rattle.replay.specs.Answer.{answered};
-ghost use Rattle.replay.specs.Texts.{bitWord, wordAt, inputVar, latchVar, Counted, TextFits, RunAt};
+ghost use Rattle.completions.specs.Forms.{isSymbol, SameForm};
+ghost use Rattle.witness.specs.Line.{LineAt};
+ghost use Rattle.frames.specs.Lanes.{Ready};
+ghost use Rattle.blocks.specs.Runs.{Fits};
+ghost use Rattle.replay.specs.Answer.{answered, Judged};
+ghost use Rattle.replay.specs.Texts.{CountsOf, Counted, FramesRead, WitnessRead};
 
 // What replay answers.
 pub enum ReplayAnswer {
-    Yes,
+    All,
     No,
+    Mixed,
     Refused(u32),
 }
 
-// The word of a bit of the text: all ones for `1`.
-fn bit_word(byte: u8) -> u64
-    ensures { λ r. ⌜ r ≡ bitWord byte ⌝ }
-{
-    if byte == b'1' {
-        0xffff_ffff_ffff_ffff
-    } else {
-        0
-    }
+// How many rows stand in a text.
+enum Rows {
+    Read(usize),
+    Malformed,
 }
 
-// Gives each input the bit that stands for it in the row at `at`.
-fn put_row(m: &[u32], layout: Layout, text: &[u8], at: usize, values: &mut [u64])
-    requires { ⌜ (7 + layout .i ≤ length (now m)) × (at + layout .i ≤ length (now text)) ⌝ }
-    requires { ⌜ Apart (inputVar (now m)) (layout .i) (length (now values)) ⌝ }
-    ensures { λ _. ⌜ Stored (inputVar (now (m .entry))) (wordAt (now (text .entry)) at) (layout .i) (now (values .entry)) (now (values .exit)) ⌝ }
+// A witness that was read: where its body, the lines after line `b`, begins, and what is asked of it.
+pub enum Reading {
+    Read(usize, Question),
+    Refused(u32),
+}
+
+// Whether a byte is a bit or `x`.
+fn is_symbol(byte: u8) -> bool
+    ensures { λ r. ⌜ r ≡ isSymbol byte ⌝ }
 {
-    let count = layout.i;
-    let mut i = 0;
+    (byte == b'0') | (byte == b'1') | (byte == b'x')
+}
+
+// A line of count bits at `at`, where `x` may stand for a bit: in every text of the same form, so in every completion.
+fn read_symbols(text: &[u8], at: usize, count: usize) -> Bits
+    ensures { λ r. ⌜ ((u : List ℕ) → SameForm (now (text .entry)) u → LineAt u at count r) ⌝ }
+{
+    if text.len() <= at {
+        return Bits::Malformed;
+    }
+    if text.len() - at <= count {
+        return Bits::Malformed;
+    }
+    let mut i: usize = 0;
     while i < count {
-        let v = (m[7 + i] / 2) as usize;
-        values[v] = bit_word(text[at + i]);
+        if !is_symbol(text[at + i]) {
+            return Bits::Malformed;
+        }
         i += 1;
     }
-}
-
-// Gives each latch the bit that stands for it in the line at `at`.
-fn put_start(m: &[u32], layout: Layout, text: &[u8], at: usize, values: &mut [u64])
-    requires { ⌜ (layout .latches + 3 * layout .l ≤ length (now m)) × (at + layout .l ≤ length (now text)) ⌝ }
-    requires { ⌜ Apart (latchVar (now m) layout) (layout .l) (length (now values)) ⌝ }
-    ensures { λ _. ⌜ Stored (latchVar (now (m .entry)) layout) (wordAt (now (text .entry)) at) (layout .l) (now (values .entry)) (now (values .exit)) ⌝ }
-{
-    let count = layout.l;
-    let latches = layout.latches;
-    let mut j = 0;
-    while j < count {
-        let v = (m[latches + 3 * j] / 2) as usize;
-        values[v] = bit_word(text[at + j]);
-        j += 1;
+    if text[at + count] != b'\n' {
+        return Bits::Malformed;
     }
+    Bits::Read(at + count + 1)
 }
 
-// Whether a start value agrees with a latch's reset.
-fn agrees_one(lit: u32, reset: u32, byte: u8) -> bool
-    ensures { λ r. ⌜ r ≡ (eqb reset lit || eqb reset (cond (eqb byte 49) 1 0)) ⌝ }
+// Whether the line `.` stands at `at` and ends the text, in every text of the same form.
+fn is_last(text: &[u8], at: usize) -> bool
+    ensures { λ r. ⌜ ((u : List ℕ) → SameForm (now (text .entry)) u → r ≡ same (drop at u) (bytes ".\n")) ⌝ }
 {
-    if reset == lit {
-        return true;
+    if text.len() <= at {
+        return false;
     }
-    if byte == b'1' { reset == 1 } else { reset == 0 }
+    if text.len() - at != 2 {
+        return false;
+    }
+    if text[at] != b'.' {
+        return false;
+    }
+    text[at + 1] == b'\n'
 }
 
-// Whether the start values at `at` agree with every reset.
-fn agrees_all(m: &[u32], layout: Layout, text: &[u8], at: usize) -> bool
-    requires { ⌜ LayoutOf (now m) layout ⌝ }
-    requires { ⌜ (layout .latches + 3 * layout .l ≤ length (now m)) × (at + layout .l ≤ length (now text)) ⌝ }
-    ensures { λ r. ⌜ r ≡ agrees (circuitIn (now (m .entry)) .latches) (values (now (text .entry)) at (length (circuitIn (now (m .entry)) .latches))) ⌝ }
-{
-    let count = layout.l;
-    let latches = layout.latches;
-    let mut j = 0;
-    while j < count {
-        if !agrees_one(m[latches + 3 * j], m[latches + 3 * j + 2], text[at + j]) {
-            return false;
-        }
-        j += 1;
-    }
-    true
-}
-
-// How many rows of count bits stand at `at`, up to the line `.` that ends the text; 0 where the text is malformed.
-fn count_rows(text: &[u8], at: usize, count: usize) -> usize
+// How many rows of count bits stand at `at`, up to the line `.` that ends the text: at most 256.
+fn count_rows(text: &[u8], at: usize, count: usize) -> Rows
     requires { ⌜ at ≤ length (now text) ⌝ }
-    ensures { λ r. ⌜ Counted (now (text .entry)) at count r ⌝ }
+    ensures { λ r. ⌜ ((u : List ℕ) → SameForm (now (text .entry)) u → Counted u at count r) ⌝ }
 {
     let mut next = at;
     let mut rows = 0;
     while rows < 256 {
-        if witness::is_end(text, next) {
-            return rows;
+        if is_last(text, next) {
+            return Rows::Read(rows);
         }
-        let Bits::Read(after) = witness::read_bits(text, next, count) else {
-            return 0;
+        let Bits::Read(after) = read_symbols(text, next, count) else {
+            return Rows::Malformed;
         };
         next = after;
         rows += 1;
     }
-    if witness::is_end(text, next) { rows } else { 0 }
-}
-
-// Whether the last of the frames is a hit of b. The start values stand at `start`, the first row at `rows`.
-fn last_hits(
-    m: &[u32],
-    layout: Layout,
-    order: &[u32],
-    b: usize,
-    text: &[u8],
-    start: usize,
-    rows: usize,
-    frames: usize,
-    values: &mut [u64],
-    state: &mut [u64],
-) -> bool
-    requires { ⌜ Ready (now m) layout (now order) (length (now values)) ⌝ }
-    requires { ⌜ (b < word (now m) 5) × (1024 ≤ length (now state)) ⌝ }
-    requires { ⌜ TextFits layout (now text) start rows frames ⌝ }
-    ensures { λ x. ⌜ ((r : Run) → RunAt (circuitIn (now (m .entry))) (now (text .entry)) start rows frames r → x ≡ hits (circuitIn (now (m .entry))) b r (frames - 1)) ⌝ }
-{
-    let inputs = layout.i;
-    values[0] = 0;
-    put_start(m, layout, text, start, values);
-    put_row(m, layout, text, rows, values);
-    frames::eval_gates(m, layout, order, values);
-    let mut u = 1;
-    while u < frames {
-        frames::advance(m, layout, order, values, state);
-        put_row(m, layout, text, rows + u * (inputs + 1), values);
-        frames::eval_gates(m, layout, order, values);
-        u += 1;
+    if is_last(text, next) {
+        return Rows::Read(rows);
     }
-    frames::hit_word(m, layout, order, b, values) % 2 == 1
+    Rows::Malformed
 }
 
-// The same, with memory of its own for the words.
-fn shows_hit(
-    m: &[u32],
-    layout: Layout,
-    order: &[u32],
-    b: usize,
-    text: &[u8],
-    start: usize,
-    rows: usize,
-    frames: usize,
-) -> bool
-    requires { ⌜ Ready (now m) layout (now order) 4097 ⌝ }
-    requires { ⌜ b < word (now m) 5 ⌝ }
-    requires { ⌜ TextFits layout (now text) start rows frames ⌝ }
-    ensures { λ x. ⌜ ((r : Run) → RunAt (circuitIn (now (m .entry))) (now (text .entry)) start rows frames r → x ≡ hits (circuitIn (now (m .entry))) b r (frames - 1)) ⌝ }
+// How many frames a body has, of l start values and rows of i bits.
+fn read_frames(body: &[u8], l: usize, i: usize) -> Rows
+    ensures { λ r. ⌜ ((u : List ℕ) → SameForm (now (body .entry)) u → FramesRead l i u r) ⌝ }
 {
-    let mut values = [0u64; 4097];
-    let mut state = [0u64; 1024];
-    last_hits(
-        m,
-        layout,
-        order,
-        b,
-        text,
+    let Bits::Read(rows) = read_symbols(body, 0, l) else {
+        return Rows::Malformed;
+    };
+    let Rows::Read(frames) = count_rows(body, rows, i) else {
+        return Rows::Malformed;
+    };
+    if frames == 0 {
+        return Rows::Malformed;
+    }
+    Rows::Read(frames)
+}
+
+// How many `x` a text holds.
+fn count_eithers(text: &[u8]) -> usize
+    ensures { λ r. ⌜ r ≡ eithers (now (text .entry)) ⌝ }
+{
+    let mut count = 0;
+    let mut i = 0;
+    while i < text.len() {
+        count += blocks::either_of(text[i]);
+        i += 1;
+    }
+    count
+}
+
+// Reads a witness of a circuit with this layout.
+pub fn read_witness(layout: Layout, text: &[u8]) -> Reading
+    ensures { λ r. ⌜ ((c : Circuit) → CountsOf c layout → WitnessRead c (now (text .entry)) r) ⌝ }
+{
+    let Heading::Read(b, start) = witness::read_heading(text) else {
+        return Reading::Refused(14);
+    };
+    if layout.b as u64 <= b {
+        return Reading::Refused(14);
+    }
+    let body = &text[start..];
+    let Rows::Read(frames) = read_frames(body, layout.l, layout.i) else {
+        return Reading::Refused(14);
+    };
+    let eithers = count_eithers(body);
+    if 16 < eithers {
+        return Reading::Refused(16);
+    }
+    Reading::Read(
         start,
-        rows,
-        frames,
-        &mut values,
-        &mut state,
+        Question {
+            bad: b as usize,
+            frames,
+            eithers,
+        },
     )
 }
 
-// Whether a text is a witness of the circuit in m, and if so whether it shows a hit.
+// Whether all completions of a body show a hit, none, or some.
+fn judge(
+    m: &[u32],
+    layout: Layout,
+    order: &[u32],
+    q: Question,
+    body: &[u8],
+    values: &mut [u64],
+    state: &mut [u64],
+) -> ReplayAnswer
+    requires { ⌜ Ready (now m) layout (now order) (length (now values)) ⌝ }
+    requires { ⌜ (q .bad < word (now m) 5) × (1024 ≤ length (now state)) ⌝ }
+    requires { ⌜ Fits (circuitIn (now m)) (q .bad) (q .frames) (q .eithers) (now body) ⌝ }
+    ensures { λ r. ⌜ Judged (circuitIn (now (m .entry))) (q .bad) (now (body .entry)) r ⌝ }
+{
+    if blocks::every_completion(m, layout, order, q, body, true, values, state) {
+        return ReplayAnswer::All;
+    }
+    if blocks::every_completion(m, layout, order, q, body, false, values, state) {
+        return ReplayAnswer::No;
+    }
+    ReplayAnswer::Mixed
+}
+
+// The same, with memory of its own for the words.
+fn judge_alone(m: &[u32], layout: Layout, order: &[u32], q: Question, body: &[u8]) -> ReplayAnswer
+    requires { ⌜ Ready (now m) layout (now order) 4097 ⌝ }
+    requires { ⌜ q .bad < word (now m) 5 ⌝ }
+    requires { ⌜ Fits (circuitIn (now m)) (q .bad) (q .frames) (q .eithers) (now body) ⌝ }
+    ensures { λ r. ⌜ Judged (circuitIn (now (m .entry))) (q .bad) (now (body .entry)) r ⌝ }
+{
+    let mut values = [0u64; 4097];
+    let mut state = [0u64; 1024];
+    judge(m, layout, order, q, body, &mut values, &mut state)
+}
+
+// Whether a text is a witness of the circuit in m, and if so which of its completions show a hit.
 pub fn replay(m: &[u32], text: &[u8]) -> ReplayAnswer
-    ensures { λ r. ⌜ Replayed (now (m .entry)) (now (text .entry)) (answered r) ⌝ }
+    ensures { λ r. ⌜ EitherReplayed (now (m .entry)) (now (text .entry)) (answered r) ⌝ }
 {
     let mut order = [0u32; 3072];
     let Held::Circuit(layout) = circuit::held_in(m, &mut order) else {
         return ReplayAnswer::Refused(9);
     };
-    let Heading::Read(b, start) = witness::read_heading(text) else {
-        return ReplayAnswer::Refused(14);
-    };
-    if layout.b as u64 <= b {
-        return ReplayAnswer::Refused(14);
+    match read_witness(layout, text) {
+        Reading::Refused(n) => ReplayAnswer::Refused(n),
+        Reading::Read(start, q) => judge_alone(m, layout, &order, q, &text[start..]),
     }
-    let Bits::Read(rows) = witness::read_bits(text, start, layout.l) else {
-        return ReplayAnswer::Refused(14);
-    };
-    let frames = count_rows(text, rows, layout.i);
-    if frames == 0 {
-        return ReplayAnswer::Refused(14);
-    }
-    if !agrees_all(m, layout, text, start) {
-        return ReplayAnswer::No;
-    }
-    if shows_hit(m, layout, &order, b as usize, text, start, rows, frames) {
-        return ReplayAnswer::Yes;
-    }
-    ReplayAnswer::No
 }

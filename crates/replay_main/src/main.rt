@@ -1,19 +1,23 @@
-// The program replay: whether a witness is a hit.
+// The program replay: whether the completions of a witness are hits.
 use files::say;
 
 fn say_help() {
     say(b"replay FILE WITNESS\n\n");
     say(
-        b"Loads the ASCII AIGER 1.9 file FILE, reads the witness WITNESS, of 1 to 256 frames, in the form in which a search\n",
+        b"Loads the AIGER 1.9 file FILE, reads the witness WITNESS, of 1 to 256 frames, in the form in which a search\n",
     );
     say(
-        b"prints it after its first line, and prints yes if its start agrees with every reset and its last frame is a\n",
+        b"prints it after its first line; x may stand for up to 16 bits that may be either. A completion, which has 0 or 1\n",
     );
-    say(b"hit of its bad line, otherwise no.\n\n");
+    say(
+        b"for each x, is a hit if its start agrees with every reset and its last frame is a hit of its bad line. Prints all\n",
+    );
+    say(b"if every completion is a hit, no if none is, otherwise mixed.\n\n");
     say(b"What is not accepted is refused with a number and its cause:\n");
     help::say_refusals(1, 3);
     help::say_refusals(5, 8);
     help::say_refusals(14, 14);
+    help::say_refusals(16, 16);
     say(
         b"\nExample: ./yunverok replay crates/replay_main/data/s.aag crates/replay_main/data/s.witness\n",
     );

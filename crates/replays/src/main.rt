@@ -10,8 +10,9 @@ fn say_replay(circuit: &[u8], text: &[u8]) {
         say_refused(n);
     }
     match replay::replay(&m, text) {
-        ReplayAnswer::Yes => say(b"yes\n"),
+        ReplayAnswer::All => say(b"all\n"),
         ReplayAnswer::No => say(b"no\n"),
+        ReplayAnswer::Mixed => say(b"mixed\n"),
         ReplayAnswer::Refused(n) => say_refused(n),
     }
 }

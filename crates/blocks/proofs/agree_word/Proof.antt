@@ -1,6 +1,6 @@
 -- `blocks::agree_word` meets its contract. Assumes nothing.
-use mathlib.Core.Path.{_≡_, refl, sym, ap, _∙_}
-use mathlib.Core.Bool.{true, _&&_}
+use mathlib.Core.Path.{_≡_, ap, ap₂, _∙_}
+use mathlib.Core.Bool.{Bool, _&&_}
 use mathlib.Core.List.{List}
 use Prim.Native.Nat.{ℕ, _+_, _-_, _*_, _≤_, _<_}
 use native.Mathlib.Omega.{arith}
@@ -11,7 +11,7 @@ use Rattle.aiger.specs.Circuit.{var}
 use Rattle.layout.specs.Words.{word}
 use Rattle.words.proofs.Bits.{bit-all}
 use Rattle.frames.proofs.Facts.{latches-inside, latches-apart}
-use Rattle.frames.proofs.Hits.{hit-more}
+use Rattle.frames.proofs.Hits.{constrained-start, constrained-more}
 use Rattle.blocks.proofs.Words.{agreesOne, variable}
 use Rattle.blocks.proofs.Starts.{latchAgrees, agrees-end}
 use Rattle.blocks.proofs.agree_word.Statement.{statement}
@@ -19,7 +19,7 @@ use Rattle.blocks.proofs.agree_word.Tie as tie
 
 abbrev Inv-loop : tie.InvT-loop
 Inv-loop m order values count latches agree₀ j₀ agree j =
-    (j ≤ count) × ((p : ℕ) → p < 64 → bit agree p ≡ (everyBelow j (latchAgrees m latches values p) && true))
+    (j ≤ count) × ((p : ℕ) → p < 64 → bit agree p ≡ (bit 18446744073709551615 p && everyBelow j (latchAgrees m latches values p)))
 
 abbrev μ-loop : tie.MeasureT-loop
 μ-loop m order values count latches agree₀ j₀ agree j = count - j
@@ -49,7 +49,7 @@ below k =
     omega (arith, place k, latches-apart (start l .pre) .below (l .loop .j) (omega (arith, n .loop-test .taken)))
 
 loop-holds : tie.Need-loop-holds Inv-loop μ-loop
-loop-holds c = (omega arith, λ p h. bit-all 64 p h)
+loop-holds c = (omega arith, λ p h. constrained-start 18446744073709551615 p)
 
 mul-lit : tie.Need-mul-lit Inv-loop μ-loop
 mul-lit c = omega (arith, inside c)
@@ -112,7 +112,7 @@ loop-again c =
     let v = c .before .before .before .before in (
       omega (arith, n .loop-test .taken),
       λ p h.
-          hit-more (l .loop .agree) (c .agree-one .result) p (l .loop .j) (latchAgrees m (S .args .layout .latches) (S .args .values .now) p) true (l .loop .inv .1 p h)
+          constrained-more (l .loop .agree) (c .agree-one .result) p (l .loop .j) 18446744073709551615 (latchAgrees m (S .args .layout .latches) (S .args .values .now) p) (l .loop .inv .1 p h)
           (c .agree-one .ensures p h
           ∙ ap (λ (x : ℕ). agreesOne (word m at) (word m (at + 2)) (bit (getD (S .args .values .now) x 0) p)) (place v)),
     )
@@ -123,7 +123,7 @@ returns c = λ p h st s.
     let S = start l in
     let e : l .loop .j ≡ S .args .layout .l = omega (arith, c .loop-test .left, l .loop .inv .0) in
     l .loop .inv .1 p h
-    ∙ ap (λ (n : ℕ). everyBelow n (latchAgrees (S .args .m .now) (S .args .layout .latches) (S .args .values .now) p) && true) e
+    ∙ ap₂ (λ (b : Bool) (n : ℕ). b && everyBelow n (latchAgrees (S .args .m .now) (S .args .layout .latches) (S .args .values .now) p)) (bit-all 64 p h) e
     ∙ agrees-end (S .pre) (S .args .values .now) p st s
 
 pub agree-word-spec : {M : Type 1} → statement M

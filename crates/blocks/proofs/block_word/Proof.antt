@@ -1,27 +1,25 @@
--- `blocks::block_word` meets its contract. The loop's invariant: the words are the values of frame u - 1 in each completion. Assumes nothing.
+-- `blocks::block_word` meets its contract. The loop's invariant: the words are the values of frame u - 1 in each completion, and `left` are
+-- those that start as the resets say and are allowed there. Assumes nothing.
 use mathlib.Core.Path.{_≡_, refl, sym, ap, ap₂, _∙_, subst}
 use Prim.Native.Nat.{ℕ, suc, _+_, _-_, _*_, _≤_, _<_}
 use native.Mathlib.Omega.{arith}
 use lib.ListN.{length, take}
-use Rattle.aiger.specs.Bits.{bit}
-use Rattle.aiger.specs.Witness.{agrees}
 use Rattle.completions.specs.Either.{eithers}
-use Rattle.aiger.specs.Frames.{hits}
 use Rattle.layout.specs.Words.{word, circuitIn}
-use Rattle.frames.proofs.Facts.{latches-are}
-use Rattle.enumeration.proofs.Facts.{inputs-are, inputs-few}
-use Rattle.enumeration.proofs.Blocks.{ready-with}
-use Rattle.blocks.proofs.Runs.{row-fits, row-next, rows-more, laneText, Valued, valued-start, valued-next, valued-hit}
+use Rattle.frames.proofs.Facts.{latches-are, ready-with}
+use Rattle.frames.proofs.Places.{inputs-are, inputs-few}
+use Rattle.blocks.proofs.Runs.{row-fits, row-next, rows-more, Valued, Left, valued-start, valued-next, left-start, left-next, valued-hit, none-left}
 use Rattle.blocks.proofs.block_word.Statement.{statement}
 use Rattle.blocks.proofs.block_word.Tie as tie
 
 abbrev Inv-loop : tie.InvT-loop
-Inv-loop m layout order q body block values₀ state₀ width frames seen₀ agree at₀ u₀ values state seen at u =
+Inv-loop m layout order q body block values₀ state₀ width frames seen₀ agree at₀ left₀ u₀ values state seen at left u =
     (1 ≤ u) × (u ≤ frames) × (length values ≡ length values₀) × (length state ≡ length state₀) × (word m 0 < length values)
     × (at ≡ layout .l + 1 + (u - 1) * (layout .i + 1)) × (seen ≡ eithers (take (at + layout .i + 1) body)) × Valued m body block frames (u - 1) values
+    × Left m body block frames (u - 1) left
 
 abbrev μ-loop : tie.MeasureT-loop
-μ-loop m layout order q body block values₀ state₀ width frames seen₀ agree at₀ u₀ values state seen at u = frames - u
+μ-loop m layout order q body block values₀ state₀ width frames seen₀ agree at₀ left₀ u₀ values state seen at left u = frames - u
 
 -- the rows lie within the body, by the layout
 inside : (S : tie.Start Inv-loop μ-loop)
@@ -38,56 +36,44 @@ row-inside : (S : tie.Start Inv-loop μ-loop) (u : ℕ) → u < S .args .q .fram
     → S .args .layout .l + 1 + u * (S .args .layout .i + 1) + (S .args .layout .i + 1) ≤ length (S .args .body .now)
 row-inside S u h = omega (arith, inside S, row-fits (S .args .q .frames) u (S .args .layout .i + 1) h)
 
--- where the loop begins
-module _ (k : tie.After-slice-known4 Inv-loop μ-loop) where
-  abbrev first : tie.After-put-frame Inv-loop μ-loop
-  first = k .before .before
-
-  abbrev agreed : tie.After-agree-word Inv-loop μ-loop
-  agreed = k .before .before .before .before .before
-
-  abbrev begun : tie.After-put-starts Inv-loop μ-loop
-  begun = k .before .before .before .before .before .before .before .before .before
-
+-- the start
+module _ (l : tie.At-loop Inv-loop μ-loop) where
   abbrev S : tie.Start Inv-loop μ-loop
-  S = k .before .before .before .before .before .before .before .before .before .before .before .before .before .before .before .before .before
+  S = l .before .before .before .before .before .before .before .before .before .before .before .before .before .before .before .before .before .before .before .before
 
 add-width : tie.Need-add-width Inv-loop μ-loop
 add-width c =
-    let S = c .before .before .before .before .before .before in
-    let R = S .pre .0 in
+    let R = c .before .before .before .before .before .before .pre .0 in
     omega (arith, inputs-few (R .held) (R .layout-of))
 
 put-starts-requires : tie.Need-put-starts-requires Inv-loop μ-loop
-put-starts-requires c κs =
-    let S = c .before .before .before .before .before .before .before in
-    (S .pre .0, omega (arith, inside S))
+put-starts-requires c κs = (c .before .before .before .before .before .before .before .pre .0, omega (arith, inside (c .before .before .before .before .before .before .before)))
 
 agree-word-requires : tie.Need-agree-word-requires Inv-loop μ-loop
-agree-word-requires c κs =
-    let B = c .before .before .before in
-    let S = B .before .before .before .before .before .before .before .before in
-    ready-with (S .pre .0) (omega (arith, B .put-starts .kept .1 .1 .1 .1 .1 .0, S .pre .0 .room))
+agree-word-requires c κs = ready-with (c .before .before .before .before .before .before .before .before .before .before .before .pre .0) (omega (arith, c .before .before .before .put-starts .kept .1 .1 .1 .1 .1 .0, c .before .before .before .before .before .before .before .before .before .before .before .pre .0 .room))
 
 add-at : tie.Need-add-at Inv-loop μ-loop
-add-at c =
-    let S = c .before .before .before .before .before .before .before .before .before .before .before .before .before in
-    omega (arith, inside S)
+add-at c = omega (arith, inside (c .before .before .before .before .before .before .before .before .before .before .before .before .before))
 
 put-frame-requires : tie.Need-put-frame-requires Inv-loop μ-loop
 put-frame-requires c κs =
-    let B = c .before .before .before .before .before .before in
-    let S = B .before .before .before .before .before .before .before .before in (
-      ready-with (S .pre .0) (omega (arith, B .put-starts .kept .1 .1 .1 .1 .1 .0, S .pre .0 .room)),
-      (omega (arith, row-inside S 0 (S .pre .1 .1 .some-frame)), B .put-starts .ensures .1),
+    let S = c .before .before .before .before .before .before .before .before .before .before .before .before .before .before in (
+      ready-with (S .pre .0) (omega (arith, c .before .before .before .before .before .before .put-starts .kept .1 .1 .1 .1 .1 .0, S .pre .0 .room)),
+      (omega (arith, row-inside S 0 (S .pre .1 .1 .some-frame)), c .before .before .before .before .before .before .put-starts .ensures .1),
     )
+
+constrain-requires : tie.Need-constrain-requires Inv-loop μ-loop
+constrain-requires c κs = ready-with (c .before .before .before .before .before .before .before .before .before .before .before .before .before .before .before .before .before .before .pre .0) (omega (arith, c .before .before .before .put-frame .kept .1 .1 .1 .1 .1 .1 .1 .0, c .before .before .before .before .before .before .before .before .before .before .put-starts .kept .1 .1 .1 .1 .1 .0, c .before .before .before .before .before .before .before .before .before .before .before .before .before .before .before .before .before .before .pre .0 .room))
 
 loop-holds : tie.Need-loop-holds Inv-loop μ-loop
 loop-holds c =
-    let S = S c in
-    let B = begun c .put-starts in
-    let P = first c .put-frame in
-    let a = S .args in (
+    let S = c .before .before .before .before .before .before .before .before .before .before .before .before .before .before .before .before .before .before .before in
+    let B = c .before .before .before .before .before .before .before .before .before .before .before .put-starts in
+    let P = c .before .before .before .before .put-frame in
+    let a = S .args in
+    let v =
+    valued-start (S .pre .0) (a .body .now) (a .block) (a .q .frames) (a .layout .l + 1) (B .last .1 .1 .1 .1 .1 .0) (P .last .1 .1 .1 .1 .1 .1 .1 .0) (S .pre .1 .1 .some-frame) refl (B .ensures .0)
+    (P .ensures .0) in (
       omega arith,
       S .pre .1 .1 .some-frame,
       refl,
@@ -95,108 +81,115 @@ loop-holds c =
       omega (arith, P .kept .1 .1 .1 .1 .1 .1 .1 .0, B .kept .1 .1 .1 .1 .1 .0, S .pre .0 .room),
       omega arith,
       P .ensures .1,
-      valued-start (S .pre .0) (a .body .now) (a .block) (a .q .frames) (a .layout .l + 1) (B .last .1 .1 .1 .1 .1 .0) (P .last .1 .1 .1 .1 .1 .1 .1 .0)
-          (S .pre .1 .1 .some-frame) refl (B .ensures .0) (P .ensures .0),
+      v,
+      left-start (S .pre .0) (a .body .now) (a .block) (a .q .frames) (c .before .before .before .before .before .before .before .agree-word .result) (c .constrain .result) (B .last .1 .1 .1 .1 .1 .0) (P .last .1 .1 .1 .1 .1 .1 .1 .0) (B .ensures .0)
+          (c .before .before .before .before .before .before .before .agree-word .ensures) v (c .constrain .ensures),
     )
+
+same-length : tie.Need-same-length Inv-loop μ-loop
+same-length c = c .before .before .loop .inv .2 ∙ c .before .before .before .before .before .before .before .put-frame .kept .1 .1 .1 .1 .1 .1 .1 .0 ∙ c .before .before .before .before .before .before .before .before .before .before .before .before .before .before .put-starts .kept .1 .1 .1 .1 .1 .0
+
+same-length-2 : tie.Need-same-length-2 Inv-loop μ-loop
+same-length-2 c = c .before .before .loop .inv .3
+
+returns : tie.Need-returns Inv-loop μ-loop
+returns c =
+    let S = c .before .before .before .before .before .before .before .before .before .before .before .before .before .before .before .before .before .before .before .before .before .before in
+    let L = c .before .before .loop in
+    let a = S .args in
+    let z : L .left ≡ 0 = omega (arith, c .if1 .taken) in
+    none-left (S .pre .0) (a .body .now) (a .block) (a .q .frames) (a .q .frames - 1) (L .u - 1) (a .q .bad) (omega (arith, L .inv .0, L .inv .1))
+    (subst (λ (w : ℕ). Left (a .m .now) (a .body .now) (a .block) (a .q .frames) (L .u - 1) w) z (L .inv .8))
 
 advance-requires : tie.Need-advance-requires Inv-loop μ-loop
 advance-requires c κs =
-    let l = c .before .before .before in
-    let S = S (l .before) in
-    (ready-with (S .pre .0) (l .loop .inv .4), omega (arith, l .loop .inv .3, S .pre .1 .0 .1))
+    let S = c .before .before .before .before .before .before .before .before .before .before .before .before .before .before .before .before .before .before .before .before .before .before .before .before in
+    let L = c .before .before .before .before .loop in
+    (ready-with (S .pre .0) (L .inv .4), omega (arith, L .inv .3, S .pre .1 .0 .1))
 
 -- in a turn: the next row lies within the body, and where it begins
 module _ (n : tie.In-loop Inv-loop μ-loop) where
   abbrev l : tie.At-loop Inv-loop μ-loop
   l = n .before
 
-  next-at : (let S = S (l .before) in
+  next-at : (let S = S l in
       l .loop .at + (S .args .layout .i + 1) ≡ S .args .layout .l + 1 + l .loop .u * (S .args .layout .i + 1))
   next-at =
-      let w : ℕ = S (l .before) .args .layout .i + 1 in
+      let w : ℕ = S l .args .layout .i + 1 in
       let e : l .loop .u - 1 + 1 ≡ l .loop .u = omega (arith, l .loop .inv .0) in
       omega (arith, l .loop .inv .5, row-next (l .loop .u - 1) w, ap (λ (k : ℕ). k * w) e)
 
-  next-inside : (let S = S (l .before) in
+  next-inside : (let S = S l in
       l .loop .at + (S .args .layout .i + 1) + (S .args .layout .i + 1) ≤ length (S .args .body .now))
-  next-inside = omega (arith, next-at, row-inside (S (l .before)) (l .loop .u) (omega (arith, n .loop-test .taken)))
+  next-inside = omega (arith, next-at, row-inside (S l) (l .loop .u) (omega (arith, n .loop-test .taken)))
 
 add-at-2 : tie.Need-add-at-2 Inv-loop μ-loop
-add-at-2 c =
-    let n = c .before .before .before .before .before .before .before in
-    omega (arith, next-inside n, S (n .before .before) .good)
+add-at-2 c = omega (arith, next-inside (c .before .before .before .before .before .before .before .before), c .before .before .before .before .before .before .before .before .before .before .before .before .before .before .before .before .before .before .before .before .before .before .before .before .before .before .before .before .before .good)
 
 put-frame-requires-2 : tie.Need-put-frame-requires-2 Inv-loop μ-loop
 put-frame-requires-2 c κs =
-    let n = c .before .before .before .before .before .before .before .before in
-    let l = n .before in
-    let S = S (l .before) in
-    let D = c .before .before .before .before .before .advance in
-    let e : l .loop .at + S .args .layout .i + 1 ≡ l .loop .at + (S .args .layout .i + 1) = omega arith in (
-      ready-with (S .pre .0) (omega (arith, D .kept .1 .1 .1 .0, l .loop .inv .4)),
-      (omega (arith, next-inside n), l .loop .inv .6 ∙ ap (λ (k : ℕ). eithers (take k (S .args .body .now))) e),
+    let S = c .before .before .before .before .before .before .before .before .before .before .before .before .before .before .before .before .before .before .before .before .before .before .before .before .before .before .before .before .before .before in
+    let L = c .before .before .before .before .before .before .before .before .before .before .loop in
+    let e : L .at + S .args .layout .i + 1 ≡ L .at + (S .args .layout .i + 1) = omega arith in (
+      ready-with (S .pre .0) (omega (arith, c .before .before .before .before .before .advance .kept .1 .1 .1 .0, L .inv .4)),
+      (omega (arith, next-inside (c .before .before .before .before .before .before .before .before .before)), L .inv .6 ∙ ap (λ (k : ℕ). eithers (take k (S .args .body .now))) e),
     )
+
+constrain-requires-2 : tie.Need-constrain-requires-2 Inv-loop μ-loop
+constrain-requires-2 c κs = ready-with (c .before .before .before .before .before .before .before .before .before .before .before .before .before .before .before .before .before .before .before .before .before .before .before .before .before .before .before .before .before .before .before .before .before .before .pre .0) (omega (arith, c .before .before .before .put-frame2 .kept .1 .1 .1 .1 .1 .1 .1 .0, c .before .before .before .before .before .before .before .before .before .advance .kept .1 .1 .1 .0, c .before .before .before .before .before .before .before .before .before .before .before .before .before .before .loop .inv .4))
 
 add-u : tie.Need-add-u Inv-loop μ-loop
 add-u c =
-    let n = c .before .before .before .before .before .before .before .before .before .before .before in
-    let S = S (n .before .before) in
-    omega (arith, n .loop-test .taken, inside S, rows-more (S .args .q .frames) (S .args .layout .i), S .good)
+    let S = c .before .before .before .before .before .before .before .before .before .before .before .before .before .before .before .before .before .before .before .before .before .before .before .before .before .before .before .before .before .before .before .before .before .before .before in
+    omega (arith, c .before .before .before .before .before .before .before .before .before .before .before .before .before .before .loop-test .taken, inside S, rows-more (S .args .q .frames) (S .args .layout .i), S .good)
 
 loop-less : tie.Need-loop-less Inv-loop μ-loop
-loop-less c =
-    let n = c .before .before .before .before .before .before .before .before .before .before .before in
-    omega (arith, n .loop-test .taken)
+loop-less c = omega (arith, c .before .before .before .before .before .before .before .before .before .before .before .before .before .before .loop-test .taken)
 
 loop-again : tie.Need-loop-again Inv-loop μ-loop
 loop-again c =
-    let n = c .before .before .before .before .before .before .before .before .before .before .before in
-    let l = n .before in
-    let S = S (l .before) in
-    let D = c .before .before .before .before .before .before .before .before .advance in
-    let P = c .before .before .put-frame2 in
+    let n = c .before .before .before .before .before .before .before .before .before .before .before .before .before .before in
+    let L = c .before .before .before .before .before .before .before .before .before .before .before .before .before .before .before .loop in
+    let S = c .before .before .before .before .before .before .before .before .before .before .before .before .before .before .before .before .before .before .before .before .before .before .before .before .before .before .before .before .before .before .before .before .before .before .before in
+    let D = c .before .before .before .before .before .before .before .before .before .before .advance in
+    let P = c .before .before .before .before .put-frame2 in
     let a = S .args in
-    let one : 1 ≤ l .loop .u = l .loop .inv .0 in
-    let k : suc (l .loop .u - 1) ≡ l .loop .u = omega arith in
-    let e : suc (l .loop .u - 1) ≡ l .loop .u + 1 - 1 = omega arith in (
+    let one : 1 ≤ L .u = L .inv .0 in
+    let k : suc (L .u - 1) ≡ L .u = omega arith in
+    let e : suc (L .u - 1) ≡ L .u + 1 - 1 = omega arith in
+    let v =
+    valued-next (S .pre .0) (a .body .now) (a .block) (a .q .frames) (L .u - 1) (L .at + (a .layout .i + 1)) (L .values) (D .last .1 .1 .1 .0) (P .last .1 .1 .1 .1 .1 .1 .1 .0)
+    (omega (arith, c .before .before .before .before .before .before .before .before .before .before .before .before .before .before .loop-test .taken)) (next-at n ∙ ap (λ (k : ℕ). a .layout .l + 1 + k * (a .layout .i + 1)) (sym k)) (L .inv .7) (D .ensures) (P .ensures .0) in (
       omega arith,
-      omega (arith, n .loop-test .taken),
-      P .kept .1 .1 .1 .1 .1 .1 .1 .0 ∙ D .kept .1 .1 .1 .0 ∙ l .loop .inv .2,
-      D .kept .1 .1 .1 .1 .0 ∙ l .loop .inv .3,
-      omega (arith, P .kept .1 .1 .1 .1 .1 .1 .1 .0, D .kept .1 .1 .1 .0, l .loop .inv .4),
+      omega (arith, c .before .before .before .before .before .before .before .before .before .before .before .before .before .before .loop-test .taken),
+      P .kept .1 .1 .1 .1 .1 .1 .1 .0 ∙ D .kept .1 .1 .1 .0 ∙ L .inv .2,
+      D .kept .1 .1 .1 .1 .0 ∙ L .inv .3,
+      omega (arith, P .kept .1 .1 .1 .1 .1 .1 .1 .0, D .kept .1 .1 .1 .0, L .inv .4),
       next-at n ∙ ap (λ (k : ℕ). a .layout .l + 1 + k * (a .layout .i + 1)) (sym k ∙ e),
       P .ensures .1,
-      subst (λ (t : ℕ). Valued (a .m .now) (a .body .now) (a .block) (a .q .frames) t (P .last .1 .1 .1 .1 .1 .1 .1 .0)) e
-          (valued-next (S .pre .0) (a .body .now) (a .block) (a .q .frames) (l .loop .u - 1) (l .loop .at + (a .layout .i + 1)) (l .loop .values)
-          (D .last .1 .1 .1 .0) (P .last .1 .1 .1 .1 .1 .1 .1 .0) (omega (arith, n .loop-test .taken))
-          (next-at n ∙ ap (λ (k : ℕ). a .layout .l + 1 + k * (a .layout .i + 1)) (sym k)) (l .loop .inv .7) (D .ensures) (P .ensures .0)),
+      subst (λ (t : ℕ). Valued (a .m .now) (a .body .now) (a .block) (a .q .frames) t (P .last .1 .1 .1 .1 .1 .1 .1 .0)) e v,
+      subst (λ (t : ℕ). Left (a .m .now) (a .body .now) (a .block) (a .q .frames) t (c .constrain2 .result)) e
+          (left-next (S .pre .0) (a .body .now) (a .block) (a .q .frames) (L .u - 1) (L .left) (c .constrain2 .result) (P .last .1 .1 .1 .1 .1 .1 .1 .0) (L .inv .8) v (c .constrain2 .ensures)),
     )
 
-hit-word-requires : tie.Need-hit-word-requires Inv-loop μ-loop
-hit-word-requires c κs =
-    let l = c .before .before in
-    let S = S (l .before) in
-    (ready-with (S .pre .0) (l .loop .inv .4), S .pre .1 .0 .0)
+bad-word-requires : tie.Need-bad-word-requires Inv-loop μ-loop
+bad-word-requires c κs = (ready-with (c .before .before .before .before .before .before .before .before .before .before .before .before .before .before .before .before .before .before .before .before .before .before .pre .0) (c .before .before .loop .inv .4), c .before .before .before .before .before .before .before .before .before .before .before .before .before .before .before .before .before .before .before .before .before .before .pre .1 .0 .0)
 
-same-length : tie.Need-same-length Inv-loop μ-loop
-same-length c =
-    let l = c .before .before .before in
-    let k = l .before in
-    l .loop .inv .2 ∙ first k .put-frame .kept .1 .1 .1 .1 .1 .1 .1 .0 ∙ begun k .put-starts .kept .1 .1 .1 .1 .1 .0
+same-length-3 : tie.Need-same-length-3 Inv-loop μ-loop
+same-length-3 c = c .before .before .before .loop .inv .2 ∙ c .before .before .before .before .before .before .before .before .put-frame .kept .1 .1 .1 .1 .1 .1 .1 .0 ∙ c .before .before .before .before .before .before .before .before .before .before .before .before .before .before .before .put-starts .kept .1 .1 .1 .1 .1 .0
 
-same-length-2 : tie.Need-same-length-2 Inv-loop μ-loop
-same-length-2 c = c .before .before .before .loop .inv .3
+same-length-4 : tie.Need-same-length-4 Inv-loop μ-loop
+same-length-4 c = c .before .before .before .loop .inv .3
 
-returns : tie.Need-returns Inv-loop μ-loop
-returns c = λ p h r z.
-    let l = c .before .before .before in
-    let k = l .before in
-    let S = S k in
+returns-2 : tie.Need-returns-2 Inv-loop μ-loop
+returns-2 c = λ p h r z.
+    let S = c .before .before .before .before .before .before .before .before .before .before .before .before .before .before .before .before .before .before .before .before .before .before .before in
+    let L = c .before .before .before .loop in
     let a = S .args in
-    let e : l .loop .u - 1 ≡ a .q .frames - 1 = omega (arith, l .loop .inv .1, c .before .before .loop-test .left) in
-    valued-hit (S .pre .0) (a .body .now) (a .block) (a .q .frames) (a .q .frames - 1) (a .q .bad) (agreed k .agree-word .result) (c .hit-word .result)
-    (begun k .put-starts .last .1 .1 .1 .1 .1 .0) (l .loop .values) (begun k .put-starts .ensures .0) (agreed k .agree-word .ensures)
-    (subst (λ (t : ℕ). Valued (a .m .now) (a .body .now) (a .block) (a .q .frames) t (l .loop .values)) e (l .loop .inv .7)) (c .hit-word .ensures) p h r z
+    let e : L .u - 1 ≡ a .q .frames - 1 = omega (arith, L .inv .1, c .before .before .loop-test .left) in
+    valued-hit (S .pre .0) (a .body .now) (a .block) (a .q .frames) (a .q .frames - 1) (a .q .bad) (L .left) (c .bad-word .result) (L .values)
+    (subst (λ (t : ℕ). Left (a .m .now) (a .body .now) (a .block) (a .q .frames) t (L .left)) e (L .inv .8))
+    (subst (λ (t : ℕ). Valued (a .m .now) (a .body .now) (a .block) (a .q .frames) t (L .values)) e (L .inv .7)) (c .bad-word .ensures) p h r z
 
 pub block-word-spec : {M : Type 1} → statement M
 block-word-spec =
@@ -209,14 +202,19 @@ block-word-spec =
     agree-word-requires
     add-at
     put-frame-requires
+    constrain-requires
     loop-holds
+    same-length
+    same-length-2
+    returns
     advance-requires
     add-at-2
     put-frame-requires-2
+    constrain-requires-2
     add-u
     loop-less
     loop-again
-    hit-word-requires
-    same-length
-    same-length-2
-    returns)
+    bad-word-requires
+    same-length-3
+    same-length-4
+    returns-2)

@@ -7,7 +7,7 @@ use lib.Dec.{T}
 use lib.ListN.{length}
 use Rattle.completions.specs.Either.{completion}
 use Rattle.layout.specs.Words.{word, circuitIn}
-use Rattle.enumeration.proofs.Blocks.{ready-with}
+use Rattle.frames.proofs.Facts.{ready-with}
 use Rattle.blocks.specs.Runs.{wanted}
 use Rattle.blocks.proofs.Judging.{before-more, refuted, before-all}
 use Rattle.blocks.proofs.every_completion.Statement.{statement}

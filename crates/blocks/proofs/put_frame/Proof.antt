@@ -3,8 +3,8 @@ use mathlib.Core.Path.{_≡_, _∙_}
 use Prim.Native.Nat.{_+_, _*_, _<_}
 use native.Mathlib.Omega.{arith}
 use borrow.Author.Needs.{needs}
-use Rattle.enumeration.proofs.Facts.{inputs-inside}
-use Rattle.enumeration.proofs.Blocks.{ready-with}
+use Rattle.frames.proofs.Places.{inputs-inside}
+use Rattle.frames.proofs.Facts.{ready-with}
 use Rattle.blocks.proofs.Runs.{inputs-apart, frame-given}
 use Rattle.blocks.proofs.put_frame.Statement.{statement}
 use Rattle.blocks.proofs.put_frame.Tie as tie

@@ -7,7 +7,7 @@ use lib.ListN.{take, set, length-set}
 use lib.Seq.{getD-set-same}
 use Rattle.completions.specs.Either.{eithers}
 use Rattle.frames.proofs.Facts.{latches-inside, latches-apart}
-use Rattle.enumeration.proofs.Blocks.{ready-with}
+use Rattle.frames.proofs.Facts.{ready-with}
 use Rattle.blocks.proofs.Runs.{started}
 use Rattle.blocks.proofs.put_starts.Statement.{statement}
 use Rattle.blocks.proofs.put_starts.Tie as tie

@@ -28,6 +28,15 @@ slice-aggregate-put-2 c = search needs
 put-requires-2 : tie.Need-put-requires-2
 put-requires-2 c κs = search needs
 
+enum-told-3 : tie.Need-enum-told-3
+enum-told-3 c = search needs
+
+slice-aggregate-put-3 : tie.Need-slice-aggregate-put-3
+slice-aggregate-put-3 c = search needs
+
+put-requires-3 : tie.Need-put-requires-3
+put-requires-3 c κs = search needs
+
 enum-known-n : tie.Need-enum-known-n
 enum-known-n c = search needs
 
@@ -67,6 +76,18 @@ returns-3 c =
     let e = p .before .before .before in
     let r = e .before .before in
     let s = r .before .before .before .before in
+    let q = ap answered (e .enum-told3 .given .1) in
+    replay-shown (s .pre .0) (r .replay .ensures) q (placed-fronts (p .put3 .ensures))
+
+same-length-4 : tie.Need-same-length-4
+same-length-4 c = search needs
+
+returns-4 : tie.Need-returns-4
+returns-4 c =
+    let p = c .before .before in
+    let e = p .before .before .before in
+    let r = e .before .before in
+    let s = r .before .before .before .before in
     let q = ap answered (e .n .given .1) in
     replay-shown (s .pre .0) (r .replay .ensures) q (p .write-refusal .ensures)
 
@@ -81,6 +102,9 @@ replay-loaded-spec =
     enum-told-2
     slice-aggregate-put-2
     put-requires-2
+    enum-told-3
+    slice-aggregate-put-3
+    put-requires-3
     enum-known-n
     write-refusal-requires
     same-length
@@ -88,4 +112,6 @@ replay-loaded-spec =
     same-length-2
     returns-2
     same-length-3
-    returns-3)
+    returns-3
+    same-length-4
+    returns-4)

@@ -1,15 +1,19 @@
 -- `replay::replay` meets its contract: each answer by what was read of the text. Assumes nothing.
-use Prim.Native.Nat.{_<_}
+use mathlib.Core.Path.{_≡_, sym, _∙_, subst}
+use mathlib.Core.List.{List}
+use Prim.Native.Nat.{ℕ}
 use native.Mathlib.Omega.{arith}
 use borrow.Author.Needs.{needs}
-use borrow.Author.Tests.{not-true, not-false}
-use Rattle.aiger.specs.Operations.{Replayed}
-use Rattle.layout.specs.Words.{word, circuitIn}
-use Rattle.frames.proofs.Facts.{top-is, counts}
-use Rattle.enumeration.proofs.Facts.{latches-inside}
-use Rattle.witness.proofs.Lines.{on-read, on-malformed}
-use Rattle.witness.proofs.Heads.{on-read as on-heading, on-malformed as on-no-heading}
-use Rattle.replay.proofs.Answers.{refuses, no-bad, no-start, no-rows, wrong-start, judged, fits}
+use lib.ListN.{drop}
+use Rattle.aiger.specs.Memory.{Holds}
+use Rattle.aiger.specs.Operations.{Operated}
+use Rattle.layout.specs.Words.{circuitIn}
+use Rattle.blocks.specs.Runs.{Fits}
+use Rattle.circuit.specs.Held.{HeldIs}
+use Rattle.circuit.specs.declared.Held.the-variants as held
+use Rattle.replay.specs.Answer.{answered, Judged}
+use Rattle.replay.specs.Texts.{WitnessRead, Placed}
+use Rattle.replay.proofs.Answers.{refuses, judged, rest-is, counts-of, ready-of, bad-word}
 use Rattle.replay.proofs.replay.Statement.{statement}
 use Rattle.replay.proofs.replay.Tie as tie
 
@@ -26,142 +30,81 @@ enum-told : tie.Need-enum-told
 enum-told c = search needs
 
 returns : tie.Need-returns
-returns c =
-    Replayed.noCircuit (rw (c .enum-told .given .1) at (c .before .before .before .held-in .ensures))
+returns c = Operated.noCircuit (rw (c .enum-told .given .1) at (c .before .before .before .held-in .ensures))
 
-read-heading-requires : tie.Need-read-heading-requires
-read-heading-requires c κs = search needs
+-- after reading: the circuit that is held, and what was read
+module _ (r : tie.After-read-witness) where
+  abbrev S : tie.Start
+  S = r .before .before .before .before .before .before .before .before .before
 
-enum-known-b : tie.Need-enum-known-b
-enum-known-b c = search needs
+  abbrev m : List ℕ
+  m = S .args .m .now
 
-enum-told-2 : tie.Need-enum-told-2
-enum-told-2 c = search needs
+  abbrev text : List ℕ
+  text = S .args .text .now
+
+  abbrev h : tie.After-held-in
+  h = r .before .before .before .before .before
+
+  holding : HeldIs m (h .held-in .last .1 .0) (held.Circuit (r .before .before .layout .given .0 .0))
+  holding = subst (HeldIs m (h .held-in .last .1 .0)) (r .before .before .layout .given .1) (h .held-in .ensures)
+
+  reading : WitnessRead (circuitIn m) text (r .read-witness .result)
+  reading = r .read-witness .ensures (circuitIn m) (counts-of (holding .1) (holding .0))
+
+read-witness-requires : tie.Need-read-witness-requires
+read-witness-requires c κs = search needs
+
+enum-known-n : tie.Need-enum-known-n
+enum-known-n c = search needs
+
+enum-known-start : tie.Need-enum-known-start
+enum-known-start c = search needs
+
+-- a witness that was read
+placed : (k : tie.After-start)
+    → (let r = k .before .before in Placed (circuitIn (m r)) (text r) (k .start .given .0 .0) (k .start .given .0 .1 .0))
+placed k = let r = k .before .before in subst (WitnessRead (circuitIn (m r)) (text r)) (k .start .given .1) (reading r)
+
+slice-aggregate-judge-alone : tie.Need-slice-aggregate-judge-alone
+slice-aggregate-judge-alone c = search needs
+
+sub-judge-alone : tie.Need-sub-judge-alone
+sub-judge-alone c = placed (c .before .before) .inside
+
+part-judge-alone-start : tie.Need-part-judge-alone-start
+part-judge-alone-start c = placed (c .before .before) .inside
+
+part-judge-alone-end : tie.Need-part-judge-alone-end
+part-judge-alone-end c = search needs
+
+judge-alone-requires : tie.Need-judge-alone-requires
+judge-alone-requires c κs =
+    let k = c .before .before .before in
+    let r = k .before .before in
+    let q = k .start .given .0 .1 .0 in
+    let t = holding r in (
+      ready-of (t .1) (t .0) (t .2) (search needs),
+      (
+        bad-word (t .1) (t .0) (placed k .bad),
+        subst (Fits (circuitIn (m r)) (q .bad) (q .frames) (q .eithers)) (sym (rest-is (text r) (k .start .given .0 .0))) (placed k .fits),
+      ),
+    )
 
 returns-2 : tie.Need-returns-2
 returns-2 c =
-    let a = c .before .before .before .before .before .before .before .before .before .before .before .args in
-    let K = c .before .before .before .before .layout .given in
-    let t = rw (K .1) at (c .before .before .before .before .before .before .before .held-in .ensures) in
-    refuses (t .1) (t .0) (a .text .now) (on-no-heading (c .before .before .read-heading .ensures) (circuitIn (a .m .now)) (c .enum-told2 .given .1))
+    let r = c .before .before .before in
+    refuses (circuitIn (m r)) (holding r .1) (text r) (c .before .n .given .0 .0)
+    (subst (WitnessRead (circuitIn (m r)) (text r)) (c .before .n .given .1) (reading r))
 
 returns-3 : tie.Need-returns-3
 returns-3 c =
-    let a = c .before .before .before .before .before .before .before .before .before .before .before .before .before .args in
-    let K = c .before .before .before .before .before .before .layout .given in
-    let t = rw (K .1) at (c .before .before .before .before .before .before .before .before .before .held-in .ensures) in
-    let B = c .before .before .b .given in
-    let h = on-heading (c .before .before .before .before .read-heading .ensures) (circuitIn (a .m .now)) (B .1) in
-    no-bad (t .1) (t .0) (a .text .now) (B .0 .0) (B .0 .1 .0) (h .0) (omega (arith, c .if1 .taken))
-
-read-bits-requires : tie.Need-read-bits-requires
-read-bits-requires c κs = search needs
-
-enum-known-rows : tie.Need-enum-known-rows
-enum-known-rows c = search needs
-
-enum-told-3 : tie.Need-enum-told-3
-enum-told-3 c = search needs
-
-returns-4 : tie.Need-returns-4
-returns-4 c =
-    let a = c .before .before .before .before .before .before .before .before .before .before .before .before .before .before .before .before .args in
-    let K = c .before .before .before .before .before .before .before .before .before .layout .given in
-    let t = rw (K .1) at (c .before .before .before .before .before .before .before .before .before .before .before .before .held-in .ensures) in
-    let B = c .before .before .before .before .before .b .given in
-    let h = on-heading (c .before .before .before .before .before .before .before .read-heading .ensures) (circuitIn (a .m .now)) (B .1) in
-    let l : B .0 .0 < K .0 .0 .b = omega (arith, c .before .before .before .if1 .left) in
-    no-start (t .1) (t .0) (a .text .now) (B .0 .0) (B .0 .1 .0) (h .0) l (on-malformed (c .before .before .read-bits .ensures) (c .enum-told3 .given .1))
-
-count-rows-requires : tie.Need-count-rows-requires
-count-rows-requires c κs =
-    on-read (c .before .before .before .read-bits .ensures) (c .before .rows .given .1) .1 .inside
-
-returns-5 : tie.Need-returns-5
-returns-5 c =
-    let a = c .before .before .before .before .before .before .before .before .before .before .before .before .before .before .before .before .before .before .before .args in
-    let K = c .before .before .before .before .before .before .before .before .before .before .before .before .layout .given in
-    let t = rw (K .1) at (c .before .before .before .before .before .before .before .before .before .before .before .before .before .before .before .held-in .ensures) in
-    let B = c .before .before .before .before .before .before .before .before .b .given in
-    let h = on-heading (c .before .before .before .before .before .before .before .before .before .before .read-heading .ensures) (circuitIn (a .m .now)) (B .1) in
-    let l : B .0 .0 < K .0 .0 .b = omega (arith, c .before .before .before .before .before .before .if1 .left) in
-    let Q = c .before .before .before .rows .given in
-    let s = on-read (c .before .before .before .before .before .read-bits .ensures) (Q .1) in
-    let n = c .before .count-rows .ensures in
-    no-rows (t .1) (t .0) (a .text .now) (B .0 .0) (B .0 .1 .0) (h .0) l (Q .0 .0) (s .0) n (c .if2 .taken)
-
-agrees-all-requires : tie.Need-agrees-all-requires
-agrees-all-requires c κs =
-    let a = c .before .before .before .before .before .before .before .before .before .before .before .before .before .before .before .before .before .before .before .args in
-    let K = c .before .before .before .before .before .before .before .before .before .before .before .before .layout .given in
-    let t = rw (K .1) at (c .before .before .before .before .before .before .before .before .before .before .before .before .before .before .before .held-in .ensures) in
-    let s = on-read (c .before .before .before .before .before .read-bits .ensures) (c .before .before .before .rows .given .1) in
-    (t .0, (latches-inside (t .1) (t .0), omega (arith, s .1 .past, s .1 .inside)))
-
-returns-6 : tie.Need-returns-6
-returns-6 c =
-    let a = c .before .before .before .before .before .before .before .before .before .before .before .before .before .before .before .before .before .before .before .before .before .args in
-    let K = c .before .before .before .before .before .before .before .before .before .before .before .before .before .before .layout .given in
-    let t = rw (K .1) at (c .before .before .before .before .before .before .before .before .before .before .before .before .before .before .before .before .before .held-in .ensures) in
-    let B = c .before .before .before .before .before .before .before .before .before .before .b .given in
-    let h = on-heading (c .before .before .before .before .before .before .before .before .before .before .before .before .read-heading .ensures) (circuitIn (a .m .now)) (B .1) in
-    let l : B .0 .0 < K .0 .0 .b = omega (arith, c .before .before .before .before .before .before .before .before .if1 .left) in
-    let Q = c .before .before .before .before .before .rows .given in
-    let s = on-read (c .before .before .before .before .before .before .before .read-bits .ensures) (Q .1) in
-    let n = c .before .before .before .count-rows .ensures in
-    let o = c .before .before .if2 .left in
-    let A = c .before .agrees-all in
-    wrong-start (t .1) (t .0) (a .text .now) (B .0 .0) (B .0 .1 .0) (h .0) l (Q .0 .0) (s .0) n o (A .ensures) (not-true (A .result) (c .if3 .taken))
-
-slice-aggregate-shows-hit : tie.Need-slice-aggregate-shows-hit
-slice-aggregate-shows-hit c = search needs
-
-shows-hit-requires : tie.Need-shows-hit-requires
-shows-hit-requires c κs =
-    let a = c .before .before .before .before .before .before .before .before .before .before .before .before .before .before .before .before .before .before .before .before .before .before .args in
-    let K = c .before .before .before .before .before .before .before .before .before .before .before .before .before .before .before .layout .given in
-    let t = rw (K .1) at (c .before .before .before .before .before .before .before .before .before .before .before .before .before .before .before .before .before .before .held-in .ensures) in
-    let B = c .before .before .before .before .before .before .before .before .before .before .before .b .given in
-    let h = on-heading (c .before .before .before .before .before .before .before .before .before .before .before .before .before .read-heading .ensures) (circuitIn (a .m .now)) (B .1) in
-    let l : B .0 .0 < K .0 .0 .b = omega (arith, c .before .before .before .before .before .before .before .before .before .if1 .left) in
-    let Q = c .before .before .before .before .before .before .rows .given in
-    let s = on-read (c .before .before .before .before .before .before .before .before .read-bits .ensures) (Q .1) in
-    let n = c .before .before .before .before .count-rows .ensures in
-    let o = c .before .before .before .if2 .left in
-    let top : word (a .m .now) 0 < 4097 = omega (arith, counts (t .1) .maxVar, top-is (a .m .now)) in (
-      record { held = t .1; layout-of = t .0; ordered = t .2; ranks = search needs; room = top },
-      (omega (arith, t .0 .b-is), fits (t .1) (t .0) (a .text .now) (B .0 .0) (B .0 .1 .0) (h .0) l (Q .0 .0) (s .0) n o (s .1 .past) (s .1 .inside)),
-    )
-
-returns-7 : tie.Need-returns-7
-returns-7 c =
-    let a = c .before .before .before .before .before .before .before .before .before .before .before .before .before .before .before .before .before .before .before .before .before .before .before .before .args in
-    let K = c .before .before .before .before .before .before .before .before .before .before .before .before .before .before .before .before .before .layout .given in
-    let t = rw (K .1) at (c .before .before .before .before .before .before .before .before .before .before .before .before .before .before .before .before .before .before .before .before .held-in .ensures) in
-    let B = c .before .before .before .before .before .before .before .before .before .before .before .before .before .b .given in
-    let h = on-heading (c .before .before .before .before .before .before .before .before .before .before .before .before .before .before .before .read-heading .ensures) (circuitIn (a .m .now)) (B .1) in
-    let l : B .0 .0 < K .0 .0 .b = omega (arith, c .before .before .before .before .before .before .before .before .before .before .before .if1 .left) in
-    let Q = c .before .before .before .before .before .before .before .before .rows .given in
-    let s = on-read (c .before .before .before .before .before .before .before .before .before .before .read-bits .ensures) (Q .1) in
-    let n = c .before .before .before .before .before .before .count-rows .ensures in
-    let o = c .before .before .before .before .before .if2 .left in
-    let A = c .before .before .before .before .agrees-all in
-    judged (t .1) (t .0) (a .text .now) (B .0 .0) (B .0 .1 .0) (h .0) l (Q .0 .0) (s .0) n o (A .ensures) (not-false (A .result) (c .before .before .before .if3 .left)) (c .before .shows-hit .ensures) (c .if4 .taken)
-
-returns-8 : tie.Need-returns-8
-returns-8 c =
-    let a = c .before .before .before .before .before .before .before .before .before .before .before .before .before .before .before .before .before .before .before .before .before .before .before .before .args in
-    let K = c .before .before .before .before .before .before .before .before .before .before .before .before .before .before .before .before .before .layout .given in
-    let t = rw (K .1) at (c .before .before .before .before .before .before .before .before .before .before .before .before .before .before .before .before .before .before .before .before .held-in .ensures) in
-    let B = c .before .before .before .before .before .before .before .before .before .before .before .before .before .b .given in
-    let h = on-heading (c .before .before .before .before .before .before .before .before .before .before .before .before .before .before .before .read-heading .ensures) (circuitIn (a .m .now)) (B .1) in
-    let l : B .0 .0 < K .0 .0 .b = omega (arith, c .before .before .before .before .before .before .before .before .before .before .before .if1 .left) in
-    let Q = c .before .before .before .before .before .before .before .before .rows .given in
-    let s = on-read (c .before .before .before .before .before .before .before .before .before .before .read-bits .ensures) (Q .1) in
-    let n = c .before .before .before .before .before .before .count-rows .ensures in
-    let o = c .before .before .before .before .before .if2 .left in
-    let A = c .before .before .before .before .agrees-all in
-    judged (t .1) (t .0) (a .text .now) (B .0 .0) (B .0 .1 .0) (h .0) l (Q .0 .0) (s .0) n o (A .ensures) (not-false (A .result) (c .before .before .before .if3 .left)) (c .before .shows-hit .ensures) (c .if4 .left)
+    let k = c .before .before .before .before in
+    let r = k .before .before in
+    let q = k .start .given .0 .1 .0 in
+    let start = k .start .given .0 .0 in
+    judged (circuitIn (m r)) (holding r .1) (text r) (q .bad) (drop start (text r)) (placed k .reads) (omega (arith, placed k .fits .eithers-are, placed k .fits .few))
+    (subst (λ (w : List ℕ). Judged (circuitIn (m r)) (q .bad) w (c .judge-alone .result)) (rest-is (text r) start) (c .judge-alone .ensures))
 
 pub replay-spec : {M : Type 1} → statement M
 replay-spec =
@@ -172,20 +115,13 @@ replay-spec =
     enum-known-layout
     enum-told
     returns
-    read-heading-requires
-    enum-known-b
-    enum-told-2
+    read-witness-requires
+    enum-known-n
+    enum-known-start
+    slice-aggregate-judge-alone
+    sub-judge-alone
+    part-judge-alone-start
+    part-judge-alone-end
+    judge-alone-requires
     returns-2
-    returns-3
-    read-bits-requires
-    enum-known-rows
-    enum-told-3
-    returns-4
-    count-rows-requires
-    returns-5
-    agrees-all-requires
-    returns-6
-    slice-aggregate-shows-hit
-    shows-hit-requires
-    returns-7
-    returns-8)
+    returns-3)

@@ -1,0 +1,146 @@
+/* Times widening: the witness of each example trigger, which are the arguments, and witnesses of 256 frames over 1,000 gates. */
+#include "yunverok.h"
+#include <stdio.h>
+#include <stdlib.h>
+#include <string.h>
+#include <time.h>
+
+static double now(void)
+{
+    struct timespec t;
+    clock_gettime(CLOCK_MONOTONIC, &t);
+    return t.tv_sec + t.tv_nsec * 1e-9;
+}
+
+static uint32_t seed = 1;
+static uint32_t draw(uint32_t n)
+{
+    seed = seed * 1664525u + 1013904223u;
+    return (seed >> 8) % n;
+}
+
+static uint32_t memory[33040];
+static uint8_t text[70000], witness[70000], wide[70000];
+static uint32_t work[16 * 65536];
+
+static int eithers(size_t n)
+{
+    int count = 0;
+    for (size_t i = 0; i < n; i++) count += wide[i] == 'x';
+    return count;
+}
+
+/* Widens the witness of n bytes. The answer is the time in seconds. */
+static double widen(size_t n)
+{
+    double start = now();
+    if (yunverok_widen(memory, 33040, witness, n, wide, sizeof wide) != n) abort();
+    double end = now();
+    if (yunverok_replay(memory, 33040, wide, n) != 1) abort();
+    return end - start;
+}
+
+static size_t read(const char *name, uint8_t *into, size_t room)
+{
+    FILE *f = fopen(name, "r");
+    if (!f) return 0;
+    size_t n = fread(into, 1, room - 1, f);
+    fclose(f);
+    into[n] = 0;
+    return n;
+}
+
+static void row(const char *name, size_t n)
+{
+    unsigned frames = 0;
+    for (size_t i = 0; i < n; i++) frames += witness[i] == '\n';
+    frames -= 4;
+    double best = widen(n);
+    for (int i = 0; i < 4; i++) {
+        double time = widen(n);
+        if (time < best) best = time;
+    }
+    printf("%-28s %6u %6u %4d %10.3f\n", name, frames, memory[2] + memory[1] * frames, eithers(n), best * 1e3);
+}
+
+/* Each trigger's witness: the one that the search finds, where it asks for one on its first line or in a line `Ask:`, or a file beside it. */
+static void triggers(int count, char **names)
+{
+    printf("%-28s %6s %6s %4s %10s\n", "trigger", "frames", "bits", "x", "ms");
+    for (int i = 0; i < count; i++) {
+        size_t n = read(names[i], text, sizeof text);
+        if (!n) abort();
+        unsigned b, k;
+        unsigned long long d;
+        int at = 0;
+        char *ask = strstr((char *)text, "Ask: search ");
+        if (sscanf((char *)text, "search %u %u %llu\n%n", &b, &k, &d, &at) != 3 && (!ask || sscanf(ask, "Ask: search %*s %u %u %llu", &b, &k, &d) != 3))
+            abort();
+        if (yunverok_load(text + at, n - at, memory, 33040)) abort();
+        char *name = strrchr(names[i], '/');
+        name = name ? name + 1 : names[i];
+        char beside[256];
+        snprintf(beside, sizeof beside, "%.*s.witness", (int)(strrchr(names[i], '.') - names[i]), names[i]);
+        size_t length = read(beside, witness, sizeof witness);
+        if (!length && yunverok_search(memory, 33040, b, k, d, work, sizeof work / 4, witness, sizeof witness) >> 32 == 0)
+            length = strstr((char *)witness, "\n.\n") + 3 - (char *)witness;
+        if (length) row(name, length);
+        else printf("%-28s no witness\n", name);
+    }
+}
+
+enum { INPUTS = 4, LATCHES = 24, GATES = 1000, FRAMES = 256 };
+
+/* A random machine; bad is the literal of its bad line. */
+static size_t machine(uint32_t bad)
+{
+    char *p = (char *)text;
+    uint32_t first = INPUTS + LATCHES + 1;
+    p += sprintf(p, "aag %d %d %d 0 %d 1\n", INPUTS + LATCHES + GATES, INPUTS, LATCHES, GATES);
+    for (int i = 0; i < INPUTS; i++) p += sprintf(p, "%d\n", 2 * (i + 1));
+    for (int j = 0; j < LATCHES; j++) p += sprintf(p, "%d %u\n", 2 * (INPUTS + 1 + j), draw(2 * (first + GATES)));
+    p += sprintf(p, "%u\n", bad);
+    for (int g = 0; g < GATES; g++) {
+        uint32_t lit = 2 * (first + g);
+        p += sprintf(p, "%u %u %u\n", lit, draw(lit - 2) + 2, draw(lit - 2) + 2);
+    }
+    return p - (char *)text;
+}
+
+static void machines(void)
+{
+    double sum = 0, worst = 0;
+    int most = 0, least = 16;
+    for (int i = 0; i < 20; i++) {
+        uint32_t bad = 2 * (INPUTS + LATCHES + 1 + GATES - 1 - draw(200));
+        char *p = (char *)witness;
+        p += sprintf(p, "1\nb0\n");
+        for (int j = 0; j < LATCHES; j++) *p++ = '0';
+        *p++ = '\n';
+        for (int u = 0; u < FRAMES; u++) {
+            for (int j = 0; j < INPUTS; j++) *p++ = '0' + draw(2);
+            *p++ = '\n';
+        }
+        p += sprintf(p, ".\n");
+        uint32_t drawn = seed;
+        if (yunverok_load(text, machine(bad), memory, 33040)) abort();
+        if (yunverok_replay(memory, 33040, witness, p - (char *)witness) == 0) {
+            seed = drawn;
+            if (yunverok_load(text, machine(bad + 1), memory, 33040)) abort();
+        }
+        double time = widen(p - (char *)witness);
+        int x = eithers(p - (char *)witness);
+        sum += time;
+        if (worst < time) worst = time;
+        if (most < x) most = x;
+        if (x < least) least = x;
+    }
+    printf("\n256 frames over %d gates, %d inputs, %d latches, 20 machines: %.1f ms in the mean, %.1f ms at worst, %d to %d x\n", GATES, INPUTS, LATCHES, sum / 20 * 1e3, worst * 1e3, least, most);
+}
+
+int main(int argc, char **argv)
+{
+    triggers(argc - 1, argv + 1);
+    machines();
+    return 0;
+}

@@ -1,0 +1,88 @@
+-- `replay::judge` meets its contract. Assumes nothing.
+use mathlib.Core.Path.{sym, ap, _∙_}
+use native.Mathlib.Omega.{arith}
+use borrow.Author.Needs.{needs}
+use Rattle.aiger.specs.Load.{gives}
+use Rattle.completions.specs.Either.{shows}
+use Rattle.layout.specs.Words.{circuitIn}
+use Rattle.frames.proofs.Facts.{ready-with}
+use Rattle.replay.proofs.Answers.{verdict-all, verdict-no, verdict-mixed, none-is}
+use Rattle.replay.proofs.judge.Statement.{statement}
+use Rattle.replay.proofs.judge.Tie as tie
+
+-- the entry, from the first test
+abbrev start : tie.After-every-completion → tie.Start
+start k = k .before .before .before .before .before .before .before .before
+
+every-completion-requires : tie.Need-every-completion-requires
+every-completion-requires c κs = search needs
+
+same-length : tie.Need-same-length
+same-length c = search needs
+
+same-length-2 : tie.Need-same-length-2
+same-length-2 c = search needs
+
+returns : tie.Need-returns
+returns c =
+    let k = c .before .before .before .before .before in
+    let a = start k .args in
+    ap gives (verdict-all (shows (circuitIn (a .m .now)) (a .q .bad)) (a .body .now) (sym (c .if1 .taken) ∙ k .every-completion .ensures))
+
+every-completion-requires-2 : tie.Need-every-completion-requires-2
+every-completion-requires-2 c κs =
+    let k = c .before .before .before .before .before .before .before in
+    let S = start k in (
+      ready-with (S .pre .0) (omega (arith, k .every-completion .kept .1 .1 .1 .1 .1 .1 .0, S .pre .0 .room)),
+      ((S .pre .1 .0 .0, omega (arith, k .every-completion .kept .1 .1 .1 .1 .1 .1 .1 .0, S .pre .1 .0 .1)), S .pre .1 .1),
+    )
+
+same-length-3 : tie.Need-same-length-3
+same-length-3 c = search needs
+
+same-length-4 : tie.Need-same-length-4
+same-length-4 c = search needs
+
+returns-2 : tie.Need-returns-2
+returns-2 c =
+    let j = c .before .before .before .before .before in
+    let o = j .before .before .before in
+    let k = o .before .before .before .before .before in
+    let a = start k .args in
+    let p = shows (circuitIn (a .m .now)) (a .q .bad) in
+    ap gives
+    (verdict-no p (a .body .now) (sym (o .if1 .left) ∙ k .every-completion .ensures)
+    (sym (c .if2 .taken) ∙ j .every-completion2 .ensures ∙ sym (none-is p (a .body .now))))
+
+same-length-5 : tie.Need-same-length-5
+same-length-5 c = search needs
+
+same-length-6 : tie.Need-same-length-6
+same-length-6 c = search needs
+
+returns-3 : tie.Need-returns-3
+returns-3 c =
+    let j = c .before .before .before .before .before in
+    let o = j .before .before .before in
+    let k = o .before .before .before .before .before in
+    let a = start k .args in
+    let p = shows (circuitIn (a .m .now)) (a .q .bad) in
+    ap gives
+    (verdict-mixed p (a .body .now) (sym (o .if1 .left) ∙ k .every-completion .ensures)
+    (sym (c .if2 .left) ∙ j .every-completion2 .ensures ∙ sym (none-is p (a .body .now))))
+
+pub judge-spec : {M : Type 1} → statement M
+judge-spec =
+    tie.close
+    (tie.spec
+    every-completion-requires
+    same-length
+    same-length-2
+    returns
+    every-completion-requires-2
+    same-length-3
+    same-length-4
+    returns-2
+    same-length-5
+    same-length-6
+    returns-3)

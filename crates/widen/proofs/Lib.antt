@@ -1,0 +1,4 @@
+pub mod Steps
+pub mod Outputs
+pub mod Headings
+pub mod Theorems

@@ -1,0 +1,78 @@
+-- `widen::widen_copy` meets its contract. Assumes nothing.
+use mathlib.Core.Path.{_≡_, sym, ap, ap₂, _∙_, subst}
+use mathlib.Core.Bool.{Bool}
+use mathlib.Core.List.{List}
+use Prim.Native.Nat.{ℕ, _-_}
+use borrow.Rule.Slice.PartMut.{putMid}
+use lib.ListN.{length, take, drop, length-drop}
+use Rattle.aiger.specs.Operations.{front}
+use Rattle.completions.specs.Either.{shows, widened}
+use Rattle.layout.specs.Words.{circuitIn}
+use Rattle.blocks.specs.Runs.{Fits}
+use Rattle.completions.proofs.Widening.{widened-wider}
+use Rattle.widen.proofs.Outputs.{body-of, body-put, copied}
+use borrow.Author.Needs.{needs}
+use Rattle.widen.proofs.widen_copy.Statement.{statement}
+use Rattle.widen.proofs.widen_copy.Tie as tie
+
+-- after the copy: the entry, the output, and the body in it
+abbrev start : tie.After-copy → tie.Start
+start k = k .before .before .before .before .before .before
+
+out-is : (k : tie.After-copy) → (let a = start k .args in k .copy .last .1 .0 ≡ front (a .text .now) (a .out .now))
+out-is k = let a = start k .args in k .copy .ensures .1 ∙ copied (a .text .now) (a .out .now)
+
+body-is : (k : tie.After-copy)
+    → (let a = start k .args in
+    let text = a .text .now in
+    take (length text - a .start) (drop (a .start) (k .copy .last .1 .0)) ≡ drop (a .start) text)
+body-is k =
+    let a = start k .args in
+    let text : List ℕ = a .text .now in
+    ap (λ (o : List ℕ). take (length text - a .start) (drop (a .start) o)) (out-is k) ∙ body-of text (a .out .now) (a .start) (start k .pre .1 .0 .1)
+
+copy-requires : tie.Need-copy-requires
+copy-requires c κs = search needs
+
+sub-widen-alone : tie.Need-sub-widen-alone
+sub-widen-alone c = search needs
+
+part-widen-alone-start : tie.Need-part-widen-alone-start
+part-widen-alone-start c = search needs
+
+part-widen-alone-end : tie.Need-part-widen-alone-end
+part-widen-alone-end c = search needs
+
+widen-alone-requires : tie.Need-widen-alone-requires
+widen-alone-requires c κs =
+    let k = c .before .before .before in
+    let S = start k in
+    let a = S .args in
+    let q = a .q in
+    (S .pre .0, (S .pre .1 .0 .0, subst (Fits (circuitIn (a .m .now)) (q .bad) (q .frames) (q .eithers)) (sym (body-is k)) (S .pre .1 .1)))
+
+same-length : tie.Need-same-length
+same-length c = search needs
+
+returns : tie.Need-returns
+returns c =
+    let w = c .before .before in
+    let k = w .before .before .before .before in
+    let a = start k .args in
+    let p : List ℕ → Bool = shows (circuitIn (a .m .now)) (a .q .bad) in
+    let text : List ℕ = a .text .now in
+    let body : List ℕ = drop (a .start) text in
+    ap₂ (putMid (a .start) (length text - a .start)) (out-is k) (w .widen-alone .ensures ∙ ap (widened p) (body-is k))
+    ∙ body-put text (a .out .now) (widened p body) (a .start) (start k .pre .1 .0 .1) (widened-wider p body .size ∙ length-drop (a .start) text)
+
+pub widen-copy-spec : {M : Type 1} → statement M
+widen-copy-spec =
+    tie.close
+    (tie.spec
+    copy-requires
+    sub-widen-alone
+    part-widen-alone-start
+    part-widen-alone-end
+    widen-alone-requires
+    same-length
+    returns)

@@ -1,0 +1,197 @@
+// Widening: `x` in a witness wherever every completion still hits, from the last bit to the first, until there are 16.
+use blocks::Question;
+use circuit::Held;
+use layout::Layout;
+use replay::Reading;
+ghost use mathlib.Core.Path.{_≡_};
+ghost use mathlib.Core.List.{_++_};
+ghost use Prim.Native.Nat.{_≤_, _<_};
+ghost use lib.Dec.{T};
+ghost use lib.ListN.{length, take, drop};
+ghost use Rattle.completions.specs.Either.{eithers, isBit, allPass, shows, widenAt, widenBelow, widened};
+ghost use Rattle.aiger.specs.Operations.{front};
+ghost use Rattle.completions.specs.Operations.{Widened};
+ghost use Rattle.layout.specs.Words.{word, circuitIn};
+ghost use Rattle.frames.specs.Lanes.{Ready};
+ghost use Rattle.blocks.specs.Runs.{Fits};
+ghost use Rattle.widen.specs.Answer.{answered};
+
+// What widening answers: the length of the text.
+pub enum WidenAnswer {
+    Length(usize),
+    Refused(u32),
+}
+
+// Whether a byte is a bit.
+fn is_bit(byte: u8) -> bool
+    ensures { λ r. ⌜ r ≡ isBit byte ⌝ }
+{
+    (byte == b'0') | (byte == b'1')
+}
+
+// Whether every completion of a body hits. Where there is more than one block of them, a three-valued pass may see it at once.
+fn every_hit(
+    m: &[u32],
+    layout: Layout,
+    order: &[u32],
+    q: Question,
+    body: &[u8],
+    values: &mut [u64],
+    state: &mut [u64],
+) -> bool
+    requires { ⌜ Ready (now m) layout (now order) (length (now values)) ⌝ }
+    requires { ⌜ (q .bad < word (now m) 5) × (1024 ≤ length (now state)) ⌝ }
+    requires { ⌜ Fits (circuitIn (now m)) (q .bad) (q .frames) (q .eithers) (now body) ⌝ }
+    ensures { λ r. ⌜ r ≡ allPass (shows (circuitIn (now (m .entry))) (q .bad)) (now (body .entry)) ⌝ }
+{
+    if 6 < q.eithers {
+        if ternary::every_completion(m, layout, order, q, body) {
+            return true;
+        }
+    }
+    blocks::every_completion(m, layout, order, q, body, true, values, state)
+}
+
+// Puts `x` in place of byte i of a body all of whose completions hit, where it is a bit, every completion still hits, and there are fewer
+// than 16. The completions that have the other bit decide. The answer is the number of x.
+fn widen_at(
+    m: &[u32],
+    layout: Layout,
+    order: &[u32],
+    q: Question,
+    i: usize,
+    body: &mut [u8],
+    values: &mut [u64],
+    state: &mut [u64],
+) -> usize
+    requires { ⌜ Ready (now m) layout (now order) (length (now values)) ⌝ }
+    requires { ⌜ (q .bad < word (now m) 5) × (1024 ≤ length (now state)) × (i < length (now body)) ⌝ }
+    requires { ⌜ Fits (circuitIn (now m)) (q .bad) (q .frames) (q .eithers) (now body) ⌝ }
+    requires { ⌜ T (allPass (shows (circuitIn (now m)) (q .bad)) (now body)) ⌝ }
+    ensures { λ r. ⌜
+        (now (body .exit) ≡ widenAt (shows (circuitIn (now (m .entry))) (q .bad)) (now (body .entry)) i) × (r ≡ eithers (now (body .exit)))
+        ⌝ }
+{
+    let count = q.eithers;
+    if 15 < count {
+        return count;
+    }
+    let byte = body[i];
+    if !is_bit(byte) {
+        return count;
+    }
+    body[i] = 97 - byte;
+    if every_hit(m, layout, order, q, body, values, state) {
+        body[i] = b'x';
+        return count + 1;
+    }
+    body[i] = byte;
+    count
+}
+
+// Widens a body all of whose completions hit.
+fn widen_body(
+    m: &[u32],
+    layout: Layout,
+    order: &[u32],
+    q: Question,
+    body: &mut [u8],
+    values: &mut [u64],
+    state: &mut [u64],
+)
+    requires { ⌜ Ready (now m) layout (now order) (length (now values)) ⌝ }
+    requires { ⌜ (q .bad < word (now m) 5) × (1024 ≤ length (now state)) ⌝ }
+    requires { ⌜ Fits (circuitIn (now m)) (q .bad) (q .frames) (q .eithers) (now body) ⌝ }
+    requires { ⌜ T (allPass (shows (circuitIn (now m)) (q .bad)) (now body)) ⌝ }
+    ensures { λ _. ⌜ now (body .exit) ≡ widenBelow (shows (circuitIn (now (m .entry))) (q .bad)) (now (body .entry)) (length (now (body .entry))) ⌝ }
+{
+    let bad = q.bad;
+    let frames = q.frames;
+    let mut eithers = q.eithers;
+    let mut i = body.len();
+    while 0 < i {
+        i -= 1;
+        let next = Question {
+            bad,
+            frames,
+            eithers,
+        };
+        eithers = widen_at(m, layout, order, next, i, body, values, state);
+    }
+}
+
+// Widens a body where every completion hits; else it stays.
+fn widen_hits(
+    m: &[u32],
+    layout: Layout,
+    order: &[u32],
+    q: Question,
+    body: &mut [u8],
+    values: &mut [u64],
+    state: &mut [u64],
+)
+    requires { ⌜ Ready (now m) layout (now order) (length (now values)) ⌝ }
+    requires { ⌜ (q .bad < word (now m) 5) × (1024 ≤ length (now state)) ⌝ }
+    requires { ⌜ Fits (circuitIn (now m)) (q .bad) (q .frames) (q .eithers) (now body) ⌝ }
+    ensures { λ _. ⌜ now (body .exit) ≡ widened (shows (circuitIn (now (m .entry))) (q .bad)) (now (body .entry)) ⌝ }
+{
+    if !every_hit(m, layout, order, q, body, values, state) {
+        return;
+    }
+    widen_body(m, layout, order, q, body, values, state);
+}
+
+// The same, with memory of its own for the words.
+fn widen_alone(m: &[u32], layout: Layout, order: &[u32], q: Question, body: &mut [u8])
+    requires { ⌜ Ready (now m) layout (now order) 4097 ⌝ }
+    requires { ⌜ q .bad < word (now m) 5 ⌝ }
+    requires { ⌜ Fits (circuitIn (now m)) (q .bad) (q .frames) (q .eithers) (now body) ⌝ }
+    ensures { λ _. ⌜ now (body .exit) ≡ widened (shows (circuitIn (now (m .entry))) (q .bad)) (now (body .entry)) ⌝ }
+{
+    let mut values = [0u64; 4097];
+    let mut state = [0u64; 1024];
+    widen_hits(m, layout, order, q, body, &mut values, &mut state);
+}
+
+// Copies a witness, whose body begins at `start`, to the front of out and widens the copy.
+fn widen_copy(
+    m: &[u32],
+    layout: Layout,
+    order: &[u32],
+    q: Question,
+    start: usize,
+    text: &[u8],
+    out: &mut [u8],
+)
+    requires { ⌜ Ready (now m) layout (now order) 4097 ⌝ }
+    requires { ⌜ (q .bad < word (now m) 5) × (start ≤ length (now text)) × (length (now text) ≤ length (now out)) ⌝ }
+    requires { ⌜ Fits (circuitIn (now m)) (q .bad) (q .frames) (q .eithers) (drop start (now text)) ⌝ }
+    ensures { λ _. ⌜
+        now (out .exit)
+        ≡ front (take start (now (text .entry)) ++ widened (shows (circuitIn (now (m .entry))) (q .bad)) (drop start (now (text .entry)))) (now (out .entry))
+        ⌝ }
+{
+    let end = text.len();
+    bytes::copy(text, out);
+    widen_alone(m, layout, order, q, &mut out[start..end]);
+}
+
+// Writes a witness of the circuit in m, widened, to the front of out.
+pub fn widen(m: &[u32], text: &[u8], out: &mut [u8]) -> WidenAnswer
+    ensures { λ r. ⌜ Widened (now (m .entry)) (now (text .entry)) (now (out .entry)) (answered r) (now (out .exit)) ⌝ }
+{
+    let mut order = [0u32; 3072];
+    let Held::Circuit(layout) = circuit::held_in(m, &mut order) else {
+        return WidenAnswer::Refused(9);
+    };
+    match replay::read_witness(layout, text) {
+        Reading::Refused(n) => WidenAnswer::Refused(n),
+        Reading::Read(start, q) => {
+            if out.len() < text.len() {
+                return WidenAnswer::Refused(13);
+            }
+            widen_copy(m, layout, &order, q, start, text, out);
+            WidenAnswer::Length(text.len())
+        }
+    }
+}
