@@ -1,0 +1,82 @@
+-- `join::join` meets its contract: each answer by the tests of the memories and by the tests of the counts. Assumes nothing.
+use mathlib.Core.Logic.{inl, inr}
+use native.Mathlib.Omega.{arith}
+use borrow.Author.Needs.{needs}
+use Rattle.joined.specs.Joined.{JoinedInto}
+use Rattle.join.proofs.Answers.{small, refuses-in, stores-in}
+use Rattle.join.proofs.join.Statement.{statement}
+use Rattle.join.proofs.join.Tie as tie
+
+test-requires : tie.Need-test-requires
+test-requires c κs = search needs
+
+enum-known-p : tie.Need-enum-known-p
+enum-known-p c = search needs
+
+enum-told : tie.Need-enum-told
+enum-told c = search needs
+
+returns : tie.Need-returns
+returns c = JoinedInto.noCircuit (inl (rw (c .enum-told .given .1) at (c .before .before .test .ensures)))
+
+test-requires-2 : tie.Need-test-requires-2
+test-requires-2 c κs = search needs
+
+enum-known-q : tie.Need-enum-known-q
+enum-known-q c = search needs
+
+enum-told-2 : tie.Need-enum-told-2
+enum-told-2 c = search needs
+
+returns-2 : tie.Need-returns-2
+returns-2 c = JoinedInto.noCircuit (inr (rw (c .enum-told2 .given .1) at (c .before .before .test2 .ensures)))
+
+refusal-requires : tie.Need-refusal-requires
+refusal-requires c κs =
+    let t = rw (c .before .before .before .before .before .p .given .1) at (c .before .before .before .before .before .before .before .test .ensures) in
+    let u = rw (c .before .q .given .1) at (c .before .before .before .test2 .ensures) in (small (t .0) (t .1), small (u .0) (u .1))
+
+returns-3 : tie.Need-returns-3
+returns-3 c =
+    let t = rw (c .before .before .before .before .before .before .before .p .given .1) at (c .before .before .before .before .before .before .before .before .before .test .ensures) in
+    let u = rw (c .before .before .before .q .given .1) at (c .before .before .before .before .before .test2 .ensures) in
+    refuses-in (t .1) (t .0) (u .1) (u .0) (c .before .refusal .ensures) (c .if1 .taken)
+
+join-held-requires : tie.Need-join-held-requires
+join-held-requires c κs =
+    let t = rw (c .before .before .before .before .before .before .before .before .p .given .1) at (c .before .before .before .before .before .before .before .before .before .before .test .ensures) in
+    let u = rw (c .before .before .before .before .q .given .1) at (c .before .before .before .before .before .before .test2 .ensures) in
+    ((t .1, t .0, u .1, u .0), c .before .before .refusal .ensures .passes (c .before .if1 .left))
+
+joined-counts-requires : tie.Need-joined-counts-requires
+joined-counts-requires c κs =
+    let t = rw (c .before .before .before .before .before .before .before .before .before .before .before .p .given .1) at (c .before .before .before .before .before .before .before .before .before .before .before .before .before .test .ensures) in
+    let u = rw (c .before .before .before .before .before .before .before .q .given .1) at (c .before .before .before .before .before .before .before .before .before .test2 .ensures) in (small (t .0) (t .1), small (u .0) (u .1))
+
+same-length : tie.Need-same-length
+same-length c = c .before .before .before .join-held .kept .1 .1 .1 .1 .0
+
+returns-4 : tie.Need-returns-4
+returns-4 c =
+    let t = rw (c .before .before .before .before .before .before .before .before .before .before .before .before .p .given .1) at (c .before .before .before .before .before .before .before .before .before .before .before .before .before .before .test .ensures) in
+    let u = rw (c .before .before .before .before .before .before .before .before .q .given .1) at (c .before .before .before .before .before .before .before .before .before .before .test2 .ensures) in
+    stores-in (t .1) (t .0) (u .1) (u .0) (c .before .before .before .before .before .before .refusal .ensures) (c .before .before .before .before .before .if1 .left) (c .before .before .before .join-held .ensures) (c .joined-counts .ensures)
+
+pub join-spec : {M : Type 1} → statement M
+join-spec =
+    tie.close
+    (tie.spec
+    test-requires
+    enum-known-p
+    enum-told
+    returns
+    test-requires-2
+    enum-known-q
+    enum-told-2
+    returns-2
+    refusal-requires
+    returns-3
+    join-held-requires
+    joined-counts-requires
+    same-length
+    returns-4)

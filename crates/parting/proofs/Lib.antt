@@ -1,0 +1,9 @@
+pub mod Numbers
+pub mod Shape
+pub mod Ranks
+pub mod Acyclic
+pub mod Accepted
+pub mod Parted
+pub mod Starts
+pub mod Theorems
+pub mod Contract

@@ -1,0 +1,1 @@
+// Theorems of joined circuits: proofs/. This crate has no code.
