@@ -1,0 +1,60 @@
+-- Each reply to a user is that of the history without the other user's calls other than accepted loads. Clause 12.7. Assumes nothing.
+use mathlib.Core.Path.{_≡_, refl, sym, ap, ap₂, _∙_, subst}
+use mathlib.Core.Bool.{Bool, true, false, cond, _||_}
+use mathlib.Core.List.{List, [], _∷_, map}
+use mathlib.Core.Logic.{⊎-elim}
+use Prim.Native.Nat.{ℕ}
+use native.Mathlib.Omega.{arith}
+use lib.Dec.{T, eqb, eqb→eq}
+use Rattle.aiger.proofs.Tests.{T-true, or-cases}
+use Rattle.meaning.proofs.Lists.{or-left, or-right, eqb-of}
+use Rattle.history.specs.History.{State, Call, Reply, Step, Event, History, userOf, isAccepted, concerns, concerning}
+use Rattle.history.proofs.Calls.{Same, own-step, load-step, other-step}
+
+abbrev calls : List Event → List Call
+calls es = map (λ (e : Event). e .call) es
+
+abbrev replies : List Event → List Reply
+replies es = map (λ (e : Event). e .reply) es
+
+-- an event that concerns user u has one reply
+concerned : (u : ℕ) (c : Call) (r r′ : Reply) {s t s₁ t₁ : State} → Same u s t → T (eqb (userOf c) u || isAccepted r) → Step s c r s₁ → Step t c r′ t₁
+    → (r ≡ r′) × Same u s₁ t₁
+concerned u c r r′ {s} {t} {s₁} {t₁} a h x y =
+    ⊎-elim
+    (λ k.
+    let e = eqb→eq (userOf c) u k in
+    let z = own-step (subst (λ (v : ℕ). Same v s t) (sym e) a) x y in
+    (z .0, subst (λ (v : ℕ). Same v s₁ t₁) e (z .1)))
+    (λ k. load-step u a k x y)
+    (or-cases (eqb (userOf c) u) (isAccepted r) h)
+
+false-not : (b : Bool) → b ≡ false → T b → ⊥
+false-not true e t = subst T e t
+false-not false e t = t
+
+-- the theorem: from states of which user u sees the same, a history and one that has its calls that concern u, and no others, give the
+-- same replies to them
+pub undisturbed : (u : ℕ) (es es₂ : List Event) {s t : State} → Same u s t → History s es → History t es₂
+    → map (λ (e : Event). e .call) es₂ ≡ map (λ (e : Event). e .call) (concerning u es)
+    → map (λ (e : Event). e .reply) es₂ ≡ map (λ (e : Event). e .reply) (concerning u es)
+unfolding concerning
+undisturbed u [] [] a h k e = refl
+undisturbed u [] (x ∷ xs) a h k e = let z : _≡_ {A = ℕ} 0 1 = cc in absurd (omega arith)
+undisturbed u (x ∷ xs) es₂ {s} {t} a (History.goes {s′ = s₁} st h) k e =
+    go (concerns u x) refl es₂ k e (λ ys t′ b l d. undisturbed u xs ys {s = s₁} {t = t′} b h l d)
+  where
+    go : (b : Bool) → concerns u x ≡ b → (es₂ : List Event) → History t es₂ → calls es₂ ≡ calls (cond b (x ∷ concerning u xs) (concerning u xs))
+        → ((ys : List Event) (t′ : State) → Same u s₁ t′ → History t′ ys → calls ys ≡ calls (concerning u xs) → replies ys ≡ replies (concerning u xs))
+        → replies es₂ ≡ replies (cond b (x ∷ concerning u xs) (concerning u xs))
+    go true c [] k d f = let z : _≡_ {A = ℕ} 0 1 = cc in absurd (omega arith)
+    go true c (y ∷ ys) (History.goes {s′ = t₁} su l) d f =
+        let one : y .call ≡ x .call = cc in
+        let rest : calls ys ≡ calls (concerning u xs) = cc in
+        let z = concerned u (x .call) (x .reply) (y .reply) a (T-true c) st (subst (λ (v : Call). Step t v (y .reply) t₁) one su) in
+        ap₂ _∷_ (sym (z .0)) (f ys t₁ (z .1) l rest)
+    go false c ys k d f =
+        f ys t
+        (other-step u a (λ q. false-not (concerns u x) c (or-left (eqb (userOf (x .call)) u) (isAccepted (x .reply)) (eqb-of q)))
+        (λ q. false-not (concerns u x) c (or-right (eqb (userOf (x .call)) u) (isAccepted (x .reply)) q)) st)
+        k d

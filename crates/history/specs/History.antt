@@ -1,0 +1,87 @@
+-- Clause 12.7: calls of two users on one circuit memory and one working memory, what a call answers and leaves, and histories of calls.
+-- Assumes nothing.
+use mathlib.Core.Path.{_≡_}
+use mathlib.Core.Bool.{Bool, true, false, cond, _||_}
+use mathlib.Core.List.{List, [], _∷_}
+use Prim.Native.Nat.{ℕ}
+use lib.Dec.{eqb}
+use lib.ListN.{length}
+use Rattle.aiger.specs.Load.{Answer, refused, gives}
+use Rattle.aiger.specs.Search.{Outcome}
+use Rattle.users.specs.Users.{PinnedSearched, PinnedFolded}
+use Rattle.user_calls.specs.Calls.{UserLoaded, PinSet}
+use Rattle.user_write.specs.Written.{UserWritten}
+use Rattle.search.specs.Chosen as Search
+use Rattle.fold.specs.Chosen as Fold
+
+-- what the users share: circuit memory and working memory, and the pins of both
+pub record State : Type 0 where
+  pub memory : List ℕ
+  pub work : List ℕ
+  pub pins : List ℕ
+
+-- a call: the user, what the operation takes, and what is lent to it alone
+pub data Call : Type 0 where
+  load : (user : ℕ) (file : List ℕ) → Call
+  setPin : (user input value : ℕ) → Call
+  search : (user b k D : ℕ) (out : List ℕ) → Call
+  fold : (user b t : ℕ) (out : List ℕ) → Call
+  write : (user : ℕ) (out : List ℕ) → Call
+
+-- what a call gives back: the answer, and the output that was lent
+pub data Reply : Type 0 where
+  loaded : Answer (List ℕ) → Reply
+  pinned : Answer (Unit {0}) → Reply
+  searched : Answer Outcome → List ℕ → Reply
+  folded : Answer ℕ → List ℕ → Reply
+  written : Answer ℕ → List ℕ → Reply
+
+-- whose call it is
+abbrev pub userOf : Call → ℕ
+userOf (Call.load user file) = user
+userOf (Call.setPin user input value) = user
+userOf (Call.search user b k D out) = user
+userOf (Call.fold user b t out) = user
+userOf (Call.write user out) = user
+
+-- a load was accepted
+abbrev pub isAccepted : Reply → Bool
+isAccepted (Reply.loaded (refused n)) = false
+isAccepted (Reply.loaded (gives counts)) = true
+isAccepted (Reply.pinned a) = false
+isAccepted (Reply.searched a out) = false
+isAccepted (Reply.folded a out) = false
+isAccepted (Reply.written a out) = false
+
+-- what a call may answer and leave: the contract of its operation
+pub data Step (s : State) : Call → Reply → State → Type 0 where
+  loads : {user : ℕ} {file m′ p′ : List ℕ} {a : Answer (List ℕ)} → UserLoaded (s .memory) file (s .pins) user a m′ p′
+      → Step s (Call.load user file) (Reply.loaded a) (record { memory = m′; work = s .work; pins = p′ })
+  pins : {user input value : ℕ} {p′ : List ℕ} {a : Answer (Unit {0})} → PinSet (s .memory) user input value (s .pins) a p′
+      → Step s (Call.setPin user input value) (Reply.pinned a) (record { memory = s .memory; work = s .work; pins = p′ })
+  searches : {user b k D : ℕ} {out w′ out′ : List ℕ} {a : Answer Outcome} → PinnedSearched Search.chosen (s .memory) (s .pins) user b k D (s .work) out a w′ out′
+      → length w′ ≡ length (s .work)
+      → Step s (Call.search user b k D out) (Reply.searched a out′) (record { memory = s .memory; work = w′; pins = s .pins })
+  folds : {user b t : ℕ} {out w′ out′ : List ℕ} {a : Answer ℕ} → PinnedFolded Fold.chosen (s .memory) (s .pins) user b t (s .work) out a w′ out′
+      → length w′ ≡ length (s .work)
+      → Step s (Call.fold user b t out) (Reply.folded a out′) (record { memory = s .memory; work = w′; pins = s .pins })
+  writes : {user : ℕ} {out out′ : List ℕ} {a : Answer ℕ} → UserWritten (s .memory) user out a out′
+      → Step s (Call.write user out) (Reply.written a out′) (record { memory = s .memory; work = s .work; pins = s .pins })
+
+-- a call that was made, with what it gave back
+pub record Event : Type 0 where
+  pub call : Call
+  pub reply : Reply
+
+-- a history: events one after the other, from a state
+pub data History : State → List Event → Type 0 where
+  ends : {s : State} → History s []
+  goes : {s s′ : State} {e : Event} {es : List Event} → Step s (e .call) (e .reply) s′ → History s′ es → History s (e ∷ es)
+
+-- the events that concern user u: the user's own calls, and accepted loads
+abbrev pub concerns : ℕ → Event → Bool
+concerns u e = eqb (userOf (e .call)) u || isAccepted (e .reply)
+
+unfoldable pub concerning : ℕ → List Event → List Event
+concerning u [] = []
+concerning u (e ∷ es) = cond (concerns u e) (e ∷ concerning u es) (concerning u es)

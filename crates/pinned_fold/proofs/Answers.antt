@@ -1,0 +1,68 @@
+-- From the answer of the fold of the pinned circuit to the answer for the user. Assumes nothing.
+use mathlib.Core.Path.{_≡_, refl, sym, ap, _∙_, subst}
+use mathlib.Core.List.{List}
+use Prim.Native.Nat.{ℕ, zero, suc, _≤_}
+use native.Mathlib.Omega.{arith}
+use lib.ListN.{length, getD, replicate, length-replicate}
+use Rattle.aiger.specs.Circuit.{Circuit}
+use Rattle.aiger.specs.Load.{Answer, refused, gives}
+use Rattle.aiger.specs.Memory.{Holds}
+use Rattle.aiger.specs.Operations.{judge, Operated, foldTests, Folded}
+use Rattle.layout.specs.Words.{circuitIn}
+use Rattle.layout.specs.declared.Layout.{Layout}
+use Rattle.limits.proofs.Refusals.{told-refused}
+use Rattle.limits.specs.Limits.{told}
+use Rattle.pins.specs.Pins.{pinsOf, pinned}
+use Rattle.pinning.specs.Steps.{PinFits}
+use Rattle.users.specs.Users.{ForUser, PinnedFolded, PinnedFoldEffect}
+use Rattle.users.proofs.Tests.{acts-only, fold-pinned}
+use Rattle.fold.specs.Chosen.{chosen}
+use Rattle.pinned_fold.specs.Steps.{FoldFits, FoldIs}
+
+getD-same : (n x i : ℕ) → getD (replicate n x) i x ≡ x
+getD-same zero x i = refl
+getD-same (suc n) x zero = refl
+getD-same (suc n) x (suc i) = getD-same n x i
+
+module _ {m : List ℕ} {p : Layout} {user b t room len : ℕ} (f : FoldFits m p user b t room len) where
+  pub fits-pins : (n w : ℕ) → 4097 ≤ n → 33032 ≤ w → PinFits m p user (replicate n 2) (replicate w 0)
+  fits-pins n w a d =
+      record {
+        held = f .held;
+        layout-of = f .layout-of;
+        user-of = f .user-of;
+        free = λ v. getD-same n 2 v;
+        variables = omega (arith, length-replicate {A = ℕ} n 2);
+        zeros = λ i. getD-same w 0 i;
+        room = omega (arith, length-replicate {A = ℕ} w 0);
+      }
+
+  -- the fold of words that hold the pinned circuit
+  pub fold-is : (q : ℕ → ℕ) {words w w′ out out′ : List ℕ} {a : Answer ℕ} → length w ≡ room → length out ≡ len → Holds words (pinned (circuitIn m) q)
+      → Folded chosen words b t w out a w′ out′ → FoldIs (circuitIn m) q b t out a out′
+  fold-is q {words} {w} {w′} {out} {out′} {a} e l h s =
+      let j = fold-pinned (circuitIn m) q b t room len (f .tests) in
+      let k : judge (foldTests (pinned (circuitIn m) q) b t (length w) (length out)) ≡ gives tt = rw (e, l) j in
+      let r = acts-only {tests = λ d. foldTests d b t (length w) (length out)} h k s in
+      record { length-of = r .0; says = r .1; work = w′; effect = r .2 }
+
+module _ {m : List ℕ} (pins : List ℕ) {user : ℕ} (h : Holds m (circuitIn m)) (u : user ≤ 1) {b t : ℕ} {w out : List ℕ} where
+  pub answered-with : judge (foldTests (circuitIn m) b t (length w) (length out)) ≡ gives tt → {a : Answer ℕ} {w′ out′ : List ℕ}
+      → FoldIs (circuitIn m) (pinsOf pins user) b t out a out′ → PinnedFolded chosen m pins user b t w out a w′ out′
+  answered-with j {a} {w′} {out′} x =
+      let e = x .effect in
+      ForUser.known u
+      (acted (x .says)
+      (Operated.acts (circuitIn m) h j (record { permitted = e .permitted; short = e .short; count = e .count; shows = e .shows })))
+    where
+      acted : {n : ℕ} {y : Answer ℕ} → y ≡ gives n
+          → Operated m (λ d. foldTests d b t (length w) (length out)) (w, out) (PinnedFoldEffect chosen (pinsOf pins user) b t out) (gives n) (w′, out′)
+          → Operated m (λ d. foldTests d b t (length w) (length out)) (w, out) (PinnedFoldEffect chosen (pinsOf pins user) b t out) y (w′, out′)
+      acted e g =
+          subst (λ (y : Answer ℕ).
+          Operated m (λ d. foldTests d b t (length w) (length out)) (w, out) (PinnedFoldEffect chosen (pinsOf pins user) b t out) y (w′, out′))
+          (sym e) g
+
+  pub refused-with : (n : ℕ) → judge (foldTests (circuitIn m) b t (length w) (length out)) ≡ told n → (n ≡ 0 → ⊥)
+      → PinnedFolded chosen m pins user b t w out (refused n) w out
+  refused-with n e z = ForUser.known u (Operated.refuses (circuitIn m) h (e ∙ told-refused n z))

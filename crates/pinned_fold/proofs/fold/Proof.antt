@@ -1,0 +1,74 @@
+-- `pinned_fold::fold` meets its contract. Assumes nothing.
+use mathlib.Core.Path.{_∙_}
+use native.Mathlib.Omega.{arith}
+use borrow.Author.Needs.{needs}
+use Rattle.aiger.specs.Operations.{Operated}
+use Rattle.limits.proofs.Refusals.{told-passed}
+use Rattle.limits.proofs.Sizes.{counts-of, limited}
+use Rattle.users.specs.Users.{ForUser}
+use Rattle.pinned_fold.proofs.Answers.{refused-with, answered-with}
+use Rattle.pinned_fold.proofs.fold.Statement.{statement}
+use Rattle.pinned_fold.proofs.fold.Tie as tie
+use Rattle.pinned_fold.proofs.fold.Reads as reads
+use Rattle.pinned_fold.proofs.fold.Lts as lts
+use Rattle.circuit.proofs.test.Reads as test-reads
+
+returns : tie.Need-returns
+returns c = ForUser.stranger (omega arith)
+
+test-requires : tie.Need-test-requires
+test-requires c κs = tt
+
+enum-known-layout : tie.Need-enum-known-layout
+enum-known-layout c = search needs
+
+enum-told : tie.Need-enum-told
+enum-told c = search needs
+
+returns-2 : tie.Need-returns-2
+returns-2 c = ForUser.known (omega arith) (Operated.noCircuit (rw (c .enum-told .given .1) at (c .before .before .test .ensures)))
+
+refusal-requires : tie.Need-refusal-requires
+refusal-requires c κs = let l = c .before in
+    let h = rw (l .layout .given .1) at (l .before .before .test .ensures) in
+    limited (h .1) (h .0)
+
+returns-3 : tie.Need-returns-3
+returns-3 c = let r = c .before in
+    let l = r .before .before in
+    let h = rw (l .layout .given .1) at (l .before .before .test .ensures) in
+    refused-with (c .before .before .before .before .before .before .before .before .before .before .before .args .pins .now) (h .1) (omega arith) (r .refusal .result) (r .refusal .ensures _ (counts-of (h .1) (h .0))) (c .if2 .taken)
+
+fold-known-requires : tie.Need-fold-known-requires
+fold-known-requires c κs = let r = c .before .before .before in
+    let l = r .before .before in
+    let h = rw (l .layout .given .1) at (l .before .before .test .ensures) in
+    record { held = h .1; layout-of = h .0; user-of = omega arith; tests = r .refusal .ensures _ (counts-of (h .1) (h .0)) ∙ told-passed (r .refusal .result) (omega arith) }
+
+same-length : tie.Need-same-length
+same-length c = c .before .before .before .before .fold-known .kept .1 .1 .1 .1 .1 .1 .0
+
+same-length-2 : tie.Need-same-length-2
+same-length-2 c = c .before .before .before .before .fold-known .kept .1 .1 .1 .1 .1 .1 .1 .0
+
+returns-4 : tie.Need-returns-4
+returns-4 c = let r = c .before .before .before .before .before .before .before .before in
+    let l = r .before .before in
+    let h = rw (l .layout .given .1) at (l .before .before .test .ensures) in
+    answered-with (c .before .before .before .before .before .before .before .before .before .before .before .before .before .before .before .before .before .before .args .pins .now) (h .1) (omega arith) (r .refusal .ensures _ (counts-of (h .1) (h .0)) ∙ told-passed (r .refusal .result) (omega arith)) (c .before .before .before .before .fold-known .ensures)
+
+pub fold-spec : {M : Type 1} → statement M
+fold-spec =
+    tie.close
+    (tie.spec
+    returns
+    test-requires
+    enum-known-layout
+    enum-told
+    returns-2
+    refusal-requires
+    returns-3
+    fold-known-requires
+    same-length
+    same-length-2
+    returns-4)

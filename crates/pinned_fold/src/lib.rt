@@ -1,0 +1,60 @@
+// The fold for a user: of the pinned circuit, whose free bits are those that the user's pins leave.
+use circuit::Held;
+use fold::FoldAnswer;
+use layout::Layout;
+ghost use mathlib.Core.Path.{_≡_};
+ghost use lib.ListN.{length};
+ghost use Rattle.layout.specs.Words.{circuitIn};
+ghost use Rattle.pins.specs.Pins.{pinsOf};
+ghost use Rattle.users.specs.Users.{PinnedFolded};
+ghost use Rattle.fold.specs.Chosen.{chosen};
+ghost use Rattle.fold.specs.Answer.{answered};
+ghost use Rattle.pinned_fold.specs.Steps.{FoldFits, FoldIs};
+
+// Folds under the pins of a user who is known, where all tests pass.
+fn fold_known(
+    m: &[u32],
+    layout: Layout,
+    pins: &[u8],
+    user: usize,
+    b: u64,
+    t: u64,
+    work: &mut [u32],
+    out: &mut [u8],
+) -> FoldAnswer
+    requires { ⌜ FoldFits (now m) layout user b t (length (now work)) (length (now out)) ⌝ }
+    ensures { λ r. ⌜ FoldIs (circuitIn (now (m .entry))) (pinsOf (now (pins .entry)) user) b t (now (out .entry)) (answered r) (now (out .exit)) ⌝ }
+{
+    let mut table = [2u8; 4097];
+    let mut words = [0u32; 33032];
+    pinning::pin_circuit(m, layout, pins, user, &mut table, &mut words);
+    fold::fold(&words, b, t, work, out)
+}
+
+// Writes the hit of bad line b at frame t, under the user's pins, as a circuit without latches.
+pub fn fold(
+    m: &[u32],
+    pins: &[u8],
+    user: u32,
+    b: u64,
+    t: u64,
+    work: &mut [u32],
+    out: &mut [u8],
+) -> FoldAnswer
+    ensures { λ r. ⌜
+        PinnedFolded chosen (now (m .entry)) (now (pins .entry)) user b t (now (work .entry)) (now (out .entry)) (answered r) (now (work .exit))
+        (now (out .exit))
+        ⌝ }
+{
+    if 1 < user {
+        return FoldAnswer::Refused(18);
+    }
+    let Held::Circuit(layout) = circuit::test(m) else {
+        return FoldAnswer::Refused(9);
+    };
+    let number = fold::refusal(layout, b, t, work.len(), out.len());
+    if number != 0 {
+        return FoldAnswer::Refused(number);
+    }
+    fold_known(m, layout, pins, user as usize, b, t, work, out)
+}

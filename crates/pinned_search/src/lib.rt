@@ -1,0 +1,100 @@
+// The search for a user: among the sequences that obey the user's pins.
+use circuit::Held;
+use layout::Layout;
+use search::SearchAnswer;
+ghost use mathlib.Core.Path.{_≡_};
+ghost use Prim.Native.Nat.{_+_, _≤_};
+ghost use lib.ListN.{length};
+ghost use Rattle.aiger.specs.Text.{digits};
+ghost use Rattle.layout.specs.Words.{circuitIn};
+ghost use Rattle.pins.specs.Pins.{pinsOf};
+ghost use Rattle.users.specs.Users.{PinnedSearched};
+ghost use Rattle.search.specs.Chosen.{chosen, said};
+ghost use Rattle.pinned_search.specs.Steps.{PinnedFits, TextIs, OutputIs};
+
+// Searches the pinned circuit. Found leaves its witness at the front of text.
+fn search_text(
+    m: &[u32],
+    layout: Layout,
+    pins: &[u8],
+    user: usize,
+    b: u64,
+    k: u64,
+    d: u64,
+    work: &mut [u32],
+    text: &mut [u8],
+) -> SearchAnswer
+    requires { ⌜ PinnedFits (now m) layout user b k d (length (now work)) (length (now text)) ⌝ }
+    ensures { λ r. ⌜ TextIs (circuitIn (now (m .entry))) (pinsOf (now (pins .entry)) user) b k d (now (text .entry)) (said r) (now (text .exit)) ⌝ }
+{
+    let mut table = [2u8; 4097];
+    let mut words = [0u32; 33032];
+    pinning::pin_circuit(m, layout, pins, user, &mut table, &mut words);
+    search::search(&words, b, k, d, work, text)
+}
+
+// Where the rows of a witness for b begin.
+fn rows_at(latches: usize, b: u32) -> usize
+    requires { ⌜ latches ≤ 1024 ⌝ }
+    ensures { λ r. ⌜ r ≡ 4 + length (digits b) + (latches + 1) ⌝ }
+{
+    4 + numbers::digit_count(b) + (latches + 1)
+}
+
+// Searches under the pins of a user who is known, where all tests pass.
+fn search_known(
+    m: &[u32],
+    layout: Layout,
+    pins: &[u8],
+    user: usize,
+    b: u64,
+    k: u64,
+    d: u64,
+    work: &mut [u32],
+    out: &mut [u8],
+) -> SearchAnswer
+    requires { ⌜ PinnedFits (now m) layout user b k d (length (now work)) (length (now out)) ⌝ }
+    ensures { λ r. ⌜ OutputIs (circuitIn (now (m .entry))) (pinsOf (now (pins .entry)) user) b k d (now (out .entry)) (said r) (now (out .exit)) ⌝ }
+{
+    let mut text = [0u8; 66825];
+    let inputs = layout.i;
+    let start = rows_at(layout.l, b as u32);
+    match search_text(m, layout, pins, user, b, k, d, work, &mut text) {
+        SearchAnswer::Found(t) => {
+            expansion::expand(&text, start, t as usize, inputs, pins, user, out);
+            SearchAnswer::Found(t)
+        }
+        SearchAnswer::Nothing(n) => SearchAnswer::Nothing(n),
+        SearchAnswer::Spent(t) => SearchAnswer::Spent(t),
+        SearchAnswer::Refused(n) => SearchAnswer::Refused(n),
+    }
+}
+
+// Whether bad line b can be reached within bound k by a sequence that obeys the user's pins.
+pub fn search(
+    m: &[u32],
+    pins: &[u8],
+    user: u32,
+    b: u64,
+    k: u64,
+    d: u64,
+    work: &mut [u32],
+    out: &mut [u8],
+) -> SearchAnswer
+    ensures { λ r. ⌜
+        PinnedSearched chosen (now (m .entry)) (now (pins .entry)) user b k d (now (work .entry)) (now (out .entry)) (said r) (now (work .exit))
+        (now (out .exit))
+        ⌝ }
+{
+    if 1 < user {
+        return SearchAnswer::Refused(18);
+    }
+    let Held::Circuit(layout) = circuit::test(m) else {
+        return SearchAnswer::Refused(9);
+    };
+    let number = search::refusal(layout, b, k, d, work.len(), out.len());
+    if number != 0 {
+        return SearchAnswer::Refused(number);
+    }
+    search_known(m, layout, pins, user as usize, b, k, d, work, out)
+}

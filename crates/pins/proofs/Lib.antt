@@ -1,0 +1,4 @@
+pub mod Inputs
+pub mod Values
+pub mod Valid
+pub mod Questions

@@ -1,0 +1,9 @@
+-- Clause 12.7: what write answers to a user. Assumes nothing.
+use mathlib.Core.List.{List}
+use Prim.Native.Nat.{ℕ}
+use Rattle.aiger.specs.Load.{Answer}
+use Rattle.aiger.specs.Operations.{Written}
+use Rattle.users.specs.Users.{ForUser}
+
+abbrev pub UserWritten : List ℕ → ℕ → List ℕ → Answer ℕ → List ℕ → Type 0
+UserWritten m user out a out′ = ForUser user out (Written m out) a out′

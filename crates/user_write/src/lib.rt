@@ -1,0 +1,14 @@
+// Write for a user. Pins do not change the circuit that is written.
+use write::WriteAnswer;
+ghost use Rattle.write.specs.Answer.{answered};
+ghost use Rattle.user_write.specs.Written.{UserWritten};
+
+// Puts the text of the circuit that m holds at the front of out.
+pub fn write(user: u32, m: &[u32], out: &mut [u8]) -> WriteAnswer
+    ensures { λ r. ⌜ UserWritten (now (m .entry)) user (now (out .entry)) (answered r) (now (out .exit)) ⌝ }
+{
+    if 1 < user {
+        return WriteAnswer::Refused(18);
+    }
+    write::write(m, out)
+}

@@ -1,0 +1,1 @@
+// Operations for two users of one circuit memory, each with pins. This crate has no code: definitions stand in specs/, laws in proofs/.
