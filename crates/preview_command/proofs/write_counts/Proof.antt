@@ -1,0 +1,51 @@
+-- `preview_command::write_counts` meets its contract: the word, and the row of counts after it. Assumes nothing.
+use native.Mathlib.Omega.{arith}
+use Rattle.aiger.specs.Text.{bytes}
+use Rattle.load.specs.Answers.{numbers}
+use Rattle.write.proofs.Rows.{row-most}
+use Rattle.replies.proofs.Putting.{Fronted, front-first, front-room, front-more, front-fronts}
+use Rattle.preview_command.proofs.Answers.{row-room, counts-row}
+use borrow.Author.Needs.{needs}
+use Rattle.preview_command.proofs.write_counts.Statement.{statement}
+use Rattle.preview_command.proofs.write_counts.Tie as tie
+
+abbrev start : tie.After-put → tie.Start
+start w = w .before .before .before .before
+
+word : (w : tie.After-put) → Fronted (start w .args .line .now) 6 (bytes "loads ") (w .put .result) (w .put .last .0)
+word w = front-first (omega (arith, start w .pre)) (w .put .ensures)
+
+slice-aggregate-put : tie.Need-slice-aggregate-put
+slice-aggregate-put c = search needs
+
+put-requires : tie.Need-put-requires
+put-requires c κs = search needs
+
+slice-aggregate-write-row : tie.Need-slice-aggregate-write-row
+slice-aggregate-write-row c = search needs
+
+write-row-requires : tie.Need-write-row-requires
+write-row-requires c κs =
+    let w = c .before .before .before .before in
+    (omega arith, row-room _ (w .put .last .0) (w .put .result) (front-room (word w) 77 (omega (arith, start w .pre))))
+
+same-length : tie.Need-same-length
+same-length c = search needs
+
+returns : tie.Need-returns
+returns c =
+    let r = c .before .before in
+    let w = r .before .before .before .before .before in
+    let k = start w .args .k in
+    counts-row k (front-fronts (front-more (word w) 77 (omega (arith, start w .pre)) (row-most (numbers k) 0 7) (r .write-row .ensures)))
+
+pub write-counts-spec : {M : Type 1} → statement M
+write-counts-spec =
+    tie.close
+    (tie.spec
+    slice-aggregate-put
+    put-requires
+    slice-aggregate-write-row
+    write-row-requires
+    same-length
+    returns)
