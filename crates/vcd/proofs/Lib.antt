@@ -1,0 +1,3 @@
+pub mod Names
+pub mod Putting
+pub mod Parts

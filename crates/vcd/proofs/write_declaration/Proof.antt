@@ -1,0 +1,125 @@
+-- `vcd::write_declaration` meets its contract: the parts of the line, one after the other. Assumes nothing.
+use mathlib.Core.List.{List, [], _∷_, _++_}
+use Prim.Native.Nat.{ℕ, _+_, _/_, _%_}
+use Rattle.aiger.specs.Text.{bytes}
+use Rattle.write.specs.Rows.{numberText}
+use Rattle.write.specs.Output.{Room, Placed}
+use Rattle.write.proofs.Output.{Rest, rest-start, rest-room, rest-more}
+use Rattle.vcd.specs.declared.Name.{Name}
+use Rattle.vcd.specs.Text.{identifier, declaration}
+use Rattle.vcd.proofs.Putting.{last-room, last-placed}
+use borrow.Author.Needs.{needs}
+use Rattle.vcd.proofs.write_declaration.Statement.{statement}
+use Rattle.vcd.proofs.write_declaration.Tie as tie
+use Rattle.vcd.proofs.write_declaration.Reads as reads
+use Rattle.vcd.proofs.write_declaration.Lts as lts
+use Rattle.replies.proofs.put.Reads as put-reads
+use Rattle.write.proofs.write_ended.Reads as write-ended-reads
+
+-- the parts of the line
+abbrev word : List ℕ
+word = bytes "$var wire 1 "
+
+abbrev end : List ℕ
+end = bytes "$end\n"
+
+abbrev label : ℕ → Name → List ℕ
+label k name = (33 + k / 94) ∷ (33 + k % 94) ∷ 32 ∷ name .kind ∷ []
+
+abbrev number : Name → List ℕ
+number name = numberText (name .index) 1
+
+module _ (out : List ℕ) (at k : ℕ) (name : Name) (h : Room out at (declaration k name)) where
+  whole : Rest out at (declaration k name) out at (word ++ (label k name ++ (number name ++ end)))
+  unfolding declaration identifier
+  whole = rest-start out at (declaration k name)
+
+  word-room : Room out at word
+  word-room = rest-room word (label k name ++ (number name ++ end)) h whole
+
+  module _ {e₁ : ℕ} {out₁ : List ℕ} (p : Placed out at word e₁ out₁) where
+    worded : Rest out at (declaration k name) out₁ e₁ (label k name ++ (number name ++ end))
+    worded = rest-more word (label k name ++ (number name ++ end)) h whole p
+
+    label-room : Room out₁ e₁ (label k name)
+    label-room = rest-room (label k name) (number name ++ end) h worded
+
+    module _ {e₂ : ℕ} {out₂ : List ℕ} (q : Placed out₁ e₁ (label k name) e₂ out₂) where
+      labelled : Rest out at (declaration k name) out₂ e₂ (number name ++ end)
+      labelled = rest-more (label k name) (number name ++ end) h worded q
+
+      number-room : Room out₂ e₂ (number name)
+      number-room = rest-room (number name) end h labelled
+
+      numbered : {e₃ : ℕ} {out₃ : List ℕ} → Placed out₂ e₂ (number name) e₃ out₃ → Rest out at (declaration k name) out₃ e₃ end
+      numbered r = rest-more (number name) end h labelled r
+
+cast-first : tie.Need-cast-first
+cast-first c = search needs
+
+add-first : tie.Need-add-first
+add-first c = search needs
+
+cast-second : tie.Need-cast-second
+cast-second c = search needs
+
+add-second : tie.Need-add-second
+add-second c = search needs
+
+slice-aggregate-put : tie.Need-slice-aggregate-put
+slice-aggregate-put c = search needs
+
+put-requires : tie.Need-put-requires
+put-requires c κs =
+    let a = c .before .before .before .args in
+    word-room (a .out .now) (a .at) (a .k) (a .name) (c .before .before .before .pre .1)
+
+slice-aggregate-put-2 : tie.Need-slice-aggregate-put-2
+slice-aggregate-put-2 c = search needs
+
+put-requires-2 : tie.Need-put-requires-2
+put-requires-2 c κs =
+    let a = c .before .before .before .before .before .before .before .before .args in
+    label-room (a .out .now) (a .at) (a .k) (a .name) (c .before .before .before .before .before .before .before .before .pre .1) (c .before .before .before .before .put .ensures)
+
+write-ended-requires : tie.Need-write-ended-requires
+write-ended-requires c κs =
+    let a = c .before .before .before .before .before .before .before .before .before .before .before .before .args in
+    number-room (a .out .now) (a .at) (a .k) (a .name) (c .before .before .before .before .before .before .before .before .before .before .before .before .pre .1) (c .before .before .before .before .before .before .before .before .put .ensures) (c .before .before .before .put2 .ensures)
+
+slice-aggregate-put-3 : tie.Need-slice-aggregate-put-3
+slice-aggregate-put-3 c = search needs
+
+put-requires-3 : tie.Need-put-requires-3
+put-requires-3 c κs =
+    let a = c .before .before .before .before .before .before .before .before .before .before .before .before .before .before .before .before .before .args in
+    last-room end (c .before .before .before .before .before .before .before .before .before .before .before .before .before .before .before .before .before .pre .1)
+    (numbered (a .out .now) (a .at) (a .k) (a .name) (c .before .before .before .before .before .before .before .before .before .before .before .before .before .before .before .before .before .pre .1) (c .before .before .before .before .before .before .before .before .before .before .before .before .before .put .ensures) (c .before .before .before .before .before .before .before .before .put2 .ensures) (c .before .before .before .before .write-ended .ensures))
+
+same-length : tie.Need-same-length
+same-length c = search needs
+
+returns : tie.Need-returns
+returns c =
+    let a = c .before .before .before .before .before .before .before .before .before .before .before .before .before .before .before .before .before .before .before .before .args in
+    last-placed end (c .before .before .before .before .before .before .before .before .before .before .before .before .before .before .before .before .before .before .before .before .pre .1)
+    (numbered (a .out .now) (a .at) (a .k) (a .name) (c .before .before .before .before .before .before .before .before .before .before .before .before .before .before .before .before .before .before .before .before .pre .1) (c .before .before .before .before .before .before .before .before .before .before .before .before .before .before .before .before .put .ensures) (c .before .before .before .before .before .before .before .before .before .before .before .put2 .ensures) (c .before .before .before .before .before .before .before .write-ended .ensures))
+    (c .before .before .put3 .ensures)
+
+pub write-declaration-spec : {M : Type 1} → statement M
+write-declaration-spec =
+    tie.close
+    (tie.spec
+    cast-first
+    add-first
+    cast-second
+    add-second
+    slice-aggregate-put
+    put-requires
+    slice-aggregate-put-2
+    put-requires-2
+    write-ended-requires
+    slice-aggregate-put-3
+    put-requires-3
+    same-length
+    returns)

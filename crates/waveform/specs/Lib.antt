@@ -1,0 +1,3 @@
+pub mod Waveform
+pub mod Frames
+pub mod Answer
