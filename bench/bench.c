@@ -309,7 +309,7 @@ static void merges(void)
 }
 
 /* The example triggers, at the frame of the answer: gates of the unrolled circuit, with those of the conjunction of the bad line and
-   the constraints, and of the folded one. */
+   the constraints of every frame, and of the folded one. */
 static void triggers(int count, char **names)
 {
     printf("\nexample triggers\n%-24s %4s %6s %10s %10s %8s %10s\n", "file", "b", "frame", "free bits", "unrolled", "folded", "ms");
@@ -330,7 +330,7 @@ static void triggers(int count, char **names)
         double time = fold(b, t, &kept);
         sscanf((char *)out, "aag %*d %d", &inputs);
         char *name = strrchr(names[i], '/');
-        printf("%-24s %4u %6llu %10d %10llu %8d %10.3f\n", name ? name + 1 : names[i], b, (unsigned long long)t, inputs, (unsigned long long)((t + 1) * memory[4] + memory[6]), kept, time * 1e3);
+        printf("%-24s %4u %6llu %10d %10llu %8d %10.3f\n", name ? name + 1 : names[i], b, (unsigned long long)t, inputs, (unsigned long long)((t + 1) * (memory[4] + memory[6])), kept, time * 1e3);
     }
 }
 

@@ -4,6 +4,9 @@ use crate::reference::{self, Circuit, Said};
 
 const S: &str = "aag 4 1 2 0 1 1\n2\n4 2\n6 4\n8\n8 4 6\n";
 const OPPOSITE: &str = "aag 2 1 0 0 1 1\n2\n4\n4 2 3\n";
+/// A latch after an input; bad is the latch, and the constraint forbids the input or asks for it.
+const FORBIDDEN: &str = "aag 3 1 1 0 0 1 1\n2\n4 2\n4\n3\n";
+const ASKED: &str = "aag 3 1 1 0 0 1 1\n2\n4 2\n4\n2\n";
 const FREE: &str = "aag 1 0 1 0 0 1\n2 2 2\n2\n";
 
 fn load(file: &str) -> Result<Circuit, u32> {
@@ -11,7 +14,7 @@ fn load(file: &str) -> Result<Circuit, u32> {
 }
 
 /// Circuit, k, D, an answer, and the witness or the empty text where it is permitted.
-const SEARCHES: [(&str, u64, u64, Said, Option<&str>); 10] = [
+const SEARCHES: [(&str, u64, u64, Said, Option<&str>); 12] = [
     (S, 3, 16, Said::Found(2), Some("1\nb0\n00\n1\n1\n0\n.\n")),
     (S, 3, 16, Said::Nothing(3), None),
     (S, 1, 16, Said::Nothing(1), Some("")),
@@ -22,6 +25,8 @@ const SEARCHES: [(&str, u64, u64, Said, Option<&str>); 10] = [
     (S, 2, 6, Said::Spent(1), None),
     (OPPOSITE, 0, 2, Said::Nothing(0), Some("")),
     (FREE, 0, 2, Said::Found(0), Some("1\nb0\n1\n\n.\n")),
+    (FORBIDDEN, 1, 4, Said::Nothing(1), Some("")),
+    (ASKED, 2, 8, Said::Found(1), Some("1\nb0\n0\n1\n1\n.\n")),
 ];
 
 const REFUSED: [(&str, u32); 4] = [
@@ -75,7 +80,7 @@ pub fn agree() -> Option<usize> {
     let empty = reference::image(&load("aag 0 0 0 0 0\n").ok()?);
     let all = SEARCHES.iter().all(search_says)
         && REFUSED.iter().all(|&(file, number)| load(file) == Err(number))
-        && REPLAYS.iter().all(|&(witness, yes)| reference::replay(&memory, witness.as_bytes()) == Ok(yes))
+        && REPLAYS.iter().all(|&(witness, yes)| reference::replay(&memory, witness.as_bytes()) == Ok(if yes { reference::Verdict::All } else { reference::Verdict::No }))
         && reference::search_tests(&empty, 0, 0, 1, 16, 100) == Err(10)
         && FOLDS.iter().all(fold_says);
     all.then_some(SEARCHES.len() + REFUSED.len() + REPLAYS.len() + FOLDS.len() + 1)

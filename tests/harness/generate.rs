@@ -32,7 +32,7 @@ pub fn small_plan(r: &mut Random, words: u64) -> Plan {
         spare,
         outputs: r.below(3),
         bads: r.choose(&[0, 1, 1, 1, 1, 1, 2, 3, 16]),
-        constraints: r.choose(&[0, 0, 0, 1, 2]),
+        constraints: r.choose(&[0, 0, 0, 1, 2, 4]),
         free_one_in: r.choose(&[0, 2, 2, 3, 5]),
     }
 }
@@ -45,9 +45,9 @@ pub fn large_plan(r: &mut Random) -> Plan {
         2 | 3 => (256, 768, 3072, 16, 2),
         4 => (8, 8, 300, 1, 3),
         5 => (256, r.below(100), r.below(200), 2, 4),
-        6 => (0, 24, 255, r.below(2), 2),
+        6 => (0, 24, 254, r.below(2), 2),
         7 => (1, 12, 250, 1, 0),
-        8 => (0, 255 + r.below(2), 255, 0, 1),
+        8 => (0, 255 + r.below(2), 254, 0, 1),
         _ => (r.below(257), r.below(700), r.below(3073), r.below(17), 3),
     };
     let spare = r.below(4097 - inputs - latches - gates);
@@ -189,6 +189,29 @@ pub fn text(r: &mut Random, c: &Circuit) -> Vec<u8> {
         }
     }
     let mut text: Vec<u8> = lines.iter().flat_map(|line| [line, b"\n".as_slice()].concat()).collect();
+    if r.one_in(6) {
+        text.extend(b"c\n");
+        text.extend((0..r.below(20)).map(|_| r.word() as u8));
+    }
+    text
+}
+
+/// The circuit's text in binary form: some header numbers fewer, some differences in more groups than they need, a tail.
+pub fn binary(r: &mut Random, c: &Circuit) -> Vec<u8> {
+    let c = reference::renumbered(c);
+    let mut text = reference::binary_lines(&c);
+    let padded = r.one_in(3);
+    for gate in &c.gates {
+        for difference in [gate.lit - gate.left, gate.left - gate.right] {
+            let mut groups = reference::groups(difference);
+            if padded && r.one_in(4) {
+                *groups.last_mut().unwrap() += 128;
+                groups.extend((0..r.below(5 - groups.len() as u64)).map(|_| 128));
+                groups.push(0);
+            }
+            text.extend(groups);
+        }
+    }
     if r.one_in(6) {
         text.extend(b"c\n");
         text.extend((0..r.below(20)).map(|_| r.word() as u8));

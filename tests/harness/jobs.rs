@@ -73,8 +73,11 @@ impl Harness {
             30..=33 => self.on_memory(large, Harness::test_job),
             34..=57 => self.on_memory(large, Harness::search_job),
             58..=71 => self.on_memory(large, Harness::fold_job),
-            72..=87 => self.on_memory(large, Harness::replay_job),
-            _ => self.on_memory(large, Harness::write_job),
+            72..=80 => self.on_memory(large, Harness::replay_job),
+            81..=85 => self.on_memory(large, Harness::widen_job),
+            86..=90 => self.on_memory(large, Harness::join_job),
+            91..=95 => self.on_memory(large, Harness::write_job),
+            _ => self.on_memory(large, Harness::waveform_job),
         }
     }
 
@@ -262,7 +265,8 @@ impl Harness {
         if let 10..=13 = damage {
             generate::damage_circuit(&mut self.random, circuit);
         }
-        let mut text = generate::text(&mut self.random, circuit);
+        let binary = self.random.one_in(3) && reference::load(&reference::text(circuit), 33_032).is_ok();
+        let mut text = if binary { generate::binary(&mut self.random, circuit) } else { generate::text(&mut self.random, circuit) };
         match damage {
             14..=18 => generate::damage_text(&mut self.random, &mut text),
             19 if self.random.one_in(4) => generate::lengthen(&mut self.random, &mut text),
@@ -273,6 +277,31 @@ impl Harness {
         }
         text.truncate(LONGEST_TEXT);
         text
+    }
+
+    /// Every prefix of a file, and every byte of it changed to every other: the answer of load and what it leaves.
+    pub fn damaged(&mut self, file: &[u8]) {
+        let prefixes = (0..file.len()).map(|end| file[..end].to_vec());
+        let changed = (0..file.len() * 256).map(|i| {
+            let mut text = file.to_vec();
+            text[i / 256] = i as u8;
+            text
+        });
+        for text in prefixes.chain(changed) {
+            let mut words = vec![0xdead_beefu32; 300];
+            let expected = reference::load(&text, 300);
+            let mut after = words.clone();
+            if let Ok(circuit) = &expected {
+                let image = reference::image(circuit);
+                after[..image.len()].copy_from_slice(&image);
+            }
+            let code = unsafe { service::yunverok_load(text.as_ptr(), text.len(), words.as_mut_ptr(), words.len()) };
+            self.tally.damaged += 1;
+            if code != expected.err().unwrap_or(0) || words != after {
+                self.tally.differences += 1;
+                println!("difference: file {} answered {code}", text.escape_ascii());
+            }
+        }
     }
 
     fn load_job(&mut self, large: bool) {
@@ -340,6 +369,7 @@ impl Harness {
         store.expect(memory.offset, &bytes);
         store.home = (memory.offset, memory.len);
         self.tally.answer(Operation::Load, "accepted");
+        self.tally.load_with("in order", reference::renumbered(circuit) == *circuit);
         self.tally.load_with("with constraints", !circuit.constraints.is_empty());
         self.tally.load_with("with free latches", circuit.free_latches() > 0);
         self.tally.load_with("with resets 1", circuit.latches.iter().any(|latch| latch.reset == 1));
@@ -548,11 +578,31 @@ impl Harness {
             _ => generate::witness(&mut self.random, c, b, rows),
         };
         let mut text = made;
+        self.put_eithers(c, &mut text);
         if self.random.one_in(5) {
             generate::damage_text(&mut self.random, &mut text);
         }
         text.truncate(LONGEST_TEXT);
         text
+    }
+
+    /// Puts `x` for some bits, few enough that the reference ends soon, or more than 16.
+    fn put_eithers(&mut self, c: &Circuit, text: &mut [u8]) {
+        let mut bits = bit_places(text);
+        let cost = run_cost(c, text);
+        let most = (0..=16).rev().find(|&n| (cost << n) < 1_000_000).unwrap_or(0);
+        let n = match self.random.below(12) {
+            0..=5 => 0,
+            6..=9 => (1 + self.random.below(4)).min(most),
+            10 => self.random.below(most + 1),
+            _ if cost < 2_000 && 16 < bits.len() => self.random.choose(&[16, 17, 18]),
+            _ => most,
+        };
+        for i in 0..bits.len().min(n as usize) {
+            let j = i + self.random.below((bits.len() - i) as u64) as usize;
+            bits.swap(i, j);
+            text[bits[i]] = b'x';
+        }
     }
 
     fn replay_job(&mut self, large: bool, memory: Loan) {
@@ -565,16 +615,120 @@ impl Harness {
             service::yunverok_replay(memory.words(), memory.len, witness.pointer, witness.len).into()
         });
         let expected = reference::replay(&words, &text);
-        let number = expected.map_or_else(u64::from, u64::from);
+        let number = expected.map_or_else(u64::from, |verdict| verdict as u64);
         let faults = if code == number { vec![] } else { vec![format!("answered {code}, expected {number}")] };
         match expected {
-            Ok(yes) => self.tally.answer(Operation::Replay, if yes { "yes" } else { "no" }),
+            Ok(verdict) => self.tally.answer(Operation::Replay, ["no", "all", "mixed"][verdict as usize]),
             Err(number) => self.tally.refusal(Operation::Replay, number),
         }
         self.settle(Operation::Replay, &loans, faults, &|| format!("witness: {}\n{}", text.escape_ascii(), shown(&words)));
     }
 
+    // Widen
+
+    fn widen_job(&mut self, large: bool, memory: Loan) {
+        let words = self.words(&memory);
+        let c = reference::held(&words).unwrap_or_default();
+        let text = self.witness(&c, large);
+        let bits = text.iter().filter(|byte| b"01x".contains(byte)).count() as u64;
+        if eithers(&text) <= 16 && run_cost(&c, &text) << bits.min(17) > 30_000_000 {
+            return;
+        }
+        let witness = self.lend_text(&text);
+        let out_len = self.near(text.len() as u64);
+        let out = self.lend_some(Kind::Output, out_len, 1);
+        let loans = [memory, witness, out];
+        let code = self.perform(Operation::Widen, large, &loans, &mut || unsafe {
+            service::yunverok_widen(memory.words(), memory.len, witness.pointer, witness.len, out.pointer, out.len)
+        });
+        let expected = reference::widen(&words, &text, out.len as u64);
+        let number = expected.as_ref().map_or_else(|&number| (1 << 32) + u64::from(number), |text| text.len() as u64);
+        let faults = if code == number { vec![] } else { vec![format!("answered {code:#x}, expected {number:#x}")] };
+        match expected {
+            Ok(wide) => {
+                self.store(&out).expect(out.offset, &wide);
+                let said = if wide == text { "unchanged" } else if eithers(&wide) == 16 { "widened to 16" } else { "widened" };
+                self.tally.answer(Operation::Widen, said);
+            }
+            Err(number) => self.tally.refusal(Operation::Widen, number),
+        }
+        self.settle(Operation::Widen, &loans, faults, &|| format!("witness: {}\n{}", text.escape_ascii(), shown(&words)));
+    }
+
     // Write
+
+    // Join
+
+    /// A circuit to join with c: c itself, c with one gate's operand or one output complemented, or any circuit with as many inputs and outputs.
+    fn partner(&mut self, c: &Circuit) -> Circuit {
+        let mut d = c.clone();
+        match self.random.below(6) {
+            0 => (),
+            1 if !d.outputs.is_empty() => d.outputs[0] ^= 1,
+            2 | 3 if !d.gates.is_empty() => {
+                let gate = self.random.below(d.gates.len() as u64) as usize;
+                d.gates[gate].left ^= 1;
+            }
+            _ => {
+                let mut plan = generate::small_plan(&mut self.random, 1024);
+                plan.inputs = c.inputs.len() as u64 + u64::from(self.random.one_in(12));
+                plan.outputs = c.outputs.len() as u64 + u64::from(self.random.one_in(12));
+                d = generate::circuit(&mut self.random, &plan);
+            }
+        }
+        d
+    }
+
+    /// The circuit in memory gets a partner, which is put into a second memory as a load leaves it, over what that held, and the two are joined
+    /// into a third memory that holds whatever it held.
+    fn join_job(&mut self, large: bool, first: Loan) {
+        let words = self.words(&first);
+        let Some(c) = reference::held(&words).filter(|_| !self.random.one_in(30)) else {
+            let second = self.lend_held(false);
+            if second.index != first.index {
+                self.join_into(large, first, second);
+            }
+            return;
+        };
+        let d = self.partner(&c);
+        let len = reference::needed(d.max_var);
+        let second = self.lend_some(Kind::Memory, len, 4);
+        if second.index == first.index || (second.len as u64) < len {
+            return;
+        }
+        let image: Vec<u8> = reference::image(&d).iter().flat_map(|word| word.to_le_bytes()).collect();
+        self.store(&second).bytes_mut()[second.offset..second.offset + image.len()].copy_from_slice(&image);
+        self.store(&second).home = (second.offset, second.len);
+        self.join_into(large, first, second);
+    }
+
+    fn join_into(&mut self, large: bool, first: Loan, second: Loan) {
+        let (one, two) = (self.words(&first), self.words(&second));
+        let exact = reference::join(&one, &two, u64::MAX).map_or(300, |c| reference::needed(c.max_var));
+        let third_len = self.near(exact);
+        let third = self.lend_some(Kind::Memory, third_len, 4);
+        if third.index == first.index || third.index == second.index {
+            return;
+        }
+        let loans = [first, second, third];
+        let code = self.perform(Operation::Join, large, &loans, &mut || unsafe {
+            service::yunverok_join(first.words(), first.len, second.words(), second.len, third.words(), third.len).into()
+        });
+        let expected = reference::join(&one, &two, third.len as u64);
+        let number = expected.as_ref().err().copied().unwrap_or(0);
+        let faults = if code == u64::from(number) { vec![] } else { vec![format!("answered {code}, expected {number}")] };
+        match expected {
+            Ok(circuit) => {
+                let bytes: Vec<u8> = reference::image(&circuit).iter().flat_map(|word| word.to_le_bytes()).collect();
+                let store = self.store(&third);
+                store.expect(third.offset, &bytes);
+                store.home = (third.offset, third.len);
+                self.tally.answer(Operation::Join, "joined");
+            }
+            Err(number) => self.tally.refusal(Operation::Join, number),
+        }
+        self.settle(Operation::Join, &loans, faults, &|| format!("first {}\nsecond {}\nthird {} words", shown(&one), shown(&two), third.len));
+    }
 
     fn write_job(&mut self, large: bool, memory: Loan) {
         let words = self.words(&memory);
@@ -597,6 +751,53 @@ impl Harness {
         }
         self.settle(Operation::Write, &loans, faults, &|| format!("output {} bytes\n{}", out.len, shown(&words)));
     }
+
+    // Waveform
+
+    fn waveform_job(&mut self, large: bool, memory: Loan) {
+        let words = self.words(&memory);
+        let c = reference::held(&words).unwrap_or_default();
+        let text = self.witness(&c, large);
+        let inputs = if self.random.one_in(3) { self.random.word() as u32 } else { 0 };
+        let length = reference::waveform(&words, &text, inputs != 0, u64::MAX).map_or(100, |shown| shown.len());
+        let out_len = self.near(length as u64);
+        let out = self.lend_some(Kind::Output, out_len, 1);
+        let witness = self.lend_text(&text);
+        let loans = [memory, witness, out];
+        let code = self.perform(Operation::Waveform, large, &loans, &mut || unsafe {
+            service::yunverok_waveform(memory.words(), memory.len, witness.pointer, witness.len, inputs, out.pointer, out.len)
+        });
+        let expected = reference::waveform(&words, &text, inputs != 0, out.len as u64);
+        let number = expected.as_ref().map_or_else(|&number| (1 << 32) + u64::from(number), |shown| shown.len() as u64);
+        let faults = if code == number { vec![] } else { vec![format!("answered {code:#x}, expected {number:#x}")] };
+        match expected {
+            Ok(shown) => {
+                self.store(&out).expect(out.offset, &shown);
+                self.tally.answer(Operation::Waveform, if inputs == 0 { "all wires" } else { "inputs" });
+            }
+            Err(number) => self.tally.refusal(Operation::Waveform, number),
+        }
+        self.settle(Operation::Waveform, &loans, faults, &|| {
+            format!("witness: {}, inputs {inputs}, output {} bytes\n{}", text.escape_ascii(), out.len, shown(&words))
+        });
+    }
+}
+
+/// Where bits stand after the second line.
+fn bit_places(text: &[u8]) -> Vec<usize> {
+    let body = text.iter().enumerate().filter(|(_, &byte)| byte == b'\n').nth(1).map_or(text.len(), |(at, _)| at);
+    (body..text.len()).filter(|&i| b"01".contains(&text[i])).collect()
+}
+
+/// How many `x` a text holds.
+fn eithers(text: &[u8]) -> usize {
+    text.iter().filter(|&&byte| byte == b'x').count()
+}
+
+/// About what one completion of a witness costs.
+fn run_cost(c: &Circuit, text: &[u8]) -> u64 {
+    let rows = text.iter().filter(|&&byte| byte == b'\n').count();
+    ((c.gates.len() + c.latches.len() + c.inputs.len() + 4) * (rows + 1)) as u64
 }
 
 /// What a search's answer says.

@@ -18,6 +18,14 @@ const USAGE: &str = "usage: tests/harness/run [JOBS [SEED]]
 HARNESS_SPOIL=answers changes one bit of an answer or of a lent byte in 1 of 10,000 jobs, HARNESS_SPOIL=fault reads past a store:
 both show that the harness notices.";
 
+/// Files in binary form of which every prefix and every change of a byte is loaded.
+const BINARY: [&[u8]; 4] = [
+    b"aig 0 0 0 0 0\n",
+    b"aig 5 2 0 2 3\n10\n6\n\x02\x02\x03\x02\x01\x02",
+    b"aig 4 1 2 0 1 1\n2\n4 6\n8\n\x02\x02c\nany",
+    b"aig 3 1 1 0 1 1 1\n7 1\n6\n3\n\x81\x80\x00\x03",
+];
+
 extern "C" {
     fn signal(number: i32, handler: extern "C" fn(i32)) -> usize;
     fn write(file: i32, bytes: *const u8, length: usize) -> isize;
@@ -70,6 +78,10 @@ fn main() {
     println!("examples agree      {examples:>9}\nseed                {seed:>9}");
     let start = Instant::now();
     let mut harness = Harness::new(seed, spoil);
+    for file in BINARY {
+        harness.damaged(file);
+    }
+    println!("damaged files       {:>9}", harness.tally.damaged);
     while harness.tally.jobs < jobs {
         harness.job();
     }

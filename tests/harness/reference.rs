@@ -1,8 +1,8 @@
-//! The five operations as document 01 describes them, in plain Rust. For load, write and replay this computes the answer and every lent
+//! The operations as documents 01 and 02 describe them, in plain Rust. For load, join, write and replay this computes the answer and every lent
 //! word; of search and fold, where several answers are permitted, it judges the one that was given. Circuit memory has the layout of
-//! docs/MEMORY.md. It is written from document 01 alone, to be seen to be right; speed does not matter.
+//! docs/MEMORY.md. It is written from these documents alone, to be seen to be right; speed does not matter.
 
-use std::collections::HashSet;
+use std::collections::{HashMap, HashSet};
 
 #[derive(Clone, PartialEq, Debug)]
 pub struct Latch {
@@ -51,9 +51,9 @@ impl Circuit {
         self.free_latches() + self.inputs.len() as u64 * (t + 1)
     }
 
-    /// (k+1) × (I+A+C) + U + 1
+    /// (k+1) × (I+A+C+1) + U + 1
     pub fn size(&self, k: u64) -> u64 {
-        let frame = self.inputs.len() + self.gates.len() + self.constraints.len();
+        let frame = self.inputs.len() + self.gates.len() + self.constraints.len() + 1;
         (k + 1) * frame as u64 + self.free_latches() + 1
     }
 
@@ -137,8 +137,13 @@ impl Text<'_> {
 
 // Load
 
+/// Whether the header's first word is that of the binary form.
+pub fn is_binary(file: &[u8]) -> bool {
+    file.starts_with(b"aig ")
+}
+
 fn header(text: &mut Text) -> Option<Vec<u64>> {
-    text.expect(b"aag ")?;
+    text.expect(if is_binary(text.bytes) { b"aig " } else { b"aag " })?;
     let mut counts = text.numbers(5, 9)?;
     counts.resize(9, 0);
     Some(counts)
@@ -148,6 +153,11 @@ fn counts_fit(counts: &[u64]) -> bool {
     let greatest = [4096, 256, 1024, 64, 3072, 16, 16, 0, 0];
     let each = counts.iter().zip(greatest).all(|(&count, most)| count <= most);
     each && counts[1] + counts[2] + counts[4] <= counts[0]
+}
+
+/// In binary form every variable has a definition.
+fn counts_right(counts: &[u64], binary: bool) -> bool {
+    counts_fit(counts) && (!binary || counts[1] + counts[2] + counts[4] == counts[0])
 }
 
 fn one_a_line(text: &mut Text, count: u64) -> Option<Vec<u64>> {
@@ -183,6 +193,44 @@ fn body(text: &mut Text, counts: &[u64]) -> Option<Circuit> {
     };
     tail(text)?;
     Some(circuit)
+}
+
+/// A difference: up to five groups of seven bits, lowest first, of up to 32 bits.
+fn difference(text: &mut Text) -> Option<u64> {
+    let mut value = 0;
+    for group in 0..5 {
+        let byte = u64::from(text.byte()?);
+        value |= (byte & 127) << (7 * group);
+        if byte < 128 {
+            return (value < 1 << 32).then_some(value);
+        }
+    }
+    None
+}
+
+fn binary_gate(text: &mut Text, lit: u64) -> Option<Gate> {
+    let left = lit.checked_sub(difference(text)?)?;
+    let right = left.checked_sub(difference(text)?)?;
+    (left < lit).then_some(Gate { lit, left, right })
+}
+
+/// The sections of a file in binary form. The first fault counts: 5 in a line or the tail, 15 in a gate.
+fn binary_body(text: &mut Text, counts: &[u64]) -> Result<Circuit, u32> {
+    let (inputs, latches) = (counts[1], counts[2]);
+    let mut circuit = Circuit { max_var: counts[0], inputs: (1..=inputs).map(|v| 2 * v).collect(), ..Circuit::default() };
+    for i in 0..latches {
+        let line = text.numbers(1, 2).ok_or(5u32)?;
+        let reset = line.get(1).copied().unwrap_or(0);
+        circuit.latches.push(Latch { lit: 2 * (inputs + 1 + i), next: line[0], reset });
+    }
+    circuit.outputs = one_a_line(text, counts[3]).ok_or(5u32)?;
+    circuit.bads = one_a_line(text, counts[5]).ok_or(5u32)?;
+    circuit.constraints = one_a_line(text, counts[6]).ok_or(5u32)?;
+    for i in 0..counts[4] {
+        circuit.gates.push(binary_gate(text, 2 * (inputs + latches + 1 + i)).ok_or(15u32)?);
+    }
+    tail(text).ok_or(5u32)?;
+    Ok(circuit)
 }
 
 /// The literals that stand where a variable is defined.
@@ -249,13 +297,13 @@ pub fn load(file: &[u8], memory_len: u64) -> Result<Circuit, u32> {
     }
     let mut text = Text { bytes: file, at: 0 };
     let counts = header(&mut text).ok_or(2u32)?;
-    if !counts_fit(&counts) {
+    if !counts_right(&counts, is_binary(file)) {
         return Err(3);
     }
     if memory_len < needed(counts[0]) {
         return Err(4);
     }
-    let circuit = body(&mut text, &counts).ok_or(5u32)?;
+    let circuit = if is_binary(file) { binary_body(&mut text, &counts)? } else { body(&mut text, &counts).ok_or(5u32)? };
     if !literals_right(&circuit) {
         return Err(6);
     }
@@ -272,7 +320,7 @@ pub fn words_needed(file: &[u8]) -> u64 {
         return 0;
     }
     match header(&mut Text { bytes: file, at: 0 }) {
-        Some(counts) if counts_fit(&counts) => needed(counts[0]),
+        Some(counts) if counts_right(&counts, is_binary(file)) => needed(counts[0]),
         _ => 0,
     }
 }
@@ -320,6 +368,60 @@ pub fn held(memory: &[u32]) -> Option<Circuit> {
     (memory[..words.len()] == words).then_some(circuit)
 }
 
+// Join
+
+/// The variables of a circuit and their new numbers: inputs from 1 on, latches and gates from the given numbers on. Variable 0 stays.
+fn new_numbers(c: &Circuit, latch: u64, gate: u64) -> HashMap<u64, u64> {
+    let mut numbers = HashMap::from([(0, 0)]);
+    numbers.extend(c.inputs.iter().zip(1..).map(|(lit, number)| (lit / 2, number)));
+    numbers.extend(c.latches.iter().zip(latch..).map(|(l, number)| (l.lit / 2, number)));
+    numbers.extend(c.gates.iter().zip(gate..).map(|(g, number)| (g.lit / 2, number)));
+    numbers
+}
+
+/// One circuit of two: shared inputs; latches, gates and constraints of the first, then of the second; three gates and a bad line a pair.
+pub fn joined(c: &Circuit, d: &Circuit) -> Circuit {
+    let count = |list: usize| list as u64;
+    let latches = count(c.inputs.len()) + 1;
+    let gates = latches + count(c.latches.len() + d.latches.len());
+    let pairs = gates + count(c.gates.len() + d.gates.len());
+    let mut both = Circuit { inputs: (1..latches).map(|v| 2 * v).collect(), ..Circuit::default() };
+    let mut outputs = Vec::new();
+    for (circuit, latch, gate) in [(c, latches, gates), (d, latches + count(c.latches.len()), gates + count(c.gates.len()))] {
+        let numbers = new_numbers(circuit, latch, gate);
+        let lit = |l: u64| 2 * numbers[&(l / 2)] + l % 2;
+        both.latches.extend(circuit.latches.iter().map(|l| Latch { lit: lit(l.lit), next: lit(l.next), reset: lit(l.reset) }));
+        both.constraints.extend(circuit.constraints.iter().map(|&l| lit(l)));
+        both.gates.extend(circuit.gates.iter().map(|g| Gate { lit: lit(g.lit), left: lit(g.left), right: lit(g.right) }));
+        outputs.push(circuit.outputs.iter().map(|&l| lit(l)).collect::<Vec<u64>>());
+    }
+    for (j, (&p, &q)) in outputs[0].iter().zip(&outputs[1]).enumerate() {
+        let v = 2 * (pairs + 3 * count(j));
+        both.gates.push(Gate { lit: v, left: p, right: q ^ 1 });
+        both.gates.push(Gate { lit: v + 2, left: p ^ 1, right: q });
+        both.gates.push(Gate { lit: v + 4, left: v + 1, right: v + 3 });
+        both.bads.push(v + 5);
+    }
+    both.max_var = count(both.inputs.len() + both.latches.len() + both.gates.len());
+    both
+}
+
+pub fn join(first: &[u32], second: &[u32], third_len: u64) -> Result<Circuit, u32> {
+    let (c, d) = (held(first).ok_or(9u32)?, held(second).ok_or(9u32)?);
+    if !(1..=16).contains(&c.outputs.len()) || c.inputs.len() != d.inputs.len() || c.outputs.len() != d.outputs.len() {
+        return Err(17);
+    }
+    let both = joined(&c, &d);
+    let [m, i, l, o, a, b, k] = both.counts();
+    if !counts_fit(&[m, i, l, o, a, b, k, 0, 0]) {
+        return Err(3);
+    }
+    if third_len < needed(both.max_var) {
+        return Err(4);
+    }
+    Ok(both)
+}
+
 // Write
 
 /// Seven header numbers, definitions in file order, a reset only where it is not 0, and no tail.
@@ -333,6 +435,57 @@ pub fn text(c: &Circuit) -> Vec<u8> {
     }));
     lines.extend([&c.outputs, &c.bads, &c.constraints].into_iter().flatten().map(u64::to_string));
     lines.extend(c.gates.iter().map(|gate| format!("{} {} {}", gate.lit, gate.left, gate.right)));
+    lines.iter().flat_map(|line| format!("{line}\n").into_bytes()).collect()
+}
+
+/// The circuit with its variables numbered in the order of the binary form: inputs, latches, then each time the earliest listed gate whose
+/// operands have numbers; of a gate's operands the larger one first.
+pub fn renumbered(c: &Circuit) -> Circuit {
+    let mut numbers: HashMap<u64, u64> = HashMap::from([(0, 0)]);
+    let leaves = c.inputs.iter().copied().chain(c.latches.iter().map(|latch| latch.lit));
+    for lit in leaves {
+        numbers.insert(lit / 2, numbers.len() as u64);
+    }
+    let mut waiting: Vec<&Gate> = c.gates.iter().collect();
+    let mut order = Vec::new();
+    while let Some(first) = waiting.iter().position(|g| [g.left, g.right].iter().all(|lit| numbers.contains_key(&(lit / 2)))) {
+        let gate = waiting.remove(first);
+        numbers.insert(gate.lit / 2, numbers.len() as u64);
+        order.push(gate);
+    }
+    let to = |lit: &u64| 2 * numbers[&(lit / 2)] + lit % 2;
+    let all = |list: &[u64]| list.iter().map(to).collect();
+    Circuit {
+        max_var: numbers.len() as u64 - 1,
+        inputs: all(&c.inputs),
+        latches: c.latches.iter().map(|l| Latch { lit: to(&l.lit), next: to(&l.next), reset: if l.reset < 2 { l.reset } else { to(&l.reset) } }).collect(),
+        outputs: all(&c.outputs),
+        bads: all(&c.bads),
+        constraints: all(&c.constraints),
+        gates: order.iter().map(|g| Gate { lit: to(&g.lit), left: to(&g.left).max(to(&g.right)), right: to(&g.left).min(to(&g.right)) }).collect(),
+    }
+}
+
+/// A difference in the fewest groups.
+pub fn groups(mut value: u64) -> Vec<u8> {
+    let mut bytes = Vec::new();
+    while value > 127 {
+        bytes.push(128 + (value % 128) as u8);
+        value /= 128;
+    }
+    bytes.push(value as u8);
+    bytes
+}
+
+/// The text of a renumbered circuit in binary form, up to the gates.
+pub fn binary_lines(c: &Circuit) -> Vec<u8> {
+    let counts = c.counts().map(|count| count.to_string()).join(" ");
+    let mut lines = vec![format!("aig {counts}")];
+    lines.extend(c.latches.iter().map(|latch| match latch.reset {
+        0 => format!("{}", latch.next),
+        reset => format!("{} {reset}", latch.next),
+    }));
+    lines.extend([&c.outputs, &c.bads, &c.constraints].into_iter().flatten().map(u64::to_string));
     lines.iter().flat_map(|line| format!("{line}\n").into_bytes()).collect()
 }
 
@@ -379,16 +532,22 @@ impl<'a> Evaluator<'a> {
         }
     }
 
-    /// The runs that hit b in the last of the frames whose input values `rows` gives, frame by frame.
+    /// The runs in which every constraint is true in the frame.
+    fn allowed(&self) -> u64 {
+        self.circuit.constraints.iter().fold(!0, |all, &lit| all & self.value(lit))
+    }
+
+    /// The runs that hit b in the last of the frames whose input values `rows` gives, frame by frame: every constraint is true in each frame.
     fn hits(&mut self, b: u64, start: &[u64], rows: &[u64], frames: u64) -> u64 {
         let c = self.circuit;
         let width = c.inputs.len();
         let mut latches = start.to_vec();
+        let mut allowed = !0;
         for frame in 0..frames as usize {
             self.frame(&latches, &rows[frame * width..][..width]);
+            allowed &= self.allowed();
             latches = c.latches.iter().map(|latch| self.value(latch.next)).collect();
         }
-        let allowed = c.constraints.iter().fold(!0, |all, &lit| all & self.value(lit));
         allowed & self.value(c.bads[b as usize])
     }
 
@@ -481,7 +640,8 @@ fn starts(c: &Circuit) -> Option<Vec<Reached>> {
     Some(free.map(|free| Reached { latches: start_and_rows(c, &free).0, free }).collect())
 }
 
-/// The free bits of the first hit of a frame whose states are given in counting order, and the states of the next frame, each once.
+/// The free bits of the first hit of a frame whose states are given in counting order, and the states of the next frame, each once. A row
+/// that breaks a constraint leads to no state.
 fn step(evaluator: &mut Evaluator, b: u64, states: &[Reached]) -> Option<(Option<Vec<u64>>, Vec<Reached>)> {
     let c = evaluator.circuit;
     let width = c.inputs.len() as u64;
@@ -494,7 +654,7 @@ fn step(evaluator: &mut Evaluator, b: u64, states: &[Reached]) -> Option<(Option
         for first in (0..1u64 << width).step_by(64) {
             let rows = sequences_from(width, first);
             evaluator.frame(&state.latches, &rows);
-            let allowed = c.constraints.iter().fold(!0, |all, &lit| all & evaluator.value(lit));
+            let allowed = evaluator.allowed();
             let hits = allowed & evaluator.value(c.bads[b as usize]);
             let after: Vec<u64> = c.latches.iter().map(|latch| evaluator.value(latch.next)).collect();
             for p in 0..(1u64 << width).min(64) {
@@ -504,7 +664,7 @@ fn step(evaluator: &mut Evaluator, b: u64, states: &[Reached]) -> Option<(Option
                     return Some((Some(free()), next));
                 }
                 let latches: Vec<u64> = after.iter().map(of).collect();
-                if met.insert(latches.clone()) {
+                if allowed >> p & 1 == 1 && met.insert(latches.clone()) {
                     next.push(Reached { latches, free: free() });
                 }
             }
@@ -612,14 +772,123 @@ fn read_witness(c: &Circuit, bytes: &[u8]) -> Option<Witness> {
     well_formed.then_some(Witness { b, start, rows })
 }
 
-pub fn replay(memory: &[u32], bytes: &[u8]) -> Result<bool, u32> {
-    let c = held(memory).ok_or(9u32)?;
-    let witness = read_witness(&c, bytes).ok_or(14u32)?;
+/// What replay says of the completions of a witness.
+#[derive(Clone, Copy, Debug, PartialEq)]
+pub enum Verdict {
+    No,
+    All,
+    Mixed,
+}
+
+/// Where `x` stands after the second line.
+fn either_places(bytes: &[u8]) -> Vec<usize> {
+    let feeds: Vec<usize> = (0..bytes.len()).filter(|&i| bytes[i] == b'\n').collect();
+    let body = feeds.get(1).map_or(bytes.len(), |&at| at + 1);
+    (body..bytes.len()).filter(|&i| bytes[i] == b'x').collect()
+}
+
+fn completion(bytes: &[u8], places: &[usize], v: u64) -> Vec<u8> {
+    let mut text = bytes.to_vec();
+    for (i, &place) in places.iter().enumerate() {
+        text[place] = if v >> i & 1 == 1 { b'1' } else { b'0' };
+    }
+    text
+}
+
+/// Whether a text without `x` is a hit.
+fn is_hit(c: &Circuit, text: &[u8]) -> bool {
+    let witness = read_witness(c, text).expect("a witness");
     let agrees = c.latches.iter().zip(&witness.start).all(|(latch, &value)| latch.free() || (latch.reset == 1) == value);
     let words = |row: &[bool]| row.iter().map(|&value| if value { !0 } else { 0 }).collect::<Vec<u64>>();
     let rows = witness.rows.concat();
-    let hits = Evaluator::new(&c).hits(witness.b, &words(&witness.start), &words(&rows), witness.rows.len() as u64);
-    Ok(agrees && hits & 1 == 1)
+    let hits = Evaluator::new(c).hits(witness.b, &words(&witness.start), &words(&rows), witness.rows.len() as u64);
+    agrees && hits & 1 == 1
+}
+
+fn verdict(c: &Circuit, bytes: &[u8]) -> Verdict {
+    let places = either_places(bytes);
+    let mut seen = [false; 2];
+    for v in 0..1u64 << places.len() {
+        seen[usize::from(is_hit(c, &completion(bytes, &places, v)))] = true;
+        if seen[0] && seen[1] {
+            return Verdict::Mixed;
+        }
+    }
+    if seen[1] { Verdict::All } else { Verdict::No }
+}
+
+fn witness_tests(memory: &[u32], bytes: &[u8]) -> Result<Circuit, u32> {
+    let c = held(memory).ok_or(9u32)?;
+    let places = either_places(bytes);
+    read_witness(&c, &completion(bytes, &places, 0)).ok_or(14u32)?;
+    if places.len() > 16 { Err(16) } else { Ok(c) }
+}
+
+pub fn replay(memory: &[u32], bytes: &[u8]) -> Result<Verdict, u32> {
+    Ok(verdict(&witness_tests(memory, bytes)?, bytes))
+}
+
+/// The widened witness, by trying each text with one `x` more.
+pub fn widen(memory: &[u32], bytes: &[u8], out_len: u64) -> Result<Vec<u8>, u32> {
+    let c = witness_tests(memory, bytes)?;
+    if out_len < bytes.len() as u64 {
+        return Err(13);
+    }
+    let mut text = bytes.to_vec();
+    if verdict(&c, &text) != Verdict::All {
+        return Ok(text);
+    }
+    let body = bytes.iter().enumerate().filter(|(_, &byte)| byte == b'\n').nth(1).map_or(0, |(at, _)| at + 1);
+    for i in (body..text.len()).rev() {
+        let byte = text[i];
+        if (byte == b'0' || byte == b'1') && either_places(&text).len() < 16 {
+            text[i] = b'x';
+            if verdict(&c, &text) != Verdict::All {
+                text[i] = byte;
+            }
+        }
+    }
+    Ok(text)
+}
+
+// Waveform
+
+/// The text of a witness's run: each wire is declared, and after each time mark stand the values of all.
+fn waveform_text(c: &Circuit, only: bool, witness: &Witness) -> Vec<u8> {
+    let parts: [(char, Vec<u64>); 5] = [
+        ('i', c.inputs.clone()),
+        ('l', c.latches.iter().map(|latch| latch.lit).collect()),
+        ('o', c.outputs.clone()),
+        ('b', c.bads.clone()),
+        ('c', c.constraints.clone()),
+    ];
+    let named = |(kind, lits): &(char, Vec<u64>)| lits.iter().enumerate().map(|(i, &lit)| (format!("{kind}{i}"), lit)).collect::<Vec<_>>();
+    let wires: Vec<(String, u64)> = parts[..if only { 1 } else { 5 }].iter().flat_map(named).collect();
+    let identifier = |k: usize| String::from_utf8(vec![b'!' + (k / 94) as u8, b'!' + (k % 94) as u8]).expect("printable characters");
+    let mut text = String::from("$timescale 1 ns $end\n$scope module trigger $end\n");
+    for (k, (name, _)) in wires.iter().enumerate() {
+        text += &format!("$var wire 1 {} {name} $end\n", identifier(k));
+    }
+    text += "$upscope $end\n$enddefinitions $end\n";
+    let mut evaluator = Evaluator::new(c);
+    let mut latches: Vec<u64> = witness.start.iter().map(|&value| u64::from(value)).collect();
+    for (t, row) in witness.rows.iter().enumerate() {
+        evaluator.frame(&latches, &row.iter().map(|&value| u64::from(value)).collect::<Vec<u64>>());
+        text += &format!("#{t}\n");
+        for (k, (_, lit)) in wires.iter().enumerate() {
+            text += &format!("{}{}\n", evaluator.value(*lit) & 1, identifier(k));
+        }
+        latches = c.latches.iter().map(|latch| evaluator.value(latch.next)).collect();
+    }
+    text += &format!("#{}\n", witness.rows.len());
+    text.into_bytes()
+}
+
+pub fn waveform(memory: &[u32], bytes: &[u8], only: bool, out_len: u64) -> Result<Vec<u8>, u32> {
+    let c = held(memory).ok_or(9u32)?;
+    let witness = read_witness(&c, bytes).ok_or(14u32)?;
+    let text = waveform_text(&c, only, &witness);
+    if out_len < text.len() as u64 { Err(13) } else { Ok(text) }
 }
 
 // Fold

@@ -10,6 +10,14 @@ extern "C" {
         counts: *mut u32,
         counts_len: usize,
     ) -> u64;
+    pub fn yunverok_join(
+        first: *const u32,
+        first_len: usize,
+        second: *const u32,
+        second_len: usize,
+        third: *mut u32,
+        third_len: usize,
+    ) -> u32;
     pub fn yunverok_test(memory: *const u32, memory_len: usize) -> u32;
     pub fn yunverok_search(
         memory: *const u32,
@@ -23,6 +31,7 @@ extern "C" {
         out_len: usize,
     ) -> u64;
     pub fn yunverok_replay(memory: *const u32, memory_len: usize, text: *const u8, text_len: usize) -> u32;
+    pub fn yunverok_widen(memory: *const u32, memory_len: usize, text: *const u8, text_len: usize, out: *mut u8, out_len: usize) -> u64;
     pub fn yunverok_write(memory: *const u32, memory_len: usize, out: *mut u8, out_len: usize) -> u64;
     pub fn yunverok_fold(
         memory: *const u32,
@@ -31,6 +40,15 @@ extern "C" {
         t: u64,
         work: *mut u32,
         work_len: usize,
+        out: *mut u8,
+        out_len: usize,
+    ) -> u64;
+    pub fn yunverok_waveform(
+        memory: *const u32,
+        memory_len: usize,
+        text: *const u8,
+        text_len: usize,
+        inputs: u32,
         out: *mut u8,
         out_len: usize,
     ) -> u64;

@@ -10,21 +10,24 @@ pub enum Operation {
     Fold,
     Replay,
     Write,
+    Widen,
+    Waveform,
+    Join,
 }
 
-pub const NAMES: [&str; 6] = ["load", "test", "search", "fold", "replay", "write"];
+pub const NAMES: [&str; 9] = ["load", "test", "search", "fold", "replay", "write", "widen", "waveform", "join"];
 
 #[derive(Default)]
 pub struct Tally {
     pub jobs: u64,
-    by_operation: [u64; 6],
-    answers: [BTreeMap<&'static str, u64>; 6],
-    refusals: [[u64; 15]; 6],
+    by_operation: [u64; 9],
+    answers: [BTreeMap<&'static str, u64>; 9],
+    refusals: [[u64; 19]; 9],
     folds_by_bits: BTreeMap<u64, u64>,
     loads_with: BTreeMap<&'static str, u64>,
     found_by_frame: BTreeMap<u64, u64>,
     /// Greatest depth of stack and number of measured jobs, of small and of large jobs.
-    depth: [[(usize, u64); 2]; 6],
+    depth: [[(usize, u64); 2]; 9],
     pub large: u64,
     pub repeated: u64,
     pub fold_repeated_otherwise: u64,
@@ -32,6 +35,7 @@ pub struct Tally {
     spoiled: u64,
     spoiled_unnoticed: u64,
     pub differences: u64,
+    pub damaged: u64,
 }
 
 impl Tally {
@@ -98,7 +102,7 @@ impl Tally {
     fn report_refusals(&self) {
         let heading: String = NAMES.iter().map(|name| format!("{name:>9}")).collect();
         println!("\nrefusals {heading}      all");
-        for number in 1..15 {
+        for number in 1..19 {
             let row = self.refusals.map(|by_number| by_number[number]);
             let cells: String = row.iter().map(|&count| if count == 0 { format!("{:>9}", "-") } else { format!("{count:>9}") }).collect();
             println!("{number:>8} {cells} {:>8}", row.iter().sum::<u64>());

@@ -57,22 +57,66 @@ def without_symbols(c):
 
 
 def question(c, b):
-    """Bad line b of the circuit, in the form that the other tools are given.
+    """Bad line b of the circuit and its constraints as outputs, in the form that yosys is given.
 
-    The one output is bad line b: yosys reads two bad lines with one literal as one, and ABC takes outputs as properties. Other outputs,
-    other bad lines and the comment are left out. Symbol lines name the inputs, latches and the output, since yosys writes a map for named
-    wires only. Where there are constraints, the output is the last gate of a chain of new gates, bad line b AND every constraint: document
-    01 asks for the constraints in the frame of the hit only, AIGER 1.9 in every frame up to it. All else is as in the file.
+    Output o0 is bad line b: yosys reads two bad lines with one literal as one. Outputs o1 to oC are the constraints, which yosys passes over
+    where they stand as constraints; each is a new gate with the constraint as both operands, so that no two outputs are one wire. Other
+    outputs, other bad lines and the comment are left out. Symbol lines name the inputs, latches and outputs, since yosys writes a map for
+    named wires only. All else is as in the file.
     """
-    top = c.counts[0]
-    hit, chain = c.bads[b][0], []
+    top, outputs, gates = c.counts[0], [c.bads[b]], list(c.gates)
     for line in c.constraints:
         top += 1
-        chain.append([2 * top, hit, line[0]])
-        hit = 2 * top
-    header = [["aag", top, len(c.inputs), len(c.latches), 1, len(c.gates) + len(chain)]]
-    names = [f"i{i} i{i}" for i in range(len(c.inputs))] + [f"l{i} l{i}" for i in range(len(c.latches))] + ["o0 o0"]
-    return joined(header, c.inputs, c.latches, [[hit]], c.gates + chain, names)
+        gates.append([2 * top, line[0], line[0]])
+        outputs.append([2 * top])
+    header = [["aag", top, len(c.inputs), len(c.latches), len(outputs), len(gates)]]
+    sizes = (("i", c.inputs), ("l", c.latches), ("o", outputs))
+    names = [f"{kind}{i} {kind}{i}" for kind, lines in sizes for i in range(len(lines))]
+    return joined(header, c.inputs, c.latches, outputs, gates, names)
+
+
+def numbers(c):
+    """The variables of a circuit in the order of the binary form: inputs, latches, then each time the first gate whose operands have one.
+
+    A circuit without inputs, or without latches, gets one that nothing uses: ABC unrolls no other.
+    """
+    place = {0: 0}
+    for line in (c.inputs or [["no input"]]) + (c.latches or [["no latch"]]):
+        place[line[0] if isinstance(line[0], str) else line[0] // 2] = len(place)
+    order, left = [], list(c.gates)
+    while left:
+        gate = next(g for g in left if g[1] // 2 in place and g[2] // 2 in place)
+        left.remove(gate)
+        order.append(gate)
+        place[gate[0] // 2] = len(place)
+    return place, order
+
+
+def groups(n):
+    """A number in groups of seven bits, the lowest first."""
+    head = b""
+    while n > 127:
+        head, n = head + bytes([n & 127 | 128]), n >> 7
+    return head + bytes([n])
+
+
+def binary(c, outputs, bads, constraints):
+    """The binary form of a circuit, which ABC reads, with these lines as its outputs, bad lines and constraints."""
+    place, order = numbers(c)
+    literal = lambda l: 2 * place[l // 2] + l % 2
+    sizes = [len(place) - 1, max(1, len(c.inputs)), max(1, len(c.latches)), len(outputs), len(order), len(bads), len(constraints)]
+    text = "aig " + " ".join(map(str, sizes)) + "\n"
+    if not c.latches:
+        text += "0\n"
+    for i, line in enumerate(c.latches):
+        reset = c.reset(i)
+        text += f"{literal(line[1])} {literal(reset) if reset == line[0] else reset}\n"
+    text += "".join(f"{literal(line[0])}\n" for line in outputs + bads + constraints)
+    coded = b""
+    for gate in order:
+        small, large = sorted(literal(l) for l in gate[1:])
+        coded += groups(literal(gate[0]) - large) + groups(large - small)
+    return text.encode() + coded
 
 
 class Random:
@@ -116,20 +160,22 @@ class Random:
             lines.append([2 * v[g], self.literal(known, 8 if rare else 2), self.literal(v[:g], 8 if rare else 2)])
         return lines
 
-    def circuit(self, constraints):
-        """A circuit text with I 0 to 4, L 0 to 5, O 0 to 2, A 0 to 20, B 1 to 3, C up to the number given, gates in any order.
+    def circuit(self, least, most):
+        """A circuit text with I 0 to 4, L 0 to 5, O 0 to 2, A 0 to 20, B 1 to 3, C from least to most, gates in any order.
 
-        Three in four are made so that a hit is rare, else nearly all would have one in frame 0.
+        Three in four are made so that a hit is rare, else nearly all would have one in frame 0. A constraint forbids what is made like a bad
+        line, so that it is broken as rarely.
         """
         i, l, a = self.below(5), self.below(6), self.below(21)
-        o, b, c = self.below(3), 1 + self.below(3), self.below(constraints + 1)
+        o, b, c = self.below(3), 1 + self.below(3), least + self.below(most - least + 1)
         top, rare = i + l + a + self.below(3), self.below(4) > 0
         v = self.shuffled(range(1, top + 1))[:i + l + a]
         latches, gates = self.latch_lines(v, i, i + l, rare), self.gate_lines(v, i + l, rare)
         known = [v, v[i:i + l], v[-4:], v[-4:]]
-        picks = [[[self.literal(known[self.below(4)], 8 if rare else 2)] for _ in range(n)] for n in (o, b, c)]
+        outputs, bads, barred = [[[self.literal(known[self.below(4)], 8 if rare else 2)] for _ in range(n)] for n in (o, b, c)]
+        constraints = [[line[0] ^ 1] for line in barred]
         counts = [top, i, l, o, a, b, c, 0, 0][:7 if c else 6 + self.below(4)]
-        return joined([["aag"] + counts], [[2 * x] for x in v[:i]], latches, *picks, self.shuffled(gates))
+        return joined([["aag"] + counts], [[2 * x] for x in v[:i]], latches, outputs, bads, constraints, self.shuffled(gates))
 
     def bound(self, c, bits):
         """A bound of at most 8 at which there are at most that many free bits."""

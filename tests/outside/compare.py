@@ -124,7 +124,7 @@ def compare_published(tally, how):
 def compare_triggers(tally, how):
     """Part c: the example triggers."""
     folder = os.path.join(rows.ROWS, "data", "examples")
-    files = sorted(os.listdir(folder))
+    files = sorted(name for name in os.listdir(folder) if name.endswith(".search"))
     jobs = [rows.job_of(f"t{i}", f"examples/{file}", rows.load(os.path.join(folder, file))) for i, file in enumerate(files)]
     asked = [job for job in jobs if 1 << job.bits(job.k) <= job.d]
     for job in jobs:
@@ -133,12 +133,12 @@ def compare_triggers(tally, how):
     answer_all(asked, how)
     for job in asked:
         judge(job, tally)
-        say(job, ", constraints as gates of the property" if job.circuit.constraints else "")
+        say(job, ", with constraints, the file unchanged" if job.circuit.constraints else "")
 
 
-def compare_random(tally, how, seed, count, constraints):
+def compare_random(tally, how, seed, count, least, most):
     """Part b: random circuits, each searched with a budget that covers every sequence and with a smaller one."""
-    searches = list(rows.random_searches(seed, count, constraints))
+    searches = list(rows.random_searches(seed, count, least, most))
     jobs = [rows.job_of(f"r{i}", f"random {i} of seed {seed}", text) for i, (text, _) in enumerate(searches)]
     answer_all(jobs, how)
     spent = 0
@@ -148,7 +148,7 @@ def compare_random(tally, how, seed, count, constraints):
         spent += said.startswith("spent")
         tally.note("smaller budget", f"{job.title}, budget {budget}", said, full, answers.permitted(job, full, budget, said))
     seen = Counter(first_line(job.ours) if job.ours.startswith("found") else job.ours.split(" ")[0] for job in jobs)
-    with_constraints = f", {sum(bool(job.circuit.constraints) for job in jobs)} of them with constraints" if constraints else ""
+    with_constraints = f" with {least} to {most} constraints" if most else ""
     print(f"{count} random circuits{with_constraints}: " + ", ".join(f"{seen[x]} {x}" for x in sorted(seen)) +
           f"; with the smaller budget {spent} spent")
 
@@ -164,7 +164,7 @@ def same_files():
 def options():
     parser = argparse.ArgumentParser(prog="tests/outside/run")
     parser.add_argument("--circuits", type=int, default=4000, help="random circuits without constraints (4000)")
-    parser.add_argument("--constrained", type=int, default=500, help="random circuits with 0 to 2 constraints (500)")
+    parser.add_argument("--constrained", type=int, default=1600, help="random circuits with 1 to 4 constraints (1600)")
     parser.add_argument("--seed", type=int, default=rows.SEED, help=f"seed of the random circuits ({rows.SEED})")
     parser.add_argument("--spoil", choices=["frame", "spent", "bit"], help="spoil our answers, to show that it is noticed")
     return parser.parse_args()
@@ -176,8 +176,8 @@ def main():
     same = same_files()
     compare_published(tally, given.spoil)
     compare_triggers(tally, given.spoil)
-    compare_random(tally, given.spoil, given.seed, given.circuits, 0)
-    compare_random(tally, given.spoil, given.seed + 1, given.constrained, 2)
+    compare_random(tally, given.spoil, given.seed, given.circuits, 0, 0)
+    compare_random(tally, given.spoil, given.seed + 1, given.constrained, 1, 4)
     for kind, count in tally.made.items():
         print(f"{kind}: {count} compared, {tally.differ[kind]} differ")
     total, differ = sum(tally.made.values()), sum(tally.differ.values())

@@ -5,8 +5,7 @@ import tools
 
 MODULE = """module play_{ident};
   reg clk = 0;
-{declared}  wire o0;
-  {ident} dut({connected});
+{declared}{wires}  {ident} dut({connected});
   initial begin
 {steps}    #1 $display("@ {ident} %b", o0);
   end
@@ -40,8 +39,14 @@ def start_steps(job, start, verilog):
     return steps
 
 
-def input_steps(rows):
-    frames = ["".join(f"    i{i} = 1'b{value};\n" for i, value in enumerate(row)) for row in rows]
+def constraint_steps(job, frame):
+    """Says which constraint is not 1 in a frame."""
+    lines = [f"    if (o{1 + i} !== 1'b1) $display(\"@ {job.ident} constraint {i} frame {frame}\");\n" for i in range(len(job.circuit.constraints))]
+    return "".join(["    #1;\n"] + lines) if lines else ""
+
+
+def input_steps(job, rows):
+    frames = ["".join(f"    i{i} = 1'b{value};\n" for i, value in enumerate(row)) + constraint_steps(job, t) for t, row in enumerate(rows)]
     return "    #1 clk = 1;\n    #1 clk = 0;\n".join(frames)
 
 
@@ -49,16 +54,18 @@ def module(job, start, rows):
     verilog = tools.read(job.file("v"))
     ports = re.search(r"^module \w+\((.*)\);", verilog, re.M)[1].split(", ")
     inputs = [port for port in ports if port.startswith("i")]
+    outputs = [f"o{i}" for i in range(1 + len(job.circuit.constraints))]
     played = MODULE.format(
         ident=job.ident,
         declared="".join(f"  reg i{i};\n" for i in range(len(job.circuit.inputs))),
-        connected=", ".join(f".{port}({port})" for port in inputs + ["o0"] + (["clk"] if "clk" in ports else [])),
-        steps=start_steps(job, start, verilog) + input_steps(rows))
+        wires="".join(f"  wire {name};\n" for name in outputs),
+        connected=", ".join(f".{port}({port})" for port in inputs + outputs + (["clk"] if "clk" in ports else [])),
+        steps=start_steps(job, start, verilog) + input_steps(job, rows))
     return verilog + played
 
 
 def play(jobs):
-    """Sets `played` of each job whose answer is found: `1` where the bad line is 1 in the last frame."""
+    """Sets `played` of each job whose answer is found: `1` where the bad line is 1 in the last frame and every constraint in every frame."""
     for part in tools.chunks([job for job in jobs if job.ours.startswith("found ")]):
         text = ""
         for job in part:

@@ -40,11 +40,11 @@ def published():
             yield f"published/{name}.search", file, f"search {b} {BOUND} {BUDGET}\n{text}"
 
 
-def random_searches(seed, count, constraints):
+def random_searches(seed, count, least, most):
     """Random circuits as searches with a budget that covers every sequence, each with a smaller budget."""
     draws = aiger.Random(seed)
     for _ in range(count):
-        text = draws.circuit(constraints)
+        text = draws.circuit(least, most)
         c = aiger.parse(text)
         b, k = draws.below(len(c.bads)), draws.bound(c, tools.MOST_BITS)
         exponent = draws.below(len(c.free()) + len(c.inputs) * (k + 1) + 1)
@@ -54,7 +54,7 @@ def random_searches(seed, count, constraints):
 def made():
     """The search text of every row that this program makes, by title."""
     texts = {title: text for title, _, text in published()}
-    for i, (text, _) in enumerate(random_searches(SEED, DOZEN, 0)):
+    for i, (text, _) in enumerate(random_searches(SEED, DOZEN, 0, 0)):
         texts[f"random/{i:02}.search"] = text
     return texts
 

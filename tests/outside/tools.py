@@ -93,7 +93,7 @@ def search(job, d):
 YOSYS = """log @@ {ident}
 read_aiger -module_name top {ident}.aag
 write_aiger -I -L -map {ident}.map {ident}.aig
-sat -tempinduct-baseonly -maxsteps {frames} -prove o0 0
+sat -tempinduct-baseonly -maxsteps {frames} -prove o0 0{assumed}
 design -reset
 read_aiger -clk_name clk -module_name {ident} {ident}.aag
 write_verilog -noattr {ident}.v
@@ -105,6 +105,16 @@ def read_map(text):
     """The map that yosys writes beside a binary file: position there by kind and name."""
     rows = [line.split(" ") for line in text.splitlines()]
     return {(kind, name): int(at) for kind, at, _, name in rows}
+
+
+def assumed(job):
+    """Every constraint is 1 in every frame."""
+    return "".join(f" -set o{1 + i} 1" for i in range(len(job.circuit.constraints)))
+
+
+def places(c):
+    """The same for a binary file that aiger.py makes: inputs and latches stand there in the order of the file."""
+    return {(kind, f"{kind[0]}{i}"): i for kind, lines in (("input", c.inputs), ("latch", c.latches)) for i in range(len(lines))}
 
 
 def sat_answer(job, log):
@@ -120,15 +130,27 @@ def yosys(jobs):
     for part in chunks(jobs):
         for job in part:
             write(job.file("aag"), aiger.question(job.circuit, job.b))
-        write("convert.ys", "".join(YOSYS.format(ident=job.ident, frames=job.k + 1) for job in part))
+        write("convert.ys", "".join(YOSYS.format(ident=job.ident, frames=job.k + 1, assumed=assumed(job)) for job in part))
         run(["yosys", "-q", "-l", "convert.log", "-s", "convert.ys"])
         logs = sections(read("convert.log"))
         for job in part:
             job.sat = sat_answer(job, logs[job.ident])
-            job.names = read_map(read(job.file("map")))
+            job.names = places(job.circuit) if job.circuit.constraints else read_map(read(job.file("map")))
 
 
 # ABC: bounded model checking, and the truth table of the output in each frame.
+
+# A file with constraints is read whole, as AIGER 1.9 has it: `fold` makes each property false from the first frame on that breaks a constraint.
+# Where no latch is left after it, bmc3 is no use; all frames are then the same, and `iprove` says whether the property is ever true.
+WHOLE = """echo @@ {ident}
+read_aiger {ident}_whole.aig
+logic
+undc
+strash
+zero
+fold
+cone -s -O {output}
+"""
 
 BMC3 = """echo @@ {ident}
 read_aiger {file}.aig
@@ -141,7 +163,7 @@ bmc3 -F {frames}
 print_status
 """
 
-TABLES = """read_aiger {ident}.aig
+TABLES = """read_aiger {file}.aig
 frames -i -F {frames}
 strash
 &get -n
@@ -170,16 +192,55 @@ def read_tables(name):
     return [int(line, 16) for line in read(name).split()]
 
 
+def write_constrained(job):
+    """The whole file for bmc3; for the tables bad line b and the constraints as outputs, so that each has a table of its own in each frame."""
+    c = job.circuit
+    for name, lines in (("whole", (c.outputs, c.bads, c.constraints)), ("lines", ([c.bads[job.b]] + c.constraints, [], []))):
+        with open(path(f"{job.ident}_{name}.aig"), "wb") as f:
+            f.write(aiger.binary(c, *lines))
+
+
+def abc_script(job):
+    c, script = job.circuit, ""
+    if c.constraints:
+        write_constrained(job)
+        script += WHOLE.format(ident=job.ident, output=len(c.outputs) + job.b) + f"bmc3 -F {job.k + 1}\nprint_status\n"
+    else:
+        script += BMC3.format(ident=job.ident, file=job.ident, output=0, frames=job.k + 1)
+    if job.bits(job.k) <= MOST_BITS:
+        file = f"{job.ident}_lines" if c.constraints else job.ident
+        script += TABLES.format(ident=job.ident, file=file, frames=table_frames(job))
+    return script
+
+
+def hit_tables(job, tables):
+    """The table of the hit in each frame: the bad line there, and every constraint there and in the frames before."""
+    lines, hits, allowed = 1 + len(job.circuit.constraints), [], -1
+    for t in range(job.k + 1):
+        bad, *constraints = tables[t * lines:(t + 1) * lines]
+        for table in constraints:
+            allowed &= table
+        hits.append(bad & allowed)
+    return hits
+
+
+def without_latches(jobs, logs):
+    """ABC's answers where no latch is left after `fold`."""
+    asked = [job for job in jobs if "Does not work for combinational networks" in logs[job.ident]]
+    write("prove.abc", "".join(WHOLE.format(ident=job.ident, output=len(job.circuit.outputs) + job.b) + "iprove\n" for job in asked))
+    said = sections(run(["berkeley-abc", "-f", "prove.abc"])) if asked else {}
+    for job in asked:
+        if "SATISFIABLE" not in said[job.ident]:
+            raise ToolError(f"{job.title}: ABC iprove gives no answer\n{said[job.ident]}")
+        job.bmc3 = f"none {job.k}" if "UNSATISFIABLE" in said[job.ident] else "found 0"
+
+
 def abc(jobs):
     for part in chunks(jobs):
-        script = ""
-        for job in part:
-            script += BMC3.format(ident=job.ident, file=job.ident, output=0, frames=job.k + 1)
-            if job.bits(job.k) <= MOST_BITS:
-                script += TABLES.format(ident=job.ident, frames=table_frames(job))
-        write("check.abc", script)
+        write("check.abc", "".join(map(abc_script, part)))
         logs = sections(run(["berkeley-abc", "-f", "check.abc"]))
+        without_latches(part, logs)
         for job in part:
-            job.bmc3 = bmc3_answer(job.title, job.k, logs[job.ident])
+            job.bmc3 = job.bmc3 or bmc3_answer(job.title, job.k, logs[job.ident])
             if job.bits(job.k) <= MOST_BITS:
-                job.tables = read_tables(job.file("tables"))[:job.k + 1]
+                job.tables = hit_tables(job, read_tables(job.file("tables")))

@@ -1,18 +1,22 @@
 -- The operations' answers as numbers. Assumes nothing.
 use mathlib.Core.Path.{_≡_}
-use mathlib.Core.Bool.{Bool, true, false, cond}
+use mathlib.Core.Bool.{cond}
 use mathlib.Core.List.{List, []}
 use Prim.Native.Nat.{ℕ, _+_, _*_, _^_}
 use lib.Dec.{leb}
 use lib.ListN.{length}
 use Rattle.aiger.specs.Circuit.{Circuit}
 use Rattle.aiger.specs.Load.{Answer, refused, gives, load, _>>=_}
+use Rattle.aiger.specs.Search.{Outcome}
 use Rattle.aiger.specs.Memory.{Holds}
-use Rattle.aiger.specs.Operations.{front, HoldsNone, Loaded, Said, refusal, found, none, spent, Searched, Written, Replayed, Folded}
+use Rattle.aiger.specs.Operations.{front, HoldsNone, Loaded, Searched, Written, Folded}
+use Rattle.completions.specs.Either.{Verdict}
+use Rattle.completions.specs.Operations.{EitherReplayed, Widened}
 use Rattle.load.specs.Preview.{countsOf, wordsNeeded}
 use Rattle.layout.specs.Words.{circuitIn}
 use Rattle.search.specs.Chosen.{chosen}
 use Rattle.fold.specs.Chosen as fold
+use Rattle.joined.specs.Joined.{JoinedInto}
 
 -- 0 for an accepted load, else the number of the refusal
 abbrev pub loadCode : Answer (List ℕ) → ℕ
@@ -22,6 +26,12 @@ loadCode (gives counts) = 0
 pub record LoadCode (m f : List ℕ) (r : ℕ) (m′ : List ℕ) : Type 0 where
   pub answer : Answer (List ℕ)
   pub loaded : Loaded m f answer m′
+  pub code : r ≡ loadCode answer
+
+-- the same for join
+pub record JoinCode (m₁ m₂ m : List ℕ) (r : ℕ) (m′ : List ℕ) : Type 0 where
+  pub answer : Answer (List ℕ)
+  pub joined : JoinedInto m₁ m₂ m answer m′
   pub code : r ≡ loadCode answer
 
 -- seven counts at the front, where there is room for them
@@ -47,25 +57,26 @@ pub data TestCode (m : List ℕ) : ℕ → Type 0 where
   holds : Holds m (circuitIn m) → TestCode m 0
   holdsNone : HoldsNone m → TestCode m 9
 
-abbrev pub searchCode : Said → ℕ
-searchCode (found t) = t
-searchCode (none k) = 2 ^ 32 + k
-searchCode (spent t) = 2 * 2 ^ 32 + t
-searchCode (refusal n) = 3 * 2 ^ 32 + n
+abbrev pub searchCode : Answer Outcome → ℕ
+searchCode (gives (Outcome.found t)) = t
+searchCode (gives (Outcome.none k)) = 2 ^ 32 + k
+searchCode (gives (Outcome.spent t)) = 2 * 2 ^ 32 + t
+searchCode (refused n) = 3 * 2 ^ 32 + n
 
 pub record SearchCode (m : List ℕ) (b k D : ℕ) (w out : List ℕ) (r : ℕ) (w′ out′ : List ℕ) : Type 0 where
-  pub said : Said
-  pub searched : Searched chosen m b k D w out said w′ out′
-  pub code : r ≡ searchCode said
+  pub answer : Answer Outcome
+  pub searched : Searched chosen m b k D w out answer w′ out′
+  pub code : r ≡ searchCode answer
 
-abbrev pub replayCode : Answer Bool → ℕ
-replayCode (gives true) = 1
-replayCode (gives false) = 0
+abbrev pub replayCode : Answer Verdict → ℕ
+replayCode (gives Verdict.all) = 1
+replayCode (gives Verdict.no) = 0
+replayCode (gives Verdict.mixed) = 2
 replayCode (refused n) = n
 
 pub record ReplayCode (m text : List ℕ) (r : ℕ) : Type 0 where
-  pub answer : Answer Bool
-  pub replayed : Replayed m text answer
+  pub answer : Answer Verdict
+  pub replayed : EitherReplayed m text answer
   pub code : r ≡ replayCode answer
 
 abbrev pub writeCode : Answer ℕ → ℕ
@@ -75,6 +86,11 @@ writeCode (refused n) = 2 ^ 32 + n
 pub record WriteCode (m out : List ℕ) (r : ℕ) (out′ : List ℕ) : Type 0 where
   pub answer : Answer ℕ
   pub written : Written m out answer out′
+  pub code : r ≡ writeCode answer
+
+pub record WidenCode (m text out : List ℕ) (r : ℕ) (out′ : List ℕ) : Type 0 where
+  pub answer : Answer ℕ
+  pub widened : Widened m text out answer out′
   pub code : r ≡ writeCode answer
 
 pub record FoldCode (m : List ℕ) (b t : ℕ) (w out : List ℕ) (r : ℕ) (w′ out′ : List ℕ) : Type 0 where

@@ -1,17 +1,21 @@
 // The public operations for programs in C and Rust: numbers and slices only. A slice is a pointer and a length.
+// Clause 10.5: whatever is lent, nothing outside it is touched, and every call returns.
 use circuit::Held;
 use fold::FoldAnswer;
 use load::Counts;
 use load::LoadAnswer;
 use replay::ReplayAnswer;
 use search::SearchAnswer;
+use waveform::WaveformAnswer;
+use widen::WidenAnswer;
 use write::WriteAnswer;
 ghost use mathlib.Core.Path.{_≡_};
 ghost use lib.ListN.{length};
 ghost use Rattle.aiger.specs.Operations.{Searched, Written};
 ghost use Rattle.search.specs.Chosen.{chosen};
 ghost use Rattle.load.specs.Answers.{numbers};
-ghost use Rattle.service.specs.Codes.{shown, LoadCode, PreviewCode, TestCode, SearchCode, ReplayCode, WriteCode, FoldCode};
+ghost use Rattle.service.specs.Waveforms.{WaveformCode};
+ghost use Rattle.service.specs.Codes.{shown, LoadCode, PreviewCode, TestCode, SearchCode, ReplayCode, WidenCode, WriteCode, FoldCode, JoinCode};
 
 // Loads a file: 0, and the counts M I L O A B C are words 0 to 6 of circuit memory; or the number of the refusal.
 #[no_mangle]
@@ -58,6 +62,18 @@ pub extern "C" fn yunverok_preview(file: &[u8], memory: &[u32], counts: &mut [u3
     }
 }
 
+// Joins the circuits in first and second into third: 0, and third then holds the joined circuit as an accepted load leaves it; or the
+// number of the refusal.
+#[no_mangle]
+pub extern "C" fn yunverok_join(first: &[u32], second: &[u32], third: &mut [u32]) -> u32
+    ensures { λ r. ⌜ JoinCode (now (first .entry)) (now (second .entry)) (now (third .entry)) r (now (third .exit)) ⌝ }
+{
+    let LoadAnswer::Refused(number) = join::join(first, second, third) else {
+        return 0;
+    };
+    number
+}
+
 // The test for number 9: 0 where circuit memory holds a circuit, else 9.
 #[no_mangle]
 pub extern "C" fn yunverok_test(memory: &[u32]) -> u32
@@ -89,15 +105,27 @@ pub extern "C" fn yunverok_search(
     }
 }
 
-// Replays a witness: 1 for yes, 0 for no, or the number of the refusal, 9 or 14.
+// Replays a witness: 1 for all, 0 for no, 2 for mixed, or the number of the refusal, 9, 14 or 16.
 #[no_mangle]
 pub extern "C" fn yunverok_replay(memory: &[u32], text: &[u8]) -> u32
     ensures { λ r. ⌜ ReplayCode (now (memory .entry)) (now (text .entry)) r ⌝ }
 {
     match replay::replay(memory, text) {
-        ReplayAnswer::Yes => 1,
+        ReplayAnswer::All => 1,
         ReplayAnswer::No => 0,
+        ReplayAnswer::Mixed => 2,
         ReplayAnswer::Refused(n) => n,
+    }
+}
+
+// Widens a witness: the length of the text, which is that of the witness, or 2^32 + number for a refusal.
+#[no_mangle]
+pub extern "C" fn yunverok_widen(memory: &[u32], text: &[u8], out: &mut [u8]) -> u64
+    ensures { λ r. ⌜ WidenCode (now (memory .entry)) (now (text .entry)) (now (out .entry)) r (now (out .exit)) ⌝ }
+{
+    match widen::widen(memory, text, out) {
+        WidenAnswer::Length(n) => n as u64,
+        WidenAnswer::Refused(n) => 0x1_0000_0000 + n as u64,
     }
 }
 
@@ -126,5 +154,17 @@ pub extern "C" fn yunverok_fold(
     match fold::fold(memory, b, t, work, out) {
         FoldAnswer::Length(n) => n as u64,
         FoldAnswer::Refused(n) => 0x1_0000_0000 + n as u64,
+    }
+}
+
+// Shows a witness as a value change dump, all wires or, where inputs is not 0, the inputs alone: the length of the text, or
+// 2^32 + number for a refusal.
+#[no_mangle]
+pub extern "C" fn yunverok_waveform(memory: &[u32], text: &[u8], inputs: u32, out: &mut [u8]) -> u64
+    ensures { λ r. ⌜ WaveformCode (now (memory .entry)) (now (text .entry)) inputs (now (out .entry)) r (now (out .exit)) ⌝ }
+{
+    match waveform::waveform(memory, text, inputs != 0, out) {
+        WaveformAnswer::Length(n) => n as u64,
+        WaveformAnswer::Refused(n) => 0x1_0000_0000 + n as u64,
     }
 }

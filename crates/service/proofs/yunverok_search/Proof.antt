@@ -52,7 +52,7 @@ same-length-2 c = search needs
 returns : tie.Need-returns
 returns c =
     let w = c .before .before .before .before .before .before .before in
-    record { said = said (w .search .result); searched = w .search .ensures; code = sym (ap (λ (x : SearchAnswer). searchCode (said x)) (c .before .t .given .1)) }
+    record { answer = said (w .search .result); searched = w .search .ensures; code = sym (ap (λ (x : SearchAnswer). searchCode (said x)) (c .before .t .given .1)) }
 
 same-length-3 : tie.Need-same-length-3
 same-length-3 c = search needs
@@ -63,7 +63,7 @@ same-length-4 c = search needs
 returns-2 : tie.Need-returns-2
 returns-2 c =
     let w = c .before .before .before .before .before .before .before in
-    record { said = said (w .search .result); searched = w .search .ensures; code = sym (ap (λ (x : SearchAnswer). searchCode (said x)) (c .before .k .given .1)) }
+    record { answer = said (w .search .result); searched = w .search .ensures; code = sym (ap (λ (x : SearchAnswer). searchCode (said x)) (c .before .k .given .1)) }
 
 same-length-5 : tie.Need-same-length-5
 same-length-5 c = search needs
@@ -74,7 +74,7 @@ same-length-6 c = search needs
 returns-3 : tie.Need-returns-3
 returns-3 c =
     let w = c .before .before .before .before .before .before .before in
-    record { said = said (w .search .result); searched = w .search .ensures; code = sym (ap (λ (x : SearchAnswer). searchCode (said x)) (c .before .t2 .given .1)) }
+    record { answer = said (w .search .result); searched = w .search .ensures; code = sym (ap (λ (x : SearchAnswer). searchCode (said x)) (c .before .t2 .given .1)) }
 
 same-length-7 : tie.Need-same-length-7
 same-length-7 c = search needs
@@ -85,7 +85,7 @@ same-length-8 c = search needs
 returns-4 : tie.Need-returns-4
 returns-4 c =
     let w = c .before .before .before .before .before .before .before in
-    record { said = said (w .search .result); searched = w .search .ensures; code = sym (ap (λ (x : SearchAnswer). searchCode (said x)) (c .before .n .given .1)) }
+    record { answer = said (w .search .result); searched = w .search .ensures; code = sym (ap (λ (x : SearchAnswer). searchCode (said x)) (c .before .n .given .1)) }
 
 pub yunverok-search-spec : {M : Type 1} → statement M
 yunverok-search-spec =

@@ -1,0 +1,223 @@
+-- All that is claimed, in one record: the three demands, each field proved by a theorem of the crates below. That every call stays within
+-- what was lent, that nothing wraps and that every call returns is what the check of each function shows; the contracts that the fields
+-- speak of are those of the operations, in aiger/specs/Operations.antt and completions/specs/Operations.antt. Assumes nothing.
+use mathlib.Core.Path.{_≡_, refl, sym, ap, _∙_, subst}
+use mathlib.Core.Bool.{Bool, cond}
+use mathlib.Core.List.{List, [], _∷_, List·Memᴰ}
+use mathlib.Core.Option.{some}
+use mathlib.Core.Logic.{_⊎_}
+use Prim.Native.Nat.{ℕ, _≤_, _<_, _^_}
+use native.Mathlib.Omega.{arith}
+use lib.Dec.{T}
+use lib.ListN.{length, take}
+use Rattle.aiger.specs.Circuit.{Circuit, var, literalsRight, usedDefined, acyclic}
+use Rattle.aiger.specs.Frames.{Run, value, valueAt, run, freeBits, freeStarts}
+use Rattle.aiger.specs.Load.{Answer, refused, gives, load, needed}
+use Rattle.aiger.specs.Search.{Outcome, question, reaches, firstWitness, permitted, permittedOf}
+use Rattle.aiger.specs.Witness.{agrees, witness}
+use Rattle.aiger.specs.Write.{countRow, write}
+use Rattle.aiger.specs.Memory.{Holds, image}
+use Rattle.aiger.specs.Fold.{folds, valueOn, output}
+use Rattle.aiger.specs.Operations.{front, HoldsNone, Loaded, Test, judge, Operated, Searched, Folded, Replayed}
+use Rattle.completions.specs.Either.{Verdict, shows, readEither}
+use Rattle.completions.specs.Operations.{EitherReplayed, Widened}
+use Rattle.completions.specs.Forms.{Completes}
+use Rattle.meaning.proofs.Defined.{Known}
+use Rattle.meaning.proofs.Runs.{Satisfies, run-determined, run-satisfies}
+use Rattle.meaning.proofs.Sequences.{Shaped, every-run, run-same}
+use Rattle.meaning.proofs.Outcomes.{Found, None, Spent}
+use Rattle.meaning.proofs.Values.{frameAt}
+use Rattle.roundtrip.proofs.LoadValid.{gives-same}
+use Rattle.roundtrip.proofs.Holding.{load-again}
+use Rattle.roundtrip.proofs.Folds.{folded-output}
+use Rattle.roundtrip.proofs.Determined.{OneText, loaded-same, acted, refused-as}
+use Rattle.fold.specs.Chosen as folding
+use Rattle.joined.specs.Joined.{joined, joinTests, JoinedInto}
+use Rattle.parting.proofs.Parted.{firstRun, secondRun}
+use Rattle.parting.proofs.Theorems.{Parting, found-parts, none-parts, self-same}
+use Rattle.parting.proofs.Contract.{join-without, join-refused, join-accepted, join-loads}
+use Rattle.search.specs.Chosen.{chosen}
+use Rattle.replay.proofs.Theorems.{Hit, either-same, all-is-yes, all-hits, no-hits}
+use Rattle.widen.proofs.Theorems.{made, widened-same, widened-all, widened-copied, widened-twice}
+use Rattle.search.proofs.Theorems.{found-only, none-only, spent-only, memory-same}
+use Rattle.search.proofs.Constraints.{questionAlone, witness-allowed, permitted-alone}
+
+pub record Correct : Type 1 where
+  -- ---- Demand 1: bad input gets its number, in the table's order, and changes nothing; input with no such cause is never refused.
+
+  -- load answers one thing and leaves one memory
+  pub load-determined : {m f m₁ m₂ : List ℕ} {a b : Answer (List ℕ)} → Loaded m f a m₁ → Loaded m f b m₂ → (a ≡ b) × (m₁ ≡ m₂)
+  -- a refused load has the cause of its number, and leaves the memory as it was
+  pub load-refused : {m f m′ : List ℕ} {n : ℕ} → Loaded m f (refused n) m′ → (load (length m) f ≡ refused n) × (m′ ≡ m)
+  -- a file without a cause is loaded: the counts are answered, the circuit's words stand at the front, and the others are as they were
+  pub load-accepted : {m f m′ : List ℕ} {a : Answer (List ℕ)} {c : Circuit} → Loaded m f a m′ → load (length m) f ≡ gives c
+      → (a ≡ gives (c .maxVar ∷ countRow c)) × (m′ ≡ front (image c) m)
+  -- every other operation: 9 exactly where the memory holds no circuit, and then nothing is changed
+  pub no-circuit : {A S : Type 0} {m : List ℕ} {tests : Circuit → List Test} {lent s : S} {effect : Circuit → A → S → Type 0} {x : Answer A} → HoldsNone m
+      → Operated m tests lent effect x s → (x ≡ refused 9) × (s ≡ lent)
+  -- a refusal has the number of the first test that fails, and changes nothing
+  pub first-cause : {A S : Type 0} {m : List ℕ} {tests : Circuit → List Test} {lent s : S} {effect : Circuit → A → S → Type 0} {n : ℕ} {c : Circuit} → Holds m c
+      → Operated m tests lent effect (refused n) s → (judge (tests c) ≡ refused n) × (s ≡ lent)
+  -- where no test fails the operation is not refused, and has its effect
+  pub never-refused : {A S : Type 0} {m : List ℕ} {tests : Circuit → List Test} {lent s : S} {effect : Circuit → A → S → Type 0} {x : Answer A} {c : Circuit} → Holds m c
+      → judge (tests c) ≡ gives tt → Operated m tests lent effect x s → (a : A) × (x ≡ gives a) × effect c a s
+  -- ---- Demand 2: files are read, evaluated and written as AIGER says; what is written is read back; a folded frame has the hit's value.
+
+  -- the values of literals in a run satisfy the equations of AIGER, and are the only ones that do
+  pub run-values : (c : Circuit) → T (literalsRight c) → T (usedDefined c) → T (acyclic c) → (r : Run) (t : ℕ)
+      → Satisfies c r t (frameAt c r)
+      × ((w : ℕ → ℕ → Bool) → Satisfies c r t w → (u : ℕ) → u ≤ t → (l : ℕ) → Known c (var l) → value (w u) l ≡ valueAt c r u l)
+  -- each run that starts as the resets say is the run of a sequence
+  pub sequences-all : (c : Circuit) (t : ℕ) (r : Run) → Shaped c t r → T (agrees (c .latches) (r .start)) → (x : ℕ) × (x < 2 ^ freeBits c t) × (run c t x ≡ r)
+  -- and two sequences have two runs
+  pub sequences-apart : (c : Circuit) (t x y : ℕ) → x < 2 ^ freeBits c t → y < 2 ^ freeBits c t → run c t x ≡ run c t y → x ≡ y
+  -- a loaded circuit, written, is read back as the same circuit
+  pub written-back : (room : ℕ) (f : List ℕ) {c : Circuit} → load room f ≡ gives c → load room (write c) ≡ gives c
+  -- fold writes the text of one circuit, the same whatever the memories held, which obeys the rules of folded frames: `folds` lists them
+  pub folded-text : {m w out w′ out′ : List ℕ} {c : Circuit} {b t n : ℕ} → Holds m c → Folded folding.chosen m b t w out (gives n) w′ out′
+      → T (folds c b t (folding.chosen c b t)) × (n ≡ length (write (folding.chosen c b t))) × (out′ ≡ front (write (folding.chosen c b t)) out)
+  -- and its output has, for every value of the free bits, the value of the hit in the file's circuit
+  pub folded-value : {m w out w′ out′ : List ℕ} {c : Circuit} {b t n : ℕ} → Holds m c → Folded folding.chosen m b t w out (gives n) w′ out′
+      → (x : ℕ) → x < 2 ^ freeBits c t → valueOn (folding.chosen c b t) (freeBits c t) x (output (folding.chosen c b t)) ≡ reaches c b t x
+  -- join: 9 where either memory holds no circuit, and then the third memory is as it was
+  pub join-no-circuit : {m₁ m₂ m m′ : List ℕ} {x : Answer (List ℕ)} → HoldsNone m₁ ⊎ HoldsNone m₂ → JoinedInto m₁ m₂ m x m′ → (x ≡ refused 9) × (m′ ≡ m)
+  -- a refused join has the number of the first of the tests 17, 3 and 4 that fails, and leaves the third memory as it was
+  pub join-first-cause : {m₁ m₂ m m′ : List ℕ} {c d : Circuit} {n : ℕ} → Holds m₁ c → Holds m₂ d → JoinedInto m₁ m₂ m (refused n) m′
+      → (judge (joinTests c d (length m)) ≡ refused n) × (m′ ≡ m)
+  -- where none of them fails it is not refused: the counts of the joined circuit, its words at the front, the others as they were
+  pub join-never-refused : {m₁ m₂ m m′ : List ℕ} {c d : Circuit} {x : Answer (List ℕ)} → Holds m₁ c → Holds m₂ d → judge (joinTests c d (length m)) ≡ gives tt
+      → JoinedInto m₁ m₂ m x m′ → (x ≡ gives (joined c d .maxVar ∷ countRow (joined c d))) × (m′ ≡ front (image (joined c d)) m)
+  -- and this is what a load of the joined circuit's text answers and leaves
+  pub join-is-load : {m₁ m₂ m m′ a : List ℕ} {c d : Circuit} → Holds m₁ c → Holds m₂ d → JoinedInto m₁ m₂ m (gives a) m′
+      → Loaded m (write (joined c d)) (gives a) m′ × Holds m′ (joined c d)
+  -- a search of a joined circuit that says found t for bad line j shows runs of both circuits on the same inputs, allowed at frame t, whose
+  -- outputs j differ there; and there are none before frame t
+  pub join-found : {m₁ m₂ m m′ a w out w′ out′ : List ℕ} {c d : Circuit} {j k D t : ℕ} → Holds m₁ c → Holds m₂ d → JoinedInto m₁ m₂ m (gives a) m′ → j < length (c .outputs)
+      → Searched chosen m′ j k D w out (gives (Outcome.found t)) w′ out′
+      → (s : Run) × (out′ ≡ front (witness j s) out) × Parting c d j t (firstRun c s) (secondRun c s) × ((u : ℕ) → u < t → (r r′ : Run) → Parting c d j u r r′ → ⊥)
+  -- one that says none k shows that there are no such runs in frames 0 to k
+  pub join-none : {m₁ m₂ m m′ a w out w′ out′ : List ℕ} {c d : Circuit} {j k D i : ℕ} → Holds m₁ c → Holds m₂ d → JoinedInto m₁ m₂ m (gives a) m′ → j < length (c .outputs)
+      → Searched chosen m′ j k D w out (gives (Outcome.none i)) w′ out′ → (u : ℕ) → u ≤ k → (r r′ : Run) → Parting c d j u r r′ → ⊥
+  -- a circuit without a free start never parts from itself
+  pub join-self : (c : Circuit) → freeStarts c ≡ 0 → (j t : ℕ) (r r′ : Run) → Parting c c j t r r′ → ⊥
+  -- ---- Demand 3: a search that is not refused says found, none or spent exactly as permitted, whatever the memories held before.
+
+  -- found: the first frame with a hit, and the witness of its first hit in counting order at the front of the output
+  pub says-found : {m w out w′ out′ : List ℕ} {c : Circuit} {b k D t : ℕ} → Holds m c → Searched chosen m b k D w out (gives (Outcome.found t)) w′ out′
+      → Found (question c b) k t × (out′ ≡ front (firstWitness c b t) out)
+  -- none: no frame up to the bound has a hit
+  pub says-none : {m w out w′ out′ : List ℕ} {c : Circuit} {b k D j : ℕ} → Holds m c → Searched chosen m b k D w out (gives (Outcome.none j)) w′ out′
+      → None (question c b) k j
+  -- spent: no earlier frame has a hit, the frame has more than D sequences, and none of the first D hits
+  pub says-spent : {m w out w′ out′ : List ℕ} {c : Circuit} {b k D t : ℕ} → Holds m c → Searched chosen m b k D w out (gives (Outcome.spent t)) w′ out′
+      → Spent (question c b) k D t
+  -- a witness that is shown breaks no constraint in any of its frames
+  pub constraints-hold : {m w out w′ out′ : List ℕ} {c : Circuit} {b k D t : ℕ} → Holds m c → Searched chosen m b k D w out (gives (Outcome.found t)) w′ out′
+      → (x : ℕ) × (x < 2 ^ freeBits c t) × (out′ ≡ front (witness b (run c t x)) out)
+      × ((u l : ℕ) → u ≤ t → List·Memᴰ l (c .constraints) → T (valueAt c (run c t x) u l))
+  -- where there is no constraint, what may be answered is as if constraints counted in the frame of the hit alone
+  pub without-constraints : (c : Circuit) → c .constraints ≡ [] → (b k D : ℕ) (o : Outcome) → permitted c b k D o ≡ permittedOf (questionAlone c b) k D o
+  -- what the memories held never matters
+  pub memory-never-matters : {m m′ w w′ out out′ w₁ w₂ o₁ o₂ : List ℕ} {c : Circuit} {b k D : ℕ} {x y : Answer Outcome} → Holds m c → Holds m′ c
+      → length w ≡ length w′ → length out ≡ length out′ → Searched chosen m b k D w out x w₁ o₁ → Searched chosen m′ b k D w′ out′ y w₂ o₂
+      → (x ≡ y) × OneText out o₁ out′ o₂
+  -- ---- Clause 12.2: witnesses that may hold `x`.
+
+  -- replay answers one thing
+  pub replay-determined : {m text : List ℕ} {a b : Answer Verdict} → EitherReplayed m text a → EitherReplayed m text b → a ≡ b
+  -- for a witness without `x`, all is the yes and no the no of clause 4.2
+  pub replay-plain : {m text : List ℕ} {a : Answer Verdict} {says : Bool} {c : Circuit} → Holds m c → Replayed m text (gives says)
+      → EitherReplayed m text a → a ≡ gives (cond says Verdict.all Verdict.no)
+  -- all only where every completion is the witness of a sequence that hits
+  pub replay-all : {m text : List ℕ} {c : Circuit} → Holds m c → EitherReplayed m text (gives Verdict.all)
+      → (h : ℕ × List ℕ) × (readEither c text ≡ some h) × ((u : List ℕ) → Completes (h .1) u → Hit c (h .0) u)
+  -- no only where none shows a hit
+  pub replay-no : {m text : List ℕ} {c : Circuit} → Holds m c → EitherReplayed m text (gives Verdict.no)
+      → (h : ℕ × List ℕ) × (readEither c text ≡ some h) × ((u : List ℕ) → Completes (h .1) u → T (shows c (h .0) u) → ⊥)
+  -- widening answers one thing and leaves one output
+  pub widen-determined : {m text out o₁ o₂ : List ℕ} {a b : Answer ℕ} → Widened m text out a o₁ → Widened m text out b o₂ → (a ≡ b) × (o₁ ≡ o₂)
+  -- a widened witness is answered all
+  pub widen-all : {m text out out′ : List ℕ} {n : ℕ} {c : Circuit} → Holds m c → Widened m text out (gives n) out′
+      → EitherReplayed m text (gives Verdict.all) → EitherReplayed m (take n out′) (gives Verdict.all)
+  -- a witness that is not answered all stays as it is
+  pub widen-else : {m text out out′ : List ℕ} {n : ℕ} {c : Circuit} {v : Verdict} → Holds m c → Widened m text out (gives n) out′
+      → EitherReplayed m text (gives v) → (v ≡ Verdict.all → ⊥) → take n out′ ≡ text
+  -- widening twice is widening once
+  pub widen-twice : {m text out out′ o o′ : List ℕ} {n k : ℕ} {c : Circuit} → Holds m c → Widened m text out (gives n) out′
+      → Widened m (take n out′) o (gives k) o′ → take k o′ ≡ take n out′
+
+-- ---- the fields that stand nowhere else
+
+never : {A : Type 0} {n : ℕ} {a : A} → refused n ≡ gives a → ⊥
+never e = let z : _≡_ {A = ℕ} 0 1 = cc in absurd (omega arith)
+
+refused-load : {m f m′ : List ℕ} {n : ℕ} {a : Answer (List ℕ)} → Loaded m f a m′ → a ≡ refused n → (load (length m) f ≡ refused n) × (m′ ≡ m)
+refused-load (Loaded.refuses e) q = (e ∙ q′ q, refl)
+  where
+    q′ : {k n : ℕ} → _≡_ {A = Answer (List ℕ)} (refused k) (refused n) → _≡_ {A = Answer Circuit} (refused k) (refused n)
+    q′ z = cc
+refused-load (Loaded.stores c e) q = absurd (never (sym q))
+
+accepted-load : {m f m′ : List ℕ} {a : Answer (List ℕ)} {c : Circuit} → Loaded m f a m′ → load (length m) f ≡ gives c
+    → (a ≡ gives (c .maxVar ∷ countRow c)) × (m′ ≡ front (image c) m)
+accepted-load (Loaded.refuses e) q = absurd (never (sym e ∙ q))
+accepted-load {m} (Loaded.stores d e) q =
+    let z = gives-same (sym e ∙ q) in
+    (ap (λ (x : Circuit). gives (x .maxVar ∷ countRow x)) z, ap (λ (x : Circuit). front (image x) m) z)
+
+module _ {A S : Type 0} {m : List ℕ} {tests : Circuit → List Test} {lent : S} {effect : Circuit → A → S → Type 0} where
+  without : {x : Answer A} {s : S} → HoldsNone m → Operated m tests lent effect x s → (x ≡ refused 9) × (s ≡ lent)
+  without n (Operated.noCircuit f) = (refl, refl)
+  without n (Operated.refuses c h t) = absurd (n c h)
+  without n (Operated.acts c h t e) = absurd (n c h)
+
+  accepted : {x : Answer A} {s : S} {c : Circuit} → Holds m c → judge (tests c) ≡ gives tt → Operated m tests lent effect x s → (a : A) × (x ≡ gives a) × effect c a s
+  accepted {x = refused n} h j o = absurd (never (sym (refused-as h o refl .0) ∙ j))
+  accepted {x = gives a} h j o = (a, refl, acted h o refl .1)
+
+join-shows : {m₁ m₂ m m′ a w out w′ out′ : List ℕ} {c d : Circuit} {j k D t : ℕ} → Holds m₁ c → Holds m₂ d → JoinedInto m₁ m₂ m (gives a) m′ → j < length (c .outputs)
+    → Searched chosen m′ j k D w out (gives (Outcome.found t)) w′ out′
+    → (s : Run) × (out′ ≡ front (witness j s) out) × Parting c d j t (firstRun c s) (secondRun c s) × ((u : ℕ) → u < t → (r r′ : Run) → Parting c d j u r r′ → ⊥)
+join-shows {out = out} h h′ o l s =
+    let q = join-loads h h′ o in
+    let f = found-only (q .1) s in
+    let p = found-parts (q .2) l (f .0) in
+    (p .0, f .1 ∙ ap (λ (x : List ℕ). front x out) (p .1), p .2, p .3)
+
+pub correct : Correct
+correct =
+    record {
+      load-determined = loaded-same;
+      load-refused = λ l. refused-load l refl;
+      load-accepted = accepted-load;
+      no-circuit = without;
+      first-cause = λ h o. refused-as h o refl;
+      never-refused = accepted;
+      run-values = λ c right known a r t. (run-satisfies c right known a r t, λ w s. run-determined c right known a r t s);
+      sequences-all = every-run;
+      sequences-apart = run-same;
+      written-back = load-again;
+      folded-text = λ h o. let e = acted h o refl .1 in (e .permitted, e .count, e .shows);
+      folded-value = λ {c = c} {b = b} {t = t} h o. folded-output c b t (folding.chosen c b t) (acted h o refl .1 .permitted);
+      join-no-circuit = join-without;
+      join-first-cause = λ h h′ o. join-refused h h′ o;
+      join-never-refused = λ h h′ e o. join-accepted h h′ e o;
+      join-is-load = λ h h′ o. let q = join-loads h h′ o in (q .0, q .1);
+      join-found = λ h h′ o l s. join-shows h h′ o l s;
+      join-none = λ h h′ o l s. let q = join-loads h h′ o in none-parts (q .2) l (none-only (q .1) s);
+      join-self = self-same;
+      says-found = λ h s. found-only h s;
+      says-none = λ h s. none-only h s;
+      says-spent = λ h s. spent-only h s;
+      constraints-hold = λ h s. witness-allowed h s;
+      without-constraints = λ c none b. permitted-alone c none b;
+      memory-never-matters = memory-same;
+      replay-determined = either-same;
+      replay-plain = λ {c = c} h r s. all-is-yes c h r s;
+      replay-all = λ {c = c} h r. all-hits c h r;
+      replay-no = λ {c = c} h r. no-hits c h r;
+      widen-determined = widened-same;
+      widen-all = λ {c = c} h w r. widened-all c h (made c h w) r;
+      widen-else = λ {c = c} h w r n. widened-copied c h (made c h w) r n;
+      widen-twice = λ {c = c} h w v. widened-twice c h (made c h w) (made c h v);
+    }
