@@ -74,17 +74,17 @@ module _ {c : Circuit} {b t room : ℕ} {work : List ℕ} {made : Made} (u : Unr
       }
 
 module _ {c : Circuit} {b t : ℕ} {work : List ℕ} {made : Made} (u : Prepared c b t work made) where
-  -- none of the first 1,024 sequences hits
+  -- none of the first 64 sequences hits
   pub scannable : (D : ℕ) → D ≤ 4294967296 → Exhausted c b t → Scannable work (made .graph) (edgeWord (made .edge)) D
   scannable D h e =
       let s = spent-first (reaches c b t) (2 ^ freeBits c t) 0 (e .first) (e .spent) in
       record {
         net = u .net;
         known =
-            elim (decLt (freeBits c t) 10) [
+            elim (decLt (freeBits c t) 6) [
               | yes l ↦
-                  (let k : freeBits c t ≤ 9 = omega arith in
-                  let m : 2 ^ freeBits c t ≤ 2 ^ 9 = pow-mono k in
+                  (let k : freeBits c t ≤ 5 = omega arith in
+                  let m : 2 ^ freeBits c t ≤ 2 ^ 5 = pow-mono k in
                   absurd (omega (arith, s .beyond, e .some)))
               | no l ↦ omega (arith, u .free)
             ];

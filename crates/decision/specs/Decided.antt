@@ -41,10 +41,10 @@ FrameDecided c b t D work Hit = (x : ℕ) × (decisionOf c b t D ≡ Decision.hi
 FrameDecided c b t D work Clear = decisionOf c b t D ≡ Decision.clear
 FrameDecided c b t D work Spent = decisionOf c b t D ≡ Decision.spent
 
--- the frame has more sequences than were tried, which are 1,024 or more, and none of them hits
+-- the frame has more sequences than were tried, which are 64 or more, and none of them hits
 pub record Exhausted (c : Circuit) (b t : ℕ) : Type 0 where
   pub first : ℕ
-  pub some : 1024 ≤ first
+  pub some : 64 ≤ first
   pub spent : decisionAt (question c b) t first ≡ Decision.spent
 
 -- the graph of the hit stands in working memory, with the marks of its cone
@@ -56,12 +56,12 @@ pub record Prepared (c : Circuit) (b t : ℕ) (work : List ℕ) (made : Made) : 
   pub hit : (x : ℕ) → x < 2 ^ freeBits c t → rootAt (made .graph .free) (pairsOf work (made .graph)) (edgeWord (made .edge)) x ≡ reaches c b t x
   pub chosen : unrolled c b t ≡ record { gates = pairsOf work (made .graph); edge = edgeWord (made .edge) }
 
--- where the places of the support may be tried, and none of the first 1,024 sequences hits
+-- where the places of the support may be tried, and none of the first 64 sequences hits
 pub record Scannable (work : List ℕ) (g : Graph) (root D : ℕ) : Type 0 where
   pub net : Net (pairsOf work g) root work g
-  pub known : 10 ≤ g .free
+  pub known : 6 ≤ g .free
   pub budget : D ≤ 4294967296
-  pub none : NoHit (g .free) (pairsOf work g) root (2 ^ 10)
+  pub none : NoHit (g .free) (pairsOf work g) root (2 ^ 6)
 
 -- what a budget of D places of the support finds
 abbrev pub Scanned : ℕ → List Pair → ℕ → ℕ → List ℕ → Frame → Type 0

@@ -26,8 +26,11 @@ ghost use Rattle.decision.specs.Decided.{FrameFits, Exhausted, FrameDeci
 // So many places of the support are tried in any case: 2 to the power 14.
 const LEAST: u64 = 16384;
 
-// So many sequences are tried on the circuit, where there are more than 2 to the power 14: 2 to the power 10.
-const FIRST: u64 = 1024;
+// Up to so many sequences are all tried on the circuit: 2 to the power 10.
+const FEW: u64 = 1024;
+
+// Where there are more, so many are tried on the circuit: 2 to the power 6, the places of one block.
+const FIRST: u64 = 64;
 
 // So many of the budget add to the effort of the conflict search.
 const MOST: u64 = 8388608;
@@ -42,10 +45,10 @@ fn places(d: u64) -> u64
 // How many sequences are tried on the circuit.
 fn first_places(layout: Layout, t: usize) -> u64
     requires { ⌜ (layout .i ≤ 256) × (layout .u ≤ 1024) × (t ≤ 255) ⌝ }
-    ensures { λ r. ⌜ (1024 ≤ r) × (r ≤ 16384) ⌝ }
+    ensures { λ r. ⌜ (64 ≤ r) × (r ≤ 16384) ⌝ }
 {
-    if layout.u + layout.i * (t + 1) <= 14 {
-        LEAST
+    if layout.u + layout.i * (t + 1) <= 10 {
+        FEW
     } else {
         FIRST
     }
@@ -122,7 +125,7 @@ fn scan(work: &mut [u32], g: Graph, root: Edge, d: u64) -> Frame
     requires { ⌜ Scannable (now work) g (edgeWord root) d ⌝ }
     ensures { λ r. ⌜ Scanned (g .free) (pairsOf (now (work .entry)) g) (edgeWord root) (max d 16384) (now (work .exit)) r ⌝ }
 {
-    match simulation::first_hit(work, g, root, 10, places(d)) {
+    match simulation::first_hit(work, g, root, 6, places(d)) {
         Found::Hit => Frame::Hit,
         Found::Clear => Frame::Clear,
         Found::Spent => Frame::Spent,
