@@ -9,13 +9,14 @@ use Rattle.memory.specs.Record.{opposite}
 use Rattle.memory.specs.declared.Netlist.{Netlist}
 use Rattle.memory.specs.declared.Draft.{Draft}
 use Rattle.memory.specs.declared.Heap.{Heap}
+use Rattle.analysis.specs.Analysis.{expandedAll}
 use Rattle.floor.specs.Place.{refuted}
 use Rattle.trail.specs.Trail.{value}
 use Rattle.heap.specs.Heap.{nodeAt, skimmed}
 use Rattle.learning.specs.declared.Order.{Order}
 use Rattle.learning.specs.declared.Search.{Search}
 use Rattle.learning.specs.Learning.{withHeap, withOrder, retreated}
-use Rattle.choices.specs.Choices.{agreed, withVerdict, withAgreed, ended, explained, less, smaller, concluded, contradicted, taken, assumed, ordered, changed, modelled, decidedActive, decidedNext, chosen}
+use Rattle.choices.specs.Choices.{agreed, withVerdict, withAgreed, ended, explained, less, smaller, concluded, contradicted, contradictedAtZero, taken, assumed, ordered, changed, modelled, decidedActive, decidedNext, chosen}
 
 module _ (s : Search) where
   pub ended-by : (x : ℕ) {o : Order} {t : Search} → o ≡ withVerdict (s .order) x → t ≡ withOrder s o → t ≡ ended s x
@@ -31,6 +32,12 @@ module _ (w : List ℕ) (net : Netlist) (s : Search) where
       → w2 ≡ refuted w1 net (s .arena) d .words → i ≡ refuted w1 net (s .arena) d .count → concluded w2 net s i ≡ contradicted w net s l
   unfolding contradicted
   contradicted-by l a b c e = rw (e, c, b, a)
+
+  pub zero-by : (r : ℕ) {w1 w2 : List ℕ} {d : Draft} {i : ℕ} → w1 ≡ expandedAll w net (s .arena) r (s .trail .length) .words
+      → d ≡ expandedAll w net (s .arena) r (s .trail .length) .draft → w2 ≡ refuted w1 net (s .arena) d .words
+      → i ≡ refuted w1 net (s .arena) d .count → concluded w2 net s i ≡ contradictedAtZero w net s r
+  unfolding contradictedAtZero
+  zero-by r a b c e = rw (e, c, b, a)
 
   pub changed-by : (sweep : Bool) (goal more : ℕ) {o : Order} {t : Search} → o ≡ ordered (s .order) sweep goal more → t ≡ withOrder s o
       → retreated w net t 0 ≡ changed w net s sweep goal more

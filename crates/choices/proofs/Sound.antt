@@ -13,6 +13,8 @@ use Rattle.memory.specs.Record.{field, opposite}
 use Rattle.memory.specs.declared.Netlist.{Netlist}
 use Rattle.clauses.specs.Floor.{Floor, prefix}
 use Rattle.resolve.specs.Draft.{Drafted}
+use Rattle.analysis.specs.Analysis.{expandedAll}
+use Rattle.analysis.proofs.Sound.{expand-all-sound}
 use Rattle.floor.specs.Place.{refuted, edge, evaluated}
 use Rattle.floor.proofs.Bits.{prefix-same}
 use Rattle.floor.proofs.Rise.{bits}
@@ -23,12 +25,12 @@ use Rattle.heap.specs.Heap.{nodeAt, skimmed}
 use Rattle.heap.proofs.Frame.{skim-same}
 use Rattle.learning.specs.declared.Search.{Search}
 use Rattle.learning.specs.Learning.{Searched, searched, withTrail, withHeap, withOrder, retreated}
-use Rattle.learning.proofs.Keeps.{keeps-same}
+use Rattle.learning.proofs.Keeps.{keeps-same, expand-all-keeps}
 use Rattle.learning.proofs.Standing.{Standing, stand-on, stand-same}
 use Rattle.learning.proofs.Sound.{Stands, retreat-stands}
 use Rattle.choices.specs.Begun.{Begun}
-use Rattle.choices.specs.Choices.{agreed, wish, withAgreed, ended, explained, less, smaller, released, concluded, contradicted, taken, assumed, ordered, changed, shownWords, isShown, confirmed, modelled, decidedActive, decidedNext, chosen}
-use Rattle.choices.proofs.Explained.{explain-explains}
+use Rattle.choices.specs.Choices.{agreed, wish, withAgreed, ended, explained, less, smaller, released, concluded, contradicted, contradictedBy, contradictedAtZero, taken, assumed, ordered, changed, shownWords, isShown, confirmed, modelled, decidedActive, decidedNext, chosen}
+use Rattle.choices.proofs.Explained.{Explains, explain-explains}
 use Rattle.choices.proofs.Refuted.{refute-none, refute-stands}
 
 -- the place of the floor
@@ -60,9 +62,6 @@ module _ (hit : (ℕ → Bool) → Type 0) (hits : ℕ → Type 0) (val : ℕ �
   ended-out : (w : List ℕ) (s : Search) → Floor hits (floorAt net w) → Holds (searched w (ended s 3))
   ended-out w s f = record { going = λ e. absurd (omega arith); found = λ e. absurd (omega arith); clear = λ e. absurd (omega arith); out = λ p q. f }
 
-  pub give-up : (w : List ℕ) (s : Search) → Stands hit hits net begun (searched w s) → Holds (searched w (ended s 3))
-  give-up w s given = ended-out w s (given .0 .floor)
-
   ended-none : (w : List ℕ) (s : Search) → ((x : ℕ) → hits x → ⊥) → Holds (searched w (ended s 2))
   ended-none w s f = record { going = λ e. absurd (omega arith); found = λ e. absurd (omega arith); clear = λ e. f; out = λ p q. absurd (q refl) }
 
@@ -77,12 +76,11 @@ module _ (hit : (ℕ → Bool) → Type 0) (hits : ℕ → Type 0) (val : ℕ �
       go true = retreat-stands hit hits net begun w s (less (field w (net .nodes) i 6)) given
       go false = given
 
-  -- by a working clause
-  contradict-holds : (w : List ℕ) (s : Search) (l : ℕ) → Stands hit hits net begun (searched w s) → Holds (contradicted w net s l)
-  unfolding contradicted concluded
-  contradict-holds w s l given =
-      let d = explained w net s l in
-      let e = explain-explains hit net w s l (given .0 .sound) in
+  -- by a working clause that holds in every hit
+  clause-holds : (w : List ℕ) (s : Search) (d : Drafted) → Explains hit net (s .arena) w d → Stands hit hits net begun (searched w s)
+      → Holds (contradictedBy d net s)
+  unfolding concluded
+  clause-holds w s d e given =
       let stand = stand-on hit hits net begun (given .0) (e .1) (e .0 .sound) in
       let r = refuted (d .words) net (s .arena) (d .draft) in
       let none = refute-none hit hits val net begun begin (s .arena) (d .words) (d .draft) (e .0) stand in
@@ -100,6 +98,17 @@ module _ (hit : (ℕ → Bool) → Type 0) (hits : ℕ → Type 0) (val : ℕ �
                   | no f ↦ rw (ne-eqb n 4294967295 e, ne-eqb n 0 f) (holds (released u net s n) (release-stands u s n (some f, given .1)))
                 ]
           ]
+
+  contradict-holds : (w : List ℕ) (s : Search) (l : ℕ) → Stands hit hits net begun (searched w s) → Holds (contradicted w net s l)
+  unfolding contradicted
+  contradict-holds w s l given = clause-holds w s (explained w net s l) (explain-explains hit net w s l (given .0 .sound)) given
+
+  pub zero-holds : (w : List ℕ) (s : Search) (r : ℕ) → Stands hit hits net begun (searched w s) → Holds (contradictedAtZero w net s r)
+  unfolding contradictedAtZero
+  zero-holds w s r given =
+      let n = s .trail .length in
+      clause-holds w s (expandedAll w net (s .arena) r n)
+      (expand-all-sound hit net (s .arena) w r n (given .0 .sound), expand-all-keeps net (s .arena) w r n) given
 
   take-holds : (w : List ℕ) (s : Search) (l : ℕ) → Stands hit hits net begun (searched w s) → Holds (taken w net s l)
   unfolding taken

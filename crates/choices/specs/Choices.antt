@@ -90,6 +90,10 @@ contradictedBy d net s =
 unfoldable pub contradicted : List ℕ → Netlist → Search → ℕ → Searched
 contradicted w net s l = contradictedBy (explained w net s l) net s
 
+-- by the clause of decisions that the violated clause r gives, which at level 0 has no literal
+unfoldable pub contradictedAtZero : List ℕ → Netlist → Search → ℕ → Searched
+contradictedAtZero w net s r = contradictedBy (expandedAll w net (s .arena) r (s .trail .length)) net s
+
 unfoldable pub taken : List ℕ → Netlist → Search → ℕ → Searched
 taken w net s l = searched (decided w net (s .trail) l .words) (withTrail s (decided w net (s .trail) l .state))
 

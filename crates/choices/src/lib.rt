@@ -86,7 +86,7 @@ fn with_agreed(o: Order, v: u32) -> Order
 }
 
 // The search ends with this verdict.
-pub fn end(s: Search, x: u32) -> Search
+fn end(s: Search, x: u32) -> Search
     ensures { λ r. ⌜ r ≡ Ch.ended s x ⌝ }
 {
     let o = s.order;
@@ -171,6 +171,17 @@ fn contradict(work: &mut [u32], net: Netlist, s: Search, l: u32) -> Search
 {
     let a = s.arena;
     let d = explain(work, net, s, l);
+    let i = refute(work, net, a, d);
+    conclude(work, net, s, i)
+}
+
+// Clause r is violated at level 0: resolved with the reasons of its literals it has none left, and there is no hit.
+pub fn conflict_at_zero(work: &mut [u32], net: Netlist, s: Search, r: u32) -> Search
+    ensures { λ q. ⌜ Ln.Left (now (work .exit)) q (Ch.contradictedAtZero (now (work .entry)) net s r) ⌝ }
+{
+    let a = s.arena;
+    let n = s.trail.length;
+    let d = expand_all(work, net, a, n, r);
     let i = refute(work, net, a, d);
     conclude(work, net, s, i)
 }

@@ -12,8 +12,8 @@ use Rattle.learning.specs.Learning.{Searched, searched, withOrder, settledLevel
 use Rattle.learning.proofs.Standing.{stand-same}
 use Rattle.learning.proofs.Sound.{Stands, forget-stands, settle-level-stands, learn-stands}
 use Rattle.choices.specs.Begun.{Begun}
-use Rattle.choices.specs.Choices.{ended, changed}
-use Rattle.choices.proofs.Sound.{Holds, holds, either, give-up, change-stands, choose-holds}
+use Rattle.choices.specs.Choices.{contradictedAtZero, changed}
+use Rattle.choices.proofs.Sound.{Holds, holds, either, zero-holds, change-stands, choose-holds}
 use Rattle.conflicts.specs.Conflicts.{sum, followed, isFull, relieved, doubled, alternated, repaired, extended, stepped, steps}
 
 module _ (hit : (ℕ → Bool) → Type 0) (hits : ℕ → Type 0) (val : ℕ → ℕ → Bool) (net : Netlist) (begun : List ℕ) (begin : Begun hit hits val net begun) where
@@ -51,7 +51,8 @@ module _ (hit : (ℕ → Bool) → Type 0) (hits : ℕ → Type 0) (val : ℕ �
       let a = learnt w net s (s .trail .clash) in
       let b = relieved (a .words) net (a .search) in
       let c = alternated (b .words) net (b .search) in
-      either hit hits val net begun begin (eqb (s .trail .level) 0) (searched w (ended s 3)) c (give-up hit hits val net begun begin w s given)
+      either hit hits val net begun begin (eqb (s .trail .level) 0) (contradictedAtZero w net s (s .trail .clash)) c
+      (zero-holds hit hits val net begun begin w s (s .trail .clash) given)
       (holds hit hits val net begun begin c
       (alternate-stands (b .words) (b .search)
       (relieve-stands (a .words) (a .search) (learn-stands hit hits net begun w s (s .trail .clash) given))))

@@ -17,7 +17,7 @@ use Rattle.settling.specs.Settling.{propagated}
 use Rattle.learning.specs.declared.Order.{Order}
 use Rattle.learning.specs.declared.Search.{Search}
 use Rattle.learning.specs.Learning.{Searched, searched, withOrder, settledLevel, forgotten, learnt}
-use Rattle.choices.specs.Choices.{ended, changed, chosen}
+use Rattle.choices.specs.Choices.{changed, chosen, contradictedAtZero}
 use Rattle.conflicts.specs.declared.Verdict.{Verdict}
 
 -- ---- before the first decision
@@ -126,7 +126,7 @@ relievedAfter s net = relieved (s .words) net (s .search)
 
 unfoldable pub repaired : List ℕ → Netlist → Search → Searched
 repaired w net s =
-    cond (eqb (s .trail .level) 0) (searched w (ended s 3)) (alternatedAfter (relievedAfter (learnt w net s (s .trail .clash)) net) net)
+    cond (eqb (s .trail .level) 0) (contradictedAtZero w net s (s .trail .clash)) (alternatedAfter (relievedAfter (learnt w net s (s .trail .clash)) net) net)
 
 abbrev pub chosenAfter : Searched → Netlist → Searched
 chosenAfter s net = chosen (s .words) net (s .search)

@@ -1,7 +1,7 @@
 // The conflict search: the first place in counting order at which the root of a netlist is true, or that there is none, within an effort.
 use choices::change;
 use choices::choose;
-use choices::end;
+use choices::conflict_at_zero;
 use heap::admit;
 use learning::Order;
 use learning::Search;
@@ -227,7 +227,7 @@ fn repair(work: &mut [u32], net: Netlist, s: Search) -> Search
 {
     let t = s.trail;
     if t.level == 0 {
-        return end(s, 3);
+        return conflict_at_zero(work, net, s, t.clash);
     }
     let u = learn(work, net, s, t.clash);
     let v = relieve(work, net, u);

@@ -2,7 +2,6 @@
 use mathlib.Core.Path.{_≡_, refl, sym, ap, ap₂, _∙_, subst}
 use mathlib.Core.Bool.{Bool, true, false}
 use mathlib.Core.List.{List, _++_}
-use mathlib.Core.Logic.{_⊎_, ⊎-elim}
 use Prim.Native.Nat.{ℕ, _+_, _*_, _^_, _≤_, _<_, max}
 use native.Mathlib.Decide.{decLt}
 use native.Mathlib.Omega.{arith}
@@ -39,9 +38,9 @@ use Rattle.unroll.specs.Unrolled.{Unrolled}
 use Rattle.conflicts.specs.declared.Verdict.{Verdict}
 use Rattle.conflicts.specs.declared.Verdict.the-variants.{Found, Clear, Out}
 use Rattle.netlist.specs.Netlist.{Marked}
-use Rattle.solver.specs.Solved.{solved, SolvedIs}
-use Rattle.decision.specs.Reach.{effort, searched, decidedOr, tried, reach, decisionOf}
-use Rattle.decision.specs.Decided.{Exhausted, Prepared, Scannable, Scanned, FrameDecided}
+use Rattle.solver.specs.Solved.{solved, solvedFloor, FloorLeft, SolvedIs}
+use Rattle.decision.specs.Reach.{effort, searched, decidedOr, tried, floorOf, endOf, reached, reach, decisionOf}
+use Rattle.decision.specs.Decided.{Prepared, Scanned, Floored, Resumed, FrameDecided}
 use Rattle.decision.proofs.Deciding.{hit-at, clear-at, spent-at, reach-most, reach-tried}
 
 -- ---- the graph, when its cone is marked
@@ -74,26 +73,6 @@ module _ {c : Circuit} {b t room : ℕ} {work : List ℕ} {made : Made} (u : Unr
       }
 
 module _ {c : Circuit} {b t : ℕ} {work : List ℕ} {made : Made} (u : Prepared c b t work made) where
-  -- none of the first 1,024 sequences hits
-  pub scannable : (D : ℕ) → D ≤ 4294967296 → Exhausted c b t → Scannable work (made .graph) (edgeWord (made .edge)) D
-  scannable D h e =
-      let s = spent-first (reaches c b t) (2 ^ freeBits c t) 0 (e .first) (e .spent) in
-      record {
-        net = u .net;
-        known =
-            elim (decLt (freeBits c t) 10) [
-              | yes l ↦
-                  (let k : freeBits c t ≤ 9 = omega arith in
-                  let m : 2 ^ freeBits c t ≤ 2 ^ 9 = pow-mono k in
-                  absurd (omega (arith, s .beyond, e .some)))
-              | no l ↦ omega (arith, u .free)
-            ];
-        budget = h;
-        none = λ x l t₁.
-            let k : x < e .first = omega (arith, e .some) in
-            s .first x (omega arith) (omega arith) (subst T (u .hit x (omega (arith, s .beyond))) t₁);
-      }
-
   -- what is tried of the graph
   tried-is : (D : ℕ) → passed (support (made .graph .free) (pairsOf work (made .graph)) (edgeWord (made .edge))) (made .graph .free) (max D 16384) ≡ tried c b t D
   unfolding tried
@@ -135,17 +114,46 @@ module _ {c : Circuit} {b t : ℕ} {work : List ℕ} {made : Made} (u : Prepared
         spent-at (reaches c b t) (2 ^ freeBits c t) (reach c b t D) (omega arith)
         (λ y h w. f .1 y (omega arith) (subst T (sym (u .hit y (omega (arith, reach-most c b t D)))) w))
 
-    -- the places of the support decide the frame, where the conflict search has not, or they are no more than are tried
+    -- the places of the support decide the frame, where they are no more than are tried
     pub scanned : (after : List ℕ) (r : Frame)
-        → (searched c b t D ≡ Out) ⊎ (2 ^ rank (support (made .graph .free) (pairsOf work (made .graph)) (edgeWord (made .edge))) (made .graph .free) ≤ max D 16384)
+        → 2 ^ rank (support (made .graph .free) (pairsOf work (made .graph)) (edgeWord (made .edge))) (made .graph .free) ≤ max D 16384
         → Scanned (made .graph .free) (pairsOf work (made .graph)) (edgeWord (made .edge)) (max D 16384) after r → FrameDecided c b t D after r
     scanned after F.Hit o f = let h = scan-hit (f .1) in (f .0, h .0, h .1)
     scanned after F.Clear o f = scan-clear f
-    scanned after F.Spent o f =
-        ⊎-elim (λ (e : searched c b t D ≡ Out). scan-spent e f)
-        (λ (l : 2 ^ rank (support (made .graph .free) (pairsOf work (made .graph)) (edgeWord (made .edge))) (made .graph .free) ≤ max D 16384).
-        absurd (omega (arith, f .0)))
-        o
+    scanned after F.Spent o f = absurd (omega (arith, f .0))
+
+    -- the end of what is tried on the graph
+    end-is : (x : ℕ) → x ≡ floorOf c b t D → endOf (made .graph .free) (pairsOf work (made .graph)) (edgeWord (made .edge)) (max D 16384) x ≡ reached c b t D
+    unfolding reached
+    end-is x e =
+        ap₂ (λ (m : ℕ) (o : Outcome). endOf m (o .gates) (o .edge) (max D 16384) x) (u .free) (sym (u .chosen))
+        ∙ ap (endOf (freeBits c t) (unrolled c b t .gates) (unrolled c b t .edge) (max D 16384)) e
+
+    -- the places of the support from the floor on decide the frame
+    pub resumed : (after : List ℕ) (r : Frame) → searched c b t D ≡ Out
+        → Resumed (made .graph .free) (pairsOf work (made .graph)) (edgeWord (made .edge)) (max D 16384) (floorOf c b t D) after r → FrameDecided c b t D after r
+    resumed after F.Hit o f = let h = scan-hit (f .1) in (f .0, h .0, h .1)
+    resumed after F.Clear o f = scan-clear f
+    resumed after F.Spent o f =
+        let e = end-is (floorOf c b t D) refl in
+        let p : 2 ^ made .graph .free ≡ 2 ^ freeBits c t = ap (λ (m : ℕ). 2 ^ m) (u .free) in
+        record {
+          decided = scan-spent o (f .beyond, f .tried);
+          none = λ x l w. f .none x (omega arith) (subst T (sym (u .hit x (omega (arith, f .most)))) w);
+          least = omega (arith, f .least);
+          most = omega (arith, f .most);
+          bits = subst (λ (m : ℕ). FreeBits m (reached c b t D) after) (u .free) (subst (λ (z : ℕ). FreeBits (made .graph .free) z after) e (f .bits));
+        }
+
+    -- the floor as the graph has it
+    pub floored : (words : List ℕ) → Floored c b t D words → FloorLeft (made .graph .free) (pairsOf work (made .graph)) (edgeWord (made .edge)) (floorOf c b t D) words
+    floored words f =
+        let p : 2 ^ made .graph .free ≡ 2 ^ freeBits c t = ap (λ (m : ℕ). 2 ^ m) (u .free) in
+        record {
+          place = omega (arith, f .place);
+          none = λ x l w. f .none x l (subst T (u .hit x (omega (arith, f .place))) w);
+          bits = subst (λ (m : ℕ). FreeBits m (floorOf c b t D) words) (sym (u .free)) (f .bits);
+        }
 
     -- ---- the conflict search
 
@@ -197,8 +205,30 @@ module _ {c : Circuit} {b t : ℕ} {work : List ℕ} {made : Made} (u : Prepared
           let p : 2 ^ made .graph .free ≡ 2 ^ freeBits c t = ap (λ (m : ℕ). 2 ^ m) (u .free) in
           clear-at (reaches c b t) (2 ^ freeBits c t) (reach c b t D) (omega arith) (λ y h w. f .1 y (omega arith) (subst T (sym (u .hit y h)) w))
 
-      pub solved-out : SolvedIs (made .graph .free) (pairsOf work (made .graph)) (edgeWord (made .edge)) work e after Out → searched c b t D ≡ Out
-      solved-out f = sym (searched-is long e q) ∙ f
+      floor-is : solvedFloor (made .graph .free) (pairsOf work (made .graph)) (edgeWord (made .edge)) (length work) e ≡ floorOf c b t D
+      unfolding floorOf
+      floor-is =
+          ap₂ (λ (m : ℕ) (o : Outcome). solvedFloor m (o .gates) (o .edge) (length work) e) (u .free) (sym (u .chosen))
+          ∙ ap₂ (solvedFloor (freeBits c t) (unrolled c b t .gates) (unrolled c b t .edge)) long q
+
+      pub solved-out : SolvedIs (made .graph .free) (pairsOf work (made .graph)) (edgeWord (made .edge)) work e after Out → (searched c b t D ≡ Out) × Floored c b t D after
+      solved-out f =
+          let p : 2 ^ made .graph .free ≡ 2 ^ freeBits c t = ap (λ (m : ℕ). 2 ^ m) (u .free) in
+          let l = f .1 in (
+            sym (searched-is long e q) ∙ f .0,
+            record {
+              place = omega (arith, l .place, floor-is);
+              none = λ x h w. l .none x (omega (arith, floor-is)) (subst T (sym (u .hit x (omega (arith, l .place, floor-is)))) w);
+              bits =
+                  subst (λ (m : ℕ). FreeBits m (floorOf c b t D) after) (u .free)
+                  (subst (λ (z : ℕ). FreeBits (made .graph .free) z after) floor-is (l .bits));
+            },
+          )
+
+-- the floor's free bits, copied
+pub floor-copied : (c : Circuit) (b t D n : ℕ) (from to : List ℕ) → freeBits c t ≤ n → ((j : ℕ) → j < n → getD to j 0 ≡ getD from j 0) → Floored c b t D from → Floored c b t D to
+floor-copied c b t D n from to h e f =
+    record { place = f .place; none = f .none; bits = λ j l. ap nonzero (e j (omega arith)) ∙ f .bits j l }
 
 -- ---- the frame's words are the first ones of working memory
 
@@ -207,7 +237,14 @@ pub part-decided : (c : Circuit) (b t D : ℕ) (part rest : List ℕ) (r : Frame
 part-decided c b t D part rest F.Hit l f =
     (f .0, f .1, λ j h. ap nonzero (List·getD-append part rest 0 j (omega arith)) ∙ f .2 j h)
 part-decided c b t D part rest F.Clear l f = f
-part-decided c b t D part rest F.Spent l f = f
+part-decided c b t D part rest F.Spent l f =
+    record {
+      decided = f .decided;
+      none = f .none;
+      least = f .least;
+      most = f .most;
+      bits = λ j h. ap nonzero (List·getD-append part rest 0 j (omega arith)) ∙ f .bits j h;
+    }
 
 pub part-long : (n : ℕ) (xs : List ℕ) → n ≤ length xs → length (take n xs) ≡ n
 part-long n xs h = simp length-take (omega arith)

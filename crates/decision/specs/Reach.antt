@@ -3,17 +3,23 @@
 -- the support are tried, and no fewer than 16,384: the support are the free bits that lead to the hit in the graph that unrolling gives, and
 -- the other free bits are 0 in the first hit. Assumes nothing.
 use mathlib.Core.Path.{_≡_}
+use mathlib.Core.Bool.{cond}
+use mathlib.Core.List.{List}
 use Prim.Native.Nat.{ℕ, _+_, _*_, _^_, min, max}
+use lib.Dec.{leb}
 use Rattle.aiger.specs.Circuit.{Circuit}
-use Rattle.aiger.specs.Frames.{freeBits, size}
+use Rattle.aiger.specs.Frames.{freeBits, freeBit, size}
 use Rattle.aiger.specs.Search.{question, Decision}
 use Rattle.enumeration.specs.Choice.{decisionAt}
+use Rattle.nodes.specs.Graph.{Pair}
+use Rattle.cone.specs.Cone.{inCone}
 use Rattle.support.specs.Counting.{passed}
 use Rattle.support.specs.Support.{support}
 use Rattle.unroll.specs.Chosen.{unrolled}
 use Rattle.conflicts.specs.declared.Verdict.{Verdict}
 use Rattle.conflicts.specs.declared.Verdict.the-variants.{Found, Clear, Out}
-use Rattle.solver.specs.Solved.{solved}
+use Rattle.solver.specs.Solved.{solved, solvedFloor}
+use Rattle.resume.specs.Resume.{before}
 
 -- the effort of the conflict search, in steps of its work, at a size and a budget of D: it does not fall with D
 unfoldable pub effort : ℕ → ℕ → ℕ
@@ -36,6 +42,18 @@ decidedOr Out all part = part
 -- how many sequences of frame t are passed when D places of the support are tried, and no fewer than 16,384
 unfoldable pub tried : Circuit → ℕ → ℕ → ℕ → ℕ
 tried c b t D = passed (support (freeBits c t) (unrolled c b t .gates) (unrolled c b t .edge)) (freeBits c t) (max D 16384)
+
+-- the floor that the conflict search comes to in frame t: a sequence before which none hits
+unfoldable pub floorOf : Circuit → ℕ → ℕ → ℕ → ℕ
+floorOf c b t D = solvedFloor (freeBits c t) (unrolled c b t .gates) (unrolled c b t .edge) (16 * size c t) (effort (size c t) D)
+
+-- the end of the places that are tried, of D: sequence x, if they all lie before it, else the sequence after them
+abbrev pub endOf : ℕ → List Pair → ℕ → ℕ → ℕ → ℕ
+endOf n gs root D x = cond (leb D (before (inCone n gs root) (freeBit n x) n)) x (passed (support n gs root) n D)
+
+-- where frame t is spent none of so many sequences hits: the floor, or what is tried. Request 9 is to tell it
+unfoldable pub reached : Circuit → ℕ → ℕ → ℕ → ℕ
+reached c b t D = endOf (freeBits c t) (unrolled c b t .gates) (unrolled c b t .edge) (max D 16384) (floorOf c b t D)
 
 -- how many sequences of frame t are passed, in counting order, where none of them hits
 unfoldable pub reach : Circuit → ℕ → ℕ → ℕ → ℕ

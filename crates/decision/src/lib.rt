@@ -20,14 +20,18 @@ ghost use Rattle.nodes.specs.Edges.{edgeWord};
 ghost use Rattle.cone.specs.Store.{Marks};
 ghost use Rattle.support.specs.Counting.{rank};
 ghost use Rattle.support.specs.Support.{support};
+ghost use Rattle.solver.specs.Solved.{FloorLeft};
 ghost use Rattle.decision.specs.Reach as R;
-ghost use Rattle.decision.specs.Decided.{FrameFits, Exhausted, FrameDecided, Prepared, Scannable, Scanned};
+ghost use Rattle.decision.specs.Decided.{FrameFits, Floored, FrameDecided, Prepared, Scannable, Scanned, Resumable, Resumed};
 
 // So many places of the support are tried in any case: 2 to the power 14.
 const LEAST: u64 = 16384;
 
-// So many sequences are tried on the circuit, where there are more than 2 to the power 14: 2 to the power 10.
-const FIRST: u64 = 1024;
+// Up to so many sequences are all tried on the circuit: 2 to the power 10.
+const FEW: u64 = 1024;
+
+// Where there are more, so many are tried on the circuit: 2 to the power 6, the places of one block.
+const FIRST: u64 = 64;
 
 // So many of the budget add to the effort of the conflict search.
 const MOST: u64 = 8388608;
@@ -42,10 +46,10 @@ fn places(d: u64) -> u64
 // How many sequences are tried on the circuit.
 fn first_places(layout: Layout, t: usize) -> u64
     requires { ⌜ (layout .i ≤ 256) × (layout .u ≤ 1024) × (t ≤ 255) ⌝ }
-    ensures { λ r. ⌜ (1024 ≤ r) × (r ≤ 16384) ⌝ }
+    ensures { λ r. ⌜ (64 ≤ r) × (r ≤ 16384) ⌝ }
 {
-    if layout.u + layout.i * (t + 1) <= 14 {
-        LEAST
+    if layout.u + layout.i * (t + 1) <= 10 {
+        FEW
     } else {
         FIRST
     }
@@ -117,19 +121,43 @@ fn prepare(m: &[u32], layout: Layout, order: &[u32], b: usize, t: usize, work: &
     made
 }
 
-// What the places of the support have, where none of the sequences hits that are tried on the circuit.
-fn scan(work: &mut [u32], g: Graph, root: Edge, d: u64) -> Frame
-    requires { ⌜ Scannable (now work) g (edgeWord root) d ⌝ }
+// What the places of the support have, where none before place `from` hits.
+fn scan(work: &mut [u32], g: Graph, root: Edge, from: u64, d: u64) -> Frame
+    requires { ⌜ Scannable (now work) g (edgeWord root) from d ⌝ }
     ensures { λ r. ⌜ Scanned (g .free) (pairsOf (now (work .entry)) g) (edgeWord root) (max d 16384) (now (work .exit)) r ⌝ }
 {
-    match simulation::first_hit(work, g, root, 10, places(d)) {
+    match simulation::first_hit(work, g, root, from, places(d)) {
         Found::Hit => Frame::Hit,
         Found::Clear => Frame::Clear,
         Found::Spent => Frame::Spent,
     }
 }
 
-// What frame t has by the places of the support, where neither the sequences that are tried on the circuit nor the conflict search decide.
+// What the places of the support have from the sequence in `bits` on, before which none hits. Where they are spent, a sequence before which none
+// hits is left at the front of working memory: this one, if the places to be tried lie before it, else the one after those.
+fn go_on(work: &mut [u32], g: Graph, root: Edge, d: u64, bits: &mut [u32]) -> Frame
+    requires { ⌜ Resumable (now work) g (edgeWord root) d (now bits) ⌝ }
+    ensures { λ r. ⌜ ((x : ℕ) → FloorLeft (g .free) (pairsOf (now (work .entry)) g) (edgeWord root) x (now (bits .entry)) → Resumed (g .free) (pairsOf (now (work .entry)) g) (edgeWord root) (max d 16384) x (now (work .exit)) r) ⌝ }
+{
+    let n = g.free;
+    let y = places(d);
+    let from = resume::place_of(work, g, bits);
+    if y <= from {
+        resume::copy_bits(bits, n, work);
+        return Frame::Spent;
+    }
+    resume::spread_bits(work, g, y, bits);
+    match scan(work, g, root, from, d) {
+        Frame::Hit => Frame::Hit,
+        Frame::Clear => Frame::Clear,
+        Frame::Spent => {
+            resume::copy_bits(bits, n, work);
+            Frame::Spent
+        }
+    }
+}
+
+// What frame t has by the places of the support, where the conflict search has not decided it and left its floor at the front of working memory.
 fn search_support(
     m: &[u32],
     layout: Layout,
@@ -140,17 +168,20 @@ fn search_support(
     work: &mut [u32],
 ) -> Frame
     requires { ⌜ FrameFits (now work) (now m) layout (now order) b t d ⌝ }
-    requires { ⌜ Exhausted (circuitIn (now m)) b t ⌝ }
     requires { ⌜ R.Undecided (circuitIn (now m)) b t d ⌝ }
+    requires { ⌜ Floored (circuitIn (now m)) b t d (now work) ⌝ }
     ensures { λ r. ⌜ FrameDecided (circuitIn (now (m .entry))) b t d (now (work .exit)) r ⌝ }
 {
+    let mut bits = [0u32; 65536];
+    let n = limits::size(layout, t);
+    resume::copy_bits(work, n, &mut bits);
     let made = prepare(m, layout, order, b, t, work);
     let graph = made.graph;
     let root = made.edge;
-    scan(work, graph, root, d)
+    go_on(work, graph, root, d, &mut bits)
 }
 
-// What frame t has, where none of the sequences hits that are tried on the circuit, in exactly the words of the frame.
+// What frame t has, in exactly the words of the frame.
 fn search_graph(
     m: &[u32],
     layout: Layout,
@@ -161,7 +192,6 @@ fn search_graph(
     work: &mut [u32],
 ) -> Frame
     requires { ⌜ FrameFits (now work) (now m) layout (now order) b t d ⌝ }
-    requires { ⌜ Exhausted (circuitIn (now m)) b t ⌝ }
     requires { ⌜ length (now work) ≡ 16 * size (circuitIn (now m)) t ⌝ }
     ensures { λ r. ⌜ FrameDecided (circuitIn (now (m .entry))) b t d (now (work .exit)) r ⌝ }
 {
@@ -170,7 +200,7 @@ fn search_graph(
     let root = made.edge;
     let s = support_size(work, graph);
     if is_small(s, graph.nodes, d) {
-        return scan(work, graph, root, d);
+        return scan(work, graph, root, 0, d);
     }
     let e = effort(graph.room, d);
     match solver::first_hit(work, graph, root, e) {
@@ -180,7 +210,8 @@ fn search_graph(
     }
 }
 
-// What frame t has. Where there is a first hit its free bits are left at the front of working memory.
+// What frame t has. Where there is a first hit its free bits are left at the front of working memory; where the frame is spent, those of a
+// sequence before which none hits.
 pub fn decide(
     m: &[u32],
     layout: Layout,

@@ -6,7 +6,6 @@ use Prim.Native.Nat.{ℕ, _+_, _-_, _*_, _^_, _≤_, _<_, min}
 use native.Mathlib.Decide.{decLt}
 use native.Mathlib.Omega.{arith}
 use borrow.Author.Tests.{leb-true, leb-false}
-use lib.Pow.{pow-mono}
 use lib.Dec.{T, leb}
 use lib.ListN.{length, getD}
 use Rattle.aiger.specs.Bits.{nonzero, bit}
@@ -19,7 +18,7 @@ use Rattle.nodes.specs.declared.Graph.{Graph}
 use Rattle.cone.specs.Cone.{inCone}
 use Rattle.support.specs.Counting.{rank, spread, passed, First}
 use Rattle.support.specs.Support.{support}
-use Rattle.support.proofs.Counting.{rank-zero, spread-bit, spread-small, spread-passed, passed-all, none-before, none-passed}
+use Rattle.support.proofs.Counting.{rank-zero, spread-bit, spread-passed, passed-all, none-before, none-passed}
 use Rattle.support.proofs.Support.{root-sees}
 use Rattle.simulation.specs.Store.{Net, SlotsOf, SlotsTo, SlotsFilled, BitsPut, Scannable, Started, InBlock, hitAt, Firsts}
 use Rattle.simulation.specs.Found.{rootAt, NoHit, Counted, FirstHit}
@@ -92,7 +91,7 @@ module _ {gs : List Pair} {root : ℕ} {work : List ℕ} {g : Graph} {slots : Li
 
 -- ---- the scan of the slots
 
-pub slots-of : {gs : List Pair} {root : ℕ} {g : Graph} {slots : List ℕ} {q r : ℕ} (count : ℕ) → Counted gs root g slots q r → count ≡ min r 32 → SlotsOf gs root g slots count
+pub slots-of : {gs : List Pair} {root : ℕ} {g : Graph} {slots : List ℕ} {from r : ℕ} (count : ℕ) → Counted gs root g slots from r → count ≡ min r 32 → SlotsOf gs root g slots count
 slots-of count c e = record { held = c .held; count-is = omega (arith, c .count); slots-are = c .slots-are }
 
 pub total-small : (r D count total : ℕ) → count ≡ min r 32 → D ≤ 4294967296 → total ≡ min (2 ^ r) D → total ≤ 2 ^ count
@@ -122,13 +121,6 @@ module _ {root : ℕ} {work : List ℕ} {g : Graph} {slots firsts : List ℕ} {c
   pub scanned-first : (total y : ℕ) → First (hitAt (g .free) (pairsOf last g) root) total y → First (hitAt (g .free) (pairsOf work g) root) total y
   scanned-first total y f = subst (λ (gs : List Pair). First (hitAt (g .free) gs root) total y) q f
 
--- the places of the lowest slots are sequences below a power of two
-pub none-lowest : (n : ℕ) (gs : List Pair) (root known q : ℕ) → known ≤ n → q ≡ rank (support n gs root) known → NoHit n gs root (2 ^ known)
-    → (y : ℕ) → y < 2 ^ q → T (hitAt n gs root y) → ⊥
-none-lowest n gs root known q h e none y l t =
-    let s = support n gs root in
-    none (spread s n y) (spread-small s n known y h (omega (arith, ap (λ (x : ℕ). 2 ^ x) e))) t
-
 -- no slot is asked for at the start
 pub slots-start : (work : List ℕ) (g : Graph) (slots : List ℕ) → SlotsTo work g slots 0
 slots-start work g slots gs root net j h t l = absurd (omega arith)
@@ -136,19 +128,16 @@ slots-start work g slots gs root net j h t l = absurd (omega arith)
 pub net-nodes : {gs : List Pair} {root : ℕ} {work : List ℕ} {g : Graph} → Net gs root work g → var root < nodes (g .free) gs
 net-nodes {gs} {root} {work} {g} net = omega (arith, net .inside, net-gates net, net .sized .leaves)
 
--- the slots of all free bits that count, filled in two parts
-pub count-slots : (work : List ℕ) (g : Graph) (root : ℕ) {slots : List ℕ} (mid last : List ℕ) (known q r : ℕ) → Net (pairsOf work g) root work g → known ≤ g .free → known ≤ 24
-    → NoHit (g .free) (pairsOf work g) root (2 ^ known) → length last ≡ 32 → SlotsFilled work g slots mid 0 known 0 q → SlotsFilled work g mid last known (g .free) q r
-    → Counted (pairsOf work g) root g last q r
-count-slots work g root {slots} mid last known q r net h small none size a b =
+-- the slots of all free bits that count
+pub count-slots : (work : List ℕ) (g : Graph) (root : ℕ) {slots : List ℕ} (last : List ℕ) (from r : ℕ) → Net (pairsOf work g) root work g
+    → ((y : ℕ) → y < from → T (hitAt (g .free) (pairsOf work g) root y) → ⊥) → length last ≡ 32 → SlotsFilled work g slots last 0 (g .free) 0 r
+    → Counted (pairsOf work g) root g last from r
+count-slots work g root {slots} last from r net none size a =
     let gs = pairsOf work g in
-    let ranks : (hs : List Pair) (e : ℕ) → Net hs e work g → q ≡ rank (support (g .free) hs e) known =
-    λ hs e m. a .next-is hs e m (sym (rank-zero (support (g .free) hs e))) in
-    let filled = b .slots-are ranks (a .slots-are (λ hs e m. sym (rank-zero (support (g .free) hs e))) (slots-start work g slots)) in
+    let ranks : (hs : List Pair) (e : ℕ) → Net hs e work g → 0 ≡ rank (support (g .free) hs e) 0 = λ hs e m. sym (rank-zero (support (g .free) hs e)) in
     record {
       held = size;
-      count = b .next-is gs root net (ranks gs root net);
-      slots-are = filled gs root net;
-      few = omega (arith, a .most);
-      none = none-lowest (g .free) gs root known q h (ranks gs root net) none;
+      count = a .next-is gs root net (ranks gs root net);
+      slots-are = a .slots-are ranks (slots-start work g slots) gs root net;
+      none = none;
     }

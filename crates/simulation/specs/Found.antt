@@ -23,14 +23,13 @@ rootAt n gs root x = edgeValue n gs (freeBit n x) root
 abbrev pub NoHit : ℕ → List Pair → ℕ → ℕ → Type 0
 NoHit n gs root m = (x : ℕ) → x < m → T (rootAt n gs root x) → ⊥
 
--- r free bits count, and their slots; no place of the q lowest hits
-pub record Counted (gs : List Pair) (root : ℕ) (g : Graph) (slots : List ℕ) (q r : ℕ) : Type 0 where
+-- r free bits count, and their slots; no place below `from` hits
+pub record Counted (gs : List Pair) (root : ℕ) (g : Graph) (slots : List ℕ) (from r : ℕ) : Type 0 where
   pub held : length slots ≡ 32
   pub count : r ≡ rank (support (g .free) gs root) (g .free)
   pub slots-are : (j : ℕ) → j < g .free → T (support (g .free) gs root j) → rank (support (g .free) gs root) j < 32
       → getD slots (rank (support (g .free) gs root) j) 0 ≡ g .free - j
-  pub few : q ≤ 24
-  pub none : (y : ℕ) → y < 2 ^ q → T (hitAt (g .free) gs root y) → ⊥
+  pub none : (y : ℕ) → y < from → T (hitAt (g .free) gs root y) → ⊥
 
 -- the first hit is sequence x, and the words begin with its free bits
 pub record FirstHit (n : ℕ) (gs : List Pair) (root D : ℕ) (work : List ℕ) (x : ℕ) : Type 0 where

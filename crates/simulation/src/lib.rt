@@ -8,9 +8,8 @@ ghost use Prim.Native.Nat.{ℕ, _+_, _*_, _/_, _^_, _≤_, _<_, min};
 ghost use lib.Dec.{T, leb};
 ghost use lib.ListN.{length, getD};
 ghost use Rattle.aiger.specs.Bits.{nonzero, bit};
-ghost use Rattle.aiger.specs.Frames.{value, freeBit};
+ghost use Rattle.aiger.specs.Frames.{value};
 ghost use Rattle.nodes.specs.Store.{pairsOf};
-ghost use Rattle.nodes.specs.Graph.{edgeValue};
 ghost use Rattle.nodes.specs.Edges.{edgeWord};
 ghost use Rattle.simulation.specs.Store.{half, Netlist, Evaluable, HalfEvaluated, GateEvaluated, GatesEvaluated, WordPut, LeavesCleared, SlotsPut, Slotted, Taken, SlotsFilled, Unused, UsedFrom, Firsts, Carried, Net, SlotsOf, Started, Scannable, Advanced, FirstIn, InBlock, hitAt, BitsPut};
 ghost use Rattle.simulation.specs.Found.{Counted, FoundIs};
@@ -305,7 +304,7 @@ fn clear_front(work: &mut [u32], n: usize)
 }
 
 // Bit k of x.
-fn bit_of(x: u64, k: usize) -> u32
+pub fn bit_of(x: u64, k: usize) -> u32
     ensures { λ r. ⌜ nonzero r ≡ bit x k ⌝ }
 {
     if 63 < k {
@@ -359,15 +358,14 @@ fn slot_count(r: usize) -> usize
     if r < 32 { r } else { 32 }
 }
 
-// How many blocks lie below 2 to the power q.
-fn whole_blocks(q: usize) -> u64
-    requires { ⌜ q ≤ 24 ⌝ }
-    ensures { λ r. ⌜ (64 * r ≤ 2 ^ q) × (r < 1048576) ⌝ }
+// How many whole blocks lie below place `from`: all but the last of those whose places are below 2 to the power 32, where it is not below.
+fn whole_blocks(from: u64) -> u64
+    ensures { λ r. ⌜ (64 * r ≤ from) × (r < 67108864) ⌝ }
 {
-    if q < 6 {
-        return 0;
+    if 4294967296 <= from {
+        return 67108863;
     }
-    1u64 << (q - 6)
+    from / 64
 }
 
 // What a scan finds: a first hit; no hit; or none so far.
@@ -377,18 +375,18 @@ pub enum Found {
     Spent,
 }
 
-// The first hit, where r free bits count and the q lowest of them are known not to hit.
+// The first hit, where r free bits count and no place below `from` hits.
 fn scan_slots(
     work: &mut [u32],
     g: Graph,
     root: u32,
     slots: &[u32],
-    q: usize,
+    from: u64,
     r: usize,
     d: u64,
 ) -> Found
     requires { ⌜ Net (pairsOf (now work) g) root (now work) g ⌝ }
-    requires { ⌜ Counted (pairsOf (now work) g) root g (now slots) q r ⌝ }
+    requires { ⌜ Counted (pairsOf (now work) g) root g (now slots) from r ⌝ }
     requires { ⌜ d ≤ 4294967296 ⌝ }
     ensures { λ f. ⌜ FoundIs (g .free) (pairsOf (now (work .entry)) g) root d (now (work .exit)) f ⌝ }
 {
@@ -396,7 +394,7 @@ fn scan_slots(
     let free = g.free;
     let total = tries(r, d);
     let count = slot_count(r);
-    let start = whole_blocks(q);
+    let start = whole_blocks(from);
     fill_firsts(work, g, slots, count, &mut firsts);
     let hits = start_hits(work, g, root, slots, count, start);
     let y = scan(work, g, root, slots, &firsts, start, hits, total);
@@ -412,18 +410,17 @@ fn scan_slots(
     }
 }
 
-// The first hit of the root among the places of its support, with a budget of d places. No sequence below 2 to the power `known` is a hit.
-// Where there is a first hit, its free bits are left at the front of working memory.
-pub fn first_hit(work: &mut [u32], g: Graph, root: Edge, known: usize, d: u64) -> Found
+// The first hit of the root among the places of its support, with a budget of d places, none of which hits before place `from`. Where there is
+// a first hit, its free bits are left at the front of working memory.
+pub fn first_hit(work: &mut [u32], g: Graph, root: Edge, from: u64, d: u64) -> Found
     requires { ⌜ Net (pairsOf (now work) g) (edgeWord root) (now work) g ⌝ }
-    requires { ⌜ (known ≤ 24) × (known ≤ g .free) × (d ≤ 4294967296) ⌝ }
-    requires { ⌜ ((x : ℕ) → x < 2 ^ known → T (edgeValue (g .free) (pairsOf (now work) g) (freeBit (g .free) x) (edgeWord root)) → ⊥) ⌝ }
+    requires { ⌜ d ≤ 4294967296 ⌝ }
+    requires { ⌜ ((y : ℕ) → y < from → T (hitAt (g .free) (pairsOf (now work) g) (edgeWord root) y) → ⊥) ⌝ }
     ensures { λ f. ⌜ FoundIs (g .free) (pairsOf (now (work .entry)) g) (edgeWord root) d (now (work .exit)) f ⌝ }
 {
     let mut slots = [0u32; 32];
     let free = g.free;
     let e = root.word() as u32;
-    let q = fill_slots(work, g, &mut slots, 0, known, 0);
-    let r = fill_slots(work, g, &mut slots, known, free, q);
-    scan_slots(work, g, e, &slots, q, r, d)
+    let r = fill_slots(work, g, &mut slots, 0, free, 0);
+    scan_slots(work, g, e, &slots, from, r, d)
 }

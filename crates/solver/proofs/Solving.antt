@@ -21,11 +21,11 @@ use Rattle.conflicts.specs.Conflicts.{ran, Ran, Result}
 use Rattle.conflicts.specs.declared.Verdict.{Verdict}
 use Rattle.conflicts.specs.declared.Verdict.the-variants.{Found, Clear, Out}
 use Rattle.choices.specs.Begun.{Begun}
-use Rattle.conflicts.proofs.Theorems.{found-first, clear-none}
+use Rattle.conflicts.proofs.Theorems.{found-first, clear-none, out-floor}
 use Rattle.netlist.specs.Netlist.{netNodes, netWords, netOf, Marked, NetlistIs}
 use Rattle.netlist.proofs.Records.{net-long, nodes-more, none-known, val, val-zero, val-free, obeyed, left-before, right-before, root-inside, root-value}
 use Rattle.netlist.proofs.Premises.{Hits, Hit, hits-hit, hits-root, hit-gate, hit-never, clean, first-true, none-true}
-use Rattle.solver.specs.Solved.{bitsPut, solved, NoneBelow, FirstTrue, SolvedIs}
+use Rattle.solver.specs.Solved.{bitsPut, solved, solvedFloor, NoneBelow, FirstTrue, FloorLeft, SolvedIs}
 use Rattle.solver.proofs.Bits.{put-free, prefix-place}
 
 module _ (n : ℕ) (gs : List Pair) (root words : ℕ) (room : 14 * netNodes n gs root ≤ words) (built : Built n gs) (inside : var root < nodes n gs) where
@@ -73,6 +73,23 @@ module _ (n : ℕ) (gs : List Pair) (root words : ℕ) (room : 14 * netNodes n g
         bits = put-free u (netNodes n gs root) n (nodes-more n gs root words room) (omega arith);
       }
 
+  -- the floor, where the search is given up
+  pub out-left : (e : ℕ) → ran (netWords n gs root words) (netOf n gs root words) e .verdict ≡ Out
+      → length (ran (netWords n gs root words) (netOf n gs root words) e .words) ≡ words
+      → FloorLeft n gs root (prefix (bits (ran (netWords n gs root words) (netOf n gs root words) e .words) (netNodes n gs root)) n)
+      (bitsPut (ran (netWords n gs root words) (netOf n gs root words) e .words) (netNodes n gs root) 0 n)
+  unfolding netOf
+  out-left e q size =
+      let u = left-words e in
+      let p = prefix (bits u (netNodes n gs root)) n in
+      record {
+        place = prefix-place u (netNodes n gs root) n;
+        none =
+            first-true n gs root words room built inside p
+            (out-floor (Hit n gs root words room built inside) (Hits n gs root words room built inside) (val n gs root words room built inside) (netOf n gs root words) (netWords n gs root words) begun e q);
+        bits = put-free u (netNodes n gs root) n (nodes-more n gs root words room) (omega arith);
+      }
+
   pub clear-false : (e : ℕ) → ran (netWords n gs root words) (netOf n gs root words) e .verdict ≡ Clear → NoneBelow n gs root (2 ^ n)
   clear-false e q x l =
       none-true n gs root words room built inside
@@ -104,25 +121,29 @@ module _ (work mid last : List ℕ) (g : Graph) (root e : ℕ) (k : Marked work 
   unfolding netOf
   free-few = omega (arith, ap (λ (m : Netlist). m .free) (built .net-is), k .sized .leaves, k .sized .nodes, k .sized .room)
 
-  pub solved-found : (end : List ℕ) → r ≡ Found → length last ≡ length work → end ≡ bitsPut last (net .nodes) 0 (net .free)
-      → SolvedIs (g .free) (pairsOf work g) root work e end Found
-  unfolding solved netOf
-  solved-found end q size put =
-      let w = netWords (g .free) (pairsOf work g) root (length work) in
-      let m = netOf (g .free) (pairsOf work g) root (length work) in
-      let N = netNodes (g .free) (pairsOf work g) root in
+  abbrev N : ℕ
+  N = netNodes (g .free) (pairsOf work g) root
+
+  abbrev left : List ℕ
+  left = ran (netWords (g .free) (pairsOf work g) root (length work)) (netOf (g .free) (pairsOf work g) root (length work)) e .words
+
+  -- the words that are left in the end
+  last-words : (end : List ℕ) → end ≡ bitsPut last (net .nodes) 0 (net .free) → end ≡ bitsPut left N 0 (g .free)
+  unfolding netOf
+  last-words end put = put ∙ ap₂ (λ (u : List ℕ) (x : Netlist). bitsPut u (x .nodes) 0 (x .free)) same-words (built .net-is)
+
+  pub solved-is : (end : List ℕ) (v : Verdict) → r ≡ v → length last ≡ length work → end ≡ bitsPut last (net .nodes) 0 (net .free)
+      → SolvedIs (g .free) (pairsOf work g) root work e end v
+  unfolding solved solvedFloor
+  solved-is end Found q size put =
       let f =
       found-true (g .free) (pairsOf work g) root (length work) (net-room work g root k) (k .built) (net-inside work g root k) e (same-verdict ∙ q)
       (ap length (sym same-words) ∙ size) in
-      let z : end ≡ bitsPut (ran w m e .words) N 0 (g .free) =
-      put ∙ ap₂ (λ (u : List ℕ) (x : Netlist). bitsPut u (x .nodes) 0 (x .free)) same-words (built .net-is) in
-      (same-verdict ∙ q, (prefix (bits (ran w m e .words) N) (g .free), subst (FirstTrue (g .free) (pairsOf work g) root (prefix (bits (ran w m e .words) N) (g .free))) (sym z) f))
-
-  pub solved-clear : (end : List ℕ) → r ≡ Clear → SolvedIs (g .free) (pairsOf work g) root work e end Clear
-  unfolding solved
-  solved-clear end q =
+      (same-verdict ∙ q, (prefix (bits left N) (g .free), subst (FirstTrue (g .free) (pairsOf work g) root (prefix (bits left N) (g .free))) (sym (last-words end put)) f))
+  solved-is end Clear q size put =
       (same-verdict ∙ q, clear-false (g .free) (pairsOf work g) root (length work) (net-room work g root k) (k .built) (net-inside work g root k) e (same-verdict ∙ q))
-
-  pub solved-out : (end : List ℕ) → r ≡ Out → SolvedIs (g .free) (pairsOf work g) root work e end Out
-  unfolding solved
-  solved-out end q = same-verdict ∙ q
+  solved-is end Out q size put =
+      let f =
+      out-left (g .free) (pairsOf work g) root (length work) (net-room work g root k) (k .built) (net-inside work g root k) e (same-verdict ∙ q)
+      (ap length (sym same-words) ∙ size) in
+      (same-verdict ∙ q, subst (FloorLeft (g .free) (pairsOf work g) root (prefix (bits left N) (g .free))) (sym (last-words end put)) f)

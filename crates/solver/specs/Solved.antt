@@ -7,11 +7,12 @@ use lib.ListN.{length, getD, set}
 use Rattle.aiger.specs.Bits.{nonzero}
 use Rattle.aiger.specs.Frames.{freeBit}
 use Rattle.nodes.specs.Graph.{Pair, edgeValue}
+use Rattle.clauses.specs.Floor.{prefix}
 pub use Rattle.floor.specs.Place.{floorBit}
 use Rattle.conflicts.specs.Conflicts.{ran}
 use Rattle.conflicts.specs.declared.Verdict.{Verdict}
 use Rattle.conflicts.specs.declared.Verdict.the-variants.{Found, Clear, Out}
-use Rattle.netlist.specs.Netlist.{netWords, netOf}
+use Rattle.netlist.specs.Netlist.{netNodes, netWords, netOf}
 
 -- the floor's bits of k nodes after node j, from word j on
 unfoldable pub bitsPut : List ℕ → ℕ → ℕ → ℕ → List ℕ
@@ -21,6 +22,11 @@ bitsPut w nodes j (suc k) = bitsPut (set w j (floorBit w nodes (j + 1))) nodes (
 -- what the search says, as a function of graph, root, number of words and effort
 unfoldable pub solved : ℕ → List Pair → ℕ → ℕ → ℕ → Verdict
 solved n gs root words effort = ran (netWords n gs root words) (netOf n gs root words) effort .verdict
+
+-- the floor that it comes to, as a function of the same
+unfoldable pub solvedFloor : ℕ → List Pair → ℕ → ℕ → ℕ → ℕ
+solvedFloor n gs root words effort =
+    prefix (floorBit (ran (netWords n gs root words) (netOf n gs root words) effort .words) (netNodes n gs root)) n
 
 -- the root is false in each sequence below m
 abbrev pub NoneBelow : ℕ → List Pair → ℕ → ℕ → Type 0
@@ -33,7 +39,14 @@ pub record FirstTrue (n : ℕ) (gs : List Pair) (root x : ℕ) (words : List ℕ
   pub first : NoneBelow n gs root x
   pub bits : (j : ℕ) → j < n → nonzero (getD words j 0) ≡ freeBit n x j
 
+-- sequence x is one before which none makes the root true, and the words begin with its free bits
+pub record FloorLeft (n : ℕ) (gs : List Pair) (root x : ℕ) (words : List ℕ) : Type 0 where
+  pub place : x < 2 ^ n
+  pub none : NoneBelow n gs root x
+  pub bits : (j : ℕ) → j < n → nonzero (getD words j 0) ≡ freeBit n x j
+
 abbrev pub SolvedIs : ℕ → List Pair → ℕ → List ℕ → ℕ → List ℕ → Verdict → Type 0
 SolvedIs n gs root work effort last Found = (solved n gs root (length work) effort ≡ Found) × ((x : ℕ) × FirstTrue n gs root x last)
 SolvedIs n gs root work effort last Clear = (solved n gs root (length work) effort ≡ Clear) × NoneBelow n gs root (2 ^ n)
-SolvedIs n gs root work effort last Out = solved n gs root (length work) effort ≡ Out
+SolvedIs n gs root work effort last Out =
+    (solved n gs root (length work) effort ≡ Out) × FloorLeft n gs root (solvedFloor n gs root (length work) effort) last

@@ -76,8 +76,7 @@ search-graph-requires c κs =
     let p = s .pre in
     let z = c .before .size .ensures ∙ size-is (counts-of (p .ready .held) (p .ready .layout-of)) (s .args .t) in
     let l = part-long (16 * c .before .size .result) (c .before .before .before .before .before .before .first-hit .last .1 .1 .1 .1 .1 .1 .0) (omega (arith, z, p .held, c .before .before .before .before .before .before .first-hit .kept .1 .1 .1 .1 .1 .1 .0)) in
-    let f = c .before .before .before .before .before .before .before .before .first-places in
-    (record { ready = p .ready; bad = p .bad; last = p .last; some = p .some; budget = p .budget; units = p .units; held = omega (arith, l, z) }, (record { first = f .result; some = f .ensures .0; spent = framed (c .before .before .before .before .before .before) _ (c .before .before .enum-told3 .given .1) }, omega (arith, l, z)))
+    (record { ready = p .ready; bad = p .bad; last = p .last; some = p .some; budget = p .budget; units = p .units; held = omega (arith, l, z) }, omega (arith, l, z))
 
 same-length : tie.Need-same-length
 same-length c = search needs

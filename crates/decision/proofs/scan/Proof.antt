@@ -27,7 +27,7 @@ places-requires : tie.Need-places-requires
 places-requires c κs = search needs
 
 first-hit-requires : tie.Need-first-hit-requires
-first-hit-requires c κs = (c .before .before .before .pre .net, ((omega arith, c .before .before .before .pre .known, omega (arith, c .places .ensures, c .before .before .before .pre .budget)), c .before .before .before .pre .none))
+first-hit-requires c κs = (c .before .before .before .pre .net, (omega (arith, c .places .ensures, c .before .before .before .pre .budget), c .before .before .before .pre .none))
 
 enum-told : tie.Need-enum-told
 enum-told c = search needs

@@ -1,7 +1,6 @@
 -- `decision::search_graph` meets its contract. Assumes nothing.
 use mathlib.Core.Path.{_≡_, sym, ap, _∙_, subst}
 use mathlib.Core.Bool.{Bool, true}
-use mathlib.Core.Logic.{inr}
 use Prim.Native.Nat.{ℕ, _^_, _≤_, max}
 use native.Mathlib.Omega.{arith}
 use lib.Dec.{T}
@@ -13,7 +12,8 @@ use Rattle.nodes.specs.Edges.{edgeWord}
 use Rattle.conflicts.specs.declared.Verdict.{Verdict}
 use Rattle.solver.specs.Solved.{SolvedIs}
 use Rattle.decision.specs.Reach.{effort}
-use Rattle.decision.proofs.Graphs.{scannable, scanned, marked, solved-hit, solved-clear, solved-out}
+use Rattle.decision.proofs.Graphs.{scanned, marked, solved-hit, solved-clear, solved-out}
+use Rattle.decision.proofs.Resuming.{scannable-all}
 use borrow.Author.Needs.{needs}
 use Rattle.decision.proofs.search_graph.Statement.{statement}
 use Rattle.decision.proofs.search_graph.Tie as tie
@@ -55,7 +55,7 @@ is-small-requires c κs = omega (arith, c .before .before .before .before .befor
 scan-requires : tie.Need-scan-requires
 scan-requires c κs =
     let s = c .before .before .before .before .before .before .before .before .before .before .before .before .before .before in
-    scannable (c .before .before .before .before .before .before .before .before .before .prepare .ensures) (s .args .d) (s .pre .0 .budget) (s .pre .1 .0)
+    scannable-all (c .before .before .before .before .before .before .before .before .before .prepare .ensures .net) (s .args .d) (s .pre .0 .budget)
 
 same-length : tie.Need-same-length
 same-length c = search needs
@@ -67,13 +67,13 @@ returns c =
     let u = c .before .before .scan in
     let k = c .before .before .before .before .before .before .support-size .ensures (edgeWord (p .result .edge)) (p .ensures .net .marks) in
     let few = c .before .before .before .before .before .is-small .ensures (true-of (c .before .before .before .before .if1 .taken)) in
-    scanned (p .ensures) (s .args .d) (u .last .0) (u .result) (inr (subst (λ (x : ℕ). 2 ^ x ≤ max (s .args .d) 16384) k few)) (u .ensures)
+    scanned (p .ensures) (s .args .d) (u .last .0) (u .result) (subst (λ (x : ℕ). 2 ^ x ≤ max (s .args .d) 16384) k few) (u .ensures)
 
 effort-requires : tie.Need-effort-requires
 effort-requires c κs = search needs
 
 first-hit-requires : tie.Need-first-hit-requires
-first-hit-requires c κs = marked (c .before .before .before .before .before .before .before .before .before .before .prepare .ensures) (c .before .before .before .before .before .before .before .before .before .before .before .before .before .before .before .args .d) (c .before .before .before .before .before .before .before .before .before .before .prepare .kept .1 .1 .1 .1 .1 .0 ∙ c .before .before .before .before .before .before .before .before .before .before .before .before .before .before .before .pre .1 .1)
+first-hit-requires c κs = marked (c .before .before .before .before .before .before .before .before .before .before .prepare .ensures) (c .before .before .before .before .before .before .before .before .before .before .before .before .before .before .before .args .d) (c .before .before .before .before .before .before .before .before .before .before .prepare .kept .1 .1 .1 .1 .1 .0 ∙ c .before .before .before .before .before .before .before .before .before .before .before .before .before .before .before .pre .1)
 
 enum-told : tie.Need-enum-told
 enum-told c = search needs
@@ -91,10 +91,7 @@ search-support-requires c κs =
     let f = s .pre .0 in
     let e = n .first-hit .kept .0 ∙ n .before .before .before .before .before .before .before .before .before .before .before .prepare .kept .1 .1 .1 .1 .1 .0 in (
       record { ready = f .ready; bad = f .bad; last = f .last; some = f .some; budget = f .budget; units = f .units; held = omega (arith, f .held, e) },
-      (
-        s .pre .1 .0,
-        solved-out (n .before .before .before .before .before .before .before .before .before .before .before .prepare .ensures) (s .args .d) (n .before .before .before .before .before .before .before .before .before .before .before .prepare .kept .1 .1 .1 .1 .1 .0 ∙ s .pre .1 .1) (n .before .before .effort .result) (enough n) (n .first-hit .last .0) (told n _ (c .before .enum-told3 .given .1)),
-      ),
+      solved-out (n .before .before .before .before .before .before .before .before .before .before .before .prepare .ensures) (s .args .d) (n .before .before .before .before .before .before .before .before .before .before .before .prepare .kept .1 .1 .1 .1 .1 .0 ∙ s .pre .1) (n .before .before .effort .result) (enough n) (n .first-hit .last .0) (told n _ (c .before .enum-told3 .given .1)),
     )
 
 same-length-2 : tie.Need-same-length-2
@@ -104,7 +101,7 @@ returns-2 : tie.Need-returns-2
 returns-2 c =
     let n = c .before .before .before .before in
     let s = c .before .before .before .before .before .before .before .before .before .before .before .before .before .before .before .before .before .before .before .before in
-    solved-hit (n .before .before .before .before .before .before .before .before .before .before .before .prepare .ensures) (s .args .d) (n .before .before .before .before .before .before .before .before .before .before .before .prepare .kept .1 .1 .1 .1 .1 .0 ∙ s .pre .1 .1) (n .before .before .effort .result) (enough n) (n .first-hit .last .0) (told n _ (c .enum-told .given .1))
+    solved-hit (n .before .before .before .before .before .before .before .before .before .before .before .prepare .ensures) (s .args .d) (n .before .before .before .before .before .before .before .before .before .before .before .prepare .kept .1 .1 .1 .1 .1 .0 ∙ s .pre .1) (n .before .before .effort .result) (enough n) (n .first-hit .last .0) (told n _ (c .enum-told .given .1))
 
 same-length-3 : tie.Need-same-length-3
 same-length-3 c = search needs
@@ -113,7 +110,7 @@ returns-3 : tie.Need-returns-3
 returns-3 c =
     let n = c .before .before .before .before in
     let s = c .before .before .before .before .before .before .before .before .before .before .before .before .before .before .before .before .before .before .before .before in
-    solved-clear (n .before .before .before .before .before .before .before .before .before .before .before .prepare .ensures) (s .args .d) (n .before .before .before .before .before .before .before .before .before .before .before .prepare .kept .1 .1 .1 .1 .1 .0 ∙ s .pre .1 .1) (n .before .before .effort .result) (enough n) (n .first-hit .last .0) (told n _ (c .enum-told2 .given .1))
+    solved-clear (n .before .before .before .before .before .before .before .before .before .before .before .prepare .ensures) (s .args .d) (n .before .before .before .before .before .before .before .before .before .before .before .prepare .kept .1 .1 .1 .1 .1 .0 ∙ s .pre .1) (n .before .before .effort .result) (enough n) (n .first-hit .last .0) (told n _ (c .enum-told2 .given .1))
 
 same-length-4 : tie.Need-same-length-4
 same-length-4 c = search needs

@@ -163,7 +163,7 @@ returns-2 c =
     let C = circuitIn (s .m .now) in
     let e = told n _ (c .enum-told3 .given .1) in
     answered C (s .b) (s .k) (s .d) (Outcome.spent (l .t))
-    (left-spent C (s .b) (s .k) (s .d) (l .t) (omega (arith, n .before .before .loop-test .taken)) (l .inv .3) e) (l .inv .2)
+    (left-spent C (s .b) (s .k) (s .d) (l .t) (omega (arith, n .before .before .loop-test .taken)) (l .inv .3) (e .decided)) (l .inv .2)
 
 cast-t22 : tie.Need-cast-t22 Inv-loop μ-loop
 cast-t22 c = omega (arith, c .before .before .before .before .before .before .pre .0 .bound)

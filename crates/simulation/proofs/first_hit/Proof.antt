@@ -31,38 +31,29 @@ slice-aggregate-fill-slots c = refl
 fill-slots-requires : tie.Need-fill-slots-requires
 fill-slots-requires c κs =
     let s = c .before .before .before .before in
-    ((pairsOf (now (s .args .work)) (s .args .g), edgeWord (s .args .root), s .pre .0), (omega arith, s .pre .1 .0 .1, omega arith, refl))
-
-slice-aggregate-fill-slots-2 : tie.Need-slice-aggregate-fill-slots-2
-slice-aggregate-fill-slots-2 c = sym (c .before .before .before .fill-slots .kept .1 .1 .0)
-
-fill-slots-requires-2 : tie.Need-fill-slots-requires-2
-fill-slots-requires-2 c κs =
-    let s = c .before .before .before .before .before .before .before .before in
-    ((pairsOf (now (s .args .work)) (s .args .g), edgeWord (s .args .root), s .pre .0), (s .pre .1 .0 .1, omega arith, c .before .before .before .fill-slots .ensures .most, c .before .before .before .fill-slots .kept .1 .1 .0))
+    ((pairsOf (now (s .args .work)) (s .args .g), edgeWord (s .args .root), s .pre .0), (omega arith, omega arith, omega arith, refl))
 
 slice-aggregate-scan-slots : tie.Need-slice-aggregate-scan-slots
-slice-aggregate-scan-slots c = sym (c .before .before .before .fill-slots2 .kept .1 .1 .0 ∙ c .before .before .before .before .before .before .before .fill-slots .kept .1 .1 .0)
+slice-aggregate-scan-slots c = sym (c .before .before .before .fill-slots .kept .1 .1 .0)
 
 scan-slots-requires : tie.Need-scan-slots-requires
 scan-slots-requires c κs =
-    let s = c .before .before .before .before .before .before .before .before .before .before .before .before in
+    let s = c .before .before .before .before .before .before .before .before in
     let w = now (s .args .work) in
     let g = s .args .g in
     let root = edgeWord (s .args .root) in
-    let e : c .before .before .before .before .before .before .before .before .before .before .word .result ≡ root = c .before .before .before .before .before .before .before .before .before .before .word .ensures in
-    let a = c .before .before .before .before .before .before .before .fill-slots in
-    let b = c .before .before .before .fill-slots2 in
-    let counted = count-slots w g root (a .last .1 .1 .0) (b .last .1 .1 .0) (s .args .known) (a .result) (b .result) (s .pre .0) (s .pre .1 .0 .1) (s .pre .1 .0 .0) (s .pre .1 .1) (b .kept .1 .1 .0 ∙ a .kept .1 .1 .0) (a .ensures) (b .ensures) in
-    (subst (λ (x : ℕ). Net (pairsOf w g) x w g) (sym e) (s .pre .0), (subst (λ (x : ℕ). Counted (pairsOf w g) x g (b .last .1 .1 .0) (a .result) (b .result)) (sym e) counted, s .pre .1 .0 .2))
+    let e : c .before .before .before .before .before .before .word .result ≡ root = c .before .before .before .before .before .before .word .ensures in
+    let a = c .before .before .before .fill-slots in
+    let counted = count-slots w g root (a .last .1 .1 .0) (s .args .from) (a .result) (s .pre .0) (s .pre .1 .1) (a .kept .1 .1 .0) (a .ensures) in
+    (subst (λ (x : ℕ). Net (pairsOf w g) x w g) (sym e) (s .pre .0), (subst (λ (x : ℕ). Counted (pairsOf w g) x g (a .last .1 .1 .0) (s .args .from) (a .result)) (sym e) counted, s .pre .1 .0))
 
 same-length : tie.Need-same-length
 same-length c = c .before .before .scan-slots .kept .0
 
 returns : tie.Need-returns
 returns c =
-    let s = c .before .before .before .before .before .before .before .before .before .before .before .before .before .before .before in
-    let e : c .before .before .before .before .before .before .before .before .before .before .before .before .before .word .result ≡ edgeWord (s .args .root) = c .before .before .before .before .before .before .before .before .before .before .before .before .before .word .ensures in
+    let s = c .before .before .before .before .before .before .before .before .before .before .before in
+    let e : c .before .before .before .before .before .before .before .before .before .word .result ≡ edgeWord (s .args .root) = c .before .before .before .before .before .before .before .before .before .word .ensures in
     subst (λ (x : ℕ). FoundIs (s .args .g .free) (pairsOf (now (s .args .work)) (s .args .g)) x (s .args .d) (c .before .before .scan-slots .last .0) (c .before .before .scan-slots .result)) e (c .before .before .scan-slots .ensures)
 
 pub first-hit-spec : {M : Type 1} → statement M
@@ -73,8 +64,6 @@ first-hit-spec =
     cast-e
     slice-aggregate-fill-slots
     fill-slots-requires
-    slice-aggregate-fill-slots-2
-    fill-slots-requires-2
     slice-aggregate-scan-slots
     scan-slots-requires
     same-length

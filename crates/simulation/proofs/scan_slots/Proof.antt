@@ -31,7 +31,7 @@ slot-count-requires : tie.Need-slot-count-requires
 slot-count-requires c κs = tt
 
 whole-blocks-requires : tie.Need-whole-blocks-requires
-whole-blocks-requires c κs = c .before .before .before .before .pre .1 .0 .few
+whole-blocks-requires c κs = tt
 
 slice-aggregate-fill-firsts : tie.Need-slice-aggregate-fill-firsts
 slice-aggregate-fill-firsts c = refl

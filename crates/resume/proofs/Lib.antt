@@ -1,0 +1,3 @@
+-- The laws of `resume`. Assumes nothing.
+pub mod Places
+pub mod Turns

@@ -1,0 +1,2 @@
+-- What the contracts of `resume` cite. Assumes nothing.
+pub mod Resume
