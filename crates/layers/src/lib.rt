@@ -252,7 +252,7 @@ pub fn ask_layer(
     Asked::Met(met)
 }
 
-// Meets the states of the first `starts` start places, in a table without records.
+// Meets the states of the first `starts` start places, in a table without records. Once they are too many the others are not looked at.
 pub fn meet_starts(
     m: &[u32],
     layout: Layout,
@@ -269,6 +269,9 @@ pub fn meet_starts(
     let mut met = 0;
     let mut y = 0;
     while y < starts {
+        if quota < met {
+            return met;
+        }
         let s = transitions::start_number(m, layout, y as u64);
         met = states::meet(records, heads, met, quota, s, 0, y as u32);
         y += 1;

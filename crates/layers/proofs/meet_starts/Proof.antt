@@ -4,7 +4,7 @@ use Prim.Native.Nat.{ℕ, _+_, _-_, _≤_, _<_}
 use native.Mathlib.Omega.{arith}
 use lib.ListN.{length}
 use Rattle.layout.specs.Words.{circuitIn}
-use Rattle.layers.proofs.Begin.{Beginning, beginning-start, beginning-more}
+use Rattle.layers.proofs.Begin.{Beginning, beginning-start, beginning-more, beginning-lost}
 use borrow.Author.Needs.{needs}
 use Rattle.layers.proofs.meet_starts.Statement.{statement}
 use Rattle.layers.proofs.meet_starts.Tie as tie
@@ -20,25 +20,37 @@ loop-holds c =
     let a = c .before .before .before .args in
     (omega arith, refl, refl, beginning-start (circuitIn (a .m .now)) (a .quota) (a .records .now) (a .heads .now) (c .before .before .before .pre .1 .1 .2))
 
+same-length : tie.Need-same-length Inv-loop μ-loop
+same-length c = c .before .before .loop .inv .1
+
+same-length-2 : tie.Need-same-length-2 Inv-loop μ-loop
+same-length-2 c = c .before .before .loop .inv .2
+
+returns : tie.Need-returns Inv-loop μ-loop
+returns c =
+    let a = c .before .before .before .before .before .before .args in
+    let L = c .before .before .loop in
+    beginning-lost (circuitIn (a .m .now)) (a .quota) (a .records .now) (a .heads .now) (L .inv .3) (omega (arith, c .if1 .taken)) (a .starts) (L .inv .0) .holds
+
 start-number-requires : tie.Need-start-number-requires Inv-loop μ-loop
-start-number-requires c κs = (c .before .before .before .before .before .pre .0, (c .before .before .before .before .before .pre .1 .0, c .before .before .before .before .before .pre .1 .1 .0))
+start-number-requires c κs = (c .before .before .before .before .before .before .pre .0, (c .before .before .before .before .before .before .pre .1 .0, c .before .before .before .before .before .before .pre .1 .1 .0))
 
 cast-meet : tie.Need-cast-meet Inv-loop μ-loop
-cast-meet c = omega (arith, c .before .before .before .before .before .before .before .before .pre .1 .1 .1)
+cast-meet c = omega (arith, c .before .before .before .before .before .before .before .before .before .pre .1 .1 .1)
 
 meet-requires : tie.Need-meet-requires Inv-loop μ-loop
-meet-requires c κs = c .before .before .before .before .loop .inv .3 .fits
+meet-requires c κs = c .before .before .before .before .before .loop .inv .3 .fits
 
 add-y : tie.Need-add-y Inv-loop μ-loop
-add-y c = omega (arith, c .before .before .before .before .before .before .before .before .before .before .before .before .before .pre .1 .1 .1)
+add-y c = omega (arith, c .before .before .before .before .before .before .before .before .before .before .before .before .before .before .pre .1 .1 .1)
 
 loop-less : tie.Need-loop-less Inv-loop μ-loop
 loop-less c = omega arith
 
 loop-again : tie.Need-loop-again Inv-loop μ-loop
 loop-again c =
-    let a = c .before .before .before .before .before .before .before .before .before .before .before .before .before .args in
-    let L = c .before .before .before .before .before .before .before .before .before .loop in
+    let a = c .before .before .before .before .before .before .before .before .before .before .before .before .before .before .args in
+    let L = c .before .before .before .before .before .before .before .before .before .before .loop in
     let E = c .before .before .before .before .meet in (
       omega arith,
       E .kept .0 ∙ L .inv .1,
@@ -46,14 +58,14 @@ loop-again c =
       beginning-more (circuitIn (a .m .now)) (a .quota) (a .records .now) (a .heads .now) (L .inv .3) (c .before .before .before .before .before .before .before .start-number .result) (c .before .before .before .before .before .before .before .start-number .ensures) (E .ensures),
     )
 
-same-length : tie.Need-same-length Inv-loop μ-loop
-same-length c = c .before .loop .inv .1
+same-length-3 : tie.Need-same-length-3 Inv-loop μ-loop
+same-length-3 c = c .before .loop .inv .1
 
-same-length-2 : tie.Need-same-length-2 Inv-loop μ-loop
-same-length-2 c = c .before .loop .inv .2
+same-length-4 : tie.Need-same-length-4 Inv-loop μ-loop
+same-length-4 c = c .before .loop .inv .2
 
-returns : tie.Need-returns Inv-loop μ-loop
-returns c =
+returns-2 : tie.Need-returns-2 Inv-loop μ-loop
+returns-2 c =
     let a = c .before .before .before .before .before .args in
     let L = c .before .loop in
     let e : L .y ≡ a .starts = omega arith in
@@ -66,12 +78,15 @@ meet-starts-spec =
     Inv-loop
     μ-loop
     loop-holds
+    same-length
+    same-length-2
+    returns
     start-number-requires
     cast-meet
     meet-requires
     add-y
     loop-less
     loop-again
-    same-length
-    same-length-2
-    returns)
+    same-length-3
+    same-length-4
+    returns-2)
