@@ -160,8 +160,7 @@ module _ (c : Circuit) (b : ℕ) where
   unfolding keptLatches
   part-closed =
       record {
-        inside = ks .below;
-        rising = ks .rising;
+        listed = record { inside = ks .below; rising = ks .rising };
         same = λ st st′ row e f agree. go (settled c b) refl st st′ row e f agree;
       }
     where

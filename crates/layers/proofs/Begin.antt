@@ -5,7 +5,6 @@ use mathlib.Core.Option.{some}
 use Prim.Native.Nat.{ℕ, zero, suc, _+_, _-_, _≤_, _<_}
 use native.Mathlib.Numerals.{add-one}
 use native.Mathlib.Omega.{arith}
-use Rattle.aiger.specs.Circuit.{Circuit}
 use lib.ListN.{length}
 use Rattle.machine.specs.Machine.{Machine}
 use Rattle.machine.specs.Layers.{Entry, meet, started}
@@ -13,6 +12,7 @@ use Rattle.machine.proofs.Meet.{meets}
 use Rattle.states.specs.Table.{Fits, Meets}
 use Rattle.states.specs.Trace.{Holds, Leads}
 use Rattle.states.proofs.Laws.{holds-met, fits-met}
+use Rattle.influence.specs.Part.{Part}
 use Rattle.transitions.specs.Transitions.{startNumber, machineOf}
 
 -- more start places have no fewer states
@@ -39,7 +39,7 @@ holds-lost fs l k h =
       buckets = h .buckets;
     }
 
-module _ (c : Circuit) (quota : ℕ) (r₀ hd₀ : List ℕ) where
+module _ (c : Part) (quota : ℕ) (r₀ hd₀ : List ℕ) where
   -- the first y places are met
   pub record Beginning (y met : ℕ) (r hd : List ℕ) : Type 0 where
     pub fits : Fits quota met r hd
