@@ -8,7 +8,6 @@ use native.Mathlib.Omega.{arith}
 use lib.Dec.{T}
 use lib.ListN.{length, getD}
 use lib.Pow.{pow-pos}
-use Rattle.aiger.specs.Circuit.{Circuit}
 use Rattle.frames.specs.Lanes.{hitIn}
 use Rattle.machine.specs.Layers.{Entry, stateOf, placeOf, slotHit, slotPlace, expanded, layerSlots, firstBelow}
 use Rattle.machine.proofs.Expand.{quotient-below}
@@ -16,27 +15,28 @@ use Rattle.machine.proofs.First.{none-is}
 use Rattle.states.specs.Table.{Fits}
 use Rattle.states.specs.Trace.{Trace, Holds}
 use Rattle.states.proofs.Laws.{trace-kept, holds-next}
+use Rattle.influence.specs.Part.{Part, Closed}
 use Rattle.transitions.specs.Transitions.{valuesIn, nextIn, machineOf}
 use Rattle.layers.specs.Rows.{metRows, RowsMet, FirstRow, BlockMet}
 use Rattle.layers.specs.Asked.{AskedOf}
 use Rattle.layers.specs.declared.Asked.the-variants.{Hit, Met}
 use Rattle.layers.proofs.Slots.{row-in, rows-in, place-at, expand-block, quiet-block, first-slot, layer-total}
 
-module _ (c : Circuit) (b lo hi quota : ℕ) (r₀ hd₀ : List ℕ) where
+module _ (c : Part) (b lo hi quota : ℕ) (r₀ hd₀ : List ℕ) where
   abbrev rows : ℕ
-  rows = 2 ^ length (c .inputs)
+  rows = 2 ^ length (c .circuit .inputs)
 
   abbrev blocks : ℕ
-  blocks = 2 ^ (length (c .inputs) - 6)
+  blocks = 2 ^ (length (c .circuit .inputs) - 6)
 
   -- the first q blocks are asked
   pub record Asking (q met : ℕ) (r hd : List ℕ) : Type 0 where
     pub longer : hi ≤ met
     pub fits : Fits quota met r hd
     pub words : (j : ℕ) → j < 4 * hi → getD r j 0 ≡ getD r₀ j 0
-    pub holds : (t : ℕ) (es : List Entry) → Holds (2 ^ length (c .inputs)) t lo quota hi r₀ hd₀ es
-        → Holds (2 ^ length (c .inputs)) (suc t) (length es) quota met r hd (expanded (machineOf c b) es lo (64 * q))
-    pub quiet : (t : ℕ) (es : List Entry) → Holds (2 ^ length (c .inputs)) t lo quota hi r₀ hd₀ es
+    pub holds : (t : ℕ) (es : List Entry) → Holds (2 ^ length (c .circuit .inputs)) t lo quota hi r₀ hd₀ es
+        → Holds (2 ^ length (c .circuit .inputs)) (suc t) (length es) quota met r hd (expanded (machineOf c b) es lo (64 * q))
+    pub quiet : (t : ℕ) (es : List Entry) → Holds (2 ^ length (c .circuit .inputs)) t lo quota hi r₀ hd₀ es
         → (z : ℕ) → z < 64 * q → T (slotHit (machineOf c b) es lo z) → ⊥
 
   module _ (low : lo ≤ hi) (high : hi ≤ quota) where
@@ -63,9 +63,9 @@ module _ (c : Circuit) (b lo hi quota : ℕ) (r₀ hd₀ : List ℕ) where
           e ∙ k .words (4 * (lo + q / blocks)) (omega arith) ∙ h .stored high .states (lo + q / blocks) (omega (arith, h .counted high))
 
       before : (t : ℕ) (es : List Entry) → Holds rows t lo quota hi r₀ hd₀ es → (y : ℕ) → y < p
-          → T (hitIn c b (valuesIn c (stateOf es (lo + q / blocks)) (q % blocks * 64 + y))) → ⊥
+          → T (hitIn (c .circuit) b (valuesIn c (stateOf es (lo + q / blocks)) (q % blocks * 64 + y))) → ⊥
       before t es h y yl x =
-          f .before y yl (subst (λ (z : ℕ). T (hitIn c b (valuesIn c z (q % blocks * 64 + y)))) (sym (state-is t es h)) x)
+          f .before y yl (subst (λ (z : ℕ). T (hitIn (c .circuit) b (valuesIn c z (q % blocks * 64 + y)))) (sym (state-is t es h)) x)
 
       trace : (t : ℕ) (es : List Entry) → Holds rows t lo quota hi r₀ hd₀ es → Trace rows r t (lo + q / blocks) (placeOf es (lo + q / blocks))
       trace t es h =
@@ -73,12 +73,12 @@ module _ (c : Circuit) (b lo hi quota : ℕ) (r₀ hd₀ : List ℕ) where
           trace-kept rows r₀ r hi (k .words) t (lo + q / blocks) (placeOf es (lo + q / blocks)) i
           (h .placed high (lo + q / blocks) (omega arith) (omega (arith, h .counted high)))
 
-      pub asking-more : min 64 (2 ^ length (c .inputs)) ≤ p → {met₂ : ℕ} {r₂ hd₂ : List ℕ}
+      pub asking-more : Closed c b → min 64 (2 ^ length (c .circuit .inputs)) ≤ p → {met₂ : ℕ} {r₂ hd₂ : List ℕ}
           → BlockMet c values quota met (lo + q / blocks) (q % blocks) r hd met₂ r₂ hd₂ → Asking (q + 1) met₂ r₂ hd₂
-      asking-more w {met₂} {r₂} {hd₂} bm =
-          let a = bm s (f .valued) in
+      asking-more closed w {met₂} {r₂} {hd₂} bm =
+          let a = bm b s closed (f .valued) in
           let i = entry-in q l in
-          let n = min 64 (2 ^ length (c .inputs)) in
+          let n = min 64 (2 ^ length (c .circuit .inputs)) in
           record {
             longer = omega (arith, k .longer, a .longer);
             fits = a .fits;
@@ -87,14 +87,14 @@ module _ (c : Circuit) (b lo hi quota : ℕ) (r₀ hd₀ : List ℕ) where
                 let E = lo + q / blocks in
                 let x = placeOf es E in
                 let y = a .holds rows t (length es) x (expanded (machineOf c b) es lo (64 * q)) (k .holds t es h) (omega (arith, k .longer))
-                (rows-in c b (q % blocks) (mod-lt q (pow-pos (length (c .inputs) - 6)))) (trace t es h) in
+                (rows-in c b (q % blocks) (mod-lt q (pow-pos (length (c .circuit .inputs) - 6)))) (trace t es h) in
                 subst (Holds rows (suc t) (length es) quota met₂ r₂ hd₂)
                 (ap (λ (z : ℕ). metRows (λ v. nextIn c z (q % blocks * 64 + v)) (λ v. x * rows + (64 * (q % blocks) + v)) n (expanded (machineOf c b) es lo (64 * q))) (state-is t es h)
                 ∙ sym (expand-block c b q es lo)) y;
             quiet = λ t es h. quiet-block c b q es lo (k .quiet t es h) p (before t es h) w;
           }
 
-      pub asking-hit : p < min 64 (2 ^ length (c .inputs)) → (t : ℕ) (es : List Entry) → Holds rows t lo quota hi r₀ hd₀ es
+      pub asking-hit : p < min 64 (2 ^ length (c .circuit .inputs)) → (t : ℕ) (es : List Entry) → Holds rows t lo quota hi r₀ hd₀ es
           → AskedOf c b t lo quota r hd es (Hit (lo + q / blocks) (64 * (q % blocks) + p))
       unfolding AskedOf
       asking-hit w t es h =
@@ -103,8 +103,8 @@ module _ (c : Circuit) (b lo hi quota : ℕ) (r₀ hd₀ : List ℕ) where
           let g = h .counted high in
           let lt : layerSlots (machineOf c b) es lo ≡ 64 * ((hi - lo) * blocks) = layer-total c b es lo ∙ ap (λ (x : ℕ). 64 * ((x - lo) * blocks)) g in
           let small : p < 64 = omega arith in
-          let here : T (hitIn c b (valuesIn c (stateOf es E) (q % blocks * 64 + p))) = subst (λ (z : ℕ). T (hitIn c b (valuesIn c z (q % blocks * 64 + p)))) (state-is t es h) (f .here small) in
-          let ri = row-in c b (q % blocks) p (mod-lt q (pow-pos (length (c .inputs) - 6))) w in (
+          let here : T (hitIn (c .circuit) b (valuesIn c (stateOf es E) (q % blocks * 64 + p))) = subst (λ (z : ℕ). T (hitIn (c .circuit) b (valuesIn c z (q % blocks * 64 + p)))) (state-is t es h) (f .here small) in
+          let ri = row-in c b (q % blocks) p (mod-lt q (pow-pos (length (c .circuit .inputs) - 6))) w in (
             64 * q + p,
             first-slot c b q es lo (k .quiet t es h) p (before t es h) w here (layerSlots (machineOf c b) es lo) (omega arith),
             placeOf es E,

@@ -2,17 +2,44 @@
 use mathlib.Core.Path.{_≡_, refl, sym, ap, _∙_, subst}
 use mathlib.Core.List.{List, []}
 use mathlib.Core.Option.{some}
-use Prim.Native.Nat.{ℕ, zero, suc, _+_, _≤_, _<_}
+use Prim.Native.Nat.{ℕ, zero, suc, _+_, _-_, _≤_, _<_}
 use native.Mathlib.Numerals.{add-one}
 use native.Mathlib.Omega.{arith}
-use Rattle.aiger.specs.Circuit.{Circuit}
+use lib.ListN.{length}
+use Rattle.machine.specs.Machine.{Machine}
 use Rattle.machine.specs.Layers.{Entry, meet, started}
+use Rattle.machine.proofs.Meet.{meets}
 use Rattle.states.specs.Table.{Fits, Meets}
 use Rattle.states.specs.Trace.{Holds, Leads}
 use Rattle.states.proofs.Laws.{holds-met, fits-met}
+use Rattle.influence.specs.Part.{Part}
 use Rattle.transitions.specs.Transitions.{startNumber, machineOf}
 
-module _ (c : Circuit) (quota : ℕ) (r₀ hd₀ : List ℕ) where
+-- more start places have no fewer states
+started-longer : (m : Machine) (y d : ℕ) → length (started m y) ≤ length (started m (y + d))
+unfolding started
+started-longer m y zero = let e : y + 0 ≡ y = omega arith in omega (arith, ap (λ (n : ℕ). length (started m n)) e)
+started-longer m y (suc d) =
+    let e : y + suc d ≡ suc (y + d) = omega arith in
+    omega
+    (arith, started-longer m y d, ap (λ (n : ℕ). length (started m n)) e, meets (some (m .start (y + d))) (y + d) (started m (y + d)) .longer)
+
+-- a table that lost a state has lost one, whatever is met after it
+pub holds-lost : {rows t lo quota count : ℕ} {r hd : List ℕ} {es : List Entry} (fs : List Entry) → quota < count → length es ≤ length fs
+    → Holds rows t lo quota count r hd es → Holds rows t lo quota count r hd fs
+holds-lost fs l k h =
+    record {
+      quota-room = h .quota-room;
+      quota-small = h .quota-small;
+      count-small = h .count-small;
+      counted = λ x. absurd (omega arith);
+      stored = λ x. absurd (omega arith);
+      placed = λ x. absurd (omega arith);
+      lost = λ x. omega (arith, h .lost x);
+      buckets = h .buckets;
+    }
+
+module _ (c : Part) (quota : ℕ) (r₀ hd₀ : List ℕ) where
   -- the first y places are met
   pub record Beginning (y met : ℕ) (r hd : List ℕ) : Type 0 where
     pub fits : Fits quota met r hd
@@ -36,4 +63,15 @@ module _ (c : Circuit) (quota : ℕ) (r₀ hd₀ : List ℕ) where
             subst (λ (n : ℕ). Holds rows 0 0 quota met₂ r₂ hd₂ (started (machineOf c b) n)) (sym (add-one y))
             (subst (λ (n : ℕ). Holds rows 0 0 quota met₂ r₂ hd₂ (meet (some n) y (started (machineOf c b) y))) e
             (holds-met (k .holds rows b h) s 0 y y (leads rows r met y) m));
+      }
+
+  -- where a state is lost, the places after it change nothing
+  pub beginning-lost : {y met : ℕ} {r hd : List ℕ} → Beginning y met r hd → quota < met → (n : ℕ) → y ≤ n → Beginning n met r hd
+  beginning-lost {y} {met} {r} {hd} k l n h =
+      let e : y + (n - y) ≡ n = omega arith in
+      record {
+        fits = k .fits;
+        holds = λ rows b z.
+            holds-lost (started (machineOf c b) n) l
+            (omega (arith, started-longer (machineOf c b) y (n - y), ap (λ (i : ℕ). length (started (machineOf c b) i)) e)) (k .holds rows b z);
       }

@@ -11,7 +11,7 @@ use mathlib.Core.Logic.{_⊎_, inl, inr, ⊎-elim}
 use native.Mathlib.Decide.{ℕ-discrete}
 use lib.Dec.{T}
 use Rattle.aiger.specs.Bits.{bit}
-use Rattle.aiger.specs.Circuit.{Circuit, literalsRight, usedDefined, acyclic}
+use Rattle.aiger.specs.Circuit.{literalsRight, usedDefined, acyclic}
 use Rattle.aiger.specs.Signature.{FirstDifference}
 use Rattle.aiger.proofs.Tests.{T-true}
 use Rattle.words.proofs.Bits.{bit-none}
@@ -22,8 +22,10 @@ use Rattle.states.proofs.Walk.{met-some}
 use Rattle.states.specs.Table.{Fits, Meets}
 use Rattle.states.specs.Trace.{Trace, Holds, Leads}
 use Rattle.states.proofs.Laws.{trace-kept, words-kept, meets-lengths, holds-met, fits-met}
+use Rattle.influence.specs.Part.{Part, Closed}
 use Rattle.transitions.specs.Transitions.{valuesIn, nextNumber, nextIn}
 use Rattle.transitions.proofs.Rows.{hit-is}
+use Rattle.layers.proofs.Begin.{holds-lost}
 use Rattle.layers.specs.Rows.{leading, metRows, RowsMet, RowStep, Valued, FirstRow}
 
 -- none yet
@@ -54,6 +56,23 @@ rows-more next quota count e first n r hd met r₁ hd₁ s met₂ r₂ hd₂ a q
           let after = holds-met before s e (first + n) y (leads rows r₁ t met e (first + n) x (omega (arith, a .longer)) (omega arith) tr₁) m in
           subst (λ (z : ℕ). Holds rows (suc t) lo quota met₂ r₂ hd₂ (metRows next (λ p. x * rows + (first + p)) z es)) (sym (add-one n))
           (subst (λ (o : Option ℕ). Holds rows (suc t) lo quota met₂ r₂ hd₂ (meet o y (metRows next (λ p. x * rows + (first + p)) n es))) (sym q) after);
+    }
+
+-- where a state is lost, the rows after it change nothing
+rows-longer : (next : ℕ → Option ℕ) (place : ℕ → ℕ) (n : ℕ) (es : List Entry) → length es ≤ length (metRows next place n es)
+unfolding metRows
+rows-longer next place zero es = omega arith
+rows-longer next place (suc n) es = omega (arith, rows-longer next place n es, meets (next n) (place n) (metRows next place n es) .longer)
+
+pub rows-lost : (next : ℕ → Option ℕ) (quota count e first n : ℕ) (r hd : List ℕ) → Fits quota count r hd → quota < count
+    → RowsMet next quota count e first n r hd count r hd
+rows-lost next quota count e first n r hd f q =
+    record {
+      longer = omega arith;
+      words = λ j l. refl;
+      fits = f;
+      holds = λ rows t lo x es h l w k.
+          holds-lost (metRows next (λ p. x * rows + (first + p)) n es) q (rows-longer next (λ p. x * rows + (first + p)) n es) h;
     }
 
 -- ---- rows that lead to one state
@@ -187,7 +206,7 @@ rows-named f g quota count e first n r hd met r₁ hd₁ q a =
     }
 
 -- where a row leads, from its bit and its state's number
-pub next-in : (c : Circuit) (s r : ℕ) (q : Bool) (x : ℕ) → q ≡ constrainedIn c (valuesIn c s r) → x ≡ nextNumber c s r → cond q (some x) none ≡ nextIn c s r
+pub next-in : (c : Part) (s r : ℕ) (q : Bool) (x : ℕ) → q ≡ constrainedIn (c .circuit) (valuesIn c s r) → x ≡ nextNumber c s r → cond q (some x) none ≡ nextIn c s r
 unfolding nextIn
 next-in c s r q x e f = ap₂ (λ (p : Bool) (n : ℕ). cond p (some n) none) e f
 
@@ -198,15 +217,15 @@ and-swap false true = refl
 and-swap false false = refl
 
 -- the first row, from the word of hits
-pub first-row : (c : Circuit) → T (literalsRight c) → T (usedDefined c) → T (acyclic c) → (b s block : ℕ) (values : List ℕ) (bad hits r : ℕ)
-    → Valued c s block values → ((p : ℕ) → p < 64 → bit bad p ≡ badIn c b (lane values p))
-    → ((p : ℕ) → p < 64 → bit hits p ≡ (bit bad p && constrainedIn c (lane values p))) → FirstDifference 64 hits 0 r → FirstRow c b s block values r
-first-row c right known a b s block values bad hits r v g h f =
-    let same : (p : ℕ) → p < 64 → bit hits p ≡ hitIn c b (valuesIn c s (block * 64 + p)) =
+pub first-row : (c : Part) → T (literalsRight (c .circuit)) → T (usedDefined (c .circuit)) → T (acyclic (c .circuit)) → (b : ℕ) → Closed c b → (s block : ℕ) (values : List ℕ) (bad hits r : ℕ)
+    → Valued c s block values → ((p : ℕ) → p < 64 → bit bad p ≡ badIn (c .circuit) b (lane values p))
+    → ((p : ℕ) → p < 64 → bit hits p ≡ (bit bad p && constrainedIn (c .circuit) (lane values p))) → FirstDifference 64 hits 0 r → FirstRow c b s block values r
+first-row c right known a b closed s block values bad hits r v g h f =
+    let same : (p : ℕ) → p < 64 → bit hits p ≡ hitIn (c .circuit) b (valuesIn c s (block * 64 + p)) =
     λ p l.
     let w = lane values p in
-    h p l ∙ ap (λ (x : Bool). x && constrainedIn c w) (g p l) ∙ and-swap (badIn c b w) (constrainedIn c w)
-    ∙ hit-is c right known a s (block * 64 + p) (lane values p) (v p l) b in
+    h p l ∙ ap (λ (x : Bool). x && constrainedIn (c .circuit) w) (g p l) ∙ and-swap (badIn (c .circuit) b w) (constrainedIn (c .circuit) w)
+    ∙ hit-is c (closed .listed) right known a b closed s (block * 64 + p) (lane values p) (v p l) in
     record {
       within = f .within;
       before = λ p l t. let k : p < 64 = omega (arith, f .within) in subst T (sym (same p k) ∙ f .below p l ∙ bit-none p) t;

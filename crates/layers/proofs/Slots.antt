@@ -12,19 +12,19 @@ use borrow.Author.Tests.{ltb-true, ltb-false, lt-ltb, le-ltb}
 use lib.Dec.{T, ltb, ltb→lt}
 use lib.ListN.{length, getD}
 use lib.Pow.{pow-pos, pow-mono, pow-add}
-use Rattle.aiger.specs.Circuit.{Circuit}
 use Rattle.aiger.proofs.Tests.{T-true, and, and-left, and-right}
 use Rattle.frames.specs.Lanes.{hitIn}
 use Rattle.machine.specs.Machine.{Machine}
 use Rattle.machine.specs.Layers.{Entry, stateOf, placeOf, meet, slotEntry, slotPlace, slotStep, slotHit, expanded, layerSlots, firstBelow}
 use Rattle.machine.proofs.Expand.{over, rest, under, quotient-below}
 use Rattle.machine.proofs.First.{first-is, none-is}
+use Rattle.influence.specs.Part.{Part}
 use Rattle.transitions.specs.Transitions.{valuesIn, nextIn, machineOf}
 use Rattle.layers.specs.Rows.{metRows}
 
-module _ (c : Circuit) (b : ℕ) where
+module _ (c : Part) (b : ℕ) where
   abbrev W : ℕ
-  W = length (c .inputs)
+  W = length (c .circuit .inputs)
 
   abbrev rows : ℕ
   rows = 2 ^ W
@@ -105,9 +105,9 @@ module _ (c : Circuit) (b : ℕ) where
       unfolding machineOf
       step-at p l = ap₂ (λ (x : ℕ) (y : ℕ). cond (ltb y rows) (nextIn c (stateOf es (lo + x)) y) none) (slot-over p l) (slot-rest p l)
 
-      hit-at : (p : ℕ) → p < 64 → slotHit m es lo (64 * q + p) ≡ (ltb (block * 64 + p) rows && hitIn c b (valuesIn c (stateOf es e) (block * 64 + p)))
+      hit-at : (p : ℕ) → p < 64 → slotHit m es lo (64 * q + p) ≡ (ltb (block * 64 + p) rows && hitIn (c .circuit) b (valuesIn c (stateOf es e) (block * 64 + p)))
       unfolding machineOf
-      hit-at p l = ap₂ (λ (x : ℕ) (y : ℕ). ltb y rows && hitIn c b (valuesIn c (stateOf es (lo + x)) y)) (slot-over p l) (slot-rest p l)
+      hit-at p l = ap₂ (λ (x : ℕ) (y : ℕ). ltb y rows && hitIn (c .circuit) b (valuesIn c (stateOf es (lo + x)) y)) (slot-over p l) (slot-rest p l)
 
       -- ---- the next states of a block
       abbrev next : ℕ → Option ℕ
@@ -151,7 +151,7 @@ module _ (c : Circuit) (b : ℕ) where
 
       -- ---- the hits of a block
       module _ (none-yet : (z : ℕ) → z < 64 * q → T (slotHit m es lo z) → ⊥) (r : ℕ)
-          (before : (p : ℕ) → p < r → T (hitIn c b (valuesIn c (stateOf es e) (block * 64 + p))) → ⊥) where
+          (before : (p : ℕ) → p < r → T (hitIn (c .circuit) b (valuesIn c (stateOf es e) (block * 64 + p))) → ⊥) where
         -- none before the first row
         quiet-part : (z : ℕ) → z < 64 * q + r → z < 64 * q + 64 → T (slotHit m es lo z) → ⊥
         quiet-part z l k h = elim (decLt z (64 * q)) [
@@ -160,7 +160,7 @@ module _ (c : Circuit) (b : ℕ) where
               let p = z - 64 * q in
               let g : 64 * q + p ≡ z = omega arith in
               before p (omega arith)
-              (and-right (ltb (block * 64 + p) rows) (hitIn c b (valuesIn c (stateOf es e) (block * 64 + p))) (subst T (ap (slotHit m es lo) (sym g) ∙ hit-at p (omega arith)) h))
+              (and-right (ltb (block * 64 + p) rows) (hitIn (c .circuit) b (valuesIn c (stateOf es e) (block * 64 + p))) (subst T (ap (slotHit m es lo) (sym g) ∙ hit-at p (omega arith)) h))
         ]
 
         -- none at all, where the first is no row
@@ -170,16 +170,16 @@ module _ (c : Circuit) (b : ℕ) where
           | no d ↦
               let p = z - 64 * q in
               let g : 64 * q + p ≡ z = omega arith in
-              let t = and-left (ltb (block * 64 + p) rows) (hitIn c b (valuesIn c (stateOf es e) (block * 64 + p))) (subst T (ap (slotHit m es lo) (sym g) ∙ hit-at p (omega arith)) h) in
+              let t = and-left (ltb (block * 64 + p) rows) (hitIn (c .circuit) b (valuesIn c (stateOf es e) (block * 64 + p))) (subst T (ap (slotHit m es lo) (sym g) ∙ hit-at p (omega arith)) h) in
               omega (arith, ltb→lt (block * 64 + p) rows t, row-out block p block-in (omega arith) (omega arith))
         ]
 
         -- the first row is the first slot
-        pub first-slot : r < n → T (hitIn c b (valuesIn c (stateOf es e) (block * 64 + r))) → (total : ℕ) → 64 * q + r < total → firstBelow total (slotHit m es lo) ≡ some (64 * q + r)
+        pub first-slot : r < n → T (hitIn (c .circuit) b (valuesIn c (stateOf es e) (block * 64 + r))) → (total : ℕ) → 64 * q + r < total → firstBelow total (slotHit m es lo) ≡ some (64 * q + r)
         first-slot w h total l =
             let a : T (ltb (block * 64 + r) rows) = T-true (lt-ltb (block * 64 + r) rows (row-in block r block-in w)) in
             first-is (slotHit m es lo) total (64 * q + r) l
-            (subst T (sym (hit-at r (omega arith))) (and (ltb (block * 64 + r) rows) (hitIn c b (valuesIn c (stateOf es e) (block * 64 + r))) a h))
+            (subst T (sym (hit-at r (omega arith))) (and (ltb (block * 64 + r) rows) (hitIn (c .circuit) b (valuesIn c (stateOf es e) (block * 64 + r))) a h))
             (λ y k. quiet-part y k (omega arith))
 
   -- the slots of a layer

@@ -7,14 +7,13 @@ use mathlib.Core.Option.{Option, none, some}
 use Prim.Native.Nat.{ℕ, zero, suc, _+_, _*_, _^_, _≤_, _<_, min}
 use lib.Dec.{T}
 use lib.ListN.{length, getD}
-use Rattle.aiger.specs.Circuit.{Circuit}
-use Rattle.meaning.specs.Frame.{Valuation}
 use Rattle.frames.specs.Lanes.{lane, hitIn}
 use Rattle.machine.specs.Layers.{Entry, meet}
 use Rattle.aiger.specs.Bits.{bit}
 use Rattle.states.specs.Table.{Fits, Meets}
 use Rattle.states.specs.Trace.{Trace, Holds}
-use Rattle.transitions.specs.Transitions.{latchesOf, rowOf, valuesIn, nextIn}
+use Rattle.influence.specs.Part.{Part, Closed}
+use Rattle.transitions.specs.Transitions.{valuesIn, ValuedIn, nextIn}
 
 -- where row p leads: to state numbers p, or nowhere where it is not among the rows `left`
 abbrev pub leading : ℕ → (ℕ → ℕ) → ℕ → Option ℕ
@@ -43,18 +42,18 @@ pub data RowStep (numbers : ℕ → ℕ) (quota e row p met left : ℕ) (r hd : 
       → RowStep numbers quota e row p met left r hd met′ left′ r′ hd′
 
 -- the words are the values of state s with the rows of a block
-abbrev pub Valued : Circuit → ℕ → ℕ → List ℕ → Type 0
-Valued c s block values = (p : ℕ) → p < 64 → Valuation c (rowOf c (block * 64 + p)) (latchesOf (length (c .latches)) s) (lane values p)
+abbrev pub Valued : Part → ℕ → ℕ → List ℕ → Type 0
+Valued c s block values = (p : ℕ) → p < 64 → ValuedIn c s (block * 64 + p) (lane values p)
 
 -- r is the first of the 64 rows of a block with which state s hits, or 64
-pub record FirstRow (c : Circuit) (b s block : ℕ) (values : List ℕ) (r : ℕ) : Type 0 where
+pub record FirstRow (c : Part) (b s block : ℕ) (values : List ℕ) (r : ℕ) : Type 0 where
   pub within : r ≤ 64
-  pub before : (p : ℕ) → p < r → T (hitIn c b (valuesIn c s (block * 64 + p))) → ⊥
-  pub here : r < 64 → T (hitIn c b (valuesIn c s (block * 64 + r)))
+  pub before : (p : ℕ) → p < r → T (hitIn (c .circuit) b (valuesIn c s (block * 64 + p))) → ⊥
+  pub here : r < 64 → T (hitIn (c .circuit) b (valuesIn c s (block * 64 + r)))
   pub valued : Valued c s block values
 
--- the rows of a block of record e are met, whatever state the values are of
-abbrev pub BlockMet : Circuit → List ℕ → ℕ → ℕ → ℕ → ℕ → List ℕ → List ℕ → ℕ → List ℕ → List ℕ → Type 0
+-- the rows of a block of record e are met, whatever state the values are of and whatever bad line the latches that are kept decide
+abbrev pub BlockMet : Part → List ℕ → ℕ → ℕ → ℕ → ℕ → List ℕ → List ℕ → ℕ → List ℕ → List ℕ → Type 0
 BlockMet c values quota count e block r hd count′ r′ hd′ =
-    (s : ℕ) → Valued c s block values
-    → RowsMet (λ p. nextIn c s (block * 64 + p)) quota count e (64 * block) (min 64 (2 ^ length (c .inputs))) r hd count′ r′ hd′
+    (b s : ℕ) → Closed c b → Valued c s block values
+    → RowsMet (λ p. nextIn c s (block * 64 + p)) quota count e (64 * block) (min 64 (2 ^ length (c .circuit .inputs))) r hd count′ r′ hd′

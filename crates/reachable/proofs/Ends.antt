@@ -4,10 +4,10 @@ use mathlib.Core.List.{List}
 use Prim.Native.Nat.{ℕ, _+_, _*_, _^_, _≤_, _<_}
 use native.Mathlib.Omega.{arith}
 use lib.ListN.{length}
-use Rattle.aiger.specs.Circuit.{Circuit}
 use Rattle.aiger.specs.Frames.{freeStarts, freeBits, size}
 use Rattle.enumeration.specs.Frame.{FreeBits}
 use Rattle.machine.specs.Layers as spec
+use Rattle.influence.specs.Part.{Part}
 use Rattle.states.specs.Trace.{Trace}
 use Rattle.reachable.specs.Layers.{layered, FoundOf, LayersOf}
 use Rattle.reachable.specs.declared.Found.{Found}
@@ -15,16 +15,16 @@ use Rattle.reachable.specs.declared.Found.the-variants.{At, Nowhere, Lef
 use Rattle.reachable.specs.declared.Layers.the-variants.{Hit, Clear, GaveUp}
 use Rattle.limits.proofs.Sizes.{bits-within}
 
-module _ (c : Circuit) (b k : ℕ) (records : List ℕ) (r : Found) (f : FoundOf c b k records r) where
+module _ (c : Part) (b k : ℕ) (records : List ℕ) (r : Found) (f : FoundOf c b k records r) where
   -- the first hit, in plain terms
   pub record Place (t e row : ℕ) : Type 0 where
     pub prefix : ℕ
-    pub first : layered c b k ≡ spec.hit t (prefix * 2 ^ length (c .inputs) + row)
-    pub trace : Trace (2 ^ length (c .inputs)) records t e prefix
-    pub row-in : row < 2 ^ length (c .inputs)
+    pub first : layered c b k ≡ spec.hit t (prefix * 2 ^ length (c .circuit .inputs) + row)
+    pub trace : Trace (2 ^ length (c .circuit .inputs)) records t e prefix
+    pub row-in : row < 2 ^ length (c .circuit .inputs)
     pub within : t ≤ k
     pub inside : 4 * e + 4 ≤ length records
-    pub narrow : length (c .inputs) ≤ 16
+    pub narrow : length (c .circuit .inputs) ≤ 16
 
   pub place-of : {t e row : ℕ} → r ≡ At t e row → Place t e row
   unfolding FoundOf
@@ -40,16 +40,16 @@ module _ (c : Circuit) (b k : ℕ) (records : List ℕ) (r : Found) (f : FoundOf
   unfolding FoundOf LayersOf
   left-of q work = subst (FoundOf c b k records) q f
 
-  module _ {t e row : ℕ} (p : Place t e row) (i u : ℕ) (is : i ≡ length (c .inputs)) (us : u ≡ freeStarts c) where
-    bits-is : u + i * (t + 1) ≡ freeBits c t
+  module _ {t e row : ℕ} (p : Place t e row) (i u : ℕ) (is : i ≡ length (c .circuit .inputs)) (us : u ≡ freeStarts (c .circuit)) where
+    bits-is : u + i * (t + 1) ≡ freeBits (c .circuit) t
     unfolding freeBits
     bits-is = ap₂ (λ (x : ℕ) (y : ℕ). x + y * (t + 1)) us is
 
     -- what writing the free bits asks
-    pub asks : k ≤ 255 → u ≤ 16 → size c k ≤ length records
+    pub asks : k ≤ 255 → u ≤ 16 → size (c .circuit) k ≤ length records
         → (t ≤ 255) × (row < 2 ^ i) × (u ≤ 16) × (i ≤ 16) × (4 * e + 4 ≤ length records) × (u + i * (t + 1) ≤ length records)
     asks l h w =
-        (omega (arith, p .within), subst (λ (x : ℕ). row < 2 ^ x) (sym is) (p .row-in), h, omega (arith, p .narrow), p .inside, omega (arith, bits-is, bits-within c t k (p .within)))
+        (omega (arith, p .within), subst (λ (x : ℕ). row < 2 ^ x) (sym is) (p .row-in), h, omega (arith, p .narrow), p .inside, omega (arith, bits-is, bits-within (c .circuit) t k (p .within)))
 
     pub asks-trace : (y : ℕ) × Trace (2 ^ i) records t e y
     asks-trace = (p .prefix, subst (λ (x : ℕ). Trace (2 ^ x) records t e (p .prefix)) (sym is) (p .trace))
@@ -58,6 +58,6 @@ module _ (c : Circuit) (b k : ℕ) (records : List ℕ) (r : Found) (f : FoundOf
     pub gives-bits : (work : List ℕ) → ((y : ℕ) → Trace (2 ^ i) records t e y → FreeBits (u + i * (t + 1)) (y * 2 ^ i + row) work) → LayersOf c b k work (Hit t)
     unfolding LayersOf asks-trace
     gives-bits work h =
-        let x = p .prefix * 2 ^ length (c .inputs) + row in
+        let x = p .prefix * 2 ^ length (c .circuit .inputs) + row in
         let z : p .prefix * 2 ^ i + row ≡ x = ap (λ (n : ℕ). p .prefix * 2 ^ n + row) is in
         (x, p .first, p .within, subst (λ (n : ℕ). FreeBits n x work) bits-is (subst (λ (n : ℕ). FreeBits (u + i * (t + 1)) n work) z (h (p .prefix) (asks-trace .1))))

@@ -10,12 +10,12 @@ use borrow.Author.Tests.{le-leb, lt-leb, eq-eqb, ne-eqb}
 use lib.Dec.{leb, eqb}
 use lib.ListN.{length}
 use lib.Pow.{pow-pos}
-use Rattle.aiger.specs.Circuit.{Circuit}
 use Rattle.aiger.specs.Frames.{freeStarts}
 use Rattle.machine.specs.Machine.{Machine}
 use Rattle.machine.specs.Layers.{Entry, started, slotPlace, slotHit, expanded, layerSlots, firstBelow, Layered, hit, clear, gaveUp, layersFrom}
 use Rattle.machine.specs.Layers as spec
 use Rattle.machine.proofs.Starts.{some-start}
+use Rattle.influence.specs.Part.{Part}
 use Rattle.states.specs.Trace.{Holds}
 use Rattle.transitions.specs.Transitions.{machineOf}
 use Rattle.reachable.specs.Quota.{quota}
@@ -68,7 +68,7 @@ module _ (m : Machine) (q : ℕ → ℕ) (n t : ℕ) (es : List Entry) (lo : ℕ
         ∙ ap (after none true) (ne-eqb (length all) (length es) k)
 
 -- ---- all frames
-module _ (c : Circuit) (b k : ℕ) where
+module _ (c : Part) (b k : ℕ) where
   abbrev m : Machine
   m = machineOf c b
 
@@ -77,23 +77,23 @@ module _ (c : Circuit) (b k : ℕ) where
   Rest t es lo = layered c b k ≡ layersFrom (machineOf c b) (quota c) (k + 1 - t) t es lo
 
   abbrev first : List Entry
-  first = started m (2 ^ freeStarts c)
+  first = started m (2 ^ freeStarts (c .circuit))
 
   opened : layered c b k ≡ cond (leb (length first) (quota c 0)) (layersFrom m (quota c) (k + 1) 0 first 0) (gaveUp 0)
   unfolding layered machineOf spec.layered
   opened = refl
 
-  pub rest-start : length (started (machineOf c b) (2 ^ freeStarts c)) ≤ quota c 0 → Rest 0 (started (machineOf c b) (2 ^ freeStarts c)) 0
+  pub rest-start : length (started (machineOf c b) (2 ^ freeStarts (c .circuit))) ≤ quota c 0 → Rest 0 (started (machineOf c b) (2 ^ freeStarts (c .circuit))) 0
   rest-start l =
       opened ∙ ap (λ (a : Bool). cond a (layersFrom m (quota c) (k + 1) 0 first 0) (gaveUp 0)) (le-leb (length first) (quota c 0) l)
       ∙ ap (λ (n : ℕ). layersFrom m (quota c) n 0 first 0) {x = k + 1} {y = k + 1 - 0} (omega arith)
 
-  pub rest-full : quota c 0 < length (started (machineOf c b) (2 ^ freeStarts c)) → layered c b k ≡ gaveUp 0
+  pub rest-full : quota c 0 < length (started (machineOf c b) (2 ^ freeStarts (c .circuit))) → layered c b k ≡ gaveUp 0
   rest-full l = opened ∙ ap (λ (a : Bool). cond a (layersFrom m (quota c) (k + 1) 0 first 0) (gaveUp 0)) (lt-leb (length first) (quota c 0) l)
 
   -- without a quota
   pub rest-none : quota c 0 ≡ 0 → layered c b k ≡ gaveUp 0
-  rest-none e = rest-full (omega (arith, some-start m (2 ^ freeStarts c) (pow-pos (freeStarts c))))
+  rest-none e = rest-full (omega (arith, some-start m (2 ^ freeStarts (c .circuit)) (pow-pos (freeStarts (c .circuit)))))
 
   pub rest-end : (t : ℕ) (es : List Entry) (lo : ℕ) → Rest t es lo → k < t → layered c b k ≡ clear
   unfolding layersFrom

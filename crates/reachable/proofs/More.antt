@@ -7,10 +7,10 @@ use Prim.Native.Nat.{ℕ, zero, suc, _+_, _≤_}
 use native.Mathlib.Omega.{arith}
 use lib.Dec.{leb, eqb}
 use lib.ListN.{length}
-use Rattle.aiger.specs.Circuit.{Circuit}
 use Rattle.machine.specs.Machine.{Machine}
 use Rattle.machine.specs.Layers as spec
 use Rattle.machine.specs.Layers.{Entry, started, slotPlace, slotHit, expanded, layerSlots, firstBelow, Layered, hit, clear, gaveUp, layersFrom}
+use Rattle.influence.specs.Part.{Part}
 use Rattle.transitions.specs.Transitions.{machineOf}
 use Rattle.reachable.specs.Quota.{quota}
 use Rattle.reachable.specs.Layers.{layered}
@@ -36,7 +36,7 @@ module _ (m : Machine) (q : ℕ → ℕ) where
       go none false b h r = h
 
 -- what is found up to a bound is found up to every larger one
-pub layered-more : (c : Circuit) (b j k : ℕ) {t x : ℕ} → j ≤ k → layered c b j ≡ hit t x → layered c b k ≡ hit t x
+pub layered-more : (c : Part) (b j k : ℕ) {t x : ℕ} → j ≤ k → layered c b j ≡ hit t x → layered c b k ≡ hit t x
 unfolding layered spec.layered
 layered-more c b j k {t} {x} l e = go (leb (length first) (quota c 0)) e
   where

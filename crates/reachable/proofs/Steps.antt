@@ -6,11 +6,11 @@ use Prim.Native.Nat.{ℕ, zero, suc, _+_, _-_, _*_, _^_, _≤_, _<_}
 use native.Mathlib.Numerals.{add-one}
 use native.Mathlib.Omega.{arith}
 use lib.ListN.{length, getD}
-use Rattle.aiger.specs.Circuit.{Circuit}
 use Rattle.aiger.specs.Frames.{freeStarts, size}
 use Rattle.machine.specs.Machine.{Machine}
 use Rattle.machine.proofs.Meet.{meets}
 use Rattle.machine.specs.Layers.{Entry, meet, started, slotStep, slotPlace, slotHit, expanded, layerSlots, firstBelow, hit, clear, gaveUp}
+use Rattle.influence.specs.Part.{Part}
 use Rattle.states.specs.Trace.{Trace, Holds}
 use Rattle.transitions.specs.Transitions.{machineOf}
 use Rattle.layers.specs.Asked.{AskedOf}
@@ -30,31 +30,31 @@ unfolding expanded
 expanded-longer m es lo zero = omega arith
 expanded-longer m es lo (suc z) = omega (arith, expanded-longer m es lo z, meet-longer (slotStep m es lo z) (slotPlace m es lo z) (expanded m es lo z))
 
-module _ (c : Circuit) (b k : ℕ) where
+module _ (c : Part) (b k : ℕ) where
   -- the table holds the layer of frame t, and frames t to k are left
   pub record Standing (t lo hi : ℕ) (records heads : List ℕ) : Type 0 where
     pub entries : List Entry
-    pub holds : Holds (2 ^ length (c .inputs)) t lo hi hi records heads entries
+    pub holds : Holds (2 ^ length (c .circuit .inputs)) t lo hi hi records heads entries
     pub left : Rest c b k t entries lo
     pub low : lo ≤ hi
 
   -- the start states
-  pub standing-start : (n met quota₀ : ℕ) (records heads : List ℕ) → quota₀ ≡ quota c 0 → met ≤ quota₀ → n ≡ 2 ^ freeStarts c
-      → Holds (2 ^ length (c .inputs)) 0 0 quota₀ met records heads (started (machineOf c b) n) → Standing 0 0 met records heads
+  pub standing-start : (n met quota₀ : ℕ) (records heads : List ℕ) → quota₀ ≡ quota c 0 → met ≤ quota₀ → n ≡ 2 ^ freeStarts (c .circuit)
+      → Holds (2 ^ length (c .circuit .inputs)) 0 0 quota₀ met records heads (started (machineOf c b) n) → Standing 0 0 met records heads
   standing-start n met quota₀ records heads q l e h =
       let es = started (machineOf c b) n in
-      let f : es ≡ started (machineOf c b) (2 ^ freeStarts c) = ap (started (machineOf c b)) e in
+      let f : es ≡ started (machineOf c b) (2 ^ freeStarts (c .circuit)) = ap (started (machineOf c b)) e in
       let g = h .counted l in
       record {
-        entries = started (machineOf c b) (2 ^ freeStarts c);
-        holds = subst (Holds (2 ^ length (c .inputs)) 0 0 met met records heads) f
+        entries = started (machineOf c b) (2 ^ freeStarts (c .circuit));
+        holds = subst (Holds (2 ^ length (c .circuit .inputs)) 0 0 met met records heads) f
             (holds-with met (omega (arith, h .quota-room)) (omega (arith, h .quota-small)) l (omega arith) h);
         left = rest-start c b k (omega (arith, ap length f));
         low = omega arith;
       }
 
-  pub started-full : (n met quota₀ : ℕ) (records heads : List ℕ) → quota₀ ≡ quota c 0 → quota₀ < met → n ≡ 2 ^ freeStarts c
-      → Holds (2 ^ length (c .inputs)) 0 0 quota₀ met records heads (started (machineOf c b) n) → FoundOf c b k records (Left 0)
+  pub started-full : (n met quota₀ : ℕ) (records heads : List ℕ) → quota₀ ≡ quota c 0 → quota₀ < met → n ≡ 2 ^ freeStarts (c .circuit)
+      → Holds (2 ^ length (c .circuit .inputs)) 0 0 quota₀ met records heads (started (machineOf c b) n) → FoundOf c b k records (Left 0)
   unfolding FoundOf
   started-full n met quota₀ records heads q l e h =
       rest-full c b k (omega (arith, h .lost l, ap (λ (x : ℕ). length (started (machineOf c b) x)) e))
@@ -69,22 +69,22 @@ module _ (c : Circuit) (b k : ℕ) where
     es = s .entries
 
     -- the table with the quota of the frame
-    pub standing-holds : Holds (2 ^ length (c .inputs)) t lo most hi r₀ hd₀ (s .entries)
+    pub standing-holds : Holds (2 ^ length (c .circuit .inputs)) t lo most hi r₀ hd₀ (s .entries)
     standing-holds = holds-with most room few (omega arith) high (s .holds)
 
     counted : length es ≡ hi
     counted = s .holds .counted (omega arith)
 
     module _ (records heads : List ℕ) (same : length records ≡ length r₀) (a : Asked)
-        (asked : (u : ℕ) (xs : List Entry) → Holds (2 ^ length (c .inputs)) u lo most hi r₀ hd₀ xs → AskedOf c b u lo most records heads xs a) where
-      pub case-hit : length (c .inputs) ≤ 16 → {e row : ℕ} → a ≡ Hit e row → FoundOf c b k records (At t e row)
+        (asked : (u : ℕ) (xs : List Entry) → Holds (2 ^ length (c .circuit .inputs)) u lo most hi r₀ hd₀ xs → AskedOf c b u lo most records heads xs a) where
+      pub case-hit : length (c .circuit .inputs) ≤ 16 → {e row : ℕ} → a ≡ Hit e row → FoundOf c b k records (At t e row)
       unfolding AskedOf FoundOf
       case-hit w {e} {row} q =
           let (z, f, y, tr, rl, sp, el) = subst (AskedOf c b t lo most records heads es) q (asked t es standing-holds) in
           (y, rest-hit c b k t es lo (s .left) l z f ∙ ap (hit t) sp, tr, rl, l, omega (arith, counted), w)
 
       met-case : {met : ℕ} → a ≡ Met met → (firstBelow (layerSlots (machineOf c b) es lo) (slotHit (machineOf c b) es lo) ≡ none)
-          × Holds (2 ^ length (c .inputs)) (suc t) (length es) most met records heads (expanded (machineOf c b) es lo (layerSlots (machineOf c b) es lo))
+          × Holds (2 ^ length (c .circuit .inputs)) (suc t) (length es) most met records heads (expanded (machineOf c b) es lo (layerSlots (machineOf c b) es lo))
       unfolding AskedOf
       met-case e = subst (AskedOf c b t lo most records heads es) e (asked t es standing-holds)
 
@@ -103,8 +103,8 @@ module _ (c : Circuit) (b k : ℕ) where
           let g : length all ≡ met = m .1 .counted h in
           record {
             entries = all;
-            holds = subst (λ (u : ℕ). Holds (2 ^ length (c .inputs)) u hi met met records heads all) (sym (add-one t))
-                (subst (λ (n : ℕ). Holds (2 ^ length (c .inputs)) (suc t) n met met records heads all) counted
+            holds = subst (λ (u : ℕ). Holds (2 ^ length (c .circuit .inputs)) u hi met met records heads all) (sym (add-one t))
+                (subst (λ (n : ℕ). Holds (2 ^ length (c .circuit .inputs)) (suc t) n met met records heads all) counted
                 (holds-with met (omega (arith, m .1 .quota-room)) (omega arith) h (omega arith) (m .1)));
             left = subst (λ (n : ℕ). Rest c b k (t + 1) all n) counted (rest-more c b k t es lo (s .left) l (m .0) (omega arith) (λ x. w (omega (arith, counted))));
             low = omega (arith, counted, expanded-longer (machineOf c b) es lo (layerSlots (machineOf c b) es lo));

@@ -12,6 +12,8 @@ ghost use Rattle.layout.specs.Layout.{LayoutOf};
 ghost use Rattle.frames.specs.Lanes.{Ready};
 ghost use Rattle.enumeration.specs.Frame.{FreeBits};
 ghost use Rattle.states.specs.Trace as trace;
+ghost use Rattle.influence.specs.Part.{Closed, partIn};
+ghost use Rattle.influence.specs.Cone.{partOf};
 ghost use Rattle.reachable.specs.Quota.{effort, quota};
 ghost use Rattle.reachable.specs.Layers.{FoundOf, LayersOf};
 
@@ -38,37 +40,38 @@ fn power(n: usize) -> usize
 }
 
 // The work for one state.
-fn effort(m: &[u32], layout: Layout) -> usize
+fn effort(m: &[u32], layout: Layout, kept: &[u32]) -> usize
     requires { ⌜ Holds (now m) (circuitIn (now m)) ⌝ }
     requires { ⌜ LayoutOf (now m) layout ⌝ }
-    requires { ⌜ (layout .i ≤ 16) × (layout .l ≤ 32) ⌝ }
-    ensures { λ r. ⌜ r ≡ effort (circuitIn (now (m .entry))) ⌝ }
+    requires { ⌜ (layout .i ≤ 16) × (length (now kept) ≤ 32) ⌝ }
+    ensures { λ r. ⌜ r ≡ effort (partIn (now (m .entry)) (now (kept .entry))) ⌝ }
 {
     let gates = layout.a;
     let latches = layout.l;
     let words = layers::blocks(layout.i);
     let rows = power(layout.i);
-    (gates + latches + 1) * words + (latches + 8) * rows
+    let bits = kept.len();
+    (gates + latches + 1) * words + (bits + 8) * rows
 }
 
 // How many states may be met by frame t + 1.
-fn quota(m: &[u32], layout: Layout, t: usize) -> usize
+fn quota(m: &[u32], layout: Layout, t: usize, kept: &[u32]) -> usize
     requires { ⌜ Holds (now m) (circuitIn (now m)) ⌝ }
     requires { ⌜ LayoutOf (now m) layout ⌝ }
     requires { ⌜ t ≤ 255 ⌝ }
-    ensures { λ r. ⌜ r ≡ quota (circuitIn (now (m .entry))) t ⌝ }
+    ensures { λ r. ⌜ r ≡ quota (partIn (now (m .entry)) (now (kept .entry))) t ⌝ }
 {
     if 16 < layout.i {
         return 0;
     }
-    if 32 < layout.l {
+    if 32 < kept.len() {
         return 0;
     }
     if 16 < layout.u {
         return 0;
     }
     let size = limits::size(layout, t);
-    let each = effort(m, layout);
+    let each = effort(m, layout, kept);
     let most = 4 * size;
     let affordable = (40000 + 128 * size) / each;
     if affordable < most { affordable } else { most }
@@ -85,15 +88,16 @@ fn ask_frames(
     heads: &mut [u32],
     values: &mut [u64],
     state: &mut [u64],
+    kept: &[u32],
 ) -> Found
     requires { ⌜ Ready (now m) layout (now order) (length (now values)) ⌝ }
-    requires { ⌜ (b < word (now m) 5) × (1024 ≤ length (now state)) × (k ≤ 255) × (0 < quota (circuitIn (now m)) 0) ⌝ }
+    requires { ⌜ (b < word (now m) 5) × (1024 ≤ length (now state)) × (k ≤ 255) × (0 < quota (partIn (now m) (now kept)) 0) × Closed (partIn (now m) (now kept)) b ⌝ }
     requires { ⌜ (16 * size (circuitIn (now m)) k ≤ length (now records)) × (size (circuitIn (now m)) k ≤ 65536) × (4096 ≤ length (now heads)) × ((h : ℕ) → h < 4096 → getD (now heads) h 0 ≡ 0) ⌝ }
-    ensures { λ r. ⌜ FoundOf (circuitIn (now (m .entry))) b k (now (records .exit)) r ⌝ }
+    ensures { λ r. ⌜ FoundOf (partIn (now (m .entry)) (now (kept .entry))) b k (now (records .exit)) r ⌝ }
 {
-    let first = quota(m, layout, 0);
+    let first = quota(m, layout, 0, kept);
     let count = power(layout.u);
-    let starts = layers::meet_starts(m, layout, count, first, records, heads);
+    let starts = layers::meet_starts(m, layout, count, first, records, heads, kept, state);
     if first < starts {
         return Found::Left(0);
     }
@@ -101,7 +105,7 @@ fn ask_frames(
     let mut hi = starts;
     let mut t = 0;
     while t <= k {
-        let most = quota(m, layout, t);
+        let most = quota(m, layout, t, kept);
         match layers::ask_layer(
             m,
             layout,
@@ -114,6 +118,7 @@ fn ask_frames(
             heads,
             values,
             state,
+            kept,
         ) {
             Asked::Hit(e, row) => {
                 return Found::At(t, e, row);
@@ -142,11 +147,12 @@ fn find_first(
     b: usize,
     k: usize,
     records: &mut [u32],
+    kept: &[u32],
 ) -> Found
     requires { ⌜ Ready (now m) layout (now order) 4097 ⌝ }
-    requires { ⌜ (b < word (now m) 5) × (k ≤ 255) × (0 < quota (circuitIn (now m)) 0) ⌝ }
+    requires { ⌜ (b < word (now m) 5) × (k ≤ 255) × (0 < quota (partIn (now m) (now kept)) 0) × Closed (partIn (now m) (now kept)) b ⌝ }
     requires { ⌜ (16 * size (circuitIn (now m)) k ≤ length (now records)) × (size (circuitIn (now m)) k ≤ 65536) ⌝ }
-    ensures { λ r. ⌜ FoundOf (circuitIn (now (m .entry))) b k (now (records .exit)) r ⌝ }
+    ensures { λ r. ⌜ FoundOf (partIn (now (m .entry)) (now (kept .entry))) b k (now (records .exit)) r ⌝ }
 {
     let mut heads = [0u32; 4096];
     let mut values = [0u64; 4097];
@@ -161,6 +167,7 @@ fn find_first(
         &mut heads,
         &mut values,
         &mut state,
+        kept,
     )
 }
 
@@ -175,7 +182,36 @@ fn put_free(t: usize, e: usize, row: usize, free: usize, width: usize, work: &mu
     traces::put_trace(&trace, free, width, free + width * (t + 1), work);
 }
 
-// The search of frames 0 to k by layers of states. After a hit, working memory begins with the free bits of the first one.
+// The search of frames 0 to k by layers of states, the latches that are kept. After a hit, working memory begins with the free bits of the
+// first one.
+fn search_part(
+    m: &[u32],
+    layout: Layout,
+    order: &[u32],
+    b: usize,
+    k: usize,
+    work: &mut [u32],
+    kept: &[u32],
+) -> Layers
+    requires { ⌜ Ready (now m) layout (now order) 4097 ⌝ }
+    requires { ⌜ (b < word (now m) 5) × (k ≤ 255) × Closed (partIn (now m) (now kept)) b ⌝ }
+    requires { ⌜ (16 * size (circuitIn (now m)) k ≤ length (now work)) × (size (circuitIn (now m)) k ≤ 65536) ⌝ }
+    ensures { λ r. ⌜ LayersOf (partIn (now (m .entry)) (now (kept .entry))) b k (now (work .exit)) r ⌝ }
+{
+    if quota(m, layout, 0, kept) == 0 {
+        return Layers::GaveUp(0);
+    }
+    match find_first(m, layout, order, b, k, work, kept) {
+        Found::At(t, e, row) => {
+            put_free(t, e, row, layout.u, layout.i, work);
+            Layers::Hit(t)
+        }
+        Found::Nowhere => Layers::Clear,
+        Found::Left(t) => Layers::GaveUp(t),
+    }
+}
+
+// The same, with the latches in the cone of influence of bad line b.
 pub fn search_layers(
     m: &[u32],
     layout: Layout,
@@ -187,17 +223,9 @@ pub fn search_layers(
     requires { ⌜ Ready (now m) layout (now order) 4097 ⌝ }
     requires { ⌜ (b < word (now m) 5) × (k ≤ 255) ⌝ }
     requires { ⌜ (16 * size (circuitIn (now m)) k ≤ length (now work)) × (size (circuitIn (now m)) k ≤ 65536) ⌝ }
-    ensures { λ r. ⌜ LayersOf (circuitIn (now (m .entry))) b k (now (work .exit)) r ⌝ }
+    ensures { λ r. ⌜ LayersOf (partOf (circuitIn (now (m .entry))) b) b k (now (work .exit)) r ⌝ }
 {
-    if quota(m, layout, 0) == 0 {
-        return Layers::GaveUp(0);
-    }
-    match find_first(m, layout, order, b, k, work) {
-        Found::At(t, e, row) => {
-            put_free(t, e, row, layout.u, layout.i, work);
-            Layers::Hit(t)
-        }
-        Found::Nowhere => Layers::Clear,
-        Found::Left(t) => Layers::GaveUp(t),
-    }
+    let mut table = [0u32; 1024];
+    let n = influence::kept_latches(m, layout, order, b, &mut table);
+    search_part(m, layout, order, b, k, work, &table[..n])
 }

@@ -6,26 +6,27 @@ use Rattle.aiger.specs.Circuit.{Circuit}
 use Rattle.aiger.specs.Frames.{freeBits}
 use Rattle.enumeration.specs.Frame.{FreeBits}
 use Rattle.machine.specs.Layers.{Layered}
+use Rattle.influence.specs.Cone.{partOf}
 use Rattle.reachable.specs.Layers.{layered, LayersOf}
 use Rattle.reachable.specs.declared.Layers.{Layers}
 use Rattle.reachable.specs.declared.Layers.the-variants.{Hit, Clear, GaveUp}
 
-module _ (c : Circuit) (b k : ℕ) (work : List ℕ) (r : Layers) (h : LayersOf c b k work r) where
+module _ (c : Circuit) (b k : ℕ) (work : List ℕ) (r : Layers) (h : LayersOf (partOf c b) b k work r) where
   -- the first hit, with its free bits
   pub record FirstBits (t : ℕ) : Type 0 where
     pub place : ℕ
-    pub says : layered c b k ≡ Layered.hit t place
+    pub says : layered (partOf c b) b k ≡ Layered.hit t place
     pub within : t ≤ k
     pub bits : FreeBits (freeBits c t) place work
 
   pub of-hit : {t : ℕ} → r ≡ Hit t → FirstBits t
   unfolding LayersOf
-  of-hit e = let (x, s, l, f) = subst (LayersOf c b k work) e h in record { place = x; says = s; within = l; bits = f }
+  of-hit e = let (x, s, l, f) = subst (LayersOf (partOf c b) b k work) e h in record { place = x; says = s; within = l; bits = f }
 
-  pub of-clear : r ≡ Clear → layered c b k ≡ Layered.clear
+  pub of-clear : r ≡ Clear → layered (partOf c b) b k ≡ Layered.clear
   unfolding LayersOf
-  of-clear e = subst (LayersOf c b k work) e h
+  of-clear e = subst (LayersOf (partOf c b) b k work) e h
 
-  pub of-left : {t : ℕ} → r ≡ GaveUp t → layered c b k ≡ Layered.gaveUp t
+  pub of-left : {t : ℕ} → r ≡ GaveUp t → layered (partOf c b) b k ≡ Layered.gaveUp t
   unfolding LayersOf
-  of-left e = subst (LayersOf c b k work) e h
+  of-left e = subst (LayersOf (partOf c b) b k work) e h

@@ -18,6 +18,8 @@ use Rattle.decision.specs.Reach.{decisionOf}
 use Rattle.decision.proofs.Deciding.{decided-says}
 use Rattle.machine.specs.Layers.{Layered}
 use Rattle.machine.proofs.Theorems.{QuietBefore, Says, layered-says}
+use Rattle.influence.specs.Cone.{partOf}
+use Rattle.influence.proofs.Cone.{part-closed}
 use Rattle.transitions.specs.Transitions.{machineOf}
 use Rattle.transitions.proofs.Bridge.{fair, reaches-of, prefixes-of}
 use Rattle.reachable.specs.Quota.{quota}
@@ -42,21 +44,21 @@ module _ (q : Question) (f : ℕ → Decision) (k D : ℕ) (right : (t : ℕ) �
 
 module _ (c : Circuit) (b k D : ℕ) where
   -- frames of the machine without a hit are frames of the circuit without one
-  quiet-of : (t : ℕ) → QuietBefore (machineOf c b) t → Quiet (question c b) t
-  quiet-of t q u l x a h r = q u l x (subst (λ (n : ℕ). x < n) (sym (prefixes-of c b u)) h) (subst T (reaches-of c b u x) r)
+  quiet-of : (t : ℕ) → QuietBefore (machineOf (partOf c b) b) t → Quiet (question c b) t
+  quiet-of t q u l x a h r = q u l x (subst (λ (n : ℕ). x < n) (sym (prefixes-of (partOf c b) b u)) h) (subst T (reaches-of (partOf c b) b (part-closed c b) u x) r)
 
   -- the first hit of the machine is that of the circuit
-  first-of : {t x : ℕ} → Says (machineOf c b) (fair c b) (k + 1) (Layered.hit t x) → decisions.FirstHit (reaches c b t) (2 ^ freeBits c t) 0 x
+  first-of : {t x : ℕ} → Says (machineOf (partOf c b) b) (fair (partOf c b) b) (k + 1) (Layered.hit t x) → decisions.FirstHit (reaches c b t) (2 ^ freeBits c t) 0 x
   first-of {t} {x} (l, q, f) =
       record {
         from = omega arith;
-        fits = subst (λ (n : ℕ). x < n) (prefixes-of c b t) (f .fits);
-        first = λ y a h r. f .first y h (subst T (reaches-of c b t y) r);
-        hit = subst T (sym (reaches-of c b t x)) (f .hits);
+        fits = subst (λ (n : ℕ). x < n) (prefixes-of (partOf c b) b t) (f .fits);
+        first = λ y a h r. f .first y h (subst T (reaches-of (partOf c b) b (part-closed c b) t y) r);
+        hit = subst T (sym (reaches-of (partOf c b) b (part-closed c b) t x)) (f .hits);
       }
 
   -- what the layers say is permitted
-  layers-permitted : (o : Layered) → Says (machineOf c b) (fair c b) (k + 1) o → T (permitted c b k D (byLayers c b k D o))
+  layers-permitted : (o : Layered) → Says (machineOf (partOf c b) b) (fair (partOf c b) b) (k + 1) o → T (permitted c b k D (byLayers c b k D o))
   layers-permitted (Layered.hit t x) (l, q, f) =
       found-in (question c b) k D t (record { within = omega arith; quiet = quiet-of t q; place = x; first = first-of (l, q, f) })
   layers-permitted Layered.clear q = none-in (question c b) k D k (record { bound = refl; quiet = quiet-of (k + 1) q })
@@ -66,37 +68,37 @@ module _ (c : Circuit) (b k D : ℕ) where
   -- the chosen outcome is permitted
   pub chosen-permitted : T (permitted c b k D (chosen c b k D))
   unfolding chosen layered
-  chosen-permitted = layers-permitted (layered c b k) (layered-says (machineOf c b) (fair c b) (quota c) (k + 1))
+  chosen-permitted = layers-permitted (layered (partOf c b) b k) (layered-says (machineOf (partOf c b) b) (fair (partOf c b) b) (quota (partOf c b)) (k + 1))
 
   -- the outcome is what frames t to k give
   abbrev pub Left : ℕ → Type 0
   Left t = chosen c b k D ≡ chosenFrom (λ u. decisionOf c b u D) k t (k + 1 - t)
 
   -- the outcome is what the layers say
-  pub chosen-found : {t x : ℕ} → layered c b k ≡ Layered.hit t x → chosen c b k D ≡ Outcome.found t
+  pub chosen-found : {t x : ℕ} → layered (partOf c b) b k ≡ Layered.hit t x → chosen c b k D ≡ Outcome.found t
   unfolding chosen
   chosen-found e = ap (byLayers c b k D) e
 
   -- and the first hit that they say is the one that is shown
-  pub layers-shown : {t x : ℕ} → layered c b k ≡ Layered.hit t x → witness b (run c t x) ≡ firstWitness c b t
+  pub layers-shown : {t x : ℕ} → layered (partOf c b) b k ≡ Layered.hit t x → witness b (run c t x) ≡ firstWitness c b t
   unfolding layered
   layers-shown {t} {x} e =
       sym
       (first-witness c b t x
-      (first-of (subst (Says (machineOf c b) (fair c b) (k + 1)) e (layered-says (machineOf c b) (fair c b) (quota c) (k + 1)))))
+      (first-of (subst (Says (machineOf (partOf c b) b) (fair (partOf c b) b) (k + 1)) e (layered-says (machineOf (partOf c b) b) (fair (partOf c b) b) (quota (partOf c b)) (k + 1)))))
 
-  pub chosen-none : layered c b k ≡ Layered.clear → chosen c b k D ≡ Outcome.none k
+  pub chosen-none : layered (partOf c b) b k ≡ Layered.clear → chosen c b k D ≡ Outcome.none k
   unfolding chosen
   chosen-none e = ap (byLayers c b k D) e
 
-  pub chosen-left : {t : ℕ} → layered c b k ≡ Layered.gaveUp t → Left t
+  pub chosen-left : {t : ℕ} → layered (partOf c b) b k ≡ Layered.gaveUp t → Left t
   unfolding chosen
   chosen-left e = ap (byLayers c b k D) e
 
   -- they are given up at a frame up to the one after the bound
-  pub left-within : {t : ℕ} → layered c b k ≡ Layered.gaveUp t → t ≤ k + 1
+  pub left-within : {t : ℕ} → layered (partOf c b) b k ≡ Layered.gaveUp t → t ≤ k + 1
   unfolding layered
-  left-within e = subst (Says (machineOf c b) (fair c b) (k + 1)) e (layered-says (machineOf c b) (fair c b) (quota c) (k + 1)) .0
+  left-within e = subst (Says (machineOf (partOf c b) b) (fair (partOf c b) b) (k + 1)) e (layered-says (machineOf (partOf c b) b) (fair (partOf c b) b) (quota (partOf c b)) (k + 1)) .0
 
   -- what frame t decides
   unroll : (t : ℕ) → t ≤ k → chosenFrom (λ u. decisionOf c b u D) k t (k + 1 - t) ≡ outcomeOf (decisionOf c b t D) t (chosenFrom (λ u. decisionOf c b u D) k (t + 1) (k + 1 - (t + 1)))

@@ -5,6 +5,7 @@ use Rattle.aiger.specs.Load.{Answer, refused, gives}
 use Rattle.aiger.specs.Search.{Decision, Outcome}
 use Rattle.decision.specs.Reach.{decisionOf}
 use Rattle.machine.specs.Layers.{Layered}
+use Rattle.influence.specs.Cone.{partOf}
 use Rattle.reachable.specs.Layers.{layered}
 use Rattle.search.specs.declared.SearchAnswer.{SearchAnswer}
 use Rattle.search.specs.declared.SearchAnswer.the-variants.{Found, Nothing, Spent, Refused}
@@ -27,7 +28,7 @@ byLayers c b k D Layered.clear = Outcome.none k
 byLayers c b k D (Layered.gaveUp t) = chosenFrom (λ u. decisionOf c b u D) k t (k + 1 - t)
 
 unfoldable pub chosen : Circuit → ℕ → ℕ → ℕ → Outcome
-chosen c b k D = byLayers c b k D (layered c b k)
+chosen c b k D = byLayers c b k D (layered (partOf c b) b k)
 
 -- the answer that each case of the enum is
 abbrev pub said : SearchAnswer → Answer Outcome

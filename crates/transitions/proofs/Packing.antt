@@ -13,13 +13,13 @@ use Rattle.aiger.specs.Bits.{nonzero, bit}
 use Rattle.aiger.specs.Circuit.{Circuit, Latch}
 use Rattle.aiger.specs.Frames.{isFree, freeStarts, freeBits, freeBit, run, space}
 use Rattle.aiger.proofs.Tests.{T-true}
-use Rattle.meaning.proofs.Lists.{length-from, length-map-upto, getD-map-upto}
+use Rattle.meaning.proofs.Lists.{length-from}
 use Rattle.meaning.proofs.Defined.{latchAt}
-use Rattle.meaning.proofs.Sequences.{run-shaped, run-reset, run-free}
+use Rattle.meaning.proofs.Sequences.{run-reset, run-free}
 use Rattle.frames.specs.Starts.{freeBefore, startBit}
 use Rattle.frames.proofs.Starts.{free-more, free-part}
 use Rattle.transitions.specs.Transitions.{numberOf, startNumber}
-use Rattle.transitions.proofs.Numbers.{bit-over, number-small}
+use Rattle.transitions.proofs.Numbers.{bit-over, number-small, map-at}
 use Rattle.transitions.proofs.Prefixes.{first-start}
 
 -- a bit as a number
@@ -95,11 +95,14 @@ module _ (c : Circuit) (y : ℕ) where
       go true e k = free-bit (freeBefore c j) (omega (arith, free-part c (j + 1))) ∙ sym (run-free c 0 x j l (T-true e))
       go false e k = sym (run-reset c 0 x j l (λ h. subst T e h))
 
-  pub start-list : numberOf (map (startBit c (freeStarts c) y) (upto (length (c .latches)))) ≡ startNumber c y
+  pub start-list : (ks : List ℕ) → ((i : ℕ) → i < length ks → getD ks i 0 < length (c .latches))
+      → numberOf (map (startBit c (freeStarts c) y) ks) ≡ startNumber (record { circuit = c; kept = ks }) y
   unfolding startNumber
-  start-list =
-      let L = length (c .latches) in
+  start-list ks h =
+      let st = space c .startOf (freeBit U y) in
       ap numberOf
-      (ext-getD false (map (startBit c U y) (upto L)) (run c 0 x .start) (length-map-upto (startBit c U y) L ∙ sym (run-shaped c 0 x .start))
-      (λ j l. let h : j < L = omega (arith, length-map-upto (startBit c U y) L) in getD-map-upto (startBit c U y) L j false h ∙ start-at j h)
-      ∙ start-run)
+      (ext-getD false (map (startBit c U y) ks) (map (λ j. getD st j false) ks) (length-map ks (startBit c U y) ∙ sym (length-map ks (λ j. getD st j false)))
+      (λ i l.
+      let k : i < length ks = omega (arith, length-map ks (startBit c U y)) in
+      map-at (startBit c U y) ks i k ∙ start-at (getD ks i 0) (h i k) ∙ ap (λ (r : List Bool). getD r (getD ks i 0) false) start-run
+      ∙ sym (map-at (λ j. getD st j false) ks i k)))

@@ -1,4 +1,4 @@
-// The states of a circuit as numbers, latch j as bit j, and where they lead.
+// The states of a circuit as numbers, the latches that are kept as bits, and where they lead.
 use layout::Layout;
 ghost use mathlib.Core.Path.{_≡_};
 ghost use mathlib.Core.Bool.{cond};
@@ -6,56 +6,68 @@ ghost use mathlib.Core.List.{map};
 ghost use Prim.Native.Nat.{ℕ, _+_, _*_, _≤_, _<_};
 ghost use lib.Dec.{eqb};
 ghost use lib.ListN.{length, getD};
-ghost use Rattle.aiger.specs.Lists.{upto};
 ghost use Rattle.aiger.specs.Bits.{bit};
 ghost use Rattle.aiger.specs.Circuit.{var};
+ghost use Rattle.aiger.specs.Frames.{freeStarts};
 ghost use Rattle.aiger.specs.Memory.{Holds};
 ghost use Rattle.layout.specs.Words.{word, circuitIn};
 ghost use Rattle.layout.specs.Layout.{LayoutOf};
-ghost use Rattle.meaning.specs.Frame.{latchAt, Valuation};
+ghost use Rattle.meaning.specs.Frame.{latchAt};
 ghost use Rattle.frames.specs.Lanes.{lane, Ready};
+ghost use Rattle.frames.specs.Starts.{startBit};
 ghost use Rattle.enumeration.specs.Blocks.{Given};
-ghost use Rattle.transitions.specs.Transitions.{numberOf, latchesOf, rowOf, startNumber};
+ghost use Rattle.influence.specs.Part.{Listed, partIn};
+ghost use Rattle.transitions.specs.Transitions.{numberOf, ValuedIn, startNumber};
 
-// Gives each latch its bit of s in all 64 runs.
-fn put_latches(m: &[u32], layout: Layout, s: u32, values: &mut [u64])
+// Gives each latch that is kept its bit of s in all 64 runs.
+fn put_latches(m: &[u32], layout: Layout, s: u32, values: &mut [u64], kept: &[u32])
     requires { ⌜ Holds (now m) (circuitIn (now m)) ⌝ }
     requires { ⌜ LayoutOf (now m) layout ⌝ }
-    requires { ⌜ word (now m) 0 < length (now values) ⌝ }
-    ensures { λ _. ⌜ Given (λ j. var (latchAt (circuitIn (now (m .entry))) j .lit)) (λ j p. bit s j) (length (circuitIn (now (m .entry)) .latches)) (now (values .entry)) (now (values .exit)) ⌝ }
+    requires { ⌜ (word (now m) 0 < length (now values)) × Listed (partIn (now m) (now kept)) × (length (now kept) ≤ 32) ⌝ }
+    ensures { λ _. ⌜ Given (λ i. var (latchAt (circuitIn (now (m .entry))) (getD (now (kept .entry)) i 0) .lit)) (λ i p. bit s i) (length (now (kept .entry))) (now (values .entry)) (now (values .exit)) ⌝ }
 {
-    let count = layout.l;
     let latches = layout.latches;
-    let mut j = 0;
-    while j < count {
+    let count = kept.len();
+    let mut i = 0;
+    while i < count {
+        let j = kept[i] as usize;
         let v = (m[latches + 3 * j] / 2) as usize;
-        values[v] = words::counting_word(j + 6, s as u64);
-        j += 1;
+        values[v] = words::counting_word(i + 6, s as u64);
+        i += 1;
     }
 }
 
 // The values of state s with the 64 rows of a block.
-pub fn eval_rows(m: &[u32], layout: Layout, order: &[u32], s: u32, block: u64, values: &mut [u64])
+pub fn eval_rows(
+    m: &[u32],
+    layout: Layout,
+    order: &[u32],
+    s: u32,
+    block: u64,
+    values: &mut [u64],
+    kept: &[u32],
+)
     requires { ⌜ Ready (now m) layout (now order) (length (now values)) ⌝ }
-    ensures { λ _. ⌜ ((p : ℕ) → p < 64 → Valuation (circuitIn (now (m .entry))) (rowOf (circuitIn (now (m .entry))) (block * 64 + p)) (latchesOf (length (circuitIn (now (m .entry)) .latches)) s) (lane (now (values .exit)) p)) ⌝ }
+    requires { ⌜ Listed (partIn (now m) (now kept)) × (length (now kept) ≤ 32) ⌝ }
+    ensures { λ _. ⌜ ((p : ℕ) → p < 64 → ValuedIn (partIn (now (m .entry)) (now (kept .entry))) s (block * 64 + p) (lane (now (values .exit)) p)) ⌝ }
 {
     let inputs = layout.i;
     values[0] = 0;
-    put_latches(m, layout, s, values);
+    put_latches(m, layout, s, values, kept);
     enumeration::put_inputs(m, layout, inputs, block, values);
     frames::eval_gates(m, layout, order, values);
 }
 
-// The number whose bits are those of run p.
-pub fn pack(state: &[u64], count: usize, p: u32) -> u32
-    requires { ⌜ (count ≤ length (now state)) × (count ≤ 32) × (p < 64) ⌝ }
-    ensures { λ r. ⌜ r ≡ numberOf (map (λ j. bit (getD (now (state .entry)) j 0) p) (upto count)) ⌝ }
+// The number whose bits are those of the latches that are kept in run p, where word j of state is latch j.
+pub fn pack(state: &[u64], kept: &[u32], p: u32) -> u32
+    requires { ⌜ ((i : ℕ) → i < length (now kept) → getD (now kept) i 0 < length (now state)) × (length (now kept) ≤ 32) × (p < 64) ⌝ }
+    ensures { λ r. ⌜ r ≡ numberOf (map (λ j. bit (getD (now (state .entry)) j 0) p) (now (kept .entry))) ⌝ }
 {
     let mut n: u64 = 0;
-    let mut j = count;
-    while 0 < j {
-        j -= 1;
-        n = 2 * n + (state[j] >> p) % 2;
+    let mut i = kept.len();
+    while 0 < i {
+        i -= 1;
+        n = 2 * n + (state[kept[i] as usize] >> p) % 2;
     }
     n as u32
 }
@@ -71,23 +83,32 @@ fn start_bit(lit: u32, reset: u32, y: u64, k: u32) -> u64
     if reset == 1 { 1 } else { 0 }
 }
 
-// The state of start place y.
-pub fn start_number(m: &[u32], layout: Layout, y: u64) -> u32
+// The start values of all latches at start place y: word j is 1 where latch j is.
+fn start_words(m: &[u32], layout: Layout, y: u64, state: &mut [u64])
     requires { ⌜ Holds (now m) (circuitIn (now m)) ⌝ }
     requires { ⌜ LayoutOf (now m) layout ⌝ }
-    requires { ⌜ layout .l ≤ 32 ⌝ }
-    ensures { λ r. ⌜ r ≡ startNumber (circuitIn (now (m .entry))) y ⌝ }
+    requires { ⌜ (layout .u ≤ 16) × (1024 ≤ length (now state)) ⌝ }
+    ensures { λ _. ⌜ ((j : ℕ) → j < layout .l → getD (now (state .exit)) j 0 ≡ cond (startBit (circuitIn (now (m .entry))) (freeStarts (circuitIn (now (m .entry)))) y j) 1 0) ⌝ }
 {
     let latches = layout.latches;
-    let mut n: u64 = 0;
     let mut left: u32 = 0;
     let mut j = layout.l;
     while 0 < j {
         j -= 1;
         let lit = m[latches + 3 * j];
         let reset = m[latches + 3 * j + 2];
-        n = 2 * n + start_bit(lit, reset, y, left);
+        state[j] = start_bit(lit, reset, y, left);
         left += layout::free_start(lit, reset) as u32;
     }
-    n as u32
+}
+
+// The state of start place y. state is scratch.
+pub fn start_number(m: &[u32], layout: Layout, y: u64, kept: &[u32], state: &mut [u64]) -> u32
+    requires { ⌜ Holds (now m) (circuitIn (now m)) ⌝ }
+    requires { ⌜ LayoutOf (now m) layout ⌝ }
+    requires { ⌜ (layout .u ≤ 16) × (1024 ≤ length (now state)) × Listed (partIn (now m) (now kept)) × (length (now kept) ≤ 32) ⌝ }
+    ensures { λ r. ⌜ r ≡ startNumber (partIn (now (m .entry)) (now (kept .entry))) y ⌝ }
+{
+    start_words(m, layout, y, state);
+    pack(state, kept, 0)
 }

@@ -6,20 +6,23 @@ use mathlib.Core.Logic.{_⊎_, inl, inr, ⊎-elim}
 use Prim.Native.Nat.{ℕ, zero, suc, _/_, _%_, _^_, _<_}
 use native.Mathlib.Omega.{arith}
 use lib.Bits.{bitAnd}
-use lib.ListN.{length, getD}
-use Rattle.aiger.specs.Lists.{upto}
+use lib.ListN.{length, getD, length-map}
+use lib.Seq.{ext-getD}
 use Rattle.aiger.specs.Bits.{nonzero, bit}
 use Rattle.words.proofs.Bits.{bit-and, xor-true}
-use Rattle.meaning.proofs.Lists.{map-upto-eq}
 use Rattle.states.specs.Table.{Meets}
 use Rattle.transitions.specs.Transitions.{numberOf}
+use Rattle.transitions.proofs.Numbers.{map-at}
 use Rattle.layers.specs.Rows.{RowStep}
 use borrow.Author.Needs.{needs}
 use Rattle.layers.proofs.meet_row.Statement.{statement}
 use Rattle.layers.proofs.meet_row.Tie as tie
 
-abbrev numbers : List ℕ → ℕ → ℕ → ℕ
-numbers state latches p = numberOf (map (λ j. bit (getD state j 0) p) (upto latches))
+-- lists under functions that agree on them
+map-eq : (f g : ℕ → Bool) (ks : List ℕ) → ((i : ℕ) → i < length ks → f (getD ks i 0) ≡ g (getD ks i 0)) → map f ks ≡ map g ks
+map-eq f g ks h =
+    ext-getD false (map f ks) (map g ks) (length-map ks f ∙ sym (length-map ks g))
+    (λ i l. let k : i < length ks = omega (arith, length-map ks f) in map-at f ks i k ∙ h i k ∙ sym (map-at g ks i k))
 
 -- a row is left out because it was before, or because it is among the same rows
 cases : (a b : Bool) → (a && not b) ≡ false → (a ≡ false) ⊎ (b ≡ true)
@@ -57,16 +60,16 @@ unfolding bit
 returns c = RowStep.skipped (ap nonzero (c .if1 .taken))
 
 pack-requires : tie.Need-pack-requires
-pack-requires c κs = (c .before .before .before .before .pre .1 .0, c .before .before .before .before .pre .1 .1, c .before .before .before .before .pre .1 .2)
+pack-requires c κs = (c .before .before .before .before .before .pre .1 .0, c .before .before .before .before .before .pre .1 .1, c .before .before .before .before .before .pre .1 .2)
 
 same-rows-requires : tie.Need-same-rows-requires
-same-rows-requires c κs = (c .before .before .before .before .before .pre .1 .0, c .before .before .before .before .before .pre .1 .2)
+same-rows-requires c κs = (c .before .before .before .before .before .before .pre .1 .0, c .before .before .before .before .before .before .pre .1 .1, c .before .before .before .before .before .before .pre .1 .2)
 
 literal-word-requires : tie.Need-literal-word-requires
 literal-word-requires c κs = tt
 
 meet-requires : tie.Need-meet-requires
-meet-requires c κs = c .before .before .before .before .before .before .before .before .before .pre .0
+meet-requires c κs = c .before .before .before .before .before .before .before .before .before .before .pre .0
 
 same-length : tie.Need-same-length
 same-length c = c .before .before .before .before .meet .kept .0
@@ -76,12 +79,12 @@ same-length-2 c = c .before .before .before .before .meet .kept .1 .0
 
 returns-2 : tie.Need-returns-2
 returns-2 c =
-    let a = c .before .before .before .before .before .before .before .before .before .before .before .before .before .before .args in
+    let a = c .before .before .before .before .before .before .before .before .before .before .before .before .before .before .before .args in
     let E = c .before .before .before .before .meet in
     RowStep.taken (left-set (a .pending .left) (a .p) (c .before .before .before .before .before .before .before .before .before .before .if1 .left))
     (subst (λ (s : ℕ). Meets (a .quota) (a .pending .met) s (a .e) (a .row) (a .records .now) (a .heads .now) (E .result) (E .last .0) (E .last .1 .0)) (c .before .before .before .before .before .before .before .before .before .pack .ensures) (E .ensures))
     (λ q l g. ⊎-elim (λ h. inl h)
-    (λ h. inr (ap numberOf (map-upto-eq (λ j. bit (getD (a .state .now) j 0) q) (λ j. bit (getD (a .state .now) j 0) (a .p)) (a .latches) (c .before .before .before .before .before .before .before .before .same-rows .ensures q l h))))
+    (λ h. inr (ap numberOf (map-eq (λ j. bit (getD (a .state .now) j 0) q) (λ j. bit (getD (a .state .now) j 0) (a .p)) (a .kept .now) (c .before .before .before .before .before .before .before .before .same-rows .ensures q l h))))
     (out (a .pending .left) (c .before .before .before .before .before .before .before .before .same-rows .result) (c .before .before .before .before .before .before .before .literal-word .result) (c .before .before .before .before .before .before .before .literal-word .ensures) q l g))
     (λ q g. left-in (a .pending .left) (c .before .before .before .before .before .before .before .literal-word .result) q g)
 

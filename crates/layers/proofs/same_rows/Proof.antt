@@ -1,8 +1,8 @@
 -- `layers::same_rows` meets its contract. Assumes nothing.
-use mathlib.Core.Path.{_≡_, refl, sym, ap, _∙_}
-use mathlib.Core.Bool.{Bool, true, false, _&&_}
-use Prim.Native.Nat.{ℕ, _+_, _-_, _≤_, _<_}
+use mathlib.Core.Path.{_≡_, refl, sym, ap, ap₂, _∙_, subst}
+use Prim.Native.Nat.{ℕ, _+_, _-_, _*_, _/_, _%_, _^_, _≤_, _<_}
 use native.Mathlib.Omega.{arith}
+use mathlib.Core.Bool.{Bool, true, false, _&&_}
 use borrow.Author.Count.{below-more}
 use lib.ListN.{length, getD}
 use Rattle.aiger.specs.Bits.{bit}
@@ -11,42 +11,52 @@ use borrow.Author.Needs.{needs}
 use Rattle.layers.proofs.same_rows.Statement.{statement}
 use Rattle.layers.proofs.same_rows.Tie as tie
 
-abbrev Inv-loop : tie.InvT-loop
-Inv-loop state latches p same₀ j₀ same j = (j ≤ latches) × ((q : ℕ) → q < 64 → bit same q ≡ true → (i : ℕ) → i < j → bit (getD state i 0) q ≡ bit (getD state i 0) p)
-
-abbrev μ-loop : tie.MeasureT-loop
-μ-loop state latches p same₀ j₀ same j = latches - j
-
 both : (a b : Bool) → (a && b) ≡ true → (a ≡ true) × (b ≡ true)
 both true b e = (refl, e)
 both false b e = absurd (let z : _≡_ {A = ℕ} 0 1 = cc in omega arith)
+
+abbrev Inv-loop : tie.InvT-loop
+Inv-loop state kept p same₀ count i₀ same i = (i ≤ length kept) × ((q : ℕ) → q < 64 → bit same q ≡ true → (k : ℕ) → k < i → bit (getD state (getD kept k 0) 0) q ≡ bit (getD state (getD kept k 0) 0) p)
+
+abbrev μ-loop : tie.MeasureT-loop
+μ-loop state kept p same₀ count i₀ same i = length kept - i
 
 loop-holds : tie.Need-loop-holds Inv-loop μ-loop
 loop-holds c = (omega arith, λ q l t i h. absurd (omega arith))
 
 mul-alike : tie.Need-mul-alike Inv-loop μ-loop
-mul-alike c = omega (arith, c .before .before .before .pre .0)
+mul-alike c = omega (arith, c .before .before .before .before .pre .0 (c .before .loop .i) (omega arith), c .before .before .before .before .pre .1)
 
 shared-slice-read-alike : tie.Need-shared-slice-read-alike Inv-loop μ-loop
-shared-slice-read-alike c = omega (arith, c .before .before .before .before .pre .0)
+shared-slice-read-alike c = omega (arith, c .before .before .before .before .before .pre .0 (c .before .before .loop .i) (omega arith), c .before .before .before .before .before .pre .1)
+
+cast-alike : tie.Need-cast-alike Inv-loop μ-loop
+cast-alike c = omega (arith, c .before .before .before .before .before .pre .0 (c .before .before .loop .i) (omega arith), c .before .before .before .before .before .pre .1)
+
+mul-alike-2 : tie.Need-mul-alike-2 Inv-loop μ-loop
+mul-alike-2 c = omega (arith, c .before .before .before .before .before .pre .0 (c .before .before .loop .i) (omega arith), c .before .before .before .before .before .pre .1)
+
+shared-slice-read-alike-2 : tie.Need-shared-slice-read-alike-2 Inv-loop μ-loop
+shared-slice-read-alike-2 c = omega (arith, c .before .before .before .before .before .before .pre .0 (c .before .before .before .loop .i) (omega arith), c .before .before .before .before .before .before .pre .1)
 
 alike-requires : tie.Need-alike-requires Inv-loop μ-loop
-alike-requires c κs = c .before .before .before .before .pre .1
+alike-requires c κs = c .before .before .before .before .before .before .pre .2
 
-add-j : tie.Need-add-j Inv-loop μ-loop
-add-j c = omega (arith, c .before .before .before .before .before .pre .0)
+add-i : tie.Need-add-i Inv-loop μ-loop
+add-i c = omega (arith, c .before .before .before .before .before .before .before .pre .0 (c .before .before .before .before .loop .i) (omega arith), c .before .before .before .before .before .before .before .pre .1)
 
 loop-less : tie.Need-loop-less Inv-loop μ-loop
 loop-less c = omega arith
 
 loop-again : tie.Need-loop-again Inv-loop μ-loop
 loop-again c =
-    let L = c .before .before .before .loop in
-    let s = c .before .before .before .before .before .args .state .now in (
+    let L = c .before .before .before .before .loop in
+    let s = c .before .before .before .before .before .before .before .args .state .now in
+    let ks = c .before .before .before .before .before .before .before .args .kept .now in (
       omega arith,
       λ q l t.
           let t2 = both (bit (L .same) q) (bit (c .alike .result) q) (sym (bit-and (L .same) (c .alike .result) q) ∙ t) in
-          below-more (λ i. bit (getD s i 0) q ≡ bit (getD s i 0) (c .before .before .before .before .before .args .p)) (L .j) (L .inv .1 q l (t2 .0)) (c .alike .ensures q l (t2 .1)),
+          below-more (λ k. bit (getD s (getD ks k 0) 0) q ≡ bit (getD s (getD ks k 0) 0) (c .before .before .before .before .before .before .before .args .p)) (L .i) (L .inv .1 q l (t2 .0)) (c .alike .ensures q l (t2 .1)),
     )
 
 returns : tie.Need-returns Inv-loop μ-loop
@@ -61,8 +71,11 @@ same-rows-spec =
     loop-holds
     mul-alike
     shared-slice-read-alike
+    cast-alike
+    mul-alike-2
+    shared-slice-read-alike-2
     alike-requires
-    add-j
+    add-i
     loop-less
     loop-again
     returns)

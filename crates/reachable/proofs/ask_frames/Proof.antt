@@ -4,10 +4,9 @@ use mathlib.Core.List.{List, []}
 use Prim.Native.Nat.{ℕ, _+_, _-_, _*_, _^_, _≤_, _<_}
 use native.Mathlib.Omega.{arith}
 use lib.ListN.{length, getD}
-use Rattle.aiger.specs.Circuit.{Circuit}
 use Rattle.aiger.specs.Frames.{freeStarts, size}
-use Rattle.layout.specs.Words.{word, circuitIn}
-use Rattle.frames.proofs.Places.{inputs-are, latches-are}
+use Rattle.influence.specs.Part.{Part, partIn}
+use Rattle.frames.proofs.Places.{inputs-are}
 use Rattle.frames.proofs.Facts.{ready-with}
 use Rattle.machine.specs.Layers.{started}
 use Rattle.states.specs.Trace.{Holds}
@@ -21,15 +20,15 @@ use Rattle.reachable.proofs.ask_frames.Statement.{statement}
 use Rattle.reachable.proofs.ask_frames.Tie as tie
 
 abbrev Inv-loop : tie.InvT-loop
-Inv-loop m layout order b k records₀ heads₀ values₀ state₀ first count starts lo₀ hi₀ t₀ records heads values state lo hi t =
-    (t ≤ k + 1) × (lo ≤ hi) × (hi ≤ quota (circuitIn m) t) × (length records ≡ length records₀) × (length heads ≡ length heads₀) × (length values ≡ length values₀)
-    × (length state ≡ length state₀) × Standing (circuitIn m) b k t lo hi records heads
+Inv-loop m layout order b k records₀ heads₀ values₀ state₀ kept first count starts lo₀ hi₀ t₀ records heads values state lo hi t =
+    (t ≤ k + 1) × (lo ≤ hi) × (hi ≤ quota (partIn m kept) t) × (length records ≡ length records₀) × (length heads ≡ length heads₀) × (length values ≡ length values₀)
+    × (length state ≡ length state₀) × Standing (partIn m kept) b k t lo hi records heads
 
 abbrev μ-loop : tie.MeasureT-loop
-μ-loop m layout order b k records₀ heads₀ values₀ state₀ first count starts lo₀ hi₀ t₀ records heads values state lo hi t = k + 1 - t
+μ-loop m layout order b k records₀ heads₀ values₀ state₀ kept first count starts lo₀ hi₀ t₀ records heads values state lo hi t = k + 1 - t
 
 -- a quota has its records in the memory
-module _ (c : Circuit) (k n : ℕ) (words : 16 * size c k ≤ n) (units : size c k ≤ 65536) where
+module _ (c : Part) (k n : ℕ) (words : 16 * size (c .circuit) k ≤ n) (units : size (c .circuit) k ≤ 65536) where
   room : (t q : ℕ) → t ≤ k → q ≡ quota c t → 4 * q ≤ n
   room t q l e = omega (arith, quota-room c t, size-mono c t k l)
 
@@ -37,188 +36,194 @@ module _ (c : Circuit) (k n : ℕ) (words : 16 * size c k ≤ n) (units : size c
   few t q l e = omega (arith, quota-room c t, size-mono c t k l)
 
 quota-requires : tie.Need-quota-requires Inv-loop μ-loop
-quota-requires c κs = (c .before .before .before .before .before .before .pre .0 .held, (c .before .before .before .before .before .before .pre .0 .layout-of, omega arith))
+quota-requires c κs = (c .before .before .before .before .before .before .before .pre .0 .held, (c .before .before .before .before .before .before .before .pre .0 .layout-of, omega arith))
 
 power-requires : tie.Need-power-requires Inv-loop μ-loop
-power-requires c κs = omega (arith, c .before .before .before .before .before .before .before .pre .0 .layout-of .u-is, quota-small (circuitIn (c .before .before .before .before .before .before .before .args .m .now)) 0 (c .before .before .before .before .before .before .before .pre .1 .0 .3) .2)
+power-requires c κs = omega (arith, c .before .before .before .before .before .before .before .before .pre .0 .layout-of .u-is, quota-small (partIn (c .before .before .before .before .before .before .before .before .args .m .now) (c .before .before .before .before .before .before .before .before .args .kept .now)) 0 (c .before .before .before .before .before .before .before .before .pre .1 .0 .3) .2)
 
 meet-starts-requires : tie.Need-meet-starts-requires Inv-loop μ-loop
 meet-starts-requires c κs =
-    let C = circuitIn (c .before .before .before .before .before .before .before .before .before .before .args .m .now) in
-    let R = c .before .before .before .before .before .before .before .before .before .before .pre .0 in
-    let w = c .before .before .before .before .before .before .before .before .before .before .pre .1 .1 in
-    let q = quota-small C 0 (c .before .before .before .before .before .before .before .before .before .before .pre .1 .0 .3) in (
+    let C = partIn (c .before .before .before .before .before .before .before .before .before .before .before .before .args .m .now) (c .before .before .before .before .before .before .before .before .before .before .before .before .args .kept .now) in
+    let R = c .before .before .before .before .before .before .before .before .before .before .before .before .pre .0 in
+    let w = c .before .before .before .before .before .before .before .before .before .before .before .before .pre .1 .1 in
+    let q = quota-small C 0 (c .before .before .before .before .before .before .before .before .before .before .before .before .pre .1 .0 .3) in (
       R .held,
       (
         R .layout-of,
         (
-          omega (arith, q .1, latches-are (R .held) (R .layout-of)),
-          c .before .before .power .ensures .1,
-          holds-fits (holds-none (2 ^ length (C .inputs)) (c .before .before .before .quota .result) (c .before .before .before .before .before .before .before .before .before .before .args .records .now) (c .before .before .before .before .before .before .before .before .before .before .args .heads .now) (room C (c .before .before .before .before .before .before .before .before .before .before .args .k) (length (c .before .before .before .before .before .before .before .before .before .before .args .records .now)) (w .0) (w .1) 0 (c .before .before .before .quota .result) (omega arith) (c .before .before .before .quota .ensures))
-              (omega (arith, few C (c .before .before .before .before .before .before .before .before .before .before .args .k) (length (c .before .before .before .before .before .before .before .before .before .before .args .records .now)) (w .0) (w .1) 0 (c .before .before .before .quota .result) (omega arith) (c .before .before .before .quota .ensures))) (w .2) (w .3)),
+          omega (arith, q .2, R .layout-of .u-is),
+          c .before .before .before .power .ensures .1,
+          holds-fits (holds-none (2 ^ length (C .circuit .inputs)) (c .before .before .before .before .quota .result) (c .before .before .before .before .before .before .before .before .before .before .before .before .args .records .now) (c .before .before .before .before .before .before .before .before .before .before .before .before .args .heads .now) (room C (c .before .before .before .before .before .before .before .before .before .before .before .before .args .k) (length (c .before .before .before .before .before .before .before .before .before .before .before .before .args .records .now)) (w .0) (w .1) 0 (c .before .before .before .before .quota .result) (omega arith) (c .before .before .before .before .quota .ensures))
+              (omega (arith, few C (c .before .before .before .before .before .before .before .before .before .before .before .before .args .k) (length (c .before .before .before .before .before .before .before .before .before .before .before .before .args .records .now)) (w .0) (w .1) 0 (c .before .before .before .before .quota .result) (omega arith) (c .before .before .before .before .quota .ensures))) (w .2) (w .3)),
+          c .before .before .before .before .before .before .before .before .before .before .before .before .pre .1 .0 .1,
+          c .before .before .before .before .before .before .before .before .before .before .before .before .pre .1 .0 .4 .listed,
+          q .1,
         ),
       ),
     )
 
 same-length : tie.Need-same-length Inv-loop μ-loop
-same-length c = c .before .before .before .before .before .meet-starts .kept .1 .1 .1 .1 .0
+same-length c = c .before .before .before .before .before .before .before .meet-starts .kept .1 .1 .1 .1 .0
 
 same-length-2 : tie.Need-same-length-2 Inv-loop μ-loop
-same-length-2 c = c .before .before .before .before .before .meet-starts .kept .1 .1 .1 .1 .1 .0
+same-length-2 c = c .before .before .before .before .before .before .before .meet-starts .kept .1 .1 .1 .1 .1 .0
+
+same-length-3 : tie.Need-same-length-3 Inv-loop μ-loop
+same-length-3 c = c .before .before .before .before .before .before .before .meet-starts .kept .1 .1 .1 .1 .1 .1 .1 .0
 
 returns : tie.Need-returns Inv-loop μ-loop
 returns c =
-    let C = circuitIn (c .before .before .before .before .before .before .before .before .before .before .before .before .before .before .before .before .args .m .now) in
-    let w = c .before .before .before .before .before .before .before .before .before .before .before .before .before .before .before .before .pre .1 .1 in
-    let n = c .before .before .before .before .before .before .before .before .before .before .before .before .before .before .before .before .args .records .now in
-    let rows = 2 ^ length (C .inputs) in
-    let h = c .before .before .before .before .before .meet-starts .ensures rows (c .before .before .before .before .before .before .before .before .before .before .before .before .before .before .before .before .args .b) (holds-none rows (c .before .before .before .before .before .before .before .before .before .quota .result) n (c .before .before .before .before .before .before .before .before .before .before .before .before .before .before .before .before .args .heads .now) (room C (c .before .before .before .before .before .before .before .before .before .before .before .before .before .before .before .before .args .k) (length n) (w .0) (w .1) 0 (c .before .before .before .before .before .before .before .before .before .quota .result) (omega arith) (c .before .before .before .before .before .before .before .before .before .quota .ensures))
-    (omega (arith, few C (c .before .before .before .before .before .before .before .before .before .before .before .before .before .before .before .before .args .k) (length n) (w .0) (w .1) 0 (c .before .before .before .before .before .before .before .before .before .quota .result) (omega arith) (c .before .before .before .before .before .before .before .before .before .quota .ensures))) (w .2) (w .3)) in
-    started-full C (c .before .before .before .before .before .before .before .before .before .before .before .before .before .before .before .before .args .b) (c .before .before .before .before .before .before .before .before .before .before .before .before .before .before .before .before .args .k) (c .before .before .before .before .before .before .before .before .power .result) (c .before .before .before .before .before .meet-starts .result) (c .before .before .before .before .before .before .before .before .before .quota .result) (c .before .before .before .before .before .meet-starts .last .1 .1 .1 .1 .0) (c .before .before .before .before .before .meet-starts .last .1 .1 .1 .1 .1 .0) (c .before .before .before .before .before .before .before .before .before .quota .ensures) (c .if1 .taken)
-    (c .before .before .before .before .before .before .before .before .power .ensures .0 ∙ ap (λ (x : ℕ). 2 ^ x) (c .before .before .before .before .before .before .before .before .before .before .before .before .before .before .before .before .pre .0 .layout-of .u-is)) h
+    let C = partIn (c .before .before .before .before .before .before .before .before .before .before .before .before .before .before .before .before .before .before .before .before .args .m .now) (c .before .before .before .before .before .before .before .before .before .before .before .before .before .before .before .before .before .before .before .before .args .kept .now) in
+    let w = c .before .before .before .before .before .before .before .before .before .before .before .before .before .before .before .before .before .before .before .before .pre .1 .1 in
+    let n = c .before .before .before .before .before .before .before .before .before .before .before .before .before .before .before .before .before .before .before .before .args .records .now in
+    let rows = 2 ^ length (C .circuit .inputs) in
+    let h = c .before .before .before .before .before .before .before .meet-starts .ensures rows (c .before .before .before .before .before .before .before .before .before .before .before .before .before .before .before .before .before .before .before .before .args .b) (holds-none rows (c .before .before .before .before .before .before .before .before .before .before .before .before .quota .result) n (c .before .before .before .before .before .before .before .before .before .before .before .before .before .before .before .before .before .before .before .before .args .heads .now) (room C (c .before .before .before .before .before .before .before .before .before .before .before .before .before .before .before .before .before .before .before .before .args .k) (length n) (w .0) (w .1) 0 (c .before .before .before .before .before .before .before .before .before .before .before .before .quota .result) (omega arith) (c .before .before .before .before .before .before .before .before .before .before .before .before .quota .ensures))
+    (omega (arith, few C (c .before .before .before .before .before .before .before .before .before .before .before .before .before .before .before .before .before .before .before .before .args .k) (length n) (w .0) (w .1) 0 (c .before .before .before .before .before .before .before .before .before .before .before .before .quota .result) (omega arith) (c .before .before .before .before .before .before .before .before .before .before .before .before .quota .ensures))) (w .2) (w .3)) in
+    started-full C (c .before .before .before .before .before .before .before .before .before .before .before .before .before .before .before .before .before .before .before .before .args .b) (c .before .before .before .before .before .before .before .before .before .before .before .before .before .before .before .before .before .before .before .before .args .k) (c .before .before .before .before .before .before .before .before .before .before .before .power .result) (c .before .before .before .before .before .before .before .meet-starts .result) (c .before .before .before .before .before .before .before .before .before .before .before .before .quota .result) (c .before .before .before .before .before .before .before .meet-starts .last .1 .1 .1 .1 .0) (c .before .before .before .before .before .before .before .meet-starts .last .1 .1 .1 .1 .1 .0) (c .before .before .before .before .before .before .before .before .before .before .before .before .quota .ensures) (c .if1 .taken)
+    (c .before .before .before .before .before .before .before .before .before .before .before .power .ensures .0 ∙ ap (λ (x : ℕ). 2 ^ x) (c .before .before .before .before .before .before .before .before .before .before .before .before .before .before .before .before .before .before .before .before .pre .0 .layout-of .u-is)) h
 
 loop-holds : tie.Need-loop-holds Inv-loop μ-loop
 loop-holds c =
-    let C = circuitIn (c .before .before .before .before .before .before .before .before .before .before .before .before .before .before .before .before .args .m .now) in
-    let w = c .before .before .before .before .before .before .before .before .before .before .before .before .before .before .before .before .pre .1 .1 in
-    let n = c .before .before .before .before .before .before .before .before .before .before .before .before .before .before .before .before .args .records .now in
-    let rows = 2 ^ length (C .inputs) in
-    let h = c .before .before .before .before .before .meet-starts .ensures rows (c .before .before .before .before .before .before .before .before .before .before .before .before .before .before .before .before .args .b) (holds-none rows (c .before .before .before .before .before .before .before .before .before .quota .result) n (c .before .before .before .before .before .before .before .before .before .before .before .before .before .before .before .before .args .heads .now) (room C (c .before .before .before .before .before .before .before .before .before .before .before .before .before .before .before .before .args .k) (length n) (w .0) (w .1) 0 (c .before .before .before .before .before .before .before .before .before .quota .result) (omega arith) (c .before .before .before .before .before .before .before .before .before .quota .ensures))
-    (omega (arith, few C (c .before .before .before .before .before .before .before .before .before .before .before .before .before .before .before .before .args .k) (length n) (w .0) (w .1) 0 (c .before .before .before .before .before .before .before .before .before .quota .result) (omega arith) (c .before .before .before .before .before .before .before .before .before .quota .ensures))) (w .2) (w .3)) in (
+    let C = partIn (c .before .before .before .before .before .before .before .before .before .before .before .before .before .before .before .before .before .before .before .before .args .m .now) (c .before .before .before .before .before .before .before .before .before .before .before .before .before .before .before .before .before .before .before .before .args .kept .now) in
+    let w = c .before .before .before .before .before .before .before .before .before .before .before .before .before .before .before .before .before .before .before .before .pre .1 .1 in
+    let n = c .before .before .before .before .before .before .before .before .before .before .before .before .before .before .before .before .before .before .before .before .args .records .now in
+    let rows = 2 ^ length (C .circuit .inputs) in
+    let h = c .before .before .before .before .before .before .before .meet-starts .ensures rows (c .before .before .before .before .before .before .before .before .before .before .before .before .before .before .before .before .before .before .before .before .args .b) (holds-none rows (c .before .before .before .before .before .before .before .before .before .before .before .before .quota .result) n (c .before .before .before .before .before .before .before .before .before .before .before .before .before .before .before .before .before .before .before .before .args .heads .now) (room C (c .before .before .before .before .before .before .before .before .before .before .before .before .before .before .before .before .before .before .before .before .args .k) (length n) (w .0) (w .1) 0 (c .before .before .before .before .before .before .before .before .before .before .before .before .quota .result) (omega arith) (c .before .before .before .before .before .before .before .before .before .before .before .before .quota .ensures))
+    (omega (arith, few C (c .before .before .before .before .before .before .before .before .before .before .before .before .before .before .before .before .before .before .before .before .args .k) (length n) (w .0) (w .1) 0 (c .before .before .before .before .before .before .before .before .before .before .before .before .quota .result) (omega arith) (c .before .before .before .before .before .before .before .before .before .before .before .before .quota .ensures))) (w .2) (w .3)) in (
       omega arith,
       omega arith,
-      omega (arith, c .if1 .left, c .before .before .before .before .before .before .before .before .before .quota .ensures),
+      omega (arith, c .if1 .left, c .before .before .before .before .before .before .before .before .before .before .before .before .quota .ensures),
       refl,
       refl,
       refl,
       refl,
-      standing-start C (c .before .before .before .before .before .before .before .before .before .before .before .before .before .before .before .before .args .b) (c .before .before .before .before .before .before .before .before .before .before .before .before .before .before .before .before .args .k) (c .before .before .before .before .before .before .before .before .power .result) (c .before .before .before .before .before .meet-starts .result) (c .before .before .before .before .before .before .before .before .before .quota .result) (c .before .before .before .before .before .meet-starts .last .1 .1 .1 .1 .0) (c .before .before .before .before .before .meet-starts .last .1 .1 .1 .1 .1 .0) (c .before .before .before .before .before .before .before .before .before .quota .ensures) (c .if1 .left)
-          (c .before .before .before .before .before .before .before .before .power .ensures .0 ∙ ap (λ (x : ℕ). 2 ^ x) (c .before .before .before .before .before .before .before .before .before .before .before .before .before .before .before .before .pre .0 .layout-of .u-is)) h,
+      standing-start C (c .before .before .before .before .before .before .before .before .before .before .before .before .before .before .before .before .before .before .before .before .args .b) (c .before .before .before .before .before .before .before .before .before .before .before .before .before .before .before .before .before .before .before .before .args .k) (c .before .before .before .before .before .before .before .before .before .before .before .power .result) (c .before .before .before .before .before .before .before .meet-starts .result) (c .before .before .before .before .before .before .before .before .before .before .before .before .quota .result) (c .before .before .before .before .before .before .before .meet-starts .last .1 .1 .1 .1 .0) (c .before .before .before .before .before .before .before .meet-starts .last .1 .1 .1 .1 .1 .0) (c .before .before .before .before .before .before .before .before .before .before .before .before .quota .ensures) (c .if1 .left)
+          (c .before .before .before .before .before .before .before .before .before .before .before .power .ensures .0 ∙ ap (λ (x : ℕ). 2 ^ x) (c .before .before .before .before .before .before .before .before .before .before .before .before .before .before .before .before .before .before .before .before .pre .0 .layout-of .u-is)) h,
     )
 
 quota-requires-2 : tie.Need-quota-requires-2 Inv-loop μ-loop
-quota-requires-2 c κs = (c .before .before .before .before .before .before .before .before .before .before .before .before .before .before .before .before .before .before .pre .0 .held, (c .before .before .before .before .before .before .before .before .before .before .before .before .before .before .before .before .before .before .pre .0 .layout-of, omega (arith, c .loop-test .taken, c .before .before .before .before .before .before .before .before .before .before .before .before .before .before .before .before .before .before .pre .1 .0 .2)))
+quota-requires-2 c κs = (c .before .before .before .before .before .before .before .before .before .before .before .before .before .before .before .before .before .before .before .before .before .before .pre .0 .held, (c .before .before .before .before .before .before .before .before .before .before .before .before .before .before .before .before .before .before .before .before .before .before .pre .0 .layout-of, omega (arith, c .loop-test .taken, c .before .before .before .before .before .before .before .before .before .before .before .before .before .before .before .before .before .before .before .before .before .before .pre .1 .0 .2)))
 
 ask-layer-requires : tie.Need-ask-layer-requires Inv-loop μ-loop
 ask-layer-requires c κs =
-    let C = circuitIn (c .before .before .before .before .before .before .before .before .before .before .before .before .before .before .before .before .before .before .before .before .before .before .before .args .m .now) in
-    let R = c .before .before .before .before .before .before .before .before .before .before .before .before .before .before .before .before .before .before .before .before .before .before .before .pre .0 in
-    let w = c .before .before .before .before .before .before .before .before .before .before .before .before .before .before .before .before .before .before .before .before .before .before .before .pre .1 .1 in
+    let C = partIn (c .before .before .before .before .before .before .before .before .before .before .before .before .before .before .before .before .before .before .before .before .before .before .before .before .before .before .before .args .m .now) (c .before .before .before .before .before .before .before .before .before .before .before .before .before .before .before .before .before .before .before .before .before .before .before .before .before .before .before .args .kept .now) in
+    let R = c .before .before .before .before .before .before .before .before .before .before .before .before .before .before .before .before .before .before .before .before .before .before .before .before .before .before .before .pre .0 in
+    let w = c .before .before .before .before .before .before .before .before .before .before .before .before .before .before .before .before .before .before .before .before .before .before .before .before .before .before .before .pre .1 .1 in
     let L = c .before .before .before .before .before .before .loop in
-    let q = quota-small C 0 (c .before .before .before .before .before .before .before .before .before .before .before .before .before .before .before .before .before .before .before .before .before .before .before .pre .1 .0 .3) in
-    let tk : L .t ≤ c .before .before .before .before .before .before .before .before .before .before .before .before .before .before .before .before .before .before .before .before .before .before .before .args .k = omega (arith, c .before .before .before .before .before .loop-test .taken) in
-    let len : length (L .records) ≡ length (c .before .before .before .before .before .before .before .before .before .before .before .before .before .before .before .before .before .before .before .before .before .before .before .args .records .now) = L .inv .3 ∙ c .before .before .before .before .before .before .before .before .before .before .before .before .meet-starts .kept .1 .1 .1 .1 .0 in
-    let rm : 4 * c .before .before .before .before .quota2 .result ≤ length (L .records) = omega (arith, len, room C (c .before .before .before .before .before .before .before .before .before .before .before .before .before .before .before .before .before .before .before .before .before .before .before .args .k) (length (c .before .before .before .before .before .before .before .before .before .before .before .before .before .before .before .before .before .before .before .before .before .before .before .args .records .now)) (w .0) (w .1) (L .t) (c .before .before .before .before .quota2 .result) tk (c .before .before .before .before .quota2 .ensures)) in
-    let fw = few C (c .before .before .before .before .before .before .before .before .before .before .before .before .before .before .before .before .before .before .before .before .before .before .before .args .k) (length (c .before .before .before .before .before .before .before .before .before .before .before .before .before .before .before .before .before .before .before .before .before .before .before .args .records .now)) (w .0) (w .1) (L .t) (c .before .before .before .before .quota2 .result) tk (c .before .before .before .before .quota2 .ensures) in
+    let q = quota-small C 0 (c .before .before .before .before .before .before .before .before .before .before .before .before .before .before .before .before .before .before .before .before .before .before .before .before .before .before .before .pre .1 .0 .3) in
+    let tk : L .t ≤ c .before .before .before .before .before .before .before .before .before .before .before .before .before .before .before .before .before .before .before .before .before .before .before .before .before .before .before .args .k = omega (arith, c .before .before .before .before .before .loop-test .taken) in
+    let len : length (L .records) ≡ length (c .before .before .before .before .before .before .before .before .before .before .before .before .before .before .before .before .before .before .before .before .before .before .before .before .before .before .before .args .records .now) = L .inv .3 ∙ c .before .before .before .before .before .before .before .before .before .before .before .before .before .before .meet-starts .kept .1 .1 .1 .1 .0 in
+    let rm : 4 * c .before .before .before .before .quota2 .result ≤ length (L .records) = omega (arith, len, room C (c .before .before .before .before .before .before .before .before .before .before .before .before .before .before .before .before .before .before .before .before .before .before .before .before .before .before .before .args .k) (length (c .before .before .before .before .before .before .before .before .before .before .before .before .before .before .before .before .before .before .before .before .before .before .before .before .before .before .before .args .records .now)) (w .0) (w .1) (L .t) (c .before .before .before .before .quota2 .result) tk (c .before .before .before .before .quota2 .ensures)) in
+    let fw = few C (c .before .before .before .before .before .before .before .before .before .before .before .before .before .before .before .before .before .before .before .before .before .before .before .before .before .before .before .args .k) (length (c .before .before .before .before .before .before .before .before .before .before .before .before .before .before .before .before .before .before .before .before .before .before .before .before .before .before .before .args .records .now)) (w .0) (w .1) (L .t) (c .before .before .before .before .quota2 .result) tk (c .before .before .before .before .quota2 .ensures) in
     let hi : L .hi ≤ c .before .before .before .before .quota2 .result = omega (arith, L .inv .2, c .before .before .before .before .quota2 .ensures) in (
       ready-with R (omega (arith, L .inv .5, R .room)),
       (
-        (c .before .before .before .before .before .before .before .before .before .before .before .before .before .before .before .before .before .before .before .before .before .before .before .pre .1 .0 .0, omega (arith, L .inv .6, c .before .before .before .before .before .before .before .before .before .before .before .before .before .before .before .before .before .before .before .before .before .before .before .pre .1 .0 .1), omega (arith, q .1, latches-are (R .held) (R .layout-of)), omega (arith, q .0, inputs-are (R .held) (R .layout-of))),
-        (L .inv .1, hi, fw, holds-fits (standing-holds C (c .before .before .before .before .before .before .before .before .before .before .before .before .before .before .before .before .before .before .before .before .before .before .before .args .b) (c .before .before .before .before .before .before .before .before .before .before .before .before .before .before .before .before .before .before .before .before .before .before .before .args .k) (L .t) (L .lo) (L .hi) (c .before .before .before .before .quota2 .result) (L .records) (L .heads) (L .inv .7) tk (c .before .before .before .before .quota2 .ensures) rm (omega (arith, fw)) hi)),
+        (c .before .before .before .before .before .before .before .before .before .before .before .before .before .before .before .before .before .before .before .before .before .before .before .before .before .before .before .pre .1 .0 .0, omega (arith, L .inv .6, c .before .before .before .before .before .before .before .before .before .before .before .before .before .before .meet-starts .kept .1 .1 .1 .1 .1 .1 .1 .0, c .before .before .before .before .before .before .before .before .before .before .before .before .before .before .before .before .before .before .before .before .before .before .before .before .before .before .before .pre .1 .0 .1), q .1, omega (arith, q .0, inputs-are (R .held) (R .layout-of)), c .before .before .before .before .before .before .before .before .before .before .before .before .before .before .before .before .before .before .before .before .before .before .before .before .before .before .before .pre .1 .0 .4),
+        (L .inv .1, hi, fw, holds-fits (standing-holds C (c .before .before .before .before .before .before .before .before .before .before .before .before .before .before .before .before .before .before .before .before .before .before .before .before .before .before .before .args .b) (c .before .before .before .before .before .before .before .before .before .before .before .before .before .before .before .before .before .before .before .before .before .before .before .before .before .before .before .args .k) (L .t) (L .lo) (L .hi) (c .before .before .before .before .quota2 .result) (L .records) (L .heads) (L .inv .7) tk (c .before .before .before .before .quota2 .ensures) rm (omega (arith, fw)) hi)),
       ),
     )
 
 enum-known-e : tie.Need-enum-known-e Inv-loop μ-loop
 enum-known-e c = search needs
 
-same-length-3 : tie.Need-same-length-3 Inv-loop μ-loop
-same-length-3 c = c .before .before .before .before .before .before .before .before .before .before .before .ask-layer .kept .1 .1 .1 .1 .1 .1 .1 .0 ∙ c .before .before .before .before .before .before .before .before .before .before .before .before .before .before .before .before .before .before .loop .inv .3 ∙ c .before .before .before .before .before .before .before .before .before .before .before .before .before .before .before .before .before .before .before .before .before .before .before .before .meet-starts .kept .1 .1 .1 .1 .0
-
 same-length-4 : tie.Need-same-length-4 Inv-loop μ-loop
-same-length-4 c = c .before .before .before .before .before .before .before .before .before .before .before .ask-layer .kept .1 .1 .1 .1 .1 .1 .1 .1 .0 ∙ c .before .before .before .before .before .before .before .before .before .before .before .before .before .before .before .before .before .before .loop .inv .4 ∙ c .before .before .before .before .before .before .before .before .before .before .before .before .before .before .before .before .before .before .before .before .before .before .before .before .meet-starts .kept .1 .1 .1 .1 .1 .0
+same-length-4 c = c .before .before .before .before .before .before .before .before .before .before .before .ask-layer .kept .1 .1 .1 .1 .1 .1 .1 .0 ∙ c .before .before .before .before .before .before .before .before .before .before .before .before .before .before .before .before .before .before .loop .inv .3 ∙ c .before .before .before .before .before .before .before .before .before .before .before .before .before .before .before .before .before .before .before .before .before .before .before .before .before .before .meet-starts .kept .1 .1 .1 .1 .0
 
 same-length-5 : tie.Need-same-length-5 Inv-loop μ-loop
-same-length-5 c = c .before .before .before .before .before .before .before .before .before .before .before .ask-layer .kept .1 .1 .1 .1 .1 .1 .1 .1 .1 .0 ∙ c .before .before .before .before .before .before .before .before .before .before .before .before .before .before .before .before .before .before .loop .inv .5
+same-length-5 c = c .before .before .before .before .before .before .before .before .before .before .before .ask-layer .kept .1 .1 .1 .1 .1 .1 .1 .1 .0 ∙ c .before .before .before .before .before .before .before .before .before .before .before .before .before .before .before .before .before .before .loop .inv .4 ∙ c .before .before .before .before .before .before .before .before .before .before .before .before .before .before .before .before .before .before .before .before .before .before .before .before .before .before .meet-starts .kept .1 .1 .1 .1 .1 .0
 
 same-length-6 : tie.Need-same-length-6 Inv-loop μ-loop
-same-length-6 c = c .before .before .before .before .before .before .before .before .before .before .before .ask-layer .kept .1 .1 .1 .1 .1 .1 .1 .1 .1 .1 .0 ∙ c .before .before .before .before .before .before .before .before .before .before .before .before .before .before .before .before .before .before .loop .inv .6
+same-length-6 c = c .before .before .before .before .before .before .before .before .before .before .before .ask-layer .kept .1 .1 .1 .1 .1 .1 .1 .1 .1 .0 ∙ c .before .before .before .before .before .before .before .before .before .before .before .before .before .before .before .before .before .before .loop .inv .5
+
+same-length-7 : tie.Need-same-length-7 Inv-loop μ-loop
+same-length-7 c = c .before .before .before .before .before .before .before .before .before .before .before .ask-layer .kept .1 .1 .1 .1 .1 .1 .1 .1 .1 .1 .0 ∙ c .before .before .before .before .before .before .before .before .before .before .before .before .before .before .before .before .before .before .loop .inv .6 ∙ c .before .before .before .before .before .before .before .before .before .before .before .before .before .before .before .before .before .before .before .before .before .before .before .before .before .before .meet-starts .kept .1 .1 .1 .1 .1 .1 .1 .0
 
 returns-2 : tie.Need-returns-2 Inv-loop μ-loop
 returns-2 c =
-    let C = circuitIn (c .before .before .before .before .before .before .before .before .before .before .before .before .before .before .before .before .before .before .before .before .before .before .before .before .before .before .before .before .before .before .before .before .before .before .before .args .m .now) in
-    let w = c .before .before .before .before .before .before .before .before .before .before .before .before .before .before .before .before .before .before .before .before .before .before .before .before .before .before .before .before .before .before .before .before .before .before .before .pre .1 .1 in
+    let C = partIn (c .before .before .before .before .before .before .before .before .before .before .before .before .before .before .before .before .before .before .before .before .before .before .before .before .before .before .before .before .before .before .before .before .before .before .before .before .before .before .before .args .m .now) (c .before .before .before .before .before .before .before .before .before .before .before .before .before .before .before .before .before .before .before .before .before .before .before .before .before .before .before .before .before .before .before .before .before .before .before .before .before .before .before .args .kept .now) in
+    let w = c .before .before .before .before .before .before .before .before .before .before .before .before .before .before .before .before .before .before .before .before .before .before .before .before .before .before .before .before .before .before .before .before .before .before .before .before .before .before .before .pre .1 .1 in
     let L = c .before .before .before .before .before .before .before .before .before .before .before .before .before .before .before .before .before .before .loop in
-    let tk : L .t ≤ c .before .before .before .before .before .before .before .before .before .before .before .before .before .before .before .before .before .before .before .before .before .before .before .before .before .before .before .before .before .before .before .before .before .before .before .args .k = omega (arith, c .before .before .before .before .before .before .before .before .before .before .before .before .before .before .before .before .before .loop-test .taken) in
-    let len : length (L .records) ≡ length (c .before .before .before .before .before .before .before .before .before .before .before .before .before .before .before .before .before .before .before .before .before .before .before .before .before .before .before .before .before .before .before .before .before .before .before .args .records .now) = L .inv .3 ∙ c .before .before .before .before .before .before .before .before .before .before .before .before .before .before .before .before .before .before .before .before .before .before .before .before .meet-starts .kept .1 .1 .1 .1 .0 in
-    let rm : 4 * c .before .before .before .before .before .before .before .before .before .before .before .before .before .before .before .before .quota2 .result ≤ length (L .records) = omega (arith, len, room C (c .before .before .before .before .before .before .before .before .before .before .before .before .before .before .before .before .before .before .before .before .before .before .before .before .before .before .before .before .before .before .before .before .before .before .before .args .k) (length (c .before .before .before .before .before .before .before .before .before .before .before .before .before .before .before .before .before .before .before .before .before .before .before .before .before .before .before .before .before .before .before .before .before .before .before .args .records .now)) (w .0) (w .1) (L .t) (c .before .before .before .before .before .before .before .before .before .before .before .before .before .before .before .before .quota2 .result) tk (c .before .before .before .before .before .before .before .before .before .before .before .before .before .before .before .before .quota2 .ensures)) in
-    let fw = few C (c .before .before .before .before .before .before .before .before .before .before .before .before .before .before .before .before .before .before .before .before .before .before .before .before .before .before .before .before .before .before .before .before .before .before .before .args .k) (length (c .before .before .before .before .before .before .before .before .before .before .before .before .before .before .before .before .before .before .before .before .before .before .before .before .before .before .before .before .before .before .before .before .before .before .before .args .records .now)) (w .0) (w .1) (L .t) (c .before .before .before .before .before .before .before .before .before .before .before .before .before .before .before .before .quota2 .result) tk (c .before .before .before .before .before .before .before .before .before .before .before .before .before .before .before .before .quota2 .ensures) in
+    let tk : L .t ≤ c .before .before .before .before .before .before .before .before .before .before .before .before .before .before .before .before .before .before .before .before .before .before .before .before .before .before .before .before .before .before .before .before .before .before .before .before .before .before .before .args .k = omega (arith, c .before .before .before .before .before .before .before .before .before .before .before .before .before .before .before .before .before .loop-test .taken) in
+    let len : length (L .records) ≡ length (c .before .before .before .before .before .before .before .before .before .before .before .before .before .before .before .before .before .before .before .before .before .before .before .before .before .before .before .before .before .before .before .before .before .before .before .before .before .before .before .args .records .now) = L .inv .3 ∙ c .before .before .before .before .before .before .before .before .before .before .before .before .before .before .before .before .before .before .before .before .before .before .before .before .before .before .meet-starts .kept .1 .1 .1 .1 .0 in
+    let rm : 4 * c .before .before .before .before .before .before .before .before .before .before .before .before .before .before .before .before .quota2 .result ≤ length (L .records) = omega (arith, len, room C (c .before .before .before .before .before .before .before .before .before .before .before .before .before .before .before .before .before .before .before .before .before .before .before .before .before .before .before .before .before .before .before .before .before .before .before .before .before .before .before .args .k) (length (c .before .before .before .before .before .before .before .before .before .before .before .before .before .before .before .before .before .before .before .before .before .before .before .before .before .before .before .before .before .before .before .before .before .before .before .before .before .before .before .args .records .now)) (w .0) (w .1) (L .t) (c .before .before .before .before .before .before .before .before .before .before .before .before .before .before .before .before .quota2 .result) tk (c .before .before .before .before .before .before .before .before .before .before .before .before .before .before .before .before .quota2 .ensures)) in
+    let fw = few C (c .before .before .before .before .before .before .before .before .before .before .before .before .before .before .before .before .before .before .before .before .before .before .before .before .before .before .before .before .before .before .before .before .before .before .before .before .before .before .before .args .k) (length (c .before .before .before .before .before .before .before .before .before .before .before .before .before .before .before .before .before .before .before .before .before .before .before .before .before .before .before .before .before .before .before .before .before .before .before .before .before .before .before .args .records .now)) (w .0) (w .1) (L .t) (c .before .before .before .before .before .before .before .before .before .before .before .before .before .before .before .before .quota2 .result) tk (c .before .before .before .before .before .before .before .before .before .before .before .before .before .before .before .before .quota2 .ensures) in
     let hi : L .hi ≤ c .before .before .before .before .before .before .before .before .before .before .before .before .before .before .before .before .quota2 .result = omega (arith, L .inv .2, c .before .before .before .before .before .before .before .before .before .before .before .before .before .before .before .before .quota2 .ensures) in
-    case-hit C (c .before .before .before .before .before .before .before .before .before .before .before .before .before .before .before .before .before .before .before .before .before .before .before .before .before .before .before .before .before .before .before .before .before .before .before .args .b) (c .before .before .before .before .before .before .before .before .before .before .before .before .before .before .before .before .before .before .before .before .before .before .before .before .before .before .before .before .before .before .before .before .before .before .before .args .k) (L .t) (L .lo) (L .hi) (c .before .before .before .before .before .before .before .before .before .before .before .before .before .before .before .before .quota2 .result) (L .records) (L .heads) (L .inv .7) tk (c .before .before .before .before .before .before .before .before .before .before .before .before .before .before .before .before .quota2 .ensures) rm (omega (arith, fw)) hi
-    (c .before .before .before .before .before .before .before .before .before .before .before .ask-layer .last .1 .1 .1 .1 .1 .1 .1 .0) (c .before .before .before .before .before .before .before .before .before .before .before .ask-layer .last .1 .1 .1 .1 .1 .1 .1 .1 .0) (c .before .before .before .before .before .before .before .before .before .before .before .ask-layer .kept .1 .1 .1 .1 .1 .1 .1 .0) (c .before .before .before .before .before .before .before .before .before .before .before .ask-layer .result) (c .before .before .before .before .before .before .before .before .before .before .before .ask-layer .ensures) (quota-small C 0 (c .before .before .before .before .before .before .before .before .before .before .before .before .before .before .before .before .before .before .before .before .before .before .before .before .before .before .before .before .before .before .before .before .before .before .before .pre .1 .0 .3) .0) (c .before .e .given .1)
+    case-hit C (c .before .before .before .before .before .before .before .before .before .before .before .before .before .before .before .before .before .before .before .before .before .before .before .before .before .before .before .before .before .before .before .before .before .before .before .before .before .before .before .args .b) (c .before .before .before .before .before .before .before .before .before .before .before .before .before .before .before .before .before .before .before .before .before .before .before .before .before .before .before .before .before .before .before .before .before .before .before .before .before .before .before .args .k) (L .t) (L .lo) (L .hi) (c .before .before .before .before .before .before .before .before .before .before .before .before .before .before .before .before .quota2 .result) (L .records) (L .heads) (L .inv .7) tk (c .before .before .before .before .before .before .before .before .before .before .before .before .before .before .before .before .quota2 .ensures) rm (omega (arith, fw)) hi
+    (c .before .before .before .before .before .before .before .before .before .before .before .ask-layer .last .1 .1 .1 .1 .1 .1 .1 .0) (c .before .before .before .before .before .before .before .before .before .before .before .ask-layer .last .1 .1 .1 .1 .1 .1 .1 .1 .0) (c .before .before .before .before .before .before .before .before .before .before .before .ask-layer .kept .1 .1 .1 .1 .1 .1 .1 .0) (c .before .before .before .before .before .before .before .before .before .before .before .ask-layer .result) (c .before .before .before .before .before .before .before .before .before .before .before .ask-layer .ensures) (quota-small C 0 (c .before .before .before .before .before .before .before .before .before .before .before .before .before .before .before .before .before .before .before .before .before .before .before .before .before .before .before .before .before .before .before .before .before .before .before .before .before .before .before .pre .1 .0 .3) .0) (c .before .e .given .1)
 
 enum-known-met : tie.Need-enum-known-met Inv-loop μ-loop
 enum-known-met c = search needs
 
-add-t36 : tie.Need-add-t36 Inv-loop μ-loop
-add-t36 c = omega (arith, c .before .before .before .before .before .before .before .before .before .before .before .before .before .before .before .before .before .before .loop-test .taken, c .before .before .before .before .before .before .before .before .before .before .before .before .before .before .before .before .before .before .before .before .before .before .before .before .before .before .before .before .before .before .before .before .before .before .before .before .pre .1 .0 .2)
-
-same-length-7 : tie.Need-same-length-7 Inv-loop μ-loop
-same-length-7 c = c .before .before .before .before .before .before .before .before .before .before .before .before .ask-layer .kept .1 .1 .1 .1 .1 .1 .1 .0 ∙ c .before .before .before .before .before .before .before .before .before .before .before .before .before .before .before .before .before .before .before .loop .inv .3 ∙ c .before .before .before .before .before .before .before .before .before .before .before .before .before .before .before .before .before .before .before .before .before .before .before .before .before .meet-starts .kept .1 .1 .1 .1 .0
+add-t39 : tie.Need-add-t39 Inv-loop μ-loop
+add-t39 c = omega (arith, c .before .before .before .before .before .before .before .before .before .before .before .before .before .before .before .before .before .before .loop-test .taken, c .before .before .before .before .before .before .before .before .before .before .before .before .before .before .before .before .before .before .before .before .before .before .before .before .before .before .before .before .before .before .before .before .before .before .before .before .before .before .before .before .pre .1 .0 .2)
 
 same-length-8 : tie.Need-same-length-8 Inv-loop μ-loop
-same-length-8 c = c .before .before .before .before .before .before .before .before .before .before .before .before .ask-layer .kept .1 .1 .1 .1 .1 .1 .1 .1 .0 ∙ c .before .before .before .before .before .before .before .before .before .before .before .before .before .before .before .before .before .before .before .loop .inv .4 ∙ c .before .before .before .before .before .before .before .before .before .before .before .before .before .before .before .before .before .before .before .before .before .before .before .before .before .meet-starts .kept .1 .1 .1 .1 .1 .0
+same-length-8 c = c .before .before .before .before .before .before .before .before .before .before .before .before .ask-layer .kept .1 .1 .1 .1 .1 .1 .1 .0 ∙ c .before .before .before .before .before .before .before .before .before .before .before .before .before .before .before .before .before .before .before .loop .inv .3 ∙ c .before .before .before .before .before .before .before .before .before .before .before .before .before .before .before .before .before .before .before .before .before .before .before .before .before .before .before .meet-starts .kept .1 .1 .1 .1 .0
 
 same-length-9 : tie.Need-same-length-9 Inv-loop μ-loop
-same-length-9 c = c .before .before .before .before .before .before .before .before .before .before .before .before .ask-layer .kept .1 .1 .1 .1 .1 .1 .1 .1 .1 .0 ∙ c .before .before .before .before .before .before .before .before .before .before .before .before .before .before .before .before .before .before .before .loop .inv .5
+same-length-9 c = c .before .before .before .before .before .before .before .before .before .before .before .before .ask-layer .kept .1 .1 .1 .1 .1 .1 .1 .1 .0 ∙ c .before .before .before .before .before .before .before .before .before .before .before .before .before .before .before .before .before .before .before .loop .inv .4 ∙ c .before .before .before .before .before .before .before .before .before .before .before .before .before .before .before .before .before .before .before .before .before .before .before .before .before .before .before .meet-starts .kept .1 .1 .1 .1 .1 .0
 
 same-length-10 : tie.Need-same-length-10 Inv-loop μ-loop
-same-length-10 c = c .before .before .before .before .before .before .before .before .before .before .before .before .ask-layer .kept .1 .1 .1 .1 .1 .1 .1 .1 .1 .1 .0 ∙ c .before .before .before .before .before .before .before .before .before .before .before .before .before .before .before .before .before .before .before .loop .inv .6
+same-length-10 c = c .before .before .before .before .before .before .before .before .before .before .before .before .ask-layer .kept .1 .1 .1 .1 .1 .1 .1 .1 .1 .0 ∙ c .before .before .before .before .before .before .before .before .before .before .before .before .before .before .before .before .before .before .before .loop .inv .5
+
+same-length-11 : tie.Need-same-length-11 Inv-loop μ-loop
+same-length-11 c = c .before .before .before .before .before .before .before .before .before .before .before .before .ask-layer .kept .1 .1 .1 .1 .1 .1 .1 .1 .1 .1 .0 ∙ c .before .before .before .before .before .before .before .before .before .before .before .before .before .before .before .before .before .before .before .loop .inv .6 ∙ c .before .before .before .before .before .before .before .before .before .before .before .before .before .before .before .before .before .before .before .before .before .before .before .before .before .before .before .meet-starts .kept .1 .1 .1 .1 .1 .1 .1 .0
 
 returns-3 : tie.Need-returns-3 Inv-loop μ-loop
 returns-3 c =
-    let C = circuitIn (c .before .before .before .before .before .before .before .before .before .before .before .before .before .before .before .before .before .before .before .before .before .before .before .before .before .before .before .before .before .before .before .before .before .before .before .before .args .m .now) in
-    let w = c .before .before .before .before .before .before .before .before .before .before .before .before .before .before .before .before .before .before .before .before .before .before .before .before .before .before .before .before .before .before .before .before .before .before .before .before .pre .1 .1 in
+    let C = partIn (c .before .before .before .before .before .before .before .before .before .before .before .before .before .before .before .before .before .before .before .before .before .before .before .before .before .before .before .before .before .before .before .before .before .before .before .before .before .before .before .before .args .m .now) (c .before .before .before .before .before .before .before .before .before .before .before .before .before .before .before .before .before .before .before .before .before .before .before .before .before .before .before .before .before .before .before .before .before .before .before .before .before .before .before .before .args .kept .now) in
+    let w = c .before .before .before .before .before .before .before .before .before .before .before .before .before .before .before .before .before .before .before .before .before .before .before .before .before .before .before .before .before .before .before .before .before .before .before .before .before .before .before .before .pre .1 .1 in
     let L = c .before .before .before .before .before .before .before .before .before .before .before .before .before .before .before .before .before .before .before .loop in
-    let tk : L .t ≤ c .before .before .before .before .before .before .before .before .before .before .before .before .before .before .before .before .before .before .before .before .before .before .before .before .before .before .before .before .before .before .before .before .before .before .before .before .args .k = omega (arith, c .before .before .before .before .before .before .before .before .before .before .before .before .before .before .before .before .before .before .loop-test .taken) in
-    let len : length (L .records) ≡ length (c .before .before .before .before .before .before .before .before .before .before .before .before .before .before .before .before .before .before .before .before .before .before .before .before .before .before .before .before .before .before .before .before .before .before .before .before .args .records .now) = L .inv .3 ∙ c .before .before .before .before .before .before .before .before .before .before .before .before .before .before .before .before .before .before .before .before .before .before .before .before .before .meet-starts .kept .1 .1 .1 .1 .0 in
-    let rm : 4 * c .before .before .before .before .before .before .before .before .before .before .before .before .before .before .before .before .before .quota2 .result ≤ length (L .records) = omega (arith, len, room C (c .before .before .before .before .before .before .before .before .before .before .before .before .before .before .before .before .before .before .before .before .before .before .before .before .before .before .before .before .before .before .before .before .before .before .before .before .args .k) (length (c .before .before .before .before .before .before .before .before .before .before .before .before .before .before .before .before .before .before .before .before .before .before .before .before .before .before .before .before .before .before .before .before .before .before .before .before .args .records .now)) (w .0) (w .1) (L .t) (c .before .before .before .before .before .before .before .before .before .before .before .before .before .before .before .before .before .quota2 .result) tk (c .before .before .before .before .before .before .before .before .before .before .before .before .before .before .before .before .before .quota2 .ensures)) in
-    let fw = few C (c .before .before .before .before .before .before .before .before .before .before .before .before .before .before .before .before .before .before .before .before .before .before .before .before .before .before .before .before .before .before .before .before .before .before .before .before .args .k) (length (c .before .before .before .before .before .before .before .before .before .before .before .before .before .before .before .before .before .before .before .before .before .before .before .before .before .before .before .before .before .before .before .before .before .before .before .before .args .records .now)) (w .0) (w .1) (L .t) (c .before .before .before .before .before .before .before .before .before .before .before .before .before .before .before .before .before .quota2 .result) tk (c .before .before .before .before .before .before .before .before .before .before .before .before .before .before .before .before .before .quota2 .ensures) in
+    let tk : L .t ≤ c .before .before .before .before .before .before .before .before .before .before .before .before .before .before .before .before .before .before .before .before .before .before .before .before .before .before .before .before .before .before .before .before .before .before .before .before .before .before .before .before .args .k = omega (arith, c .before .before .before .before .before .before .before .before .before .before .before .before .before .before .before .before .before .before .loop-test .taken) in
+    let len : length (L .records) ≡ length (c .before .before .before .before .before .before .before .before .before .before .before .before .before .before .before .before .before .before .before .before .before .before .before .before .before .before .before .before .before .before .before .before .before .before .before .before .before .before .before .before .args .records .now) = L .inv .3 ∙ c .before .before .before .before .before .before .before .before .before .before .before .before .before .before .before .before .before .before .before .before .before .before .before .before .before .before .before .meet-starts .kept .1 .1 .1 .1 .0 in
+    let rm : 4 * c .before .before .before .before .before .before .before .before .before .before .before .before .before .before .before .before .before .quota2 .result ≤ length (L .records) = omega (arith, len, room C (c .before .before .before .before .before .before .before .before .before .before .before .before .before .before .before .before .before .before .before .before .before .before .before .before .before .before .before .before .before .before .before .before .before .before .before .before .before .before .before .before .args .k) (length (c .before .before .before .before .before .before .before .before .before .before .before .before .before .before .before .before .before .before .before .before .before .before .before .before .before .before .before .before .before .before .before .before .before .before .before .before .before .before .before .before .args .records .now)) (w .0) (w .1) (L .t) (c .before .before .before .before .before .before .before .before .before .before .before .before .before .before .before .before .before .quota2 .result) tk (c .before .before .before .before .before .before .before .before .before .before .before .before .before .before .before .before .before .quota2 .ensures)) in
+    let fw = few C (c .before .before .before .before .before .before .before .before .before .before .before .before .before .before .before .before .before .before .before .before .before .before .before .before .before .before .before .before .before .before .before .before .before .before .before .before .before .before .before .before .args .k) (length (c .before .before .before .before .before .before .before .before .before .before .before .before .before .before .before .before .before .before .before .before .before .before .before .before .before .before .before .before .before .before .before .before .before .before .before .before .before .before .before .before .args .records .now)) (w .0) (w .1) (L .t) (c .before .before .before .before .before .before .before .before .before .before .before .before .before .before .before .before .before .quota2 .result) tk (c .before .before .before .before .before .before .before .before .before .before .before .before .before .before .before .before .before .quota2 .ensures) in
     let hi : L .hi ≤ c .before .before .before .before .before .before .before .before .before .before .before .before .before .before .before .before .before .quota2 .result = omega (arith, L .inv .2, c .before .before .before .before .before .before .before .before .before .before .before .before .before .before .before .before .before .quota2 .ensures) in
-    case-lost C (c .before .before .before .before .before .before .before .before .before .before .before .before .before .before .before .before .before .before .before .before .before .before .before .before .before .before .before .before .before .before .before .before .before .before .before .before .args .b) (c .before .before .before .before .before .before .before .before .before .before .before .before .before .before .before .before .before .before .before .before .before .before .before .before .before .before .before .before .before .before .before .before .before .before .before .before .args .k) (L .t) (L .lo) (L .hi) (c .before .before .before .before .before .before .before .before .before .before .before .before .before .before .before .before .before .quota2 .result) (L .records) (L .heads) (L .inv .7) tk (c .before .before .before .before .before .before .before .before .before .before .before .before .before .before .before .before .before .quota2 .ensures) rm (omega (arith, fw)) hi
+    case-lost C (c .before .before .before .before .before .before .before .before .before .before .before .before .before .before .before .before .before .before .before .before .before .before .before .before .before .before .before .before .before .before .before .before .before .before .before .before .before .before .before .before .args .b) (c .before .before .before .before .before .before .before .before .before .before .before .before .before .before .before .before .before .before .before .before .before .before .before .before .before .before .before .before .before .before .before .before .before .before .before .before .before .before .before .before .args .k) (L .t) (L .lo) (L .hi) (c .before .before .before .before .before .before .before .before .before .before .before .before .before .before .before .before .before .quota2 .result) (L .records) (L .heads) (L .inv .7) tk (c .before .before .before .before .before .before .before .before .before .before .before .before .before .before .before .before .before .quota2 .ensures) rm (omega (arith, fw)) hi
     (c .before .before .before .before .before .before .before .before .before .before .before .before .ask-layer .last .1 .1 .1 .1 .1 .1 .1 .0) (c .before .before .before .before .before .before .before .before .before .before .before .before .ask-layer .last .1 .1 .1 .1 .1 .1 .1 .1 .0) (c .before .before .before .before .before .before .before .before .before .before .before .before .ask-layer .kept .1 .1 .1 .1 .1 .1 .1 .0) (c .before .before .before .before .before .before .before .before .before .before .before .before .ask-layer .result) (c .before .before .before .before .before .before .before .before .before .before .before .before .ask-layer .ensures) (c .before .before .met .given .1) (c .if2 .taken)
 
-same-length-11 : tie.Need-same-length-11 Inv-loop μ-loop
-same-length-11 c = c .before .before .before .before .before .before .before .before .before .before .before .before .before .ask-layer .kept .1 .1 .1 .1 .1 .1 .1 .0 ∙ c .before .before .before .before .before .before .before .before .before .before .before .before .before .before .before .before .before .before .before .before .loop .inv .3 ∙ c .before .before .before .before .before .before .before .before .before .before .before .before .before .before .before .before .before .before .before .before .before .before .before .before .before .before .meet-starts .kept .1 .1 .1 .1 .0
-
 same-length-12 : tie.Need-same-length-12 Inv-loop μ-loop
-same-length-12 c = c .before .before .before .before .before .before .before .before .before .before .before .before .before .ask-layer .kept .1 .1 .1 .1 .1 .1 .1 .1 .0 ∙ c .before .before .before .before .before .before .before .before .before .before .before .before .before .before .before .before .before .before .before .before .loop .inv .4 ∙ c .before .before .before .before .before .before .before .before .before .before .before .before .before .before .before .before .before .before .before .before .before .before .before .before .before .before .meet-starts .kept .1 .1 .1 .1 .1 .0
+same-length-12 c = c .before .before .before .before .before .before .before .before .before .before .before .before .before .ask-layer .kept .1 .1 .1 .1 .1 .1 .1 .0 ∙ c .before .before .before .before .before .before .before .before .before .before .before .before .before .before .before .before .before .before .before .before .loop .inv .3 ∙ c .before .before .before .before .before .before .before .before .before .before .before .before .before .before .before .before .before .before .before .before .before .before .before .before .before .before .before .before .meet-starts .kept .1 .1 .1 .1 .0
 
 same-length-13 : tie.Need-same-length-13 Inv-loop μ-loop
-same-length-13 c = c .before .before .before .before .before .before .before .before .before .before .before .before .before .ask-layer .kept .1 .1 .1 .1 .1 .1 .1 .1 .1 .0 ∙ c .before .before .before .before .before .before .before .before .before .before .before .before .before .before .before .before .before .before .before .before .loop .inv .5
+same-length-13 c = c .before .before .before .before .before .before .before .before .before .before .before .before .before .ask-layer .kept .1 .1 .1 .1 .1 .1 .1 .1 .0 ∙ c .before .before .before .before .before .before .before .before .before .before .before .before .before .before .before .before .before .before .before .before .loop .inv .4 ∙ c .before .before .before .before .before .before .before .before .before .before .before .before .before .before .before .before .before .before .before .before .before .before .before .before .before .before .before .before .meet-starts .kept .1 .1 .1 .1 .1 .0
 
 same-length-14 : tie.Need-same-length-14 Inv-loop μ-loop
-same-length-14 c = c .before .before .before .before .before .before .before .before .before .before .before .before .before .ask-layer .kept .1 .1 .1 .1 .1 .1 .1 .1 .1 .1 .0 ∙ c .before .before .before .before .before .before .before .before .before .before .before .before .before .before .before .before .before .before .before .before .loop .inv .6
+same-length-14 c = c .before .before .before .before .before .before .before .before .before .before .before .before .before .ask-layer .kept .1 .1 .1 .1 .1 .1 .1 .1 .1 .0 ∙ c .before .before .before .before .before .before .before .before .before .before .before .before .before .before .before .before .before .before .before .before .loop .inv .5
+
+same-length-15 : tie.Need-same-length-15 Inv-loop μ-loop
+same-length-15 c = c .before .before .before .before .before .before .before .before .before .before .before .before .before .ask-layer .kept .1 .1 .1 .1 .1 .1 .1 .1 .1 .1 .0 ∙ c .before .before .before .before .before .before .before .before .before .before .before .before .before .before .before .before .before .before .before .before .loop .inv .6 ∙ c .before .before .before .before .before .before .before .before .before .before .before .before .before .before .before .before .before .before .before .before .before .before .before .before .before .before .before .before .meet-starts .kept .1 .1 .1 .1 .1 .1 .1 .0
 
 returns-4 : tie.Need-returns-4 Inv-loop μ-loop
 returns-4 c =
-    let C = circuitIn (c .before .before .before .before .before .before .before .before .before .before .before .before .before .before .before .before .before .before .before .before .before .before .before .before .before .before .before .before .before .before .before .before .before .before .before .before .before .args .m .now) in
-    let w = c .before .before .before .before .before .before .before .before .before .before .before .before .before .before .before .before .before .before .before .before .before .before .before .before .before .before .before .before .before .before .before .before .before .before .before .before .before .pre .1 .1 in
+    let C = partIn (c .before .before .before .before .before .before .before .before .before .before .before .before .before .before .before .before .before .before .before .before .before .before .before .before .before .before .before .before .before .before .before .before .before .before .before .before .before .before .before .before .before .args .m .now) (c .before .before .before .before .before .before .before .before .before .before .before .before .before .before .before .before .before .before .before .before .before .before .before .before .before .before .before .before .before .before .before .before .before .before .before .before .before .before .before .before .before .args .kept .now) in
+    let w = c .before .before .before .before .before .before .before .before .before .before .before .before .before .before .before .before .before .before .before .before .before .before .before .before .before .before .before .before .before .before .before .before .before .before .before .before .before .before .before .before .before .pre .1 .1 in
     let L = c .before .before .before .before .before .before .before .before .before .before .before .before .before .before .before .before .before .before .before .before .loop in
-    let tk : L .t ≤ c .before .before .before .before .before .before .before .before .before .before .before .before .before .before .before .before .before .before .before .before .before .before .before .before .before .before .before .before .before .before .before .before .before .before .before .before .before .args .k = omega (arith, c .before .before .before .before .before .before .before .before .before .before .before .before .before .before .before .before .before .before .before .loop-test .taken) in
-    let len : length (L .records) ≡ length (c .before .before .before .before .before .before .before .before .before .before .before .before .before .before .before .before .before .before .before .before .before .before .before .before .before .before .before .before .before .before .before .before .before .before .before .before .before .args .records .now) = L .inv .3 ∙ c .before .before .before .before .before .before .before .before .before .before .before .before .before .before .before .before .before .before .before .before .before .before .before .before .before .before .meet-starts .kept .1 .1 .1 .1 .0 in
-    let rm : 4 * c .before .before .before .before .before .before .before .before .before .before .before .before .before .before .before .before .before .before .quota2 .result ≤ length (L .records) = omega (arith, len, room C (c .before .before .before .before .before .before .before .before .before .before .before .before .before .before .before .before .before .before .before .before .before .before .before .before .before .before .before .before .before .before .before .before .before .before .before .before .before .args .k) (length (c .before .before .before .before .before .before .before .before .before .before .before .before .before .before .before .before .before .before .before .before .before .before .before .before .before .before .before .before .before .before .before .before .before .before .before .before .before .args .records .now)) (w .0) (w .1) (L .t) (c .before .before .before .before .before .before .before .before .before .before .before .before .before .before .before .before .before .before .quota2 .result) tk (c .before .before .before .before .before .before .before .before .before .before .before .before .before .before .before .before .before .before .quota2 .ensures)) in
-    let fw = few C (c .before .before .before .before .before .before .before .before .before .before .before .before .before .before .before .before .before .before .before .before .before .before .before .before .before .before .before .before .before .before .before .before .before .before .before .before .before .args .k) (length (c .before .before .before .before .before .before .before .before .before .before .before .before .before .before .before .before .before .before .before .before .before .before .before .before .before .before .before .before .before .before .before .before .before .before .before .before .before .args .records .now)) (w .0) (w .1) (L .t) (c .before .before .before .before .before .before .before .before .before .before .before .before .before .before .before .before .before .before .quota2 .result) tk (c .before .before .before .before .before .before .before .before .before .before .before .before .before .before .before .before .before .before .quota2 .ensures) in
+    let tk : L .t ≤ c .before .before .before .before .before .before .before .before .before .before .before .before .before .before .before .before .before .before .before .before .before .before .before .before .before .before .before .before .before .before .before .before .before .before .before .before .before .before .before .before .before .args .k = omega (arith, c .before .before .before .before .before .before .before .before .before .before .before .before .before .before .before .before .before .before .before .loop-test .taken) in
+    let len : length (L .records) ≡ length (c .before .before .before .before .before .before .before .before .before .before .before .before .before .before .before .before .before .before .before .before .before .before .before .before .before .before .before .before .before .before .before .before .before .before .before .before .before .before .before .before .before .args .records .now) = L .inv .3 ∙ c .before .before .before .before .before .before .before .before .before .before .before .before .before .before .before .before .before .before .before .before .before .before .before .before .before .before .before .before .meet-starts .kept .1 .1 .1 .1 .0 in
+    let rm : 4 * c .before .before .before .before .before .before .before .before .before .before .before .before .before .before .before .before .before .before .quota2 .result ≤ length (L .records) = omega (arith, len, room C (c .before .before .before .before .before .before .before .before .before .before .before .before .before .before .before .before .before .before .before .before .before .before .before .before .before .before .before .before .before .before .before .before .before .before .before .before .before .before .before .before .before .args .k) (length (c .before .before .before .before .before .before .before .before .before .before .before .before .before .before .before .before .before .before .before .before .before .before .before .before .before .before .before .before .before .before .before .before .before .before .before .before .before .before .before .before .before .args .records .now)) (w .0) (w .1) (L .t) (c .before .before .before .before .before .before .before .before .before .before .before .before .before .before .before .before .before .before .quota2 .result) tk (c .before .before .before .before .before .before .before .before .before .before .before .before .before .before .before .before .before .before .quota2 .ensures)) in
+    let fw = few C (c .before .before .before .before .before .before .before .before .before .before .before .before .before .before .before .before .before .before .before .before .before .before .before .before .before .before .before .before .before .before .before .before .before .before .before .before .before .before .before .before .before .args .k) (length (c .before .before .before .before .before .before .before .before .before .before .before .before .before .before .before .before .before .before .before .before .before .before .before .before .before .before .before .before .before .before .before .before .before .before .before .before .before .before .before .before .before .args .records .now)) (w .0) (w .1) (L .t) (c .before .before .before .before .before .before .before .before .before .before .before .before .before .before .before .before .before .before .quota2 .result) tk (c .before .before .before .before .before .before .before .before .before .before .before .before .before .before .before .before .before .before .quota2 .ensures) in
     let hi : L .hi ≤ c .before .before .before .before .before .before .before .before .before .before .before .before .before .before .before .before .before .before .quota2 .result = omega (arith, L .inv .2, c .before .before .before .before .before .before .before .before .before .before .before .before .before .before .before .before .before .before .quota2 .ensures) in
-    case-last C (c .before .before .before .before .before .before .before .before .before .before .before .before .before .before .before .before .before .before .before .before .before .before .before .before .before .before .before .before .before .before .before .before .before .before .before .before .before .args .b) (c .before .before .before .before .before .before .before .before .before .before .before .before .before .before .before .before .before .before .before .before .before .before .before .before .before .before .before .before .before .before .before .before .before .before .before .before .before .args .k) (L .t) (L .lo) (L .hi) (c .before .before .before .before .before .before .before .before .before .before .before .before .before .before .before .before .before .before .quota2 .result) (L .records) (L .heads) (L .inv .7) tk (c .before .before .before .before .before .before .before .before .before .before .before .before .before .before .before .before .before .before .quota2 .ensures) rm (omega (arith, fw)) hi
+    case-last C (c .before .before .before .before .before .before .before .before .before .before .before .before .before .before .before .before .before .before .before .before .before .before .before .before .before .before .before .before .before .before .before .before .before .before .before .before .before .before .before .before .before .args .b) (c .before .before .before .before .before .before .before .before .before .before .before .before .before .before .before .before .before .before .before .before .before .before .before .before .before .before .before .before .before .before .before .before .before .before .before .before .before .before .before .before .before .args .k) (L .t) (L .lo) (L .hi) (c .before .before .before .before .before .before .before .before .before .before .before .before .before .before .before .before .before .before .quota2 .result) (L .records) (L .heads) (L .inv .7) tk (c .before .before .before .before .before .before .before .before .before .before .before .before .before .before .before .before .before .before .quota2 .ensures) rm (omega (arith, fw)) hi
     (c .before .before .before .before .before .before .before .before .before .before .before .before .before .ask-layer .last .1 .1 .1 .1 .1 .1 .1 .0) (c .before .before .before .before .before .before .before .before .before .before .before .before .before .ask-layer .last .1 .1 .1 .1 .1 .1 .1 .1 .0) (c .before .before .before .before .before .before .before .before .before .before .before .before .before .ask-layer .kept .1 .1 .1 .1 .1 .1 .1 .0) (c .before .before .before .before .before .before .before .before .before .before .before .before .before .ask-layer .result) (c .before .before .before .before .before .before .before .before .before .before .before .before .before .ask-layer .ensures) (c .before .before .before .met .given .1) (c .before .if2 .left) (c .if3 .taken)
 
 add-t : tie.Need-add-t Inv-loop μ-loop
-add-t c = omega (arith, c .before .before .before .before .before .before .before .before .before .before .before .before .before .before .before .before .before .before .before .loop-test .taken, c .before .before .before .before .before .before .before .before .before .before .before .before .before .before .before .before .before .before .before .before .before .before .before .before .before .before .before .before .before .before .before .before .before .before .before .before .before .pre .1 .0 .2)
+add-t c = omega (arith, c .before .before .before .before .before .before .before .before .before .before .before .before .before .before .before .before .before .before .before .loop-test .taken, c .before .before .before .before .before .before .before .before .before .before .before .before .before .before .before .before .before .before .before .before .before .before .before .before .before .before .before .before .before .before .before .before .before .before .before .before .before .before .before .before .before .pre .1 .0 .2)
 
 loop-less : tie.Need-loop-less Inv-loop μ-loop
 loop-less c = omega (arith, c .before .before .before .before .before .before .before .before .before .before .before .before .before .before .before .before .before .before .before .loop-test .taken)
 
 loop-again : tie.Need-loop-again Inv-loop μ-loop
 loop-again c =
-    let C = circuitIn (c .before .before .before .before .before .before .before .before .before .before .before .before .before .before .before .before .before .before .before .before .before .before .before .before .before .before .before .before .before .before .before .before .before .before .before .before .before .args .m .now) in
-    let w = c .before .before .before .before .before .before .before .before .before .before .before .before .before .before .before .before .before .before .before .before .before .before .before .before .before .before .before .before .before .before .before .before .before .before .before .before .before .pre .1 .1 in
+    let C = partIn (c .before .before .before .before .before .before .before .before .before .before .before .before .before .before .before .before .before .before .before .before .before .before .before .before .before .before .before .before .before .before .before .before .before .before .before .before .before .before .before .before .before .args .m .now) (c .before .before .before .before .before .before .before .before .before .before .before .before .before .before .before .before .before .before .before .before .before .before .before .before .before .before .before .before .before .before .before .before .before .before .before .before .before .before .before .before .before .args .kept .now) in
+    let w = c .before .before .before .before .before .before .before .before .before .before .before .before .before .before .before .before .before .before .before .before .before .before .before .before .before .before .before .before .before .before .before .before .before .before .before .before .before .before .before .before .before .pre .1 .1 in
     let L = c .before .before .before .before .before .before .before .before .before .before .before .before .before .before .before .before .before .before .before .before .loop in
-    let tk : L .t ≤ c .before .before .before .before .before .before .before .before .before .before .before .before .before .before .before .before .before .before .before .before .before .before .before .before .before .before .before .before .before .before .before .before .before .before .before .before .before .args .k = omega (arith, c .before .before .before .before .before .before .before .before .before .before .before .before .before .before .before .before .before .before .before .loop-test .taken) in
-    let len : length (L .records) ≡ length (c .before .before .before .before .before .before .before .before .before .before .before .before .before .before .before .before .before .before .before .before .before .before .before .before .before .before .before .before .before .before .before .before .before .before .before .before .before .args .records .now) = L .inv .3 ∙ c .before .before .before .before .before .before .before .before .before .before .before .before .before .before .before .before .before .before .before .before .before .before .before .before .before .before .meet-starts .kept .1 .1 .1 .1 .0 in
-    let rm : 4 * c .before .before .before .before .before .before .before .before .before .before .before .before .before .before .before .before .before .before .quota2 .result ≤ length (L .records) = omega (arith, len, room C (c .before .before .before .before .before .before .before .before .before .before .before .before .before .before .before .before .before .before .before .before .before .before .before .before .before .before .before .before .before .before .before .before .before .before .before .before .before .args .k) (length (c .before .before .before .before .before .before .before .before .before .before .before .before .before .before .before .before .before .before .before .before .before .before .before .before .before .before .before .before .before .before .before .before .before .before .before .before .before .args .records .now)) (w .0) (w .1) (L .t) (c .before .before .before .before .before .before .before .before .before .before .before .before .before .before .before .before .before .before .quota2 .result) tk (c .before .before .before .before .before .before .before .before .before .before .before .before .before .before .before .before .before .before .quota2 .ensures)) in
-    let fw = few C (c .before .before .before .before .before .before .before .before .before .before .before .before .before .before .before .before .before .before .before .before .before .before .before .before .before .before .before .before .before .before .before .before .before .before .before .before .before .args .k) (length (c .before .before .before .before .before .before .before .before .before .before .before .before .before .before .before .before .before .before .before .before .before .before .before .before .before .before .before .before .before .before .before .before .before .before .before .before .before .args .records .now)) (w .0) (w .1) (L .t) (c .before .before .before .before .before .before .before .before .before .before .before .before .before .before .before .before .before .before .quota2 .result) tk (c .before .before .before .before .before .before .before .before .before .before .before .before .before .before .before .before .before .before .quota2 .ensures) in
+    let tk : L .t ≤ c .before .before .before .before .before .before .before .before .before .before .before .before .before .before .before .before .before .before .before .before .before .before .before .before .before .before .before .before .before .before .before .before .before .before .before .before .before .before .before .before .before .args .k = omega (arith, c .before .before .before .before .before .before .before .before .before .before .before .before .before .before .before .before .before .before .before .loop-test .taken) in
+    let len : length (L .records) ≡ length (c .before .before .before .before .before .before .before .before .before .before .before .before .before .before .before .before .before .before .before .before .before .before .before .before .before .before .before .before .before .before .before .before .before .before .before .before .before .before .before .before .before .args .records .now) = L .inv .3 ∙ c .before .before .before .before .before .before .before .before .before .before .before .before .before .before .before .before .before .before .before .before .before .before .before .before .before .before .before .before .meet-starts .kept .1 .1 .1 .1 .0 in
+    let rm : 4 * c .before .before .before .before .before .before .before .before .before .before .before .before .before .before .before .before .before .before .quota2 .result ≤ length (L .records) = omega (arith, len, room C (c .before .before .before .before .before .before .before .before .before .before .before .before .before .before .before .before .before .before .before .before .before .before .before .before .before .before .before .before .before .before .before .before .before .before .before .before .before .before .before .before .before .args .k) (length (c .before .before .before .before .before .before .before .before .before .before .before .before .before .before .before .before .before .before .before .before .before .before .before .before .before .before .before .before .before .before .before .before .before .before .before .before .before .before .before .before .before .args .records .now)) (w .0) (w .1) (L .t) (c .before .before .before .before .before .before .before .before .before .before .before .before .before .before .before .before .before .before .quota2 .result) tk (c .before .before .before .before .before .before .before .before .before .before .before .before .before .before .before .before .before .before .quota2 .ensures)) in
+    let fw = few C (c .before .before .before .before .before .before .before .before .before .before .before .before .before .before .before .before .before .before .before .before .before .before .before .before .before .before .before .before .before .before .before .before .before .before .before .before .before .before .before .before .before .args .k) (length (c .before .before .before .before .before .before .before .before .before .before .before .before .before .before .before .before .before .before .before .before .before .before .before .before .before .before .before .before .before .before .before .before .before .before .before .before .before .before .before .before .before .args .records .now)) (w .0) (w .1) (L .t) (c .before .before .before .before .before .before .before .before .before .before .before .before .before .before .before .before .before .before .quota2 .result) tk (c .before .before .before .before .before .before .before .before .before .before .before .before .before .before .before .before .before .before .quota2 .ensures) in
     let hi : L .hi ≤ c .before .before .before .before .before .before .before .before .before .before .before .before .before .before .before .before .before .before .quota2 .result = omega (arith, L .inv .2, c .before .before .before .before .before .before .before .before .before .before .before .before .before .before .before .before .before .before .quota2 .ensures) in
-    let st = case-more C (c .before .before .before .before .before .before .before .before .before .before .before .before .before .before .before .before .before .before .before .before .before .before .before .before .before .before .before .before .before .before .before .before .before .before .before .before .before .args .b) (c .before .before .before .before .before .before .before .before .before .before .before .before .before .before .before .before .before .before .before .before .before .before .before .before .before .before .before .before .before .before .before .before .before .before .before .before .before .args .k) (L .t) (L .lo) (L .hi) (c .before .before .before .before .before .before .before .before .before .before .before .before .before .before .before .before .before .before .quota2 .result) (L .records) (L .heads) (L .inv .7) tk (c .before .before .before .before .before .before .before .before .before .before .before .before .before .before .before .before .before .before .quota2 .ensures) rm (omega (arith, fw)) hi
+    let st = case-more C (c .before .before .before .before .before .before .before .before .before .before .before .before .before .before .before .before .before .before .before .before .before .before .before .before .before .before .before .before .before .before .before .before .before .before .before .before .before .before .before .before .before .args .b) (c .before .before .before .before .before .before .before .before .before .before .before .before .before .before .before .before .before .before .before .before .before .before .before .before .before .before .before .before .before .before .before .before .before .before .before .before .before .before .before .before .before .args .k) (L .t) (L .lo) (L .hi) (c .before .before .before .before .before .before .before .before .before .before .before .before .before .before .before .before .before .before .quota2 .result) (L .records) (L .heads) (L .inv .7) tk (c .before .before .before .before .before .before .before .before .before .before .before .before .before .before .before .before .before .before .quota2 .ensures) rm (omega (arith, fw)) hi
     (c .before .before .before .before .before .before .before .before .before .before .before .before .before .ask-layer .last .1 .1 .1 .1 .1 .1 .1 .0) (c .before .before .before .before .before .before .before .before .before .before .before .before .before .ask-layer .last .1 .1 .1 .1 .1 .1 .1 .1 .0) (c .before .before .before .before .before .before .before .before .before .before .before .before .before .ask-layer .kept .1 .1 .1 .1 .1 .1 .1 .0) (c .before .before .before .before .before .before .before .before .before .before .before .before .before .ask-layer .result) (c .before .before .before .before .before .before .before .before .before .before .before .before .before .ask-layer .ensures) (c .before .before .before .met .given .1) (c .before .if2 .left) (c .if3 .left) in (
       omega (arith, c .before .before .before .before .before .before .before .before .before .before .before .before .before .before .before .before .before .before .before .loop-test .taken),
       st .low,
@@ -230,20 +235,20 @@ loop-again c =
       st,
     )
 
-same-length-15 : tie.Need-same-length-15 Inv-loop μ-loop
-same-length-15 c = c .before .loop .inv .3 ∙ c .before .before .before .before .before .before .before .meet-starts .kept .1 .1 .1 .1 .0
-
 same-length-16 : tie.Need-same-length-16 Inv-loop μ-loop
-same-length-16 c = c .before .loop .inv .4 ∙ c .before .before .before .before .before .before .before .meet-starts .kept .1 .1 .1 .1 .1 .0
+same-length-16 c = c .before .loop .inv .3 ∙ c .before .before .before .before .before .before .before .before .before .meet-starts .kept .1 .1 .1 .1 .0
 
 same-length-17 : tie.Need-same-length-17 Inv-loop μ-loop
-same-length-17 c = c .before .loop .inv .5
+same-length-17 c = c .before .loop .inv .4 ∙ c .before .before .before .before .before .before .before .before .before .meet-starts .kept .1 .1 .1 .1 .1 .0
 
 same-length-18 : tie.Need-same-length-18 Inv-loop μ-loop
-same-length-18 c = c .before .loop .inv .6
+same-length-18 c = c .before .loop .inv .5
+
+same-length-19 : tie.Need-same-length-19 Inv-loop μ-loop
+same-length-19 c = c .before .loop .inv .6 ∙ c .before .before .before .before .before .before .before .before .before .meet-starts .kept .1 .1 .1 .1 .1 .1 .1 .0
 
 returns-5 : tie.Need-returns-5 Inv-loop μ-loop
-returns-5 c = standing-end (circuitIn (c .before .before .before .before .before .before .before .before .before .before .before .before .before .before .before .before .before .before .args .m .now)) (c .before .before .before .before .before .before .before .before .before .before .before .before .before .before .before .before .before .before .args .b) (c .before .before .before .before .before .before .before .before .before .before .before .before .before .before .before .before .before .before .args .k) (c .before .loop .t) (c .before .loop .lo) (c .before .loop .hi) (c .before .loop .records) (c .before .loop .heads) (c .before .loop .inv .7) (omega (arith, c .loop-test .left))
+returns-5 c = standing-end (partIn (c .before .before .before .before .before .before .before .before .before .before .before .before .before .before .before .before .before .before .before .before .before .before .args .m .now) (c .before .before .before .before .before .before .before .before .before .before .before .before .before .before .before .before .before .before .before .before .before .before .args .kept .now)) (c .before .before .before .before .before .before .before .before .before .before .before .before .before .before .before .before .before .before .before .before .before .before .args .b) (c .before .before .before .before .before .before .before .before .before .before .before .before .before .before .before .before .before .before .before .before .before .before .args .k) (c .before .loop .t) (c .before .loop .lo) (c .before .loop .hi) (c .before .loop .records) (c .before .loop .heads) (c .before .loop .inv .7) (omega (arith, c .loop-test .left))
 
 pub ask-frames-spec : {M : Type 1} → statement M
 ask-frames-spec =
@@ -256,33 +261,34 @@ ask-frames-spec =
     meet-starts-requires
     same-length
     same-length-2
+    same-length-3
     returns
     loop-holds
     quota-requires-2
     ask-layer-requires
     enum-known-e
-    same-length-3
     same-length-4
     same-length-5
     same-length-6
+    same-length-7
     returns-2
     enum-known-met
-    add-t36
-    same-length-7
+    add-t39
     same-length-8
     same-length-9
     same-length-10
-    returns-3
     same-length-11
+    returns-3
     same-length-12
     same-length-13
     same-length-14
+    same-length-15
     returns-4
     add-t
     loop-less
     loop-again
-    same-length-15
     same-length-16
     same-length-17
     same-length-18
+    same-length-19
     returns-5)

@@ -18,7 +18,7 @@ slice-aggregate-ask-frames-3 : tie.Need-slice-aggregate-ask-frames-3
 slice-aggregate-ask-frames-3 c = search needs
 
 ask-frames-requires : tie.Need-ask-frames-requires
-ask-frames-requires c κs = (c .before .before .before .before .before .before .before .pre .0, ((c .before .before .before .before .before .before .before .pre .1 .0 .0, omega arith, c .before .before .before .before .before .before .before .pre .1 .0 .1, c .before .before .before .before .before .before .before .pre .1 .0 .2), (c .before .before .before .before .before .before .before .pre .1 .1 .0, c .before .before .before .before .before .before .before .pre .1 .1 .1, omega arith, λ h l. getD-replicate 4096 h 0 0 l)))
+ask-frames-requires c κs = (c .before .before .before .before .before .before .before .before .pre .0, ((c .before .before .before .before .before .before .before .before .pre .1 .0 .0, omega arith, c .before .before .before .before .before .before .before .before .pre .1 .0 .1, c .before .before .before .before .before .before .before .before .pre .1 .0 .2, c .before .before .before .before .before .before .before .before .pre .1 .0 .3), (c .before .before .before .before .before .before .before .before .pre .1 .1 .0, c .before .before .before .before .before .before .before .before .pre .1 .1 .1, omega arith, λ h l. getD-replicate 4096 h 0 0 l)))
 
 same-length : tie.Need-same-length
 same-length c = c .before .before .before .before .before .ask-frames .kept .1 .1 .1 .1 .1 .0

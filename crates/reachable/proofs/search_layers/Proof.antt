@@ -1,86 +1,61 @@
 -- `reachable::search_layers` meets its contract. Assumes nothing.
 use mathlib.Core.Path.{_≡_, refl, sym, ap, _∙_, subst}
+use mathlib.Core.List.{List}
 use Prim.Native.Nat.{ℕ, _≤_, _<_}
 use native.Mathlib.Omega.{arith}
+use lib.Seq.{length-take-le}
 use Rattle.layout.specs.Words.{circuitIn}
-use Rattle.frames.proofs.Places.{inputs-are}
+use Rattle.frames.proofs.Places.{latches-few}
+use Rattle.influence.specs.Part.{Closed, partIn}
+use Rattle.influence.proofs.Cone.{part-closed}
 use Rattle.reachable.specs.Layers.{LayersOf}
-use Rattle.reachable.proofs.Quotas.{quota-small}
-use Rattle.reachable.proofs.Frames.{rest-none}
-use Rattle.reachable.proofs.Ends.{place-of, none-of, left-of, asks, asks-trace, gives-bits}
 use borrow.Author.Needs.{needs}
 use Rattle.reachable.proofs.search_layers.Statement.{statement}
 use Rattle.reachable.proofs.search_layers.Tie as tie
 
-quota-requires : tie.Need-quota-requires
-quota-requires c κs = (c .before .before .before .pre .0 .held, (c .before .before .before .pre .0 .layout-of, omega arith))
+slice-aggregate-kept-latches : tie.Need-slice-aggregate-kept-latches
+slice-aggregate-kept-latches c = search needs
 
-returns : tie.Need-returns
-unfolding LayersOf
-returns c = rest-none (circuitIn (c .before .before .before .before .before .args .m .now)) (c .before .before .before .before .before .args .b) (c .before .before .before .before .before .args .k) (omega (arith, c .before .quota .ensures, c .if1 .taken))
+kept-latches-requires : tie.Need-kept-latches-requires
+kept-latches-requires c κs = (c .before .before .before .before .pre .0, (c .before .before .before .before .pre .1 .0 .0, omega arith))
 
-find-first-requires : tie.Need-find-first-requires
-find-first-requires c κs = (c .before .before .before .before .before .before .pre .0, ((c .before .before .before .before .before .before .pre .1 .0 .0, c .before .before .before .before .before .before .pre .1 .0 .1, omega (arith, c .before .before .quota .ensures, c .before .if1 .left)), c .before .before .before .before .before .before .pre .1 .1))
+array-share-prefix-table : tie.Need-array-share-prefix-table
+array-share-prefix-table c = omega (arith, c .before .before .kept-latches .ensures .0, latches-few (c .before .before .before .before .before .before .before .pre .0 .held) (c .before .before .before .before .before .before .before .pre .0 .layout-of))
 
-enum-known-t : tie.Need-enum-known-t
-enum-known-t c = search needs
+slice-aggregate-search-part : tie.Need-slice-aggregate-search-part
+slice-aggregate-search-part c =
+    let w = c .before .before .before .kept-latches in
+    sym (length-take-le (w .result) (w .last .1 .1 .1 .1 .0) (omega (arith, w .kept .1 .1 .1 .1 .0, w .ensures .0, latches-few (c .before .before .before .before .before .before .before .before .pre .0 .held) (c .before .before .before .before .before .before .before .before .pre .0 .layout-of))))
 
-put-free-requires : tie.Need-put-free-requires
-put-free-requires c κs =
-    let C = circuitIn (c .before .before .before .before .before .before .before .before .before .before .before .before .before .args .m .now) in
-    let R = c .before .before .before .before .before .before .before .before .before .before .before .before .before .pre .0 in
-    let w = c .before .before .before .before .before .before .find-first .last .1 .1 .1 .1 .1 .0 in
-    let P = place-of C (c .before .before .before .before .before .before .before .before .before .before .before .before .before .args .b) (c .before .before .before .before .before .before .before .before .before .before .before .before .before .args .k) w (c .before .before .before .before .before .before .find-first .result) (c .before .before .before .before .before .before .find-first .ensures) (c .before .before .t .given .1) in
-    let q : 0 < c .before .before .before .before .before .before .before .before .before .quota .result = omega (arith, c .before .before .before .before .before .before .before .before .if1 .left) in (
-      asks C (c .before .before .before .before .before .before .before .before .before .before .before .before .before .args .b) (c .before .before .before .before .before .before .before .before .before .before .before .before .before .args .k) w (c .before .before .before .before .before .before .find-first .result) (c .before .before .before .before .before .before .find-first .ensures) P (c .before .before .before .before .before .before .before .before .before .before .before .before .before .args .layout .i) (c .before .before .before .before .before .before .before .before .before .before .before .before .before .args .layout .u) (inputs-are (R .held) (R .layout-of)) (R .layout-of .u-is) (c .before .before .before .before .before .before .before .before .before .before .before .before .before .pre .1 .0 .1)
-          (omega (arith, R .layout-of .u-is, quota-small C 0 (omega (arith, q, c .before .before .before .before .before .before .before .before .before .quota .ensures)) .2)) (omega (arith, c .before .before .before .before .before .before .find-first .kept .1 .1 .1 .1 .1 .0, c .before .before .before .before .before .before .before .before .before .before .before .before .before .pre .1 .1 .0)),
-      asks-trace C (c .before .before .before .before .before .before .before .before .before .before .before .before .before .args .b) (c .before .before .before .before .before .before .before .before .before .before .before .before .before .args .k) w (c .before .before .before .before .before .before .find-first .result) (c .before .before .before .before .before .before .find-first .ensures) P (c .before .before .before .before .before .before .before .before .before .before .before .before .before .args .layout .i) (c .before .before .before .before .before .before .before .before .before .before .before .before .before .args .layout .u) (inputs-are (R .held) (R .layout-of)) (R .layout-of .u-is),
-    )
-
-enum-told : tie.Need-enum-told
-enum-told c = search needs
-
-enum-known-t-2 : tie.Need-enum-known-t-2
-enum-known-t-2 c = search needs
+search-part-requires : tie.Need-search-part-requires
+search-part-requires c κs = (
+  c .before .before .before .before .before .before .before .before .pre .0,
+  (
+    (
+      c .before .before .before .before .before .before .before .before .pre .1 .0 .0,
+      c .before .before .before .before .before .before .before .before .pre .1 .0 .1,
+      subst (λ (ks : List ℕ). Closed (partIn (c .before .before .before .before .before .before .before .before .args .m .now) ks) (c .before .before .before .before .before .before .before .before .args .b)) (sym (c .before .before .before .kept-latches .ensures .1)) (part-closed (circuitIn (c .before .before .before .before .before .before .before .before .args .m .now)) (c .before .before .before .before .before .before .before .before .args .b)),
+    ),
+    c .before .before .before .before .before .before .before .before .pre .1 .1,
+  ),
+)
 
 same-length : tie.Need-same-length
-same-length c = c .before .before .put-free .kept .1 .1 .1 .1 .1 .0 ∙ c .before .before .before .before .before .before .before .before .before .find-first .kept .1 .1 .1 .1 .1 .0
+same-length c = c .before .before .search-part .kept .1 .1 .1 .1 .1 .0
 
-returns-2 : tie.Need-returns-2
-returns-2 c =
-    let C = circuitIn (c .before .before .before .before .before .before .before .before .before .before .before .before .before .before .before .before .args .m .now) in
-    let R = c .before .before .before .before .before .before .before .before .before .before .before .before .before .before .before .before .pre .0 in
-    let w = c .before .before .before .before .before .before .before .before .before .find-first .last .1 .1 .1 .1 .1 .0 in
-    let P = place-of C (c .before .before .before .before .before .before .before .before .before .before .before .before .before .before .before .before .args .b) (c .before .before .before .before .before .before .before .before .before .before .before .before .before .before .before .before .args .k) w (c .before .before .before .before .before .before .before .before .before .find-first .result) (c .before .before .before .before .before .before .before .before .before .find-first .ensures) (c .before .before .before .before .before .t .given .1) in
-    gives-bits C (c .before .before .before .before .before .before .before .before .before .before .before .before .before .before .before .before .args .b) (c .before .before .before .before .before .before .before .before .before .before .before .before .before .before .before .before .args .k) w (c .before .before .before .before .before .before .before .before .before .find-first .result) (c .before .before .before .before .before .before .before .before .before .find-first .ensures) P (c .before .before .before .before .before .before .before .before .before .before .before .before .before .before .before .before .args .layout .i) (c .before .before .before .before .before .before .before .before .before .before .before .before .before .before .before .before .args .layout .u) (inputs-are (R .held) (R .layout-of)) (R .layout-of .u-is)
-    (c .before .before .put-free .last .1 .1 .1 .1 .1 .0) (c .before .before .put-free .ensures)
-
-same-length-2 : tie.Need-same-length-2
-same-length-2 c = c .before .before .before .before .find-first .kept .1 .1 .1 .1 .1 .0
-
-returns-3 : tie.Need-returns-3
-returns-3 c = none-of (circuitIn (c .before .before .before .before .before .before .before .before .before .before .before .args .m .now)) (c .before .before .before .before .before .before .before .before .before .before .before .args .b) (c .before .before .before .before .before .before .before .before .before .before .before .args .k) (c .before .before .before .before .find-first .last .1 .1 .1 .1 .1 .0) (c .before .before .before .before .find-first .result) (c .before .before .before .before .find-first .ensures) (c .enum-told .given .1) (c .before .before .before .before .find-first .last .1 .1 .1 .1 .1 .0)
-
-same-length-3 : tie.Need-same-length-3
-same-length-3 c = c .before .before .before .before .before .find-first .kept .1 .1 .1 .1 .1 .0
-
-returns-4 : tie.Need-returns-4
-returns-4 c = left-of (circuitIn (c .before .before .before .before .before .before .before .before .before .before .before .before .args .m .now)) (c .before .before .before .before .before .before .before .before .before .before .before .before .args .b) (c .before .before .before .before .before .before .before .before .before .before .before .before .args .k) (c .before .before .before .before .before .find-first .last .1 .1 .1 .1 .1 .0) (c .before .before .before .before .before .find-first .result) (c .before .before .before .before .before .find-first .ensures) (c .before .t2 .given .1) (c .before .before .before .before .before .find-first .last .1 .1 .1 .1 .1 .0)
+returns : tie.Need-returns
+returns c =
+    subst (λ (ks : List ℕ). LayersOf (partIn (c .before .before .before .before .before .before .before .before .before .before .before .args .m .now) ks) (c .before .before .before .before .before .before .before .before .before .before .before .args .b) (c .before .before .before .before .before .before .before .before .before .before .before .args .k) (c .before .before .search-part .last .1 .1 .1 .1 .1 .0) (c .before .before .search-part .result)) (c .before .before .before .before .before .before .kept-latches .ensures .1)
+    (c .before .before .search-part .ensures)
 
 pub search-layers-spec : {M : Type 1} → statement M
 search-layers-spec =
     tie.close
     (tie.spec
-    quota-requires
-    returns
-    find-first-requires
-    enum-known-t
-    put-free-requires
-    enum-told
-    enum-known-t-2
+    slice-aggregate-kept-latches
+    kept-latches-requires
+    array-share-prefix-table
+    slice-aggregate-search-part
+    search-part-requires
     same-length
-    returns-2
-    same-length-2
-    returns-3
-    same-length-3
-    returns-4)
+    returns)

@@ -1,0 +1,5 @@
+pub mod Kept
+pub mod Depends
+pub mod Cone
+pub mod Marks
+pub mod Rooms

@@ -1,0 +1,196 @@
+// The latches in the cone of influence of a bad line: marks spread from the bad line and the constraints through gates and latches.
+use layout::Layout;
+ghost use mathlib.Core.Path.{_≡_};
+ghost use mathlib.Core.Bool.{_||_};
+ghost use Prim.Native.Nat.{ℕ, _+_, _*_, _≤_, _<_};
+ghost use lib.ListN.{length, take};
+ghost use Rattle.aiger.specs.Lists.{everyBelow};
+ghost use Rattle.aiger.specs.Bits.{nonzero};
+ghost use Rattle.layout.specs.Words.{word, circuitIn};
+ghost use Rattle.meaning.specs.Frame.{latchAt};
+ghost use Rattle.frames.specs.Lanes.{Ready};
+ghost use Rattle.influence.specs.Cone.{marked, markBelow, reach, reachDown, spread, closedAt, closed, settle, keptBelow, keptLatches, gateBy, Room, Rooms, Literals};
+
+// Marks the variables of n literals from `at` on.
+fn mark_words(m: &[u32], at: usize, n: usize, marks: &mut [u32])
+    requires { ⌜ Literals (now m) at n (length (now marks)) ⌝ }
+    ensures { λ _. ⌜ now (marks .exit) ≡ markBelow (λ i. word (now (m .entry)) (at + i)) n (now (marks .entry)) ⌝ }
+{
+    let mut i = 0;
+    while i < n {
+        let v = (m[at + i] / 2) as usize;
+        marks[v] = 1;
+        i += 1;
+    }
+}
+
+// Marks the operands of the gate at `at`, if it is marked.
+fn reach(m: &[u32], at: usize, last: usize, marks: &mut [u32])
+    requires { ⌜ Room (now m) at last (length (now marks)) ⌝ }
+    ensures { λ _. ⌜ now (marks .exit) ≡ reach (gateBy (now (m .entry)) at last) (now (marks .entry)) ⌝ }
+{
+    let v = (m[at] / 2) as usize;
+    let x = (m[at + 1] / 2) as usize;
+    let y = (m[at + last] / 2) as usize;
+    if marks[v] == 0 {
+        return;
+    }
+    marks[x] = 1;
+    marks[y] = 1;
+}
+
+// The same of n gates from `at` on, the last one first.
+fn reach_down(m: &[u32], at: usize, n: usize, last: usize, marks: &mut [u32])
+    requires { ⌜ Rooms (now m) at n last (length (now marks)) ⌝ }
+    ensures { λ _. ⌜ now (marks .exit) ≡ reachDown (λ i. gateBy (now (m .entry)) (at + 3 * i) last) n (now (marks .entry)) ⌝ }
+{
+    let mut k = n;
+    while 0 < k {
+        k -= 1;
+        reach(m, at + 3 * k, last, marks);
+    }
+}
+
+// One round: all gates, and then all latches.
+fn spread(m: &[u32], layout: Layout, order: &[u32], marks: &mut [u32])
+    requires { ⌜ Ready (now m) layout (now order) (length (now marks)) ⌝ }
+    ensures { λ _. ⌜ now (marks .exit) ≡ spread (circuitIn (now (m .entry))) (now (marks .entry)) ⌝ }
+{
+    reach_down(m, layout.gates, layout.a, 2, marks);
+    reach_down(m, layout.latches, layout.l, 1, marks);
+}
+
+// Whether the operands of the gate at `at` are marked, if it is.
+fn is_closed(m: &[u32], at: usize, last: usize, marks: &[u32]) -> bool
+    requires { ⌜ Room (now m) at last (length (now marks)) ⌝ }
+    ensures { λ r. ⌜ r ≡ closedAt (now (marks .entry)) (gateBy (now (m .entry)) at last) ⌝ }
+{
+    let v = (m[at] / 2) as usize;
+    let x = (m[at + 1] / 2) as usize;
+    let y = (m[at + last] / 2) as usize;
+    if marks[v] == 0 {
+        return true;
+    }
+    if marks[x] == 0 {
+        return false;
+    }
+    if marks[y] == 0 {
+        return false;
+    }
+    true
+}
+
+// The same of n gates from `at` on.
+fn are_closed(m: &[u32], at: usize, n: usize, last: usize, marks: &[u32]) -> bool
+    requires { ⌜ Rooms (now m) at n last (length (now marks)) ⌝ }
+    ensures { λ r. ⌜ r ≡ everyBelow n (λ i. closedAt (now (marks .entry)) (gateBy (now (m .entry)) (at + 3 * i) last)) ⌝ }
+{
+    let mut i = 0;
+    while i < n {
+        if !is_closed(m, at + 3 * i, last, marks) {
+            return false;
+        }
+        i += 1;
+    }
+    true
+}
+
+// Whether the variables of n literals from `at` on are marked.
+fn are_marked(m: &[u32], at: usize, n: usize, marks: &[u32]) -> bool
+    requires { ⌜ Literals (now m) at n (length (now marks)) ⌝ }
+    ensures { λ r. ⌜ r ≡ everyBelow n (λ i. marked (now (marks .entry)) (word (now (m .entry)) (at + i))) ⌝ }
+{
+    let mut i = 0;
+    while i < n {
+        let v = (m[at + i] / 2) as usize;
+        if marks[v] == 0 {
+            return false;
+        }
+        i += 1;
+    }
+    true
+}
+
+// Whether the marks are closed.
+fn is_settled(m: &[u32], layout: Layout, order: &[u32], b: usize, marks: &[u32]) -> bool
+    requires { ⌜ Ready (now m) layout (now order) (length (now marks)) ⌝ }
+    requires { ⌜ b < word (now m) 5 ⌝ }
+    ensures { λ r. ⌜ r ≡ closed (circuitIn (now (m .entry))) b (now (marks .entry)) ⌝ }
+{
+    let gates = are_closed(m, layout.gates, layout.a, 2, marks);
+    let latches = are_closed(m, layout.latches, layout.l, 1, marks);
+    let bad = are_marked(m, layout.bads + b, 1, marks);
+    let constraints = are_marked(m, layout.constraints, layout.c, marks);
+    gates & (latches & (bad & constraints))
+}
+
+// Rounds until the marks are closed, 33 at most.
+fn settle(m: &[u32], layout: Layout, order: &[u32], b: usize, marks: &mut [u32])
+    requires { ⌜ Ready (now m) layout (now order) (length (now marks)) ⌝ }
+    requires { ⌜ b < word (now m) 5 ⌝ }
+    ensures { λ _. ⌜ now (marks .exit) ≡ settle 33 (circuitIn (now (m .entry))) b (now (marks .entry)) ⌝ }
+{
+    let mut left: usize = 33;
+    while 0 < left {
+        if is_settled(m, layout, order, b, marks) {
+            return;
+        }
+        spread(m, layout, order, marks);
+        left -= 1;
+    }
+}
+
+// Whether a latch with this mark is kept, where all are or those that are marked.
+fn is_kept(all: bool, mark: u32) -> bool
+    ensures { λ r. ⌜ r ≡ (all || nonzero mark) ⌝ }
+{
+    if all {
+        return true;
+    }
+    if mark == 0 {
+        return false;
+    }
+    true
+}
+
+// Lists the latches that are marked, or all of them.
+fn keep(
+    m: &[u32],
+    layout: Layout,
+    order: &[u32],
+    all: bool,
+    marks: &[u32],
+    kept: &mut [u32],
+) -> usize
+    requires { ⌜ Ready (now m) layout (now order) (length (now marks)) ⌝ }
+    requires { ⌜ 1024 ≤ length (now kept) ⌝ }
+    ensures { λ r. ⌜ (r ≤ layout .l) × (take r (now (kept .exit)) ≡ keptBelow (λ j. all || marked (now (marks .entry)) (latchAt (circuitIn (now (m .entry))) j .lit)) (layout .l)) ⌝ }
+{
+    let latches = layout.latches;
+    let count = layout.l;
+    let mut n = 0;
+    let mut j = 0;
+    while j < count {
+        let v = (m[latches + 3 * j] / 2) as usize;
+        if is_kept(all, marks[v]) {
+            kept[n] = j as u32;
+            n += 1;
+        }
+        j += 1;
+    }
+    n
+}
+
+// Lists the latches in the cone of influence of bad line b, by their places in the file; answers how many there are.
+pub fn kept_latches(m: &[u32], layout: Layout, order: &[u32], b: usize, kept: &mut [u32]) -> usize
+    requires { ⌜ Ready (now m) layout (now order) 4097 ⌝ }
+    requires { ⌜ (b < word (now m) 5) × (1024 ≤ length (now kept)) ⌝ }
+    ensures { λ r. ⌜ (r ≤ layout .l) × (take r (now (kept .exit)) ≡ keptLatches (circuitIn (now (m .entry))) b) ⌝ }
+{
+    let mut marks = [0u32; 4097];
+    mark_words(m, layout.bads + b, 1, &mut marks);
+    mark_words(m, layout.constraints, layout.c, &mut marks);
+    settle(m, layout, order, b, &mut marks);
+    let whole = !is_settled(m, layout, order, b, &marks);
+    keep(m, layout, order, whole, &marks, kept)
+}
