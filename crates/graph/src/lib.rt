@@ -3,6 +3,7 @@ use literals::Node;
 use nodes::Edge;
 use nodes::Graph;
 use pairs::Lookup;
+use signatures::Match;
 ghost use mathlib.Core.Path.{_≡_};
 ghost use Prim.Native.Nat.{_≤_, _<_};
 ghost use lib.ListN.{length};
@@ -141,14 +142,13 @@ fn merge(work: &mut [u32], g: Graph, left: u32, right: u32) -> Made
     requires { ⌜ g .free ≤ 12 ⌝ }
     ensures { λ r. ⌜ Conjoined (now (work .entry)) (now (work .exit)) g left right r ⌝ }
 {
-    let twin = signatures::find_twin(work, g, left, right);
-    if 0 < twin {
-        return Made {
+    match signatures::find_twin(work, g, left, right) {
+        Match::Edge(e) => Made {
             graph: g,
-            edge: Edge::from_word((twin - 1) as u32),
-        };
+            edge: Edge::from_word(e),
+        },
+        Match::Nothing => append_signed(work, g, left, right),
     }
-    append_signed(work, g, left, right)
 }
 
 // The gate with these operands, or what is made where there is none.

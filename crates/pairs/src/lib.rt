@@ -12,7 +12,9 @@ ghost use Rattle.pairs.specs.Store.{hasPair, isPair, Chained, Empty, Sta
 // Words of a node's record, after the left operand, which is the first: the right operand, the node before it in its bucket, and the last
 // node of the bucket that has the record's number. The last two are one more than a node, or 0.
 const RIGHT: usize = 1;
+
 const BEFORE: usize = 4;
+
 const LAST: usize = 6;
 
 // The gate with given operands, or that there is none.

@@ -21,8 +21,8 @@ cast-t10 c =
     let s = c .before .before .before .before .before .before in
     let f = c .before .before .before .find-pair in
     let b =
-        found-bound (s .args .work .now) (s .args .g) (s .args .left) (s .args .right) (s .pre) (placeOf (f .result)) (f .ensures)
-        (c .before .k .given .0 .0) (sym (ap placeOf (c .before .k .given .1))) in
+    found-bound (s .args .work .now) (s .args .g) (s .args .left) (s .args .right) (s .pre) (placeOf (f .result)) (f .ensures)
+    (c .before .k .given .0 .0) (sym (ap placeOf (c .before .k .given .1))) in
     omega (arith, b)
 
 enum-told : tie.Need-enum-told
