@@ -139,8 +139,8 @@ module _ (work : List ℕ) (g : Graph) (left right : ℕ) (ready : Proper work g
       let d = found-holds work g left right r e h in
       omega (arith, found-gate work g left right r e h, d .below, length-pairsOf work g)
 
-  pub found-bound : 0 < r → r - 1 < 65536
-  found-bound h = omega (arith, found-below h, ready .stored .sized .nodes, ready .stored .sized .room)
+  pub found-bound : (k : ℕ) → k + 1 ≡ r → k < 65536
+  found-bound k q = omega (arith, found-below (omega arith), ready .stored .sized .nodes, ready .stored .sized .room)
 
   found-chosen : 0 < r → conjoin (g .free) (pairsOf work g) left right ≡ record { gates = pairsOf work g; edge = 2 * (r - 1) }
   found-chosen h =
@@ -152,9 +152,10 @@ module _ (work : List ℕ) (g : Graph) (left right : ℕ) (ready : Proper work g
       i (d .below) (d .first) (d .second)
       ∙ outcome-eq refl z
 
-  pub found-made : 0 < r → Conjoined work work g left right (madeOf g (edgeOf (r - 1) false))
-  found-made h =
-      edge-made work work g left right (ready .stored) refl (2 * (r - 1)) (edgeOf (r - 1) false) (omega arith) (omega arith) (omega (arith, found-below h))
+  pub found-made : (k : ℕ) → k + 1 ≡ r → Conjoined work work g left right (madeOf g (edgeOf k false))
+  found-made k q =
+      let h : 0 < r = omega arith in
+      edge-made work work g left right (ready .stored) refl (2 * (r - 1)) (edgeOf k false) (omega arith) (omega arith) (omega (arith, found-below h))
       (λ x u. gate-value h (freeBit (g .free) x)) (found-chosen h)
 
   pub found-new : r ≡ 0 → New work g left right

@@ -147,18 +147,15 @@ module _ (work last : List ℕ) (g : Graph) (left right r : ℕ) (ready : New wo
   pub twin-stored : Stored last g
   twin-stored = stored-same work last g long twin-kept (λ u. d .store) (ready .proper .stored)
 
-  twin-edge : 0 < r → var (r - 1) < g .nodes
-  twin-edge h = omega (arith, d .twin .found (r - 1) (omega arith) .0, nodes-pairsOf work g (ready .proper .stored .sized .leaves))
+  twin-edge : (k : ℕ) → r ≡ k + 1 → var k < g .nodes
+  twin-edge k z = omega (arith, d .twin .found k z .0, nodes-pairsOf work g (ready .proper .stored .sized .leaves))
 
-  pub twin-bound : 0 < r → r - 1 < 131072
-  twin-bound h = omega (arith, twin-edge h, ready .proper .stored .sized .nodes, ready .proper .stored .sized .room)
-
-  pub twin-made : g .free ≤ 12 → 0 < r → (e : Edge) → e ≡ wordEdge (r - 1) → Conjoined work last g left right (madeOf g e)
-  twin-made few h e q =
-      let equal = d .twin .found (r - 1) (omega arith) .1 in
-      word-made work last g left right twin-stored twin-pairs (r - 1) e q (twin-edge h) equal
+  pub twin-made : g .free ≤ 12 → (k : ℕ) → r ≡ k + 1 → (e : Edge) → e ≡ wordEdge k → Conjoined work last g left right (madeOf g e)
+  twin-made few k z e q =
+      let equal = d .twin .found k z .1 in
+      word-made work last g left right twin-stored twin-pairs k e q (twin-edge k z) equal
       (conjoin-merged (g .free) (pairsOf work g) left right (omega (arith, ready .proper .larger)) (ready .proper .stored .built)
-      (ready .proper .no-rule) (ready .fresh) few (r - 1) (d .twin .found (r - 1) (omega arith) .0) equal)
+      (ready .proper .no-rule) (ready .fresh) few k (d .twin .found k z .0) equal)
 
   pub twin-none : r ≡ 0 → Twinless (g .free) (pairsOf last g) left right
   twin-none z = subst (λ (hs : List Pair). Twinless (g .free) hs left right) (sym twin-pairs) (d .twin .none z)

@@ -2,6 +2,8 @@
 use literals::Node;
 use nodes::Edge;
 use nodes::Graph;
+use pairs::Lookup;
+use signatures::Match;
 ghost use mathlib.Core.Path.{_≡_};
 ghost use Prim.Native.Nat.{_≤_, _<_};
 ghost use lib.ListN.{length};
@@ -140,14 +142,13 @@ fn merge(work: &mut [u32], g: Graph, left: u32, right: u32) -> Made
     requires { ⌜ g .free ≤ 12 ⌝ }
     ensures { λ r. ⌜ Conjoined (now (work .entry)) (now (work .exit)) g left right r ⌝ }
 {
-    let twin = signatures::find_twin(work, g, left, right);
-    if 0 < twin {
-        return Made {
+    match signatures::find_twin(work, g, left, right) {
+        Match::Edge(e) => Made {
             graph: g,
-            edge: Edge::from_word((twin - 1) as u32),
-        };
+            edge: Edge::from_word(e),
+        },
+        Match::Nothing => append_signed(work, g, left, right),
     }
-    append_signed(work, g, left, right)
 }
 
 // The gate with these operands, or what is made where there is none.
@@ -155,17 +156,18 @@ fn make_gate(work: &mut [u32], g: Graph, left: u32, right: u32) -> Made
     requires { ⌜ Proper (now work) g left right ⌝ }
     ensures { λ r. ⌜ Conjoined (now (work .entry)) (now (work .exit)) g left right r ⌝ }
 {
-    let found = pairs::find_pair(work, g, left, right);
-    if 0 < found {
-        return Made {
+    match pairs::find_pair(work, g, left, right) {
+        Lookup::Gate(k) => Made {
             graph: g,
-            edge: Edge(Node((found - 1) as u32), false),
-        };
+            edge: Edge(Node(k as u32), false),
+        },
+        Lookup::Nothing => {
+            if 12 < g.free {
+                return append_plain(work, g, left, right);
+            }
+            merge(work, g, left, right)
+        }
     }
-    if 12 < g.free {
-        return append_plain(work, g, left, right);
-    }
-    merge(work, g, left, right)
 }
 
 // The conjunction of two edges, of which left is the larger.

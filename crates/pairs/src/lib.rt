@@ -6,7 +6,22 @@ ghost use lib.ListN.{length};
 ghost use Rattle.nodes.specs.Store.{field, oneMore};
 ghost use Rattle.nodes.specs.Last.{lastBefore};
 ghost use Rattle.pairs.specs.Bucket.{bucketOf};
+ghost use Rattle.pairs.specs.Answers.{placeOf};
 ghost use Rattle.pairs.specs.Store.{hasPair, isPair, Chained, Empty, Started, Room, Appended};
+
+// Words of a node's record, after the left operand, which is the first: the right operand, the node before it in its bucket, and the last
+// node of the bucket that has the record's number. The last two are one more than a node, or 0.
+const RIGHT: usize = 1;
+
+const BEFORE: usize = 4;
+
+const LAST: usize = 6;
+
+// The gate with given operands, or that there is none.
+pub enum Lookup {
+    Gate(usize),
+    Nothing,
+}
 
 // The bucket of a pair of operands.
 fn bucket(room: usize, left: u32, right: u32) -> usize
@@ -30,7 +45,7 @@ fn has_pair(work: &[u32], k: usize, left: u32, right: u32) -> bool
     requires { ⌜ 16 * k + 1 < length (now work) ⌝ }
     ensures { λ r. ⌜ r ≡ hasPair (now (work .entry)) left right k ⌝ }
 {
-    (work[16 * k] == left) & (work[16 * k + 1] == right)
+    (work[16 * k] == left) & (work[16 * k + RIGHT] == right)
 }
 
 // Empties the buckets.
@@ -41,26 +56,26 @@ pub fn start_pairs(work: &mut [u32], g: Graph)
     let room = g.room;
     let mut h = 0;
     while h < room {
-        work[16 * h + 6] = 0;
+        work[16 * h + LAST] = 0;
         h += 1;
     }
 }
 
-// One more than the gate with these operands, or 0 where there is none.
-pub fn find_pair(work: &[u32], g: Graph, left: u32, right: u32) -> usize
+// The gate with these operands.
+pub fn find_pair(work: &[u32], g: Graph, left: u32, right: u32) -> Lookup
     requires { ⌜ Chained (now work) g ⌝ }
-    ensures { λ r. ⌜ r ≡ lastBefore (isPair (now (work .entry)) g left right) (g .nodes) ⌝ }
+    ensures { λ r. ⌜ placeOf r ≡ lastBefore (isPair (now (work .entry)) g left right) (g .nodes) ⌝ }
 {
     let room = g.room;
     let h = bucket(room, left, right);
-    let mut next = word(work, h, 6);
+    let mut next = word(work, h, LAST);
     while 0 < next {
         if has_pair(work, next - 1, left, right) {
-            return next;
+            return Lookup::Gate(next - 1);
         }
-        next = word(work, next - 1, 4);
+        next = word(work, next - 1, BEFORE);
     }
-    0
+    Lookup::Nothing
 }
 
 // Adds a gate with these operands as the last node of the graph and of its bucket.
@@ -72,9 +87,9 @@ pub fn append_pair(work: &mut [u32], g: Graph, left: u32, right: u32) -> Graph
     let room = g.room;
     let h = bucket(room, left, right);
     work[16 * k] = left;
-    work[16 * k + 1] = right;
-    work[16 * k + 4] = work[16 * h + 6];
-    work[16 * h + 6] = (k + 1) as u32;
+    work[16 * k + RIGHT] = right;
+    work[16 * k + BEFORE] = work[16 * h + LAST];
+    work[16 * h + LAST] = (k + 1) as u32;
     Graph {
         free: g.free,
         nodes: k + 1,

@@ -87,7 +87,7 @@ module _ (k t s : ℕ) (ht : t < 2 ^ 64) (hs : s < 2 ^ 64) where
         none = λ z e v h. omega arith;
       }
 
-  pub candidate-odd : t ≡ (2 ^ 64 - 1) - s → Candidate k t s (2 * k + 2)
+  pub candidate-odd : t ≡ (2 ^ 64 - 1) - s → Candidate k t s (2 * k + 1 + 1)
   candidate-odd q =
       record {
         found = λ e r. (

@@ -13,7 +13,14 @@ ghost use Rattle.nodes.specs.Store.{field, pairsOf, Sized};
 ghost use Rattle.signatures.specs.Words.{wordAt, Put};
 ghost use Rattle.signatures.specs.Bucket.{normal as normalOf, halves as halvesOf, scrambled, bucketOf};
 ghost use Rattle.signatures.specs.Store.{patternValue, SignatureStore, Linked, Unsigned, Signed, SignedLast};
+ghost use Rattle.signatures.specs.Answers.{placeOf};
 ghost use Rattle.signatures.specs.Twin as Twin;
+
+// An edge, or that there is none.
+pub enum Match {
+    Edge(u32),
+    Nothing,
+}
 
 // The same number, as a 64-bit one.
 fn wide(x: u32) -> u64
@@ -175,30 +182,32 @@ fn eval_gates(work: &mut [u32], g: Graph)
     }
 }
 
-// One more than the edge of node k whose signature is s, where t is that of the node; else 0.
-fn candidate(k: Node, t: u64, s: u64) -> u32
+// The edge of node k whose signature is s, where t is that of the node.
+fn candidate(k: Node, t: u64, s: u64) -> Match
     requires { ⌜ k .0 < 65536 ⌝ }
-    ensures { λ r. ⌜ Twin.Candidate (k .0) t s r ⌝ }
+    ensures { λ r. ⌜ Twin.Candidate (k .0) t s (placeOf r) ⌝ }
 {
     if words::first_difference(t, s) == 64 {
-        return 2 * k.0 + 1;
+        return Match::Edge(2 * k.0);
     }
     if words::first_difference(t, !s) == 64 {
-        return 2 * k.0 + 2;
+        return Match::Edge(2 * k.0 + 1);
     }
-    0
+    Match::Nothing
 }
 
-// Adds edge e - 1 to the candidates, unless e is 0: word 11 of record i is candidate i. Answers how many there are.
-fn push(work: &mut [u32], count: usize, e: u32) -> usize
+// Adds an edge to the candidates, if there is one: word 11 of record i is candidate i. Answers how many there are.
+fn push(work: &mut [u32], count: usize, e: Match) -> usize
     requires { ⌜ 16 * count + 11 < length (now work) ⌝ }
-    ensures { λ r. ⌜ Twin.Pushed (now (work .entry)) (now (work .exit)) count (λ d. e ≡ d + 1) r ⌝ }
+    ensures { λ r. ⌜ Twin.Pushed (now (work .entry)) (now (work .exit)) count (λ d. placeOf e ≡ d + 1) r ⌝ }
 {
-    if e == 0 {
-        return count;
+    match e {
+        Match::Nothing => count,
+        Match::Edge(w) => {
+            work[16 * count + 11] = w;
+            count + 1
+        }
     }
-    work[16 * count + 11] = e - 1;
-    count + 1
 }
 
 // The candidates: the edges whose signature is s. Answers how many there are.
@@ -283,16 +292,16 @@ fn check_blocks(work: &mut [u32], g: Graph, a: u32, b: u32, count: usize) -> usi
     left
 }
 
-// One more than an edge that is equal in function to the conjunction of a and b, or 0 where there is none.
-pub fn find_twin(work: &mut [u32], g: Graph, a: u32, b: u32) -> u64
+// An edge that is equal in function to the conjunction of a and b.
+pub fn find_twin(work: &mut [u32], g: Graph, a: u32, b: u32) -> Match
     requires { ⌜ Twin.Ready (now work) g a b ⌝ }
-    ensures { λ r. ⌜ Twin.Searched (now (work .entry)) (now (work .exit)) g a b r ⌝ }
+    ensures { λ r. ⌜ Twin.Searched (now (work .entry)) (now (work .exit)) g a b (placeOf r) ⌝ }
 {
     let s = signature(work, a) & signature(work, b);
     let count = gather(work, g, s);
     let left = check_blocks(work, g, a, b, count);
     if left == 0 {
-        return 0;
+        return Match::Nothing;
     }
-    wide(work[11]) + 1
+    Match::Edge(work[11])
 }

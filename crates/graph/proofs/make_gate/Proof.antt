@@ -1,6 +1,8 @@
 -- `graph::make_gate` meets its contract: a gate that is found has the operands, and where none is found the pair is new.
 -- Assumes nothing.
+use mathlib.Core.Path.{refl, sym, ap, _∙_}
 use native.Mathlib.Omega.{arith}
+use Rattle.pairs.specs.Answers.{placeOf}
 use Rattle.graph.proofs.Outcomes.{found-bound, found-made, found-new}
 use borrow.Author.Needs.{needs}
 use Rattle.graph.proofs.make_gate.Statement.{statement}
@@ -11,41 +13,54 @@ find-pair-requires c κs =
     let w = c .before .before .pre in
     record { sized = w .stored .sized; store = w .stored .pairs }
 
-sub-t9 : tie.Need-sub-t9
-sub-t9 c = omega arith
+enum-known-k : tie.Need-enum-known-k
+enum-known-k c = search needs
 
 cast-t10 : tie.Need-cast-t10
 cast-t10 c =
-    let s = c .before .before .before .before in
-    let f = c .before .find-pair in
-    omega (arith, found-bound (s .args .work .now) (s .args .g) (s .args .left) (s .args .right) (s .pre) (f .result) (f .ensures) (omega arith))
+    let s = c .before .before .before .before .before .before in
+    let f = c .before .before .before .find-pair in
+    let b =
+    found-bound (s .args .work .now) (s .args .g) (s .args .left) (s .args .right) (s .pre) (placeOf (f .result)) (f .ensures)
+    (c .before .k .given .0 .0) (sym (ap placeOf (c .before .k .given .1))) in
+    omega (arith, b)
+
+enum-told : tie.Need-enum-told
+enum-told c = search needs
+
+append-plain-requires : tie.Need-append-plain-requires
+append-plain-requires c κs =
+    let s = c .before .before .before .before .before .before .before .before in
+    let f = c .before .before .before .before .before .find-pair in (
+      found-new (s .args .work .now) (s .args .g) (s .args .left) (s .args .right) (s .pre) (placeOf (f .result)) (f .ensures)
+          (ap placeOf (c .before .before .before .enum-told .given .1)),
+      omega (arith, c .before .if1 .taken),
+    )
 
 same-length : tie.Need-same-length
 same-length c = search needs
 
 returns : tie.Need-returns
-returns c =
-    let s = c .before .before .before .before in
-    let f = c .before .find-pair in
-    found-made (s .args .work .now) (s .args .g) (s .args .left) (s .args .right) (s .pre) (f .result) (f .ensures) (omega arith)
+returns c = c .before .before .append-plain .ensures
 
-append-plain-requires : tie.Need-append-plain-requires
-append-plain-requires c κs =
-    let s = c .before .before .before .before .before .before .before in
-    let f = c .before .before .before .before .find-pair in
-    (found-new (s .args .work .now) (s .args .g) (s .args .left) (s .args .right) (s .pre) (f .result) (f .ensures) (omega arith), omega (arith, c .before .if2 .taken))
+merge-requires : tie.Need-merge-requires
+merge-requires c κs =
+    let s = c .before .before .before .before .before .before .before .before in
+    let f = c .before .before .before .before .before .find-pair in (
+      found-new (s .args .work .now) (s .args .g) (s .args .left) (s .args .right) (s .pre) (placeOf (f .result)) (f .ensures)
+          (ap placeOf (c .before .before .before .enum-told .given .1)),
+      omega (arith, c .before .if1 .left),
+    )
 
 same-length-2 : tie.Need-same-length-2
 same-length-2 c = search needs
 
 returns-2 : tie.Need-returns-2
-returns-2 c = c .before .before .append-plain .ensures
-
-merge-requires : tie.Need-merge-requires
-merge-requires c κs =
-    let s = c .before .before .before .before .before .before .before in
-    let f = c .before .before .before .before .find-pair in
-    (found-new (s .args .work .now) (s .args .g) (s .args .left) (s .args .right) (s .pre) (f .result) (f .ensures) (omega arith), omega (arith, c .before .if2 .left))
+returns-2 c =
+    let s = c .before .before .before .before .before .before in
+    let f = c .before .before .before .find-pair in
+    found-made (s .args .work .now) (s .args .g) (s .args .left) (s .args .right) (s .pre) (placeOf (f .result)) (f .ensures) _
+    (sym (ap placeOf (c .before .k .given .1)))
 
 same-length-3 : tie.Need-same-length-3
 same-length-3 c = search needs
@@ -58,13 +73,14 @@ make-gate-spec =
     tie.close
     (tie.spec
     find-pair-requires
-    sub-t9
+    enum-known-k
     cast-t10
+    enum-told
+    append-plain-requires
     same-length
     returns
-    append-plain-requires
+    merge-requires
     same-length-2
     returns-2
-    merge-requires
     same-length-3
     returns-3)

@@ -1,7 +1,7 @@
 -- `pairs::find_pair` meets its contract. The loop's invariant: what is looked for is found below next. It is said of every graph that
 -- is stored in the memory. Assumes nothing.
 use mathlib.Core.Path.{_≡_, refl, sym, ap, _∙_}
-use Prim.Native.Nat.{ℕ, _-_}
+use Prim.Native.Nat.{ℕ, _+_, _-_}
 use native.Mathlib.Omega.{arith}
 use Rattle.nodes.specs.declared.Graph.{Graph}
 use Rattle.pairs.specs.Bucket.{bucketOf}
@@ -41,11 +41,15 @@ sub-has-pair c = omega arith
 has-pair-requires : tie.Need-has-pair-requires Inv-loop μ-loop
 has-pair-requires c κs = omega (arith, walk c .bound)
 
+sub-t11 : tie.Need-sub-t11 Inv-loop μ-loop
+sub-t11 c = omega arith
+
 returns : tie.Need-returns Inv-loop μ-loop
 returns c =
     let t = c .before .before .before .before .before .before .before in
     let n = c .before .before .before .loop .next in
-    walk-found (t .args .work .now) (t .args .g) (t .args .left) (t .args .right) n (n - 1) (omega arith) (walk (c .before .before))
+    let k : n ≡ n - 1 + 1 = omega arith in
+    sym k ∙ walk-found (t .args .work .now) (t .args .g) (t .args .left) (t .args .right) n (n - 1) k (walk (c .before .before))
     (sym (c .before .has-pair .ensures) ∙ c .if1 .taken)
 
 sub-word : tie.Need-sub-word Inv-loop μ-loop
@@ -86,6 +90,7 @@ find-pair-spec =
     loop-holds
     sub-has-pair
     has-pair-requires
+    sub-t11
     returns
     sub-word
     word-requires-2

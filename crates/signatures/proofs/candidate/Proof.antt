@@ -7,11 +7,8 @@ use Rattle.signatures.proofs.candidate.Tie as tie
 first-difference-requires : tie.Need-first-difference-requires
 first-difference-requires c κs = search needs
 
-mul-result : tie.Need-mul-result
-mul-result c = search needs
-
-add-result : tie.Need-add-result
-add-result c = search needs
+mul-t6 : tie.Need-mul-t6
+mul-t6 c = search needs
 
 returns : tie.Need-returns
 returns c =
@@ -22,11 +19,11 @@ returns c =
 first-difference-requires-2 : tie.Need-first-difference-requires-2
 first-difference-requires-2 c κs = search needs
 
-mul-result-2 : tie.Need-mul-result-2
-mul-result-2 c = search needs
+mul-t8 : tie.Need-mul-t8
+mul-t8 c = search needs
 
-add-result-2 : tie.Need-add-result-2
-add-result-2 c = search needs
+add-t9 : tie.Need-add-t9
+add-t9 c = search needs
 
 returns-2 : tie.Need-returns-2
 returns-2 c =
@@ -46,11 +43,10 @@ candidate-spec =
     tie.close
     (tie.spec
     first-difference-requires
-    mul-result
-    add-result
+    mul-t6
     returns
     first-difference-requires-2
-    mul-result-2
-    add-result-2
+    mul-t8
+    add-t9
     returns-2
     returns-3)

@@ -1,13 +1,11 @@
 -- `signatures::find_twin` meets its contract. Assumes nothing.
-use mathlib.Core.Path.{ap₂, sym, _∙_, subst}
+use mathlib.Core.Path.{ap₂, _∙_}
 use mathlib.Core.Bool.{_&&_}
-use Prim.Native.Nat.{ℕ, _+_}
 use native.Mathlib.Omega.{arith}
 use lib.Bits.{bitAnd, and-lt}
 use denote.Ref.{now}
 use Rattle.words.proofs.Bits.{bit-and}
-use Rattle.nodes.specs.Store.{pairsOf}
-use Rattle.signatures.specs.Twin.{Twin, Both}
+use Rattle.signatures.specs.Twin.{Both}
 use Rattle.signatures.proofs.Simulations.{simulable-kept}
 use Rattle.signatures.proofs.Twins.{twin-none, twin-first, searched}
 use borrow.Author.Needs.{needs}
@@ -61,30 +59,20 @@ returns c =
     let h = both (c .before .before .before .before .before .before .before .before .before) in
     searched (t .pre) h (k .ensures) (l .ensures) (twin-none (t .pre) h (k .ensures) (l .ensures) (c .if1 .taken))
 
-slice-read-wide : tie.Need-slice-read-wide
-slice-read-wide c = search needs
-
-wide-requires : tie.Need-wide-requires
-wide-requires c κs = search needs
-
-add-result : tie.Need-add-result
-add-result c = omega (arith, c .wide .ensures, c .before .slice-known4 .given 11)
+slice-read-t20 : tie.Need-slice-read-t20
+slice-read-t20 c = search needs
 
 same-length-2 : tie.Need-same-length-2
 same-length-2 c = search needs
 
 returns-2 : tie.Need-returns-2
 returns-2 c =
-    let d = c .before .before .before .before .before in
+    let d = c .before .before .before .before in
     let t = d .before .before .before .before .before .before .before .before .before .before .before in
-    let a = t .args in
-    let m = now (a .work) in
     let k = d .before .before .before .before .gather in
     let l = d .check-blocks in
     let h = both (d .before .before .before .before .before .before) in
-    searched (t .pre) h (k .ensures) (l .ensures)
-    (subst (λ (e : ℕ). Twin (a .g .free) (pairsOf m (a .g)) (a .a) (a .b) (e + 1)) (sym (c .wide .ensures))
-    (twin-first (t .pre) h (k .ensures) (l .ensures) (omega arith)))
+    searched (t .pre) h (k .ensures) (l .ensures) (twin-first (t .pre) h (k .ensures) (l .ensures) (omega arith))
 
 pub find-twin-spec : {M : Type 1} → statement M
 find-twin-spec =
@@ -96,8 +84,6 @@ find-twin-spec =
     check-blocks-requires
     same-length
     returns
-    slice-read-wide
-    wide-requires
-    add-result
+    slice-read-t20
     same-length-2
     returns-2)

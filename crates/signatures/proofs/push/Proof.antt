@@ -1,17 +1,19 @@
 -- `signatures::push` meets its contract. Assumes nothing.
-use Prim.Native.Nat.{_-_}
+use mathlib.Core.Path.{_≡_, sym, ap, _∙_}
+use Prim.Native.Nat.{ℕ, _+_}
 use native.Mathlib.Omega.{arith}
 use denote.Ref.{now}
+use Rattle.signatures.specs.Answers.{placeOf}
 use Rattle.signatures.proofs.Candidates.{pushed-none, pushed-one}
 use borrow.Author.Needs.{needs}
 use Rattle.signatures.proofs.push.Statement.{statement}
 use Rattle.signatures.proofs.push.Tie as tie
 
-returns : tie.Need-returns
-returns c = pushed-none (λ d q. omega arith)
+enum-told : tie.Need-enum-told
+enum-told c = search needs
 
-sub-work : tie.Need-sub-work
-sub-work c = search needs
+enum-known-e : tie.Need-enum-known-e
+enum-known-e c = search needs
 
 mul-work : tie.Need-mul-work
 mul-work c = search needs
@@ -28,24 +30,30 @@ slice-write-work c = search needs
 add-result : tie.Need-add-result
 add-result c = search needs
 
+returns : tie.Need-returns
+returns c = pushed-none (λ d q. let z : _≡_ {A = ℕ} 0 (d + 1) = sym (ap placeOf (c .enum-told .given .1)) ∙ q in omega arith)
+
 same-length : tie.Need-same-length
 same-length c = search needs
 
 returns-2 : tie.Need-returns-2
 returns-2 c =
-    let a = c .before .args in
-    pushed-one (now (a .work)) (a .count) (a .e - 1) (c .before .pre) (λ d q. omega arith) (λ d q. omega arith)
+    let a = c .before .before .before .args in
+    let w = c .before .e .given .0 .0 in
+    let z : placeOf (a .e) ≡ w + 1 = ap placeOf (c .before .e .given .1) in
+    pushed-one (now (a .work)) (a .count) w (c .before .before .before .pre) (λ d q. omega arith) (λ d q. omega arith)
 
 pub push-spec : {M : Type 1} → statement M
 push-spec =
     tie.close
     (tie.spec
-    returns
-    sub-work
+    enum-told
+    enum-known-e
     mul-work
     add-work
     mul-work-2
     slice-write-work
     add-result
+    returns
     same-length
     returns-2)
