@@ -18,7 +18,7 @@ use Rattle.layout.specs.Words.{word, circuitIn}
 use Rattle.roundtrip.proofs.Content.{content-length}
 use Rattle.roundtrip.proofs.LoadWrite.{Valid, counts-fit}
 use Rattle.roundtrip.proofs.Holding.{Sound, content-size, header-in, unsound}
-use Rattle.lines.specs.Header.{countsMeant}
+use Rattle.headers.specs.Header.{countsMeant}
 use Rattle.layout.specs.declared.Layout.{Layout}
 use Rattle.layout.specs.Layout.{PlacesOf, Counted}
 use Rattle.roundtrip.proofs.Counts.{counted}

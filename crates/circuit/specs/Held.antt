@@ -9,7 +9,7 @@ use Rattle.aiger.specs.Load.{needed}
 use Rattle.aiger.specs.Memory.{Holds}
 use Rattle.aiger.specs.Operations.{HoldsNone}
 use Rattle.layout.specs.Words.{word, contentEnd, circuitIn}
-use Rattle.lines.specs.declared.Counts.{Counts}
+use Rattle.headers.specs.declared.Counts.{Counts}
 use Rattle.layout.specs.declared.Layout.{Layout}
 use Rattle.layout.specs.Layout.{LayoutOf}
 use Rattle.layout.specs.Order.{Ordered}

@@ -1,6 +1,6 @@
 // Circuit memory: the test whether it holds a circuit, and the circuit's layout.
 use layout::Layout;
-use lines::Counts;
+use headers::Counts;
 use validity::Checked;
 ghost use mathlib.Core.Path.{_≡_};
 ghost use Prim.Native.Nat.{_≤_};
@@ -51,7 +51,7 @@ fn is_shaped(m: &[u32], p: Layout) -> bool
     requires { ⌜ PlacesOf (now m) p ⌝ }
     ensures { λ r. ⌜ Says r (Shaped (now (m .entry))) ⌝ }
 {
-    if !lines::counts_fit(counts_of(p)) {
+    if !headers::counts_fit(counts_of(p)) {
         return false;
     }
     let needed = 8 * (p.m + 1) + 256;

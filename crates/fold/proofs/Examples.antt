@@ -12,7 +12,7 @@ use Rattle.aiger.specs.Examples.{onLoaded}
 use Rattle.layout.specs.Order.{driver, completed, placedFrom, depthFirst}
 use Rattle.frames.specs.Starts.{freeBefore}
 use Rattle.nodes.specs.Graph.{leaves, grown, nodeValues}
-use Rattle.graph.specs.Rules.{basic, lowered, simplified}
+use Rattle.rules.specs.Rules.{basic, lowered, simplified}
 use Rattle.graph.specs.Chosen.{hasOperands, isTwin, twinOf, conjoin}
 use Rattle.cone.specs.Cone.{operandOf, marked, inCone, keptBefore, number, renumbered, keptGate, keptGates, folded}
 use Rattle.unroll.specs.Chosen.{filled, gateMade, gatesMade, leavesMade, linesMade, framesMade, unrolled}

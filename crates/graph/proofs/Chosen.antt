@@ -24,11 +24,11 @@ use Rattle.meaning.proofs.Lists.{eqb-of, equal-of-beq, last-only, last-none}
 use Rattle.nodes.specs.Graph.{Pair, edgeValue, nodes, pairAt, InGraph, Equal, Opposite, Built}
 use Rattle.nodes.proofs.Laws.{edge-free, edge-false, edge-complement}
 use Rattle.signatures.specs.Twin.{edgeUnder, bothUnder, Conjunction}
-use Rattle.graph.specs.Rules.{simplified}
+use Rattle.rules.specs.Rules.{simplified}
 use Rattle.graph.specs.Stored.{Fresh, Twinless}
 use Rattle.graph.specs.Chosen.{Outcome, hasOperands, isTwin, twinOf, orAdded, orMerged, orMade, conjoin}
-use Rattle.graph.specs.declared.Simple.the-variants.{Known, Gate}
-use Rattle.graph.specs.declared.Simple.{Simple}
+use Rattle.rules.specs.declared.Simple.the-variants.{Known, Gate}
+use Rattle.rules.specs.declared.Simple.{Simple}
 
 -- ---- edges of a built graph differ in function
 

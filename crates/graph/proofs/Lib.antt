@@ -1,5 +1,4 @@
 -- The laws of `graph`. Assumes nothing.
-pub mod Rules
 pub mod Growth
 pub mod Chosen
 pub mod Outcomes

@@ -5,28 +5,27 @@ use mathlib.Core.List.{List, [], _∷_, _++_}
 use mathlib.Core.Logic.{⊎-elim}
 use Prim.Native.Nat.{ℕ, _+_, _-_, _*_, _^_, _≤_, _<_}
 use native.Mathlib.Omega.{arith}
-use lib.ListN.{length, getD}
+use lib.ListN.{length}
 use Rattle.aiger.specs.Circuit.{var}
 use Rattle.aiger.specs.Frames.{freeBit}
 use Rattle.nodes.specs.Graph.{Pair, nodeValues, edgeValue, nodes, pairAt, Built, Extends, same, more}
-use Rattle.nodes.specs.Store.{pairOf, pairsOf, oneMore}
+use Rattle.nodes.specs.Store.{pairsOf, oneMore}
 use Rattle.nodes.specs.Last.{lastBefore}
 use Rattle.nodes.specs.Edges.{edgeOf, wordEdge, edgeWord}
 use Rattle.nodes.specs.declared.Graph.{Graph}
 use Rattle.nodes.specs.declared.Edge.{Edge}
-use Rattle.nodes.proofs.Laws.{node-constant, edge-new, edge-gate, edge-word, nodes-pairsOf, length-pairsOf, pairAt-pairsOf, pairsOf-same, pair-eq}
+use Rattle.nodes.proofs.Laws.{node-constant, edge-new, edge-gate, edge-word, nodes-pairsOf, length-pairsOf, pairsOf-same}
 use Rattle.pairs.specs.Store.{isPair, PairStore}
 use Rattle.pairs.proofs.Buckets.{SamePairs, store-same}
 use Rattle.pairs.proofs.Found.{found-gate, found-holds, found-none}
 use Rattle.signatures.specs.Store.{SignatureStore}
-use Rattle.graph.specs.Rules.{basic, lowered, simplified}
-use Rattle.graph.specs.Stored.{Stored, Asked, Operands, madeOf, Conjoined, Proper, New, Twinless}
+use Rattle.rules.specs.Rules.{simplified}
+use Rattle.graph.specs.Stored.{Stored, Operands, madeOf, Conjoined, Proper, New, Twinless}
 use Rattle.graph.specs.Chosen.{Outcome, conjoin}
 use Rattle.graph.specs.declared.Made.{Made}
-use Rattle.graph.specs.declared.Simple.{Simple}
-use Rattle.graph.specs.declared.Simple.the-variants.{Known, Gate}
-use Rattle.graph.proofs.Rules as rules
-use Rattle.graph.proofs.Rules.{ruled-value, ruled-edge, ruled-nonconstant-gate, ruled-larger, lowered-value, lowered-edge, simplified-lower, known-cases, gate-cases}
+use Rattle.rules.specs.declared.Simple.the-variants.{Known, Gate}
+use Rattle.rules.proofs.Rules as rules
+use Rattle.rules.proofs.Rules.{ruled-value, ruled-edge, ruled-nonconstant-gate, ruled-larger, lowered-value, lowered-edge, known-cases, gate-cases}
 use Rattle.graph.proofs.Chosen.{conjoin-known, conjoin-hashed, conjoin-added}
 use Rattle.graph.proofs.Growth.{built-more}
 
@@ -63,19 +62,6 @@ module _ (work last : List ℕ) (g : Graph) (a b : ℕ) (stored : Stored last g)
   word-made w e q l v o = edge-made w e (ap (λ (z : Edge). z .0 .0) q) (ap edgeWord q ∙ edge-word w) l v o
 
 -- ---- the rules
-
--- the operands of the gate that left is, in the memory
-pub lower-of : (work : List ℕ) (g : Graph) (left right : ℕ) → Asked work g left → basic left right ≡ Gate → g .free + 1 ≤ var left → {r : Simple}
-    → r ≡ lowered (record { left = getD work (16 * var left) 0; right = getD work (16 * var left + 1) 0 }) left right
-    → r ≡ simplified (g .free) (pairsOf work g) left right
-lower-of work g left right asked b l e =
-    let n = g .free in
-    let i = var left - (n + 1) in
-    let k : n + 1 + i ≡ var left = omega arith in
-    let z : 16 * var left + 0 ≡ 16 * var left = omega arith in
-    let p : pairAt (pairsOf work g) i ≡ record { left = getD work (16 * var left) 0; right = getD work (16 * var left + 1) 0 } =
-    pairAt-pairsOf work g i (omega (arith, asked .inside)) ∙ ap (pairOf work) k ∙ pair-eq (ap (λ (x : ℕ). getD work x 0) z) refl in
-    e ∙ ap (λ (q : Pair). lowered q left right) (sym p) ∙ sym (simplified-lower n (pairsOf work g) left right b l)
 
 module _ (work : List ℕ) (g : Graph) (left right : ℕ) (ready : Operands work g left right) (order : right ≤ left) where
   -- the value and the node of the edge that a rule says

@@ -8,9 +8,9 @@ use lib.ListN.{length}
 use Rattle.aiger.specs.Lists.{everyBelow, lastBelow}
 use Rattle.nodes.specs.Graph.{Pair, nodes, pairAt}
 use Rattle.signatures.specs.Twin.{edgeUnder, bothUnder}
-use Rattle.graph.specs.Rules.{simplified}
-use Rattle.graph.specs.declared.Simple.{Simple}
-use Rattle.graph.specs.declared.Simple.the-variants.{Known, Gate}
+use Rattle.rules.specs.Rules.{simplified}
+use Rattle.rules.specs.declared.Simple.{Simple}
+use Rattle.rules.specs.declared.Simple.the-variants.{Known, Gate}
 
 -- the gates of a graph, and an edge of it
 pub record Outcome : Type 0 where

@@ -14,10 +14,10 @@ use Rattle.nodes.specs.declared.Edge.{Edge}
 use Rattle.pairs.specs.Store.{PairStore}
 use Rattle.signatures.specs.Store.{SignatureStore}
 use Rattle.signatures.specs.Twin.{Conjunction}
-use Rattle.graph.specs.Rules.{simplified}
+use Rattle.rules.specs.Rules.{simplified}
 use Rattle.graph.specs.Chosen.{conjoin}
 use Rattle.graph.specs.declared.Made.{Made}
-use Rattle.graph.specs.declared.Simple.the-variants.{Gate}
+use Rattle.rules.specs.declared.Simple.the-variants.{Gate}
 
 -- the graph g stands in the memory
 pub record Stored (work : List ℕ) (g : Graph) : Type 0 where
@@ -68,11 +68,6 @@ pub record Proper (work : List ℕ) (g : Graph) (left right : ℕ) : Type 0 wher
   pub larger : var right < var left
   pub nonconstant : 2 ≤ right
   pub no-rule : simplified (g .free) (pairsOf work g) left right ≡ Gate
-
--- where the rules of two operands may be asked: left is an edge of the graph
-pub record Asked (work : List ℕ) (g : Graph) (left : ℕ) : Type 0 where
-  pub sized : Sized g (length work)
-  pub inside : var left < g .nodes
 
 -- no gate of gs has these operands
 abbrev pub Fresh : List Pair → ℕ → ℕ → Type 0

@@ -44,7 +44,7 @@ fn joined_counts(p: Layout, q: Layout) -> Counts
 fn are_small(k: Counts) -> bool
     ensures { λ r. ⌜ r ≡ countsFit (headerMeant k) ⌝ }
 {
-    lines::counts_fit(lines::Counts {
+    headers::counts_fit(headers::Counts {
         m: k.m as u64,
         i: k.i as u64,
         l: k.l as u64,

@@ -2,5 +2,4 @@ pub mod Tests
 pub mod Reading
 pub mod Storing
 pub mod Lines
-pub mod Heading
 pub mod Tail

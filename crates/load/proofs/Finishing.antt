@@ -20,8 +20,8 @@ use Rattle.layout.specs.Words.{word, contentEnd, circuitIn}
 use Rattle.roundtrip.proofs.Lists.{upto-length}
 use Rattle.roundtrip.proofs.LoadValid.{sections-counted, right-fit, same-header, load-valid}
 use Rattle.roundtrip.proofs.Content.{words-take, content-length, circuit-in}
-use Rattle.lines.specs.Header.{countsMeant}
-use Rattle.lines.specs.declared.Counts as lines
+use Rattle.headers.specs.Header.{countsMeant}
+use Rattle.headers.specs.declared.Counts as headers
 use Rattle.layout.specs.declared.Layout.{Layout}
 use Rattle.layout.specs.Layout.{PlacesOf, Counted}
 use Rattle.sections.specs.Sections.{headerAt}
@@ -65,11 +65,11 @@ limits-of h e =
 pub limits : (k : Counts) → countsFit (headerMeant k) ≡ true → Limits k
 limits k e = limits-of (headerMeant k) e
 
-pub limits-read : (h : lines.Counts) → countsFit (countsMeant h) ≡ true → Limits (narrowed h)
+pub limits-read : (h : headers.Counts) → countsFit (countsMeant h) ≡ true → Limits (narrowed h)
 limits-read h e = limits-of (countsMeant h) e
 
 -- counts within their limits have no justice and no fairness
-pub same-narrowed : (h : lines.Counts) → countsFit (countsMeant h) ≡ true → headerMeant (narrowed h) ≡ countsMeant h
+pub same-narrowed : (h : headers.Counts) → countsFit (countsMeant h) ≡ true → headerMeant (narrowed h) ≡ countsMeant h
 unfolding countsFit
 same-narrowed h e =
     let at = all-at (countTests (countsMeant h)) (T-true e) in
@@ -85,7 +85,7 @@ same-narrowed h e =
       F = sym (eqb→eq (h .f) 0 (at 8)) t;
     }
 
-pub fit-narrowed : (h : lines.Counts) → countsFit (countsMeant h) ≡ true → countsFit (headerMeant (narrowed h)) ≡ true
+pub fit-narrowed : (h : headers.Counts) → countsFit (countsMeant h) ≡ true → countsFit (headerMeant (narrowed h)) ≡ true
 fit-narrowed h e = ap countsFit (same-narrowed h e) ∙ e
 
 -- the counts in the first seven words
@@ -196,7 +196,7 @@ module _ (room : ℕ) (f : List ℕ) where
     unfolding spec.load
     refused-header e = rw (le-leb 1 (length f) some-byte, le-leb (length f) 65536 short, e)
 
-    module _ (h : lines.Counts) (at : ℕ) (e : header f ≡ some (countsMeant h, drop at f)) where
+    module _ (h : headers.Counts) (at : ℕ) (e : header f ≡ some (countsMeant h, drop at f)) where
       pub refused-counts : countsRight (isBinary f) (countsMeant h) ≡ false → spec.load room f ≡ refused 3
       unfolding spec.load
       refused-counts n = rw (le-leb 1 (length f) some-byte, le-leb (length f) 65536 short, e, n)
@@ -232,7 +232,7 @@ module _ (f : List ℕ) where
     unfolding wordsNeeded
     none-header e = rw (le-leb 1 (length f) some-byte, le-leb (length f) 65536 short, e)
 
-    module _ (h : lines.Counts) (at : ℕ) (e : header f ≡ some (countsMeant h, drop at f)) where
+    module _ (h : headers.Counts) (at : ℕ) (e : header f ≡ some (countsMeant h, drop at f)) where
       pub none-counts : countsRight (isBinary f) (countsMeant h) ≡ false → 0 ≡ wordsNeeded f
       unfolding wordsNeeded
       none-counts n = rw (le-leb 1 (length f) some-byte, le-leb (length f) 65536 short, e, n)

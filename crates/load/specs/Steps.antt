@@ -6,14 +6,14 @@ use Prim.Native.Nat.{ℕ}
 use Rattle.aiger.specs.Circuit.{Circuit}
 use Rattle.aiger.specs.File.{Header}
 use Rattle.aiger.specs.Load.{Answer, refused, gives, sections, _>>=_, _>>_}
-use Rattle.lines.specs.declared.Counts as lines
+use Rattle.headers.specs.declared.Counts as headers
 use Rattle.validity.specs.Validity.{judged}
 use Rattle.load.specs.declared.Counts.{Counts}
 use Rattle.load.specs.declared.LoadAnswer.{LoadAnswer}
 use Rattle.load.specs.declared.LoadAnswer.the-variants.{Loaded, Refused}
 
 -- a header's counts, without those of justice and fairness
-abbrev pub narrowed : lines.Counts → Counts
+abbrev pub narrowed : headers.Counts → Counts
 narrowed h = record { m = h .m; i = h .i; l = h .l; o = h .o; a = h .a; b = h .b; c = h .c }
 
 abbrev pub headerMeant : Counts → Header

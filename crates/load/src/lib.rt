@@ -1,5 +1,5 @@
 // Load: an AIGER file, in text or binary form, into circuit memory.
-use lines::Header;
+use headers::Header;
 use sections::Body;
 use validity::Checked;
 ghost use mathlib.Core.Path.{_≡_};
@@ -12,7 +12,7 @@ ghost use Rattle.aiger.specs.Load.{needed};
 ghost use Rattle.aiger.specs.Memory.{image};
 ghost use Rattle.aiger.specs.Operations.{Loaded, front};
 ghost use Rattle.layout.specs.Words.{word, circuitIn};
-ghost use Rattle.lines.specs.Header.{countsMeant};
+ghost use Rattle.headers.specs.Header.{countsMeant};
 ghost use Rattle.layout.specs.Layout.{Counted};
 ghost use Rattle.load.specs.declared.LoadAnswer.the-variants.{Refused};
 ghost use Rattle.load.specs.Answers.{answered, numbers};
@@ -44,7 +44,7 @@ pub struct Judgement {
 }
 
 // A header's counts as words.
-fn narrow(h: lines::Counts) -> Counts
+fn narrow(h: headers::Counts) -> Counts
     requires { ⌜ countsFit (countsMeant h) ≡ true ⌝ }
     ensures { λ r. ⌜ r ≡ narrowed h ⌝ }
 {
@@ -169,11 +169,11 @@ fn judge(file: &[u8], room: usize, words: &mut [u32], order: &mut [u32]) -> Judg
     if 65536 < file.len() {
         return refused(1);
     }
-    let Header::Read(h, at) = lines::read_header(file) else {
+    let Header::Read(h, at) = headers::read_header(file) else {
         return refused(2);
     };
-    let binary = lines::is_binary(file);
-    if !lines::counts_right(h, binary) {
+    let binary = headers::is_binary(file);
+    if !headers::counts_right(h, binary) {
         return refused(3);
     }
     let needed = 8 * (h.m as usize + 1) + 256;

@@ -15,7 +15,9 @@ same-length c = search needs
 
 returns : tie.Need-returns
 unfolding S.analysed
-returns c = (record { words = cc; draft = cc })
+returns c =
+    let e = c .before .before .before .before .before .before .start .ensures in
+    rw (← e .words, ← e .draft) (c .before .before .follow .ensures)
 
 pub analyse-spec : {M : Type 1} → statement M
 analyse-spec = tie.close (tie.spec start-requires follow-requires same-length returns)

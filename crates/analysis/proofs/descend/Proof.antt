@@ -43,7 +43,8 @@ loop-again c =
     let l = c .before .before .before .before .before .before .before .loop in
     let s = c .before .before .before .before .before .before .before .before .before .args in
     let more = descended-more (l .work) (s .net) (s .arena) (l .b) (s .level) (s .step) (l .left) (omega arith) (omega arith) in
-    (cc, sym (cc more))
+    let u = c .before .before .visit in
+    (u .kept .0 ∙ l .inv .0, rw (u .ensures .words, u .ensures .now) (sym more ∙ l .inv .1))
 
 same-length-2 : tie.Need-same-length-2 Inv-loop μ-loop
 same-length-2 c =

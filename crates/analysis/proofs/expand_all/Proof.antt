@@ -15,7 +15,9 @@ same-length c = search needs
 
 returns : tie.Need-returns
 unfolding S.expandedAll
-returns c = (record { words = cc; draft = cc })
+returns c =
+    let e = c .before .before .before .before .before .before .start .ensures in
+    rw (← e .words, ← e .draft) (c .before .before .expand-from .ensures)
 
 pub expand-all-spec : {M : Type 1} → statement M
 expand-all-spec = tie.close (tie.spec start-requires expand-from-requires same-length returns)

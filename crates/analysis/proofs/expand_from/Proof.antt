@@ -33,7 +33,8 @@ loop-again c =
     let l = c .before .before .before .before .before .loop in
     let s = c .before .before .before .before .before .before .before .args in
     let more = expanded-more (l .work) (s .net) (s .arena) (l .e) (l .left) (omega arith) in
-    (cc, sym (cc more))
+    let u = c .before .before .expand in
+    (u .kept .0 ∙ l .inv .0, rw (u .ensures .words, u .ensures .draft) (sym more ∙ l .inv .1))
 
 same-length : tie.Need-same-length Inv-loop μ-loop
 same-length c =

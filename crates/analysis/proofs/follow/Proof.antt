@@ -1,5 +1,6 @@
 -- `analysis::follow` meets its contract. Assumes nothing.
 use Rattle.analysis.specs.Analysis as S
+use mathlib.Core.Path.{ap}
 use borrow.Author.Needs.{needs}
 use Rattle.analysis.proofs.follow.Statement.{statement}
 use Rattle.analysis.proofs.follow.Tie as tie
@@ -15,7 +16,10 @@ same-length c = search needs
 
 returns : tie.Need-returns
 unfolding S.followed
-returns c = (record { words = cc; draft = cc })
+returns c =
+    let t = c .before .before .before .before .before .before .touch-all .ensures in
+    let e = c .before .before .descend .ensures in
+    rw (← t .words, ← t .count) (record { words = e .words; draft = ap S.draft (e .now) })
 
 pub follow-spec : {M : Type 1} → statement M
 follow-spec = tie.close (tie.spec touch-all-requires descend-requires same-length returns)

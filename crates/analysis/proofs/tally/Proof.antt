@@ -13,11 +13,11 @@ sum-requires c κs = search needs
 
 returns : tie.Need-returns
 unfolding S.tallied
-returns c = rw (← c .before .before .field .ensures, eq-eqb _ _ (c .before .if1 .taken)) (cc)
+returns c = rw (← c .before .before .field .ensures, eq-eqb _ _ (c .before .if1 .taken)) (c .sum .ensures)
 
 returns-2 : tie.Need-returns-2
 unfolding S.tallied
-returns-2 c = rw (← c .before .field .ensures, ne-eqb _ _ (c .if1 .left)) (cc)
+returns-2 c = rw (← c .before .field .ensures, ne-eqb _ _ (c .if1 .left))
 
 pub tally-spec : {M : Type 1} → statement M
 tally-spec = tie.close (tie.spec field-requires sum-requires returns returns-2)

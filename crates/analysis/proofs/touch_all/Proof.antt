@@ -38,7 +38,8 @@ loop-again c =
     let l = c .before .before .before .before .before .before .before .before .before .loop in
     let s = c .before .before .before .before .before .before .before .before .before .before .before .args in
     let more = touched-more (l .work) (s .net) (s .arena) (s .from) (s .level) (s .step) (l .left) (l .n) (omega arith) in
-    (cc, sym (cc more))
+    let u = c .before .before .touch in
+    (u .kept .0 ∙ l .inv .0, rw (u .ensures, c .before .before .before .before .tally .ensures, c .before .before .before .before .before .before .literal .ensures) (sym more ∙ l .inv .1))
 
 same-length : tie.Need-same-length Inv-loop μ-loop
 same-length c =

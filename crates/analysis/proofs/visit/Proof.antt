@@ -1,5 +1,6 @@
 -- `analysis::visit` meets its contract. Assumes nothing.
 use Rattle.analysis.specs.Analysis as S
+use mathlib.Core.Path.{refl}
 use borrow.Author.Needs.{needs}
 use Rattle.analysis.proofs.visit.Statement.{statement}
 use Rattle.analysis.proofs.visit.Tie as tie
@@ -28,7 +29,7 @@ same-length-2 c = search needs
 
 returns-2 : tie.Need-returns-2
 unfolding S.visited
-returns-2 c = rw (← c .before .before .before .before .field .ensures, ← c .before .before .opposite .ensures, ← c .before .is-member .ensures, c .if1 .left) (record { words = cc; now = cc })
+returns-2 c = rw (← c .before .before .before .before .field .ensures, ← c .before .before .opposite .ensures, ← c .before .is-member .ensures, c .if1 .left) (record { words = refl; now = refl })
 
 pub visit-spec : {M : Type 1} → statement M
 visit-spec =

@@ -6,8 +6,8 @@ use native.Mathlib.Omega.{arith}
 use borrow.Author.Needs.{needs}
 use borrow.Author.Tests.{not-true, not-false}
 use Rattle.aiger.specs.File.{countsFit}
-use Rattle.lines.specs.declared.Counts.{Counts}
-use Rattle.lines.specs.Header.{countsMeant}
+use Rattle.headers.specs.declared.Counts.{Counts}
+use Rattle.headers.specs.Header.{countsMeant}
 use Rattle.circuit.specs.Held.{countsIn}
 use Rattle.circuit.proofs.Testing.{small, not-fit, too-short, shaped}
 use Rattle.circuit.proofs.is_shaped.Statement.{statement}

@@ -9,7 +9,7 @@ bit-requires c κs = search needs
 
 returns : tie.Need-returns
 unfolding P.canRise
-returns c = cc
+returns c = rw (← c .bit .ensures)
 
 pub can-rise-spec : {M : Type 1} → statement M
 can-rise-spec = tie.close (tie.spec bit-requires returns)

@@ -38,7 +38,8 @@ loop-again c =
     let s = c .before .before .before .before .before .before .before .before .before .args in
     let more = evaluated-more (l .work) (s .net) (l .v) (s .n - l .v) (omega arith) in
     let e : s .n - l .v - 1 ≡ s .n - (l .v + 1) = omega arith in
-    (cc, omega arith, sym (cc (more, e)))
+    let u = c .before .before .set-field in
+    (u .kept .0 ∙ l .inv .0, omega arith, rw (u .ensures, c .before .before .before .before .value .ensures, ← e) (sym more ∙ l .inv .2))
 
 same-length : tie.Need-same-length Inv-loop μ-loop
 same-length c =

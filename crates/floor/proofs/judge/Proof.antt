@@ -31,7 +31,7 @@ returns : tie.Need-returns Inv-loop μ-loop
 returns c =
     let l = c .before .before .before .before .loop in
     let s = c .before .before .before .before .before .before .args in
-    sym (judged-wrong (s .work .now) (s .net) (s .arena) (l .left) (l .top) (omega arith) (cc)) ∙ l .inv
+    sym (judged-wrong (s .work .now) (s .net) (s .arena) (l .left) (l .top) (omega arith) (rw (← c .before .before .literal .ensures) (sym (c .before .is-wrong .ensures) ∙ c .if1 .taken))) ∙ l .inv
 
 later-requires : tie.Need-later-requires Inv-loop μ-loop
 later-requires c κs = search needs
@@ -43,8 +43,8 @@ loop-again : tie.Need-loop-again Inv-loop μ-loop
 loop-again c =
     let l = c .before .before .before .before .before .loop in
     let s = c .before .before .before .before .before .before .before .args in
-    let more = judged-more (s .work .now) (s .net) (s .arena) (l .left) (l .top) (omega arith) (cc) in
-    sym (cc more)
+    let more = judged-more (s .work .now) (s .net) (s .arena) (l .left) (l .top) (omega arith) (rw (← c .before .before .before .literal .ensures) (sym (c .before .before .is-wrong .ensures) ∙ c .before .if1 .left)) in
+    rw (c .later .ensures, c .before .before .before .literal .ensures) (sym more ∙ l .inv)
 
 returns-2 : tie.Need-returns-2 Inv-loop μ-loop
 returns-2 c =

@@ -10,15 +10,15 @@ opposite-requires c κs = search needs
 
 returns : tie.Need-returns
 unfolding P.later
-returns c = rw (← c .before .opposite .ensures, eq-eqb _ _ (c .if1 .taken)) (cc)
+returns c = rw (← c .before .opposite .ensures, eq-eqb _ _ (c .if1 .taken))
 
 returns-2 : tie.Need-returns-2
 unfolding P.later
-returns-2 c = rw (← c .before .before .opposite .ensures, ne-eqb _ _ (c .before .if1 .left), lt-ltb _ _ (c .if2 .taken)) (cc)
+returns-2 c = rw (← c .before .before .opposite .ensures, ne-eqb _ _ (c .before .if1 .left), lt-ltb _ _ (c .if2 .taken))
 
 returns-3 : tie.Need-returns-3
 unfolding P.later
-returns-3 c = rw (← c .before .before .opposite .ensures, ne-eqb _ _ (c .before .if1 .left), le-ltb _ _ (c .if2 .left)) (cc)
+returns-3 c = rw (← c .before .before .opposite .ensures, ne-eqb _ _ (c .before .if1 .left), le-ltb _ _ (c .if2 .left))
 
 pub later-spec : {M : Type 1} → statement M
 later-spec = tie.close (tie.spec opposite-requires returns returns-2 returns-3)

@@ -32,8 +32,8 @@ returns : tie.Need-returns Inv-loop μ-loop
 returns c =
     let l = c .before .before .before .before .before .before .before .before .loop in
     let s = c .before .before .before .before .before .before .before .before .before .before .args in
-    let all = sym (raised-here (l .work) (s .nodes) (s .m) (l .v) (omega arith) (cc)) ∙ l .inv .1 in
-    record { words = cc (ap (λ (t : Counted). t .words) all); count = ap (λ (t : Counted). t .count) all }
+    let all = sym (raised-here (l .work) (s .nodes) (s .m) (l .v) (omega arith) (sym (c .before .before .before .before .before .can-rise .ensures) ∙ c .before .before .before .before .if1 .taken)) ∙ l .inv .1 in
+    record { words = c .before .before .lift .ensures ∙ ap (λ (t : Counted). t .words) all; count = ap (λ (t : Counted). t .count) all }
 
 clear-requires : tie.Need-clear-requires Inv-loop μ-loop
 clear-requires c κs = search needs
@@ -48,8 +48,9 @@ loop-again : tie.Need-loop-again Inv-loop μ-loop
 loop-again c =
     let l = c .before .before .before .before .before .before .before .before .loop in
     let s = c .before .before .before .before .before .before .before .before .before .before .args in
-    let more = raised-more (l .work) (s .nodes) (s .m) (l .v) (omega arith) (cc) in
-    (cc, sym (cc more))
+    let more = raised-more (l .work) (s .nodes) (s .m) (l .v) (omega arith) (sym (c .before .before .before .before .before .can-rise .ensures) ∙ c .before .before .before .before .if1 .left) in
+    let u = c .before .before .clear in
+    (u .kept .0 ∙ l .inv .0, rw (u .ensures) (sym more ∙ l .inv .1))
 
 same-length-2 : tie.Need-same-length-2 Inv-loop μ-loop
 same-length-2 c =

@@ -1,6 +1,7 @@
 -- `floor::refute` meets its contract. Assumes nothing.
 use borrow.Author.Tests.{eq-eqb, ne-eqb}
 use Rattle.floor.specs.Place as P
+use mathlib.Core.Path.{refl}
 use borrow.Author.Needs.{needs}
 use Rattle.floor.proofs.refute.Statement.{statement}
 use Rattle.floor.proofs.refute.Tie as tie
@@ -13,7 +14,7 @@ same-length c = search needs
 
 returns : tie.Need-returns
 unfolding P.refuted P.raisedBy
-returns c = rw (← c .before .judge .ensures, c .before .before .before .if1 .taken, eq-eqb _ _ (c .if2 .taken)) (record { words = cc; count = cc })
+returns c = rw (← c .before .judge .ensures, c .before .before .before .if1 .taken, eq-eqb _ _ (c .if2 .taken)) (record { words = refl; count = refl })
 
 raise-requires : tie.Need-raise-requires
 raise-requires c κs = search needs
@@ -27,7 +28,7 @@ returns-2 c = rw (← c .before .before .before .before .before .judge .ensures,
 
 returns-3 : tie.Need-returns-3
 unfolding P.refuted P.raisedBy
-returns-3 c = rw (c .if1 .left) (record { words = cc; count = cc })
+returns-3 c = rw (c .if1 .left) (record { words = refl; count = refl })
 
 pub refute-spec : {M : Type 1} → statement M
 refute-spec =

@@ -14,7 +14,7 @@ same-length : tie.Need-same-length
 same-length c = search needs
 
 returns : tie.Need-returns
-returns c = (record { words = cc; true = cc })
+returns c = record { words = c .before .before .before .before .evaluate .ensures; true = rw (← c .before .before .before .before .evaluate .ensures, ← c .edge .ensures) }
 
 pub show-spec : {M : Type 1} → statement M
 show-spec = tie.close (tie.spec evaluate-requires edge-requires same-length returns)

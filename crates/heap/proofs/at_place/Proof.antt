@@ -9,7 +9,7 @@ field-requires c κs = search needs
 
 returns : tie.Need-returns
 unfolding Hp.nodeAt
-returns c = cc
+returns c = rw (← c .field .ensures)
 
 pub at-place-spec : {M : Type 1} → statement M
 at-place-spec = tie.close (tie.spec field-requires returns)

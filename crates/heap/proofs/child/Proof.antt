@@ -13,11 +13,11 @@ add-result c = search needs
 
 returns : tie.Need-returns
 unfolding Hp.child
-returns c = rw (le-leb _ _ (c .if1 .taken)) (cc)
+returns c = rw (le-leb _ _ (c .if1 .taken))
 
 returns-2 : tie.Need-returns-2
 unfolding Hp.child
-returns-2 c = rw (lt-leb _ _ (c .if1 .left)) (cc)
+returns-2 c = rw (lt-leb _ _ (c .if1 .left))
 
 pub child-spec : {M : Type 1} → statement M
 child-spec = tie.close (tie.spec mul-result add-result returns returns-2)

@@ -8,7 +8,7 @@ use Rattle.heap.proofs.drop_top.Tie as tie
 
 returns : tie.Need-returns
 unfolding Hp.dropped
-returns c = rw (le-leb _ _ (c .if1 .taken)) (record { words = cc; heap = refl })
+returns c = rw (le-leb _ _ (c .if1 .taken)) (record { words = refl; heap = refl })
 
 sub-at-place : tie.Need-sub-at-place
 sub-at-place c = search needs
@@ -30,7 +30,7 @@ same-length c = search needs
 
 returns-2 : tie.Need-returns-2
 unfolding Hp.dropped
-returns-2 c = rw (lt-leb _ _ (c .before .before .before .before .before .before .before .before .before .if1 .left)) (record { words = cc; heap = refl })
+returns-2 c = rw (lt-leb _ _ (c .before .before .before .before .before .before .before .before .before .if1 .left)) (record { words = rw (← c .before .before .before .before .before .before .at-place .ensures) (c .before .before .before .down .ensures); heap = refl })
 
 pub drop-top-spec : {M : Type 1} → statement M
 drop-top-spec =

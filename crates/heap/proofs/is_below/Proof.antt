@@ -7,7 +7,7 @@ use Rattle.heap.proofs.is_below.Tie as tie
 
 returns : tie.Need-returns
 unfolding Hp.isBelow
-returns c = rw (le-leb _ _ (c .if1 .taken)) (cc)
+returns c = rw (le-leb _ _ (c .if1 .taken))
 
 at-place-requires : tie.Need-at-place-requires
 at-place-requires c κs = search needs
@@ -20,7 +20,7 @@ field-requires-2 c κs = search needs
 
 returns-2 : tie.Need-returns-2
 unfolding Hp.isBelow
-returns-2 c = rw (lt-leb _ _ (c .before .before .before .if1 .left)) (cc)
+returns-2 c = rw (lt-leb _ _ (c .before .before .before .if1 .left), ← c .before .before .at-place .ensures, ← c .before .field .ensures, ← c .field2 .ensures)
 
 pub is-below-spec : {M : Type 1} → statement M
 is-below-spec =

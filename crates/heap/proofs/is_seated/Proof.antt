@@ -10,14 +10,14 @@ place-of-requires c κs = search needs
 
 returns : tie.Need-returns
 unfolding Hp.isSeated
-returns c = rw (← c .before .place-of .ensures, le-leb _ _ (c .if1 .taken)) (cc)
+returns c = rw (← c .before .place-of .ensures, le-leb _ _ (c .if1 .taken))
 
 at-place-requires : tie.Need-at-place-requires
 at-place-requires c κs = search needs
 
 returns-2 : tie.Need-returns-2
 unfolding Hp.isSeated
-returns-2 c = rw (← c .before .before .place-of .ensures, lt-leb _ _ (c .before .if1 .left)) (cc)
+returns-2 c = rw (← c .before .before .place-of .ensures, lt-leb _ _ (c .before .if1 .left), ← c .at-place .ensures)
 
 pub is-seated-spec : {M : Type 1} → statement M
 is-seated-spec = tie.close (tie.spec place-of-requires returns at-place-requires returns-2)

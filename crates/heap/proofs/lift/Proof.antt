@@ -15,7 +15,7 @@ same-length c = search needs
 
 returns : tie.Need-returns
 unfolding Hp.lifted
-returns c = cc
+returns c = rw (← c .before .before .before .before .at-place .ensures) (c .before .before .seat .ensures)
 
 pub lift-spec : {M : Type 1} → statement M
 lift-spec = tie.close (tie.spec at-place-requires seat-requires same-length returns)

@@ -9,7 +9,7 @@ field-requires c κs = search needs
 
 returns : tie.Need-returns
 unfolding Hp.placeOf
-returns c = cc
+returns c = rw (← c .field .ensures)
 
 pub place-of-spec : {M : Type 1} → statement M
 place-of-spec = tie.close (tie.spec field-requires returns)

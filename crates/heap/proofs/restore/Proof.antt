@@ -35,7 +35,8 @@ loop-again c =
     let l = c .before .before .before .before .before .before .before .loop in
     let s = c .before .before .before .before .before .before .before .before .before .args in
     let more = restored-more (l .work) (s .net) (l .h) (s .from) (l .left) (omega arith) in
-    (cc, sym (cc more))
+    let u = c .before .before .admit in
+    (u .kept .0 ∙ l .inv .0, rw (u .ensures .words, u .ensures .heap, c .before .before .before .before .field .ensures) (sym more ∙ l .inv .1))
 
 same-length : tie.Need-same-length Inv-loop μ-loop
 same-length c = c .before .loop .inv .0

@@ -35,7 +35,8 @@ loop-again c =
     let l = c .before .before .before .before .before .before .before .loop in
     let s = c .before .before .before .before .before .before .before .before .before .args in
     let more = scaled-more (l .work) (s .nodes) (l .left) (omega arith) in
-    (cc, sym (cc more))
+    let u = c .before .before .set-field in
+    (u .kept .0 ∙ l .inv .0, rw (u .ensures, c .before .before .before .before .field .ensures) (sym more ∙ l .inv .1))
 
 same-length : tie.Need-same-length Inv-loop μ-loop
 same-length c = c .before .loop .inv .0

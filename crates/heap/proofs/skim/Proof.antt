@@ -52,7 +52,8 @@ loop-again c =
     let s = c .before .before .before .before .before .before .before .before .before .before .before .before .args in
     let e = c .before .before .before .before .before .field .ensures ∙ ap (λ (k : ℕ). field (l .work) (s .nodes) k 5) (c .before .before .before .before .before .before .before .at-place .ensures) in
     let more = skimmed-more (l .work) (s .nodes) (l .h) (l .left) (omega arith) (λ z. c .before .before .before .before .if1 .left (e ∙ z)) in
-    (cc, sym (cc more))
+    let u = c .before .before .drop-top in
+    (u .kept .0 ∙ l .inv .0, rw (u .ensures .words, u .ensures .heap) (sym more ∙ l .inv .1))
 
 same-length-2 : tie.Need-same-length-2 Inv-loop μ-loop
 same-length-2 c = c .before .loop .inv .0

@@ -24,7 +24,7 @@ same-length c = search needs
 
 returns : tie.Need-returns
 unfolding K.fixed
-returns c = cc
+returns c = rw (← c .before .before .before .before .field .ensures) (c .before .before .set-field .ensures)
 
 pub fix-spec : {M : Type 1} → statement M
 fix-spec =

@@ -41,11 +41,11 @@ cast-if1 c = search needs
 
 returns : tie.Need-returns
 unfolding K.kept
-returns c = rw (lt-ltb _ _ (c .if1 .taken)) (record { words = cc; arena = cc })
+returns c = rw (lt-ltb _ _ (c .if1 .taken)) (record { words = refl; arena = refl })
 
 returns-2 : tie.Need-returns-2
 unfolding K.kept
-returns-2 c = rw (le-ltb _ _ (c .before .before .if1 .left), le-leb _ _ (c .if2 .taken)) (record { words = cc; arena = cc })
+returns-2 c = rw (le-ltb _ _ (c .before .before .if1 .left), le-leb _ _ (c .if2 .taken)) (record { words = refl; arena = refl })
 
 write-head-requires : tie.Need-write-head-requires
 write-head-requires c κs = search needs
@@ -65,7 +65,7 @@ returns-3 c = rw (le-ltb _ _ (c .before .before .before .before .before .before 
 
 returns-4 : tie.Need-returns-4
 unfolding K.kept
-returns-4 c = rw (le-ltb _ _ (c .before .before .before .if1 .left), lt-leb _ _ (c .before .if2 .left), c .if3 .left) (record { words = cc; arena = cc })
+returns-4 c = rw (le-ltb _ _ (c .before .before .before .if1 .left), lt-leb _ _ (c .before .if2 .left), c .if3 .left) (record { words = refl; arena = refl })
 
 pub keep-spec : {M : Type 1} → statement M
 keep-spec =

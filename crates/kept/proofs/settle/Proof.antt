@@ -16,15 +16,15 @@ same-length c = search needs
 
 returns : tie.Need-returns
 unfolding K.settled
-returns c = rw (c .before .before .before .before .before .before .before .before .if1 .taken, eq-eqb _ _ (c .before .before .before .before .before .before .if2 .taken)) (cc)
+returns c = rw (c .before .before .before .before .before .before .before .before .if1 .taken, eq-eqb _ _ (c .before .before .before .before .before .before .if2 .taken), ← c .before .before .before .before .literal .ensures) (c .before .before .fix .ensures)
 
 returns-2 : tie.Need-returns-2
 unfolding K.settled
-returns-2 c = rw (c .before .before .if1 .taken, ne-eqb _ _ (c .if2 .left)) (cc)
+returns-2 c = rw (c .before .before .if1 .taken, ne-eqb _ _ (c .if2 .left))
 
 returns-3 : tie.Need-returns-3
 unfolding K.settled
-returns-3 c = rw (c .if1 .left) (cc)
+returns-3 c = rw (c .if1 .left)
 
 pub settle-spec : {M : Type 1} → statement M
 settle-spec =

@@ -21,7 +21,7 @@ same-length c = search needs
 
 returns : tie.Need-returns
 unfolding K.withHead
-returns c = cc
+returns c = rw (← c .before .before .before .before .before .before .set-head .ensures) (c .before .before .set-head2 .ensures)
 
 pub write-head-spec : {M : Type 1} → statement M
 write-head-spec =

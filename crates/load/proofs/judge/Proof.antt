@@ -9,9 +9,9 @@ use borrow.Author.Needs.{needs}
 use borrow.Author.Tests.{not-true, not-false}
 use lib.ListN.{length, drop}
 use Rattle.aiger.specs.File as file
-use Rattle.lines.specs.Header.{HeaderAt, countsMeant}
-use Rattle.lines.specs.declared.Counts as lines
-use Rattle.lines.specs.declared.Header.{Header}
+use Rattle.headers.specs.Header.{HeaderAt, countsMeant}
+use Rattle.headers.specs.declared.Counts as headers
+use Rattle.headers.specs.declared.Header.{Header}
 use Rattle.roundtrip.proofs.LoadValid.{right-fit}
 use Rattle.load.specs.Steps.{narrowed, headerMeant, loadBody}
 use Rattle.load.specs.declared.Counts.{Counts}
@@ -35,7 +35,7 @@ found n r e = subst (HeaderAt (F n)) e (n .read-header .ensures)
 abbrev N : tie.After-h → tie.After-read-header
 N t = t .before .before
 
-abbrev H : tie.After-h → lines.Counts
+abbrev H : tie.After-h → headers.Counts
 H t = t .h .given .0 .0
 
 abbrev next : tie.After-h → ℕ

@@ -13,7 +13,7 @@ same-length : tie.Need-same-length
 same-length c = search needs
 
 returns : tie.Need-returns
-returns c = cc
+returns c = rw (← c .before .before .before .head-place .ensures) (c .before .before .put .ensures)
 
 pub set-head-spec : {M : Type 1} → statement M
 set-head-spec = tie.close (tie.spec head-place-requires put-requires same-length returns)

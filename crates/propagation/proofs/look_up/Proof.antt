@@ -58,7 +58,8 @@ loop-again c =
     let l = c .before .before .before .before .before .before .before .before .before .before .loop in
     let s = c .before .before .before .before .before .before .before .before .before .before .before .before .args in
     let more = up-more (l .work) (s .net) (l .t) (l .at) (l .left) (omega arith) (c .before .before .before .before .before .before .before .before .if1 .left) (c .before .before .before .before .before .before .if2 .left) in
-    (cc, sym (cc more))
+    let u = c .before .before .look in
+    (u .kept .0 ∙ l .inv .0, rw (u .ensures .words, u .ensures .state, c .before .before .before .before .next-fan .ensures) (sym more ∙ l .inv .1))
 
 same-length-3 : tie.Need-same-length-3 Inv-loop μ-loop
 same-length-3 c =

@@ -10,14 +10,14 @@ mul-result c = search needs
 
 returns : tie.Need-returns
 unfolding G.reason
-returns c = rw (eq-eqb _ _ (c .if1 .taken)) (cc)
+returns c = rw (eq-eqb _ _ (c .if1 .taken))
 
 mul-result-2 : tie.Need-mul-result-2
 mul-result-2 c = search needs
 
 returns-2 : tie.Need-returns-2
 unfolding G.reason
-returns-2 c = rw (ne-eqb _ _ (c .before .if1 .left), eq-eqb _ _ (c .if2 .taken)) (cc)
+returns-2 c = rw (ne-eqb _ _ (c .before .if1 .left), eq-eqb _ _ (c .if2 .taken))
 
 mul-result-3 : tie.Need-mul-result-3
 mul-result-3 c = search needs
@@ -27,7 +27,7 @@ add-result c = search needs
 
 returns-3 : tie.Need-returns-3
 unfolding G.reason
-returns-3 c = rw (ne-eqb _ _ (c .before .before .if1 .left), ne-eqb _ _ (c .before .if2 .left), eq-eqb _ _ (c .if3 .taken)) (cc)
+returns-3 c = rw (ne-eqb _ _ (c .before .before .if1 .left), ne-eqb _ _ (c .before .if2 .left), eq-eqb _ _ (c .if3 .taken))
 
 mul-result-4 : tie.Need-mul-result-4
 mul-result-4 c = search needs
@@ -43,11 +43,11 @@ add-result-3 c = search needs
 
 returns-4 : tie.Need-returns-4
 unfolding G.reason
-returns-4 c = rw (ne-eqb _ _ (c .before .before .before .if1 .left), ne-eqb _ _ (c .before .before .if2 .left), ne-eqb _ _ (c .before .if3 .left), eq-eqb _ _ (c .if4 .taken)) (cc)
+returns-4 c = rw (ne-eqb _ _ (c .before .before .before .if1 .left), ne-eqb _ _ (c .before .before .if2 .left), ne-eqb _ _ (c .before .if3 .left), eq-eqb _ _ (c .if4 .taken))
 
 returns-5 : tie.Need-returns-5
 unfolding G.reason
-returns-5 c = rw (ne-eqb _ _ (c .before .before .before .if1 .left), ne-eqb _ _ (c .before .before .if2 .left), ne-eqb _ _ (c .before .if3 .left), ne-eqb _ _ (c .if4 .left)) (cc)
+returns-5 c = rw (ne-eqb _ _ (c .before .before .before .if1 .left), ne-eqb _ _ (c .before .before .if2 .left), ne-eqb _ _ (c .before .if3 .left), ne-eqb _ _ (c .if4 .left))
 
 pub reason-spec : {M : Type 1} → statement M
 reason-spec =

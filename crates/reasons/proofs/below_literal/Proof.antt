@@ -13,14 +13,14 @@ add-result c = search needs
 
 returns : tie.Need-returns
 unfolding R.belowLiteral
-returns c = rw (eq-eqb _ _ (c .if1 .taken)) (cc)
+returns c = rw (eq-eqb _ _ (c .if1 .taken))
 
 field-requires : tie.Need-field-requires
 field-requires c κs = search needs
 
 returns-2 : tie.Need-returns-2
 unfolding R.belowLiteral
-returns-2 c = rw (ne-eqb _ _ (c .before .if1 .left)) (cc)
+returns-2 c = rw (ne-eqb _ _ (c .before .if1 .left)) (c .field .ensures)
 
 pub below-literal-spec : {M : Type 1} → statement M
 below-literal-spec = tie.close (tie.spec mul-result add-result returns field-requires returns-2)

@@ -12,7 +12,7 @@ sub-result c = search needs
 
 returns : tie.Need-returns
 unfolding R.isFalse
-returns c = cc
+returns c = rw (← c .field .ensures)
 
 pub is-false-spec : {M : Type 1} → statement M
 is-false-spec = tie.close (tie.spec field-requires sub-result returns)

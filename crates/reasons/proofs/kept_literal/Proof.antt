@@ -10,7 +10,7 @@ literal-requires : tie.Need-literal-requires
 literal-requires c κs = search needs
 
 returns : tie.Need-returns
-returns c = cc
+returns c = rw (← c .before .head .ensures) (c .literal .ensures)
 
 pub kept-literal-spec : {M : Type 1} → statement M
 kept-literal-spec = tie.close (tie.spec head-requires literal-requires returns)

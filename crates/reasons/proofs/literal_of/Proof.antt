@@ -10,14 +10,14 @@ kept-literal-requires c κs = search needs
 
 returns : tie.Need-returns
 unfolding R.literalOf
-returns c = rw (eq-eqb _ _ (c .before .if1 .taken)) (cc)
+returns c = rw (eq-eqb _ _ (c .before .if1 .taken)) (c .kept-literal .ensures)
 
 above-literal-requires : tie.Need-above-literal-requires
 above-literal-requires c κs = search needs
 
 returns-2 : tie.Need-returns-2
 unfolding R.literalOf
-returns-2 c = rw (ne-eqb _ _ (c .before .before .if1 .left), eq-eqb _ _ (c .before .if2 .taken)) (cc)
+returns-2 c = rw (ne-eqb _ _ (c .before .before .if1 .left), eq-eqb _ _ (c .before .if2 .taken)) (c .above-literal .ensures)
 
 cast-below-literal : tie.Need-cast-below-literal
 cast-below-literal c = search needs
@@ -27,7 +27,7 @@ below-literal-requires c κs = search needs
 
 returns-3 : tie.Need-returns-3
 unfolding R.literalOf
-returns-3 c = rw (ne-eqb _ _ (c .before .before .if1 .left), ne-eqb _ _ (c .before .if2 .left)) (cc)
+returns-3 c = rw (ne-eqb _ _ (c .before .before .if1 .left), ne-eqb _ _ (c .before .if2 .left)) (c .below-literal .ensures)
 
 pub literal-of-spec : {M : Type 1} → statement M
 literal-of-spec =

@@ -16,7 +16,7 @@ edge-to-requires c κs = search needs
 
 returns : tie.Need-returns
 unfolding S.renumber
-returns c = cc
+returns c = rw (← c .before .word .ensures) (c .edge-to .ensures)
 
 pub renumber-spec : {M : Type 1} → statement M
 renumber-spec = tie.close (tie.spec word-requires edge-to-requires returns)

@@ -1,6 +1,7 @@
 -- `resolve::append` meets its contract. Assumes nothing.
 use borrow.Author.Tests.{le-leb, lt-leb}
 use Rattle.resolve.specs.Draft as D
+use mathlib.Core.Path.{refl}
 use borrow.Author.Needs.{needs}
 use Rattle.resolve.proofs.append.Statement.{statement}
 use Rattle.resolve.proofs.append.Tie as tie
@@ -37,7 +38,7 @@ cast-if1 c = search needs
 
 returns : tie.Need-returns
 unfolding D.appended
-returns c = rw (le-leb _ _ (c .if1 .taken)) (record { words = cc; draft = cc })
+returns c = rw (le-leb _ _ (c .if1 .taken)) (record { words = refl; draft = refl })
 
 set-literal-requires : tie.Need-set-literal-requires
 set-literal-requires c κs = search needs
@@ -53,7 +54,7 @@ same-length c = search needs
 
 returns-2 : tie.Need-returns-2
 unfolding D.appended
-returns-2 c = rw (lt-leb _ _ (c .before .before .before .before .before .before .before .before .before .if1 .left)) (record { words = cc; draft = cc })
+returns-2 c = rw (lt-leb _ _ (c .before .before .before .before .before .before .before .before .before .if1 .left)) (record { words = rw (← c .before .before .before .before .before .before .before .set-literal .ensures) (c .before .before .before .set-field .ensures); draft = refl })
 
 pub append-spec : {M : Type 1} → statement M
 append-spec =

@@ -39,7 +39,8 @@ loop-again c =
     let l = a .loop in
     let s = a .before .before .before .before .args in
     let more = gathered-more (l .work) (s .net) (s .arena) (l .e) (s .r) (s .x) (l .left) (omega arith) in
-    (cc, sym (cc more))
+    let j = c .before .before .join in
+    (j .kept .0 ∙ l .inv .0, rw (j .ensures .words, j .ensures .draft, c .before .before .before .before .literal-of .ensures) (sym more ∙ l .inv .1))
 
 same-length : tie.Need-same-length Inv-loop μ-loop
 same-length c = c .before .loop .inv .0

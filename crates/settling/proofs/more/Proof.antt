@@ -10,11 +10,11 @@ add-result c = search needs
 
 returns : tie.Need-returns
 unfolding S.more
-returns c = rw (eq-eqb _ _ (c .if1 .taken)) (cc)
+returns c = rw (eq-eqb _ _ (c .if1 .taken))
 
 returns-2 : tie.Need-returns-2
 unfolding S.more
-returns-2 c = rw (ne-eqb _ _ (c .if1 .left)) (cc)
+returns-2 c = rw (ne-eqb _ _ (c .if1 .left))
 
 pub more-spec : {M : Type 1} → statement M
 more-spec = tie.close (tie.spec add-result returns returns-2)

@@ -53,7 +53,8 @@ loop-again c =
     let l = c .before .before .before .before .before .before .before .before .before .loop in
     let s = c .before .before .before .before .before .before .before .before .before .before .before .args in
     let more = propagated-more (l .work) (s .net) (s .arena) (l .t) (l .left) (omega arith) (c .before .before .before .before .before .before .if1 .left) (c .before .before .before .before .if2 .left) in
-    (cc, sym (cc more))
+    let u = c .before .before .follow in
+    (u .kept .0 ∙ l .inv .0, rw (u .ensures .words, u .ensures .state) (sym more ∙ l .inv .1))
 
 same-length-3 : tie.Need-same-length-3 Inv-loop μ-loop
 same-length-3 c = c .before .loop .inv .0

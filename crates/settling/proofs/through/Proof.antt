@@ -1,6 +1,7 @@
 -- `settling::through` meets its contract. Assumes nothing.
 use borrow.Author.Tests.{eq-eqb, ne-eqb}
 use Rattle.settling.specs.Settling as S
+use mathlib.Core.Path.{refl}
 use borrow.Author.Needs.{needs}
 use Rattle.settling.proofs.through.Statement.{statement}
 use Rattle.settling.proofs.through.Tie as tie
@@ -13,7 +14,7 @@ same-length c = search needs
 
 returns : tie.Need-returns
 unfolding S.through
-returns c = rw (← c .before .before .before .before .through-gates .ensures .words, ← c .before .before .before .before .through-gates .ensures .state, ne-eqb _ _ (c .if1 .taken)) (record { words = cc; state = cc })
+returns c = rw (← c .before .before .before .before .through-gates .ensures .words, ← c .before .before .before .before .through-gates .ensures .state, ne-eqb _ _ (c .if1 .taken)) (record { words = refl; state = refl })
 
 opposite-requires : tie.Need-opposite-requires
 opposite-requires c κs = search needs

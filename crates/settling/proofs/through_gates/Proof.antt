@@ -18,7 +18,9 @@ same-length c = search needs
 
 returns : tie.Need-returns
 unfolding S.throughGates
-returns c = record { words = cc; state = cc }
+returns c =
+    let t = c .before .before .before .before .before .before .before .before .look .ensures in
+    rw (← t .words, ← t .state, ← c .before .before .before .before .field .ensures) (c .before .before .look-up .ensures)
 
 pub through-gates-spec : {M : Type 1} → statement M
 through-gates-spec =

@@ -1,13 +1,14 @@
 -- `trail::decide` meets its contract. Assumes nothing.
 use borrow.Author.Tests.{le-leb, lt-leb}
 use Rattle.trail.specs.Trail as S
+use mathlib.Core.Path.{refl}
 use borrow.Author.Needs.{needs}
 use Rattle.trail.proofs.decide.Statement.{statement}
 use Rattle.trail.proofs.decide.Tie as tie
 
 returns : tie.Need-returns
 unfolding S.decided
-returns c = rw (le-leb _ _ (c .if1 .taken)) (record { words = cc; state = cc })
+returns c = rw (le-leb _ _ (c .if1 .taken)) (record { words = refl; state = refl })
 
 add-t7 : tie.Need-add-t7
 add-t7 c = search needs

@@ -56,7 +56,8 @@ loop-again c =
     let s = c .before .before .before .before .before .before .before .before .before .before .before .before .args in
     let deep = subst (λ (k : ℕ). s .to < k) (c .before .before .before .before .before .field2 .ensures ∙ ap (λ (k : ℕ). M.field (l .work) (s .nodes) (k / 2) 6) (c .before .before .before .before .before .before .before .field .ensures)) (c .before .before .before .before .if1 .left) in
     let more = taken-more (l .work) (s .nodes) (s .to) (l .left) (omega arith) deep in
-    (cc, sym (cc more))
+    let u = c .before .before .set-field in
+    (u .kept .0 ∙ l .inv .0, rw (u .ensures, c .before .before .before .before .before .before .before .field .ensures) (sym more ∙ l .inv .1))
 
 same-length-2 : tie.Need-same-length-2 Inv-loop μ-loop
 same-length-2 c =

@@ -7,14 +7,14 @@ use Rattle.watches.proofs.can_watch.Tie as tie
 
 returns : tie.Need-returns
 unfolding W.canWatch
-returns c = rw (eq-eqb _ _ (c .if1 .taken)) (cc)
+returns c = rw (eq-eqb _ _ (c .if1 .taken))
 
 value-requires : tie.Need-value-requires
 value-requires c κs = search needs
 
 returns-2 : tie.Need-returns-2
 unfolding W.canWatch
-returns-2 c = rw (← c .value .ensures, ne-eqb _ _ (c .before .if1 .left)) (cc)
+returns-2 c = rw (← c .value .ensures, ne-eqb _ _ (c .before .if1 .left))
 
 pub can-watch-spec : {M : Type 1} → statement M
 can-watch-spec = tie.close (tie.spec returns value-requires returns-2)

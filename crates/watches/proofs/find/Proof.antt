@@ -31,7 +31,8 @@ returns : tie.Need-returns Inv-loop μ-loop
 returns c =
     let l = c .before .before .before .before .loop in
     let s = c .before .before .before .before .before .before .args in
-    cc (sym (found-here (s .work .now) (s .net) (s .c) (s .o) (l .left) (omega arith) (cc)) ∙ l .inv)
+    let x = c .before .before .kept-literal .ensures in
+    x ∙ sym (found-here (s .work .now) (s .net) (s .c) (s .o) (l .left) (omega arith) (rw (← x) (sym (c .before .can-watch .ensures) ∙ c .if1 .taken))) ∙ l .inv
 
 loop-less : tie.Need-loop-less Inv-loop μ-loop
 loop-less c = omega arith
@@ -40,7 +41,7 @@ loop-again : tie.Need-loop-again Inv-loop μ-loop
 loop-again c =
     let l = c .before .before .before .before .loop in
     let s = c .before .before .before .before .before .before .args in
-    sym (found-more (s .work .now) (s .net) (s .c) (s .o) (l .left) (omega arith) (cc)) ∙ l .inv
+    sym (found-more (s .work .now) (s .net) (s .c) (s .o) (l .left) (omega arith) (rw (← c .before .before .kept-literal .ensures) (sym (c .before .can-watch .ensures) ∙ c .if1 .left))) ∙ l .inv
 
 returns-2 : tie.Need-returns-2 Inv-loop μ-loop
 returns-2 c =

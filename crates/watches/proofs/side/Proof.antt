@@ -10,11 +10,11 @@ head-requires c κs = search needs
 
 returns : tie.Need-returns
 unfolding W.side
-returns c = rw (← c .before .head .ensures, eq-eqb _ _ (c .if1 .taken)) (cc)
+returns c = rw (← c .before .head .ensures, eq-eqb _ _ (c .if1 .taken))
 
 returns-2 : tie.Need-returns-2
 unfolding W.side
-returns-2 c = rw (← c .before .head .ensures, ne-eqb _ _ (c .if1 .left)) (cc)
+returns-2 c = rw (← c .before .head .ensures, ne-eqb _ _ (c .if1 .left))
 
 pub side-spec : {M : Type 1} → statement M
 side-spec = tie.close (tie.spec head-requires returns returns-2)

@@ -44,7 +44,8 @@ loop-again c =
     let l = c .before .before .before .before .before .before .before .before .loop in
     let s = c .before .before .before .before .before .before .before .before .before .before .args in
     let more = walked-more (l .work) (s .net) (s .arena) (l .u) (s .f) (l .left) (omega arith) (c .before .before .before .before .if1 .left) in
-    (cc, sym (cc more))
+    let u = c .before .before .step in
+    (u .kept .0 ∙ l .inv .0, rw (u .ensures .words, u .ensures .state) (sym more ∙ l .inv .1))
 
 same-length-2 : tie.Need-same-length-2 Inv-loop μ-loop
 same-length-2 c =

@@ -1,12 +1,12 @@
--- `lines::counts_fit` meets its contract: the limits keep the sum from wrapping. Assumes nothing.
+-- `headers::counts_fit` meets its contract: the limits keep the sum from wrapping. Assumes nothing.
 use mathlib.Core.Path.{_≡_, sym, _∙_}
 use mathlib.Core.Bool.{true}
 use native.Mathlib.Omega.{arith}
-use Rattle.lines.specs.Header.{limitsHold}
-use Rattle.lines.proofs.Heading.{bounded, limits-hold, limits-fail}
+use Rattle.headers.specs.Header.{limitsHold}
+use Rattle.headers.proofs.Heading.{bounded, limits-hold, limits-fail}
 use borrow.Author.Needs.{needs}
-use Rattle.lines.proofs.counts_fit.Statement.{statement}
-use Rattle.lines.proofs.counts_fit.Tie as tie
+use Rattle.headers.proofs.counts_fit.Statement.{statement}
+use Rattle.headers.proofs.counts_fit.Tie as tie
 
 held : (t : tie.Then1) → limitsHold (t .before .before .args .c) ≡ true
 held t = sym (t .before .within-limits .ensures) ∙ t .if1 .taken

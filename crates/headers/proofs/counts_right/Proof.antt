@@ -1,13 +1,13 @@
--- `lines::counts_right` meets its contract: counts that fit have a sum that does not wrap. Assumes nothing.
+-- `headers::counts_right` meets its contract: counts that fit have a sum that does not wrap. Assumes nothing.
 use mathlib.Core.Path.{_≡_, sym, _∙_}
 use mathlib.Core.Bool.{true}
 use native.Mathlib.Omega.{arith}
 use Rattle.aiger.specs.File.{countsFit}
-use Rattle.lines.specs.Header.{countsMeant}
-use Rattle.lines.proofs.Heading.{fit-bounded, right-not, right-text, right-binary}
+use Rattle.headers.specs.Header.{countsMeant}
+use Rattle.headers.proofs.Heading.{fit-bounded, right-not, right-text, right-binary}
 use borrow.Author.Needs.{needs}
-use Rattle.lines.proofs.counts_right.Statement.{statement}
-use Rattle.lines.proofs.counts_right.Tie as tie
+use Rattle.headers.proofs.counts_right.Statement.{statement}
+use Rattle.headers.proofs.counts_right.Tie as tie
 
 held : (t : tie.Then1) → countsFit (countsMeant (t .before .before .args .c)) ≡ true
 held t = sym (t .before .counts-fit .ensures) ∙ t .if1 .taken

@@ -8,9 +8,9 @@ use lib.Dec.{leb, eqb}
 use lib.ListN.{length, getD, take, drop}
 use Rattle.aiger.specs.Lists.{same}
 use Rattle.aiger.specs.File as file
-use Rattle.lines.specs.declared.Counts.{Counts}
-use Rattle.lines.specs.declared.Header.{Header}
-use Rattle.lines.specs.declared.Header.the-variants.{Read, Malformed}
+use Rattle.headers.specs.declared.Counts.{Counts}
+use Rattle.headers.specs.declared.Header.{Header}
+use Rattle.headers.specs.declared.Header.the-variants.{Read, Malformed}
 
 -- the numbers of a list: one that is missing is 0
 abbrev pub countsOf : List ℕ → Counts

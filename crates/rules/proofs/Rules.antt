@@ -15,9 +15,12 @@ use Rattle.aiger.specs.Bits.{nonzero, odd}
 use Rattle.aiger.specs.Fold.{complement, among, repeated}
 use Rattle.aiger.proofs.Tests.{or-cases}
 use Rattle.nodes.specs.Graph.{Pair, pairAt, edgeIn, deep}
-use Rattle.graph.specs.Rules.{basic, lowered, orLowered, simplified}
-use Rattle.graph.specs.declared.Simple.{Simple}
-use Rattle.graph.specs.declared.Simple.the-variants.{Known, Gate}
+use Rattle.nodes.specs.Store.{pairOf, pairsOf}
+use Rattle.nodes.specs.declared.Graph.{Graph}
+use Rattle.nodes.proofs.Laws.{pairAt-pairsOf, pair-eq}
+use Rattle.rules.specs.Rules.{Asked, basic, lowered, orLowered, simplified}
+use Rattle.rules.specs.declared.Simple.{Simple}
+use Rattle.rules.specs.declared.Simple.the-variants.{Known, Gate}
 
 -- which rule there is for two operands, and what it says
 pub data Ruled (left right : ℕ) : Simple → Type 0 where
@@ -342,3 +345,16 @@ pub lowered-edge : {p : Pair} {left right w : ℕ} (m : ℕ) → var left < m �
 lowered-edge m l r (absorbed o t) = r
 lowered-edge m l r (contradicted o t) = omega arith
 lowered-edge m l r (implied o t) = l
+
+-- the operands of the gate that left is, in the memory
+pub lower-of : (work : List ℕ) (g : Graph) (left right : ℕ) → Asked work g left → basic left right ≡ Gate → g .free + 1 ≤ var left → {r : Simple}
+    → r ≡ lowered (record { left = getD work (16 * var left) 0; right = getD work (16 * var left + 1) 0 }) left right
+    → r ≡ simplified (g .free) (pairsOf work g) left right
+lower-of work g left right asked b l e =
+    let n = g .free in
+    let i = var left - (n + 1) in
+    let k : n + 1 + i ≡ var left = omega arith in
+    let z : 16 * var left + 0 ≡ 16 * var left = omega arith in
+    let p : pairAt (pairsOf work g) i ≡ record { left = getD work (16 * var left) 0; right = getD work (16 * var left + 1) 0 } =
+    pairAt-pairsOf work g i (omega (arith, asked .inside)) ∙ ap (pairOf work) k ∙ pair-eq (ap (λ (x : ℕ). getD work x 0) z) refl in
+    e ∙ ap (λ (q : Pair). lowered q left right) (sym p) ∙ sym (simplified-lower n (pairsOf work g) left right b l)

@@ -1,14 +1,17 @@
 -- The rules by which a conjunction is an edge that is there already. Clauses 5.3 and 12.5. Assumes nothing.
 use mathlib.Core.Bool.{not, cond, _&&_}
 use mathlib.Core.List.{List}
-use Prim.Native.Nat.{ℕ, _+_, _-_}
+use Prim.Native.Nat.{ℕ, _+_, _-_, _<_}
 use lib.Dec.{leb, eqb}
+use lib.ListN.{length}
 use Rattle.aiger.specs.Bits.{odd}
 use Rattle.aiger.specs.Circuit.{var}
 use Rattle.aiger.specs.Fold.{complement, among}
 use Rattle.nodes.specs.Graph.{Pair, pairAt}
-use Rattle.graph.specs.declared.Simple.{Simple}
-use Rattle.graph.specs.declared.Simple.the-variants.{Known, Gate}
+use Rattle.nodes.specs.Store.{Sized}
+use Rattle.nodes.specs.declared.Graph.{Graph}
+use Rattle.rules.specs.declared.Simple.{Simple}
+use Rattle.rules.specs.declared.Simple.the-variants.{Known, Gate}
 
 -- left is the larger operand: a constant operand, equal operands, and opposite operands, of which the conjunction is false
 unfoldable pub basic : ℕ → ℕ → Simple
@@ -30,3 +33,8 @@ orLowered n gs left right Gate = cond (leb (n + 1) (var left)) (lowered (pairAt 
 -- all rules, in the graph over n free bits whose gates are gs
 unfoldable pub simplified : ℕ → List Pair → ℕ → ℕ → Simple
 simplified n gs left right = orLowered n gs left right (basic left right)
+
+-- where the rules of two operands may be asked: left is an edge of the graph
+pub record Asked (work : List ℕ) (g : Graph) (left : ℕ) : Type 0 where
+  pub sized : Sized g (length work)
+  pub inside : var left < g .nodes

@@ -1,9 +1,9 @@
--- `lines::is_binary` meets its contract. Assumes nothing.
+-- `headers::is_binary` meets its contract. Assumes nothing.
 use mathlib.Core.Path.{_∙_}
-use Rattle.lines.proofs.Heading.{named-binary}
+use Rattle.headers.proofs.Heading.{named-binary}
 use borrow.Author.Needs.{needs}
-use Rattle.lines.proofs.is_binary.Statement.{statement}
-use Rattle.lines.proofs.is_binary.Tie as tie
+use Rattle.headers.proofs.is_binary.Statement.{statement}
+use Rattle.headers.proofs.is_binary.Tie as tie
 
 is-named-requires : tie.Need-is-named-requires
 is-named-requires c κs = search needs

@@ -1,8 +1,8 @@
--- `lines::is_named` meets its contract. Assumes nothing.
-use Rattle.lines.proofs.Heading.{named-short, named-long}
+-- `headers::is_named` meets its contract. Assumes nothing.
+use Rattle.headers.proofs.Heading.{named-short, named-long}
 use borrow.Author.Needs.{needs}
-use Rattle.lines.proofs.is_named.Statement.{statement}
-use Rattle.lines.proofs.is_named.Tie as tie
+use Rattle.headers.proofs.is_named.Statement.{statement}
+use Rattle.headers.proofs.is_named.Tie as tie
 
 returns : tie.Need-returns
 returns c = named-short (c .before .args .letter) (c .before .args .s .now) (c .if1 .taken)

@@ -1,12 +1,11 @@
--- `graph::simplify` meets its contract: a basic rule, or one for the gate that the left operand is. Assumes nothing.
+-- `rules::simplify` meets its contract: a basic rule, or one for the gate that the left operand is. Assumes nothing.
 use mathlib.Core.Path.{sym, _∙_}
 use native.Mathlib.Omega.{arith}
 use Rattle.nodes.specs.Store.{pairsOf}
-use Rattle.graph.proofs.Rules.{simplified-known, simplified-leaf}
-use Rattle.graph.proofs.Outcomes.{lower-of}
+use Rattle.rules.proofs.Rules.{simplified-known, simplified-leaf, lower-of}
 use borrow.Author.Needs.{needs}
-use Rattle.graph.proofs.simplify.Statement.{statement}
-use Rattle.graph.proofs.simplify.Tie as tie
+use Rattle.rules.proofs.simplify.Statement.{statement}
+use Rattle.rules.proofs.simplify.Tie as tie
 
 basic-rule-requires : tie.Need-basic-rule-requires
 basic-rule-requires c κs = search needs

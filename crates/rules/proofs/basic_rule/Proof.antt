@@ -1,9 +1,9 @@
--- `graph::basic_rule` meets its contract: each answer by the tests that led to it. Assumes nothing.
+-- `rules::basic_rule` meets its contract: each answer by the tests that led to it. Assumes nothing.
 use Prim.Native.Nat.{_/_}
 use borrow.Author.Tests.{eq-eqb, ne-eqb}
-use Rattle.graph.specs.Rules.{basic}
-use Rattle.graph.proofs.basic_rule.Statement.{statement}
-use Rattle.graph.proofs.basic_rule.Tie as tie
+use Rattle.rules.specs.Rules.{basic}
+use Rattle.rules.proofs.basic_rule.Statement.{statement}
+use Rattle.rules.proofs.basic_rule.Tie as tie
 
 returns : tie.Need-returns
 unfolding basic

@@ -14,11 +14,11 @@ use Rattle.aiger.specs.Lists.{all}
 use Rattle.aiger.specs.Text.{row}
 use Rattle.aiger.specs.File.{isText, isBinary, header, counts, countTests, countsFit, countsRight}
 use Rattle.aiger.proofs.Tests.{true-T, T-true, all-at}
 use Rattle.lines.proofs.Tests.{and-true, and-false, and-assoc}
 use Rattle.lines.specs.Lines.{RowRead}
-use Rattle.lines.specs.Header.{countsOf, countsMeant, HeaderAt, named, limitsHold}
-use Rattle.lines.specs.declared.Counts.{Counts}
-use Rattle.lines.specs.declared.Header.the-variants.{Read, Malformed}
+use Rattle.headers.specs.Header.{countsOf, countsMeant, HeaderAt, named, limitsHold}
+use Rattle.headers.specs.declared.Counts.{Counts}
+use Rattle.headers.specs.declared.Header.the-variants.{Read, Malformed}
 
 -- the name
 

@@ -1,8 +1,8 @@
--- `graph::lower_rule` meets its contract: each answer by the tests that led to it. Assumes nothing.
+-- `rules::lower_rule` meets its contract: each answer by the tests that led to it. Assumes nothing.
 use borrow.Author.Needs.{needs}
-use Rattle.graph.proofs.Rules.{lower-absorbed, lower-contradicted, lower-complement, lower-implied, lower-new}
-use Rattle.graph.proofs.lower_rule.Statement.{statement}
-use Rattle.graph.proofs.lower_rule.Tie as tie
+use Rattle.rules.proofs.Rules.{lower-absorbed, lower-contradicted, lower-complement, lower-implied, lower-new}
+use Rattle.rules.proofs.lower_rule.Statement.{statement}
+use Rattle.rules.proofs.lower_rule.Tie as tie
 
 mul-other : tie.Need-mul-other
 mul-other c = search needs

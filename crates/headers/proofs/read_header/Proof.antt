@@ -1,20 +1,20 @@
--- `lines::read_header` meets its contract: the numbers stand in a buffer of zeros. Assumes nothing.
+-- `headers::read_header` meets its contract: the numbers stand in a buffer of zeros. Assumes nothing.
 use mathlib.Core.Path.{_≡_, sym, ap₂, _∙_, subst}
 use mathlib.Core.Bool.{Bool, true, _||_}
 use mathlib.Core.List.{List}
 use Prim.Native.Nat.{ℕ, _≤_}
 use native.Mathlib.Omega.{arith}
 use lib.ListN.{length, replicate}
 use Rattle.lines.specs.Lines.{RowAt}
-use Rattle.lines.specs.Header.{HeaderAt}
-use Rattle.lines.specs.declared.Counts.{Counts}
+use Rattle.headers.specs.Header.{HeaderAt}
+use Rattle.headers.specs.declared.Counts.{Counts}
 use Rattle.lines.specs.declared.Row.{Row}
-use Rattle.lines.specs.declared.Header.the-variants.{Read}
+use Rattle.headers.specs.declared.Header.the-variants.{Read}
 use Rattle.lines.proofs.Storing.{zeros}
-use Rattle.lines.proofs.Heading.{named-text, named-either, not-named, no-row, few, enough}
+use Rattle.headers.proofs.Heading.{named-text, named-either, not-named, no-row, few, enough}
 use borrow.Author.Needs.{needs}
-use Rattle.lines.proofs.read_header.Statement.{statement}
-use Rattle.lines.proofs.read_header.Tie as tie
+use Rattle.headers.proofs.read_header.Statement.{statement}
+use Rattle.headers.proofs.read_header.Tie as tie
 
 abbrev S : tie.After-read-row → List ℕ
 S n = n .before .before .before .before .before .before .args .s .now

@@ -1,0 +1,2 @@
+-- The laws of `headers`. Assumes nothing.
+pub mod Heading

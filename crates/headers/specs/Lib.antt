@@ -1,0 +1,2 @@
+-- What the contracts of `headers` cite. Assumes nothing.
+pub mod Header

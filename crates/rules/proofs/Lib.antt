@@ -1,0 +1,2 @@
+-- The laws of `rules`. Assumes nothing.
+pub mod Rules

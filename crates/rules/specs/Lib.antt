@@ -1,0 +1,2 @@
+-- What the contracts of `rules` cite. Assumes nothing.
+pub mod Rules
