@@ -1,3 +1,4 @@
 pub mod Taken
 pub mod Numbers
 pub mod Accepted
+pub mod Same
