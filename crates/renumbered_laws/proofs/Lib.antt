@@ -2,3 +2,4 @@ pub mod Taken
 pub mod Numbers
 pub mod Accepted
 pub mod Same
+pub mod Reading
