@@ -3,3 +3,4 @@ pub mod Numbers
 pub mod Accepted
 pub mod Same
 pub mod Reading
+pub mod Again

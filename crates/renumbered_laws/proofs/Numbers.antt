@@ -136,14 +136,14 @@ module _ {room : ℕ} {c : Circuit} (valid : Valid room c) where
   -- ---- inputs and latches
 
   -- what is neither input nor latch has no number
-  leaf-none : (u : ℕ) → ((i : ℕ) → i < length (c .inputs) → var (inputAt c i) ≡ u → ⊥)
+  pub leaf-none : (u : ℕ) → ((i : ℕ) → i < length (c .inputs) → var (inputAt c i) ≡ u → ⊥)
       → ((j : ℕ) → j < length (c .latches) → var (latchAt c j .lit) ≡ u → ⊥) → getD (leafNumbers c) u 0 ≡ 0
   leaf-none u ni nl =
       given-other (I + 1) latchVars inputNumbers u
       (λ j h e. nl j (omega (arith, length-map (c .latches) (λ (l : Latch). var (l .lit)))) (sym (latch-var j) ∙ e))
       ∙ given-other 1 inputVars zeros u (λ i h e. ni i (omega (arith, length-map (c .inputs) var)) (sym (input-var i) ∙ e)) ∙ getD-zeros 4097 u
 
-  leaf-input : (i : ℕ) → i < length (c .inputs) → getD (leafNumbers c) (var (inputAt c i)) 0 ≡ 1 + i
+  pub leaf-input : (i : ℕ) → i < length (c .inputs) → getD (leafNumbers c) (var (inputAt c i)) 0 ≡ 1 + i
   leaf-input i h =
       given-other (I + 1) latchVars inputNumbers (var (inputAt c i))
       (λ j l e. input-latch c right i j h (omega (arith, length-map (c .latches) (λ (l : Latch). var (l .lit)))) (sym e ∙ latch-var j))
@@ -155,7 +155,7 @@ module _ {room : ℕ} {c : Circuit} (valid : Valid room c) where
   latch-lit : (j : ℕ) → getD (map (λ (l : Latch). l .lit) (c .latches)) j 0 ≡ latchAt c j .lit
   latch-lit j = List·getD-map (λ (l : Latch). l .lit) (c .latches) j noLatch
 
-  leaf-latch : (j : ℕ) → j < length (c .latches) → getD (leafNumbers c) (var (latchAt c j .lit)) 0 ≡ length (c .inputs) + 1 + j
+  pub leaf-latch : (j : ℕ) → j < length (c .latches) → getD (leafNumbers c) (var (latchAt c j .lit)) 0 ≡ length (c .inputs) + 1 + j
   leaf-latch j h =
       ap (λ (x : ℕ). getD (leafNumbers c) x 0) (sym (latch-var j))
       ∙ given-at (I + 1) latchVars inputNumbers j latches-below
