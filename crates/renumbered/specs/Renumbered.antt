@@ -60,9 +60,12 @@ unfoldable pub latchTail : Latch → List ℕ
 latchTail l = l .next ∷ cond (eqb (l .reset) 0) [] (l .reset ∷ [])
 
 -- a gate: the difference from its literal to its first operand, and that from the first to the second
+abbrev pub gateText : Gate → List ℕ
+gateText g = differenceText (g .lit - g .left) ++ differenceText (g .left - g .right)
+
 unfoldable pub gatesText : List Gate → List ℕ
 gatesText [] = []
-gatesText (g ∷ gs) = differenceText (g .lit - g .left) ++ differenceText (g .left - g .right) ++ gatesText gs
+gatesText (g ∷ gs) = gateText g ++ gatesText gs
 
 -- the text of a circuit that has such numbers: seven header numbers, the sections in their order, no tail
 unfoldable pub binaryText : Circuit → List ℕ

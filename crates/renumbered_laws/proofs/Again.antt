@@ -72,9 +72,9 @@ module _ {vars ops : List ℕ} {K p : ℕ} {table : List ℕ} (g : Listed vars o
             elim (decLt u (K + p)) [
               | yes k ↦ (let e = getD-set-other table (getD vars p 0) u (K + p) 0 (λ q. omega arith) in omega (arith, g .numbered u s k))
               | no k ↦ (
-                let w : u ≡ getD vars p 0 = omega arith in
-                let e = ap (λ (x : ℕ). getD (set table (getD vars p 0) (K + p)) x 0) w ∙ getD-set-same table (getD vars p 0) (K + p) 0 (g .inside p h) in
-                omega (arith, g .some-number))
+                  let w : u ≡ getD vars p 0 = omega arith in
+                  let e = ap (λ (x : ℕ). getD (set table (getD vars p 0) (K + p)) x 0) w ∙ getD-set-same table (getD vars p 0) (K + p) 0 (g .inside p h) in
+                  omega (arith, g .some-number))
             ];
         blank = λ u l. getD-set-other table (getD vars p 0) u (K + p) 0 (λ q. omega arith) ∙ g .blank u (omega arith);
       }
@@ -155,15 +155,15 @@ module _ {room : ℕ} {d : Circuit} (v : Valid room d) (p : Placed d) where
         numbered = λ u s l.
             elim (decLt u (I + 1)) [
               | yes k ↦ (
-                let i = u - 1 in
-                let b : i < I = omega arith in
-                let e : var (inputAt d i) ≡ u = omega (arith, input-lit i b) in
-                omega (arith, ap (λ (x : ℕ). getD (leafNumbers d) x 0) e, leaf-input v i b))
+                  let i = u - 1 in
+                  let b : i < I = omega arith in
+                  let e : var (inputAt d i) ≡ u = omega (arith, input-lit i b) in
+                  omega (arith, ap (λ (x : ℕ). getD (leafNumbers d) x 0) e, leaf-input v i b))
               | no k ↦ (
-                let j = u - (I + 1) in
-                let b : j < L = omega arith in
-                let e : var (latchAt d j .lit) ≡ u = omega (arith, latch-lit j b) in
-                omega (arith, ap (λ (x : ℕ). getD (leafNumbers d) x 0) e, leaf-latch v j b))
+                  let j = u - (I + 1) in
+                  let b : j < L = omega arith in
+                  let e : var (latchAt d j .lit) ≡ u = omega (arith, latch-lit j b) in
+                  omega (arith, ap (λ (x : ℕ). getD (leafNumbers d) x 0) e, leaf-latch v j b))
             ];
         blank = λ u l. leaf-none v u (λ i h e. omega (arith, input-lit i h)) (λ j h e. omega (arith, latch-lit j h));
       }
