@@ -88,10 +88,10 @@ module _ {room : ℕ} {c : Circuit} (valid : Valid room c) where
 
   -- ---- variables by position
 
-  input-var : (i : ℕ) → getD inputVars i 0 ≡ var (inputAt c i)
+  pub input-var : (i : ℕ) → getD inputVars i 0 ≡ var (inputAt c i)
   input-var i = List·getD-map var (c .inputs) i 0
 
-  latch-var : (j : ℕ) → getD latchVars j 0 ≡ var (latchAt c j .lit)
+  pub latch-var : (j : ℕ) → getD latchVars j 0 ≡ var (latchAt c j .lit)
   latch-var j = List·getD-map (λ l. var (l .lit)) (c .latches) j noLatch
 
   pub gate-var : (i : ℕ) → getD (gateVars c) i 0 ≡ var (gateAt c i .lit)
@@ -113,14 +113,14 @@ module _ {room : ℕ} {c : Circuit} (valid : Valid room c) where
   table-length : length zeros ≡ 4097
   table-length = length-replicate {A = ℕ} 4097 0
 
-  inputs-below : Below inputVars (length zeros)
+  pub inputs-below : Below inputVars (length zeros)
   inputs-below j h =
       omega (arith, input-var j, table-length, defined-low (inputAt c j) (input-in c j (omega (arith, length-map (c .inputs) var))))
 
   pub numbers-length : length (leafNumbers c) ≡ 4097
   numbers-length = given-length (I + 1) latchVars inputNumbers ∙ given-length 1 inputVars zeros ∙ table-length
 
-  latches-below : Below latchVars (length inputNumbers)
+  pub latches-below : Below latchVars (length inputNumbers)
   latches-below j h =
       omega (
         arith,
@@ -129,6 +129,33 @@ module _ {room : ℕ} {c : Circuit} (valid : Valid room c) where
         table-length,
         defined-low (latchAt c j .lit) (latch-in c j (omega (arith, length-map (c .latches) (λ (l : Latch). var (l .lit))))),
       )
+
+  -- no two inputs, latches or gates have one variable
+  pub inputs-differ : (a b : ℕ) → a < b → b < length (map var (c .inputs)) → getD (map var (c .inputs)) a 0 ≡ getD (map var (c .inputs)) b 0 → ⊥
+  inputs-differ a b l m e = apart-inputs c right a b l (omega (arith, length-map (c .inputs) var)) (sym (input-var a) ∙ e ∙ input-var b)
+
+  latch-lit : (j : ℕ) → getD (map (λ (l : Latch). l .lit) (c .latches)) j 0 ≡ latchAt c j .lit
+  latch-lit j = List·getD-map (λ (l : Latch). l .lit) (c .latches) j noLatch
+
+  pub latches-differ : (a b : ℕ) → a < b → b < length (map (λ l. var (l .lit)) (c .latches))
+      → getD (map (λ l. var (l .lit)) (c .latches)) a 0 ≡ getD (map (λ l. var (l .lit)) (c .latches)) b 0 → ⊥
+  latches-differ a b l m e =
+      apart-latches c right a b l (omega (arith, length-map (c .latches) (λ (l : Latch). var (l .lit)), length-map (c .latches) (λ (l : Latch). l .lit)))
+      (ap var (latch-lit a) ∙ sym (latch-var a) ∙ e ∙ latch-var b ∙ sym (ap var (latch-lit b)))
+
+  gate-lit : (a : ℕ) → getD (map (λ (g : Gate). g .lit) (c .gates)) a 0 ≡ gateAt c a .lit
+  gate-lit a = List·getD-map (λ (g : Gate). g .lit) (c .gates) a noGate
+
+  gates-differ : (a b : ℕ) → a < b → b < length (c .gates) → var (gateAt c a .lit) ≡ var (gateAt c b .lit) → ⊥
+  gates-differ a b l m e =
+      apart-gates c right a b l (omega (arith, length-map (c .gates) (λ (g : Gate). g .lit))) (ap var (gate-lit a) ∙ e ∙ sym (ap var (gate-lit b)))
+
+  pub gates-once : (a b : ℕ) → a < length (c .gates) → b < length (c .gates) → var (gateAt c a .lit) ≡ var (gateAt c b .lit) → a ≡ b
+  gates-once a b l m e =
+      elim (decLt a b) [
+        | yes k ↦ absurd (gates-differ a b k m e)
+        | no k ↦ elim (decLt b a) [ yes q ↦ absurd (gates-differ b a q l (sym e)) | no q ↦ omega arith ]
+      ]
 
   pub gates-below : Below (gateVars c) (length (leafNumbers c))
   gates-below i h = omega (arith, gate-var i, numbers-length, defined-low (gateAt c i .lit) (gate-in c i (omega (arith, vars-length))))
@@ -148,20 +175,13 @@ module _ {room : ℕ} {c : Circuit} (valid : Valid room c) where
       given-other (I + 1) latchVars inputNumbers (var (inputAt c i))
       (λ j l e. input-latch c right i j h (omega (arith, length-map (c .latches) (λ (l : Latch). var (l .lit)))) (sym e ∙ latch-var j))
       ∙ ap (λ (x : ℕ). getD inputNumbers x 0) (sym (input-var i))
-      ∙ given-at 1 inputVars zeros i inputs-below
-      (λ a b l m e. apart-inputs c right a b l (omega (arith, length-map (c .inputs) var)) (sym (input-var a) ∙ e ∙ input-var b))
+      ∙ given-at 1 inputVars zeros i inputs-below inputs-differ
       (omega (arith, length-map (c .inputs) var))
-
-  latch-lit : (j : ℕ) → getD (map (λ (l : Latch). l .lit) (c .latches)) j 0 ≡ latchAt c j .lit
-  latch-lit j = List·getD-map (λ (l : Latch). l .lit) (c .latches) j noLatch
 
   pub leaf-latch : (j : ℕ) → j < length (c .latches) → getD (leafNumbers c) (var (latchAt c j .lit)) 0 ≡ length (c .inputs) + 1 + j
   leaf-latch j h =
       ap (λ (x : ℕ). getD (leafNumbers c) x 0) (sym (latch-var j))
-      ∙ given-at (I + 1) latchVars inputNumbers j latches-below
-      (λ a b l m e.
-      apart-latches c right a b l (omega (arith, length-map (c .latches) (λ (l : Latch). var (l .lit)), length-map (c .latches) (λ (l : Latch). l .lit)))
-      (ap var (latch-lit a) ∙ sym (latch-var a) ∙ e ∙ latch-var b ∙ sym (ap var (latch-lit b))))
+      ∙ given-at (I + 1) latchVars inputNumbers j latches-below latches-differ
       (omega (arith, length-map (c .latches) (λ (l : Latch). var (l .lit))))
 
   leaf-low : (u : ℕ) → getD (leafNumbers c) u 0 < length (c .inputs) + length (c .latches) + 1
@@ -290,22 +310,8 @@ module _ {room : ℕ} {c : Circuit} (valid : Valid room c) where
   listed i h n =
       let r = all-taken .fresh (var (gateAt c i .lit)) (leaf-gate i h) (omega arith) in
       let k = getD order (r .0) 0 in
-      let same : k ≡ i = gate-once k i (order-inside (r .0) (r .1)) h (sym (gate-var k) ∙ r .2) in
+      let same : k ≡ i = gates-once k i (order-inside (r .0) (r .1)) h (sym (gate-var k) ∙ r .2) in
       Memᴰ·cast (sym same) (mem-getD order (r .0) 0 (r .1))
-    where
-      gate-lit : (a : ℕ) → getD (map (λ (g : Gate). g .lit) (c .gates)) a 0 ≡ gateAt c a .lit
-      gate-lit a = List·getD-map (λ (g : Gate). g .lit) (c .gates) a noGate
-
-      differ : (a b : ℕ) → a < b → b < length (c .gates) → var (gateAt c a .lit) ≡ var (gateAt c b .lit) → ⊥
-      differ a b l m e =
-          apart-gates c right a b l (omega (arith, length-map (c .gates) (λ (g : Gate). g .lit))) (ap var (gate-lit a) ∙ e ∙ sym (ap var (gate-lit b)))
-
-      gate-once : (a b : ℕ) → a < length (c .gates) → b < length (c .gates) → var (gateAt c a .lit) ≡ var (gateAt c b .lit) → a ≡ b
-      gate-once a b l m e =
-          elim (decLt a b) [
-            | yes k ↦ absurd (differ a b k m e)
-            | no k ↦ elim (decLt b a) [ yes q ↦ absurd (differ b a q l (sym e)) | no q ↦ omega arith ]
-          ]
 
   -- all gates are in the order
   pub order-length : length (numbering c .0) ≡ length (c .gates)
