@@ -36,7 +36,7 @@ unfolding waits
 ready-waits vars ops table i =
     three-tests (eqb (getD table (getD vars i 0) 0) 0) (has table (getD ops (2 * i) 0)) (has table (getD ops (2 * i + 1) 0))
 
-least-some : (p : ℕ → Bool) (n r : ℕ) → r < n → T (p r) → ((j : ℕ) → j < r → T (p j) → ⊥) → leastBelow n p ≡ some r
+pub least-some : (p : ℕ → Bool) (n r : ℕ) → r < n → T (p r) → ((j : ℕ) → j < r → T (p j) → ⊥) → leastBelow n p ≡ some r
 least-some p n r h t f = go (leastBelow n p) (least-below p n)
   where
     go : (o : Option ℕ) → Least p n o → o ≡ some r
@@ -51,7 +51,7 @@ least-some p n r h t f = go (leastBelow n p) (least-below p n)
               ]
         ]
 
-least-none : (p : ℕ → Bool) (n : ℕ) → ((j : ℕ) → j < n → T (p j) → ⊥) → leastBelow n p ≡ none
+pub least-none : (p : ℕ → Bool) (n : ℕ) → ((j : ℕ) → j < n → T (p j) → ⊥) → leastBelow n p ≡ none
 least-none p n f = go (leastBelow n p) (least-below p n)
   where
     go : (o : Option ℕ) → Least p n o → o ≡ none

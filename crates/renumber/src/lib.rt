@@ -11,7 +11,7 @@ ghost use Rattle.frames.specs.Lanes.{Apart, Stored};
 ghost use Rattle.renumber.specs.Names.{Put, Within, under, Named};
 
 // Gives the variables of n inputs, which stand from 7 on, numbers from 1 on.
-fn number_inputs(m: &[u32], n: usize, names: &mut [u32])
+pub fn number_inputs(m: &[u32], n: usize, names: &mut [u32])
     requires { ⌜ (n ≤ 256) × (7 + n ≤ length (now m)) ⌝ }
     requires { ⌜ Apart (λ j. var (word (now m) (7 + j))) n (length (now names)) ⌝ }
     ensures { λ _. ⌜ Stored (λ j. var (word (now (m .entry)) (7 + j))) (λ j. 1 + j) n (now (names .entry)) (now (names .exit)) ⌝ }
@@ -25,7 +25,7 @@ fn number_inputs(m: &[u32], n: usize, names: &mut [u32])
 }
 
 // Gives the variables of n latches or gates, three words each from `at` on, numbers from `first` on.
-fn number_triples(m: &[u32], at: usize, n: usize, first: u32, names: &mut [u32])
+pub fn number_triples(m: &[u32], at: usize, n: usize, first: u32, names: &mut [u32])
     requires { ⌜ (n ≤ 4096) × (first ≤ 8192) × (at + 3 * n ≤ length (now m)) ⌝ }
     requires { ⌜ Apart (λ j. var (word (now m) (at + 3 * j))) n (length (now names)) ⌝ }
     ensures { λ _. ⌜ Stored (λ j. var (word (now (m .entry)) (at + 3 * j))) (λ j. first + j) n (now (names .entry)) (now (names .exit)) ⌝ }

@@ -1,0 +1,44 @@
+-- `binary_text::write_differences` meets its contract. Assumes nothing.
+use Prim.Native.Nat.{_-_}
+use borrow.Author.Needs.{needs}
+use Rattle.aiger.specs.Binary.{differenceText}
+use Rattle.binary_text.proofs.Steps.{room-first, room-second, placed-two, placed-in}
+use Rattle.binary_text.proofs.write_differences.Statement.{statement}
+use Rattle.binary_text.proofs.write_differences.Tie as tie
+
+sub-write-difference : tie.Need-sub-write-difference
+sub-write-difference c = search needs
+
+write-difference-requires : tie.Need-write-difference-requires
+write-difference-requires c κs =
+    let a = c .before .before .args in
+    room-first (a .out .now) (a .at) (differenceText (a .lit - a .left)) (differenceText (a .left - a .right)) (c .before .before .pre .2)
+
+sub-write-difference-2 : tie.Need-sub-write-difference-2
+sub-write-difference-2 c = search needs
+
+write-difference-requires-2 : tie.Need-write-difference-requires-2
+write-difference-requires-2 c κs =
+    let a = c .before .before .before .before .before .before .args in
+    room-second (a .out .now) (a .at) (differenceText (a .lit - a .left)) (differenceText (a .left - a .right)) (c .before .before .before .before .before .before .pre .2)
+    (placed-in (c .before .before .before .write-difference .ensures))
+
+same-length : tie.Need-same-length
+same-length c = search needs
+
+returns : tie.Need-returns
+returns c =
+    let a = c .before .before .before .before .before .before .before .before .before .args in
+    placed-two (a .out .now) (a .at) (differenceText (a .lit - a .left)) (differenceText (a .left - a .right)) (c .before .before .before .before .before .before .before .before .before .pre .2)
+    (placed-in (c .before .before .before .before .before .before .write-difference .ensures)) (placed-in (c .before .before .write-difference2 .ensures))
+
+pub write-differences-spec : {M : Type 1} → statement M
+write-differences-spec =
+    tie.close
+    (tie.spec
+    sub-write-difference
+    write-difference-requires
+    sub-write-difference-2
+    write-difference-requires-2
+    same-length
+    returns)

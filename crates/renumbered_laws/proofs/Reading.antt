@@ -1,0 +1,287 @@
+-- The text of a circuit in binary form is read back, where its definitions are in order: load gives that circuit. Clause 12.1. Assumes
+-- nothing.
+use mathlib.Core.Path.{_≡_, refl, sym, ap, ap₂, _∙_, subst}
+use mathlib.Core.Bool.{Bool, true, false, not, cond, _&&_, _||_}
+use mathlib.Core.List.{List, [], _∷_, _++_, map, append-assoc, append-nil}
+use mathlib.Core.Logic.{⊎-elim}
+use mathlib.Core.Option.{Option, none, some}
+use Prim.Native.Nat.{ℕ, zero, suc, _+_, _-_, _*_, _/_, _%_, _^_, _≤_, _<_}
+use native.Mathlib.Decide.{decLt}
+use native.Mathlib.Omega.{arith}
+use borrow.Author.Tests.{le-leb, eq-eqb, lt-ltb, le-ltb}
+use lib.Dec.{T, leb, ltb, eqb, leb→le, ltb→lt, lt→ltb, eqb→eq, eqb·suc-zero, lit<, lit≤}
+use lib.ListN.{length, getD, length-map, length-append}
+use Rattle.aiger.specs.Lists.{every}
+use Rattle.aiger.specs.Text.{rows}
+use Rattle.aiger.specs.Circuit.{Circuit, Latch, Gate, defined, used, literalTests, literalsRight, usedDefined, acyclic}
+use Rattle.aiger.specs.File.{isText, isBinary, header, countsFit, countsRight, headerOf, isTail, first}
+use Rattle.aiger.specs.Binary.{grouped, differenceText, difference, implied, latchesFrom, gateBy, gatesFrom}
+use Rattle.aiger.specs.Load.{gives, binaryBody, sections, load, needed}
+use Rattle.aiger.specs.Write.{lineOf, linesOf, literalRow, countRow}
+use Rattle.aiger.proofs.Tests.{
+  T-true,
+  true-T,
+  and,
+  and-left,
+  and-right,
+  every-left,
+  every-right,
+  every-unmap,
+  every-map,
+  every-imp,
+  all-at,
+  or-cases,
+}
+use Rattle.roundtrip.proofs.LoadWrite.{Valid, Counts, counts-fit}
+use Rattle.roundtrip.proofs.Text.{below, rowFits, row-line, rows-lines, every-below, line-short, lines-short}
+use Rattle.numbering.proofs.InOrder.{descends}
+use Rattle.differences.proofs.Writing.{one, another, difference-back}
+use Rattle.renumbered.specs.Renumbered.{latchTail, gatesText, binaryText}
+use Rattle.renumbered_laws.proofs.Accepted.{Placed}
+
+-- ---- differences are short
+
+-- counts and literals are below 10,000
+abbrev low : ℕ → Bool
+low = below (10 ^ 4)
+
+difference-short : (n : ℕ) → n < 10 ^ 4 → length (differenceText n) ≤ 2
+difference-short n h =
+    elim (decLt n 128) [
+      | yes l ↦ rw (one 4 n l) (omega arith)
+      | no l ↦ (let k : n / 128 < 128 = omega arith in rw (another 3 n (omega arith), one 3 (n / 128) k) (omega arith))
+    ]
+
+gates-short : (gs : List Gate) → T (every (λ g. low (g .lit)) gs) → T (every descends gs) → length (gatesText gs) ≤ 4 * length gs
+unfolding gatesText
+gates-short [] t s = omega arith
+gates-short (g ∷ gs) t s =
+    let a = differenceText (g .lit - g .left) in
+    let b = differenceText (g .left - g .right) in
+    let l = ltb→lt (g .lit) (10 ^ 4) (and-left (low (g .lit)) (every (λ (x : Gate). low (x .lit)) gs) t) in
+    let e = and-left (descends g) (every descends gs) s in
+    let u = ltb→lt (g .left) (g .lit) (and-right (leb (g .right) (g .left)) (ltb (g .left) (g .lit)) e) in
+    omega (
+      arith,
+      length-append (a ++ b) (gatesText gs),
+      length-append a b,
+      difference-short (g .lit - g .left) (omega arith),
+      difference-short (g .left - g .right) (omega arith),
+      gates-short gs (and-right (low (g .lit)) (every (λ (x : Gate). low (x .lit)) gs) t) (and-right (descends g) (every descends gs) s),
+    )
+
+-- ---- gates read back
+
+module _ (g : Gate) (t : T (descends g)) (low : g .lit < 2 ^ 32) where
+  lower : g .right ≤ g .left
+  lower = leb→le (g .right) (g .left) (and-left (leb (g .right) (g .left)) (ltb (g .left) (g .lit)) t)
+
+  under : g .left < g .lit
+  under = ltb→lt (g .left) (g .lit) (and-right (leb (g .right) (g .left)) (ltb (g .left) (g .lit)) t)
+
+  gate-back : (f : List ℕ) → gateBy (g .lit) (differenceText (g .lit - g .left) ++ (differenceText (g .left - g .right) ++ f)) ≡ some (g, f)
+  unfolding gateBy
+  gate-back f =
+      let a = g .lit - g .left in
+      let b = g .left - g .right in
+      let x : g .lit - a ≡ g .left = omega (arith, under) in
+      let y : g .lit - a - b ≡ g .right = omega (arith, under, lower) in
+      rw (difference-back a (differenceText b ++ f) (omega arith))
+      (rw (le-leb 1 a (omega (arith, under)), le-leb a (g .lit) (omega arith), difference-back b f (omega (arith, under)))
+      (rw (le-leb b (g .lit - a) (omega (arith, x))) (λ i. some (record { lit = g .lit; left = x i; right = y i }, f))))
+
+gates-back : (v : ℕ) (gs : List Gate) (f : List ℕ) → map (λ g. g .lit) gs ≡ implied v (length gs) → T (every descends gs) → v + length gs ≤ 10000
+    → gatesFrom v (length gs) (gatesText gs ++ f) ≡ some (gs, f)
+unfolding gatesFrom gatesText implied
+gates-back v [] f e t l = refl
+gates-back v (g ∷ gs) f e t l =
+    let own : g .lit ≡ 2 * v = cc in
+    let rest : map (λ (x : Gate). x .lit) gs ≡ implied (suc v) (length gs) = cc in
+    let a = differenceText (g .lit - g .left) in
+    let b = differenceText (g .left - g .right) in
+    let s : (a ++ b ++ gatesText gs) ++ f ≡ a ++ (b ++ (gatesText gs ++ f)) = simp append-assoc in
+    rw (s, ← own)
+    (rw (gate-back g (and-left (descends g) (every descends gs) t) (omega arith) (gatesText gs ++ f))
+    (rw (gates-back (suc v) gs f rest (and-right (descends g) (every descends gs) t) (omega arith))))
+
+-- ---- latches read back
+
+reset-back : (r : ℕ) → getD (cond (eqb r 0) [] (r ∷ [])) 0 0 ≡ r
+reset-back zero = refl
+reset-back (suc r) = simp (eqb·suc-zero r)
+
+latches-back : (v : ℕ) (ls : List Latch) → map (λ l. l .lit) ls ≡ implied v (length ls) → latchesFrom v (map latchTail ls) ≡ ls
+unfolding latchesFrom latchTail implied
+latches-back v [] e = refl
+latches-back v (l ∷ ls) e =
+    let own : 2 * v ≡ l .lit = cc in
+    let rest : map (λ (x : Latch). x .lit) ls ≡ implied (suc v) (length ls) = cc in
+    ap₂ (λ (x : Latch) (xs : List Latch). x ∷ xs) (λ i. record { lit = own i; next = l .next; reset = reset-back (l .reset) i }) (latches-back (suc v) ls rest)
+
+first-back : (ls : List ℕ) → map first (map literalRow ls) ≡ ls
+first-back [] = refl
+first-back (l ∷ ls) = ap (λ (k : List ℕ). l ∷ k) (first-back ls)
+
+-- ---- lines read back
+
+latch-fits : (a r : ℕ) → T (low a) → T (low r) → T (rowFits (10 ^ 4) 1 2 (a ∷ cond (eqb r 0) [] (r ∷ [])))
+latch-fits a zero h k = and (low a) true h tt
+latch-fits a (suc r) h k = simp (eqb·suc-zero r) (and (low a) (low (suc r) && true) h (and (low (suc r)) true k tt))
+
+ones-fit : (ls : List ℕ) → T (every low ls) → T (every (rowFits (10 ^ 4) 1 1) (map literalRow ls))
+ones-fit ls h = every-map low low low (rowFits (10 ^ 4) 1 1) literalRow (λ l a b c. and (low l) true a tt) ls h h h
+
+module _ {A : Type 0} (least most : ℕ) (h : A → List ℕ) (xs : List A) (t : T (every (rowFits (10 ^ 4) least most) (map h xs))) where
+  rows-back : (f : List ℕ) → rows least most (length xs) (linesOf (map h xs) ++ f) ≡ some (map h xs, f)
+  rows-back f = rw (← length-map xs h) (rows-lines (10 ^ 4) least most (lit≤ tt) (map h xs) t f)
+
+  rows-short : length (linesOf (map h xs)) ≤ 5 * most * length xs
+  rows-short = rw (← length-map xs h) (lines-short 3 least most (map h xs) t)
+
+-- the lines of the sections are such as are read
+record Fits (d : Circuit) : Type 0 where
+  latches : T (every (rowFits (10 ^ 4) 1 2) (map latchTail (d .latches)))
+  outputs : T (every (rowFits (10 ^ 4) 1 1) (map literalRow (d .outputs)))
+  bads : T (every (rowFits (10 ^ 4) 1 1) (map literalRow (d .bads)))
+  constraints : T (every (rowFits (10 ^ 4) 1 1) (map literalRow (d .constraints)))
+  gates : T (every (λ g. low (g .lit)) (d .gates))
+
+-- what follows the header
+abbrev sectionsText : Circuit → List ℕ
+sectionsText d =
+    linesOf (map latchTail (d .latches))
+    ++ (linesOf (map literalRow (d .outputs))
+    ++ (linesOf (map literalRow (d .bads)) ++ (linesOf (map literalRow (d .constraints)) ++ (gatesText (d .gates) ++ []))))
+
+-- the binary form, and a text that is not empty
+binary-form : (d : Circuit) → isBinary (binaryText d) ≡ true
+unfolding isBinary binaryText
+binary-form d = refl
+
+some-byte : (d : Circuit) → 1 ≤ length (binaryText d)
+unfolding binaryText
+some-byte d = omega arith
+
+module _ {room : ℕ} {d : Circuit} (v : Valid room d) (p : Placed d) where
+  counts : Counts d
+  counts = counts-fit d (v .fit)
+
+  heads-low : T (every low (d .maxVar ∷ countRow d))
+  heads-low =
+      and (low (d .maxVar)) _ (at (d .maxVar) (omega (arith, counts)))
+      (and (low (length (d .inputs))) _ (at (length (d .inputs)) (omega (arith, counts)))
+      (and (low (length (d .latches))) _ (at (length (d .latches)) (omega (arith, counts)))
+      (and (low (length (d .outputs))) _ (at (length (d .outputs)) (omega (arith, counts)))
+      (and (low (length (d .gates))) _ (at (length (d .gates)) (omega (arith, counts)))
+      (and (low (length (d .bads))) _ (at (length (d .bads)) (omega (arith, counts)))
+      (and (low (length (d .constraints))) true (at (length (d .constraints)) (omega (arith, counts))) tt))))))
+    where
+      at : (n : ℕ) → n < 10 ^ 4 → T (low n)
+      at n h = lt→ltb n (10 ^ 4) h
+
+  all-low : T (every low (defined d ++ used d))
+  unfolding literalsRight
+  all-low =
+      every-imp (λ l. leb l (2 * d .maxVar + 1)) low (λ l h. lt→ltb l (10 ^ 4) (low-of l (leb→le l (2 * d .maxVar + 1) h))) (defined d ++ used d)
+      (all-at (literalTests d) (T-true (v .literals)) 0)
+    where
+      low-of : (l : ℕ) → l ≤ 2 * d .maxVar + 1 → l < 10 ^ 4
+      low-of l h = omega (arith, counts .maxVar)
+
+  reset-low : (l : Latch) → T (low (l .lit)) → T (leb (l .reset) 1 || eqb (l .reset) (l .lit)) → T (low (l .reset))
+  reset-low l h t =
+      let a = l .lit in
+      let r = l .reset in
+      lt→ltb r (10 ^ 4)
+      (⊎-elim (λ x. omega (arith, leb→le r 1 x)) (λ y. omega (arith, eqb→eq r a y, ltb→lt a (10 ^ 4) h)) (or-cases (leb r 1) (eqb r a) t))
+
+  fits : Fits d
+  unfolding defined used latchTail literalsRight
+  fits =
+      let i = d .inputs in
+      let l = map (λ (x : Latch). x .lit) (d .latches) in
+      let g = map (λ (x : Gate). x .lit) (d .gates) in
+      let n = map (λ (x : Latch). x .next) (d .latches) in
+      let o = d .outputs in
+      let b = d .bads in
+      let k = d .constraints in
+      let x = map (λ (x : Gate). x .left) (d .gates) in
+      let y = map (λ (x : Gate). x .right) (d .gates) in
+      let u = every-right low (i ++ l ++ g) (n ++ o ++ b ++ k ++ x ++ y) all-low in
+      let u3 = every-left low (n ++ o ++ b ++ k) x (every-left low (n ++ o ++ b ++ k ++ x) y u) in
+      let u2 = every-left low (n ++ o ++ b) k u3 in
+      let u1 = every-left low (n ++ o) b u2 in
+      let dg = every-left low (i ++ l ++ g) (n ++ o ++ b ++ k ++ x ++ y) all-low in
+      let dl = every-left low (i ++ l) g dg in
+      let lits = every-unmap low (λ (x : Latch). x .lit) (d .latches) (every-right low i l dl) in
+      let nexts = every-unmap low (λ (x : Latch). x .next) (d .latches) (every-left low n o u1) in
+      record {
+        latches =
+            every-map (λ x. low (x .lit)) (λ x. low (x .next)) (λ x. leb (x .reset) 1 || eqb (x .reset) (x .lit)) (rowFits (10 ^ 4) 1 2) latchTail
+            (λ x s t r. latch-fits (x .next) (x .reset) t (reset-low x s r)) (d .latches) lits nexts (all-at (literalTests d) (T-true (v .literals)) 3);
+        outputs = ones-fit o (every-right low n o u1);
+        bads = ones-fit b (every-right low (n ++ o) b u2);
+        constraints = ones-fit k (every-right low (n ++ o ++ b) k u3);
+        gates = every-unmap low (λ (x : Gate). x .lit) (d .gates) (every-right low (i ++ l) g dg);
+      }
+
+  head-back : header (binaryText d) ≡ some (headerOf d, sectionsText d)
+  unfolding isText isBinary header binaryText
+  head-back =
+      simp (
+        append-assoc,
+        append-nil,
+        row-line 9 (d .maxVar) (countRow d) (lit< tt) (every-below (10 ^ 4) (10 ^ 10) (lit≤ tt) (d .maxVar ∷ countRow d) heads-low),
+      )
+
+  -- the text has at most 24,576 bytes
+  pub binary-short : length (binaryText d) ≤ 24576
+  unfolding binaryText
+  binary-short =
+      simp length-append
+      (omega (
+        arith,
+        counts,
+        line-short 3 (d .maxVar) (countRow d) heads-low,
+        rows-short 1 2 latchTail (d .latches) (fits .latches),
+        rows-short 1 1 literalRow (d .outputs) (fits .outputs),
+        rows-short 1 1 literalRow (d .bads) (fits .bads),
+        rows-short 1 1 literalRow (d .constraints) (fits .constraints),
+        gates-short (d .gates) (fits .gates) (p .descend),
+      ))
+
+  body-back : binaryBody (headerOf d) (sectionsText d) ≡ gives d
+  unfolding binaryBody isTail
+  body-back =
+      simp (
+        rows-back 1 2 latchTail (d .latches) (fits .latches),
+        rows-back 1 1 literalRow (d .outputs) (fits .outputs),
+        rows-back 1 1 literalRow (d .bads) (fits .bads),
+        rows-back 1 1 literalRow (d .constraints) (fits .constraints),
+        gates-back (length (d .inputs) + length (d .latches) + 1) (d .gates) [] (p .gates) (p .descend) (omega (arith, counts)),
+        first-back,
+        latches-back (length (d .inputs) + 1) (d .latches) (p .latches),
+        sym (p .inputs),
+      )
+
+  counts-back : countsRight true (headerOf d) ≡ true
+  unfolding countsRight
+  counts-back =
+      simp (v .fit, eq-eqb (length (d .inputs) + length (d .latches) + length (d .gates)) (d .maxVar) (sym (p .top)))
+
+  -- load gives the circuit
+  pub load-binary : load room (binaryText d) ≡ gives d
+  unfolding sections load
+  load-binary =
+      simp (
+        le-leb 1 (length (binaryText d)) (some-byte d),
+        le-leb (length (binaryText d)) 65536 (omega (arith, binary-short)),
+        binary-form d,
+        head-back,
+        counts-back,
+        le-leb (needed (d .maxVar)) room (v .held),
+        body-back,
+        v .literals,
+        v .uses,
+        v .order,
+      )
