@@ -1,5 +1,5 @@
 -- `replay::replay` meets its contract. Assumes nothing.
-use native.Mathlib.Omega.{arith}
+use mathlib.Core.Path.{refl}
 use borrow.Author.Needs.{needs}
 use Rattle.pinned_runs.proofs.Free.{replayed-free}
 use Rattle.replay.proofs.replay.Statement.{statement}
@@ -18,7 +18,7 @@ replay-under-requires : tie.Need-replay-under-requires
 replay-under-requires c κs = tt
 
 returns : tie.Need-returns
-returns c = replayed-free (c .replay-under .ensures)
+returns c = replayed-free (λ i. 2) (λ i. refl) (c .replay-under .ensures)
 
 pub replay-spec : {M : Type 1} → statement M
 replay-spec = tie.close (tie.spec sub-replay-under part-replay-under-start part-replay-under-end replay-under-requires returns)

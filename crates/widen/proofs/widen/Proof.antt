@@ -1,5 +1,5 @@
 -- `widen::widen` meets its contract. Assumes nothing.
-use native.Mathlib.Omega.{arith}
+use mathlib.Core.Path.{refl}
 use borrow.Author.Needs.{needs}
 use Rattle.pinned_runs.proofs.Free.{widened-free}
 use Rattle.widen.proofs.widen.Statement.{statement}
@@ -21,7 +21,7 @@ same-length : tie.Need-same-length
 same-length c = search needs
 
 returns : tie.Need-returns
-returns c = widened-free (c .before .before .widen-under .ensures)
+returns c = widened-free (λ i. 2) (λ i. refl) (c .before .before .widen-under .ensures)
 
 pub widen-spec : {M : Type 1} → statement M
 widen-spec = tie.close (tie.spec sub-widen-under part-widen-under-start part-widen-under-end widen-under-requires same-length returns)
