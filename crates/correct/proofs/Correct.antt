@@ -6,7 +6,7 @@ use mathlib.Core.Bool.{Bool, cond}
 use mathlib.Core.List.{List, [], _∷_, List·Memᴰ}
 use mathlib.Core.Option.{some}
 use mathlib.Core.Logic.{_⊎_}
-use Prim.Native.Nat.{ℕ, _≤_, _<_, _^_}
+use Prim.Native.Nat.{ℕ, _-_, _≤_, _<_, _^_}
 use native.Mathlib.Omega.{arith}
 use lib.Dec.{T}
 use lib.ListN.{length, take}
@@ -14,7 +14,7 @@ use Rattle.aiger.specs.Circuit.{Circuit, var, literalsRight, usedDefined, acycl
 use Rattle.aiger.specs.Frames.{Run, value, valueAt, run, freeBits, freeStarts}
 use Rattle.aiger.specs.Load.{Answer, refused, gives, load, needed}
 use Rattle.aiger.specs.Search.{Outcome, question, reaches, firstWitness, permitted, permittedOf}
-use Rattle.aiger.specs.Witness.{agrees, witness}
+use Rattle.aiger.specs.Witness.{Witness, agrees, witness, readWitness}
 use Rattle.aiger.specs.Write.{countRow, write}
 use Rattle.aiger.specs.Memory.{Holds, image}
 use Rattle.aiger.specs.Fold.{folds, valueOn, output}
@@ -40,6 +40,9 @@ use Rattle.search.specs.Chosen.{chosen}
 use Rattle.replay.proofs.Theorems.{Hit, either-same, all-is-yes, all-hits, no-hits}
 use Rattle.widen.proofs.Theorems.{made, widened-same, widened-all, widened-copied, widened-twice}
 use Rattle.search.proofs.Theorems.{found-only, none-only, spent-only, memory-same}
+use Rattle.vcd.specs.Text.{Level}
+use Rattle.waveform.specs.Waveform.{levelAt, frameCount, waveformOf, Waveformed}
+use Rattle.waveform_laws.proofs.Theorems.{waveformed-same, never-short, runText, waveform-plain, badWire, all-shown}
 use Rattle.search.proofs.Constraints.{questionAlone, witness-allowed, permitted-alone}
 
 pub record Correct : Type 1 where
@@ -145,6 +148,20 @@ pub record Correct : Type 1 where
   -- widening twice is widening once
   pub widen-twice : {m text out out′ o o′ : List ℕ} {n k : ℕ} {c : Circuit} → Holds m c → Widened m text out (gives n) out′
       → Widened m (take n out′) o (gives k) o′ → take k o′ ≡ take n out′
+  -- ---- Clause 13: waveforms.
+
+  -- waveform answers one thing and leaves one output
+  pub waveform-determined : {m text out o₁ o₂ : List ℕ} {only : Bool} {a b : Answer ℕ} → Waveformed m only text out a o₁ → Waveformed m only text out b o₂
+      → (a ≡ b) × (o₁ ≡ o₂)
+  -- it is never refused with 13 where 1,456,223 bytes are lent
+  pub waveform-room : {m text out out′ : List ℕ} {only : Bool} {a : Answer ℕ} {c : Circuit} → Holds m c → 1456223 ≤ length out → Waveformed m only text out a out′
+      → a ≡ refused 13 → ⊥
+  -- for a witness without `x`, each wire has its value in each frame of the one run
+  pub waveform-values : (c : Circuit) (only : Bool) (text : List ℕ) (w : Witness) → readWitness c text ≡ some w
+      → waveformOf c only (readEither c text) ≡ runText c only (w .run)
+  -- where replay says all, the wire of the witness's bad line is 1 in the last frame
+  pub waveform-hit : {m text : List ℕ} {c : Circuit} → Holds m c → EitherReplayed m text (gives Verdict.all)
+      → (h : ℕ × List ℕ) × (readEither c text ≡ some h) × (levelAt c (h .0) (h .1) (frameCount c (h .0) (h .1) - 1) (badWire c (h .0)) ≡ Level.high)
 
 -- ---- the fields that stand nowhere else
 
@@ -220,4 +237,8 @@ correct =
       widen-all = λ {c = c} h w r. widened-all c h (made c h w) r;
       widen-else = λ {c = c} h w r n. widened-copied c h (made c h w) r n;
       widen-twice = λ {c = c} h w v. widened-twice c h (made c h w) (made c h v);
+      waveform-determined = waveformed-same;
+      waveform-room = λ {c = c} h l w e. never-short c h l w e;
+      waveform-values = waveform-plain;
+      waveform-hit = λ {c = c} h r. all-shown c h r;
     }
