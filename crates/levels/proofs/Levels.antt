@@ -103,7 +103,8 @@ pub over-joined : (n m : ℕ) (p : ℕ → Bool) → 0 < n → 0 < m → levelOv
 unfolding levelOver
 over-joined n m p h k =
     ap₂ of (every-add n m p) (every-add n m (λ v. not (p v)))
-    ∙ both (everyBelow n p) (everyBelow n (λ v. not (p v))) (everyBelow m (λ v. p (n + v))) (everyBelow m (λ v. not (p (n + v)))) (all-or-none n p h)
+    ∙ both (everyBelow n p) (everyBelow n (λ v. not (p v))) (everyBelow m (λ v. p (n + v))) (everyBelow m (λ v. not (p (n + v))))
+        (all-or-none n p h)
     (all-or-none m (λ v. p (n + v)) k)
 
 -- ---- the level of a word
@@ -135,7 +136,8 @@ module _ (x : ℕ) where
 
   no-zeros : x < 2 ^ 64 → (x ≡ 18446744073709551615 → ⊥) → T (everyBelow 64 (bit x)) → ⊥
   no-zeros h n t =
-      n (bits-equal 64 x 18446744073709551615 h (omega arith) (λ p l. true-T (bit x p) (below-at 64 (bit x) t p l) ∙ sym (bit-all 64 p l)))
+      n (bits-equal 64 x 18446744073709551615 h (omega arith)
+          (λ p l. true-T (bit x p) (below-at 64 (bit x) t p l) ∙ sym (bit-all 64 p l)))
 
   twice : (b : Bool) → not (not b) ≡ b
   twice true = refl

@@ -1,4 +1,5 @@
--- Samples written one after the other: the words have the latches of the next frame, and its sample and those after it are left. Assumes nothing.
+-- Samples written one after the other: the words have the latches of the next frame, and its sample and those after it are left. Assumes
+-- nothing.
 use mathlib.Core.Path.{_≡_, refl, sym, ap, _∙_, subst}
 use mathlib.Core.Bool.{Bool, false}
 use mathlib.Core.List.{List, [], _∷_, _++_}
@@ -84,17 +85,20 @@ abbrev pub mixed : Circuit → (ℕ → Run) → ℕ → (ℕ → ℕ → Level)
 mixed c r block old t k = after block (old t k) (levelOf c r t k)
 
 -- before frame t: the words have its latches, its sample and those of the frames after it are left, and the old ones stand there
-pub record Turn (c : Circuit) (r : ℕ → Run) (block frames : ℕ) (out₀ : List ℕ) (at n : ℕ) (old : ℕ → ℕ → Level) (t left : ℕ) (words out : List ℕ) (end : ℕ) : Type 0 where
+pub record Turn (c : Circuit) (r : ℕ → Run) (block frames : ℕ) (out₀ : List ℕ) (at n : ℕ) (old : ℕ → ℕ → Level) (t left : ℕ)
+    (words out : List ℕ) (end : ℕ) : Type 0 where
   pub latches : AllLatched c r t words
   pub rest : Rest out₀ at (samples (mixed c r block old) n 0 frames) out end (samples (mixed c r block old) n t left)
   pub stands : 0 < block → Stands out end (samples old n t left)
 
-pub turn-start : (c : Circuit) (r : ℕ → Run) (block frames : ℕ) (out₀ : List ℕ) (at n : ℕ) (old : ℕ → ℕ → Level) {words : List ℕ} → AllLatched c r 0 words
+pub turn-start : (c : Circuit) (r : ℕ → Run) (block frames : ℕ) (out₀ : List ℕ) (at n : ℕ) (old : ℕ → ℕ → Level) {words : List ℕ}
+    → AllLatched c r 0 words
     → (0 < block → Stands out₀ at (samples old n 0 frames)) → Turn c r block frames out₀ at n old 0 frames words out₀ at
 turn-start c r block frames out₀ at n old k s =
     record { latches = k; rest = rest-start out₀ at (samples (mixed c r block old) n 0 frames); stands = s }
 
-module _ {m : List ℕ} {layout : Layout} {order : List ℕ} {count : ℕ} (R : Ready m layout order count) (body : List ℕ) (block frames : ℕ) (r : ℕ → Run)
+module _ {m : List ℕ} {layout : Layout} {order : List ℕ} {count : ℕ} (R : Ready m layout order count) (body : List ℕ) (block frames : ℕ)
+    (r : ℕ → Run)
     (q : RunsOf (circuitIn m) body block frames r) where
   abbrev c : Circuit
   c = circuitIn m
@@ -121,7 +125,8 @@ module _ {m : List ℕ} {layout : Layout} {order : List ℕ} {count : ℕ} (R : 
   levels-are t words v k =
       let l = literalAt c k in
       over-same 64 (λ p. value (lane words p) l) (λ p. valueAt c (r p) t l)
-      (λ p h. valuation-value c (right (R .held)) (known (R .held)) (no-cycle (R .held)) (r p) t (v p h) l (wire-known c (known (R .held)) k))
+      (λ p h. valuation-value c (right (R .held)) (known (R .held)) (no-cycle (R .held)) (r p) t (v p h) l
+          (wire-known c (known (R .held)) k))
 
   -- ---- one sample after the other
 
@@ -133,7 +138,8 @@ module _ {m : List ℕ} {layout : Layout} {order : List ℕ} {count : ℕ} (R : 
     Now = Turn c r block frames out₀ at n old
 
     module _ (space : Room out₀ at (samples all n 0 frames)) where
-      module _ (filled : List ℕ) {t left row end : ℕ} {words out : List ℕ} (k : Now t left words out end) (l : 0 < left) (h : t + left ≡ frames)
+      module _ (filled : List ℕ) {t left row end : ℕ} {words out : List ℕ} (k : Now t left words out end) (l : 0 < left)
+          (h : t + left ≡ frames)
           (e : row ≡ layout .l + 1 + t * (layout .i + 1)) (g : FrameGiven c body row block words filled) where
         here : Valued t filled
         here = valued t row words filled (omega arith) e (k .latches) g
@@ -150,7 +156,8 @@ module _ {m : List ℕ} {layout : Layout} {order : List ℕ} {count : ℕ} (R : 
         old-here : 0 < block → Stands out end (sample (old t) n t ++ samples old n (t + 1) (left - 1))
         old-here b = rw (sym (samples-more old n t left l)) (k .stands b)
 
-        pub turn-next : {end₂ : ℕ} {out₂ : List ℕ} (moved : List ℕ) → Rewritten (λ f. sample f n t) block (levelIn m filled) out end end₂ out₂
+        pub turn-next : {end₂ : ℕ} {out₂ : List ℕ} (moved : List ℕ)
+            → Rewritten (λ f. sample f n t) block (levelIn m filled) out end end₂ out₂
             → Advanced c filled moved → Now (t + 1) (left - 1) moved out₂ end₂
         turn-next moved w d =
             let rest = samples old n (t + 1) (left - 1) in
@@ -167,5 +174,6 @@ module _ {m : List ℕ} {layout : Layout} {order : List ℕ} {count : ℕ} (R : 
         rest-mark : Rest out₀ at (samples all n 0 frames) out end (timeMark t)
         rest-mark = rw (samples-none all n t left l) at (k .rest)
 
-        pub mark-placed : {end₂ : ℕ} {out₂ : List ℕ} → Placed out end (timeMark t) end₂ out₂ → Placed out₀ at (samples all n 0 frames) end₂ out₂
+        pub mark-placed : {end₂ : ℕ} {out₂ : List ℕ} → Placed out end (timeMark t) end₂ out₂
+            → Placed out₀ at (samples all n 0 frames) end₂ out₂
         mark-placed p = last-placed (timeMark t) space rest-mark p

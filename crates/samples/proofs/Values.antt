@@ -36,7 +36,8 @@ module _ (out₀ : List ℕ) (at n block : ℕ) (new old : ℕ → Level) where
       -- the character that stands there
       pub turn-byte : 0 < block → getD out end 0 ≡ levelByte (old k)
       unfolding valueLine
-      turn-byte b = stands-byte (levelByte (old k)) _ (stands-first (valueLine k (old k)) (valueLines old (k + 1) (left - 1)) (old-here b))
+      turn-byte b = stands-byte (levelByte (old k)) _ (stands-first (valueLine k (old k)) (valueLines old (k + 1) (left - 1))
+          (old-here b))
 
       pub turn-next : {end₂ : ℕ} {out₂ : List ℕ} → at + 4 * n ≤ length out₀ → Placed out end (valueLine k (mixed k)) end₂ out₂
           → Turn (k + 1) (left - 1) out₂ end₂

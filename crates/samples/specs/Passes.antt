@@ -36,10 +36,13 @@ pub record Stands (out : List ℕ) (at : ℕ) (text : List ℕ) : Type 0 where
   pub rest : List ℕ
   pub stands : drop at out ≡ text ++ rest
 
--- what a block leaves of a text of levels: where there was a block before it, the old levels stood there, and each is joined with the new one
-pub record Rewritten (text : (ℕ → Level) → List ℕ) (block : ℕ) (new : ℕ → Level) (out : List ℕ) (at end : ℕ) (out′ : List ℕ) : Type 0 where
+-- what a block leaves of a text of levels: where there was a block before it, the old levels stood there, and each is
+-- joined with the new one
+pub record Rewritten (text : (ℕ → Level) → List ℕ) (block : ℕ) (new : ℕ → Level) (out : List ℕ) (at end : ℕ)
+    (out′ : List ℕ) : Type 0 where
   pub past : end ≡ at + length (text low)
-  pub placed : (old : ℕ → Level) → (0 < block → Stands out at (text old)) → Placed out at (text (λ k. after block (old k) (new k))) end out′
+  pub placed : (old : ℕ → Level) → (0 < block → Stands out at (text old))
+      → Placed out at (text (λ k. after block (old k) (new k))) end out′
 
 -- the words and wires that a sample is made of
 pub record Wired (m : List ℕ) (layout : Layout) (count n : ℕ) : Type 0 where

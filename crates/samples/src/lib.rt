@@ -60,7 +60,8 @@ fn write_sample(
 ) -> usize
     requires { ⌜ Wired (now m) layout (length (now values)) (pass .wires) × Room (now out) at (sample low (pass .wires) t) ⌝ }
     ensures { λ r. ⌜
-        Rewritten (λ f. sample f (pass .wires) t) (pass .block) (levelIn (now (m .entry)) (now (values .entry))) (now (out .entry)) at r (now (out .exit))
+        Rewritten (λ f. sample f (pass .wires) t) (pass .block) (levelIn (now (m .entry)) (now (values .entry)))
+        (now (out .entry)) at r (now (out .exit))
         ⌝ }
 {
     let next = vcd::write_time(out, at, t);

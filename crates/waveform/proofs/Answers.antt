@@ -119,4 +119,5 @@ module _ (out : List ℕ) (name : ℕ → Name) (n : ℕ) (level : ℕ → ℕ �
     samples-room = omega (arith, last-room (samples level n 0 f) space headed, samples-size level (λ t. low) n 0 f)
 
     pub all-written : {out₂ : List ℕ} → out₂ ≡ putText out₁ e₁ (samples level n 0 f) → out₂ ≡ front (dump name n level f) out
-    all-written q = last-placed (samples level n 0 f) space headed (record { past = refl; contents = q }) .contents ∙ put-front out (dump name n level f)
+    all-written q = last-placed (samples level n 0 f) space headed (record { past = refl; contents = q }) .contents
+        ∙ put-front out (dump name n level f)

@@ -54,25 +54,30 @@ module _ (c : Circuit) (b frames : ℕ) (body : List ℕ) (B : Bodies c b frames
         over-same 64 (λ p. valueAt c (runs block p) t (literalAt c k)) (λ p. high (block * 64 + p)) (λ p h. high-is t k (block * 64 + p))
 
     -- one block more
-    pub level-more : (block : ℕ) → after block (levelBelow c b body block t k) (levelOf c (runs block) t k) ≡ levelBelow c b body (block + 1) t k
+    pub level-more : (block : ℕ) → after block (levelBelow c b body block t k) (levelOf c (runs block) t k)
+        ≡ levelBelow c b body (block + 1) t k
     level-more block =
         ap (after block (levelBelow c b body block t k)) (block-level block)
         ∙ elim (decLt 0 block) [
           | yes h ↦
               let e : block * 64 + 64 ≡ (block + 1) * 64 = omega arith in
-              ap (λ (x : Bool). cond x (levelOver 64 (λ p. high (block * 64 + p))) (joined (levelBelow c b body block t k) (levelOver 64 (λ p. high (block * 64 + p)))))
+              ap (λ (x : Bool). cond x (levelOver 64 (λ p. high (block * 64 + p)))
+                  (joined (levelBelow c b body block t k) (levelOver 64 (λ p. high (block * 64 + p)))))
               (ne-eqb block 0 (λ z. omega arith))
               ∙ sym (over-joined (block * 64) 64 high (omega arith) (omega arith)) ∙ ap (λ (n : ℕ). levelOver n high) e
           | no h ↦
               let z : block ≡ 0 = omega arith in
               let e : 64 ≡ (block + 1) * 64 = omega arith in
-              ap (λ (x : Bool). cond x (levelOver 64 (λ p. high (block * 64 + p))) (joined (levelBelow c b body block t k) (levelOver 64 (λ p. high (block * 64 + p)))))
+              ap (λ (x : Bool). cond x (levelOver 64 (λ p. high (block * 64 + p)))
+                  (joined (levelBelow c b body block t k) (levelOver 64 (λ p. high (block * 64 + p)))))
               (eq-eqb block 0 z)
-              ∙ over-same 64 (λ p. high (block * 64 + p)) high (λ p l. let q : block * 64 + p ≡ p = omega arith in ap high q) ∙ ap (λ (n : ℕ). levelOver n high) e
+              ∙ over-same 64 (λ p. high (block * 64 + p)) high (λ p l. let q : block * 64 + p ≡ p = omega arith in ap high q)
+              ∙ ap (λ (n : ℕ). levelOver n high) e
         ]
 
     -- a test of all completions, and of as many numbers or more
-    covered : (p : List ℕ → Bool) (n : ℕ) → 2 ^ eithers body ≤ n → everyBelow n (λ v. p (completion v body)) ≡ everyBelow (2 ^ eithers body) (λ v. p (completion v body))
+    covered : (p : List ℕ → Bool) (n : ℕ) → 2 ^ eithers body ≤ n → everyBelow n (λ v. p (completion v body))
+        ≡ everyBelow (2 ^ eithers body) (λ v. p (completion v body))
     unfolding allPass
     covered p n h =
         let q : ℕ → Bool = λ v. p (completion v body) in

@@ -22,7 +22,8 @@ pub record Passed (c : Circuit) (b : ℕ) (body out₀ : List ℕ) (at n frames 
   pub covered : (f : ℕ → ℕ → Level) → putText out at (samples f n 0 frames) ≡ putText out₀ at (samples f n 0 frames)
 
 pub passed-none : (c : Circuit) (b : ℕ) (body out : List ℕ) (at n frames : ℕ) → Passed c b body out at n frames 0 out
-passed-none c b body out at n frames = record { stands = λ h. absurd (omega arith); written = λ h. absurd (omega arith); covered = λ f. refl }
+passed-none c b body out at n frames =
+    record { stands = λ h. absurd (omega arith); written = λ h. absurd (omega arith); covered = λ f. refl }
 
 module _ (c : Circuit) (b : ℕ) (body out₀ : List ℕ) (pass : Pass) (B : Bodies c b (pass .frames) body) where
   abbrev text : ℕ → List ℕ
@@ -30,7 +31,8 @@ module _ (c : Circuit) (b : ℕ) (body out₀ : List ℕ) (pass : Pass) (B : Bod
 
   -- one block more
   pub passed-more : {out : List ℕ} → Passed c b body out₀ (pass .at) (pass .wires) (pass .frames) (pass .block) out
-      → Room out (pass .at) (samples (λ t. low) (pass .wires) 0 (pass .frames)) → {end : ℕ} {out′ : List ℕ} → SamplesLeft c body pass out end out′
+      → Room out (pass .at) (samples (λ t. low) (pass .wires) 0 (pass .frames)) → {end : ℕ} {out′ : List ℕ}
+      → SamplesLeft c body pass out end out′
       → Passed c b body out₀ (pass .at) (pass .wires) (pass .frames) (pass .block + 1) out′
   passed-more {out} p h {end} {out′} s =
       let n = pass .wires in
@@ -40,13 +42,16 @@ module _ (c : Circuit) (b : ℕ) (body out₀ : List ℕ) (pass : Pass) (B : Bod
       let e : samples mixed n 0 frames ≡ text (block + 1) =
       samples-same mixed (levelBelow c b body (block + 1)) n 0 frames (λ t k _. level-more c b frames body B t k block) in
       let q : Placed out (pass .at) (text (block + 1)) end out′ =
-      subst (λ (w : List ℕ). Placed out (pass .at) w end out′) e (s (runs c b frames body B block) (runs-of c b frames body B block) (levelBelow c b body block) (p .stands)) in
-      let room : Room out (pass .at) (text (block + 1)) = omega (arith, samples-size (levelBelow c b body (block + 1)) (λ t. low) n 0 frames) in
+      subst (λ (w : List ℕ). Placed out (pass .at) w end out′) e
+          (s (runs c b frames body B block) (runs-of c b frames body B block) (levelBelow c b body block) (p .stands)) in
+      let room : Room out (pass .at) (text (block + 1)) =
+      omega (arith, samples-size (levelBelow c b body (block + 1)) (λ t. low) n 0 frames) in
       record {
         stands = λ _. stands-placed (text (block + 1)) room q;
         written = λ _. q .contents ∙ p .covered (levelBelow c b body (block + 1));
         covered = λ f.
             ap (λ (w : List ℕ). putText w (pass .at) (samples f n 0 frames)) (q .contents)
-            ∙ put-over out (pass .at) (text (block + 1)) (samples f n 0 frames) room (samples-size f (levelBelow c b body (block + 1)) n 0 frames)
+            ∙ put-over out (pass .at) (text (block + 1)) (samples f n 0 frames) room
+                (samples-size f (levelBelow c b body (block + 1)) n 0 frames)
             ∙ p .covered f;
       }

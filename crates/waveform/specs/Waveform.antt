@@ -1,4 +1,5 @@
--- Clauses 13.1 to 13.6: the run of a witness as the text of a value change dump, and the contract of the operation waveform. Assumes nothing.
+-- Clauses 13.1 to 13.6: the run of a witness as the text of a value change dump, and the contract of the operation waveform. Assumes
+-- nothing.
 use mathlib.Core.Path.{_≡_}
 use mathlib.Core.Bool.{Bool, false, cond}
 use mathlib.Core.List.{List, [], _∷_, _++_}

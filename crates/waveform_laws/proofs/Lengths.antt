@@ -38,7 +38,8 @@ bits-size zero (c ∷ w) = go (eqb c 10)
     go false = tt
 bits-size (suc n) (c ∷ w) = go (eqb c 48 || eqb c 49) (bits n w) (bits-size n w)
   where
-    go : (b : Bool) (o : Option (List Bool × List ℕ)) → Line n w o → Line (suc n) (c ∷ w) (when b >> (o >>= λ r. some (eqb c 49 ∷ r .0, r .1)))
+    go : (b : Bool) (o : Option (List Bool × List ℕ)) → Line n w o
+        → Line (suc n) (c ∷ w) (when b >> (o >>= λ r. some (eqb c 49 ∷ r .0, r .1)))
     go true none h = tt
     go true (some r) h = omega (arith, h)
     go false o h = tt
@@ -51,7 +52,8 @@ Rows n w (some rs) = length w ≡ length rs * (n + 1) + 2
 no-rows : (n : ℕ) (w : List ℕ) → same w (bytes ".\n") ≡ true → Rows n w (some [])
 no-rows n w e = omega (arith, same-length w (bytes ".\n") (T-true e))
 
-row-more : (n : ℕ) (w f : List ℕ) (v : List Bool) (o : Option (List (List Bool))) → length w ≡ n + 1 + length f → Rows n f o → Rows n w (o >>= λ rs. some (v ∷ rs))
+row-more : (n : ℕ) (w f : List ℕ) (v : List Bool) (o : Option (List (List Bool))) → length w ≡ n + 1 + length f → Rows n f o
+    → Rows n w (o >>= λ rs. some (v ∷ rs))
 row-more n w f v none e h = tt
 row-more n w f v (some rs) e h = omega (arith, e, h, suc-mul (length rs) (n + 1))
 
@@ -80,28 +82,34 @@ run-size : (c : Circuit) (b : ℕ) (w : List ℕ) → Read c w (readRun c b w)
 unfolding readRun
 run-size c b w = go (ltb b (length (c .bads))) (bits (length (c .latches)) w) (bits-size (length (c .latches)) w)
   where
-    last : (s : List Bool × List ℕ) (rs : List (List Bool)) → length w ≡ length (c .latches) + 1 + length (s .1) → length (s .1) ≡ length rs * (length (c .inputs) + 1) + 2
+    last : (s : List Bool × List ℕ) (rs : List (List Bool)) → length w ≡ length (c .latches) + 1 + length (s .1)
+        → length (s .1) ≡ length rs * (length (c .inputs) + 1) + 2
         → (p : Bool) → Read c w (when p >> some (record { bad = b; run = record { start = s .0; rows = rs } }))
     last s rs e h true = omega (arith, e, h)
     last s rs e h false = tt
 
-    rows : (s : List Bool × List ℕ) (o : Option (List (List Bool))) → length w ≡ length (c .latches) + 1 + length (s .1) → Rows (length (c .inputs)) (s .1) o
+    rows : (s : List Bool × List ℕ) (o : Option (List (List Bool))) → length w ≡ length (c .latches) + 1 + length (s .1)
+        → Rows (length (c .inputs)) (s .1) o
         → Read c w (o >>= λ rs. when (leb 1 (length rs)) >> some (record { bad = b; run = record { start = s .0; rows = rs } }))
     rows s none e h = tt
     rows s (some rs) e h = last s rs e h (leb 1 (length rs))
 
     go : (p : Bool) (o : Option (List Bool × List ℕ)) → Line (length (c .latches)) w o
-        → Read c w (when p >> (o >>= λ s. bitRows (length (c .inputs)) 256 (s .1) >>= λ rs. when (leb 1 (length rs)) >> some (record { bad = b; run = record { start = s .0; rows = rs } })))
+        → Read c w (when p >> (o >>= λ s. bitRows (length (c .inputs)) 256 (s .1) >>= λ rs. when (leb 1 (length rs)) >> some
+            (record { bad = b; run = record { start = s .0; rows = rs } })))
     go true none h = tt
     go true (some s) h = rows s (bitRows (length (c .inputs)) 256 (s .1)) h (rows-size (length (c .inputs)) 256 (s .1))
     go false o h = tt
 
 -- two texts of one length have as many frames
-pub frames-same : (c : Circuit) (b : ℕ) (w u : List ℕ) (x y : Witness) → length w ≡ length u → readRun c b w ≡ some x → readRun c b u ≡ some y
+pub frames-same : (c : Circuit) (b : ℕ) (w u : List ℕ) (x y : Witness) → length w ≡ length u → readRun c b w ≡ some x
+    → readRun c b u ≡ some y
     → length (x .run .rows) ≡ length (y .run .rows)
 frames-same c b w u x y e p q =
-    let s : length w ≡ length (c .latches) + 1 + (length (x .run .rows) * (length (c .inputs) + 1) + 2) = subst (Read c w) p (run-size c b w) in
-    let t : length u ≡ length (c .latches) + 1 + (length (y .run .rows) * (length (c .inputs) + 1) + 2) = subst (Read c u) q (run-size c b u) in
+    let s : length w ≡ length (c .latches) + 1 + (length (x .run .rows) * (length (c .inputs) + 1) + 2) = subst (Read c w) p
+        (run-size c b w) in
+    let t : length u ≡ length (c .latches) + 1 + (length (y .run .rows) * (length (c .inputs) + 1) + 2) = subst (Read c u) q
+        (run-size c b u) in
     let i = length (c .inputs) + 1 in
     let m = length (x .run .rows) in
     let n = length (y .run .rows) in

@@ -1,6 +1,6 @@
--- Waveform answers one thing; its text is never longer than 1,456,223 bytes, so that 13 is never given where so many are lent; for a witness
--- without `x` each wire has its value in the one run; the wire of the witness's bad line is 1 in the last frame where every completion is
--- confirmed. Assumes nothing.
+-- Waveform answers one thing; its text is never longer than 1,456,223 bytes, so that 13 is never given where so many are lent; for a
+-- witness without `x` each wire has its value in the one run; the wire of the witness's bad line is 1 in the last frame where every
+-- completion is confirmed. Assumes nothing.
 use mathlib.Core.Path.{_≡_, refl, sym, ap, _∙_, subst}
 use mathlib.Core.Bool.{Bool, true, false, not, cond, _&&_}
 use mathlib.Core.List.{List, [], _∷_, _++_, map}
@@ -42,10 +42,12 @@ use Rattle.waveform_laws.proofs.Lengths.{frames-same}
 
 -- ---- Clause 13.6: one answer
 
-pub waveformed-same : {m text out o₁ o₂ : List ℕ} {only : Bool} {a b : Answer ℕ} → Waveformed m only text out a o₁ → Waveformed m only text out b o₂
+pub waveformed-same : {m text out o₁ o₂ : List ℕ} {only : Bool} {a b : Answer ℕ} → Waveformed m only text out a o₁
+    → Waveformed m only text out b o₂
     → (a ≡ b) × (o₁ ≡ o₂)
 waveformed-same w v =
-    operated-same (λ (o p : List ℕ). o ≡ p) alike-self (λ c. refl) refl (λ c a b s t e f. (e .count ∙ sym (f .count), e .shows ∙ sym (f .shows))) w v
+    operated-same (λ (o p : List ℕ). o ≡ p) alike-self (λ c. refl) refl
+        (λ c a b s t e f. (e .count ∙ sym (f .count), e .shows ∙ sym (f .shows))) w v
 
 -- ---- the length
 
@@ -177,7 +179,8 @@ both true b e = e
 both false b e = let z : _≡_ {A = ℕ} 0 1 = cc in absurd (omega arith)
 
 -- a run that is confirmed has the bad line in its last frame
-confirmed-bad : (c : Circuit) (w : Witness) → confirms c w ≡ true → valueAt c (w .run) (length (w .run .rows) - 1) (getD (c .bads) (w .bad) 0) ≡ true
+confirmed-bad : (c : Circuit) (w : Witness) → confirms c w ≡ true
+    → valueAt c (w .run) (length (w .run .rows) - 1) (getD (c .bads) (w .bad) 0) ≡ true
 unfolding confirms hits
 confirmed-bad c w e =
     let t = length (w .run .rows) - 1 in
@@ -186,16 +189,19 @@ confirmed-bad c w e =
 
 module _ (c : Circuit) (b : ℕ) (body : List ℕ) where
   -- a completion that shows a hit has as many frames as any, and the wire of the bad line is 1 in the last
-  high-here : (o p : Option Witness) (v : ℕ) → b < length (c .bads) → readRun c b (completion 0 body) ≡ o → readRun c b (completion v body) ≡ p
+  high-here : (o p : Option Witness) (v : ℕ) → b < length (c .bads) → readRun c b (completion 0 body) ≡ o
+      → readRun c b (completion v body) ≡ p
       → T (elim o [ none ↦ false | some x ↦ confirms c x ]) → T (elim p [ none ↦ false | some x ↦ confirms c x ])
-      → elim p [ none ↦ false | some x ↦ valueAt c (x .run) (elim o [ none ↦ 0 | some y ↦ length (y .run .rows) ] - 1) (literalAt c (badWire c b)) ] ≡ true
+      → elim p [ none ↦ false | some x ↦ valueAt c (x .run) (elim o [ none ↦ 0 | some y ↦ length (y .run .rows) ] - 1)
+          (literalAt c (badWire c b)) ] ≡ true
   high-here none p v h e f s t = absurd s
   high-here (some y) none v h e f s t = absurd t
   high-here (some y) (some x) v h e f s t =
       let n : length (y .run .rows) ≡ length (x .run .rows) =
       frames-same c b (completion 0 body) (completion v body) y x (completion-length 0 body ∙ sym (completion-length v body)) e f in
       ap (λ (k : ℕ). valueAt c (x .run) (k - 1) (literalAt c (badWire c b))) n
-      ∙ ap (valueAt c (x .run) (length (x .run .rows) - 1)) (bad-literal c b h ∙ ap (λ (k : ℕ). getD (c .bads) k 0) (sym (run-bad c b (completion v body) x f)))
+      ∙ ap (valueAt c (x .run) (length (x .run .rows) - 1)) (bad-literal c b h ∙ ap (λ (k : ℕ). getD (c .bads) k 0)
+          (sym (run-bad c b (completion v body) x f)))
       ∙ confirmed-bad c x (true-T (confirms c x) t)
 
   -- a body that shows a hit is one of a bad line that there is
@@ -204,7 +210,8 @@ module _ (c : Circuit) (b : ℕ) (body : List ℕ) where
   bad-there u t =
       elim (decLt b (length (c .bads))) [
         | yes l ↦ l
-        | no l ↦ absurd (subst (λ (o : Option Witness). T (elim o [ none ↦ false | some x ↦ confirms c x ])) (bad-none c b u (omega arith)) t)
+        | no l ↦ absurd (subst (λ (o : Option Witness). T (elim o [ none ↦ false | some x ↦ confirms c x ]))
+            (bad-none c b u (omega arith)) t)
       ]
 
   -- where every completion is confirmed, the wire of the bad line is 1 in the last frame
@@ -213,11 +220,13 @@ module _ (c : Circuit) (b : ℕ) (body : List ℕ) where
   hit-shown t =
       let at : (v : ℕ) → T (shows c b (completion v body)) = λ v. all-at (shows c b) body t (completion v body) (completes v body) in
       over-high (2 ^ eithers body) (λ v. isHigh c b (frameCount c b body - 1) (badWire c b) (completion v body))
-      (λ v _. high-here (readRun c b (completion 0 body)) (readRun c b (completion v body)) v (bad-there (completion 0 body) (at 0)) refl refl (at 0) (at v))
+      (λ v _. high-here (readRun c b (completion 0 body)) (readRun c b (completion v body)) v (bad-there (completion 0 body) (at 0)) refl
+          refl (at 0) (at v))
 
 -- so where replay says all
 pub all-shown : {m text : List ℕ} (c : Circuit) → Holds m c → EitherReplayed m text (gives Verdict.all)
-    → (h : ℕ × List ℕ) × (readEither c text ≡ some h) × (levelAt c (h .0) (h .1) (frameCount c (h .0) (h .1) - 1) (badWire c (h .0)) ≡ Level.high)
+    → (h : ℕ × List ℕ) × (readEither c text ≡ some h) × (levelAt c (h .0) (h .1) (frameCount c (h .0) (h .1) - 1)
+        (badWire c (h .0)) ≡ Level.high)
 all-shown c k r =
     let e = acted k r refl .1 in
     ((e .bad, e .body), e .reads, hit-shown c (e .bad) (e .body) (verdict-passes (shows c (e .bad)) (e .body) (sym (e .judged))))

@@ -1,6 +1,6 @@
--- `samples::write_samples` meets its contract. The loop's invariant: for all runs of the block's completions, the words have the latches of frame
--- t, the samples from frame t on are left, and those that stood there before stand there still. The measure is the number of frames left.
--- Assumes nothing.
+-- `samples::write_samples` meets its contract. The loop's invariant: for all runs of the block's completions, the words have the latches
+-- of frame t, the samples from frame t on are left, and those that stood there before stand there still. The measure is the number of
+-- frames left. Assumes nothing.
 use mathlib.Core.Path.{_≡_, refl, sym, ap, _∙_}
 use mathlib.Core.List.{List}
 use Prim.Native.Nat.{ℕ, _+_, _-_, _*_, _≤_, _<_}
@@ -18,7 +18,8 @@ use Rattle.write.specs.Output.{Room}
 use Rattle.vcd.specs.Text.{Level, timeMark, sample, samples}
 use Rattle.vcd.proofs.Parts.{samples-none}
 use Rattle.samples.specs.Passes.{low, levelOf, Stands, PassFits, RunsOf}
-use Rattle.samples.proofs.Samples.{samples-size, samples-length, AllLatched, all-started, mixed, Turn, turn-start, turn-next, mark-placed}
+use Rattle.samples.proofs.Samples.{samples-size, samples-length, AllLatched, all-started, mixed}
+use Rattle.samples.proofs.Samples.{Turn, turn-start, turn-next, mark-placed}
 use Rattle.samples.proofs.write_samples.Statement.{statement}
 use Rattle.samples.proofs.write_samples.Tie as tie
 
@@ -28,7 +29,8 @@ size n t left = length (samples (λ _. low) n t left)
 
 abbrev Inv-loop : tie.InvT-loop
 Inv-loop m layout order body pass out₀ values₀ state₀ width seen₀ end₀ row₀ t₀ left₀ out values state seen end row t left =
-    (t + left ≡ left₀) × (row ≡ row₀ + t * width) × (seen ≡ eithers (take row body)) × (length out ≡ length out₀) × (length values ≡ length values₀)
+    (t + left ≡ left₀) × (row ≡ row₀ + t * width) × (seen ≡ eithers (take row body)) × (length out ≡ length out₀)
+    × (length values ≡ length values₀)
     × (length state ≡ length state₀) × (word m 0 < length values) × (end + size (pass .wires) t left ≡ end₀ + size (pass .wires) 0 left₀)
     × ((r : ℕ → Run) → RunsOf (circuitIn m) body (pass .block) left₀ r → (old : ℕ → ℕ → Level)
     → (0 < pass .block → Stands out₀ end₀ (samples old (pass .wires) 0 left₀)) → AllLatched (circuitIn m) r 0 values₀
@@ -59,15 +61,18 @@ module _ (c : tie.At-loop Inv-loop μ-loop) where
   abbrev S₀ : tie.Start Inv-loop μ-loop
   S₀ = c .before .before .before .before .before .before .before .before .before .before .before .before .before
 
-  turn : let a = S₀ .args in (r : ℕ → Run) → RunsOf (circuitIn (a .m .now)) (a .body .now) (a .pass .block) (a .pass .frames) r → (old : ℕ → ℕ → Level)
+  turn : let a = S₀ .args in (r : ℕ → Run) → RunsOf (circuitIn (a .m .now)) (a .body .now) (a .pass .block) (a .pass .frames) r
+      → (old : ℕ → ℕ → Level)
       → (0 < a .pass .block → Stands (a .out .now) (a .pass .at) (samples old (a .pass .wires) 0 (a .pass .frames)))
-      → Turn (circuitIn (a .m .now)) r (a .pass .block) (a .pass .frames) (a .out .now) (a .pass .at) (a .pass .wires) old (c .loop .t) (c .loop .left) (c .loop .values)
+      → Turn (circuitIn (a .m .now)) r (a .pass .block) (a .pass .frames) (a .out .now) (a .pass .at) (a .pass .wires) old (c .loop .t)
+          (c .loop .left) (c .loop .values)
       (c .loop .out) (c .loop .end)
   turn r q old s =
       let a = S₀ .args in
       let p = c .before .before .before .before in
       c .loop .inv .8 r q old s
-      (all-started (circuitIn (a .m .now)) (a .body .now) (a .pass .block) (a .pass .frames) r (p .put-starts .last .1 .1 .1 .1 .1 .0) q (p .put-starts .ensures .0))
+      (all-started (circuitIn (a .m .now)) (a .body .now) (a .pass .block) (a .pass .frames) r (p .put-starts .last .1 .1 .1 .1 .1 .0) q
+          (p .put-starts .ensures .0))
 
 -- within a turn
 module _ (n : tie.In-loop Inv-loop μ-loop) where
@@ -109,7 +114,8 @@ loop-holds c =
       refl,
       omega (arith, p .put-starts .kept .1 .1 .1 .1 .1 .0, R S .room),
       refl,
-      λ r q old s k. turn-start (circuitIn (a .m .now)) r (a .pass .block) (a .pass .frames) (a .out .now) (a .pass .at) (a .pass .wires) old k s,
+      λ r q old s k. turn-start (circuitIn (a .m .now)) r (a .pass .block) (a .pass .frames) (a .out .now) (a .pass .at)
+          (a .pass .wires) old k s,
     )
 
 put-frame-requires : tie.Need-put-frame-requires Inv-loop μ-loop
@@ -154,8 +160,9 @@ module _ (d : tie.After-advance Inv-loop μ-loop) where
 
 add-row-2 : tie.Need-add-row-2 Inv-loop μ-loop
 add-row-2 c =
-    let S = c .before .before .before .before .before .before .before .before .before .before .before .before .before .before .before .before .before .before .before .before .before .before .before .before .before .before .before .before .before .before in
-    let L = c .before .before .before .before .before .before .before .before .before .before .before .before .before .before .before .before .before .loop in
+    let k = c .before .before .before .before .before .before .before .before .before .before .before .before .before .before .before .before .before in
+    let L = k .loop in
+    let S = k .before .before .before .before .before .before .before .before .before .before .before .before .before in
     let f : L .row + S .args .layout .i + 1 ≤ length (S .args .body .now) = fits (N (c .before .before .before .before)) in
     omega (arith, f)
 
@@ -192,7 +199,8 @@ loop-again c =
       omega (arith, W .ensures .past, L .inv .7, samples-length (λ _. low) (a .pass .wires) (L .t) (L .left) I),
       λ r q old s k.
           turn-next (R S) (a .body .now) (a .pass .block) (a .pass .frames) r q (a .out .now) (a .pass .at) (a .pass .wires) old
-          (space S (mixed (circuitIn (a .m .now)) r (a .pass .block) old)) (P .last .1 .1 .1 .1 .1 .1 .1 .0) (L .inv .8 r q old s k) I (L .inv .0) (L .inv .1) (P .ensures .0)
+          (space S (mixed (circuitIn (a .m .now)) r (a .pass .block) old)) (P .last .1 .1 .1 .1 .1 .1 .1 .0) (L .inv .8 r q old s k) I
+              (L .inv .0) (L .inv .1) (P .ensures .0)
           (D .last .1 .1 .1 .0) (W .ensures) (D .ensures),
     )
 
@@ -221,7 +229,8 @@ returns c = λ r q old s.
     let S = S₀ k in
     let a = S .args in
     mark-placed (R S) (a .body .now) (a .pass .block) (a .pass .frames) r q (a .out .now) (a .pass .at) (a .pass .wires) old
-    (space S (mixed (circuitIn (a .m .now)) r (a .pass .block) old)) (turn k r q old s) (c .before .before .before .before .loop-test .left)
+    (space S (mixed (circuitIn (a .m .now)) r (a .pass .block) old)) (turn k r q old s)
+        (c .before .before .before .before .loop-test .left)
     (c .before .before .write-time .ensures)
 
 pub write-samples-spec : {M : Type 1} → statement M

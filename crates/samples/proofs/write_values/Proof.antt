@@ -1,5 +1,5 @@
--- `samples::write_values` meets its contract. The loop's invariant: the levels are written but for those of the wires that are left, and those
--- that stood there before stand there still. The measure is the number of wires left. Assumes nothing.
+-- `samples::write_values` meets its contract. The loop's invariant: the levels are written but for those of the wires that are left, and
+-- those that stood there before stand there still. The measure is the number of wires left. Assumes nothing.
 use mathlib.Core.Path.{_≡_, refl, ap, _∙_}
 use mathlib.Core.Bool.{not, cond}
 use Prim.Native.Nat.{ℕ, _+_, _-_, _*_, _/_, _≤_, _<_}
@@ -54,7 +54,8 @@ word-inside c =
 loop-holds : tie.Need-loop-holds Inv-loop μ-loop
 loop-holds c =
     let a = c .before .before .before .args in
-    (omega arith, omega arith, refl, λ old s. turn-start (a .out .now) (a .at) (a .n) (a .block) (levelIn (a .m .now) (a .values .now)) old s)
+    (omega arith, omega arith, refl, λ old s. turn-start (a .out .now) (a .at) (a .n) (a .block) (levelIn (a .m .now) (a .values .now))
+        old s)
 
 literal-at-requires : tie.Need-literal-at-requires Inv-loop μ-loop
 literal-at-requires c κs = (W c .held, W c .layout-of, omega (arith, there c, W c .wires))
@@ -110,7 +111,8 @@ loop-again c =
           let t = L .inv .3 old s in
           turn-next (a .out .now) (a .at) (a .n) (a .block) new old t (n .loop-test .taken) (S n .pre .1)
           (w .write-value .ensures (after (a .block) (old (L .k)) (new (L .k)))
-          (j .joined .ensures .joins (old (L .k)) (new (L .k)) (turn-byte (a .out .now) (a .at) (a .n) (a .block) new old t (n .loop-test .taken)) e)),
+          (j .joined .ensures .joins (old (L .k)) (new (L .k))
+              (turn-byte (a .out .now) (a .at) (a .n) (a .block) new old t (n .loop-test .taken)) e)),
     )
 
 same-length : tie.Need-same-length Inv-loop μ-loop
@@ -123,7 +125,8 @@ returns c =
     let a = S₀ .args in
     record {
       past = omega (arith, L .inv .0, L .inv .1, c .loop-test .left, values-length low 0 (a .n));
-      placed = λ old s. turn-end (a .out .now) (a .at) (a .n) (a .block) (levelIn (a .m .now) (a .values .now)) old (L .inv .3 old s) (c .loop-test .left);
+      placed = λ old s. turn-end (a .out .now) (a .at) (a .n) (a .block) (levelIn (a .m .now) (a .values .now)) old (L .inv .3 old s)
+          (c .loop-test .left);
     }
 
 pub write-values-spec : {M : Type 1} → statement M

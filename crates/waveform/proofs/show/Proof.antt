@@ -59,7 +59,8 @@ module _ (d : tie.After-dump-length) where
   abbrev n : ℕ
   n = w .wire-count .result
 
-  shown : dump (nameIn (S₀ .args .layout)) n (level S₀) (S₀ .args .q .frames) ≡ waveform (c S₀) (S₀ .args .only) (S₀ .args .q .bad, body S₀)
+  shown : dump (nameIn (S₀ .args .layout)) n (level S₀) (S₀ .args .q .frames) ≡ waveform (c S₀) (S₀ .args .only)
+      (S₀ .args .q .bad, body S₀)
   shown =
       text-is (R S₀ .held) (R S₀ .layout-of) (S₀ .args .only) (w .wire-count .ensures) (S₀ .args .q .bad) (body S₀)
       (frames-are (c S₀) (S₀ .args .q .bad) (S₀ .args .q .frames) (body S₀) (bodies (F S₀)))
@@ -107,7 +108,8 @@ show-blocks-requires k κs =
         wires = wires-there (R S .held) (R S .layout-of) (S .args .only) (w (d e) .wire-count .ensures);
         few = few-frames S;
         inside = F S .inside;
-        room = samples-room (S .args .out .now) (nameIn (S .args .layout)) (n (d e)) (level S) (S .args .q .frames) (fits e) (h .write-header .ensures);
+        room = samples-room (S .args .out .now) (nameIn (S .args .layout)) (n (d e)) (level S) (S .args .q .frames) (fits e)
+            (h .write-header .ensures);
       },
     )
 
@@ -128,7 +130,8 @@ returns-2 k =
     let all : 2 ^ eithers (body S) ≤ blocks * 64 =
     omega (arith, ap (λ (x : ℕ). 2 ^ x) (F S .eithers-are), g .block-count .ensures) in
     let same : samples (levelBelow (c S) b (body S) blocks) (n (d e)) 0 frames ≡ samples (level S) (n (d e)) 0 frames =
-    samples-same (levelBelow (c S) b (body S) blocks) (level S) (n (d e)) 0 frames (λ t j _. level-all (c S) b frames (body S) B t j blocks all) in
+    samples-same (levelBelow (c S) b (body S) blocks) (level S) (n (d e)) 0 frames
+        (λ t j _. level-all (c S) b frames (body S) B t j blocks all) in
     let left = s .show-blocks .ensures b B (omega (arith, all, pow-pos (eithers (body S)))) in
     let done =
     all-written (S .args .out .now) (nameIn (S .args .layout)) (n (d e)) (level S) frames (fits e) (h .write-header .ensures)

@@ -1,4 +1,5 @@
--- `waveform::write_blocks` meets its contract. The loop's invariant: the samples over the blocks so far stand in the output. Assumes nothing.
+-- `waveform::write_blocks` meets its contract. The loop's invariant: the samples over the blocks so far stand in the output. Assumes
+-- nothing.
 use mathlib.Core.Path.{_≡_, refl, sym, ap, _∙_}
 use Prim.Native.Nat.{ℕ, _+_, _-_, _≤_, _<_}
 use native.Mathlib.Omega.{arith}
@@ -14,7 +15,8 @@ use Rattle.waveform.proofs.write_blocks.Tie as tie
 abbrev Inv-loop : tie.InvT-loop
 Inv-loop m layout order body all out₀ values₀ state₀ block₀ out values state block =
     (block ≤ all .block) × (length out ≡ length out₀) × (length values ≡ length values₀) × (length state ≡ length state₀)
-    × ((b : ℕ) → Bodies (circuitIn m) b (all .frames) body → Passed (circuitIn m) b body out₀ (all .at) (all .wires) (all .frames) block out)
+    × ((b : ℕ) → Bodies (circuitIn m) b (all .frames) body
+    → Passed (circuitIn m) b body out₀ (all .at) (all .wires) (all .frames) block out)
 
 abbrev μ-loop : tie.MeasureT-loop
 μ-loop m layout order body all out₀ values₀ state₀ block₀ out values state block = all .block - block
@@ -67,7 +69,8 @@ loop-again c =
       w .write-samples .kept .1 .1 .1 .1 .1 .1 .0 ∙ l .loop .inv .2,
       w .write-samples .kept .1 .1 .1 .1 .1 .1 .1 .0 ∙ l .loop .inv .3,
       λ b B.
-          passed-more (circuitIn (a .m .now)) b (a .body .now) (a .out .now) (record { wires = a .all .wires; frames = a .all .frames; block = l .loop .block; at = a .all .at }) B
+          passed-more (circuitIn (a .m .now)) b (a .body .now) (a .out .now)
+              (record { wires = a .all .wires; frames = a .all .frames; block = l .loop .block; at = a .all .at }) B
           (l .loop .inv .4 b B) (omega (arith, l .loop .inv .1, S .pre .1 .room)) (w .write-samples .ensures),
     )
 
