@@ -104,7 +104,7 @@ unfolding levelOver
 over-joined n m p h k =
     ap₂ of (every-add n m p) (every-add n m (λ v. not (p v)))
     ∙ both (everyBelow n p) (everyBelow n (λ v. not (p v))) (everyBelow m (λ v. p (n + v))) (everyBelow m (λ v. not (p (n + v))))
-        (all-or-none n p h)
+    (all-or-none n p h)
     (all-or-none m (λ v. p (n + v)) k)
 
 -- ---- the level of a word
@@ -137,7 +137,7 @@ module _ (x : ℕ) where
   no-zeros : x < 2 ^ 64 → (x ≡ 18446744073709551615 → ⊥) → T (everyBelow 64 (bit x)) → ⊥
   no-zeros h n t =
       n (bits-equal 64 x 18446744073709551615 h (omega arith)
-          (λ p l. true-T (bit x p) (below-at 64 (bit x) t p l) ∙ sym (bit-all 64 p l)))
+      (λ p l. true-T (bit x p) (below-at 64 (bit x) t p l) ∙ sym (bit-all 64 p l)))
 
   twice : (b : Bool) → not (not b) ≡ b
   twice true = refl

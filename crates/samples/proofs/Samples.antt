@@ -126,7 +126,7 @@ module _ {m : List ℕ} {layout : Layout} {order : List ℕ} {count : ℕ} (R : 
       let l = literalAt c k in
       over-same 64 (λ p. value (lane words p) l) (λ p. valueAt c (r p) t l)
       (λ p h. valuation-value c (right (R .held)) (known (R .held)) (no-cycle (R .held)) (r p) t (v p h) l
-          (wire-known c (known (R .held)) k))
+      (wire-known c (known (R .held)) k))
 
   -- ---- one sample after the other
 

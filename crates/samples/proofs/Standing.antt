@@ -34,7 +34,7 @@ put-over out at u v h e =
     let r = drop (at + length u) out in
     let n : length (take at out) ≡ at = length-take-le at out (omega arith) in
     let t : take at ((take at out ++ u) ++ r) ≡ take at out = ap (take at) (append-assoc (take at out) u r) ∙ take-at (take at out)
-        (u ++ r) at n in
+    (u ++ r) at n in
     let q : at + length v ≡ at + length u = omega (arith, e) in
     let d : drop (at + length v) ((take at out ++ u) ++ r) ≡ drop (at + length v) out =
     ap (λ (k : ℕ). drop k ((take at out ++ u) ++ r)) q ∙ past-put out at u h ∙ ap (λ (k : ℕ). drop k out) (sym q) in

@@ -62,14 +62,14 @@ module _ (c : Circuit) (b frames : ℕ) (body : List ℕ) (B : Bodies c b frames
           | yes h ↦
               let e : block * 64 + 64 ≡ (block + 1) * 64 = omega arith in
               ap (λ (x : Bool). cond x (levelOver 64 (λ p. high (block * 64 + p)))
-                  (joined (levelBelow c b body block t k) (levelOver 64 (λ p. high (block * 64 + p)))))
+              (joined (levelBelow c b body block t k) (levelOver 64 (λ p. high (block * 64 + p)))))
               (ne-eqb block 0 (λ z. omega arith))
               ∙ sym (over-joined (block * 64) 64 high (omega arith) (omega arith)) ∙ ap (λ (n : ℕ). levelOver n high) e
           | no h ↦
               let z : block ≡ 0 = omega arith in
               let e : 64 ≡ (block + 1) * 64 = omega arith in
               ap (λ (x : Bool). cond x (levelOver 64 (λ p. high (block * 64 + p)))
-                  (joined (levelBelow c b body block t k) (levelOver 64 (λ p. high (block * 64 + p)))))
+              (joined (levelBelow c b body block t k) (levelOver 64 (λ p. high (block * 64 + p)))))
               (eq-eqb block 0 z)
               ∙ over-same 64 (λ p. high (block * 64 + p)) high (λ p l. let q : block * 64 + p ≡ p = omega arith in ap high q)
               ∙ ap (λ (n : ℕ). levelOver n high) e

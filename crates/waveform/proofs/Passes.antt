@@ -43,7 +43,7 @@ module _ (c : Circuit) (b : ℕ) (body out₀ : List ℕ) (pass : Pass) (B : Bod
       samples-same mixed (levelBelow c b body (block + 1)) n 0 frames (λ t k _. level-more c b frames body B t k block) in
       let q : Placed out (pass .at) (text (block + 1)) end out′ =
       subst (λ (w : List ℕ). Placed out (pass .at) w end out′) e
-          (s (runs c b frames body B block) (runs-of c b frames body B block) (levelBelow c b body block) (p .stands)) in
+      (s (runs c b frames body B block) (runs-of c b frames body B block) (levelBelow c b body block) (p .stands)) in
       let room : Room out (pass .at) (text (block + 1)) =
       omega (arith, samples-size (levelBelow c b body (block + 1)) (λ t. low) n 0 frames) in
       record {
@@ -52,6 +52,6 @@ module _ (c : Circuit) (b : ℕ) (body out₀ : List ℕ) (pass : Pass) (B : Bod
         covered = λ f.
             ap (λ (w : List ℕ). putText w (pass .at) (samples f n 0 frames)) (q .contents)
             ∙ put-over out (pass .at) (text (block + 1)) (samples f n 0 frames) room
-                (samples-size f (levelBelow c b body (block + 1)) n 0 frames)
+            (samples-size f (levelBelow c b body (block + 1)) n 0 frames)
             ∙ p .covered f;
       }

@@ -1,3 +1,5 @@
-pub mod Lengths
+pub mod Twins
+pub mod Positions
+pub mod Own
 pub mod Examples
 pub mod Theorems

@@ -22,7 +22,7 @@ use Rattle.aiger.specs.Witness.{Witness, readRun, readWitness, confirms, agrees
 use Rattle.aiger.proofs.Tests.{true-T}
 use Rattle.completions.specs.Either.{heading, eithers, completion, allPass, Verdict, shows, readEither}
 use Rattle.completions.specs.Operations.{fewEithers, EitherReplayed}
-use Rattle.completions.proofs.Completions.{completes, completion-length, all-at}
+use Rattle.completions.proofs.Completions.{completes, all-at}
 use Rattle.roundtrip.proofs.Determined.{operated-same, alike-self, acted, refused-as}
 use Rattle.roundtrip.proofs.Holding.{held-valid}
 use Rattle.roundtrip.proofs.LoadWrite.{Counts, counts-fit}
@@ -38,7 +38,7 @@ use Rattle.levels.specs.Levels.{levelOver}
 use Rattle.levels.proofs.Levels.{over-high}
 use Rattle.samples.proofs.Samples.{samples-same}
 use Rattle.waveform.specs.Waveform.{isHigh, levelAt, frameCount, wireCount, waveform, waveformOf, Waveformed}
-use Rattle.waveform_laws.proofs.Lengths.{frames-same}
+use Rattle.waveform_laws.proofs.Twins.{completions-twins, runs-twins}
 
 -- ---- Clause 13.6: one answer
 
@@ -47,7 +47,7 @@ pub waveformed-same : {m text out o₁ o₂ : List ℕ} {only : Bool} {a b : Ans
     → (a ≡ b) × (o₁ ≡ o₂)
 waveformed-same w v =
     operated-same (λ (o p : List ℕ). o ≡ p) alike-self (λ c. refl) refl
-        (λ c a b s t e f. (e .count ∙ sym (f .count), e .shows ∙ sym (f .shows))) w v
+    (λ c a b s t e f. (e .count ∙ sym (f .count), e .shows ∙ sym (f .shows))) w v
 
 -- ---- the length
 
@@ -192,16 +192,19 @@ module _ (c : Circuit) (b : ℕ) (body : List ℕ) where
   high-here : (o p : Option Witness) (v : ℕ) → b < length (c .bads) → readRun c b (completion 0 body) ≡ o
       → readRun c b (completion v body) ≡ p
       → T (elim o [ none ↦ false | some x ↦ confirms c x ]) → T (elim p [ none ↦ false | some x ↦ confirms c x ])
-      → elim p [ none ↦ false | some x ↦ valueAt c (x .run) (elim o [ none ↦ 0 | some y ↦ length (y .run .rows) ] - 1)
-          (literalAt c (badWire c b)) ] ≡ true
+      → elim p [
+        | none ↦ false
+        | some x ↦ valueAt c (x .run) (elim o [ none ↦ 0 | some y ↦ length (y .run .rows) ] - 1)
+            (literalAt c (badWire c b))
+      ] ≡ true
   high-here none p v h e f s t = absurd s
   high-here (some y) none v h e f s t = absurd t
   high-here (some y) (some x) v h e f s t =
       let n : length (y .run .rows) ≡ length (x .run .rows) =
-      frames-same c b (completion 0 body) (completion v body) y x (completion-length 0 body ∙ sym (completion-length v body)) e f in
+      rw (e, f) at (runs-twins c b (completion 0 body) (completion v body) (completions-twins 0 v body)) in
       ap (λ (k : ℕ). valueAt c (x .run) (k - 1) (literalAt c (badWire c b))) n
       ∙ ap (valueAt c (x .run) (length (x .run .rows) - 1)) (bad-literal c b h ∙ ap (λ (k : ℕ). getD (c .bads) k 0)
-          (sym (run-bad c b (completion v body) x f)))
+      (sym (run-bad c b (completion v body) x f)))
       ∙ confirmed-bad c x (true-T (confirms c x) t)
 
   -- a body that shows a hit is one of a bad line that there is
@@ -221,12 +224,12 @@ module _ (c : Circuit) (b : ℕ) (body : List ℕ) where
       let at : (v : ℕ) → T (shows c b (completion v body)) = λ v. all-at (shows c b) body t (completion v body) (completes v body) in
       over-high (2 ^ eithers body) (λ v. isHigh c b (frameCount c b body - 1) (badWire c b) (completion v body))
       (λ v _. high-here (readRun c b (completion 0 body)) (readRun c b (completion v body)) v (bad-there (completion 0 body) (at 0)) refl
-          refl (at 0) (at v))
+      refl (at 0) (at v))
 
 -- so where replay says all
 pub all-shown : {m text : List ℕ} (c : Circuit) → Holds m c → EitherReplayed m text (gives Verdict.all)
     → (h : ℕ × List ℕ) × (readEither c text ≡ some h) × (levelAt c (h .0) (h .1) (frameCount c (h .0) (h .1) - 1)
-        (badWire c (h .0)) ≡ Level.high)
+    (badWire c (h .0)) ≡ Level.high)
 all-shown c k r =
     let e = acted k r refl .1 in
     ((e .bad, e .body), e .reads, hit-shown c (e .bad) (e .body) (verdict-passes (shows c (e .bad)) (e .body) (sym (e .judged))))

@@ -39,7 +39,7 @@ module _ (out : List ℕ) (at n t : ℕ) (h : Room out at (sample low n t)) wher
               let mixed : ℕ → Level = λ k. after block (old k) (new k) in
               let space : Room out at (sample mixed n t) = omega (arith, sample-size mixed low n t) in
               last-placed (valueLines mixed 0 n) space (rest-more (timeMark t) (valueLines mixed 0 n) space
-                  (rest-start out at (sample mixed n t)) p)
+              (rest-start out at (sample mixed n t)) p)
               (w .placed old (λ b. stands-next (timeMark t) (valueLines old 0 n) (s b) (timeMark t) mark-room refl p));
         }
 
@@ -66,7 +66,7 @@ returns c =
     let S = w .before .before .before .before .before in
     let a = S .args in
     both (a .out .now) (a .at) (a .pass .wires) (a .t) (S .pre .1) (w .write-time .ensures) (a .pass .block)
-        (levelIn (a .m .now) (a .values .now))
+    (levelIn (a .m .now) (a .values .now))
     (v .write-values .ensures)
 
 pub write-sample-spec : {M : Type 1} → statement M

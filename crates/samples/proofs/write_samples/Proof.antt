@@ -65,14 +65,14 @@ module _ (c : tie.At-loop Inv-loop μ-loop) where
       → (old : ℕ → ℕ → Level)
       → (0 < a .pass .block → Stands (a .out .now) (a .pass .at) (samples old (a .pass .wires) 0 (a .pass .frames)))
       → Turn (circuitIn (a .m .now)) r (a .pass .block) (a .pass .frames) (a .out .now) (a .pass .at) (a .pass .wires) old (c .loop .t)
-          (c .loop .left) (c .loop .values)
+      (c .loop .left) (c .loop .values)
       (c .loop .out) (c .loop .end)
   turn r q old s =
       let a = S₀ .args in
       let p = c .before .before .before .before in
       c .loop .inv .8 r q old s
       (all-started (circuitIn (a .m .now)) (a .body .now) (a .pass .block) (a .pass .frames) r (p .put-starts .last .1 .1 .1 .1 .1 .0) q
-          (p .put-starts .ensures .0))
+      (p .put-starts .ensures .0))
 
 -- within a turn
 module _ (n : tie.In-loop Inv-loop μ-loop) where
@@ -200,7 +200,7 @@ loop-again c =
       λ r q old s k.
           turn-next (R S) (a .body .now) (a .pass .block) (a .pass .frames) r q (a .out .now) (a .pass .at) (a .pass .wires) old
           (space S (mixed (circuitIn (a .m .now)) r (a .pass .block) old)) (P .last .1 .1 .1 .1 .1 .1 .1 .0) (L .inv .8 r q old s k) I
-              (L .inv .0) (L .inv .1) (P .ensures .0)
+          (L .inv .0) (L .inv .1) (P .ensures .0)
           (D .last .1 .1 .1 .0) (W .ensures) (D .ensures),
     )
 
@@ -230,7 +230,7 @@ returns c = λ r q old s.
     let a = S .args in
     mark-placed (R S) (a .body .now) (a .pass .block) (a .pass .frames) r q (a .out .now) (a .pass .at) (a .pass .wires) old
     (space S (mixed (circuitIn (a .m .now)) r (a .pass .block) old)) (turn k r q old s)
-        (c .before .before .before .before .loop-test .left)
+    (c .before .before .before .before .loop-test .left)
     (c .before .before .write-time .ensures)
 
 pub write-samples-spec : {M : Type 1} → statement M

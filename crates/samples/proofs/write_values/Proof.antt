@@ -53,9 +53,13 @@ word-inside c =
 
 loop-holds : tie.Need-loop-holds Inv-loop μ-loop
 loop-holds c =
-    let a = c .before .before .before .args in
-    (omega arith, omega arith, refl, λ old s. turn-start (a .out .now) (a .at) (a .n) (a .block) (levelIn (a .m .now) (a .values .now))
-        old s)
+    let a = c .before .before .before .args in (
+      omega arith,
+      omega arith,
+      refl,
+      λ old s. turn-start (a .out .now) (a .at) (a .n) (a .block) (levelIn (a .m .now) (a .values .now))
+          old s,
+    )
 
 literal-at-requires : tie.Need-literal-at-requires Inv-loop μ-loop
 literal-at-requires c κs = (W c .held, W c .layout-of, omega (arith, there c, W c .wires))
@@ -112,7 +116,7 @@ loop-again c =
           turn-next (a .out .now) (a .at) (a .n) (a .block) new old t (n .loop-test .taken) (S n .pre .1)
           (w .write-value .ensures (after (a .block) (old (L .k)) (new (L .k)))
           (j .joined .ensures .joins (old (L .k)) (new (L .k))
-              (turn-byte (a .out .now) (a .at) (a .n) (a .block) new old t (n .loop-test .taken)) e)),
+          (turn-byte (a .out .now) (a .at) (a .n) (a .block) new old t (n .loop-test .taken)) e)),
     )
 
 same-length : tie.Need-same-length Inv-loop μ-loop

@@ -131,7 +131,7 @@ returns-2 k =
     omega (arith, ap (λ (x : ℕ). 2 ^ x) (F S .eithers-are), g .block-count .ensures) in
     let same : samples (levelBelow (c S) b (body S) blocks) (n (d e)) 0 frames ≡ samples (level S) (n (d e)) 0 frames =
     samples-same (levelBelow (c S) b (body S) blocks) (level S) (n (d e)) 0 frames
-        (λ t j _. level-all (c S) b frames (body S) B t j blocks all) in
+    (λ t j _. level-all (c S) b frames (body S) B t j blocks all) in
     let left = s .show-blocks .ensures b B (omega (arith, all, pow-pos (eithers (body S)))) in
     let done =
     all-written (S .args .out .now) (nameIn (S .args .layout)) (n (d e)) (level S) frames (fits e) (h .write-header .ensures)

@@ -109,7 +109,7 @@ returns-3 c =
     shown (circuitIn (m r)) (holding r .1) (a .only) (text r) (a .out .now) (q .bad) (drop start (text r)) (placed k .reads)
     (omega (arith, placed k .fits .eithers-are, placed k .fits .few)) (s .show .result) out′
     (subst (λ (w : List ℕ). ShownAs (circuitIn (m r)) (a .only) (q .bad, w) (a .out .now) (s .show .result) out′) (rest-is (text r) start)
-        (s .show .ensures))
+    (s .show .ensures))
 
 pub waveform-spec : {M : Type 1} → statement M
 waveform-spec =

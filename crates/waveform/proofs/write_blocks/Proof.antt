@@ -70,7 +70,7 @@ loop-again c =
       w .write-samples .kept .1 .1 .1 .1 .1 .1 .1 .0 ∙ l .loop .inv .3,
       λ b B.
           passed-more (circuitIn (a .m .now)) b (a .body .now) (a .out .now)
-              (record { wires = a .all .wires; frames = a .all .frames; block = l .loop .block; at = a .all .at }) B
+          (record { wires = a .all .wires; frames = a .all .frames; block = l .loop .block; at = a .all .at }) B
           (l .loop .inv .4 b B) (omega (arith, l .loop .inv .1, S .pre .1 .room)) (w .write-samples .ensures),
     )
 
