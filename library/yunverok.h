@@ -28,8 +28,8 @@
     17  circuits to join: no output or more than 16, or not the same numbers of inputs and of outputs
    (*) in a binary file I+L+A other than M.
    load makes 1 to 8, each over the whole file, and 15 with 5, where the fault that stands first in the file counts; join 9, 17, 3 and 4, in
-   this order; test 9; search and fold 9 to 13; replay 9, 14 and 16; widen 9, 14, 16 and then 13; write 9 and 13; waveform 9, 14
-   and 13.
+   this order; test 9; search and fold 9 to 13; replay 9, 14 and 16; widen 9, 14, 16 and then 13; write 9 and 13; waveform 9, 14,
+   16 and then 13.
 
    Stack. At most 115 kilobytes are used, whatever the circuit; docs/MEMORY.md has the greatest depth measured for each function. */
 #ifndef YUNVEROK_H
@@ -117,9 +117,9 @@ uint64_t yunverok_fold(const uint32_t *memory, size_t memory_len, uint64_t b, ui
 
 /* Shows the run of a witness of 1 to 256 frames as a value change dump (VCD), one time step of 1 ns a frame: inputs i0 i1 .., latches
    l0 .., outputs o0 .., bad lines b0 .. and constraints c0 .. in file order, or, where inputs is not 0, the inputs alone. Answers the
-   length of the text, which stands at the front of out; or 2^32 + n for a refusal, n 9, 14 or 13. out needs the text's length, at most
+   length of the text, which stands at the front of out; or 2^32 + n for a refusal, n 9, 14, 16 or 13. out needs the text's length, at most
    YUNVEROK_WAVEFORM; the bytes past the text are as they were. The start need not agree with the resets, nor the last frame be a hit.
-   A witness that holds x is 14 here. */
+   Where the witness holds x, a wire is 0 or 1 in a frame where every completion gives it that value, else x. */
 uint64_t yunverok_waveform(const uint32_t *memory, size_t memory_len, const uint8_t *text, size_t text_len, uint32_t inputs, uint8_t *out,
                            size_t out_len);
 

@@ -762,7 +762,8 @@ impl Harness {
         let c = reference::held(&words).unwrap_or_default();
         let text = self.witness(&c, large);
         let inputs = if self.random.one_in(3) { self.random.word() as u32 } else { 0 };
-        let length = reference::waveform(&words, &text, inputs != 0, u64::MAX).map_or(100, |shown| shown.len());
+        let complete = text.iter().map(|&byte| if byte == b'x' { b'0' } else { byte }).collect::<Vec<u8>>();
+        let length = reference::waveform(&words, &complete, inputs != 0, u64::MAX).map_or(100, |shown| shown.len());
         let out_len = self.near(length as u64);
         let out = self.lend_some(Kind::Output, out_len, 1);
         let witness = self.lend_text(&text);
@@ -776,7 +777,13 @@ impl Harness {
         match expected {
             Ok(shown) => {
                 self.store(&out).expect(out.offset, &shown);
-                self.tally.answer(Operation::Waveform, if inputs == 0 { "all wires" } else { "inputs" });
+                let said = match (inputs == 0, eithers(&text) == 0) {
+                    (true, true) => "all wires",
+                    (true, false) => "all wires, x",
+                    (false, true) => "inputs",
+                    (false, false) => "inputs, x",
+                };
+                self.tally.answer(Operation::Waveform, said);
             }
             Err(number) => self.tally.refusal(Operation::Waveform, number),
         }

@@ -862,8 +862,8 @@ pub fn widen(memory: &[u32], bytes: &[u8], out_len: u64) -> Result<Vec<u8>, u32>
 
 // Waveform
 
-/// The text of a witness's run: each wire is declared, and after each time mark stand the values of all.
-fn waveform_text(c: &Circuit, only: bool, witness: &Witness) -> Vec<u8> {
+/// The wires that are shown, each with its literal.
+fn wires(c: &Circuit, only: bool) -> Vec<(String, u64)> {
     let parts: [(char, Vec<u64>); 5] = [
         ('i', c.inputs.clone()),
         ('l', c.latches.iter().map(|latch| latch.lit).collect()),
@@ -872,32 +872,59 @@ fn waveform_text(c: &Circuit, only: bool, witness: &Witness) -> Vec<u8> {
         ('c', c.constraints.clone()),
     ];
     let named = |(kind, lits): &(char, Vec<u64>)| lits.iter().enumerate().map(|(i, &lit)| (format!("{kind}{i}"), lit)).collect::<Vec<_>>();
-    let wires: Vec<(String, u64)> = parts[..if only { 1 } else { 5 }].iter().flat_map(named).collect();
+    parts[..if only { 1 } else { 5 }].iter().flat_map(named).collect()
+}
+
+/// The values of the wires in the run of a witness without `x`, frame after frame.
+fn levels(c: &Circuit, wires: &[(String, u64)], witness: &Witness) -> Vec<u8> {
+    let mut evaluator = Evaluator::new(c);
+    let mut latches: Vec<u64> = witness.start.iter().map(|&value| u64::from(value)).collect();
+    let mut values = Vec::new();
+    for row in &witness.rows {
+        evaluator.frame(&latches, &row.iter().map(|&value| u64::from(value)).collect::<Vec<u64>>());
+        values.extend(wires.iter().map(|(_, lit)| b'0' + (evaluator.value(*lit) & 1) as u8));
+        latches = c.latches.iter().map(|latch| evaluator.value(latch.next)).collect();
+    }
+    values
+}
+
+/// The text: each wire is declared, and after each time mark stand the values of all.
+fn waveform_text(wires: &[(String, u64)], frames: usize, levels: &[u8]) -> Vec<u8> {
     let identifier = |k: usize| String::from_utf8(vec![b'!' + (k / 94) as u8, b'!' + (k % 94) as u8]).expect("printable characters");
     let mut text = String::from("$timescale 1 ns $end\n$scope module trigger $end\n");
     for (k, (name, _)) in wires.iter().enumerate() {
         text += &format!("$var wire 1 {} {name} $end\n", identifier(k));
     }
     text += "$upscope $end\n$enddefinitions $end\n";
-    let mut evaluator = Evaluator::new(c);
-    let mut latches: Vec<u64> = witness.start.iter().map(|&value| u64::from(value)).collect();
-    for (t, row) in witness.rows.iter().enumerate() {
-        evaluator.frame(&latches, &row.iter().map(|&value| u64::from(value)).collect::<Vec<u64>>());
+    for t in 0..frames {
         text += &format!("#{t}\n");
-        for (k, (_, lit)) in wires.iter().enumerate() {
-            text += &format!("{}{}\n", evaluator.value(*lit) & 1, identifier(k));
+        for k in 0..wires.len() {
+            text += &format!("{}{}\n", levels[t * wires.len() + k] as char, identifier(k));
         }
-        latches = c.latches.iter().map(|latch| evaluator.value(latch.next)).collect();
     }
-    text += &format!("#{}\n", witness.rows.len());
+    text += &format!("#{frames}\n");
     text.into_bytes()
 }
 
+/// The completions are run one by one, and a value that differs between two of them is `x`.
 pub fn waveform(memory: &[u32], bytes: &[u8], only: bool, out_len: u64) -> Result<Vec<u8>, u32> {
-    let c = held(memory).ok_or(9u32)?;
-    let witness = read_witness(&c, bytes).ok_or(14u32)?;
-    let text = waveform_text(&c, only, &witness);
-    if out_len < text.len() as u64 { Err(13) } else { Ok(text) }
+    let c = witness_tests(memory, bytes)?;
+    let wires = wires(&c, only);
+    let places = either_places(bytes);
+    let witness = |v| read_witness(&c, &completion(bytes, &places, v)).expect("a witness");
+    let frames = witness(0).rows.len();
+    let mut all = levels(&c, &wires, &witness(0));
+    if out_len < waveform_text(&wires, frames, &all).len() as u64 {
+        return Err(13);
+    }
+    for v in 1..1u64 << places.len() {
+        for (level, value) in all.iter_mut().zip(levels(&c, &wires, &witness(v))) {
+            if *level != value {
+                *level = b'x';
+            }
+        }
+    }
+    Ok(waveform_text(&wires, frames, &all))
 }
 
 // Fold

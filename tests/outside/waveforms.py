@@ -17,13 +17,42 @@ RANDOM = 300
 
 
 class Shown:
-    """A witness of a circuit, as text, with its start line and its rows."""
+    """A witness of a circuit, as text, with its start line and its rows, which may hold x."""
 
     def __init__(self, job, start, inputs, bad):
-        self.job, self.start, self.inputs = job, start, inputs
+        self.job, self.start, self.inputs, self.bad = job, start, inputs, bad
         self.text = "".join(line + "\n" for line in ["1", f"b{bad}", start, *inputs, "."])
         self.names = self.dump = self.alone = None
+        self.hit = False
         self.values = ""
+        self.parts = self.completions() if "x" in start + "".join(inputs) else [self]
+
+    def completions(self):
+        """The witnesses with 0 or 1 for each x, each a case of its own for the simulator."""
+        lines = "\n".join([self.start, *self.inputs]).split("x")
+        parts = []
+        for v in range(1 << (len(lines) - 1)):
+            text = lines[0] + "".join(str(v >> i & 1) + rest for i, rest in enumerate(lines[1:]))
+            start, *inputs = text.split("\n")
+            job = tools.Job(f"{self.job.ident}c{v}", self.job.title, self.job.text, self.job.b, self.job.k, self.job.d)
+            parts.append(Shown(job, start, inputs, self.bad))
+        return parts
+
+
+def joined(runs):
+    """The values that all of the runs have, x where two differ."""
+    return ["".join(bits[0] if len(set(bits)) == 1 else "x" for bits in zip(*frame)) for frame in zip(*runs)]
+
+
+def widened(shown, draws, ident):
+    """The same witness with x for one to four of its bits, or nothing where it has none."""
+    lines = [list(shown.start), *map(list, shown.inputs)]
+    places = draws.shuffled([(i, j) for i, line in enumerate(lines) for j in range(len(line))])[:1 + draws.below(4)]
+    for i, j in places:
+        lines[i][j] = "x"
+    start, *inputs = ("".join(line) for line in lines)
+    job = shown.job
+    return Shown(tools.Job(ident, f"{job.title} with x", job.text, job.b, job.k, job.d), start, inputs, shown.bad) if places else None
 
 
 def dump(shown, *more):
@@ -60,6 +89,11 @@ def sigrok(file, names):
     head = next(i for i, line in enumerate(lines) if line[0] in names)
     places = [lines[head].index(name) for name in names]
     return ["".join(line[place] for place in places) for line in lines[head + 1:]]
+
+
+def seen(values):
+    """What sigrok, which has no third value, gives for x: 0."""
+    return [row.replace("x", "0") for row in values]
 
 
 def gtkwave(file, names):
@@ -112,7 +146,7 @@ endmodule
 def module(shown):
     job = shown.job
     verilog = tools.read(job.file("v"))
-    ports = re.search(r"^module \w+\((.*)\);", verilog, re.M)[1].split(", ")
+    ports = re.split(r"\s*,\s*", re.search(r"^module \w+\(([^)]*)\);", verilog, re.M)[1])
     count = sum(port.startswith("n") for port in ports)
     outputs = [f"n{i}" for i in range(count)]
     say = f"    #1 $display(\"@ {job.ident} {'%b' * count}\", {', '.join(outputs)});\n"
@@ -127,7 +161,14 @@ def module(shown):
 
 
 def play(cases):
-    """Sets `values` of each case: the values of latches, outputs, bad lines and constraints in each frame, as Icarus computes them."""
+    """Sets `values` of each case: the values of latches, outputs, bad lines and constraints in each frame, as Icarus computes them in every
+    completion."""
+    play_each([part for case in cases for part in case.parts])
+    for case in cases:
+        case.values = joined([part.values for part in case.parts])
+
+
+def play_each(cases):
     for part in tools.chunks(cases, 100):
         for case in part:
             tools.write(case.job.file("aag"), observed(case.job.circuit))
@@ -177,12 +218,22 @@ def cases(seed, count):
         job = rows.job_of(f"w{i}", f"examples/{title}", text)
         shown = found(job)
         if shown:
-            yield Shown(job, *shown, job.b)
+            yield from both(Shown(job, *shown, job.b), draws, True)
         else:
             print(f"{job.title}: no witness")
-    for i, (text, _) in enumerate(rows.random_searches(seed, count, 2)):
+    for i, (text, _) in enumerate(rows.random_searches(seed, count, 0, 2)):
         job = rows.job_of(f"v{i}", f"random {i} of seed {seed}", text)
-        yield Shown(job, *(found(job) or any_run(job, draws)), job.b)
+        shown = found(job)
+        yield from both(Shown(job, *(shown or any_run(job, draws)), job.b), draws, bool(shown))
+
+
+def both(shown, draws, hit):
+    """A witness, and the same with x."""
+    shown.hit = hit
+    yield shown
+    wide = widened(shown, draws, f"{shown.job.ident}x")
+    if wide:
+        yield wide
 
 
 def spoiled(text, how):
@@ -201,12 +252,12 @@ def judge(case, note):
     note("Icarus, other wires", case, [row[len(c.inputs):] for row in values] == case.values)
     file = case.job.file("vcd")
     tools.write(file, case.dump)
-    note("sigrok, all wires", case, sigrok(file, names) == values)
+    note("sigrok, all wires", case, sigrok(file, names) == seen(values))
     note("GTKWave, all wires", case, whole(gtkwave(file, names), frames) == values)
     note("hit in the last step", case, not case.hit or values[-1][names.index(f"b{case.job.b}")] == "1")
     if c.inputs:
         tools.write(file, case.alone)
-        note("sigrok, inputs alone", case, sigrok(file, wires(c)[:len(c.inputs)]) == case.inputs)
+        note("sigrok, inputs alone", case, sigrok(file, wires(c)[:len(c.inputs)]) == seen(case.inputs))
         note("GTKWave, inputs alone", case, whole(gtkwave(file, wires(c)[:len(c.inputs)]), frames) == case.inputs)
 
 
@@ -228,13 +279,15 @@ def main():
 
     for case in shown:
         case.dump, case.alone = spoiled(dump(case), given.spoil), dump(case, "--inputs")
-        case.hit = found(case.job) is not None
     play(shown)
     for case in shown:
         judge(case, note)
     for kind, count in made.items():
         print(f"{kind}: {count} compared, {differ.get(kind, 0)} differ")
+    wide = [case for case in shown if len(case.parts) > 1]
+    others = sum(row.count("x") for case in wide for row in case.values)
     print(f"{len(shown)} witnesses, {sum(case.hit for case in shown)} of them hits, {sum(len(case.inputs) for case in shown)} frames")
+    print(f"{len(wide)} of them with x, {sum(len(case.parts) for case in wide)} completions, {others} values x on other wires than inputs")
     print(f"{sum(made.values())} compared, {sum(differ.values())} differ")
     sys.exit(1 if differ else 0)
 

@@ -130,7 +130,7 @@ module _ {m : List ℕ} {layout : Layout} {order : List ℕ} {count : ℕ} (R : 
 
   module _ (body : List ℕ) (block frames : ℕ) where
     -- the row of frame t, by the layout
-    row-at : (u : List ℕ) (r : Run) → RunAt c u frames r → (t at : ℕ) → t < frames → at ≡ layout .l + 1 + t * (layout .i + 1)
+    pub row-at : (u : List ℕ) (r : Run) → RunAt c u frames r → (t at : ℕ) → t < frames → at ≡ layout .l + 1 + t * (layout .i + 1)
         → values u at (length (c .inputs)) ≡ getD (r .rows) t []
     row-at u r q t at h e =
         let w : at ≡ length (c .latches) + 1 + t * (length (c .inputs) + 1) =

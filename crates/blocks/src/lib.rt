@@ -120,7 +120,7 @@ fn agree_word(m: &[u32], layout: Layout, order: &[u32], values: &[u64]) -> u64
 }
 
 // Gives the inputs the row at `at`, before which `seen` x stand, and evaluates the gates. The answer is the number of x up to the row's end.
-fn put_frame(
+pub fn put_frame(
     m: &[u32],
     layout: Layout,
     order: &[u32],
@@ -148,7 +148,7 @@ fn put_frame(
 }
 
 // Gives the constant and the latches their values at the start. The answer is the number of x in the line of start values.
-fn put_starts(
+pub fn put_starts(
     m: &[u32],
     layout: Layout,
     order: &[u32],
@@ -220,7 +220,7 @@ fn all_bits(b: bool) -> u64
 }
 
 // How many blocks the completions of n `x` make.
-fn block_count(n: usize) -> u64
+pub fn block_count(n: usize) -> u64
     requires { ⌜ n ≤ 16 ⌝ }
     ensures { λ r. ⌜ 2 ^ n ≤ r * 64 ⌝ }
 {

@@ -6,15 +6,15 @@ use mathlib.Core.Bool.{Bool, cond}
 use mathlib.Core.List.{List, [], _∷_, List·Memᴰ}
 use mathlib.Core.Option.{some}
 use mathlib.Core.Logic.{_⊎_}
-use Prim.Native.Nat.{ℕ, _≤_, _<_, _^_}
+use Prim.Native.Nat.{ℕ, suc, _+_, _-_, _*_, _≤_, _<_, _^_}
 use native.Mathlib.Omega.{arith}
 use lib.Dec.{T}
-use lib.ListN.{length, take}
+use lib.ListN.{length, getD, take}
 use Rattle.aiger.specs.Circuit.{Circuit, var, literalsRight, usedDefined, acyclic}
 use Rattle.aiger.specs.Frames.{Run, value, valueAt, hits, run, freeBits, freeStarts}
 use Rattle.aiger.specs.Load.{Answer, refused, gives, load, needed}
 use Rattle.aiger.specs.Search.{Outcome, question, reaches, firstWitness, permitted, permittedOf}
-use Rattle.aiger.specs.Witness.{agrees, witness}
+use Rattle.aiger.specs.Witness.{Witness, agrees, witness, readWitness}
 use Rattle.aiger.specs.Write.{countRow, write}
 use Rattle.aiger.specs.Memory.{Holds, image}
 use Rattle.aiger.specs.Fold.{folds, valueOn, output}
@@ -43,6 +43,10 @@ use Rattle.search.specs.Chosen.{chosen}
 use Rattle.replay.proofs.Theorems.{Hit, either-same, all-is-yes, all-hits, no-hits}
 use Rattle.widen.proofs.Theorems.{made, widened-same, widened-all, widened-copied, widened-twice}
 use Rattle.search.proofs.Theorems.{found-only, none-only, spent-only, memory-same}
+use Rattle.vcd.specs.Text.{Level}
+use Rattle.waveform.specs.Waveform.{levelAt, frameCount, waveformOf, Waveformed}
+use Rattle.waveform_laws.proofs.Own.{own-input, own-latch}
+use Rattle.waveform_laws.proofs.Theorems.{waveformed-same, never-short, runText, waveform-plain, badWire, all-shown}
 use Rattle.search.proofs.Constraints.{questionAlone, witness-allowed, permitted-alone}
 
 pub record Correct : Type 1 where
@@ -168,6 +172,26 @@ pub record Correct : Type 1 where
   -- written again, it gives the same bytes
   pub binary-again : {m out out′ m₂ out₂ out₂′ : List ℕ} {n k : ℕ} {c : Circuit} → Holds m c → WrittenBinary m out (gives n) out′ → Holds m₂ (renumbered c)
       → WrittenBinary m₂ out₂ (gives k) out₂′ → (k ≡ n) × (take k out₂′ ≡ take n out′)
+  -- ---- Clause 13: waveforms.
+
+  -- waveform answers one thing and leaves one output
+  pub waveform-determined : {m text out o₁ o₂ : List ℕ} {only : Bool} {a b : Answer ℕ} → Waveformed m only text out a o₁ → Waveformed m only text out b o₂
+      → (a ≡ b) × (o₁ ≡ o₂)
+  -- it is never refused with 13 where 1,456,223 bytes are lent
+  pub waveform-room : {m text out out′ : List ℕ} {only : Bool} {a : Answer ℕ} {c : Circuit} → Holds m c → 1456223 ≤ length out → Waveformed m only text out a out′
+      → a ≡ refused 13 → ⊥
+  -- for a witness without `x`, each wire has its value in each frame of the one run
+  pub waveform-values : (c : Circuit) (only : Bool) (text : List ℕ) (w : Witness) → readWitness c text ≡ some w
+      → waveformOf c only (readEither c text) ≡ runText c only (w .run)
+  -- an `x` of the witness is x on its own wire: of a row on that of its input in that frame, of the start values on that of its latch in frame 0
+  pub waveform-own-input : (c : Circuit) → T (literalsRight c) → T (usedDefined c) → T (acyclic c) → (b : ℕ) (body : List ℕ) (t i : ℕ)
+      → t < frameCount c b body → i < length (c .inputs) → getD body (suc (length (c .latches)) + (t * (length (c .inputs) + 1) + i)) 0 ≡ 120
+      → levelAt c b body t i ≡ Level.either
+  pub waveform-own-latch : (c : Circuit) → T (literalsRight c) → T (usedDefined c) → T (acyclic c) → (b : ℕ) (body : List ℕ) (j : ℕ)
+      → 0 < frameCount c b body → j < length (c .latches) → getD body j 0 ≡ 120 → levelAt c b body 0 (length (c .inputs) + j) ≡ Level.either
+  -- where replay says all, the wire of the witness's bad line is 1 in the last frame
+  pub waveform-hit : {m text : List ℕ} {c : Circuit} → Holds m c → EitherReplayed m text (gives Verdict.all)
+      → (h : ℕ × List ℕ) × (readEither c text ≡ some h) × (levelAt c (h .0) (h .1) (frameCount c (h .0) (h .1) - 1) (badWire c (h .0)) ≡ Level.high)
 
 -- ---- the fields that stand nowhere else
 
@@ -251,4 +275,10 @@ correct =
           (same-run v t x, same-hits v b (run (renumbered c) t x) t ∙ ap (λ (r : Run). hits c b r t) (same-run v t x));
       binary-answers = λ h b k D o. let v = held-valid h in (same-permitted v b k D o, same-witness v b);
       binary-again = λ h w h₂ w₂. binary.write-again h w h₂ w₂;
+      waveform-determined = waveformed-same;
+      waveform-room = λ {c = c} h l w e. never-short c h l w e;
+      waveform-values = waveform-plain;
+      waveform-own-input = own-input;
+      waveform-own-latch = own-latch;
+      waveform-hit = λ {c = c} h r. all-shown c h r;
     }

@@ -1,50 +1,74 @@
 -- What the operation waveform answers, by what was read of the witness and by the length of the text. Assumes nothing.
-use mathlib.Core.Path.{_≡_, refl, sym, ap, ap₂, _∙_}
+use mathlib.Core.Path.{_≡_, refl, sym, ap, ap₂, _∙_, subst}
 use mathlib.Core.Bool.{Bool, true, false, cond}
-use mathlib.Core.List.{List, _++_}
-use mathlib.Core.Option.{none, some}
+use mathlib.Core.List.{List, [], _∷_, _++_}
+use mathlib.Core.Option.{some}
 use Prim.Native.Nat.{ℕ, _+_, _≤_, _<_}
 use native.Mathlib.Omega.{arith}
 use borrow.Author.Tests.{lt-leb, le-leb}
+use lib.Dec.{leb}
 use lib.ListN.{length}
+use Rattle.aiger.specs.Circuit.{Circuit}
 use Rattle.aiger.specs.Load.{refused, gives}
 use Rattle.aiger.specs.Memory.{Holds}
-use Rattle.aiger.specs.Witness.{Witness, readWitness}
-use Rattle.aiger.specs.Operations.{front, judge, Operated}
+use Rattle.aiger.specs.Operations.{front, Test, need, judge, Operated}
+use Rattle.completions.specs.Either.{eithers, readEither}
+use Rattle.completions.specs.Operations.{eitherTests}
 use Rattle.layout.specs.Words.{circuitIn}
 use Rattle.layout.specs.Layout.{LayoutOf}
 use Rattle.layout.specs.declared.Layout.{Layout}
 use Rattle.frames.proofs.Places.{inputs-are, latches-are}
-use Rattle.playback.specs.Reads.{CountsOf}
-use Rattle.write.specs.Output.{Room, Placed}
+use Rattle.limits.proofs.Refusals.{judge-refused, judge-rest}
+use Rattle.replay.proofs.Answers.{passed}
+use Rattle.write.specs.Output.{putText, Room, Placed}
 use Rattle.write.proofs.Output.{Rest, rest-start, rest-room, rest-more, put-front}
 use Rattle.vcd.specs.declared.Name.{Name}
 use Rattle.vcd.specs.Text.{Level, header, samples, dump}
 use Rattle.vcd.specs.Wires.{literals, nameAt, nameIn, wiresIn, FewWires}
 use Rattle.vcd.proofs.Putting.{last-room, last-placed}
-use Rattle.waveform.specs.Waveform.{levelAt, wireCount, waveform, waveformOf, waveformTests, WaveformEffect, Waveformed}
-use Rattle.waveform.proofs.Wires.{outputs-are, bads-are, constraints-are, wires-are, wires-few}
+use Rattle.levels.proofs.Wires.{outputs-are, bads-are, constraints-are, wires-are, wires-few}
+use Rattle.samples.specs.Passes.{low}
+use Rattle.samples.proofs.Samples.{samples-size}
+use Rattle.waveform.specs.Waveform.{levelAt, frameCount, wireCount, waveform, waveformOf, waveformTests, WaveformEffect, Waveformed}
+use Rattle.waveform.specs.Answer.{answered}
+use Rattle.waveform.specs.Blocks.{ShownAs}
+use Rattle.waveform.specs.declared.WaveformAnswer.{WaveformAnswer}
+use Rattle.waveform.specs.declared.WaveformAnswer.the-variants.{Length, Refused}
 
 -- ---- the answers
 
-module _ {m : List ℕ} (h : Holds m (circuitIn m)) (only : Bool) (text out : List ℕ) where
-  pub no-witness : readWitness (circuitIn m) text ≡ none → Waveformed m only text out (refused 14) out
-  unfolding judge
-  no-witness e = Operated.refuses (circuitIn m) {n = 14} h (rw e)
+module _ {m : List ℕ} (c : Circuit) (held : Holds m c) (only : Bool) (text out : List ℕ) where
+  -- the last test
+  abbrev short : Test
+  short = need 13 (leb (length (waveformOf c only (readEither c text))) (length out))
 
-  module _ {w : Witness} (r : readWitness (circuitIn m) text ≡ some w) where
-    pub too-long : length out < length (waveform (circuitIn m) only w) → Waveformed m only text out (refused 13) out
-    unfolding judge waveformOf
-    too-long l = Operated.refuses (circuitIn m) {n = 13} h (rw (r, lt-leb (length (waveform (circuitIn m) only w)) (length out) l))
+  pub refuses : (n : ℕ) → judge (eitherTests c text) ≡ refused n → Waveformed m only text out (refused n) out
+  refuses n e = Operated.refuses c held (judge-refused (eitherTests c text) (short ∷ []) n e)
 
-    pub fitting : length (waveform (circuitIn m) only w) ≤ length out → {n : ℕ} {out′ : List ℕ} → n ≡ length (waveform (circuitIn m) only w)
-        → out′ ≡ front (waveform (circuitIn m) only w) out → Waveformed m only text out (gives n) out′
-    unfolding judge waveformOf
-    fitting l {n} {out′} e q =
-        let passes : judge (waveformTests (circuitIn m) only text (length out)) ≡ gives tt =
-        rw (r, le-leb (length (waveform (circuitIn m) only w)) (length out) l) in
-        let effect : WaveformEffect only text out (circuitIn m) n out′ = record { count = rw r e; shows = rw r q } in
-        Operated.acts (circuitIn m) {a = n} {s = out′} h passes effect
+  module _ (b : ℕ) (body : List ℕ) (e : readEither c text ≡ some (b, body)) (l : eithers body ≤ 16) where
+    text-of : waveformOf c only (readEither c text) ≡ waveform c only (b, body)
+    unfolding waveformOf
+    text-of = ap (waveformOf c only) e
+
+    rest : judge (waveformTests c only text (length out)) ≡ judge (short ∷ [])
+    rest = judge-rest (eitherTests c text) (short ∷ []) (passed c text b body e l)
+
+    last-refuses : length out < length (waveform c only (b, body)) → judge (short ∷ []) ≡ refused 13
+    unfolding judge
+    last-refuses k = rw (text-of, lt-leb (length (waveform c only (b, body))) (length out) k)
+
+    last-passes : length (waveform c only (b, body)) ≤ length out → judge (short ∷ []) ≡ gives tt
+    unfolding judge
+    last-passes k = rw (text-of, le-leb (length (waveform c only (b, body))) (length out) k)
+
+    pub shown : (r : WaveformAnswer) (out′ : List ℕ) → ShownAs c only (b, body) out r out′ → Waveformed m only text out (answered r) out′
+    shown (Length n) out′ (q, f, o) =
+        let effect : WaveformEffect only text out c n out′ =
+        record { count = q ∙ ap length (sym text-of); shows = o ∙ ap (λ (w : List ℕ). front w out) (sym text-of) } in
+        Operated.acts c {a = n} {s = out′} held (rest ∙ last-passes (omega (arith, q, f))) effect
+    shown (Refused n) out′ (q, f, o) =
+        subst (λ (k : ℕ). Waveformed m only text out (refused k) out′) (sym q)
+        (subst (λ (w : List ℕ). Waveformed m only text out (refused 13) w) (sym o) (Operated.refuses c held (rest ∙ last-refuses f)))
 
 -- ---- the text by the layout
 
@@ -53,9 +77,6 @@ wires-within true p = omega arith
 wires-within false p = omega arith
 
 module _ {m : List ℕ} {p : Layout} (h : Holds m (circuitIn m)) (a : LayoutOf m p) where
-  pub counts-of : CountsOf (circuitIn m) p
-  counts-of = record { inputs = inputs-are h a; latches = latches-are h a; bads = bads-are h a }
-
   names-are : nameIn p ≡ nameAt (circuitIn m)
   names-are = rw (inputs-are h a, latches-are h a, outputs-are h a, bads-are h a, constraints-are h a)
 
@@ -69,10 +90,11 @@ module _ {m : List ℕ} {p : Layout} (h : Holds m (circuitIn m)) (a : LayoutOf m
     pub wires-there : n ≤ length (literals (circuitIn m))
     wires-there = omega (arith, few-wires .there, wires-are h a)
 
-    pub text-is : (w : Witness) {f : ℕ} → length (w .run .rows) ≡ f → dump (nameIn p) n (levelAt (circuitIn m) (w .run)) f ≡ waveform (circuitIn m) only w
+    pub text-is : (b : ℕ) (body : List ℕ) {f : ℕ} → frameCount (circuitIn m) b body ≡ f
+        → dump (nameIn p) n (levelAt (circuitIn m) b body) f ≡ waveform (circuitIn m) only (b, body)
     unfolding waveform
-    text-is w {f} s =
-        let level = levelAt (circuitIn m) (w .run) in
+    text-is b body {f} s =
+        let level = levelAt (circuitIn m) b body in
         ap (λ (name : ℕ → Name). dump name n level f) names-are ∙ ap (λ (k : ℕ). dump (nameAt (circuitIn m)) k level f) count-is
         ∙ ap (λ (k : ℕ). dump (nameAt (circuitIn m)) (wireCount (circuitIn m) only) level k) (sym s)
 
@@ -93,8 +115,9 @@ module _ (out : List ℕ) (name : ℕ → Name) (n : ℕ) (level : ℕ → ℕ �
     headed : Rest out 0 (dump name n level f) out₁ e₁ (samples level n 0 f)
     headed = rest-more (header name n) (samples level n 0 f) space whole p
 
-    pub samples-room : Room out₁ e₁ (samples level n 0 f)
-    samples-room = last-room (samples level n 0 f) space headed
+    pub samples-room : Room out₁ e₁ (samples (λ t. low) n 0 f)
+    samples-room = omega (arith, last-room (samples level n 0 f) space headed, samples-size level (λ t. low) n 0 f)
 
-    pub all-written : {e₂ : ℕ} {out₂ : List ℕ} → Placed out₁ e₁ (samples level n 0 f) e₂ out₂ → out₂ ≡ front (dump name n level f) out
-    all-written q = last-placed (samples level n 0 f) space headed q .contents ∙ put-front out (dump name n level f)
+    pub all-written : {out₂ : List ℕ} → out₂ ≡ putText out₁ e₁ (samples level n 0 f) → out₂ ≡ front (dump name n level f) out
+    all-written q = last-placed (samples level n 0 f) space headed (record { past = refl; contents = q }) .contents
+        ∙ put-front out (dump name n level f)

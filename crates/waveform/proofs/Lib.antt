@@ -1,3 +1,3 @@
+pub mod Blocks
+pub mod Passes
 pub mod Answers
-pub mod Samples
-pub mod Wires

@@ -1,3 +1,3 @@
 pub mod Waveform
-pub mod Frames
+pub mod Blocks
 pub mod Answer

@@ -5,7 +5,7 @@ use mathlib.Core.List.{List, []}
 use Prim.Native.Nat.{ℕ}
 use Rattle.aiger.specs.Circuit.{Circuit}
 use Rattle.aiger.specs.Load.{load}
-use Rattle.aiger.specs.Witness.{readWitness}
+use Rattle.completions.specs.Either.{readEither}
 use Rattle.aiger.specs.Operations.{judge}
 use Rattle.replies.specs.Reply.{Reply, replyOf}
 use Rattle.waveform.specs.Waveform.{waveformOf, waveformTests}
@@ -13,7 +13,7 @@ use Rattle.waveform.specs.Waveform.{waveformOf, waveformTests}
 -- on a loaded circuit, where the output has `len` bytes
 unfoldable pub shownReply : Circuit → Bool → List ℕ → ℕ → Reply
 shownReply c only text len =
-    replyOf (λ _. record { line = []; out = waveformOf c only (readWitness c text) }) (judge (waveformTests c only text len))
+    replyOf (λ _. record { line = []; out = waveformOf c only (readEither c text) }) (judge (waveformTests c only text len))
 
 unfoldable pub waveformReply : List ℕ → Bool → List ℕ → Reply
 waveformReply file only text = replyOf (λ c. shownReply c only text 1572928) (load 33032 file)

@@ -1,2 +1,5 @@
+pub mod Twins
+pub mod Positions
+pub mod Own
 pub mod Examples
 pub mod Theorems

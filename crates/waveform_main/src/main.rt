@@ -6,16 +6,20 @@ ghost use lib.ListN.{length};
 fn say_help() {
     say(b"waveform FILE WITNESS [--inputs]\n\n");
     say(
-        b"Loads the ASCII AIGER 1.9 file FILE, reads the witness WITNESS, of 1 to 256 frames, and prints its run as a value\n",
+        b"Loads the AIGER 1.9 file FILE, reads the witness WITNESS, of 1 to 256 frames, and prints its run as a value change\n",
     );
     say(
-        b"change dump (VCD), one time step a frame: inputs i0 i1 .., latches l0 .., outputs o0 .., bad lines b0 .. and\n",
+        b"dump (VCD), one time step a frame: inputs i0 i1 .., latches l0 .., outputs o0 .., bad lines b0 .. and constraints\n",
     );
-    say(b"constraints c0 .., with --inputs the inputs alone.\n\n");
+    say(
+        b"c0 .., with --inputs the inputs alone. x may stand in WITNESS for up to 16 bits that may be either: then a wire is\n",
+    );
+    say(b"0 or 1 where it has that value for both values of each x, else x.\n\n");
     say(b"What is not accepted is refused with a number and its cause:\n");
     help::say_refusals(1, 3);
     help::say_refusals(5, 8);
     help::say_refusals(14, 14);
+    help::say_refusals(16, 16);
     say(
         b"\nExample: ./yunverok waveform crates/waveform_main/data/s.aag crates/waveform_main/data/s.witness\n",
     );

@@ -1,27 +1,21 @@
 -- `waveform::waveform` meets its contract: each answer by what was read and by the length of the text. Assumes nothing.
-use mathlib.Core.Path.{_≡_, ap, _∙_}
+use mathlib.Core.Path.{_≡_, sym, _∙_, subst}
 use mathlib.Core.List.{List}
-use Prim.Native.Nat.{ℕ, _≤_, _<_}
+use Prim.Native.Nat.{ℕ}
 use native.Mathlib.Omega.{arith}
-use lib.ListN.{length}
-use Rattle.aiger.specs.Operations.{Operated, front}
-use Rattle.layout.specs.Words.{word, circuitIn}
-use Rattle.frames.proofs.Facts.{top-is, counts}
-use Rattle.vcd.specs.Wires.{nameIn}
-use Rattle.waveform.specs.Waveform.{levelAt}
-use Rattle.waveform.proofs.Wires.{wires-few}
-use Rattle.waveform.proofs.Answers.{no-witness, too-long, fitting, counts-of, few-wires, wires-there, text-is, header-room, samples-room, all-written}
 use borrow.Author.Needs.{needs}
+use lib.ListN.{drop}
+use Rattle.aiger.specs.Operations.{Operated}
+use Rattle.layout.specs.Words.{circuitIn}
+use Rattle.blocks.specs.Runs.{Fits}
+use Rattle.circuit.specs.Held.{HeldIs}
+use Rattle.circuit.specs.declared.Held.the-variants as held
+use Rattle.replay.specs.Texts.{WitnessRead, Placed}
+use Rattle.replay.proofs.Answers.{rest-is, counts-of, ready-of}
+use Rattle.waveform.specs.Blocks.{ShownAs}
+use Rattle.waveform.proofs.Answers.{refuses, shown}
 use Rattle.waveform.proofs.waveform.Statement.{statement}
 use Rattle.waveform.proofs.waveform.Tie as tie
-use Rattle.waveform.proofs.waveform.Reads as reads
-use Rattle.waveform.proofs.waveform.Lts as lts
-use Rattle.circuit.proofs.held_in.Reads as held-in-reads
-use Rattle.playback.proofs.read_run.Reads as read-run-reads
-use Rattle.vcd.proofs.dump_length.Reads as dump-length-reads
-use Rattle.vcd.proofs.write_header.Reads as write-header-reads
-use Rattle.waveform.proofs.show_samples.Reads as show-samples-reads
-use Rattle.waveform.proofs.wire_count.Reads as wire-count-reads
 
 slice-aggregate-held-in : tie.Need-slice-aggregate-held-in
 slice-aggregate-held-in c = search needs
@@ -36,103 +30,86 @@ enum-told : tie.Need-enum-told
 enum-told c = search needs
 
 returns : tie.Need-returns
-returns c =
-    Operated.noCircuit (rw (c .enum-told .given .1) at (c .before .before .before .held-in .ensures))
+returns c = Operated.noCircuit (rw (c .enum-told .given .1) at (c .before .before .before .held-in .ensures))
 
-read-run-requires : tie.Need-read-run-requires
-read-run-requires c κs = search needs
+-- after reading: the circuit that is held, and what was read
+module _ (r : tie.After-read-witness) where
+  abbrev S : tie.Start
+  S = r .before .before .before .before .before .before .before .before .before .before
 
-enum-known-span : tie.Need-enum-known-span
-enum-known-span c = search needs
+  abbrev m : List ℕ
+  m = S .args .m .now
 
-enum-told-2 : tie.Need-enum-told-2
-enum-told-2 c = search needs
+  abbrev text : List ℕ
+  text = S .args .text .now
+
+  abbrev h : tie.After-held-in
+  h = r .before .before .before .before .before
+
+  holding : HeldIs m (h .held-in .last .1 .0) (held.Circuit (r .before .before .layout .given .0 .0))
+  holding = subst (HeldIs m (h .held-in .last .1 .0)) (r .before .before .layout .given .1) (h .held-in .ensures)
+
+  reading : WitnessRead (circuitIn m) text (r .read-witness .result)
+  reading = r .read-witness .ensures (circuitIn m) (counts-of (holding .1) (holding .0))
+
+read-witness-requires : tie.Need-read-witness-requires
+read-witness-requires c κs = search needs
+
+enum-known-n : tie.Need-enum-known-n
+enum-known-n c = search needs
+
+enum-known-start : tie.Need-enum-known-start
+enum-known-start c = search needs
+
+-- a witness that was read
+placed : (k : tie.After-start)
+    → (let r = k .before .before in Placed (circuitIn (m r)) (text r) (k .start .given .0 .0) (k .start .given .0 .1 .0))
+placed k = let r = k .before .before in subst (WitnessRead (circuitIn (m r)) (text r)) (k .start .given .1) (reading r)
+
+slice-aggregate-show : tie.Need-slice-aggregate-show
+slice-aggregate-show c = search needs
+
+sub-show : tie.Need-sub-show
+sub-show c = placed (c .before .before) .inside
+
+part-show-start : tie.Need-part-show-start
+part-show-start c = placed (c .before .before) .inside
+
+part-show-end : tie.Need-part-show-end
+part-show-end c = search needs
+
+show-requires : tie.Need-show-requires
+show-requires c κs =
+    let k = c .before .before .before .before in
+    let r = k .before .before in
+    let q = k .start .given .0 .1 .0 in
+    let t = holding r in (
+      ready-of (t .1) (t .0) (t .2) (search needs),
+      subst (Fits (circuitIn (m r)) (q .bad) (q .frames) (q .eithers)) (sym (rest-is (text r) (k .start .given .0 .0))) (placed k .fits),
+    )
 
 returns-2 : tie.Need-returns-2
 returns-2 c =
-    let a = c .before .before .before .before .before .before .before .before .before .before .before .before .args in
-    let t = rw (c .before .before .before .before .layout .given .1) at (c .before .before .before .before .before .before .before .held-in .ensures) in
-    no-witness (t .1) (a .only) (a .text .now) (a .out .now)
-    ((rw (c .enum-told2 .given .1) at (c .before .before .read-run .ensures)) (circuitIn (a .m .now)) (counts-of (t .1) (t .0)))
-
-wire-count-requires : tie.Need-wire-count-requires
-wire-count-requires c κs =
-    let t = rw (c .before .before .before .before .before .layout .given .1) at (c .before .before .before .before .before .before .before .before .held-in .ensures) in
-    wires-few (t .1) (t .0)
-
-dump-length-requires : tie.Need-dump-length-requires
-dump-length-requires c κs =
-    let a = c .before .before .before .before .before .before .before .before .before .before .before .before .before .before .args in
-    let t = rw (c .before .before .before .before .before .before .layout .given .1) at (c .before .before .before .before .before .before .before .before .before .held-in .ensures) in
-    let s = (rw (c .before .before .span .given .1) at (c .before .before .before .before .read-run .ensures)) (circuitIn (a .m .now)) (counts-of (t .1) (t .0)) in
-    (few-wires (t .1) (t .0) (a .only) (c .wire-count .ensures), s .few)
-
-returns-3 : tie.Need-returns-3
-returns-3 c =
-    let a = c .before .before .before .before .before .before .before .before .before .before .before .before .before .before .before .before .args in
-    let t = rw (c .before .before .before .before .before .before .before .before .layout .given .1) at (c .before .before .before .before .before .before .before .before .before .before .before .held-in .ensures) in
-    let s = (rw (c .before .before .before .before .span .given .1) at (c .before .before .before .before .before .before .read-run .ensures)) (circuitIn (a .m .now)) (counts-of (t .1) (t .0)) in
-    let e = c .before .dump-length .ensures (levelAt (circuitIn (a .m .now)) (s .witness .run)) in
-    let q = ap length (text-is (t .1) (t .0) (a .only) (c .before .before .wire-count .ensures) (s .witness) (s .size)) in
-    too-long (t .1) (a .only) (a .text .now) (a .out .now) (s .reads) (omega (arith, e, q, c .if1 .taken))
-
-write-header-requires : tie.Need-write-header-requires
-write-header-requires c κs =
-    let a = c .before .before .before .before .before .before .before .before .before .before .before .before .before .before .before .before .before .args in
-    let t = rw (c .before .before .before .before .before .before .before .before .before .layout .given .1) at (c .before .before .before .before .before .before .before .before .before .before .before .before .held-in .ensures) in
-    let s = (rw (c .before .before .before .before .before .span .given .1) at (c .before .before .before .before .before .before .before .read-run .ensures)) (circuitIn (a .m .now)) (counts-of (t .1) (t .0)) in
-    let level = levelAt (circuitIn (a .m .now)) (s .witness .run) in
-    let p = c .before .before .before .before .before .before .before .before .before .layout .given .0 .0 in
-    let n = c .before .before .before .wire-count .result in (
-      few-wires (t .1) (t .0) (a .only) (c .before .before .before .wire-count .ensures),
-      header-room (a .out .now) (nameIn p) n level (c .before .before .before .before .before .span .given .0 .0 .frames) (omega (arith, c .before .before .dump-length .ensures level, c .before .if1 .left)),
-    )
-
-slice-aggregate-show-samples : tie.Need-slice-aggregate-show-samples
-slice-aggregate-show-samples c = search needs
-
-show-samples-requires : tie.Need-show-samples-requires
-show-samples-requires c κs =
-    let a = c .before .before .before .before .before .before .before .before .before .before .before .before .before .before .before .before .before .before .before .before .before .before .args in
-    let t = rw (c .before .before .before .before .before .before .before .before .before .before .before .before .before .before .layout .given .1) at (c .before .before .before .before .before .before .before .before .before .before .before .before .before .before .before .before .before .held-in .ensures) in
-    let s = (rw (c .before .before .before .before .before .before .before .before .before .before .span .given .1) at (c .before .before .before .before .before .before .before .before .before .before .before .before .read-run .ensures)) (circuitIn (a .m .now)) (counts-of (t .1) (t .0)) in
-    let level = levelAt (circuitIn (a .m .now)) (s .witness .run) in
-    let p = c .before .before .before .before .before .before .before .before .before .before .before .before .before .before .layout .given .0 .0 in
-    let n = c .before .before .before .before .before .before .before .before .wire-count .result in
-    let top : word (a .m .now) 0 < 4097 = omega (arith, counts (t .1) .maxVar, top-is (a .m .now)) in (
-      record { held = t .1; layout-of = t .0; ordered = t .2; ranks = search needs; room = top },
-      record {
-        run = s .witness .run;
-        run-at = s .run-at;
-        wires = wires-there (t .1) (t .0) (a .only) (c .before .before .before .before .before .before .before .before .wire-count .ensures);
-        few = s .few;
-        start-inside = s .start-inside;
-        rows-inside = s .rows-inside;
-        room =
-            samples-room (a .out .now) (nameIn p) n level (c .before .before .before .before .before .before .before .before .before .before .span .given .0 .0 .frames)
-            (omega (arith, c .before .before .before .before .before .before .before .dump-length .ensures level, c .before .before .before .before .before .before .if1 .left)) (c .before .before .before .before .write-header .ensures);
-      },
-    )
+    let r = c .before .before .before in
+    refuses (circuitIn (m r)) (holding r .1) (S r .args .only) (text r) (S r .args .out .now) (c .before .n .given .0 .0)
+    (subst (WitnessRead (circuitIn (m r)) (text r)) (c .before .n .given .1) (reading r))
 
 same-length : tie.Need-same-length
 same-length c = search needs
 
-returns-4 : tie.Need-returns-4
-returns-4 c =
-    let a = c .before .before .before .before .before .before .before .before .before .before .before .before .before .before .before .before .before .before .before .before .before .before .before .before .before .args in
-    let t = rw (c .before .before .before .before .before .before .before .before .before .before .before .before .before .before .before .before .before .layout .given .1) at (c .before .before .before .before .before .before .before .before .before .before .before .before .before .before .before .before .before .before .before .before .held-in .ensures) in
-    let s = (rw (c .before .before .before .before .before .before .before .before .before .before .before .before .before .span .given .1) at (c .before .before .before .before .before .before .before .before .before .before .before .before .before .before .before .read-run .ensures)) (circuitIn (a .m .now)) (counts-of (t .1) (t .0)) in
-    let level = levelAt (circuitIn (a .m .now)) (s .witness .run) in
-    let p = c .before .before .before .before .before .before .before .before .before .before .before .before .before .before .before .before .before .layout .given .0 .0 in
-    let n = c .before .before .before .before .before .before .before .before .before .before .before .wire-count .result in
-    let e = c .before .before .before .before .before .before .before .before .before .before .dump-length .ensures level in
-    let q = text-is (t .1) (t .0) (a .only) (c .before .before .before .before .before .before .before .before .before .before .before .wire-count .ensures) (s .witness) (s .size) in
-    let o = c .before .before .before .before .before .before .before .before .before .if1 .left in
-    let done =
-    all-written (a .out .now) (nameIn p) n level (c .before .before .before .before .before .before .before .before .before .before .before .before .before .span .given .0 .0 .frames) (omega (arith, e, o)) (c .before .before .before .before .before .before .before .write-header .ensures)
-    (c .before .before .show-samples .ensures (s .witness .run) (s .run-at)) in
-    fitting (t .1) (a .only) (a .text .now) (a .out .now) (s .reads) (omega (arith, e, ap length q, o)) (e ∙ ap length q)
-    (done ∙ ap (λ (w : List ℕ). front w (a .out .now)) q)
+returns-3 : tie.Need-returns-3
+returns-3 c =
+    let s = c .before .before in
+    let k = s .before .before .before .before .before in
+    let r = k .before .before in
+    let q = k .start .given .0 .1 .0 in
+    let start = k .start .given .0 .0 in
+    let a = S r .args in
+    let out′ = s .show .last .1 .1 .1 .1 .1 .1 .0 in
+    shown (circuitIn (m r)) (holding r .1) (a .only) (text r) (a .out .now) (q .bad) (drop start (text r)) (placed k .reads)
+    (omega (arith, placed k .fits .eithers-are, placed k .fits .few)) (s .show .result) out′
+    (subst (λ (w : List ℕ). ShownAs (circuitIn (m r)) (a .only) (q .bad, w) (a .out .now) (s .show .result) out′) (rest-is (text r) start)
+    (s .show .ensures))
 
 pub waveform-spec : {M : Type 1} → statement M
 waveform-spec =
@@ -143,15 +120,14 @@ waveform-spec =
     enum-known-layout
     enum-told
     returns
-    read-run-requires
-    enum-known-span
-    enum-told-2
+    read-witness-requires
+    enum-known-n
+    enum-known-start
+    slice-aggregate-show
+    sub-show
+    part-show-start
+    part-show-end
+    show-requires
     returns-2
-    wire-count-requires
-    dump-length-requires
-    returns-3
-    write-header-requires
-    slice-aggregate-show-samples
-    show-samples-requires
     same-length
-    returns-4)
+    returns-3)
