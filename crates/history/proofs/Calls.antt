@@ -26,6 +26,8 @@ use Rattle.limits.proofs.Refusals.{judge-first}
 use Rattle.pins.specs.Pins.{pinsOf}
 use Rattle.users.specs.Users.{ForUser, PinnedSearched, PinnedSearchEffect, PinnedFolded, PinnedFoldEffect, pinnedShown}
 use Rattle.user_write.specs.Written.{UserWritten}
+use Rattle.renumbered.specs.Renumbered.{WrittenBinary}
+use Rattle.write_binary.proofs.RoundTrip as binary
 use Rattle.completions.specs.Either.{Verdict, verdict}
 use Rattle.pinned_runs.specs.Obeys.{pinnedShows, PinnedReplayed, PinnedReplayEffect, pinnedWidenedText, PinnedWidened, PinnedWidenEffect}
 use Rattle.load.specs.Answers.{answered}
@@ -291,6 +293,11 @@ own-step {s = s} {t = t} a (Step.folds {user = user} {b = b} {t = n} {out = out}
 own-step a (Step.writes {user = user} {out = out} {out′ = o₁} {a = v} x) (Step.writes {out′ = o₂} {a = v′} y) =
     let z = write-same user out o₁ o₂ v v′ (a .memory) x y in
     (ap₂ Reply.written (z .0) (z .1), a)
+own-step {s = s} {t = t} a (Step.writesBinary {user = user} {out = out} {out′ = o₁} {a = v} x) (Step.writesBinary {out′ = o₂} {a = v′} y) =
+    let z =
+    under-same (λ m q. WrittenBinary m out) (λ m q b d o p f g. binary.written-same f g) (a .memory)
+    (own-pins user (s .pins) (t .pins) (a .own)) v v′ o₁ o₂ x y in
+    (ap₂ Reply.written (z .0) (z .1), a)
 own-step a (Step.previews x) (Step.previews y) = (preview-same (ap length (a .memory)) x y, a)
 own-step a (Step.joins {user = user} x) (Step.joins y) = let z = join-same user a x y in (ap Reply.loaded (z .0), z .1)
 own-step {s = s} {t = t} a (Step.replays {user = user} {text = text} {a = v} x) (Step.replays {a = v′} y) =
@@ -316,6 +323,7 @@ load-step u a h (Step.pins x) y = absurd h
 load-step u a h (Step.searches x e) y = absurd h
 load-step u a h (Step.folds x e) y = absurd h
 load-step u a h (Step.writes x) y = absurd h
+load-step u a h (Step.writesBinary x) y = absurd h
 load-step u a h (Step.previews x) y = absurd h
 load-step u a h (Step.joins x) (Step.joins y) = let z = join-same u a x y in (ap Reply.loaded (z .0), z .1)
 load-step u a h (Step.replays x) y = absurd h
@@ -348,6 +356,7 @@ other-step u a n h (Step.pins x) =
 other-step u a n h (Step.searches x e) = record { memory = a .memory; work = e ∙ a .work; room = a .room; own = a .own }
 other-step u a n h (Step.folds x e) = record { memory = a .memory; work = e ∙ a .work; room = a .room; own = a .own }
 other-step u a n h (Step.writes x) = a
+other-step u a n h (Step.writesBinary x) = a
 other-step u a n h (Step.previews x) = a
 other-step u a n h (Step.joins (Replaced.stranger k)) = record { memory = a .memory; work = a .work; room = a .room; own = a .own }
 other-step u a n h (Step.joins (Replaced.refuses k (JoinedInto.noCircuit f))) = record { memory = a .memory; work = a .work; room = a .room; own = a .own }

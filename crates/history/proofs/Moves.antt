@@ -13,7 +13,7 @@ use Rattle.aiger.specs.Operations.{Loaded, Written, Operated, HoldsNone, Test, 
 use Rattle.pins.specs.Pins.{pinsOf}
 use Rattle.users.specs.Users.{ForUser, PinnedSearched, PinnedSearchEffect, PinnedFolded, PinnedFoldEffect}
 use Rattle.user_calls.specs.Calls.{Replaced, PinSet, PinEffect, pinTests}
-use Rattle.user_write.specs.Written.{UserWritten}
+use Rattle.user_write.specs.Written.{UserWritten, UserWrittenBinary}
 use Rattle.user_preview.specs.Previews.{UserPreviewed}
 use Rattle.user_replay.specs.Replays.{UserReplayed}
 use Rattle.user_widen.specs.Widens.{UserWidened}
@@ -150,6 +150,8 @@ own-moves {s = s} {t = t} a (Step.folds {user = user} {b = b} {t = n} {out = out
     }
 own-moves {t = t} a (Step.writes {user = user} {out = out} {out′ = o} {a = v} x) =
     record { next = t; step = Step.writes (subst (λ (m : List ℕ). UserWritten m user out v o) (a .memory) x); same = a }
+own-moves {t = t} a (Step.writesBinary {user = user} {out = out} {out′ = o} {a = v} x) =
+    record { next = t; step = Step.writesBinary (subst (λ (m : List ℕ). UserWrittenBinary m user out v o) (a .memory) x); same = a }
 own-moves {t = t} a (Step.previews {user = user} {file = file} {r = r} x) =
     record { next = t; step = Step.previews {r = r} (preview-moves (ap length (a .memory)) x); same = a }
 own-moves a (Step.joins {user = user} x) = join-moves user a x
@@ -180,6 +182,7 @@ accepted-moves u a h (Step.pins x) = absurd h
 accepted-moves u a h (Step.searches x e) = absurd h
 accepted-moves u a h (Step.folds x e) = absurd h
 accepted-moves u a h (Step.writes x) = absurd h
+accepted-moves u a h (Step.writesBinary x) = absurd h
 accepted-moves u a h (Step.previews x) = absurd h
 accepted-moves u a h (Step.joins x) = join-moves u a x
 accepted-moves u a h (Step.replays x) = absurd h

@@ -10,7 +10,7 @@ use Rattle.aiger.specs.Load.{Answer, refused, gives}
 use Rattle.aiger.specs.Search.{Outcome}
 use Rattle.users.specs.Users.{PinnedSearched, PinnedFolded}
 use Rattle.user_calls.specs.Calls.{UserLoaded, PinSet}
-use Rattle.user_write.specs.Written.{UserWritten}
+use Rattle.user_write.specs.Written.{UserWritten, UserWrittenBinary}
 use Rattle.user_preview.specs.Previews.{UserPreviewed}
 use Rattle.user_join.specs.Joins.{UserJoined}
 use Rattle.user_replay.specs.Replays.{UserReplayed}
@@ -35,13 +35,14 @@ pub data Call : Type 0 where
   search : (user b k D : ℕ) (out : List ℕ) → Call
   fold : (user b t : ℕ) (out : List ℕ) → Call
   write : (user : ℕ) (out : List ℕ) → Call
+  writeBinary : (user : ℕ) (out : List ℕ) → Call
   preview : (user : ℕ) (file : List ℕ) → Call
   join : (user : ℕ) (first second : List ℕ) → Call
   replay : (user : ℕ) (text : List ℕ) → Call
   widen : (user : ℕ) (text out : List ℕ) → Call
   waveform : (user : ℕ) (only : Bool) (text out : List ℕ) → Call
 
--- what a call gives back: the answer, and the output that was lent. A join answers as a load does; write, widening and waveform write a text
+-- what a call gives back: the answer, and the output that was lent. A join answers as a load does; the writers, widening and waveform write a text
 pub data Reply : Type 0 where
   loaded : Answer (List ℕ) → Reply
   pinned : Answer (Unit {0}) → Reply
@@ -58,6 +59,7 @@ userOf (Call.setPin user input value) = user
 userOf (Call.search user b k D out) = user
 userOf (Call.fold user b t out) = user
 userOf (Call.write user out) = user
+userOf (Call.writeBinary user out) = user
 userOf (Call.preview user file) = user
 userOf (Call.join user first second) = user
 userOf (Call.replay user text) = user
@@ -89,6 +91,8 @@ pub data Step (s : State) : Call → Reply → State → Type 0 where
       → Step s (Call.fold user b t out) (Reply.folded a out′) (record { memory = s .memory; work = w′; pins = s .pins })
   writes : {user : ℕ} {out out′ : List ℕ} {a : Answer ℕ} → UserWritten (s .memory) user out a out′
       → Step s (Call.write user out) (Reply.written a out′) s
+  writesBinary : {user : ℕ} {out out′ : List ℕ} {a : Answer ℕ} → UserWrittenBinary (s .memory) user out a out′
+      → Step s (Call.writeBinary user out) (Reply.written a out′) s
   previews : {user : ℕ} {file : List ℕ} {r : Judgement} → UserPreviewed (length (s .memory)) file user r
       → Step s (Call.preview user file) (Reply.previewed (answered (r .answer)) (r .needed)) s
   joins : {user : ℕ} {first second m′ p′ : List ℕ} {a : Answer (List ℕ)} → UserJoined first second (s .memory) (s .pins) user a m′ p′
