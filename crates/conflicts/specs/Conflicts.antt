@@ -55,7 +55,7 @@ filled w net h v zero = heaped w h
 filled w net h v (suc k) = filled (admitted w net h v .words) net (admitted w net h v .heap) (nextNode v) k
 
 abbrev pub firstOrder : Order
-firstOrder = record { sweep = false; goal = 0; agreed = 0; settled = 0; verdict = 0; ticks = 0; slice = 150000; span = 150000 }
+firstOrder = record { sweep = true; goal = 0; agreed = 0; settled = 0; verdict = 0; ticks = 0; slice = 2000; span = 75000 }
 
 abbrev pub firstTrail : State
 firstTrail = record { length = 0; next = 0; level = 0; ticks = 0; clash = 4294967295; clause = 4294967295; link = 4294967295 }

@@ -117,14 +117,14 @@ fn initial(heap: Heap) -> Search
     };
     let a = Arena { used: 0, count: 0 };
     let o = Order {
-        sweep: false,
+        sweep: true,
         goal: 0,
         agreed: 0,
         settled: 0,
         verdict: 0,
         ticks: 0,
-        slice: 150000,
-        span: 150000,
+        slice: 2000,
+        span: 75000,
     };
     Search {
         trail: t,

@@ -27,8 +27,9 @@ ghost use Rattle.decision.specs.Decided.{FrameFits, Floored, FrameDecide
 // So many places of the support are tried in any case: 2 to the power 14.
 const LEAST: u64 = 16384;
 
-// Up to so many sequences are all tried on the circuit: 2 to the power 10.
-const FEW: u64 = 1024;
+// Up to so many sequences are all tried on the circuit: 2 to the power 12. Up to 12 free bits a graph is made with merges by function, which cost
+// more than these.
+const FEW: u64 = 4096;
 
 // Where there are more, so many are tried on the circuit: 2 to the power 6, the places of one block.
 const FIRST: u64 = 64;
@@ -48,7 +49,7 @@ fn first_places(layout: Layout, t: usize) -> u64
     requires { ⌜ (layout .i ≤ 256) × (layout .u ≤ 1024) × (t ≤ 255) ⌝ }
     ensures { λ r. ⌜ (64 ≤ r) × (r ≤ 16384) ⌝ }
 {
-    if layout.u + layout.i * (t + 1) <= 10 {
+    if layout.u + layout.i * (t + 1) <= 12 {
         FEW
     } else {
         FIRST
