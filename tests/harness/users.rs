@@ -1,5 +1,6 @@
 //! Sequences of random calls of two users through the C interface, compared with two analysers that are kept apart: each has a circuit memory and
-//! pins of its own, and learns of the other user's calls only the loads and joins that were accepted. Clause 12.7.
+//! pins of its own, and learns of the other user's calls only the loads and joins that were accepted. Clause 12.7. HARNESS_SPOIL=1 changes a
+//! pin behind the users' backs in 1 of 200 calls, which must be noticed.
 
 #![allow(dead_code)]
 
@@ -20,6 +21,7 @@ const WORK: usize = 40_000;
 
 struct Run {
     random: Random,
+    spoil: bool,
     shared: Shared,
     analysers: [Analyser; 2],
     tally: BTreeMap<&'static str, [u64; 2]>,
@@ -28,14 +30,14 @@ struct Run {
 }
 
 impl Run {
-    fn new(seed: u64) -> Run {
+    fn new(seed: u64, spoil: bool) -> Run {
         let mut random = Random(seed);
         let words = 256 + 8 * (20 + random.below(60)) as usize;
         let memory: Vec<u32> = (0..words).map(|_| random.word() as u32).collect();
         let work = (0..WORK).map(|_| random.word() as u32).collect();
         let pins: Vec<u8> = (0..512).map(|_| random.below(4) as u8).collect();
         let analysers = [0, 1].map(|user| Analyser::new(user, &memory, &pins));
-        Run { random, shared: Shared { memory, work, pins }, analysers, tally: BTreeMap::new(), differences: 0, calls: 0 }
+        Run { random, spoil, shared: Shared { memory, work, pins }, analysers, tally: BTreeMap::new(), differences: 0, calls: 0 }
     }
 
     fn circuit(&mut self) -> Circuit {
@@ -91,6 +93,10 @@ impl Run {
     }
 
     fn call(&mut self) {
+        if self.spoil && self.random.one_in(200) {
+            let at = 256 * self.random.below(2) + self.random.below(2);
+            self.shared.pins[at as usize] ^= 1;
+        }
         let user = self.random.choose(&[0, 0, 0, 0, 1, 1, 1, 1, 1, 2]);
         let me = user as usize & 1;
         let (name, got, expected): (&'static str, Reply, Reply) = match self.random.below(24) {
@@ -192,10 +198,11 @@ fn main() {
         [runs, calls] => (runs, calls, 1),
         _ => (numbers[0], numbers[1], numbers[2]),
     };
+    let spoil = std::env::var("HARNESS_SPOIL").is_ok();
     let mut total: BTreeMap<&'static str, [u64; 2]> = BTreeMap::new();
     let mut differences = 0;
     for number in 0..runs {
-        let mut run = Run::new(seed.wrapping_mul(1_000_003).wrapping_add(number));
+        let mut run = Run::new(seed.wrapping_mul(1_000_003).wrapping_add(number), spoil);
         while run.calls < calls {
             run.call();
         }
