@@ -1,5 +1,6 @@
 /* Yunverok: load, join, search, fold, replay, widen and write AIGER circuits, and show the run of a witness as a waveform. The functions
-   are proved: crates/service/src/lib.rt has their contracts, which this page tells in words.
+   are proved: crates/service/src/lib.rt and crates/user_service/src/lib.rt have their contracts, which this page tells in words. The functions
+   for two users, below, are in libuser_service.a, the others in libservice.a.
 
    What is lent. A slice is a pointer and a length in elements. The memory must exist; pointers to words must be aligned for uint32_t;
    a slice that is written must overlap no other one of the call. Where a length is 0 the pointer may be anything, null too: it is not used. Beyond that
@@ -26,6 +27,7 @@
     15  in a binary file: a difference absent, cut short, of more than five groups or 32 bits, or an operand not below its gate or below 0
     16  witness with more than 16 x
     17  circuits to join: no output or more than 16, or not the same numbers of inputs and of outputs
+    18  a user above 1, a load or join by user 1, an unknown pin value, an input that is not there; with users only
    (*) in a binary file I+L+A other than M.
    load makes 1 to 8, each over the whole file, and 15 with 5, where the fault that stands first in the file counts; join 9, 17, 3 and 4, in
    this order; test 9; search and fold 9 to 13; replay 9, 14 and 16; widen 9, 14, 16 and then 13; write 9 and 13; waveform 9, 14,
@@ -46,6 +48,7 @@
 #define YUNVEROK_TEXT 65536
 #define YUNVEROK_FOLD 1572928
 #define YUNVEROK_WAVEFORM 1456223
+#define YUNVEROK_PINS 512
 
 #ifdef __cplusplus
 extern "C" {
@@ -122,6 +125,45 @@ uint64_t yunverok_fold(const uint32_t *memory, size_t memory_len, uint64_t b, ui
    Where the witness holds x, a wire is 0 or 1 in a frame where every completion gives it that value, else x. */
 uint64_t yunverok_waveform(const uint32_t *memory, size_t memory_len, const uint8_t *text, size_t text_len, uint32_t inputs, uint8_t *out,
                            size_t out_len);
+
+/* Two users, 0 and 1, of one circuit memory and one working memory. pins has 256 bytes for each user, one for each input: 0 or 1 holds the
+   input at that value in all frames, any other byte leaves it free, and so does a byte that is not there. The functions are those above, with
+   a user's number: 18 is tested first, and everything else is as above, save
+   - load and join, by user 0 alone: where they are accepted all pins of both users are free after them;
+   - search and fold: a held input is no free bit and has its pin's value; the free bits are the others, in the same order. Size, working
+     memory and output needed are those without pins;
+   - replay and widen: a completion that differs from a pin is no hit, so that no x stands at a held input where the answer is all.
+   write, preview and waveform do not depend on pins. A call changes nothing but what it says, so that neither user disturbs the other. */
+uint32_t yunverok_user_load(uint32_t user, const uint8_t *file, size_t file_len, uint32_t *memory, size_t memory_len, uint8_t *pins,
+                            size_t pins_len);
+
+uint32_t yunverok_user_join(uint32_t user, const uint32_t *first, size_t first_len, const uint32_t *second, size_t second_len,
+                            uint32_t *memory, size_t memory_len, uint8_t *pins, size_t pins_len);
+
+/* Sets the pin of an input: value 0 or 1 holds it, 2 frees it. Answers 0; or 18 for the user or the value, then 9, then 18 for the input, and
+   pins is as it was. */
+uint32_t yunverok_user_pin(uint32_t user, uint64_t input, uint32_t value, const uint32_t *memory, size_t memory_len, uint8_t *pins,
+                           size_t pins_len);
+
+uint64_t yunverok_user_preview(uint32_t user, const uint8_t *file, size_t file_len, const uint32_t *memory, size_t memory_len,
+                               uint32_t *counts, size_t counts_len);
+
+uint64_t yunverok_user_search(const uint32_t *memory, size_t memory_len, const uint8_t *pins, size_t pins_len, uint32_t user, uint64_t b,
+                              uint64_t k, uint64_t d, uint32_t *work, size_t work_len, uint8_t *out, size_t out_len);
+
+uint64_t yunverok_user_fold(const uint32_t *memory, size_t memory_len, const uint8_t *pins, size_t pins_len, uint32_t user, uint64_t b,
+                            uint64_t t, uint32_t *work, size_t work_len, uint8_t *out, size_t out_len);
+
+uint32_t yunverok_user_replay(const uint32_t *memory, size_t memory_len, const uint8_t *pins, size_t pins_len, uint32_t user,
+                              const uint8_t *text, size_t text_len);
+
+uint64_t yunverok_user_widen(const uint32_t *memory, size_t memory_len, const uint8_t *pins, size_t pins_len, uint32_t user,
+                             const uint8_t *text, size_t text_len, uint8_t *out, size_t out_len);
+
+uint64_t yunverok_user_write(uint32_t user, const uint32_t *memory, size_t memory_len, uint8_t *out, size_t out_len);
+
+uint64_t yunverok_user_waveform(const uint32_t *memory, size_t memory_len, uint32_t user, const uint8_t *text, size_t text_len,
+                                uint32_t inputs, uint8_t *out, size_t out_len);
 
 #ifdef __cplusplus
 }

@@ -790,13 +790,13 @@ pub enum Verdict {
 }
 
 /// Where `x` stands after the second line.
-fn either_places(bytes: &[u8]) -> Vec<usize> {
+pub fn either_places(bytes: &[u8]) -> Vec<usize> {
     let feeds: Vec<usize> = (0..bytes.len()).filter(|&i| bytes[i] == b'\n').collect();
     let body = feeds.get(1).map_or(bytes.len(), |&at| at + 1);
     (body..bytes.len()).filter(|&i| bytes[i] == b'x').collect()
 }
 
-fn completion(bytes: &[u8], places: &[usize], v: u64) -> Vec<u8> {
+pub fn completion(bytes: &[u8], places: &[usize], v: u64) -> Vec<u8> {
     let mut text = bytes.to_vec();
     for (i, &place) in places.iter().enumerate() {
         text[place] = if v >> i & 1 == 1 { b'1' } else { b'0' };
@@ -805,7 +805,7 @@ fn completion(bytes: &[u8], places: &[usize], v: u64) -> Vec<u8> {
 }
 
 /// Whether a text without `x` is a hit.
-fn is_hit(c: &Circuit, text: &[u8]) -> bool {
+pub fn is_hit(c: &Circuit, text: &[u8]) -> bool {
     let witness = read_witness(c, text).expect("a witness");
     let agrees = c.latches.iter().zip(&witness.start).all(|(latch, &value)| latch.free() || (latch.reset == 1) == value);
     let words = |row: &[bool]| row.iter().map(|&value| if value { !0 } else { 0 }).collect::<Vec<u64>>();
@@ -826,7 +826,7 @@ fn verdict(c: &Circuit, bytes: &[u8]) -> Verdict {
     if seen[1] { Verdict::All } else { Verdict::No }
 }
 
-fn witness_tests(memory: &[u32], bytes: &[u8]) -> Result<Circuit, u32> {
+pub fn witness_tests(memory: &[u32], bytes: &[u8]) -> Result<Circuit, u32> {
     let c = held(memory).ok_or(9u32)?;
     let places = either_places(bytes);
     read_witness(&c, &completion(bytes, &places, 0)).ok_or(14u32)?;

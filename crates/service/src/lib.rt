@@ -30,7 +30,7 @@ pub extern "C" fn yunverok_load(file: &[u8], memory: &mut [u32]) -> u32
 }
 
 // Puts the counts of an accepted file at the front of out, where there is room for seven.
-fn put_counts(k: Counts, out: &mut [u32])
+pub fn put_counts(k: Counts, out: &mut [u32])
     ensures { λ _. ⌜ now (out .exit) ≡ shown (numbers k) (now (out .entry)) ⌝ }
 {
     if out.len() < 7 {
