@@ -162,6 +162,8 @@ uint64_t yunverok_user_widen(const uint32_t *memory, size_t memory_len, const ui
 
 uint64_t yunverok_user_write(uint32_t user, const uint32_t *memory, size_t memory_len, uint8_t *out, size_t out_len);
 
+uint64_t yunverok_user_write_binary(uint32_t user, const uint32_t *memory, size_t memory_len, uint8_t *out, size_t out_len);
+
 uint64_t yunverok_user_waveform(const uint32_t *memory, size_t memory_len, uint32_t user, const uint8_t *text, size_t text_len,
                                 uint32_t inputs, uint8_t *out, size_t out_len);
 

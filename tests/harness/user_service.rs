@@ -54,6 +54,7 @@ extern "C" {
         out_len: usize,
     ) -> u64;
     fn yunverok_user_write(user: u32, memory: *const u32, memory_len: usize, out: *mut u8, out_len: usize) -> u64;
+    fn yunverok_user_write_binary(user: u32, memory: *const u32, memory_len: usize, out: *mut u8, out_len: usize) -> u64;
     fn yunverok_user_preview(
         user: u32,
         file: *const u8,
@@ -157,9 +158,10 @@ impl Shared {
         reply(code, out)
     }
 
-    pub fn write(&mut self, user: u32, out: &[u8]) -> Reply {
+    pub fn write(&mut self, user: u32, binary: bool, out: &[u8]) -> Reply {
         let (m, mut out) = (&self.memory, out.to_vec());
-        let code = unsafe { yunverok_user_write(user, m.as_ptr(), m.len(), out.as_mut_ptr(), out.len()) };
+        let write = if binary { yunverok_user_write_binary } else { yunverok_user_write };
+        let code = unsafe { write(user, m.as_ptr(), m.len(), out.as_mut_ptr(), out.len()) };
         reply(code, out)
     }
 

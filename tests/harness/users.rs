@@ -143,10 +143,12 @@ impl Run {
                 ("widen", self.shared.widen(user, &text, &out), expected)
             }
             20 => {
-                let need = self.analysers[me].circuit().map_or(20, |c| reference::text(&c).len() as u64);
+                let binary = self.random.below(2) == 1;
+                let text = if binary { reference::binary_text } else { reference::text };
+                let need = self.analysers[me].circuit().map_or(20, |c| text(&c).len() as u64);
                 let out = self.output(need);
-                let expected = self.analysers[me].write(user, &out);
-                ("write", self.shared.write(user, &out), expected)
+                let expected = self.analysers[me].write(user, binary, &out);
+                (if binary { "write_binary" } else { "write" }, self.shared.write(user, binary, &out), expected)
             }
             21 => {
                 let file = self.file();

@@ -16,7 +16,7 @@ ghost use Rattle.users.specs.Users.{PinnedSearched, PinnedFolded};
 ghost use Rattle.search.specs.Chosen.{chosen};
 ghost use Rattle.fold.specs.Chosen as fold;
 ghost use Rattle.user_calls.specs.Calls.{UserLoaded, PinSet};
-ghost use Rattle.user_write.specs.Written.{UserWritten};
+ghost use Rattle.user_write.specs.Written.{UserWritten, UserWrittenBinary};
 ghost use Rattle.user_join.specs.Joins.{UserJoined};
 ghost use Rattle.user_replay.specs.Replays.{UserReplayed};
 ghost use Rattle.user_widen.specs.Widens.{UserWidened};
@@ -154,6 +154,17 @@ pub extern "C" fn yunverok_user_write(user: u32, memory: &[u32], out: &mut [u8])
     ensures { λ r. ⌜ Coded (λ a. UserWritten (now (memory .entry)) user (now (out .entry)) a (now (out .exit))) writeCode r ⌝ }
 {
     match user_write::write(user, memory, out) {
+        WriteAnswer::Length(n) => n as u64,
+        WriteAnswer::Refused(n) => 0x1_0000_0000 + n as u64,
+    }
+}
+
+// Writes the binary form: the length of the text, or 2^32 + number for a refusal.
+#[no_mangle]
+pub extern "C" fn yunverok_user_write_binary(user: u32, memory: &[u32], out: &mut [u8]) -> u64
+    ensures { λ r. ⌜ Coded (λ a. UserWrittenBinary (now (memory .entry)) user (now (out .entry)) a (now (out .exit))) writeCode r ⌝ }
+{
+    match user_write::write_binary(user, memory, out) {
         WriteAnswer::Length(n) => n as u64,
         WriteAnswer::Refused(n) => 0x1_0000_0000 + n as u64,
     }
