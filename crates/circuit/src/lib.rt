@@ -1,6 +1,6 @@
 // Circuit memory: the test whether it holds a circuit, and the circuit's layout.
-use layout::Layout;
 use headers::Counts;
+use layout::Layout;
 use validity::Checked;
 ghost use mathlib.Core.Path.{_≡_};
 ghost use Prim.Native.Nat.{_≤_};

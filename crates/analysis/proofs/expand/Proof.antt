@@ -35,14 +35,29 @@ same-length-2 c = search needs
 
 returns-2 : tie.Need-returns-2
 unfolding S.expanded S.unfolded
-returns-2 c = rw (← c .before .before .before .before .before .before .before .before .field .ensures, ← c .before .before .before .before .before .before .field2 .ensures, ← c .before .before .before .before .before .is-reason .ensures, ← c .before .before .opposite .ensures, ← c .before .is-member .ensures, c .before .before .before .before .if1 .taken, c .if2 .left) (record { words = refl; draft = refl })
+returns-2 c =
+    rw (
+      ← c .before .before .before .before .before .before .before .before .field .ensures,
+      ← c .before .before .before .before .before .before .field2 .ensures,
+      ← c .before .before .before .before .before .is-reason .ensures,
+      ← c .before .before .opposite .ensures,
+      ← c .before .is-member .ensures,
+      c .before .before .before .before .if1 .taken,
+      c .if2 .left,
+    ) (record { words = refl; draft = refl })
 
 same-length-3 : tie.Need-same-length-3
 same-length-3 c = search needs
 
 returns-3 : tie.Need-returns-3
 unfolding S.expanded S.unfolded
-returns-3 c = rw (← c .before .before .before .before .field .ensures, ← c .before .before .field2 .ensures, ← c .before .is-reason .ensures, c .if1 .left) (record { words = refl; draft = refl })
+returns-3 c =
+    rw (
+      ← c .before .before .before .before .field .ensures,
+      ← c .before .before .field2 .ensures,
+      ← c .before .is-reason .ensures,
+      c .if1 .left,
+    ) (record { words = refl; draft = refl })
 
 pub expand-spec : {M : Type 1} → statement M
 expand-spec =

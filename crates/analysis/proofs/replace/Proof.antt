@@ -31,7 +31,15 @@ unfolding S.replaced S.recounted
 returns c =
     let r = c .before .before .before .before .before .before .before .before .before .resolve .ensures in
     let t = c .before .before .before .before .touch-all .ensures in
-    rw (← c .before .before .before .before .before .before .before .before .before .before .before .field .ensures, ← r .words, ← r .draft, ← c .before .before .before .before .before .less .ensures, ← c .before .less2 .ensures, ← t .count, ← c .sum .ensures)
+    rw (
+      ← c .before .before .before .before .before .before .before .before .before .before .before .field .ensures,
+      ← r .words,
+      ← r .draft,
+      ← c .before .before .before .before .before .less .ensures,
+      ← c .before .less2 .ensures,
+      ← t .count,
+      ← c .sum .ensures,
+    )
     (record { words = t .words; now = refl })
 
 pub replace-spec : {M : Type 1} → statement M

@@ -18,7 +18,11 @@ same-length c = search needs
 
 returns : tie.Need-returns
 unfolding S.touched
-returns c = rw (← c .before .before .before .before .before .field .ensures, ← c .before .before .before .sum .ensures) (c .before .before .set-field .ensures)
+returns c =
+    rw (
+      ← c .before .before .before .before .before .field .ensures,
+      ← c .before .before .before .sum .ensures,
+    ) (c .before .before .set-field .ensures)
 
 pub touch-spec : {M : Type 1} → statement M
 touch-spec =

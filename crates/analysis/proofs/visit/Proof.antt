@@ -29,7 +29,13 @@ same-length-2 c = search needs
 
 returns-2 : tie.Need-returns-2
 unfolding S.visited
-returns-2 c = rw (← c .before .before .before .before .field .ensures, ← c .before .before .opposite .ensures, ← c .before .is-member .ensures, c .if1 .left) (record { words = refl; now = refl })
+returns-2 c =
+    rw (
+      ← c .before .before .before .before .field .ensures,
+      ← c .before .before .opposite .ensures,
+      ← c .before .is-member .ensures,
+      c .if1 .left,
+    ) (record { words = refl; now = refl })
 
 pub visit-spec : {M : Type 1} → statement M
 visit-spec =

@@ -19,7 +19,11 @@ same-length c = search needs
 
 returns : tie.Need-returns
 unfolding P.cleared
-returns c = rw (← c .before .before .before .before .before .field .ensures, eq-eqb _ _ (c .before .before .before .before .if1 .taken)) (c .before .before .set-field .ensures)
+returns c =
+    rw (
+      ← c .before .before .before .before .before .field .ensures,
+      eq-eqb _ _ (c .before .before .before .before .if1 .taken),
+    ) (c .before .before .set-field .ensures)
 
 same-length-2 : tie.Need-same-length-2
 same-length-2 c = search needs

@@ -18,18 +18,40 @@ returns-2 c = rw (← c .before .before .opposite .ensures, ne-eqb _ _ (c .befor
 
 returns-3 : tie.Need-returns-3
 unfolding P.isWrong
-returns-3 c = rw (← c .before .before .before .before .opposite .ensures, ne-eqb _ _ (c .before .before .before .if1 .left), ne-eqb _ _ (c .before .before .if2 .left), lt-ltb _ _ (c .if3 .taken))
+returns-3 c =
+    rw (
+      ← c .before .before .before .before .opposite .ensures,
+      ne-eqb _ _ (c .before .before .before .if1 .left),
+      ne-eqb _ _ (c .before .before .if2 .left),
+      lt-ltb _ _ (c .if3 .taken),
+    )
 
 bit-requires : tie.Need-bit-requires
 bit-requires c κs = search needs
 
 returns-4 : tie.Need-returns-4
 unfolding P.isWrong
-returns-4 c = rw (← c .before .before .before .before .before .before .opposite .ensures, ← c .before .bit .ensures, ne-eqb _ _ (c .before .before .before .before .before .if1 .left), ne-eqb _ _ (c .before .before .before .before .if2 .left), le-ltb _ _ (c .before .before .if3 .left), eq-eqb _ _ (c .if4 .taken))
+returns-4 c =
+    rw (
+      ← c .before .before .before .before .before .before .opposite .ensures,
+      ← c .before .bit .ensures,
+      ne-eqb _ _ (c .before .before .before .before .before .if1 .left),
+      ne-eqb _ _ (c .before .before .before .before .if2 .left),
+      le-ltb _ _ (c .before .before .if3 .left),
+      eq-eqb _ _ (c .if4 .taken),
+    )
 
 returns-5 : tie.Need-returns-5
 unfolding P.isWrong
-returns-5 c = rw (← c .before .before .before .before .before .before .opposite .ensures, ← c .before .bit .ensures, ne-eqb _ _ (c .before .before .before .before .before .if1 .left), ne-eqb _ _ (c .before .before .before .before .if2 .left), le-ltb _ _ (c .before .before .if3 .left), ne-eqb _ _ (c .if4 .left))
+returns-5 c =
+    rw (
+      ← c .before .before .before .before .before .before .opposite .ensures,
+      ← c .before .bit .ensures,
+      ne-eqb _ _ (c .before .before .before .before .before .if1 .left),
+      ne-eqb _ _ (c .before .before .before .before .if2 .left),
+      le-ltb _ _ (c .before .before .if3 .left),
+      ne-eqb _ _ (c .if4 .left),
+    )
 
 pub is-wrong-spec : {M : Type 1} → statement M
 is-wrong-spec =

@@ -14,7 +14,12 @@ same-length c = search needs
 
 returns : tie.Need-returns
 unfolding P.refuted P.raisedBy
-returns c = rw (← c .before .judge .ensures, c .before .before .before .if1 .taken, eq-eqb _ _ (c .if2 .taken)) (record { words = refl; count = refl })
+returns c =
+    rw (
+      ← c .before .judge .ensures,
+      c .before .before .before .if1 .taken,
+      eq-eqb _ _ (c .if2 .taken),
+    ) (record { words = refl; count = refl })
 
 raise-requires : tie.Need-raise-requires
 raise-requires c κs = search needs

@@ -14,11 +14,23 @@ bit-requires c κs = search needs
 
 returns-2 : tie.Need-returns-2
 unfolding P.nodeValue
-returns-2 c = rw (← c .before .bit .ensures, ne-eqb _ _ (c .before .before .before .before .if1 .left), le-leb _ _ (c .before .before .if2 .taken), eq-eqb _ _ (c .if3 .taken))
+returns-2 c =
+    rw (
+      ← c .before .bit .ensures,
+      ne-eqb _ _ (c .before .before .before .before .if1 .left),
+      le-leb _ _ (c .before .before .if2 .taken),
+      eq-eqb _ _ (c .if3 .taken),
+    )
 
 returns-3 : tie.Need-returns-3
 unfolding P.nodeValue
-returns-3 c = rw (← c .before .bit .ensures, ne-eqb _ _ (c .before .before .before .before .if1 .left), le-leb _ _ (c .before .before .if2 .taken), ne-eqb _ _ (c .if3 .left))
+returns-3 c =
+    rw (
+      ← c .before .bit .ensures,
+      ne-eqb _ _ (c .before .before .before .before .if1 .left),
+      le-leb _ _ (c .before .before .if2 .taken),
+      ne-eqb _ _ (c .if3 .left),
+    )
 
 field-requires : tie.Need-field-requires
 field-requires c κs = search needs
@@ -28,7 +40,14 @@ edge-requires c κs = search needs
 
 returns-4 : tie.Need-returns-4
 unfolding P.nodeValue
-returns-4 c = rw (← c .before .before .field .ensures, ← c .before .edge .ensures, ne-eqb _ _ (c .before .before .before .before .before .if1 .left), lt-leb _ _ (c .before .before .before .if2 .left), eq-eqb _ _ (c .if4 .taken))
+returns-4 c =
+    rw (
+      ← c .before .before .field .ensures,
+      ← c .before .edge .ensures,
+      ne-eqb _ _ (c .before .before .before .before .before .if1 .left),
+      lt-leb _ _ (c .before .before .before .if2 .left),
+      eq-eqb _ _ (c .if4 .taken),
+    )
 
 field-requires-2 : tie.Need-field-requires-2
 field-requires-2 c κs = search needs
@@ -38,7 +57,16 @@ edge-requires-2 c κs = search needs
 
 returns-5 : tie.Need-returns-5
 unfolding P.nodeValue
-returns-5 c = rw (← c .before .before .before .before .field .ensures, ← c .before .before .before .edge .ensures, ← c .before .field2 .ensures, ← c .edge2 .ensures, ne-eqb _ _ (c .before .before .before .before .before .before .before .if1 .left), lt-leb _ _ (c .before .before .before .before .before .if2 .left), ne-eqb _ _ (c .before .before .if4 .left))
+returns-5 c =
+    rw (
+      ← c .before .before .before .before .field .ensures,
+      ← c .before .before .before .edge .ensures,
+      ← c .before .field2 .ensures,
+      ← c .edge2 .ensures,
+      ne-eqb _ _ (c .before .before .before .before .before .before .before .if1 .left),
+      lt-leb _ _ (c .before .before .before .before .before .if2 .left),
+      ne-eqb _ _ (c .before .before .if4 .left),
+    )
 
 pub value-spec : {M : Type 1} → statement M
 value-spec =

@@ -27,7 +27,9 @@ same-length c = search needs
 
 returns-2 : tie.Need-returns-2
 unfolding Hp.cooled
-returns-2 c = rw (le-ltb _ _ (c .before .before .before .before .before .if1 .left)) (record { words = c .before .before .before .scale .ensures; heap = refl })
+returns-2 c =
+    rw (le-ltb _ _ (c .before .before .before .before .before .if1 .left))
+    (record { words = c .before .before .before .scale .ensures; heap = refl })
 
 pub cool-spec : {M : Type 1} → statement M
 cool-spec = tie.close (tie.spec add-t6 add-t7 returns scale-requires add-t12 same-length returns-2)

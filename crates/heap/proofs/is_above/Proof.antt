@@ -23,7 +23,14 @@ field-requires-2 c κs = search needs
 
 returns-2 : tie.Need-returns-2
 unfolding Hp.isAbove
-returns-2 c = rw (ne-eqb _ _ (c .before .before .before .before .if1 .left), ← c .before .before .before .parent .ensures, ← c .before .before .at-place .ensures, ← c .before .field .ensures, ← c .field2 .ensures)
+returns-2 c =
+    rw (
+      ne-eqb _ _ (c .before .before .before .before .if1 .left),
+      ← c .before .before .before .parent .ensures,
+      ← c .before .before .at-place .ensures,
+      ← c .before .field .ensures,
+      ← c .field2 .ensures,
+    )
 
 pub is-above-spec : {M : Type 1} → statement M
 is-above-spec =

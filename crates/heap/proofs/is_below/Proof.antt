@@ -20,7 +20,13 @@ field-requires-2 c κs = search needs
 
 returns-2 : tie.Need-returns-2
 unfolding Hp.isBelow
-returns-2 c = rw (lt-leb _ _ (c .before .before .before .if1 .left), ← c .before .before .at-place .ensures, ← c .before .field .ensures, ← c .field2 .ensures)
+returns-2 c =
+    rw (
+      lt-leb _ _ (c .before .before .before .if1 .left),
+      ← c .before .before .at-place .ensures,
+      ← c .before .field .ensures,
+      ← c .field2 .ensures,
+    )
 
 pub is-below-spec : {M : Type 1} → statement M
 is-below-spec =

@@ -36,11 +36,29 @@ add-result c = search needs
 
 returns-3 : tie.Need-returns-3
 unfolding Hp.larger
-returns-3 c = rw (← c .before .before .before .before .at-place .ensures, ← c .before .before .before .at-place2 .ensures, ← c .before .before .field .ensures, ← c .before .field2 .ensures, lt-leb _ _ (c .before .before .before .before .before .before .if1 .left), lt-leb _ _ (c .before .before .before .before .before .if2 .left), lt-ltb _ _ (c .if3 .taken))
+returns-3 c =
+    rw (
+      ← c .before .before .before .before .at-place .ensures,
+      ← c .before .before .before .at-place2 .ensures,
+      ← c .before .before .field .ensures,
+      ← c .before .field2 .ensures,
+      lt-leb _ _ (c .before .before .before .before .before .before .if1 .left),
+      lt-leb _ _ (c .before .before .before .before .before .if2 .left),
+      lt-ltb _ _ (c .if3 .taken),
+    )
 
 returns-4 : tie.Need-returns-4
 unfolding Hp.larger
-returns-4 c = rw (← c .before .before .before .before .at-place .ensures, ← c .before .before .before .at-place2 .ensures, ← c .before .before .field .ensures, ← c .before .field2 .ensures, lt-leb _ _ (c .before .before .before .before .before .before .if1 .left), lt-leb _ _ (c .before .before .before .before .before .if2 .left), le-ltb _ _ (c .if3 .left))
+returns-4 c =
+    rw (
+      ← c .before .before .before .before .at-place .ensures,
+      ← c .before .before .before .at-place2 .ensures,
+      ← c .before .before .field .ensures,
+      ← c .before .field2 .ensures,
+      lt-leb _ _ (c .before .before .before .before .before .before .if1 .left),
+      lt-leb _ _ (c .before .before .before .before .before .if2 .left),
+      le-ltb _ _ (c .if3 .left),
+    )
 
 pub larger-spec : {M : Type 1} → statement M
 larger-spec =

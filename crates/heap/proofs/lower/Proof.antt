@@ -18,7 +18,11 @@ same-length c = search needs
 
 returns : tie.Need-returns
 unfolding Hp.lowered
-returns c = rw (← c .before .before .before .before .before .parent .ensures, ← c .before .before .before .before .at-place .ensures) (c .before .before .seat .ensures)
+returns c =
+    rw (
+      ← c .before .before .before .before .before .parent .ensures,
+      ← c .before .before .before .before .at-place .ensures,
+    ) (c .before .before .seat .ensures)
 
 pub lower-spec : {M : Type 1} → statement M
 lower-spec =

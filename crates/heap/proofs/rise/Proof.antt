@@ -20,14 +20,23 @@ same-length c = search needs
 
 returns : tie.Need-returns
 unfolding Hp.risen
-returns c = rw (← c .before .before .before .before .before .before .before .is-seated .ensures, c .before .before .before .before .before .before .if1 .taken) (record { words = rw (← c .before .before .before .before .place-of .ensures) (c .before .before .up .ensures); heap = refl })
+returns c =
+    rw (
+      ← c .before .before .before .before .before .before .before .is-seated .ensures,
+      c .before .before .before .before .before .before .if1 .taken,
+    ) (record { words = rw (← c .before .before .before .before .place-of .ensures) (c .before .before .up .ensures); heap = refl })
 
 same-length-2 : tie.Need-same-length-2
 same-length-2 c = search needs
 
 returns-2 : tie.Need-returns-2
 unfolding Hp.risen
-returns-2 c = rw (← c .before .before .before .is-seated .ensures, c .before .before .if1 .left, le-leb _ _ (c .if2 .taken)) (record { words = refl; heap = refl })
+returns-2 c =
+    rw (
+      ← c .before .before .before .is-seated .ensures,
+      c .before .before .if1 .left,
+      le-leb _ _ (c .if2 .taken),
+    ) (record { words = refl; heap = refl })
 
 up-requires-2 : tie.Need-up-requires-2
 up-requires-2 c κs = search needs
@@ -40,7 +49,12 @@ same-length-3 c = search needs
 
 returns-3 : tie.Need-returns-3
 unfolding Hp.risen
-returns-3 c = rw (← c .before .before .before .before .before .before .before .before .is-seated .ensures, c .before .before .before .before .before .before .before .if1 .left, lt-leb _ _ (c .before .before .before .before .before .if2 .left)) (record { words = c .before .before .before .up2 .ensures; heap = refl })
+returns-3 c =
+    rw (
+      ← c .before .before .before .before .before .before .before .before .is-seated .ensures,
+      c .before .before .before .before .before .before .before .if1 .left,
+      lt-leb _ _ (c .before .before .before .before .before .if2 .left),
+    ) (record { words = c .before .before .before .up2 .ensures; heap = refl })
 
 pub rise-spec : {M : Type 1} → statement M
 rise-spec =

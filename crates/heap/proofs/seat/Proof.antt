@@ -33,7 +33,12 @@ same-length c = search needs
 
 returns : tie.Need-returns
 unfolding Hp.seated
-returns c = rw (← c .before .before .before .before .before .before .before .before .before .before .field .ensures, ← c .before .before .before .before .before .before .before .before .set-field .ensures, ← c .before .before .before .before .field2 .ensures) (c .before .before .set-field2 .ensures)
+returns c =
+    rw (
+      ← c .before .before .before .before .before .before .before .before .before .before .field .ensures,
+      ← c .before .before .before .before .before .before .before .before .set-field .ensures,
+      ← c .before .before .before .before .field2 .ensures,
+    ) (c .before .before .set-field2 .ensures)
 
 pub seat-spec : {M : Type 1} → statement M
 seat-spec =

@@ -34,7 +34,12 @@ same-length c = search needs
 
 returns : tie.Need-returns
 unfolding K.attached M.stored
-returns c = rw (← c .before .before .before .before .before .before .before .before .before .before .before .before .field .ensures, ← c .before .before .before .before .before .before .before .before .before .before .set-head .ensures, ← c .before .before .before .before .before .before .set-head2 .ensures) (c .before .before .set-field .ensures)
+returns c =
+    rw (
+      ← c .before .before .before .before .before .before .before .before .before .before .before .before .field .ensures,
+      ← c .before .before .before .before .before .before .before .before .before .before .set-head .ensures,
+      ← c .before .before .before .before .before .before .set-head2 .ensures,
+    ) (c .before .before .set-field .ensures)
 
 pub attach-spec : {M : Type 1} → statement M
 attach-spec =

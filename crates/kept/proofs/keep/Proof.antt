@@ -65,7 +65,12 @@ returns-3 c = rw (le-ltb _ _ (c .before .before .before .before .before .before 
 
 returns-4 : tie.Need-returns-4
 unfolding K.kept
-returns-4 c = rw (le-ltb _ _ (c .before .before .before .if1 .left), lt-leb _ _ (c .before .if2 .left), c .if3 .left) (record { words = refl; arena = refl })
+returns-4 c =
+    rw (
+      le-ltb _ _ (c .before .before .before .if1 .left),
+      lt-leb _ _ (c .before .if2 .left),
+      c .if3 .left,
+    ) (record { words = refl; arena = refl })
 
 pub keep-spec : {M : Type 1} → statement M
 keep-spec =

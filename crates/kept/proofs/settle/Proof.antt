@@ -16,7 +16,12 @@ same-length c = search needs
 
 returns : tie.Need-returns
 unfolding K.settled
-returns c = rw (c .before .before .before .before .before .before .before .before .if1 .taken, eq-eqb _ _ (c .before .before .before .before .before .before .if2 .taken), ← c .before .before .before .before .literal .ensures) (c .before .before .fix .ensures)
+returns c =
+    rw (
+      c .before .before .before .before .before .before .before .before .if1 .taken,
+      eq-eqb _ _ (c .before .before .before .before .before .before .if2 .taken),
+      ← c .before .before .before .before .literal .ensures,
+    ) (c .before .before .fix .ensures)
 
 returns-2 : tie.Need-returns-2
 unfolding K.settled

@@ -20,7 +20,11 @@ same-length c = search needs
 
 returns-2 : tie.Need-returns-2
 unfolding R.stored
-returns-2 c = rw (← c .before .before .before .place .ensures, lt-leb _ _ (c .before .before .before .before .before .if1 .left)) (c .before .before .put .ensures)
+returns-2 c =
+    rw (
+      ← c .before .before .before .place .ensures,
+      lt-leb _ _ (c .before .before .before .before .before .if1 .left),
+    ) (c .before .before .put .ensures)
 
 pub set-field-spec : {M : Type 1} → statement M
 set-field-spec = tie.close (tie.spec returns place-requires put-requires same-length returns-2)

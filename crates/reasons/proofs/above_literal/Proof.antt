@@ -20,7 +20,12 @@ opposite-requires c κs = search needs
 
 returns-2 : tie.Need-returns-2
 unfolding R.aboveLiteral
-returns-2 c = rw (ne-eqb _ _ (c .before .before .before .if1 .left), eq-eqb _ _ (c .before .before .if2 .taken), ← c .before .field .ensures) (c .opposite .ensures)
+returns-2 c =
+    rw (
+      ne-eqb _ _ (c .before .before .before .if1 .left),
+      eq-eqb _ _ (c .before .before .if2 .taken),
+      ← c .before .field .ensures,
+    ) (c .opposite .ensures)
 
 field-requires-2 : tie.Need-field-requires-2
 field-requires-2 c κs = search needs
@@ -30,7 +35,12 @@ opposite-requires-2 c κs = search needs
 
 returns-3 : tie.Need-returns-3
 unfolding R.aboveLiteral
-returns-3 c = rw (ne-eqb _ _ (c .before .before .before .if1 .left), ne-eqb _ _ (c .before .before .if2 .left), ← c .before .field2 .ensures) (c .opposite2 .ensures)
+returns-3 c =
+    rw (
+      ne-eqb _ _ (c .before .before .before .if1 .left),
+      ne-eqb _ _ (c .before .before .if2 .left),
+      ← c .before .field2 .ensures,
+    ) (c .opposite2 .ensures)
 
 pub above-literal-spec : {M : Type 1} → statement M
 above-literal-spec =

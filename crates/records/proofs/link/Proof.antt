@@ -38,7 +38,13 @@ same-length c = search needs
 
 returns : tie.Need-returns
 unfolding S.linkedTo
-returns c = rw (← c .before .before .before .before .before .before .before .before .before .before .before .field .ensures, ← c .before .before .before .before .before .before .before .before .before .field2 .ensures, ← c .before .before .before .before .before .before .before .set-field .ensures, ← c .before .before .before .before .edge-to .ensures) (c .before .before .set-field2 .ensures)
+returns c =
+    rw (
+      ← c .before .before .before .before .before .before .before .before .before .before .before .field .ensures,
+      ← c .before .before .before .before .before .before .before .before .before .field2 .ensures,
+      ← c .before .before .before .before .before .before .before .set-field .ensures,
+      ← c .before .before .before .before .edge-to .ensures,
+    ) (c .before .before .set-field2 .ensures)
 
 pub link-spec : {M : Type 1} → statement M
 link-spec =

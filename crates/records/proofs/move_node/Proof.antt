@@ -27,7 +27,11 @@ same-length-2 c = search needs
 
 returns-2 : tie.Need-returns-2
 unfolding S.moved
-returns-2 c = rw (← c .before .before .before .before .before .word .ensures, ne-eqb _ _ (c .before .before .before .before .if1 .left)) (c .before .before .move-to .ensures)
+returns-2 c =
+    rw (
+      ← c .before .before .before .before .before .word .ensures,
+      ne-eqb _ _ (c .before .before .before .before .if1 .left),
+    ) (c .before .before .move-to .ensures)
 
 pub move-node-spec : {M : Type 1} → statement M
 move-node-spec =

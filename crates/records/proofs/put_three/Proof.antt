@@ -27,7 +27,11 @@ same-length c = search needs
 
 returns : tie.Need-returns
 unfolding S.three
-returns c = rw (← c .before .before .before .before .before .before .before .before .before .before .put .ensures, ← c .before .before .before .before .before .before .put2 .ensures) (c .before .before .put3 .ensures)
+returns c =
+    rw (
+      ← c .before .before .before .before .before .before .before .before .before .before .put .ensures,
+      ← c .before .before .before .before .before .before .put2 .ensures,
+    ) (c .before .before .put3 .ensures)
 
 pub put-three-spec : {M : Type 1} → statement M
 put-three-spec =

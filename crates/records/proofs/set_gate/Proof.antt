@@ -32,7 +32,13 @@ same-length c = search needs
 
 returns : tie.Need-returns
 unfolding S.gateSet
-returns c = rw (← c .before .before .before .before .before .before .before .before .word .ensures, ← c .before .before .before .before .before .before .before .renumber .ensures, ← c .before .before .before .before .before .word2 .ensures, ← c .before .before .before .before .renumber2 .ensures) (c .before .before .put-three .ensures)
+returns c =
+    rw (
+      ← c .before .before .before .before .before .before .before .before .word .ensures,
+      ← c .before .before .before .before .before .before .before .renumber .ensures,
+      ← c .before .before .before .before .before .word2 .ensures,
+      ← c .before .before .before .before .renumber2 .ensures,
+    ) (c .before .before .put-three .ensures)
 
 pub set-gate-spec : {M : Type 1} → statement M
 set-gate-spec =

@@ -30,7 +30,12 @@ same-length c = search needs
 
 returns : tie.Need-returns
 unfolding S.leafSet
-returns c = rw (← c .before .before .before .before .before .before .before .edge-to .ensures, ← c .before .before .before .before .before .word .ensures, ← c .before .before .before .before .first-fact .ensures) (c .before .before .put-three .ensures)
+returns c =
+    rw (
+      ← c .before .before .before .before .before .before .before .edge-to .ensures,
+      ← c .before .before .before .before .before .word .ensures,
+      ← c .before .before .before .before .first-fact .ensures,
+    ) (c .before .before .put-three .ensures)
 
 pub set-leaf-spec : {M : Type 1} → statement M
 set-leaf-spec =

@@ -24,7 +24,13 @@ same-length-2 c = search needs
 
 returns-2 : tie.Need-returns-2
 unfolding D.excluded D.removed
-returns-2 c = rw (← c .before .before .before .before .before .field .ensures, ← c .before .literal .ensures, lt-leb _ _ (c .before .before .before .if1 .left), ne-eqb _ _ (c .if2 .taken)) (record { words = refl; draft = refl })
+returns-2 c =
+    rw (
+      ← c .before .before .before .before .before .field .ensures,
+      ← c .before .literal .ensures,
+      lt-leb _ _ (c .before .before .before .if1 .left),
+      ne-eqb _ _ (c .if2 .taken),
+    ) (record { words = refl; draft = refl })
 
 sub-literal : tie.Need-sub-literal
 sub-literal c = search needs
@@ -46,7 +52,13 @@ same-length-3 c = search needs
 
 returns-3 : tie.Need-returns-3
 unfolding D.excluded D.removed
-returns-3 c = rw (← c .before .before .before .before .before .before .before .before .before .before .before .before .before .before .before .before .before .field .ensures, ← c .before .before .before .before .before .before .before .before .before .before .before .before .before .literal .ensures, lt-leb _ _ (c .before .before .before .before .before .before .before .before .before .before .before .before .before .before .before .if1 .left), eq-eqb _ _ (c .before .before .before .before .before .before .before .before .before .before .before .before .if2 .left))
+returns-3 c =
+    rw (
+      ← c .before .before .before .before .before .before .before .before .before .before .before .before .before .before .before .before .before .field .ensures,
+      ← c .before .before .before .before .before .before .before .before .before .before .before .before .before .literal .ensures,
+      lt-leb _ _ (c .before .before .before .before .before .before .before .before .before .before .before .before .before .before .before .if1 .left),
+      eq-eqb _ _ (c .before .before .before .before .before .before .before .before .before .before .before .before .if2 .left),
+    )
     (record { words = rw (← c .before .before .before .before .before .before .before .before .before .literal2 .ensures, ← c .before .before .before .before .before .before .before .set-literal .ensures) (c .before .before .before .set-field .ensures); draft = refl })
 
 pub exclude-spec : {M : Type 1} → statement M

@@ -23,7 +23,13 @@ same-length-2 c = search needs
 
 returns-2 : tie.Need-returns-2
 unfolding D.included
-returns-2 c = rw (← c .before .before .before .before .is-false .ensures, ← c .before .is-member .ensures, c .before .before .before .if1 .left, c .if2 .taken) (record { words = refl; draft = refl })
+returns-2 c =
+    rw (
+      ← c .before .before .before .before .is-false .ensures,
+      ← c .before .is-member .ensures,
+      c .before .before .before .if1 .left,
+      c .if2 .taken,
+    ) (record { words = refl; draft = refl })
 
 append-requires : tie.Need-append-requires
 append-requires c κs = search needs
@@ -33,7 +39,13 @@ same-length-3 c = search needs
 
 returns-3 : tie.Need-returns-3
 unfolding D.included
-returns-3 c = rw (← c .before .before .before .before .before .before .before .before .is-false .ensures, ← c .before .before .before .before .before .is-member .ensures, c .before .before .before .before .before .before .before .if1 .left, c .before .before .before .before .if2 .left) (c .before .before .append .ensures)
+returns-3 c =
+    rw (
+      ← c .before .before .before .before .before .before .before .before .is-false .ensures,
+      ← c .before .before .before .before .before .is-member .ensures,
+      c .before .before .before .before .before .before .before .if1 .left,
+      c .before .before .before .before .if2 .left,
+    ) (c .before .before .append .ensures)
 
 pub include-spec : {M : Type 1} → statement M
 include-spec =

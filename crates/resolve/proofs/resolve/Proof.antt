@@ -24,7 +24,13 @@ returns : tie.Need-returns
 unfolding D.resolved
 returns c =
     let e = c .before .before .before .before .before .before .exclude .ensures in
-    rw (← c .before .before .before .before .before .before .before .before .before .before .is-reason .ensures, c .before .before .before .before .before .before .before .before .before .if1 .taken, ← c .before .before .before .before .before .before .before .opposite .ensures, ← e .words, ← e .draft) (c .before .before .gather .ensures)
+    rw (
+      ← c .before .before .before .before .before .before .before .before .before .before .is-reason .ensures,
+      c .before .before .before .before .before .before .before .before .before .if1 .taken,
+      ← c .before .before .before .before .before .before .before .opposite .ensures,
+      ← e .words,
+      ← e .draft,
+    ) (c .before .before .gather .ensures)
 
 returns-2 : tie.Need-returns-2
 unfolding D.resolved

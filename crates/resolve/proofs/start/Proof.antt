@@ -16,7 +16,11 @@ same-length c = search needs
 
 returns : tie.Need-returns
 unfolding D.started
-returns c = rw (← c .before .before .before .before .before .is-reason .ensures, c .before .before .before .before .if1 .taken) (c .before .before .gather .ensures)
+returns c =
+    rw (
+      ← c .before .before .before .before .before .is-reason .ensures,
+      c .before .before .before .before .if1 .taken,
+    ) (c .before .before .gather .ensures)
 
 returns-2 : tie.Need-returns-2
 unfolding D.started

@@ -23,7 +23,12 @@ returns : tie.Need-returns
 unfolding S.settledOne
 returns c =
     let d = c .before .before .before .before .before .before .start .ensures in
-    rw (← c .before .before .before .before .before .before .before .before .before .before .field .ensures, ← c .before .before .before .before .before .before .before .before .field2 .ensures, ← d .words, ← d .draft) (c .before .before .settle .ensures)
+    rw (
+      ← c .before .before .before .before .before .before .before .before .before .before .field .ensures,
+      ← c .before .before .before .before .before .before .before .before .field2 .ensures,
+      ← d .words,
+      ← d .draft,
+    ) (c .before .before .settle .ensures)
 
 pub settle-one-spec : {M : Type 1} → statement M
 settle-one-spec =

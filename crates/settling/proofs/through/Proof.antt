@@ -14,7 +14,12 @@ same-length c = search needs
 
 returns : tie.Need-returns
 unfolding S.through
-returns c = rw (← c .before .before .before .before .through-gates .ensures .words, ← c .before .before .before .before .through-gates .ensures .state, ne-eqb _ _ (c .if1 .taken)) (record { words = refl; state = refl })
+returns c =
+    rw (
+      ← c .before .before .before .before .through-gates .ensures .words,
+      ← c .before .before .before .before .through-gates .ensures .state,
+      ne-eqb _ _ (c .if1 .taken),
+    ) (record { words = refl; state = refl })
 
 opposite-requires : tie.Need-opposite-requires
 opposite-requires c κs = search needs

@@ -24,7 +24,9 @@ same-length c = search needs
 
 returns-2 : tie.Need-returns-2
 unfolding S.assigned
-returns-2 c = rw (lt-leb _ _ (c .before .before .before .before .before .before .before .before .before .if1 .left)) (record { words = rw (← c .before .before .before .before .before .before .before .set-node .ensures) (c .before .before .before .set-field .ensures); state = refl })
+returns-2 c =
+    rw (lt-leb _ _ (c .before .before .before .before .before .before .before .before .before .if1 .left))
+    (record { words = rw (← c .before .before .before .before .before .before .before .set-node .ensures) (c .before .before .before .set-field .ensures); state = refl })
 
 pub assign-spec : {M : Type 1} → statement M
 assign-spec =

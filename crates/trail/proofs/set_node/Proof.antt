@@ -21,7 +21,11 @@ same-length c = search needs
 
 returns : tie.Need-returns
 unfolding S.noted
-returns c = rw (← c .before .before .before .before .before .before .before .before .before .before .set-field .ensures, ← c .before .before .before .before .before .before .set-field2 .ensures) (c .before .before .set-field3 .ensures)
+returns c =
+    rw (
+      ← c .before .before .before .before .before .before .before .before .before .before .set-field .ensures,
+      ← c .before .before .before .before .before .before .set-field2 .ensures,
+    ) (c .before .before .set-field3 .ensures)
 
 pub set-node-spec : {M : Type 1} → statement M
 set-node-spec =

@@ -19,7 +19,11 @@ same-length c = search needs
 
 returns : tie.Need-returns
 unfolding W.rewatched
-returns c = rw (← c .before .before .before .before .before .before .before .before .following .ensures, ← c .before .before .before .before .before .before .link .ensures) (record { words = c .before .before .attach .ensures; state = refl })
+returns c =
+    rw (
+      ← c .before .before .before .before .before .before .before .before .following .ensures,
+      ← c .before .before .before .before .before .before .link .ensures,
+    ) (record { words = c .before .before .attach .ensures; state = refl })
 
 pub rewatch-spec : {M : Type 1} → statement M
 rewatch-spec =
