@@ -1,9 +1,10 @@
--- All that is claimed, in one record: the three demands, each field proved by a theorem of the crates below. That every call stays within
--- what was lent, that nothing wraps and that every call returns is what the check of each function shows; the contracts that the fields
--- speak of are those of the operations, in aiger/specs/Operations.antt and completions/specs/Operations.antt. Assumes nothing.
+-- All that is claimed, in one record: the three demands and what the requests add, each field proved by a theorem of the crates below. That
+-- every call stays within what was lent, that nothing wraps and that every call returns is what the check of each function shows; the
+-- contracts that the fields speak of are those of the operations, in the specs of aiger, completions, joined, renumbered, waveform, load and
+-- history. Assumes nothing.
 use mathlib.Core.Path.{_≡_, refl, sym, ap, _∙_, subst}
-use mathlib.Core.Bool.{Bool, cond}
-use mathlib.Core.List.{List, [], _∷_, List·Memᴰ}
+use mathlib.Core.Bool.{Bool, true, false, cond}
+use mathlib.Core.List.{List, [], _∷_, List·Memᴰ, map}
 use mathlib.Core.Option.{some}
 use mathlib.Core.Logic.{_⊎_}
 use Prim.Native.Nat.{ℕ, suc, _+_, _-_, _*_, _≤_, _<_, _^_}
@@ -12,7 +13,8 @@ use lib.Dec.{T}
 use lib.ListN.{length, getD, take}
 use Rattle.aiger.specs.Circuit.{Circuit, var, literalsRight, usedDefined, acyclic}
 use Rattle.aiger.specs.Frames.{Run, value, valueAt, hits, run, freeBits, freeStarts}
-use Rattle.aiger.specs.Load.{Answer, refused, gives, load, needed}
+use Rattle.aiger.specs.File.{isBinary}
+use Rattle.aiger.specs.Load.{Answer, refused, gives, load, loadText, needed}
 use Rattle.aiger.specs.Search.{Outcome, question, reaches, firstWitness, permitted, permittedOf}
 use Rattle.aiger.specs.Witness.{Witness, agrees, witness, readWitness}
 use Rattle.aiger.specs.Write.{countRow, write}
@@ -31,13 +33,22 @@ use Rattle.roundtrip.proofs.LoadValid.{gives-same}
 use Rattle.roundtrip.proofs.Holding.{held-valid, load-again}
 use Rattle.roundtrip.proofs.Folds.{folded-output}
 use Rattle.roundtrip.proofs.Determined.{OneText, loaded-same, acted, refused-as}
+use Rattle.aiger.proofs.Forms.{load-text}
+use Rattle.numbering.proofs.Reading.{binary-causes}
+use Rattle.load.specs.Answers.{answered}
+use Rattle.load.specs.Preview.{Previewed}
+use Rattle.load.specs.declared.Judgement.{Judgement}
+use Rattle.load.proofs.Previews.{preview-load}
+use Rattle.history.specs.History.{State, Event, History, concerning}
+use Rattle.history.proofs.Calls.{Same}
+use Rattle.history.proofs.Undisturbed.{undisturbed, apart}
 use Rattle.fold.specs.Chosen as folding
-use Rattle.joined.specs.Joined.{joined, joinTests, JoinedInto}
+use Rattle.joined.specs.Joined.{literalUnder, joined, joinTests, JoinedInto}
 use Rattle.parting.proofs.Parted.{firstRun, secondRun}
 use Rattle.parting.proofs.Theorems.{Parting, found-parts, none-parts, self-same}
 use Rattle.parting.proofs.Contract.{join-without, join-refused, join-accepted, join-loads}
-use Rattle.renumbered.specs.Renumbered.{renumbered, WrittenBinary}
-use Rattle.renumbered_laws.proofs.Same.{same-run, same-hits, same-permitted, same-witness}
+use Rattle.renumbered.specs.Renumbered.{newNumber, renumbered, WrittenBinary}
+use Rattle.renumbered_laws.proofs.Same.{same-run, same-value, same-output, same-hits, same-permitted, same-witness}
 use Rattle.write_binary.proofs.RoundTrip as binary
 use Rattle.search.specs.Chosen.{chosen}
 use Rattle.replay.proofs.Theorems.{Hit, either-same, all-is-yes, all-hits, no-hits}
@@ -152,6 +163,14 @@ pub record Correct : Type 1 where
   -- widening twice is widening once
   pub widen-twice : {m text out out′ o o′ : List ℕ} {n k : ℕ} {c : Circuit} → Holds m c → Widened m text out (gives n) out′
       → Widened m (take n out′) o (gives k) o′ → take k o′ ≡ take n out′
+  -- ---- Clauses 12.1 and 12.8: the binary form, read; the preview of a load.
+
+  -- a binary file never gets 7 or 8
+  pub binary-causes-few : (room : ℕ) (f : List ℕ) → isBinary f ≡ true → (n : ℕ) → 7 ≤ n → n ≤ 8 → load room f ≡ refused n → ⊥
+  -- any other file gets what it gets where there is no binary form
+  pub text-alone : (room : ℕ) (f : List ℕ) → isBinary f ≡ false → load room f ≡ loadText room f
+  -- a preview answers what a load into that memory answers
+  pub preview-agrees : (m f m′ : List ℕ) (a : Answer (List ℕ)) (r : Judgement) → Loaded m f a m′ → Previewed (length m) f r → answered (r .answer) ≡ a
   -- ---- Clause 12.1: the binary form, written.
 
   -- the binary writer answers one thing and leaves one output
@@ -166,6 +185,11 @@ pub record Correct : Type 1 where
   -- each sequence has the same run in it, and hits where it hits in the circuit that was written
   pub binary-runs : {m : List ℕ} {c : Circuit} → Holds m c → (b t x : ℕ)
       → (run (renumbered c) t x ≡ run c t x) × (hits (renumbered c) b (run (renumbered c) t x) t ≡ hits c b (run c t x) t)
+  -- each variable that is used has the same value under its new number, in every frame of every run, and so has each output
+  pub binary-values : {m : List ℕ} {c : Circuit} → Holds m c → (r : Run) (t l : ℕ) → Known c (var l)
+      → valueAt (renumbered c) r t (literalUnder (newNumber c) l) ≡ valueAt c r t l
+  pub binary-outputs : {m : List ℕ} {c : Circuit} → Holds m c → (r : Run) (t i : ℕ)
+      → valueAt (renumbered c) r t (getD (renumbered c .outputs) i 0) ≡ valueAt c r t (getD (c .outputs) i 0)
   -- so a search may answer the same of both, for every bad line, bound and budget, and shows the same witness
   pub binary-answers : {m : List ℕ} {c : Circuit} → Holds m c → (b k D : ℕ) (o : Outcome)
       → (permitted (renumbered c) b k D o ≡ permitted c b k D o) × ((t : ℕ) → firstWitness (renumbered c) b t ≡ firstWitness c b t)
@@ -192,6 +216,14 @@ pub record Correct : Type 1 where
   -- where replay says all, the wire of the witness's bad line is 1 in the last frame
   pub waveform-hit : {m text : List ℕ} {c : Circuit} → Holds m c → EitherReplayed m text (gives Verdict.all)
       → (h : ℕ × List ℕ) × (readEither c text ≡ some h) × (levelAt c (h .0) (h .1) (frameCount c (h .0) (h .1) - 1) (badWire c (h .0)) ≡ Level.high)
+  -- ---- Clause 12.7: two users.
+
+  -- a history without the calls of the other user, save accepted loads, is a history, from any state that is the same to user u
+  pub users-apart : (u : ℕ) (es : List Event) {s t : State} → Same u s t → History s es → History t (concerning u es)
+  -- and whatever history has these calls has these replies
+  pub users-undisturbed : (u : ℕ) (es es₂ : List Event) {s t : State} → Same u s t → History s es → History t es₂
+      → map (λ (e : Event). e .call) es₂ ≡ map (λ (e : Event). e .call) (concerning u es)
+      → map (λ (e : Event). e .reply) es₂ ≡ map (λ (e : Event). e .reply) (concerning u es)
 
 -- ---- the fields that stand nowhere else
 
@@ -267,12 +299,17 @@ correct =
       widen-all = λ {c = c} h w r. widened-all c h (made c h w) r;
       widen-else = λ {c = c} h w r n. widened-copied c h (made c h w) r n;
       widen-twice = λ {c = c} h w v. widened-twice c h (made c h w) (made c h v);
+      binary-causes-few = binary-causes;
+      text-alone = load-text;
+      preview-agrees = preview-load;
       binary-determined = binary.written-same;
       binary-written = λ h room w. binary.always-written h room w;
       binary-back = λ h w room l. binary.write-load h w room l;
       binary-runs = λ {c = c} h b t x.
           let v = held-valid h in
           (same-run v t x, same-hits v b (run (renumbered c) t x) t ∙ ap (λ (r : Run). hits c b r t) (same-run v t x));
+      binary-values = λ h. same-value (held-valid h);
+      binary-outputs = λ h. same-output (held-valid h);
       binary-answers = λ h b k D o. let v = held-valid h in (same-permitted v b k D o, same-witness v b);
       binary-again = λ h w h₂ w₂. binary.write-again h w h₂ w₂;
       waveform-determined = waveformed-same;
@@ -281,4 +318,6 @@ correct =
       waveform-own-input = own-input;
       waveform-own-latch = own-latch;
       waveform-hit = λ {c = c} h r. all-shown c h r;
+      users-apart = apart;
+      users-undisturbed = undisturbed;
     }

@@ -43,7 +43,7 @@ loop-again c =
     let s = c .before .before .before .before .before .args in
     let more = agreed-more (s .work .now) (s .nodes) (l .at) (s .end - l .at) (omega arith) (sym (c .before .differs .ensures) ∙ c .if1 .left) in
     let e : s .end - l .at - 1 ≡ s .end - (l .at + 1) = omega arith in
-    sym (cc (more, e))
+    rw (← e) (sym more ∙ l .inv)
 
 returns-2 : tie.Need-returns-2 Inv-loop μ-loop
 returns-2 c =

@@ -10,11 +10,11 @@ sub-result c = search needs
 
 returns : tie.Need-returns
 unfolding Ch.less
-returns c = rw (eq-eqb _ _ (c .if1 .taken)) (cc)
+returns c = rw (eq-eqb _ _ (c .if1 .taken))
 
 returns-2 : tie.Need-returns-2
 unfolding Ch.less
-returns-2 c = rw (ne-eqb _ _ (c .if1 .left)) (cc)
+returns-2 c = rw (ne-eqb _ _ (c .if1 .left))
 
 pub less-spec : {M : Type 1} → statement M
 less-spec = tie.close (tie.spec sub-result returns returns-2)

@@ -32,7 +32,7 @@ cast-if1 c = search needs
 
 returns : tie.Need-returns
 unfolding Ch.startedLiteral
-returns c = rw (le-leb _ _ (c .if1 .taken)) (record { words = cc; draft = refl })
+returns c = rw (le-leb _ _ (c .if1 .taken)) (record { words = refl; draft = refl })
 
 set-literal-requires : tie.Need-set-literal-requires
 set-literal-requires c κs = search needs
@@ -42,7 +42,9 @@ same-length c = search needs
 
 returns-2 : tie.Need-returns-2
 unfolding Ch.startedLiteral
-returns-2 c = rw (lt-leb _ _ (c .before .before .before .before .if1 .left)) (record { words = cc; draft = refl })
+returns-2 c =
+    rw (lt-leb _ _ (c .before .before .before .before .if1 .left))
+    (record { words = c .before .before .set-literal .ensures; draft = refl })
 
 pub start-literal-spec : {M : Type 1} → statement M
 start-literal-spec =

@@ -13,11 +13,11 @@ add-result c = search needs
 
 returns : tie.Need-returns
 unfolding Ch.sum
-returns c = rw (lt-ltb _ _ (c .if1 .taken)) (cc)
+returns c = rw (lt-ltb _ _ (c .if1 .taken))
 
 returns-2 : tie.Need-returns-2
 unfolding Ch.sum
-returns-2 c = rw (le-ltb _ _ (c .if1 .left)) (cc)
+returns-2 c = rw (le-ltb _ _ (c .if1 .left))
 
 pub sum-spec : {M : Type 1} → statement M
 sum-spec = tie.close (tie.spec sub-if1 add-result returns returns-2)

@@ -15,7 +15,9 @@ same-length c = search needs
 
 returns : tie.Need-returns
 unfolding Ch.taken
-returns c = record { words = cc; search = cc }
+returns c =
+    let u = c .before .before .before .decide .ensures in
+    rw (← u .state) (record { words = u .words; search = c .with-trail .ensures })
 
 pub take-spec : {M : Type 1} → statement M
 take-spec = tie.close (tie.spec decide-requires with-trail-requires same-length returns)

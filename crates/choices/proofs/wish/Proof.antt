@@ -7,7 +7,7 @@ use Rattle.choices.proofs.wish.Tie as tie
 
 returns : tie.Need-returns
 unfolding Ch.wish
-returns c = rw (le-leb _ _ (c .if1 .taken)) (cc)
+returns c = rw (le-leb _ _ (c .if1 .taken))
 
 field-requires : tie.Need-field-requires
 field-requires c κs = search needs
@@ -17,7 +17,7 @@ mul-result c = search needs
 
 returns-2 : tie.Need-returns-2
 unfolding Ch.wish
-returns-2 c = rw (← c .before .field .ensures, lt-leb _ _ (c .before .before .if1 .left), eq-eqb _ _ (c .if2 .taken)) (cc)
+returns-2 c = rw (← c .before .field .ensures, lt-leb _ _ (c .before .before .if1 .left), eq-eqb _ _ (c .if2 .taken))
 
 mul-result-2 : tie.Need-mul-result-2
 mul-result-2 c = search needs
@@ -27,7 +27,7 @@ add-result c = search needs
 
 returns-3 : tie.Need-returns-3
 unfolding Ch.wish
-returns-3 c = rw (← c .before .field .ensures, lt-leb _ _ (c .before .before .if1 .left), ne-eqb _ _ (c .if2 .left)) (cc)
+returns-3 c = rw (← c .before .field .ensures, lt-leb _ _ (c .before .before .if1 .left), ne-eqb _ _ (c .if2 .left))
 
 pub wish-spec : {M : Type 1} → statement M
 wish-spec =

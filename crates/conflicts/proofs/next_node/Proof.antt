@@ -10,11 +10,11 @@ add-result c = search needs
 
 returns : tie.Need-returns
 unfolding Cf.nextNode
-returns c = rw (eq-eqb _ _ (c .if1 .taken)) (cc)
+returns c = rw (eq-eqb _ _ (c .if1 .taken))
 
 returns-2 : tie.Need-returns-2
 unfolding Cf.nextNode
-returns-2 c = rw (ne-eqb _ _ (c .if1 .left)) (cc)
+returns-2 c = rw (ne-eqb _ _ (c .if1 .left))
 
 pub next-node-spec : {M : Type 1} → statement M
 next-node-spec = tie.close (tie.spec add-result returns returns-2)

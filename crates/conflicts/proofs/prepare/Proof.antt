@@ -27,7 +27,11 @@ same-length c = search needs
 
 returns : tie.Need-returns
 unfolding Cf.prepared
-returns c = cc
+returns c =
+    rw (
+      ← c .before .before .before .before .before .before .before .before .before .before .before .before .reset-all .ensures,
+      ← c .before .before .before .before .before .before .before .before .set-field .ensures,
+    ) (c .before .before .wipe .ensures)
 
 pub prepare-spec : {M : Type 1} → statement M
 prepare-spec =

@@ -24,7 +24,13 @@ same-length c = search needs
 
 returns : tie.Need-returns
 unfolding Cf.reset
-returns c = cc
+returns c =
+    rw (
+      ← c .before .before .before .before .before .before .before .before .before .before .before .before .before .before .before .before .before .before .set-field .ensures,
+      ← c .before .before .before .before .before .before .before .before .before .before .before .before .before .before .set-field2 .ensures,
+      ← c .before .before .before .before .before .before .before .before .before .before .set-field3 .ensures,
+      ← c .before .before .before .before .before .before .set-field4 .ensures,
+    ) (c .before .before .set-field5 .ensures)
 
 pub reset-spec : {M : Type 1} → statement M
 reset-spec =

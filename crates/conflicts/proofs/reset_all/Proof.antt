@@ -35,7 +35,9 @@ loop-again c =
     let l = c .before .before .before .before .before .before .before .before .before .loop in
     let s = c .before .before .before .before .before .before .before .before .before .before .before .args in
     let more = reset-more (l .work) (s .nodes) (l .left) (omega arith) in
-    (cc, sym (cc more))
+    let u = c .before .before .before .before .before .before .reset in
+    let v = c .before .before .reset-rest in
+    (v .kept .0 ∙ u .kept .0 ∙ l .inv .0, rw (v .ensures, u .ensures) (sym more ∙ l .inv .1))
 
 same-length : tie.Need-same-length Inv-loop μ-loop
 same-length c = c .before .loop .inv .0

@@ -21,7 +21,12 @@ same-length c = search needs
 
 returns : tie.Need-returns
 unfolding Cf.resetRest
-returns c = cc
+returns c =
+    rw (
+      ← c .before .before .before .before .before .before .before .before .before .before .before .before .before .before .set-field .ensures,
+      ← c .before .before .before .before .before .before .before .before .before .before .set-field2 .ensures,
+      ← c .before .before .before .before .before .before .set-field3 .ensures,
+    ) (c .before .before .set-field4 .ensures)
 
 pub reset-rest-spec : {M : Type 1} → statement M
 reset-rest-spec =

@@ -57,7 +57,7 @@ loop-again c =
     let l = c .before .before .before .before .before .before .before .before .before .before .loop in
     let s = c .before .before .before .before .before .before .before .before .before .before .before .before .args in
     let more = steps-more (l .work) (s .net) (l .u) (s .effort) (l .left) (omega arith) (c .before .before .before .before .before .before .if1 .left) (c .before .before .before .before .if2 .left) in
-    (cc, ap₂ (λ (w : List ℕ) (t : Search). steps w (s .net) t (s .effort) (l .left - 1)) (c .before .before .step .ensures .words) (c .before .before .step .ensures .search) ∙ sym more ∙ l .inv .1)
+    (c .before .before .step .kept .0 ∙ l .inv .0, ap₂ (λ (w : List ℕ) (t : Search). steps w (s .net) t (s .effort) (l .left - 1)) (c .before .before .step .ensures .words) (c .before .before .step .ensures .search) ∙ sym more ∙ l .inv .1)
 
 same-length-3 : tie.Need-same-length-3 Inv-loop μ-loop
 same-length-3 c = c .before .loop .inv .0

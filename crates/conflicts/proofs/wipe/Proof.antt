@@ -34,7 +34,8 @@ loop-again c =
     let s = c .before .before .before .before .before .before .before .args in
     let more = wiped-more (l .work) (l .at) (s .n - l .at) (omega arith) in
     let e : s .n - l .at - 1 ≡ s .n - (l .at + 1) = omega arith in
-    (cc, sym (cc (more, e)))
+    let u = c .before .before .put in
+    (u .kept .0 ∙ l .inv .0, rw (u .ensures, ← e) (sym more ∙ l .inv .1))
 
 same-length : tie.Need-same-length Inv-loop μ-loop
 same-length c = c .before .loop .inv .0

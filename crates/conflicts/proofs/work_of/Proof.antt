@@ -13,11 +13,11 @@ add-result c = search needs
 
 returns : tie.Need-returns
 unfolding Cf.workOf
-returns c = rw (lt-ltb _ _ (c .if1 .taken)) (cc)
+returns c = rw (lt-ltb _ _ (c .if1 .taken))
 
 returns-2 : tie.Need-returns-2
 unfolding Cf.workOf
-returns-2 c = rw (le-ltb _ _ (c .if1 .left)) (cc)
+returns-2 c = rw (le-ltb _ _ (c .if1 .left))
 
 pub work-of-spec : {M : Type 1} → statement M
 work-of-spec = tie.close (tie.spec cast-result add-result returns returns-2)

@@ -15,7 +15,9 @@ same-length c = search needs
 
 returns : tie.Need-returns
 unfolding Ln.asserted
-returns c = record { words = cc; search = cc }
+returns c =
+    let u = c .before .before .before .assign .ensures in
+    rw (← u .state) (record { words = u .words; search = c .with-trail .ensures })
 
 pub assert-spec : {M : Type 1} → statement M
 assert-spec = tie.close (tie.spec assign-requires with-trail-requires same-length returns)

@@ -21,7 +21,15 @@ same-length c = search needs
 
 returns : tie.Need-returns
 unfolding Ln.forgotten
-returns c = record { words = cc; search = cc }
+returns c =
+    let r = c .before .before .before .before .before .before .before .before .before .before .before .retreat .ensures in
+    let v = c .before .before .before .before .before .before .before .settle-level .ensures in
+    rw (
+      ← r .words,
+      ← r .search,
+      ← v .words,
+      ← v .search,
+    ) (record { words = c .before .before .before .detach .ensures; search = c .with-arena .ensures })
 
 pub forget-spec : {M : Type 1} → statement M
 forget-spec =

@@ -35,7 +35,7 @@ loop-again c =
     let l = c .before .before .before .loop in
     let s = c .before .before .before .before .before .args in
     let more = highest-more (s .work .now) (s .net) (s .arena) (s .skip) (l .left) (l .best) (omega arith) in
-    sym (cc more)
+    rw (c .higher .ensures, c .before .literal .ensures) (sym more ∙ l .inv)
 
 returns : tie.Need-returns Inv-loop μ-loop
 returns c =

@@ -21,7 +21,14 @@ same-length c = search needs
 
 returns : tie.Need-returns
 unfolding Ln.keptLiteral
-returns c = record { words = cc; search = cc }
+returns c =
+    let r = c .before .before .before .before .before .before .retreat .ensures in
+    rw (
+      ← c .before .before .before .before .before .before .before .before .before .before .before .before .literal .ensures,
+      ← c .before .before .before .before .before .before .before .before .before .before .settle .ensures,
+      ← r .words,
+      ← r .search,
+    ) (c .before .before .assert .ensures)
 
 pub keep-literal-spec : {M : Type 1} → statement M
 keep-literal-spec =

@@ -18,7 +18,10 @@ same-length c = search needs
 
 returns : tie.Need-returns
 unfolding Ln.retreated
-returns c = record { words = cc; search = cc }
+returns c =
+    let b = c .before .before .before .before .before .before .before .before .backtrack .ensures in
+    let g = c .before .before .before .before .restore .ensures in
+    rw (← b .words, ← b .state, ← g .heap) (record { words = g .words; search = rw (c .none-agreed .ensures) })
 
 pub retreat-spec : {M : Type 1} → statement M
 retreat-spec =

@@ -20,11 +20,13 @@ same-length c = search needs
 
 returns : tie.Need-returns
 unfolding Ln.settledLevel
-returns c = rw (eq-eqb _ _ (c .before .before .before .before .before .before .if1 .taken)) (record { words = cc; search = cc })
+returns c =
+    rw (eq-eqb _ _ (c .before .before .before .before .before .before .if1 .taken))
+    (record { words = c .before .before .before .before .settle-all .ensures; search = rw (c .with-order .ensures, c .before .all-settled .ensures) })
 
 returns-2 : tie.Need-returns-2
 unfolding Ln.settledLevel
-returns-2 c = rw (ne-eqb _ _ (c .if1 .left)) (record { words = cc; search = cc })
+returns-2 c = rw (ne-eqb _ _ (c .if1 .left)) (record { words = refl; search = refl })
 
 pub settle-level-spec : {M : Type 1} → statement M
 settle-level-spec =

@@ -10,18 +10,18 @@ field-requires c κs = search needs
 
 returns : tie.Need-returns
 unfolding Ln.target
-returns c = rw (← c .before .field .ensures, lt-ltb _ _ (c .if1 .taken)) (cc)
+returns c = rw (← c .before .field .ensures, lt-ltb _ _ (c .if1 .taken))
 
 sub-result : tie.Need-sub-result
 sub-result c = search needs
 
 returns-2 : tie.Need-returns-2
 unfolding Ln.target
-returns-2 c = rw (← c .before .before .field .ensures, le-ltb _ _ (c .before .if1 .left), eq-eqb _ _ (c .if2 .taken)) (cc)
+returns-2 c = rw (← c .before .before .field .ensures, le-ltb _ _ (c .before .if1 .left), eq-eqb _ _ (c .if2 .taken))
 
 returns-3 : tie.Need-returns-3
 unfolding Ln.target
-returns-3 c = rw (← c .before .before .field .ensures, le-ltb _ _ (c .before .if1 .left), ne-eqb _ _ (c .if2 .left)) (cc)
+returns-3 c = rw (← c .before .before .field .ensures, le-ltb _ _ (c .before .if1 .left), ne-eqb _ _ (c .if2 .left))
 
 pub target-spec : {M : Type 1} → statement M
 target-spec = tie.close (tie.spec field-requires returns sub-result returns-2 returns-3)
