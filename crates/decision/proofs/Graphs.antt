@@ -1,11 +1,11 @@
 -- From the graph of the hit and what its places have to the decision on the frame. Assumes nothing.
 use mathlib.Core.Path.{_≡_, refl, sym, ap, ap₂, _∙_, subst}
-use mathlib.Core.Bool.{Bool, true, false}
+use mathlib.Core.Bool.{Bool, true, false, cond}
 use mathlib.Core.List.{List, _++_}
 use Prim.Native.Nat.{ℕ, _+_, _*_, _^_, _≤_, _<_, max}
 use native.Mathlib.Decide.{decLt}
 use native.Mathlib.Omega.{arith}
-use borrow.Author.Tests.{leb-false, lt-leb}
+use borrow.Author.Tests.{leb-false, le-leb, lt-leb}
 use lib.Pow.{pow-mono}
 use lib.Dec.{T, leb}
 use lib.ListN.{length, getD, take, length-take, List·getD-append}
@@ -30,7 +30,7 @@ use Rattle.cone.specs.Store.{Markable, ConeMarked}
 use Rattle.cone.proofs.Marking.{cone-marks}
 use Rattle.support.specs.Counting.{rank, passed}
 use Rattle.support.specs.Support.{support}
-use Rattle.support.proofs.Counting.{passed-all, passed-covers}
+use Rattle.support.proofs.Counting.{spread-lt, spread-ge, passed-all, passed-part, passed-covers}
 use Rattle.simulation.specs.Store.{Net}
 use Rattle.simulation.specs.Found.{rootAt, NoHit, FirstHit}
 use Rattle.unroll.specs.Chosen.{unrolled}
@@ -123,26 +123,54 @@ module _ {c : Circuit} {b t : ℕ} {work : List ℕ} {made : Made} (u : Prepared
     scanned after F.Spent o f = absurd (omega (arith, f .0))
 
     -- the end of what is tried on the graph
-    end-is : (x : ℕ) → x ≡ floorOf c b t D → endOf (made .graph .free) (pairsOf work (made .graph)) (edgeWord (made .edge)) (max D 16384) x ≡ reached c b t D
+    end-is : (x : ℕ) → x ≡ floorOf c b t D → freeBits c t ≤ 1024 → endOf (made .graph .free) (pairsOf work (made .graph)) (edgeWord (made .edge)) (max D 16384) x ≡ reached c b t D
     unfolding reached
-    end-is x e =
+    end-is x e h =
+        let z = endOf (freeBits c t) (unrolled c b t .gates) (unrolled c b t .edge) (max D 16384) (floorOf c b t D) in
         ap₂ (λ (m : ℕ) (o : Outcome). endOf m (o .gates) (o .edge) (max D 16384) x) (u .free) (sym (u .chosen))
         ∙ ap (endOf (freeBits c t) (unrolled c b t .gates) (unrolled c b t .edge) (max D 16384)) e
+        ∙ sym (ap (λ (q : Bool). cond q z (tried c b t D)) (le-leb (freeBits c t) 1024 h))
+
+    -- with more free bits the end is what is tried
+    end-tried : 1024 < freeBits c t → tried c b t D ≡ reached c b t D
+    unfolding reached
+    end-tried h =
+        let z = endOf (freeBits c t) (unrolled c b t .gates) (unrolled c b t .edge) (max D 16384) (floorOf c b t D) in
+        sym (ap (λ (q : Bool). cond q z (tried c b t D)) (lt-leb (freeBits c t) 1024 h))
+
+    pub scanned-all : (after : List ℕ) (r : Frame) → searched c b t D ≡ Out → 1024 < freeBits c t
+        → Scanned (made .graph .free) (pairsOf work (made .graph)) (edgeWord (made .edge)) (max D 16384) after r → FrameDecided c b t D after r
+    scanned-all after F.Hit o many f = let h = scan-hit (f .1) in (f .0, h .0, h .1)
+    scanned-all after F.Clear o many f = scan-clear f
+    scanned-all after F.Spent o many f =
+        let s = support (made .graph .free) (pairsOf work (made .graph)) (edgeWord (made .edge)) in
+        let e = tried-is D in
+        let z = end-tried many in
+        let p : 2 ^ made .graph .free ≡ 2 ^ freeBits c t = ap (λ (m : ℕ). 2 ^ m) (u .free) in
+        let q = passed-part s (made .graph .free) (max D 16384) (f .0) in
+        let m = spread-lt s (made .graph .free) (max D 16384) in
+        record {
+          decided = scan-spent o f;
+          none = λ x l w. f .1 x (omega arith) (subst T (sym (u .hit x (omega arith))) w);
+          least = omega (arith, spread-ge s (made .graph .free) (max D 16384) (f .0));
+          most = omega arith;
+          bits = λ h. absurd (omega arith);
+        }
 
     -- the places of the support from the floor on decide the frame
-    pub resumed : (after : List ℕ) (r : Frame) → searched c b t D ≡ Out
+    pub resumed : (after : List ℕ) (r : Frame) → searched c b t D ≡ Out → freeBits c t ≤ 1024
         → Resumed (made .graph .free) (pairsOf work (made .graph)) (edgeWord (made .edge)) (max D 16384) (floorOf c b t D) after r → FrameDecided c b t D after r
-    resumed after F.Hit o f = let h = scan-hit (f .1) in (f .0, h .0, h .1)
-    resumed after F.Clear o f = scan-clear f
-    resumed after F.Spent o f =
-        let e = end-is (floorOf c b t D) refl in
+    resumed after F.Hit o few f = let h = scan-hit (f .1) in (f .0, h .0, h .1)
+    resumed after F.Clear o few f = scan-clear f
+    resumed after F.Spent o few f =
+        let e = end-is (floorOf c b t D) refl few in
         let p : 2 ^ made .graph .free ≡ 2 ^ freeBits c t = ap (λ (m : ℕ). 2 ^ m) (u .free) in
         record {
           decided = scan-spent o (f .beyond, f .tried);
           none = λ x l w. f .none x (omega arith) (subst T (sym (u .hit x (omega (arith, f .most)))) w);
           least = omega (arith, f .least);
           most = omega (arith, f .most);
-          bits = subst (λ (m : ℕ). FreeBits m (reached c b t D) after) (u .free) (subst (λ (z : ℕ). FreeBits (made .graph .free) z after) e (f .bits));
+          bits = λ h. subst (λ (m : ℕ). FreeBits m (reached c b t D) after) (u .free) (subst (λ (z : ℕ). FreeBits (made .graph .free) z after) e (f .bits));
         }
 
     -- the floor as the graph has it
@@ -243,7 +271,7 @@ part-decided c b t D part rest F.Spent l f =
       none = f .none;
       least = f .least;
       most = f .most;
-      bits = λ j h. ap nonzero (List·getD-append part rest 0 j (omega arith)) ∙ f .bits j h;
+      bits = λ k j h. ap nonzero (List·getD-append part rest 0 j (omega arith)) ∙ f .bits k j h;
     }
 
 pub part-long : (n : ℕ) (xs : List ℕ) → n ≤ length xs → length (take n xs) ≡ n

@@ -37,13 +37,13 @@ pub record FrameFits (work m : List ℕ) (layout : Layout) (order : List ℕ) (b
   pub held : 16 * size (circuitIn m) t ≤ length work
 
 -- the frame is spent: none of the first `reached` sequences hits, D of them or more but not all, and working memory begins with the free bits of the
--- one after them
+-- one after them, if these are no more than 1,024
 pub record SpentAt (c : Circuit) (b t D : ℕ) (work : List ℕ) : Type 0 where
   pub decided : decisionOf c b t D ≡ Decision.spent
   pub none : (x : ℕ) → x < reached c b t D → T (reaches c b t x) → ⊥
   pub least : D ≤ reached c b t D
   pub most : reached c b t D < 2 ^ freeBits c t
-  pub bits : FreeBits (freeBits c t) (reached c b t D) work
+  pub bits : freeBits c t ≤ 1024 → FreeBits (freeBits c t) (reached c b t D) work
 
 -- after a hit, working memory begins with the free bits of the first one
 abbrev pub FrameDecided : Circuit → ℕ → ℕ → ℕ → List ℕ → Frame → Type 0

@@ -51,9 +51,11 @@ floorOf c b t D = solvedFloor (freeBits c t) (unrolled c b t .gates) (unrolled c
 abbrev pub endOf : ℕ → List Pair → ℕ → ℕ → ℕ → ℕ
 endOf n gs root D x = cond (leb D (before (inCone n gs root) (freeBit n x) n)) x (passed (support n gs root) n D)
 
--- where frame t is spent none of so many sequences hits: the floor, or what is tried. Request 9 is to tell it
+-- where frame t is spent none of so many sequences hits: the floor, or what is tried; the latter where there are more than 1,024 free bits. Request 9
+-- is to tell it
 unfoldable pub reached : Circuit → ℕ → ℕ → ℕ → ℕ
-reached c b t D = endOf (freeBits c t) (unrolled c b t .gates) (unrolled c b t .edge) (max D 16384) (floorOf c b t D)
+reached c b t D =
+    cond (leb (freeBits c t) 1024) (endOf (freeBits c t) (unrolled c b t .gates) (unrolled c b t .edge) (max D 16384) (floorOf c b t D)) (tried c b t D)
 
 -- how many sequences of frame t are passed, in counting order, where none of them hits
 unfoldable pub reach : Circuit → ℕ → ℕ → ℕ → ℕ

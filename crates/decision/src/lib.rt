@@ -9,11 +9,11 @@ use nodes::Graph;
 use simulation::Found;
 ghost use mathlib.Core.Path.{_≡_};
 ghost use mathlib.Core.Bool.{cond};
-ghost use Prim.Native.Nat.{ℕ, _+_, _*_, _^_, _≤_, min, max};
+ghost use Prim.Native.Nat.{ℕ, _+_, _*_, _^_, _≤_, _<_, min, max};
 ghost use lib.Dec.{T};
 ghost use lib.ListN.{length};
 ghost use Rattle.aiger.specs.Bits.{nonzero};
-ghost use Rattle.aiger.specs.Frames.{size};
+ghost use Rattle.aiger.specs.Frames.{freeBits, size};
 ghost use Rattle.layout.specs.Words.{circuitIn};
 ghost use Rattle.nodes.specs.Store.{field, pairsOf, Sized};
 ghost use Rattle.nodes.specs.Edges.{edgeWord};
@@ -158,6 +158,37 @@ fn go_on(work: &mut [u32], g: Graph, root: Edge, d: u64, bits: &mut [u32]) -> Fr
     }
 }
 
+// So many free bits have room in the local words: 2 to the power 10. More would cost every search the pages of a larger stack.
+const HELD: usize = 1024;
+
+// The smaller of n and the number of free bits that have room.
+fn held(n: usize) -> usize
+    ensures { λ r. ⌜ r ≡ min n 1024 ⌝ }
+{
+    if n < HELD { n } else { HELD }
+}
+
+// What frame t has by all places of the support, where the conflict search has not decided it and there are more free bits than have room.
+fn search_all(
+    m: &[u32],
+    layout: Layout,
+    order: &[u32],
+    b: usize,
+    t: usize,
+    d: u64,
+    work: &mut [u32],
+) -> Frame
+    requires { ⌜ FrameFits (now work) (now m) layout (now order) b t d ⌝ }
+    requires { ⌜ R.Undecided (circuitIn (now m)) b t d ⌝ }
+    requires { ⌜ 1024 < freeBits (circuitIn (now m)) t ⌝ }
+    ensures { λ r. ⌜ FrameDecided (circuitIn (now (m .entry))) b t d (now (work .exit)) r ⌝ }
+{
+    let made = prepare(m, layout, order, b, t, work);
+    let graph = made.graph;
+    let root = made.edge;
+    scan(work, graph, root, 0, d)
+}
+
 // What frame t has by the places of the support, where the conflict search has not decided it and left its floor at the front of working memory.
 fn search_support(
     m: &[u32],
@@ -171,10 +202,11 @@ fn search_support(
     requires { ⌜ FrameFits (now work) (now m) layout (now order) b t d ⌝ }
     requires { ⌜ R.Undecided (circuitIn (now m)) b t d ⌝ }
     requires { ⌜ Floored (circuitIn (now m)) b t d (now work) ⌝ }
+    requires { ⌜ freeBits (circuitIn (now m)) t ≤ 1024 ⌝ }
     ensures { λ r. ⌜ FrameDecided (circuitIn (now (m .entry))) b t d (now (work .exit)) r ⌝ }
 {
-    let mut bits = [0u32; 65536];
-    let n = limits::size(layout, t);
+    let mut bits = [0u32; 1024];
+    let n = held(limits::size(layout, t));
     resume::copy_bits(work, n, &mut bits);
     let made = prepare(m, layout, order, b, t, work);
     let graph = made.graph;
@@ -207,7 +239,12 @@ fn search_graph(
     match solver::first_hit(work, graph, root, e) {
         Verdict::Found => Frame::Hit,
         Verdict::Clear => Frame::Clear,
-        Verdict::Out => search_support(m, layout, order, b, t, d, work),
+        Verdict::Out => {
+            if graph.free <= HELD {
+                return search_support(m, layout, order, b, t, d, work);
+            }
+            search_all(m, layout, order, b, t, d, work)
+        }
     }
 }
 

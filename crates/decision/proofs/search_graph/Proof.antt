@@ -10,8 +10,10 @@ use Rattle.layout.specs.Words.{circuitIn}
 use Rattle.nodes.specs.Store.{pairsOf}
 use Rattle.nodes.specs.Edges.{edgeWord}
 use Rattle.conflicts.specs.declared.Verdict.{Verdict}
+use Rattle.conflicts.specs.declared.Verdict.the-variants.{Out}
 use Rattle.solver.specs.Solved.{SolvedIs}
-use Rattle.decision.specs.Reach.{effort}
+use Rattle.decision.specs.Reach.{effort, searched}
+use Rattle.decision.specs.Decided.{FrameFits, Floored}
 use Rattle.decision.proofs.Graphs.{scanned, marked, solved-hit, solved-clear, solved-out}
 use Rattle.decision.proofs.Resuming.{scannable-all}
 use borrow.Author.Needs.{needs}
@@ -22,6 +24,7 @@ use Rattle.decision.proofs.search_graph.Lts as lts
 use Rattle.decision.proofs.effort.Reads as effort-reads
 use Rattle.decision.proofs.prepare.Reads as prepare-reads
 use Rattle.decision.proofs.scan.Reads as scan-reads
+use Rattle.decision.proofs.search_all.Reads as search-all-reads
 use Rattle.decision.proofs.search_support.Reads as search-support-reads
 use Rattle.decision.proofs.support_size.Reads as support-size-reads
 use Rattle.solver.proofs.first_hit.Reads as first-hit-reads
@@ -84,24 +87,39 @@ enum-told-2 c = search needs
 enum-told-3 : tie.Need-enum-told-3
 enum-told-3 c = search needs
 
+-- what the conflict search leaves undecided, with its floor
+left-out : (n : tie.After-first-hit) → n .first-hit .result ≡ Out
+    → let s = n .before .before .before .before .before .before .before .before .before .before .before .before .before .before .before .before in let C = circuitIn (now (s .args .m)) in (searched C (s .args .b) (s .args .t) (s .args .d) ≡ Out) × Floored C (s .args .b) (s .args .t) (s .args .d) (n .first-hit .last .0)
+left-out n e =
+    let s = n .before .before .before .before .before .before .before .before .before .before .before .before .before .before .before .before in
+    let p = n .before .before .before .before .before .before .before .before .before .before .before .prepare in
+    solved-out (p .ensures) (s .args .d) (p .kept .1 .1 .1 .1 .1 .0 ∙ s .pre .1) (n .before .before .effort .result) (enough n) (n .first-hit .last .0) (told n Out e)
+
+-- the words are those of the frame
+fits : (n : tie.After-first-hit) → let s = n .before .before .before .before .before .before .before .before .before .before .before .before .before .before .before .before in FrameFits (n .first-hit .last .0) (now (s .args .m)) (s .args .layout) (now (s .args .order)) (s .args .b) (s .args .t) (s .args .d)
+fits n =
+    let s = n .before .before .before .before .before .before .before .before .before .before .before .before .before .before .before .before in
+    let f = s .pre .0 in
+    let e = n .first-hit .kept .0 ∙ n .before .before .before .before .before .before .before .before .before .before .before .prepare .kept .1 .1 .1 .1 .1 .0 in
+    record { ready = f .ready; bad = f .bad; last = f .last; some = f .some; budget = f .budget; units = f .units; held = omega (arith, f .held, e) }
+
 search-support-requires : tie.Need-search-support-requires
 search-support-requires c κs =
-    let n = c .before .before .before .before .before in
-    let s = c .before .before .before .before .before .before .before .before .before .before .before .before .before .before .before .before .before .before .before .before .before in
-    let f = s .pre .0 in
-    let e = n .first-hit .kept .0 ∙ n .before .before .before .before .before .before .before .before .before .before .before .prepare .kept .1 .1 .1 .1 .1 .0 in (
-      record { ready = f .ready; bad = f .bad; last = f .last; some = f .some; budget = f .budget; units = f .units; held = omega (arith, f .held, e) },
-      solved-out (n .before .before .before .before .before .before .before .before .before .before .before .prepare .ensures) (s .args .d) (n .before .before .before .before .before .before .before .before .before .before .before .prepare .kept .1 .1 .1 .1 .1 .0 ∙ s .pre .1) (n .before .before .effort .result) (enough n) (n .first-hit .last .0) (told n _ (c .before .enum-told3 .given .1)),
-    )
+    let n = c .before .before .before .before .before .before .before in
+    let o = left-out n (c .before .before .before .enum-told3 .given .1) in
+    (fits n, (o .0, (o .1, omega (arith, n .before .before .before .before .before .before .before .before .before .before .before .prepare .ensures .free, c .before .if2 .taken))))
 
 same-length-2 : tie.Need-same-length-2
 same-length-2 c = search needs
 
 returns-2 : tie.Need-returns-2
-returns-2 c =
-    let n = c .before .before .before .before in
-    let s = c .before .before .before .before .before .before .before .before .before .before .before .before .before .before .before .before .before .before .before .before in
-    solved-hit (n .before .before .before .before .before .before .before .before .before .before .before .prepare .ensures) (s .args .d) (n .before .before .before .before .before .before .before .before .before .before .before .prepare .kept .1 .1 .1 .1 .1 .0 ∙ s .pre .1) (n .before .before .effort .result) (enough n) (n .first-hit .last .0) (told n _ (c .enum-told .given .1))
+returns-2 c = c .before .before .search-support .ensures
+
+search-all-requires : tie.Need-search-all-requires
+search-all-requires c κs =
+    let n = c .before .before .before .before .before .before .before in
+    let o = left-out n (c .before .before .before .enum-told3 .given .1) in
+    (fits n, (o .0, omega (arith, n .before .before .before .before .before .before .before .before .before .before .before .prepare .ensures .free, c .before .if2 .left)))
 
 same-length-3 : tie.Need-same-length-3
 same-length-3 c = search needs
@@ -110,13 +128,22 @@ returns-3 : tie.Need-returns-3
 returns-3 c =
     let n = c .before .before .before .before in
     let s = c .before .before .before .before .before .before .before .before .before .before .before .before .before .before .before .before .before .before .before .before in
-    solved-clear (n .before .before .before .before .before .before .before .before .before .before .before .prepare .ensures) (s .args .d) (n .before .before .before .before .before .before .before .before .before .before .before .prepare .kept .1 .1 .1 .1 .1 .0 ∙ s .pre .1) (n .before .before .effort .result) (enough n) (n .first-hit .last .0) (told n _ (c .enum-told2 .given .1))
+    solved-hit (n .before .before .before .before .before .before .before .before .before .before .before .prepare .ensures) (s .args .d) (n .before .before .before .before .before .before .before .before .before .before .before .prepare .kept .1 .1 .1 .1 .1 .0 ∙ s .pre .1) (n .before .before .effort .result) (enough n) (n .first-hit .last .0) (told n _ (c .enum-told .given .1))
 
 same-length-4 : tie.Need-same-length-4
 same-length-4 c = search needs
 
 returns-4 : tie.Need-returns-4
-returns-4 c = search needs
+returns-4 c =
+    let n = c .before .before .before .before in
+    let s = c .before .before .before .before .before .before .before .before .before .before .before .before .before .before .before .before .before .before .before .before in
+    solved-clear (n .before .before .before .before .before .before .before .before .before .before .before .prepare .ensures) (s .args .d) (n .before .before .before .before .before .before .before .before .before .before .before .prepare .kept .1 .1 .1 .1 .1 .0 ∙ s .pre .1) (n .before .before .effort .result) (enough n) (n .first-hit .last .0) (told n _ (c .enum-told2 .given .1))
+
+same-length-5 : tie.Need-same-length-5
+same-length-5 c = search needs
+
+returns-5 : tie.Need-returns-5
+returns-5 c = c .before .before .search-all .ensures
 
 pub search-graph-spec : {M : Type 1} → statement M
 search-graph-spec =
@@ -136,7 +163,10 @@ search-graph-spec =
     search-support-requires
     same-length-2
     returns-2
+    search-all-requires
     same-length-3
     returns-3
     same-length-4
-    returns-4)
+    returns-4
+    same-length-5
+    returns-5)
