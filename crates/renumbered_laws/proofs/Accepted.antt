@@ -226,12 +226,19 @@ module _ {room : ℕ} {c : Circuit} (valid : Valid room c) where
   operand-below : (n l : ℕ) → 0 < n → Numbered (numbering c .1) n (var l) → literalUnder (newNumber c) l < 2 * n
   operand-below n l s h = ⊎-elim (λ e. omega (arith, ap σ e, number-zero valid)) (λ e. omega (arith, e .1)) h
 
-  descending : (p : ℕ) → p < length (c .gates) → T (descends (sorted (gateUnder (newNumber c) (gateAt c (getD (numbering c .0) p 0)))))
-  descending p h =
+  -- both operands of a gate are below it
+  pub operands-below : (p : ℕ) → p < length (c .gates)
+      → (literalUnder (newNumber c) (gateAt c (getD (numbering c .0) p 0) .left) < literalUnder (newNumber c) (gateAt c (getD (numbering c .0) p 0) .lit))
+      × (literalUnder (newNumber c) (gateAt c (getD (numbering c .0) p 0) .right) < literalUnder (newNumber c) (gateAt c (getD (numbering c .0) p 0) .lit))
+  operands-below p h =
       let g = gateAt c (getD order p 0) in
-      let l : p < length order = omega (arith, order-length valid) in
-      sorted-descends (gateUnder σ g) (omega (arith, gate-lit p h, operand-below (I + L + 1 + p) (g .left) (omega arith) (left-before valid p l)))
-      (omega (arith, gate-lit p h, operand-below (I + L + 1 + p) (g .right) (omega arith) (right-before valid p l)))
+      let l : p < length order = omega (arith, order-length valid) in (
+        omega (arith, gate-lit p h, operand-below (I + L + 1 + p) (g .left) (omega arith) (left-before valid p l)),
+        omega (arith, gate-lit p h, operand-below (I + L + 1 + p) (g .right) (omega arith) (right-before valid p l)),
+      )
+
+  descending : (p : ℕ) → p < length (c .gates) → T (descends (sorted (gateUnder (newNumber c) (gateAt c (getD (numbering c .0) p 0)))))
+  descending p h = let o = operands-below p h in sorted-descends (gateUnder σ (gateAt c (getD order p 0))) (o .0) (o .1)
 
   top-is : renumbered c .maxVar ≡ length (c .inputs) + length (c .latches) + length (c .gates)
   unfolding renumbered

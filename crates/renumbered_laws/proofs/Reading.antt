@@ -22,34 +22,39 @@ use Rattle.aiger.proofs.Tests.{T-true, true-T, and, and-left, and-right, every-
 use Rattle.roundtrip.proofs.LoadWrite.{Valid, Counts, counts-fit}
 use Rattle.roundtrip.proofs.Text.{below, rowFits, row-line, rows-lines, every-below, line-short, lines-short}
 use Rattle.numbering.proofs.InOrder.{descends}
-use Rattle.differences.proofs.Writing.{difference-back}
+use Rattle.differences.proofs.Writing.{one, another, difference-back}
 use Rattle.renumbered.specs.Renumbered.{latchTail, gatesText, binaryText}
 use Rattle.renumbered_laws.proofs.Accepted.{Placed}
 
 -- ---- differences are short
 
-grouped-most : (k n : ℕ) → length (grouped k n) ≤ suc k
-unfolding grouped
-grouped-most zero n = omega arith
-grouped-most (suc k) n =
+-- counts and literals are below 10,000
+abbrev low : ℕ → Bool
+low = below (10 ^ 4)
+
+difference-short : (n : ℕ) → n < 10 ^ 4 → length (differenceText n) ≤ 2
+difference-short n h =
     elim (decLt n 128) [
-      | yes h ↦ rw (lt-ltb n 128 h) (omega arith)
-      | no h ↦ rw (le-ltb n 128 (omega arith)) (omega (arith, grouped-most k (n / 128)))
+      | yes l ↦ rw (one 4 n l) (omega arith)
+      | no l ↦ (let k : n / 128 < 128 = omega arith in rw (another 3 n (omega arith), one 3 (n / 128) k) (omega arith))
     ]
 
-pub gates-short : (gs : List Gate) → length (gatesText gs) ≤ 10 * length gs
+gates-short : (gs : List Gate) → T (every (λ g. low (g .lit)) gs) → T (every descends gs) → length (gatesText gs) ≤ 4 * length gs
 unfolding gatesText
-gates-short [] = omega arith
-gates-short (g ∷ gs) =
+gates-short [] t s = omega arith
+gates-short (g ∷ gs) t s =
     let a = differenceText (g .lit - g .left) in
     let b = differenceText (g .left - g .right) in
+    let l = ltb→lt (g .lit) (10 ^ 4) (and-left (low (g .lit)) (every (λ (x : Gate). low (x .lit)) gs) t) in
+    let e = and-left (descends g) (every descends gs) s in
+    let u = ltb→lt (g .left) (g .lit) (and-right (leb (g .right) (g .left)) (ltb (g .left) (g .lit)) e) in
     omega (
       arith,
       length-append (a ++ b) (gatesText gs),
       length-append a b,
-      grouped-most 4 (g .lit - g .left),
-      grouped-most 4 (g .left - g .right),
-      gates-short gs,
+      difference-short (g .lit - g .left) (omega arith),
+      difference-short (g .left - g .right) (omega arith),
+      gates-short gs (and-right (low (g .lit)) (every (λ (x : Gate). low (x .lit)) gs) t) (and-right (descends g) (every descends gs) s),
     )
 
 -- ---- gates read back
@@ -106,10 +111,6 @@ first-back (l ∷ ls) = ap (λ (k : List ℕ). l ∷ k) (first-back ls)
 
 -- ---- lines read back
 
--- counts and literals are below 10,000
-abbrev low : ℕ → Bool
-low = below (10 ^ 4)
-
 latch-fits : (a r : ℕ) → T (low a) → T (low r) → T (rowFits (10 ^ 4) 1 2 (a ∷ cond (eqb r 0) [] (r ∷ [])))
 latch-fits a zero h k = and (low a) true h tt
 latch-fits a (suc r) h k = simp (eqb·suc-zero r) (and (low a) (low (suc r) && true) h (and (low (suc r)) true k tt))
@@ -130,6 +131,7 @@ record Fits (d : Circuit) : Type 0 where
   outputs : T (every (rowFits (10 ^ 4) 1 1) (map literalRow (d .outputs)))
   bads : T (every (rowFits (10 ^ 4) 1 1) (map literalRow (d .bads)))
   constraints : T (every (rowFits (10 ^ 4) 1 1) (map literalRow (d .constraints)))
+  gates : T (every (λ g. low (g .lit)) (d .gates))
 
 -- what follows the header
 abbrev sectionsText : Circuit → List ℕ
@@ -196,7 +198,8 @@ module _ {room : ℕ} {d : Circuit} (v : Valid room d) (p : Placed d) where
       let u3 = every-left low (n ++ o ++ b ++ k) x (every-left low (n ++ o ++ b ++ k ++ x) y u) in
       let u2 = every-left low (n ++ o ++ b) k u3 in
       let u1 = every-left low (n ++ o) b u2 in
-      let dl = every-left low (i ++ l) g (every-left low (i ++ l ++ g) (n ++ o ++ b ++ k ++ x ++ y) all-low) in
+      let dg = every-left low (i ++ l ++ g) (n ++ o ++ b ++ k ++ x ++ y) all-low in
+      let dl = every-left low (i ++ l) g dg in
       let lits = every-unmap low (λ (x : Latch). x .lit) (d .latches) (every-right low i l dl) in
       let nexts = every-unmap low (λ (x : Latch). x .next) (d .latches) (every-left low n o u1) in
       record {
@@ -206,6 +209,7 @@ module _ {room : ℕ} {d : Circuit} (v : Valid room d) (p : Placed d) where
         outputs = ones-fit o (every-right low n o u1);
         bads = ones-fit b (every-right low (n ++ o) b u2);
         constraints = ones-fit k (every-right low (n ++ o ++ b) k u3);
+        gates = every-unmap low (λ (x : Gate). x .lit) (d .gates) (every-right low (i ++ l) g dg);
       }
 
   head-back : header (binaryText d) ≡ some (headerOf d, sectionsText d)
@@ -217,8 +221,8 @@ module _ {room : ℕ} {d : Circuit} (v : Valid room d) (p : Placed d) where
         row-line 9 (d .maxVar) (countRow d) (lit< tt) (every-below (10 ^ 4) (10 ^ 10) (lit≤ tt) (d .maxVar ∷ countRow d) heads-low),
       )
 
-  -- the text has at most 65,536 bytes
-  pub binary-short : length (binaryText d) ≤ 65536
+  -- the text has at most 24,576 bytes
+  pub binary-short : length (binaryText d) ≤ 24576
   unfolding binaryText
   binary-short =
       simp length-append
@@ -230,7 +234,7 @@ module _ {room : ℕ} {d : Circuit} (v : Valid room d) (p : Placed d) where
         rows-short 1 1 literalRow (d .outputs) (fits .outputs),
         rows-short 1 1 literalRow (d .bads) (fits .bads),
         rows-short 1 1 literalRow (d .constraints) (fits .constraints),
-        gates-short (d .gates),
+        gates-short (d .gates) (fits .gates) (p .descend),
       ))
 
   body-back : binaryBody (headerOf d) (sectionsText d) ≡ gives d
@@ -258,7 +262,7 @@ module _ {room : ℕ} {d : Circuit} (v : Valid room d) (p : Placed d) where
   load-binary =
       simp (
         le-leb 1 (length (binaryText d)) (some-byte d),
-        le-leb (length (binaryText d)) 65536 binary-short,
+        le-leb (length (binaryText d)) 65536 (omega (arith, binary-short)),
         binary-form d,
         head-back,
         counts-back,
