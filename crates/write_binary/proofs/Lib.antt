@@ -1,3 +1,4 @@
 pub mod Sections
 pub mod Parts
 pub mod Answers
+pub mod RoundTrip
