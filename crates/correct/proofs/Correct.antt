@@ -11,7 +11,7 @@ use native.Mathlib.Omega.{arith}
 use lib.Dec.{T}
 use lib.ListN.{length, take}
 use Rattle.aiger.specs.Circuit.{Circuit, var, literalsRight, usedDefined, acyclic}
-use Rattle.aiger.specs.Frames.{Run, value, valueAt, run, freeBits, freeStarts}
+use Rattle.aiger.specs.Frames.{Run, value, valueAt, hits, run, freeBits, freeStarts}
 use Rattle.aiger.specs.Load.{Answer, refused, gives, load, needed}
 use Rattle.aiger.specs.Search.{Outcome, question, reaches, firstWitness, permitted, permittedOf}
 use Rattle.aiger.specs.Witness.{agrees, witness}
@@ -28,7 +28,7 @@ use Rattle.meaning.proofs.Sequences.{Shaped, every-run, run-same}
 use Rattle.meaning.proofs.Outcomes.{Found, None, Spent}
 use Rattle.meaning.proofs.Values.{frameAt}
 use Rattle.roundtrip.proofs.LoadValid.{gives-same}
-use Rattle.roundtrip.proofs.Holding.{load-again}
+use Rattle.roundtrip.proofs.Holding.{held-valid, load-again}
 use Rattle.roundtrip.proofs.Folds.{folded-output}
 use Rattle.roundtrip.proofs.Determined.{OneText, loaded-same, acted, refused-as}
 use Rattle.fold.specs.Chosen as folding
@@ -36,6 +36,9 @@ use Rattle.joined.specs.Joined.{joined, joinTests, JoinedInto}
 use Rattle.parting.proofs.Parted.{firstRun, secondRun}
 use Rattle.parting.proofs.Theorems.{Parting, found-parts, none-parts, self-same}
 use Rattle.parting.proofs.Contract.{join-without, join-refused, join-accepted, join-loads}
+use Rattle.renumbered.specs.Renumbered.{renumbered, WrittenBinary}
+use Rattle.renumbered_laws.proofs.Same.{same-run, same-hits, same-permitted, same-witness}
+use Rattle.write_binary.proofs.RoundTrip as binary
 use Rattle.search.specs.Chosen.{chosen}
 use Rattle.replay.proofs.Theorems.{Hit, either-same, all-is-yes, all-hits, no-hits}
 use Rattle.widen.proofs.Theorems.{made, widened-same, widened-all, widened-copied, widened-twice}
@@ -145,6 +148,26 @@ pub record Correct : Type 1 where
   -- widening twice is widening once
   pub widen-twice : {m text out out′ o o′ : List ℕ} {n k : ℕ} {c : Circuit} → Holds m c → Widened m text out (gives n) out′
       → Widened m (take n out′) o (gives k) o′ → take k o′ ≡ take n out′
+  -- ---- Clause 12.1: the binary form, written.
+
+  -- the binary writer answers one thing and leaves one output
+  pub binary-determined : {m out o₁ o₂ : List ℕ} {a b : Answer ℕ} → WrittenBinary m out a o₁ → WrittenBinary m out b o₂ → (a ≡ b) × (o₁ ≡ o₂)
+  -- every circuit that a memory holds is written, into an output of 24,576 bytes at least
+  pub binary-written : {m out out′ : List ℕ} {c : Circuit} {a : Answer ℕ} → Holds m c → 24576 ≤ length out → WrittenBinary m out a out′
+      → (n : ℕ) × (a ≡ gives n)
+  -- load accepts what it wrote, and leaves the renumbered circuit
+  pub binary-back : {m out out′ m₂ m₂′ : List ℕ} {n : ℕ} {a : Answer (List ℕ)} {c : Circuit} → Holds m c → WrittenBinary m out (gives n) out′
+      → needed (renumbered c .maxVar) ≤ length m₂ → Loaded m₂ (take n out′) a m₂′
+      → (a ≡ gives (renumbered c .maxVar ∷ countRow (renumbered c))) × (m₂′ ≡ front (image (renumbered c)) m₂) × Holds m₂′ (renumbered c)
+  -- each sequence has the same run in it, and hits where it hits in the circuit that was written
+  pub binary-runs : {m : List ℕ} {c : Circuit} → Holds m c → (b t x : ℕ)
+      → (run (renumbered c) t x ≡ run c t x) × (hits (renumbered c) b (run (renumbered c) t x) t ≡ hits c b (run c t x) t)
+  -- so a search may answer the same of both, for every bad line, bound and budget, and shows the same witness
+  pub binary-answers : {m : List ℕ} {c : Circuit} → Holds m c → (b k D : ℕ) (o : Outcome)
+      → (permitted (renumbered c) b k D o ≡ permitted c b k D o) × ((t : ℕ) → firstWitness (renumbered c) b t ≡ firstWitness c b t)
+  -- written again, it gives the same bytes
+  pub binary-again : {m out out′ m₂ out₂ out₂′ : List ℕ} {n k : ℕ} {c : Circuit} → Holds m c → WrittenBinary m out (gives n) out′ → Holds m₂ (renumbered c)
+      → WrittenBinary m₂ out₂ (gives k) out₂′ → (k ≡ n) × (take k out₂′ ≡ take n out′)
 
 -- ---- the fields that stand nowhere else
 
@@ -220,4 +243,12 @@ correct =
       widen-all = λ {c = c} h w r. widened-all c h (made c h w) r;
       widen-else = λ {c = c} h w r n. widened-copied c h (made c h w) r n;
       widen-twice = λ {c = c} h w v. widened-twice c h (made c h w) (made c h v);
+      binary-determined = binary.written-same;
+      binary-written = λ h room w. binary.always-written h room w;
+      binary-back = λ h w room l. binary.write-load h w room l;
+      binary-runs = λ {c = c} h b t x.
+          let v = held-valid h in
+          (same-run v t x, same-hits v b (run (renumbered c) t x) t ∙ ap (λ (r : Run). hits c b r t) (same-run v t x));
+      binary-answers = λ h b k D o. let v = held-valid h in (same-permitted v b k D o, same-witness v b);
+      binary-again = λ h w h₂ w₂. binary.write-again h w h₂ w₂;
     }
