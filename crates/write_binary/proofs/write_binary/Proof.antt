@@ -33,7 +33,7 @@ encode-requires c κs =
 returns-2 : tie.Need-returns-2
 returns-2 c =
     let t = rw (c .before .before .before .before .before .p .given .1) at (c .before .before .before .before .before .before .before .test .ensures) in
-    too-long (t .1) (c .before .before .encode .ensures .past ∙ omega arith) (c .before .before .before .before .before .before .before .before .before .before .args .out .now) (c .if1 .taken)
+    too-long (t .1) (c .before .before .encode .ensures .past ∙ omega arith) (c .before .before .before .before .before .before .before .before .before .before .args .out .now) (omega (arith, c .if1 .taken))
 
 array-share-prefix-text : tie.Need-array-share-prefix-text
 array-share-prefix-text c =
@@ -61,7 +61,7 @@ returns-3 c =
     let t = rw (c .before .before .before .before .before .before .before .before .before .before .p .given .1) at (c .before .before .before .before .before .before .before .before .before .before .before .before .test .ensures) in
     let e = c .before .before .before .before .before .before .before .encode in
     let out = c .before .before .before .before .before .before .before .before .before .before .before .before .before .before .before .args .out .now in
-    fitting (t .1) (e .ensures .past ∙ omega arith) out (c .before .before .before .before .before .if1 .left) (c .before .before .copy .ensures .1 ∙ copied out (e .ensures))
+    fitting (t .1) (e .ensures .past ∙ omega arith) out (omega (arith, c .before .before .before .before .before .if1 .left)) (c .before .before .copy .ensures .1 ∙ copied out (e .ensures))
 
 pub write-binary-spec : {M : Type 1} → statement M
 write-binary-spec =

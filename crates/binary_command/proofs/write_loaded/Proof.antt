@@ -1,0 +1,54 @@
+-- `binary_command::write_loaded` meets its contract. Assumes nothing.
+use mathlib.Core.Path.{ap}
+use Rattle.write.specs.Answer.{answered}
+use Rattle.binary_command.proofs.Answers.{write-shown, write-never}
+use borrow.Author.Needs.{needs}
+use Rattle.binary_command.proofs.write_loaded.Statement.{statement}
+use Rattle.binary_command.proofs.write_loaded.Tie as tie
+
+write-binary-requires : tie.Need-write-binary-requires
+write-binary-requires c κs = search needs
+
+enum-known-n : tie.Need-enum-known-n
+enum-known-n c = search needs
+
+enum-known-n-2 : tie.Need-enum-known-n-2
+enum-known-n-2 c = search needs
+
+refuse-requires : tie.Need-refuse-requires
+refuse-requires c κs = search needs
+
+same-length : tie.Need-same-length
+same-length c = search needs
+
+returns : tie.Need-returns
+returns c =
+    let w = c .before .before .before .before .before in
+    let s = w .before .before .before .before .before in
+    write-shown (s .pre .0) (s .pre .1) (w .write-binary .ensures) (s .args .line .now) (ap answered (c .before .n .given .1))
+
+same-length-2 : tie.Need-same-length-2
+same-length-2 c = search needs
+
+same-length-3 : tie.Need-same-length-3
+same-length-3 c = search needs
+
+returns-2 : tie.Need-returns-2
+returns-2 c =
+    let w = c .before .before .before .before .before .before .before .before .before in
+    let s = w .before .before .before .before .before in
+    absurd (write-never (s .pre .0) (s .pre .1) (w .write-binary .ensures) (ap answered (c .before .before .before .before .before .n2 .given .1)))
+
+pub write-loaded-spec : {M : Type 1} → statement M
+write-loaded-spec =
+    tie.close
+    (tie.spec
+    write-binary-requires
+    enum-known-n
+    enum-known-n-2
+    refuse-requires
+    same-length
+    returns
+    same-length-2
+    same-length-3
+    returns-2)
