@@ -14,6 +14,7 @@ ghost use lib.ListN.{length};
 ghost use Rattle.aiger.specs.Operations.{Searched, Written};
 ghost use Rattle.search.specs.Chosen.{chosen};
 ghost use Rattle.load.specs.Answers.{numbers};
+ghost use Rattle.service.specs.Binary.{BinaryCode};
 ghost use Rattle.service.specs.Waveforms.{WaveformCode};
 ghost use Rattle.service.specs.Codes.{shown, LoadCode, PreviewCode, TestCode, SearchCode, ReplayCode, WidenCode, WriteCode, FoldCode, JoinCode};
 
@@ -135,6 +136,17 @@ pub extern "C" fn yunverok_write(memory: &[u32], out: &mut [u8]) -> u64
     ensures { λ r. ⌜ WriteCode (now (memory .entry)) (now (out .entry)) r (now (out .exit)) ⌝ }
 {
     match write::write(memory, out) {
+        WriteAnswer::Length(n) => n as u64,
+        WriteAnswer::Refused(n) => 0x1_0000_0000 + n as u64,
+    }
+}
+
+// Writes in binary form: the length of the text, or 2^32 + number for a refusal.
+#[no_mangle]
+pub extern "C" fn yunverok_write_binary(memory: &[u32], out: &mut [u8]) -> u64
+    ensures { λ r. ⌜ BinaryCode (now (memory .entry)) (now (out .entry)) r (now (out .exit)) ⌝ }
+{
+    match write_binary::write_binary(memory, out) {
         WriteAnswer::Length(n) => n as u64,
         WriteAnswer::Refused(n) => 0x1_0000_0000 + n as u64,
     }
