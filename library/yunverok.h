@@ -102,6 +102,12 @@ uint64_t yunverok_widen(const uint32_t *memory, size_t memory_len, const uint8_t
    length; the bytes past the text are as they were. */
 uint64_t yunverok_write(const uint32_t *memory, size_t memory_len, uint8_t *out, size_t out_len);
 
+/* Writes the circuit as an AIGER file in binary form: seven header numbers, a reset only where it is not 0, differences in the fewest
+   groups, no tail. Variables get new numbers: inputs, latches, then gates, each time the earliest listed gate whose operands have
+   numbers; the larger operand of a gate comes first. Answers the length of the text, which stands at the front of out; or 2^32 + n for
+   a refusal, n 9 or 13. out needs the text's length, at most 24,576 bytes; the bytes past the text are as they were. */
+uint64_t yunverok_write_binary(const uint32_t *memory, size_t memory_len, uint8_t *out, size_t out_len);
+
 /* Folds the hit of bad line b at frame t into one circuit over the free bits of that frame (free latches in file order, then inputs
    frame by frame). Answers the length of its text, which stands at the front of out as an AIGER file in ASCII; or 2^32 + n for a
    refusal, n from 9 to 13. out needs 24 * size + 64 bytes, the size taken at t; the bytes past the text are as they were. A text

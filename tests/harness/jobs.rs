@@ -732,24 +732,27 @@ impl Harness {
 
     fn write_job(&mut self, large: bool, memory: Loan) {
         let words = self.words(&memory);
-        let length = reference::held(&words).map_or(100, |c| reference::text(&c).len());
+        let binary = self.random.one_in(2);
+        let operation = if binary { Operation::WriteBinary } else { Operation::Write };
+        let length = reference::write(&words, binary, u64::MAX).map_or(100, |text| text.len());
         let out_len = self.near(length as u64);
         let out = self.lend_some(Kind::Output, out_len, 1);
         let loans = [memory, out];
-        let code = self.perform(Operation::Write, large, &loans, &mut || unsafe {
-            service::yunverok_write(memory.words(), memory.len, out.pointer, out.len)
+        let code = self.perform(operation, large, &loans, &mut || unsafe {
+            let write = if binary { service::yunverok_write_binary } else { service::yunverok_write };
+            write(memory.words(), memory.len, out.pointer, out.len)
         });
-        let expected = reference::write(&words, out.len as u64);
+        let expected = reference::write(&words, binary, out.len as u64);
         let number = expected.as_ref().map_or_else(|&number| (1 << 32) + u64::from(number), |text| text.len() as u64);
         let faults = if code == number { vec![] } else { vec![format!("answered {code:#x}, expected {number:#x}")] };
         match expected {
             Ok(text) => {
                 self.store(&out).expect(out.offset, &text);
-                self.tally.answer(Operation::Write, "written");
+                self.tally.answer(operation, "written");
             }
-            Err(number) => self.tally.refusal(Operation::Write, number),
+            Err(number) => self.tally.refusal(operation, number),
         }
-        self.settle(Operation::Write, &loans, faults, &|| format!("output {} bytes\n{}", out.len, shown(&words)));
+        self.settle(operation, &loans, faults, &|| format!("output {} bytes\n{}", out.len, shown(&words)));
     }
 
     // Waveform

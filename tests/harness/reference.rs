@@ -489,8 +489,17 @@ pub fn binary_lines(c: &Circuit) -> Vec<u8> {
     lines.iter().flat_map(|line| format!("{line}\n").into_bytes()).collect()
 }
 
-pub fn write(memory: &[u32], out_len: u64) -> Result<Vec<u8>, u32> {
-    let text = text(&held(memory).ok_or(9u32)?);
+/// The text of a circuit in binary form, with new numbers.
+pub fn binary_text(c: &Circuit) -> Vec<u8> {
+    let c = renumbered(c);
+    let differences = c.gates.iter().flat_map(|gate| [gate.lit - gate.left, gate.left - gate.right]);
+    [binary_lines(&c), differences.flat_map(groups).collect()].concat()
+}
+
+/// Text or binary form.
+pub fn write(memory: &[u32], binary: bool, out_len: u64) -> Result<Vec<u8>, u32> {
+    let circuit = held(memory).ok_or(9u32)?;
+    let text = if binary { binary_text(&circuit) } else { text(&circuit) };
     if out_len < text.len() as u64 {
         return Err(13);
     }

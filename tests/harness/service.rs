@@ -33,6 +33,7 @@ extern "C" {
     pub fn yunverok_replay(memory: *const u32, memory_len: usize, text: *const u8, text_len: usize) -> u32;
     pub fn yunverok_widen(memory: *const u32, memory_len: usize, text: *const u8, text_len: usize, out: *mut u8, out_len: usize) -> u64;
     pub fn yunverok_write(memory: *const u32, memory_len: usize, out: *mut u8, out_len: usize) -> u64;
+    pub fn yunverok_write_binary(memory: *const u32, memory_len: usize, out: *mut u8, out_len: usize) -> u64;
     pub fn yunverok_fold(
         memory: *const u32,
         memory_len: usize,

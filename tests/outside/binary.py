@@ -83,7 +83,7 @@ def questions(circuits, seed):
     files = sorted(os.listdir(folder))
     texts += [rows.load(os.path.join(folder, file)) for file in files if file.endswith(".search")]
     texts += [f"search 0 8 {BUDGET}\n" + rows.load(os.path.join(folder, file)) for file in files if file.endswith(".aag")]
-    texts += [text for text, _ in rows.random_searches(seed, circuits, 0)]
+    texts += [text for text, _ in rows.random_searches(seed, circuits, 0, 0)]
     jobs = [rows.job_of(f"f{i}", f"file {i}", text) for i, text in enumerate(texts)]
     return [job for job in jobs if job.circuit.bads]
 

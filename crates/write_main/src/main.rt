@@ -2,11 +2,13 @@
 use files::say;
 
 fn say_help() {
-    say(b"write FILE\n\n");
+    say(b"write FILE [--binary]\n\n");
     say(
         b"Loads the AIGER 1.9 file FILE and prints its circuit: a header of seven numbers, the definitions in\n",
     );
-    say(b"their order, a reset only where it is not 0, and no tail.\n\n");
+    say(
+        b"their order, a reset only where it is not 0, and no tail. With --binary it prints the binary form, with new numbers.\n\n",
+    );
     say(b"A file that is not accepted is refused with a number and its cause:\n");
     help::say_refusals(1, 3);
     help::say_refusals(5, 8);
