@@ -1,4 +1,5 @@
-/* Times load, the test for number 9 and write per gate, replay, fold, and the search beside a plain C enumeration of 64 sequences a pass.
+/* Times load, the test for number 9 and write in both forms per gate, replay, fold, and the search beside a plain C enumeration of 64
+   sequences a pass.
    The arguments are example triggers. */
 #include "yunverok.h"
 #include <stdio.h>
@@ -40,11 +41,11 @@ static size_t chain(int gates, int reversed)
 static void loads(void)
 {
     static const int sizes[] = {384, 768, 1536, 3072};
-    printf("per gate, in nanoseconds (the best of 20 runs)\n%-9s %6s %8s %8s %8s\n", "order", "gates", "load", "test", "write");
+    printf("per gate, in nanoseconds (the best of 20 runs)\n%-9s %6s %8s %8s %8s %8s\n", "order", "gates", "load", "test", "write", "binary");
     for (int reversed = 0; reversed < 2; reversed++)
         for (int i = 0; i < 4; i++) {
             size_t n = chain(sizes[i], reversed);
-            double load = 1e9, test = 1e9, write = 1e9;
+            double load = 1e9, test = 1e9, write = 1e9, binary = 1e9;
             for (int r = 0; r < 20; r++) {
                 double a = now();
                 for (int k = 0; k < 20; k++)
@@ -56,12 +57,17 @@ static void loads(void)
                 for (int k = 0; k < 20; k++)
                     if (yunverok_write(memory, 33040, back, sizeof back) != n) abort();
                 double d = now();
+                for (int k = 0; k < 20; k++)
+                    if (yunverok_write_binary(memory, 33040, out, sizeof out) >> 32) abort();
+                double e = now();
                 if ((b - a) / 20 < load) load = (b - a) / 20;
                 if ((c - b) / 20 < test) test = (c - b) / 20;
                 if ((d - c) / 20 < write) write = (d - c) / 20;
+                if ((e - d) / 20 < binary) binary = (e - d) / 20;
             }
             if (memcmp(text, back, n)) abort();
             printf("%-9s %6d %8.1f %8.1f %8.1f", reversed ? "reversed" : "file", sizes[i], load / sizes[i] * 1e9, test / sizes[i] * 1e9, write / sizes[i] * 1e9);
+            printf(" %8.1f", binary / sizes[i] * 1e9);
             printf("   load %.3f ms\n", load * 1e3);
         }
 }

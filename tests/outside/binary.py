@@ -1,5 +1,6 @@
 """Binary files that yosys and ABC make of the published examples, the example triggers and random circuits: they load as what a reader in
-Python sees in them, and a search gives the same first line as on the text form."""
+Python sees in them, and a search gives the same first line as on the text form. Binary files that we write of the same circuits: ABC finds
+them equivalent to those that Python writes."""
 import argparse
 import os
 import subprocess
@@ -10,6 +11,7 @@ import rows
 import tools
 
 LOAD = os.path.join(tools.ROOT, "target", "bin", "load_table")
+OURS = os.path.join(tools.ROOT, "target", "bin", "write_binary_main")
 BUDGET = 1 << 32
 
 CONVERT = """read_aiger -module_name top {ident}.aag
@@ -19,6 +21,10 @@ design -reset
 
 AGAIN = """read_aiger {ident}.aig
 write_aiger {ident}_abc.aig
+"""
+
+EQUIVALENT = """echo file {ident}
+cec {ident}_made.aig {ident}_ours.aig
 """
 
 
@@ -88,6 +94,29 @@ def questions(circuits, seed):
     return [job for job in jobs if job.circuit.bads]
 
 
+def written(jobs):
+    """The files that the binary writer makes, read by ABC and compared with those that `binary` in aiger.py makes. ABC compares circuits with
+    inputs and latches."""
+    jobs = [job for job in jobs if job.circuit.inputs and job.circuit.latches]
+    for job in jobs:
+        c = job.circuit
+        tools.write(f"{job.ident}_in.aag", job.text)
+        for name, data in (
+            (f"{job.ident}_ours.aig", subprocess.run([OURS, f"{job.ident}_in.aag"], cwd=tools.WORK, capture_output=True, check=True).stdout),
+            (f"{job.ident}_made.aig", aiger.binary(c, c.outputs, c.bads, c.constraints)),
+        ):
+            with open(tools.path(name), "wb") as f:
+                f.write(data)
+    tools.write("equivalent.abc", "".join(EQUIVALENT.format(ident=job.ident) for job in jobs))
+    said = subprocess.run(["berkeley-abc", "-f", "equivalent.abc"], cwd=tools.WORK, capture_output=True, check=False).stdout.decode("latin-1")
+    parts = {part.split()[0]: part for part in said.split("\nfile ")[1:]}
+    differ = [job.ident for job in jobs if "Networks are equivalent" not in parts.get(job.ident, "")]
+    for ident in differ:
+        print(f"{ident}: {parts.get(ident, 'not compared').strip()}")
+    print(f"{len(jobs)} files written and read by ABC, {len(differ)} differ")
+    return len(differ)
+
+
 def main():
     parser = argparse.ArgumentParser(prog="tests/outside/binary.py")
     parser.add_argument("--circuits", type=int, default=1000)
@@ -115,6 +144,7 @@ def main():
             differ += 1
             print(f"{name}: {first}, expected a text of {len(wanted)} bytes")
     print(f"{compared} binary files loaded, {differ} differ")
+    differ += written(jobs)
     if not given.loads:
         for job in jobs:
             ours = search(job.text.encode(), job.b, job.k)
