@@ -33,7 +33,8 @@ gateUnderAt names m p = record { lit = under names (word m p); left = under name
 -- the differences of n gates in an order that is listed from place j on, where gate i stands at first + 3i
 unfoldable pub gateBytes : List ℕ → List ℕ → ℕ → List ℕ → ℕ → ℕ → List ℕ
 gateBytes names m first order j zero = []
-gateBytes names m first order j (suc n) = gateText (sorted (gateUnderAt names m (first + 3 * word order j))) ++ gateBytes names m first order (j + 1) n
+gateBytes names m first order j (suc n) =
+    gateText (sorted (gateUnderAt names m (first + 3 * word order j))) ++ gateBytes names m first order (j + 1) n
 
 -- the words of the gates are in the memory, each place of the order is one of them, and its operands are below it
 pub record Listed (names m : List ℕ) (first count : ℕ) (order : List ℕ) : Type 0 where
@@ -41,5 +42,5 @@ pub record Listed (names m : List ℕ) (first count : ℕ) (order : List ℕ) : 
   pub within : Within m first (3 * count) names
   pub room : count ≤ length order
   pub places : (j : ℕ) → j < count → word order j < count
-  pub left : (j : ℕ) → j < count → gateUnderAt names m (first + 3 * word order j) .left < gateUnderAt names m (first + 3 * word order j) .lit
-  pub right : (j : ℕ) → j < count → gateUnderAt names m (first + 3 * word order j) .right < gateUnderAt names m (first + 3 * word order j) .lit
+  pub left : (j : ℕ) → j < count → under names (word m (first + 3 * word order j + 1)) < under names (word m (first + 3 * word order j))
+  pub right : (j : ℕ) → j < count → under names (word m (first + 3 * word order j + 2)) < under names (word m (first + 3 * word order j))

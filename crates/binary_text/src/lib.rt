@@ -28,7 +28,9 @@ pub fn write_latches(
     out: &mut [u8],
     at: usize,
 ) -> usize
-    requires { ⌜ (first + 3 * n ≤ length (now m)) × Within (now m) first (3 * n) (now names) × Room (now out) at (latchLines (now names) (now m) first n) ⌝ }
+    requires { ⌜
+        (first + 3 * n ≤ length (now m)) × Within (now m) first (3 * n) (now names) × Room (now out) at (latchLines (now names) (now m) first n)
+        ⌝ }
     ensures { λ r. ⌜ Placed (now (out .entry)) at (latchLines (now (names .entry)) (now (m .entry)) first n) r (now (out .exit)) ⌝ }
 {
     let mut end = at;
@@ -53,7 +55,9 @@ pub fn write_literals(
     out: &mut [u8],
     at: usize,
 ) -> usize
-    requires { ⌜ (first + n ≤ length (now m)) × Within (now m) first n (now names) × Room (now out) at (literalLines (now names) (now m) first n) ⌝ }
+    requires { ⌜
+        (first + n ≤ length (now m)) × Within (now m) first n (now names) × Room (now out) at (literalLines (now names) (now m) first n)
+        ⌝ }
     ensures { λ r. ⌜ Placed (now (out .entry)) at (literalLines (now (names .entry)) (now (m .entry)) first n) r (now (out .exit)) ⌝ }
 {
     let mut end = at;
@@ -79,7 +83,9 @@ fn write_differences(lit: u32, left: u32, right: u32, out: &mut [u8], at: usize)
 // Writes a gate, with its larger operand first.
 fn write_gate(lit: u32, left: u32, right: u32, out: &mut [u8], at: usize) -> usize
     requires { ⌜ (left ≤ lit) × (right ≤ lit) × Room (now out) at (gateText (sorted (record { lit = lit; left = left; right = right }))) ⌝ }
-    ensures { λ r. ⌜ Placed (now (out .entry)) at (gateText (sorted (record { lit = lit; left = left; right = right }))) r (now (out .exit)) ⌝ }
+    ensures { λ r. ⌜
+        Placed (now (out .entry)) at (gateText (sorted (record { lit = lit; left = left; right = right }))) r (now (out .exit))
+        ⌝ }
 {
     if left < right {
         return write_differences(lit, right, left, out, at);
@@ -97,8 +103,12 @@ pub fn write_gates(
     out: &mut [u8],
     at: usize,
 ) -> usize
-    requires { ⌜ Listed (now names) (now m) first count (now order) × Room (now out) at (gateBytes (now names) (now m) first (now order) 0 count) ⌝ }
-    ensures { λ r. ⌜ Placed (now (out .entry)) at (gateBytes (now (names .entry)) (now (m .entry)) first (now (order .entry)) 0 count) r (now (out .exit)) ⌝ }
+    requires { ⌜
+        Listed (now names) (now m) first count (now order) × Room (now out) at (gateBytes (now names) (now m) first (now order) 0 count)
+        ⌝ }
+    ensures { λ r. ⌜
+        Placed (now (out .entry)) at (gateBytes (now (names .entry)) (now (m .entry)) first (now (order .entry)) 0 count) r (now (out .exit))
+        ⌝ }
 {
     let mut end = at;
     let mut j: usize = 0;

@@ -26,7 +26,22 @@ use Rattle.gate_order.specs.Waiting.{Below, Gates, Apart, Numbered}
 use Rattle.renumber.proofs.Naming.{input-count, input-word}
 use Rattle.renumbered.specs.Renumbered.{gateVars, operandVars, leafNumbers, numbering}
 use Rattle.renumbered_laws.proofs.Taken.{given-length, given-other, given-at}
-use Rattle.renumbered_laws.proofs.Numbers.{operands-length, left-at, right-at, input-var, latch-var, gate-var, vars-length, numbers-length, inputs-below, latches-below, gates-below, inputs-differ, latches-differ, gates-once}
+use Rattle.renumbered_laws.proofs.Numbers.{
+  operands-length,
+  left-at,
+  right-at,
+  input-var,
+  latch-var,
+  gate-var,
+  vars-length,
+  numbers-length,
+  inputs-below,
+  latches-below,
+  gates-below,
+  inputs-differ,
+  latches-differ,
+  gates-once,
+}
 use Rattle.circuit_numbers.specs.Numbers.{Read, AllNumbered}
 
 -- ---- one gate more is read

@@ -29,7 +29,9 @@ fn read_gates(m: &[u32], first: usize, n: usize, vars: &mut [u32], ops: &mut [u3
 fn number_read(vars: &[u32], ops: &[u32], k: u32, names: &mut [u32], order: &mut [u32]) -> usize
     requires { ⌜ Gates (now vars) (now ops) (now names) × Apart (now vars) × (length (now names) ≤ 4097) ⌝ }
     requires { ⌜ (length (now vars) ≤ length (now order)) × (k + length (now vars) ≤ 10000) × (0 < k) ⌝ }
-    ensures { λ r. ⌜ Numbered (now (vars .entry)) (now (ops .entry)) k (now (names .entry)) (now (order .entry)) r (now (names .exit)) (now (order .exit)) ⌝ }
+    ensures { λ r. ⌜
+        Numbered (now (vars .entry)) (now (ops .entry)) k (now (names .entry)) (now (order .entry)) r (now (names .exit)) (now (order .exit))
+        ⌝ }
 {
     let n = vars.len();
     let mut links = [0u32; 10241];

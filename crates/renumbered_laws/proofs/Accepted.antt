@@ -23,7 +23,17 @@ use Rattle.numbering.proofs.InOrder.{descends, InOrder, implied-length, implied
 use Rattle.joined.specs.Joined.{literalUnder, latchUnder, gateUnder}
 use Rattle.renumbered.specs.Renumbered.{numbering, newNumber, sorted, renumbered}
 use Rattle.renumbered_laws.proofs.Taken.{Numbered}
-use Rattle.renumbered_laws.proofs.Numbers.{number-input, number-latch, number-gate, number-zero, number-most, left-before, right-before, order-inside, order-length}
+use Rattle.renumbered_laws.proofs.Numbers.{
+  number-input,
+  number-latch,
+  number-gate,
+  number-zero,
+  number-most,
+  left-before,
+  right-before,
+  order-inside,
+  order-length,
+}
 
 -- ---- gates with the larger operand first
 
@@ -313,7 +323,29 @@ module _ {room : ℕ} {c : Circuit} (valid : Valid room c) where
       let i = length-map (c .inputs) (literalUnder σ) in
       let l = length-map (c .latches) (latchUnder σ) in
       let g : length (map make order) ≡ A = length-map order make ∙ order-length valid in
-      all-hold (countTests (headerOf (renumbered c))) (le→leb (I + L + A) 4096 (omega (arith, n)), (le→leb (length (map (literalUnder σ) (c .inputs))) 256 (omega (arith, n, i)), (le→leb (length (map (latchUnder σ) (c .latches))) 1024 (omega (arith, n, l)), (le→leb (length (map (literalUnder σ) (c .outputs))) 64 (omega (arith, n, o)), (le→leb (length (map make order)) 3072 (omega (arith, n, g)), (le→leb (length (map (literalUnder σ) (c .bads))) 16 (omega (arith, n, b)), (le→leb (length (map (literalUnder σ) (c .constraints))) 16 (omega (arith, n, k)), (tt, (tt, (le→leb (length (map (literalUnder σ) (c .inputs)) + length (map (latchUnder σ) (c .latches)) + length (map make order)) (I + L + A) (omega (arith, i, l, g)), tt))))))))))
+      let sum = length (map (literalUnder σ) (c .inputs)) + length (map (latchUnder σ) (c .latches)) + length (map make order) in
+      all-hold (countTests (headerOf (renumbered c))) (
+        le→leb (I + L + A) 4096 (omega (arith, n)),
+        (
+          le→leb (length (map (literalUnder σ) (c .inputs))) 256 (omega (arith, n, i)),
+          (
+            le→leb (length (map (latchUnder σ) (c .latches))) 1024 (omega (arith, n, l)),
+            (
+              le→leb (length (map (literalUnder σ) (c .outputs))) 64 (omega (arith, n, o)),
+              (
+                le→leb (length (map make order)) 3072 (omega (arith, n, g)),
+                (
+                  le→leb (length (map (literalUnder σ) (c .bads))) 16 (omega (arith, n, b)),
+                  (
+                    le→leb (length (map (literalUnder σ) (c .constraints))) 16 (omega (arith, n, k)),
+                    (tt, (tt, (le→leb sum (I + L + A) (omega (arith, i, l, g)), tt))),
+                  ),
+                ),
+              ),
+            ),
+          ),
+        ),
+      )
 
   -- load accepts the renumbered circuit
   pub renumbered-valid : Valid room (renumbered c)

@@ -18,7 +18,24 @@ use Rattle.aiger.specs.Circuit.{Circuit, Latch, Gate, var, literalTests, litera
 use Rattle.aiger.specs.Binary.{implied}
 use Rattle.aiger.proofs.Tests.{T-true, and, and-left, and-right, all-at, or-cases}
 use Rattle.meaning.proofs.Lists.{getD-map, getD-upto, length-from, every-at, or-left, or-right, eqb-of}
-use Rattle.meaning.proofs.Defined.{Known, constant, input, latch, gate, noLatch, noGate, inputAt, latchAt, gateAt, next-known, output-known, bad-known, constraint-known, left-known, right-known}
+use Rattle.meaning.proofs.Defined.{
+  Known,
+  constant,
+  input,
+  latch,
+  gate,
+  noLatch,
+  noGate,
+  inputAt,
+  latchAt,
+  gateAt,
+  next-known,
+  output-known,
+  bad-known,
+  constraint-known,
+  left-known,
+  right-known,
+}
 use Rattle.roundtrip.proofs.LoadWrite.{Valid}
 use Rattle.numbering.proofs.InOrder.{descends, implied-at}
 use Rattle.gate_order.specs.Order.{has, isReady, onNext, before, taken}
@@ -26,7 +43,21 @@ use Rattle.gate_order.specs.Waiting.{Below}
 use Rattle.gate_order.proofs.Taking.{least-some}
 use Rattle.joined.specs.Joined.{literalUnder, latchUnder, gateUnder}
 use Rattle.renumbered.specs.Renumbered.{gateVars, operandVars, leafNumbers, numbering, newNumber, sorted, renumbered}
-use Rattle.renumbered_laws.proofs.Numbers.{left-at, right-at, gate-var, vars-length, gates-below, leaf-none, leaf-input, leaf-latch, number-zero, number-input, number-latch, number-gate, order-length}
+use Rattle.renumbered_laws.proofs.Numbers.{
+  left-at,
+  right-at,
+  gate-var,
+  vars-length,
+  gates-below,
+  leaf-none,
+  leaf-input,
+  leaf-latch,
+  number-zero,
+  number-input,
+  number-latch,
+  number-gate,
+  order-length,
+}
 use Rattle.renumbered_laws.proofs.Accepted.{Placed}
 
 -- ---- gates that are listed after their operands are taken as they are listed

@@ -13,9 +13,47 @@ use Rattle.aiger.specs.Lists.{upto}
 use Rattle.aiger.specs.Search.{leastBelow}
 use Rattle.aiger.specs.Circuit.{Circuit, Latch, Gate, var, defined, used, literalTests, literalsRight, usedDefined, acyclic}
 use Rattle.aiger.proofs.Tests.{T-true, and, every-left, all-at}
-use Rattle.meaning.proofs.Lists.{mem-getD, mem-at, getD-upto, getD-zeros, every-mem, upto-in, length-from, Repeats, here, later, pigeonhole, or-left, or-right, eqb-of}
+use Rattle.meaning.proofs.Lists.{
+  mem-getD,
+  mem-at,
+  getD-upto,
+  getD-zeros,
+  every-mem,
+  upto-in,
+  length-from,
+  Repeats,
+  here,
+  later,
+  pigeonhole,
+  or-left,
+  or-right,
+  eqb-of,
+}
 use Rattle.meaning.proofs.Decisions.{Least, least-below}
-use Rattle.meaning.proofs.Defined.{Known, constant, input, latch, gate, noLatch, noGate, inputAt, latchAt, gateAt, definition, input-in, latch-in, gate-in, apart-inputs, apart-latches, apart-gates, input-latch, input-gate, latch-gate, left-known, right-known}
+use Rattle.meaning.proofs.Defined.{
+  Known,
+  constant,
+  input,
+  latch,
+  gate,
+  noLatch,
+  noGate,
+  inputAt,
+  latchAt,
+  gateAt,
+  definition,
+  input-in,
+  latch-in,
+  gate-in,
+  apart-inputs,
+  apart-latches,
+  apart-gates,
+  input-latch,
+  input-gate,
+  latch-gate,
+  left-known,
+  right-known,
+}
 use Rattle.meaning.proofs.Cycles.{stuck-at}
 use Rattle.roundtrip.proofs.LoadWrite.{Valid, Counts, counts-fit}
 use Rattle.gate_order.specs.Order.{has, isReady, given, taken}
@@ -324,7 +362,8 @@ module _ {room : ℕ} {c : Circuit} (valid : Valid room c) where
           (pigeonhole (upto (length (c .gates))) (numbering c .0) (omega (arith, length-from 0 (length (c .gates))))
           (λ x m.
           let q = mem-at 0 m in
-          let b : x < length (c .gates) = omega (arith, q .1, q .2, length-from 0 (length (c .gates)), getD-upto (length (c .gates)) (q .0) 0 (omega (arith, q .1, length-from 0 (length (c .gates))))) in
+          let l : q .0 < length (c .gates) = omega (arith, q .1, length-from 0 (length (c .gates))) in
+          let b : x < length (c .gates) = omega (arith, q .2, getD-upto (length (c .gates)) (q .0) 0 l) in
           listed x b (λ z. none-waits e (var (gateAt c x .lit)) (x, b, refl, z))))
 
   -- and each has a place there

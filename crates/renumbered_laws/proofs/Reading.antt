@@ -18,7 +18,20 @@ use Rattle.aiger.specs.File.{isText, isBinary, header, countsFit, countsRight, 
 use Rattle.aiger.specs.Binary.{grouped, differenceText, difference, implied, latchesFrom, gateBy, gatesFrom}
 use Rattle.aiger.specs.Load.{gives, binaryBody, sections, load, needed}
 use Rattle.aiger.specs.Write.{lineOf, linesOf, literalRow, countRow}
-use Rattle.aiger.proofs.Tests.{T-true, true-T, and, and-left, and-right, every-left, every-right, every-unmap, every-map, every-imp, all-at, or-cases}
+use Rattle.aiger.proofs.Tests.{
+  T-true,
+  true-T,
+  and,
+  and-left,
+  and-right,
+  every-left,
+  every-right,
+  every-unmap,
+  every-map,
+  every-imp,
+  all-at,
+  or-cases,
+}
 use Rattle.roundtrip.proofs.LoadWrite.{Valid, Counts, counts-fit}
 use Rattle.roundtrip.proofs.Text.{below, rowFits, row-line, rows-lines, every-below, line-short, lines-short}
 use Rattle.numbering.proofs.InOrder.{descends}

@@ -11,19 +11,55 @@ use lib.Dec.{T, leb, ltb, eqb, leb→le, eqb→eq}
 use lib.ListN.{length, getD, length-map, List·getD-map}
 use Rattle.aiger.specs.Lists.{every, everyBelow, tally, upto}
 use Rattle.aiger.specs.Circuit.{Circuit, Latch, Gate, var, literalTests, literalsRight, usedDefined, acyclic}
-use Rattle.aiger.specs.Frames.{Run, Space, value, valueAt, constrained, allowed, hits, isFree, freeStarts, starts, space, bitsIn, runIn, freeBits, run}
+use Rattle.aiger.specs.Frames.{
+  Run,
+  Space,
+  value,
+  valueAt,
+  constrained,
+  allowed,
+  hits,
+  isFree,
+  freeStarts,
+  starts,
+  space,
+  bitsIn,
+  runIn,
+  freeBits,
+  run,
+}
 use Rattle.aiger.specs.Search.{Question, Outcome, firstAt, permittedOf, reachesIn, reaches, question, permitted, firstWitness}
 use Rattle.aiger.specs.Witness.{witness}
 use Rattle.aiger.proofs.Tests.{T-true, or-cases, all-at}
 use Rattle.meaning.proofs.Lists.{every-at}
-use Rattle.meaning.proofs.Defined.{Known, noLatch, inputAt, latchAt, gateAt, definition, latch-in, bad-known, constraint-known, output-known}
+use Rattle.meaning.proofs.Defined.{
+  Known,
+  noLatch,
+  inputAt,
+  latchAt,
+  gateAt,
+  definition,
+  latch-in,
+  bad-known,
+  constraint-known,
+  output-known,
+}
 use Rattle.meaning.proofs.Embedding.{Embeds, SameOperands, embedded-value}
 use Rattle.roundtrip.proofs.LoadWrite.{Valid}
 use Rattle.joined.specs.Joined.{literalUnder, latchUnder, gateUnder}
 use Rattle.parting.proofs.Starts.{Numbered}
 use Rattle.renumbered.specs.Renumbered.{numbering, newNumber, sorted, renumbered}
 use Rattle.renumbered_laws.proofs.Numbers.{number-zero, number-latch, order-has, order-length}
-use Rattle.renumbered_laws.proofs.Accepted.{sorted-lit, inputs-length, latches-length, gates-length, input-at, latch-at, gate-at, renumbered-valid}
+use Rattle.renumbered_laws.proofs.Accepted.{
+  sorted-lit,
+  inputs-length,
+  latches-length,
+  gates-length,
+  input-at,
+  latch-at,
+  gate-at,
+  renumbered-valid,
+}
 
 -- ---- start values
 

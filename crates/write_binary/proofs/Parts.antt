@@ -15,7 +15,20 @@ use Rattle.layout.specs.Layout.{LayoutOf}
 use Rattle.layout.specs.declared.Layout.{Layout}
 use Rattle.roundtrip.proofs.LoadWrite.{Counts}
 use Rattle.roundtrip.proofs.Lists.{upto-length}
-use Rattle.frames.proofs.Facts.{top-is, latch-count, bad-count, constraint-count, gate-count, bad-word, gate-word, valid, counts, known, inside, known-small}
+use Rattle.frames.proofs.Facts.{
+  top-is,
+  latch-count,
+  bad-count,
+  constraint-count,
+  gate-count,
+  bad-word,
+  gate-word,
+  valid,
+  counts,
+  known,
+  inside,
+  known-small,
+}
 use Rattle.renumber.specs.Names.{Within}
 use Rattle.renumber.proofs.Naming.{input-count}
 use Rattle.pairing.proofs.Sections.{latches-known, gates-known, constraints-known, outputs-known}

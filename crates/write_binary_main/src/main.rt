@@ -4,7 +4,7 @@ use files::say;
 fn say_help() {
     say(b"write FILE --binary\n\n");
     say(
-        b"Loads the AIGER 1.9 file FILE and prints its circuit in binary form: a header of seven numbers, the differences of the gates in\n",
+        b"Loads the AIGER 1.9 file FILE and prints its circuit in binary form: a header of seven numbers, differences of gates in\n",
     );
     say(
         b"the fewest groups, and no tail. Variables get new numbers: inputs, latches, then gates, each time the earliest listed gate\n",

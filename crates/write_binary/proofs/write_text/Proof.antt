@@ -1,7 +1,17 @@
 -- `write_binary::write_text` meets its contract: after each part the text is written but for the parts that are left. Assumes nothing.
 use native.Mathlib.Omega.{arith}
 use borrow.Author.Needs.{needs}
-use Rattle.write_binary.proofs.Parts.{small, latches-within, lines-within, listed, head-room, latches-room, lines-room, gates-room, all-written}
+use Rattle.write_binary.proofs.Parts.{
+  small,
+  latches-within,
+  lines-within,
+  listed,
+  head-room,
+  latches-room,
+  lines-room,
+  gates-room,
+  all-written,
+}
 use Rattle.write_binary.proofs.write_text.Statement.{statement}
 use Rattle.write_binary.proofs.write_text.Tie as tie
 
