@@ -31,7 +31,8 @@
    this order; test 9; search and fold 9 to 13; replay 9, 14 and 16; widen 9, 14, 16 and then 13; write 9 and 13; waveform 9, 14
    and 13.
 
-   Stack. At most 115 kilobytes are used, whatever the circuit; docs/MEMORY.md has the greatest depth measured for each function. */
+   Stack. At most 115 kilobytes are used, by yunverok_write_binary 185, whatever the circuit; docs/MEMORY.md has the greatest depth
+   measured for each function. */
 #ifndef YUNVEROK_H
 #define YUNVEROK_H
 #include <stddef.h>
