@@ -60,11 +60,11 @@ def text_of(data):
 
 
 def with_bad(data):
-    """The file with its outputs turned into bad lines: only the header changes."""
+    """The file with its output as bad line: only the header changes. ABC writes a bad line itself where a latch does not start at 0."""
     head, body = data.split(b"\n", 1)
-    words = head.split(b" ")
-    assert words[0] == b"aig" and all(word == b"0" for word in words[6:])
-    return b" ".join(words[:4] + [b"0", words[5], words[4]]) + b"\n" + body
+    words = (head.split(b" ") + [b"0"] * 2)[:8]
+    assert words[0] == b"aig" and int(words[4]) + int(words[6]) == 1 and words[7] == b"0"
+    return b" ".join(words[:4] + [b"0", words[5], b"1"]) + b"\n" + body
 
 
 def loaded(names):
@@ -146,8 +146,12 @@ def main():
     print(f"{compared} binary files loaded, {differ} differ")
     differ += written(jobs)
     if not given.loads:
-        for job in jobs:
+        # yosys may change the order of outputs, so that circuits with constraints are left to compare.py; a circuit that it made smaller
+        # may fit the search program where the first one does not.
+        for job in (job for job in jobs if not job.circuit.constraints):
             ours = search(job.text.encode(), job.b, job.k)
+            if ours.startswith("refused 12"):
+                continue
             for name in (job.ident + ".aig", job.ident + "_abc.aig"):
                 theirs, compared = search(with_bad(data[name]), 0, job.k), compared + 1
                 if theirs != ours:
