@@ -33,7 +33,8 @@ module _ (out : List ℕ) (at : ℕ) (u v : List ℕ) (room : Room out at (u ++ 
           contents = q .contents ∙ rw (p .contents, p .past) (put-put out at u room-first v);
         }
 
-pub placed-in : {out : List ℕ} {at : ℕ} {text : List ℕ} {end : ℕ} {out′ : List ℕ} → Placed-in out at text end out′ → Placed out at text end out′
+pub placed-in : {out : List ℕ} {at : ℕ} {text : List ℕ} {end : ℕ} {out′ : List ℕ} → Placed-in out at text end out′
+    → Placed out at text end out′
 unfolding putText
 placed-in p = record { past = p .0; contents = p .1 }
 
@@ -53,7 +54,8 @@ literal-line n = refl
 
 module _ (names m : List ℕ) where
   pub latches-more : (p n : ℕ) → 0 < n
-      → latchLines names m p n ≡ latchLine (under names (word m (p + 1))) (under names (word m (p + 2))) ++ latchLines names m (p + 3) (n - 1)
+      → latchLines names m p n ≡ latchLine (under names (word m (p + 1))) (under names (word m (p + 2))) ++ latchLines names m (p + 3)
+      (n - 1)
   unfolding latchLines
   latches-more p zero h = absurd (omega arith)
   latches-more p (suc n) h = let e : suc n - 1 ≡ n = omega arith in rw e
@@ -63,7 +65,8 @@ module _ (names m : List ℕ) where
   latches-none p zero h = refl
   latches-none p (suc n) h = absurd (omega arith)
 
-  pub literals-more : (p n : ℕ) → 0 < n → literalLines names m p n ≡ numberText (under names (word m p)) 0 ++ literalLines names m (p + 1) (n - 1)
+  pub literals-more : (p n : ℕ) → 0 < n → literalLines names m p n ≡ numberText (under names (word m p)) 0 ++ literalLines names m (p + 1)
+      (n - 1)
   unfolding literalLines
   literals-more p zero h = absurd (omega arith)
   literals-more p (suc n) h = let e : suc n - 1 ≡ n = omega arith in rw (e, literal-line (under names (word m p)))
@@ -75,7 +78,8 @@ module _ (names m : List ℕ) where
 
   module _ (first : ℕ) (order : List ℕ) where
     gates-more : (j n : ℕ) → 0 < n
-        → gateBytes names m first order j n ≡ gateText (sorted (gateUnderAt names m (first + 3 * word order j))) ++ gateBytes names m first order (j + 1) (n - 1)
+        → gateBytes names m first order j n ≡ gateText
+        (sorted (gateUnderAt names m (first + 3 * word order j))) ++ gateBytes names m first order (j + 1) (n - 1)
     unfolding gateBytes
     gates-more j zero h = absurd (omega arith)
     gates-more j (suc n) h = let e : suc n - 1 ≡ n = omega arith in rw e
@@ -105,13 +109,15 @@ within-from m p n names k n′ h w j l =
     subst (λ (x : ℕ). (var (word m x) < length names) × (word names (var (word m x)) ≤ 4096)) e (w (k + j) (omega arith))
 
 -- an operand of the gate at place j
-pub operand-within : {names m : List ℕ} {first count : ℕ} {order : List ℕ} → Listed names m first count order → (j : ℕ) → j < count → (x : ℕ) → x < 3
+pub operand-within : {names m : List ℕ} {first count : ℕ} {order : List ℕ} → Listed names m first count order → (j : ℕ) → j < count
+    → (x : ℕ) → x < 3
     → (var (word m (first + 3 * word order j + x)) < length names) × (word names (var (word m (first + 3 * word order j + x))) ≤ 4096)
 operand-within {names} {m} {first} {count} {order} g j h x l =
     within-from m first (3 * count) names (3 * word order j) 3 (omega (arith, g .places j h)) (g .within) x l
 
 -- the first of n literals
-pub within-here : (m : List ℕ) (p n : ℕ) (names : List ℕ) → 0 < n → Within m p n names → (var (word m p) < length names) × (word names (var (word m p)) ≤ 4096)
+pub within-here : (m : List ℕ) (p n : ℕ) (names : List ℕ) → 0 < n → Within m p n names → (var (word m p) < length names)
+    × (word names (var (word m p)) ≤ 4096)
 within-here m p n names h w =
     let e : p + 0 ≡ p = omega arith in
     subst (λ (x : ℕ). (var (word m x) < length names) × (word names (var (word m x)) ≤ 4096)) e (w 0 h)

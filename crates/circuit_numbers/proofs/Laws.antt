@@ -47,7 +47,12 @@ use Rattle.circuit_numbers.specs.Numbers.{Read, AllNumbered}
 -- ---- one gate more is read
 
 pub start-read : (m : List ℕ) (first : ℕ) (vars ops : List ℕ) → Read m first 0 vars ops
-start-read m first vars ops = record { own = λ i h. absurd (omega arith); left = λ i h. absurd (omega arith); right = λ i h. absurd (omega arith) }
+start-read m first vars ops = record {
+  own = λ i h. absurd (omega arith);
+  left = λ i h. absurd (omega arith);
+  right = λ i h. absurd
+      (omega arith);
+}
 
 pub read-more : {m : List ℕ} {first i : ℕ} {vars ops : List ℕ} → i < length vars → 2 * i + 1 < length ops → Read m first i vars ops
     → Read m first (i + 1) (set vars i (word m (first + 3 * i) / 2))
@@ -67,7 +72,8 @@ read-more {m} {first} {i} {vars} {ops} h l r =
       left = λ j b.
           elim (decLt j i) [
             | yes k ↦
-                getD-set-other ops₁ (2 * i + 1) (2 * j) z 0 (λ e. omega arith) ∙ getD-set-other ops (2 * i) (2 * j) y 0 (λ e. omega arith) ∙ r .left j k
+                getD-set-other ops₁ (2 * i + 1) (2 * j) z 0 (λ e. omega arith) ∙ getD-set-other ops (2 * i) (2 * j) y 0 (λ e. omega arith)
+                ∙ r .left j k
             | no k ↦ (
                 let e : j ≡ i = omega arith in
                 ap (λ (u : ℕ). word (set ops₁ (2 * i + 1) z) (2 * u)) e ∙ getD-set-other ops₁ (2 * i + 1) (2 * i) z 0 (λ q. omega arith)
@@ -76,7 +82,8 @@ read-more {m} {first} {i} {vars} {ops} h l r =
       right = λ j b.
           elim (decLt j i) [
             | yes k ↦
-                getD-set-other ops₁ (2 * i + 1) (2 * j + 1) z 0 (λ e. omega arith) ∙ getD-set-other ops (2 * i) (2 * j + 1) y 0 (λ e. omega arith) ∙ r .right j k
+                getD-set-other ops₁ (2 * i + 1) (2 * j + 1) z 0 (λ e. omega arith) ∙ getD-set-other ops (2 * i) (2 * j + 1) y 0
+                (λ e. omega arith) ∙ r .right j k
             | no k ↦ (
                 let e : j ≡ i = omega arith in
                 ap (λ (u : ℕ). word (set ops₁ (2 * i + 1) z) (2 * u + 1)) e ∙ getD-set-same ops₁ (2 * i + 1) z 0 (omega arith)
@@ -107,7 +114,8 @@ module _ {m : List ℕ} (h : Holds m (circuitIn m)) where
   abbrev c : Circuit
   c = circuitIn m
 
-  pub names-given : (p : Layout) → LayoutOf m p → (n₀ n₁ n₂ : List ℕ) → length n₀ ≡ 4097 → ((v : ℕ) → word n₀ v ≡ 0) → length n₁ ≡ length n₀ → length n₂ ≡ length n₁
+  pub names-given : (p : Layout) → LayoutOf m p → (n₀ n₁ n₂ : List ℕ) → length n₀ ≡ 4097 → ((v : ℕ) → word n₀ v ≡ 0)
+      → length n₁ ≡ length n₀ → length n₂ ≡ length n₁
       → Stored (λ j. var (word m (7 + j))) (λ j. 1 + j) (p .i) n₀ n₁
       → Stored (λ j. var (word m (p .latches + 3 * j))) (λ j. p .i + 1 + j) (p .l) n₁ n₂ → n₂ ≡ leafNumbers (circuitIn m)
   names-given p a n₀ n₁ n₂ size blank l₁ l₂ s₁ s₂ =
@@ -120,14 +128,16 @@ module _ {m : List ℕ} (h : Holds m (circuitIn m)) where
       let i : p .i ≡ I = a .i-is ∙ sym (input-count m) in
       let e₁ : n₁ ≡ given 1 ivs n₀ =
       stored-given 1 ivs n₀ n₁ (λ j. var (word m (7 + j))) (p .i) (length-map (c .inputs) var ∙ sym i)
-      (λ j b. input-var v j ∙ ap var (input-word m j (omega (arith, a .i-is)))) (subst (λ (t : List ℕ). Below ivs (length t)) (sym z) (inputs-below v))
+      (λ j b. input-var v j ∙ ap var (input-word m j (omega (arith, a .i-is))))
+      (subst (λ (t : List ℕ). Below ivs (length t)) (sym z) (inputs-below v))
       (inputs-differ v) l₁ s₁ in
       let w₁ : n₁ ≡ given 1 ivs zeros = e₁ ∙ ap (given 1 ivs) z in
       let e₂ : n₂ ≡ given (p .i + 1) lvs n₁ =
       stored-given (p .i + 1) lvs n₁ n₂ (λ j. var (word m (p .latches + 3 * j))) (p .l)
       (length-map (c .latches) (λ (l : Latch). var (l .lit)) ∙ latch-count m ∙ sym (a .l-is))
       (λ j b.
-      latch-var v j ∙ ap (λ (l : Latch). var (l .lit)) (latch-word m j (omega (arith, a .l-is))) ∙ ap (λ (q : ℕ). var (word m (q + 3 * j))) (sym (a .latches-is)))
+      latch-var v j ∙ ap (λ (l : Latch). var (l .lit)) (latch-word m j (omega (arith, a .l-is))) ∙ ap
+      (λ (q : ℕ). var (word m (q + 3 * j))) (sym (a .latches-is)))
       (subst (λ (t : List ℕ). Below lvs (length t)) (sym w₁) (latches-below v)) (latches-differ v) l₂ s₂ in
       e₂ ∙ (λ x. given (i x + 1) lvs (w₁ x))
 
@@ -182,11 +192,21 @@ module _ {m : List ℕ} (h : Holds m (circuitIn m)) where
       go zero e k =
           let q : s ≡ 2 * (s / 2) = omega arith in
           let f = ap (λ (x : ℕ). getD (operandVars (c .gates)) x 0) q ∙ left-at (c .gates) (s / 2) in
-          omega (arith, f, low (var (gateAt c (s / 2) .left)) (known-small h (var (gateAt c (s / 2) .left)) (left-known c (known h) (s / 2))))
+          omega (
+            arith,
+            f,
+            low (var (gateAt c (s / 2) .left))
+                (known-small h (var (gateAt c (s / 2) .left)) (left-known c (known h) (s / 2))),
+          )
       go (suc zero) e k =
           let q : s ≡ 2 * (s / 2) + 1 = omega arith in
           let f = ap (λ (x : ℕ). getD (operandVars (c .gates)) x 0) q ∙ right-at (c .gates) (s / 2) in
-          omega (arith, f, low (var (gateAt c (s / 2) .right)) (known-small h (var (gateAt c (s / 2) .right)) (right-known c (known h) (s / 2))))
+          omega (
+            arith,
+            f,
+            low (var (gateAt c (s / 2) .right))
+                (known-small h (var (gateAt c (s / 2) .right)) (right-known c (known h) (s / 2))),
+          )
       go (suc (suc x)) e k = absurd (omega arith)
 
   ready : Gates (gateVars (circuitIn m)) (operandVars (circuitIn m .gates)) (leafNumbers (circuitIn m)) × Apart (gateVars (circuitIn m))
@@ -203,7 +223,8 @@ module _ {m : List ℕ} (h : Holds m (circuitIn m)) where
         omega (arith, numbers-length v),
       )
 
-  module _ {vars ops names : List ℕ} (e₁ : vars ≡ gateVars (circuitIn m)) (e₂ : ops ≡ operandVars (circuitIn m .gates)) (e₃ : names ≡ leafNumbers (circuitIn m)) where
+  module _ {vars ops names : List ℕ} (e₁ : vars ≡ gateVars (circuitIn m)) (e₂ : ops ≡ operandVars (circuitIn m .gates))
+      (e₃ : names ≡ leafNumbers (circuitIn m)) where
     pub ready-for : Gates vars ops names × Apart vars × (length names ≤ 4097)
     ready-for = rw (e₁, e₂, e₃) ready
 

@@ -59,8 +59,10 @@ sorted-descends : (g : Gate) → g .left < g .lit → g .right < g .lit → T (d
 sorted-descends g l r = go (ltb (g .left) (g .right)) refl
   where
     go : (b : Bool) → ltb (g .left) (g .right) ≡ b → T (descends (cond b (record { lit = g .lit; left = g .right; right = g .left }) g))
-    go true e = and (leb (g .left) (g .right)) (ltb (g .right) (g .lit)) (le→leb (g .left) (g .right) (omega (arith, ltb→lt (g .left) (g .right) (T-true e)))) (lt→ltb (g .right) (g .lit) r)
-    go false e = and (leb (g .right) (g .left)) (ltb (g .left) (g .lit)) (le→leb (g .right) (g .left) (ltb-false (g .left) (g .right) e)) (lt→ltb (g .left) (g .lit) l)
+    go true e = and (leb (g .left) (g .right)) (ltb (g .right) (g .lit))
+        (le→leb (g .left) (g .right) (omega (arith, ltb→lt (g .left) (g .right) (T-true e)))) (lt→ltb (g .right) (g .lit) r)
+    go false e = and (leb (g .right) (g .left)) (ltb (g .left) (g .lit)) (le→leb (g .right) (g .left) (ltb-false (g .left) (g .right) e))
+        (lt→ltb (g .left) (g .lit) l)
 
 -- ---- definitions in order
 
@@ -84,7 +86,8 @@ order-right {d} o u r =
     let t2 = distinct (defined d) in
     let t3 = every (λ l. leb (l .reset) 1 || eqb (l .reset) (l .lit)) (d .latches) in
     let low : T t0 =
-    every-both (λ l. leb l (2 * M + 1)) (defined d) (used d) (each (λ l. leb l (2 * M + 1)) (λ v h k. le→leb (2 * v) (2 * M + 1) (omega arith))) u in
+    every-both (λ l. leb l (2 * M + 1)) (defined d) (used d)
+    (each (λ l. leb l (2 * M + 1)) (λ v h k. le→leb (2 * v) (2 * M + 1) (omega arith))) u in
     let even : T t1 =
     each (λ l. leb 2 l && not (odd l)) (λ v h k. and (leb 2 (2 * v)) (not (odd (2 * v))) (le→leb 2 (2 * v) (omega arith)) (even-not v)) in
     and t0 (t1 && (t2 && (t3 && true))) low (and t1 (t2 && (t3 && true)) even (and t2 (t3 && true) apart (and t3 true r tt)))
@@ -148,7 +151,8 @@ placed-order {d} p =
       definitions =
           ap₂ (λ (x y : List ℕ). x ++ y ++ map (λ (g : Gate). g .lit) (d .gates)) (p .inputs) (p .latches ∙ a)
           ∙ ap (λ (x : List ℕ). implied 1 I ++ implied (1 + I) L ++ x) (p .gates ∙ b)
-          ∙ ap (λ (x : List ℕ). x ++ implied (1 + (I + L)) A) (implied-append 1 I L) ∙ implied-append 1 (I + L) A ∙ ap (implied 1) (sym (p .top));
+          ∙ ap (λ (x : List ℕ). x ++ implied (1 + (I + L)) A) (implied-append 1 I L) ∙ implied-append 1 (I + L) A ∙ ap (implied 1)
+          (sym (p .top));
       gates = p .descend;
     }
 
@@ -213,13 +217,16 @@ module _ {room : ℕ} {c : Circuit} (valid : Valid room c) where
 
   latches-are : map (λ l. l .lit) (renumbered c .latches) ≡ implied (length (c .inputs) + 1) (length (c .latches))
   latches-are =
-      implied-of (map (λ (l : Latch). l .lit) (renumbered c .latches)) (I + 1) L (length-map (renumbered c .latches) (λ (l : Latch). l .lit) ∙ latches-length)
+      implied-of (map (λ (l : Latch). l .lit) (renumbered c .latches)) (I + 1) L
+      (length-map (renumbered c .latches) (λ (l : Latch). l .lit) ∙ latches-length)
       (λ j h.
-      getD-map (λ (l : Latch). l .lit) (renumbered c .latches) j noLatch 0 (omega (arith, latches-length)) ∙ ap (λ (l : Latch). l .lit) (latch-at j h)
+      getD-map (λ (l : Latch). l .lit) (renumbered c .latches) j noLatch 0 (omega (arith, latches-length)) ∙ ap (λ (l : Latch). l .lit)
+      (latch-at j h)
       ∙ under-even σ (latchAt c j .lit) (I + 1 + j) (even (latchAt c j .lit) (latch-in c j h)) (number-latch valid j h))
 
   -- the literal of the gate at place p
-  gate-lit : (p : ℕ) → p < length (c .gates) → literalUnder (newNumber c) (gateAt c (getD (numbering c .0) p 0) .lit) ≡ 2 * (length (c .inputs) + length (c .latches) + 1 + p)
+  gate-lit : (p : ℕ) → p < length (c .gates) → literalUnder (newNumber c) (gateAt c (getD (numbering c .0) p 0) .lit) ≡ 2 *
+      (length (c .inputs) + length (c .latches) + 1 + p)
   gate-lit p h =
       let i = getD order p 0 in
       let l : p < length order = omega (arith, order-length valid) in
@@ -227,9 +234,11 @@ module _ {room : ℕ} {c : Circuit} (valid : Valid room c) where
 
   gates-are : map (λ g. g .lit) (renumbered c .gates) ≡ implied (length (c .inputs) + length (c .latches) + 1) (length (c .gates))
   gates-are =
-      implied-of (map (λ (g : Gate). g .lit) (renumbered c .gates)) (I + L + 1) A (length-map (renumbered c .gates) (λ (g : Gate). g .lit) ∙ gates-length)
+      implied-of (map (λ (g : Gate). g .lit) (renumbered c .gates)) (I + L + 1) A
+      (length-map (renumbered c .gates) (λ (g : Gate). g .lit) ∙ gates-length)
       (λ p h.
-      getD-map (λ (g : Gate). g .lit) (renumbered c .gates) p noGate 0 (omega (arith, gates-length)) ∙ ap (λ (g : Gate). g .lit) (gate-at p h)
+      getD-map (λ (g : Gate). g .lit) (renumbered c .gates) p noGate 0 (omega (arith, gates-length)) ∙ ap (λ (g : Gate). g .lit)
+      (gate-at p h)
       ∙ sorted-lit (gateUnder σ (gateAt c (getD order p 0))) ∙ gate-lit p h)
 
   -- an operand that has a number below that of the gate
@@ -238,8 +247,10 @@ module _ {room : ℕ} {c : Circuit} (valid : Valid room c) where
 
   -- both operands of a gate are below it
   pub operands-below : (p : ℕ) → p < length (c .gates)
-      → (literalUnder (newNumber c) (gateAt c (getD (numbering c .0) p 0) .left) < literalUnder (newNumber c) (gateAt c (getD (numbering c .0) p 0) .lit))
-      × (literalUnder (newNumber c) (gateAt c (getD (numbering c .0) p 0) .right) < literalUnder (newNumber c) (gateAt c (getD (numbering c .0) p 0) .lit))
+      → (literalUnder (newNumber c) (gateAt c (getD (numbering c .0) p 0) .left) < literalUnder (newNumber c)
+      (gateAt c (getD (numbering c .0) p 0) .lit))
+      × (literalUnder (newNumber c) (gateAt c (getD (numbering c .0) p 0) .right) < literalUnder (newNumber c)
+      (gateAt c (getD (numbering c .0) p 0) .lit))
   operands-below p h =
       let g = gateAt c (getD order p 0) in
       let l : p < length order = omega (arith, order-length valid) in (
@@ -264,7 +275,8 @@ module _ {room : ℕ} {c : Circuit} (valid : Valid room c) where
             gates-are ∙ ap₂ (λ (x y : ℕ). implied (x + 1) y) (omega (arith, inputs-length, latches-length)) (sym gates-length);
         descend =
             every-in descends (renumbered c .gates) noGate
-            (λ p h. let l : p < A = omega (arith, gates-length) in subst (λ (g : Gate). T (descends g)) (sym (gate-at p l)) (descending p l));
+            (λ p h. let l : p < A = omega (arith, gates-length) in subst (λ (g : Gate). T (descends g)) (sym (gate-at p l))
+            (descending p l));
       }
 
   -- ---- what load tests
@@ -291,14 +303,18 @@ module _ {room : ℕ} {c : Circuit} (valid : Valid room c) where
       let lits : (ls : List ℕ) → T (every small (map (literalUnder σ) ls)) =
       λ ls. every-mapped small (literalUnder σ) ls (every-true (λ l. small (literalUnder σ l)) ls under-small) in
       let n = every-mapped small (λ (l : Latch). l .next) (map (latchUnder σ) (c .latches))
-      (every-mapped (λ (l : Latch). small (l .next)) (latchUnder σ) (c .latches) (every-true (λ (l : Latch). small (latchUnder σ l .next)) (c .latches) (λ l. under-small (l .next)))) in
+      (every-mapped (λ (l : Latch). small (l .next)) (latchUnder σ) (c .latches)
+      (every-true (λ (l : Latch). small (latchUnder σ l .next)) (c .latches) (λ l. under-small (l .next)))) in
       let l = every-mapped small (λ (g : Gate). g .left) gs
-      (every-mapped (λ (g : Gate). small (g .left)) make order (every-true (λ i. small (make i .left)) order (λ i. sorted-small (gateAt c i) .0))) in
+      (every-mapped (λ (g : Gate). small (g .left)) make order
+      (every-true (λ i. small (make i .left)) order (λ i. sorted-small (gateAt c i) .0))) in
       let r = every-mapped small (λ (g : Gate). g .right) gs
-      (every-mapped (λ (g : Gate). small (g .right)) make order (every-true (λ i. small (make i .right)) order (λ i. sorted-small (gateAt c i) .1))) in
+      (every-mapped (λ (g : Gate). small (g .right)) make order
+      (every-true (λ i. small (make i .right)) order (λ i. sorted-small (gateAt c i) .1))) in
       every-both small (nexts ++ outs ++ bads ++ cons ++ lefts) rights
       (every-both small (nexts ++ outs ++ bads ++ cons) lefts
-      (every-both small (nexts ++ outs ++ bads) cons (every-both small (nexts ++ outs) bads (every-both small nexts outs n (lits (c .outputs))) (lits (c .bads)))
+      (every-both small (nexts ++ outs ++ bads) cons
+      (every-both small (nexts ++ outs) bads (every-both small nexts outs n (lits (c .outputs))) (lits (c .bads)))
       (lits (c .constraints))) l) r
 
   resets-right : T (every (λ l. leb (l .reset) 1 || eqb (l .reset) (l .lit)) (renumbered c .latches))
@@ -306,12 +322,14 @@ module _ {room : ℕ} {c : Circuit} (valid : Valid room c) where
   resets-right =
       every-mapped (λ (l : Latch). leb (l .reset) 1 || eqb (l .reset) (l .lit)) (latchUnder σ) (c .latches)
       (every-imp (λ (l : Latch). leb (l .reset) 1 || eqb (l .reset) (l .lit))
-      (λ (l : Latch). leb (latchUnder σ l .reset) 1 || eqb (latchUnder σ l .reset) (latchUnder σ l .lit)) (λ l. reset-under σ (number-zero valid) l) (c .latches)
+      (λ (l : Latch). leb (latchUnder σ l .reset) 1 || eqb (latchUnder σ l .reset) (latchUnder σ l .lit))
+      (λ l. reset-under σ (number-zero valid) l) (c .latches)
       (all-at (literalTests c) right 3))
 
   pub renumbered-right : T (literalsRight (renumbered c))
   renumbered-right =
-      order-right (placed-order placed) (subst (λ (M : ℕ). T (every (λ l. leb l (2 * M + 1)) (used (renumbered c)))) (sym top-is) used-small) resets-right
+      order-right (placed-order placed)
+      (subst (λ (M : ℕ). T (every (λ l. leb l (2 * M + 1)) (used (renumbered c)))) (sym top-is) used-small) resets-right
 
   counts-right : T (countsFit (headerOf (renumbered c)))
   unfolding countsFit renumbered

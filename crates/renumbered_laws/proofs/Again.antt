@@ -75,13 +75,15 @@ record Listed (vars ops : List ℕ) (K k : ℕ) (table : List ℕ) : Type 0 wher
 module _ {vars ops : List ℕ} {K p : ℕ} {table : List ℕ} (g : Listed vars ops K (K + p) table) (h : p < length vars) where
   has-number : (u : ℕ) → u < K + p → T (has table u)
   has-number zero l = tt
-  has-number (suc u) l = or-right (eqb (suc u) 0) (ltb 0 (getD table (suc u) 0)) (lt→ltb 0 (getD table (suc u) 0) (g .numbered (suc u) (omega arith) l))
+  has-number (suc u) l = or-right (eqb (suc u) 0) (ltb 0 (getD table (suc u) 0))
+      (lt→ltb 0 (getD table (suc u) 0) (g .numbered (suc u) (omega arith) l))
 
   first-ready : leastBelow (length vars) (isReady vars ops table) ≡ some p
   first-ready =
       least-some (isReady vars ops table) (length vars) p h
       (and (eqb (getD table (getD vars p 0) 0) 0) _ (eqb-of (ap (λ (u : ℕ). getD table u 0) (g .own p h) ∙ g .blank (K + p) (omega arith)))
-      (and (has table (getD ops (2 * p) 0)) _ (has-number (getD ops (2 * p) 0) (g .left p h)) (has-number (getD ops (2 * p + 1) 0) (g .right p h))))
+      (and (has table (getD ops (2 * p) 0)) _ (has-number (getD ops (2 * p) 0) (g .left p h))
+      (has-number (getD ops (2 * p + 1) 0) (g .right p h))))
       (λ j l t.
       let z = eqb→eq (getD table (getD vars j 0) 0) 0 (and-left (eqb (getD table (getD vars j 0) 0) 0) _ t) in
       let e = ap (λ (u : ℕ). getD table u 0) (g .own j (omega arith)) in
@@ -118,7 +120,8 @@ taken-listed (suc n) p vars ops K table e g =
     let h : p < length vars = omega arith in
     let q : suc (K + p) ≡ K + suc p = omega arith in
     ap
-    (λ (o : Option ℕ). onNext {A = List ℕ × List ℕ} o ([], table) (λ j. before j (taken n vars ops (suc (K + p)) (set table (getD vars j 0) (K + p)))) .0)
+    (λ (o : Option ℕ). onNext {A = List ℕ × List ℕ} o ([], table)
+    (λ j. before j (taken n vars ops (suc (K + p)) (set table (getD vars j 0) (K + p)))) .0)
     (first-ready g h)
     ∙ ap (λ (x : ℕ). p ∷ taken n vars ops x (set table (getD vars p 0) (K + p)) .0) q
     ∙ ap (λ (xs : List ℕ). p ∷ xs) (taken-listed n (suc p) vars ops K (set table (getD vars p 0) (K + p)) (omega arith) (listed-next g h))
@@ -156,16 +159,19 @@ module _ {room : ℕ} {d : Circuit} (v : Valid room d) (p : Placed d) where
 
   latch-lit : (j : ℕ) → j < length (d .latches) → latchAt d j .lit ≡ 2 * (length (d .inputs) + 1 + j)
   latch-lit j h =
-      sym (List·getD-map (λ (l : Latch). l .lit) (d .latches) j noLatch) ∙ ap (λ (ls : List ℕ). getD ls j 0) (p .latches) ∙ implied-at (I + 1) L j h
+      sym (List·getD-map (λ (l : Latch). l .lit) (d .latches) j noLatch) ∙ ap (λ (ls : List ℕ). getD ls j 0) (p .latches) ∙ implied-at
+      (I + 1) L j h
 
   gate-lit : (i : ℕ) → i < length (d .gates) → gateAt d i .lit ≡ 2 * (length (d .inputs) + length (d .latches) + 1 + i)
-  gate-lit i h = sym (List·getD-map (λ (g : Gate). g .lit) (d .gates) i noGate) ∙ ap (λ (ls : List ℕ). getD ls i 0) (p .gates) ∙ implied-at K A i h
+  gate-lit i h = sym (List·getD-map (λ (g : Gate). g .lit) (d .gates) i noGate) ∙ ap (λ (ls : List ℕ). getD ls i 0) (p .gates)
+      ∙ implied-at K A i h
 
   descending : (i : ℕ) → i < length (d .gates) → T (descends (gateAt d i))
   descending i h = every-at descends (d .gates) i noGate h (p .descend)
 
   operands-low : (i : ℕ) → i < length (d .gates)
-      → (var (gateAt d i .left) < length (d .inputs) + length (d .latches) + 1 + i) × (var (gateAt d i .right) < length (d .inputs) + length (d .latches) + 1 + i)
+      → (var (gateAt d i .left) < length (d .inputs) + length (d .latches) + 1 + i)
+      × (var (gateAt d i .right) < length (d .inputs) + length (d .latches) + 1 + i)
   operands-low i h =
       let g = gateAt d i in
       let t = descending i h in
@@ -174,7 +180,8 @@ module _ {room : ℕ} {d : Circuit} (v : Valid room d) (p : Placed d) where
       let e = gate-lit i h in
       (omega arith, omega arith)
 
-  leaves : Listed (gateVars d) (operandVars (d .gates)) (length (d .inputs) + length (d .latches) + 1) (length (d .inputs) + length (d .latches) + 1 + 0)
+  leaves : Listed (gateVars d) (operandVars (d .gates)) (length (d .inputs) + length (d .latches) + 1)
+      (length (d .inputs) + length (d .latches) + 1 + 0)
       (leafNumbers d)
   leaves =
       record {
@@ -228,7 +235,8 @@ module _ {room : ℕ} {d : Circuit} (v : Valid room d) (p : Placed d) where
       let l = latchAt d j in
       let t = every-at (λ (x : Latch). leb (x .reset) 1 || eqb (x .reset) (x .lit)) (d .latches) j noLatch h (all-at (literalTests d) (T-true (v .literals)) 3) in
       ⊎-elim (λ x. let k = leb→le (l .reset) 1 x in literal-same (l .reset) (constant (omega arith)))
-      (λ y. literal-same (l .reset) (latch j h (ap var (sym (eqb→eq (l .reset) (l .lit) y))))) (or-cases (leb (l .reset) 1) (eqb (l .reset) (l .lit)) t)
+      (λ y. literal-same (l .reset) (latch j h (ap var (sym (eqb→eq (l .reset) (l .lit) y)))))
+      (or-cases (leb (l .reset) 1) (eqb (l .reset) (l .lit)) t)
 
   gate-same : (i : ℕ) → i < length (d .gates) → sorted (gateUnder (newNumber d) (gateAt d i)) ≡ gateAt d i
   gate-same i h =
@@ -266,4 +274,13 @@ module _ {room : ℕ} {d : Circuit} (v : Valid room d) (p : Placed d) where
         next = literal-same (latchAt d j .next) (next-known d known j) k;
         reset = reset-same j h k;
       }) in
-      λ k. record { maxVar = sym (p .top) k; inputs = i k; latches = l k; outputs = o k; bads = b k; constraints = c k; gates = gates-same k }
+      λ k. record {
+        maxVar = sym
+            (p .top) k;
+        inputs = i k;
+        latches = l k;
+        outputs = o k;
+        bads = b k;
+        constraints = c k;
+        gates = gates-same k;
+      }

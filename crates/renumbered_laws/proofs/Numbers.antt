@@ -169,7 +169,8 @@ module _ {room : ℕ} {c : Circuit} (valid : Valid room c) where
       )
 
   -- no two inputs, latches or gates have one variable
-  pub inputs-differ : (a b : ℕ) → a < b → b < length (map var (c .inputs)) → getD (map var (c .inputs)) a 0 ≡ getD (map var (c .inputs)) b 0 → ⊥
+  pub inputs-differ : (a b : ℕ) → a < b → b < length (map var (c .inputs)) → getD (map var (c .inputs)) a 0 ≡ getD
+      (map var (c .inputs)) b 0 → ⊥
   inputs-differ a b l m e = apart-inputs c right a b l (omega (arith, length-map (c .inputs) var)) (sym (input-var a) ∙ e ∙ input-var b)
 
   latch-lit : (j : ℕ) → getD (map (λ (l : Latch). l .lit) (c .latches)) j 0 ≡ latchAt c j .lit
@@ -178,7 +179,8 @@ module _ {room : ℕ} {c : Circuit} (valid : Valid room c) where
   pub latches-differ : (a b : ℕ) → a < b → b < length (map (λ l. var (l .lit)) (c .latches))
       → getD (map (λ l. var (l .lit)) (c .latches)) a 0 ≡ getD (map (λ l. var (l .lit)) (c .latches)) b 0 → ⊥
   latches-differ a b l m e =
-      apart-latches c right a b l (omega (arith, length-map (c .latches) (λ (l : Latch). var (l .lit)), length-map (c .latches) (λ (l : Latch). l .lit)))
+      apart-latches c right a b l
+      (omega (arith, length-map (c .latches) (λ (l : Latch). var (l .lit)), length-map (c .latches) (λ (l : Latch). l .lit)))
       (ap var (latch-lit a) ∙ sym (latch-var a) ∙ e ∙ latch-var b ∙ sym (ap var (latch-lit b)))
 
   gate-lit : (a : ℕ) → getD (map (λ (g : Gate). g .lit) (c .gates)) a 0 ≡ gateAt c a .lit
@@ -186,7 +188,8 @@ module _ {room : ℕ} {c : Circuit} (valid : Valid room c) where
 
   gates-differ : (a b : ℕ) → a < b → b < length (c .gates) → var (gateAt c a .lit) ≡ var (gateAt c b .lit) → ⊥
   gates-differ a b l m e =
-      apart-gates c right a b l (omega (arith, length-map (c .gates) (λ (g : Gate). g .lit))) (ap var (gate-lit a) ∙ e ∙ sym (ap var (gate-lit b)))
+      apart-gates c right a b l (omega (arith, length-map (c .gates) (λ (g : Gate). g .lit)))
+      (ap var (gate-lit a) ∙ e ∙ sym (ap var (gate-lit b)))
 
   pub gates-once : (a b : ℕ) → a < length (c .gates) → b < length (c .gates) → var (gateAt c a .lit) ≡ var (gateAt c b .lit) → a ≡ b
   gates-once a b l m e =
@@ -206,7 +209,8 @@ module _ {room : ℕ} {c : Circuit} (valid : Valid room c) where
   leaf-none u ni nl =
       given-other (I + 1) latchVars inputNumbers u
       (λ j h e. nl j (omega (arith, length-map (c .latches) (λ (l : Latch). var (l .lit)))) (sym (latch-var j) ∙ e))
-      ∙ given-other 1 inputVars zeros u (λ i h e. ni i (omega (arith, length-map (c .inputs) var)) (sym (input-var i) ∙ e)) ∙ getD-zeros 4097 u
+      ∙ given-other 1 inputVars zeros u (λ i h e. ni i (omega (arith, length-map (c .inputs) var)) (sym (input-var i) ∙ e))
+      ∙ getD-zeros 4097 u
 
   pub leaf-input : (i : ℕ) → i < length (c .inputs) → getD (leafNumbers c) (var (inputAt c i)) 0 ≡ 1 + i
   leaf-input i h =
@@ -224,22 +228,27 @@ module _ {room : ℕ} {c : Circuit} (valid : Valid room c) where
 
   leaf-low : (u : ℕ) → getD (leafNumbers c) u 0 < length (c .inputs) + length (c .latches) + 1
   leaf-low =
-      given-low (I + 1) latchVars inputNumbers (I + L + 1) latches-below (omega (arith, length-map (c .latches) (λ (l : Latch). var (l .lit))))
-      (given-low 1 inputVars zeros (I + L + 1) inputs-below (omega (arith, length-map (c .inputs) var)) (λ u. omega (arith, getD-zeros 4097 u)))
+      given-low (I + 1) latchVars inputNumbers (I + L + 1) latches-below
+      (omega (arith, length-map (c .latches) (λ (l : Latch). var (l .lit))))
+      (given-low 1 inputVars zeros (I + L + 1) inputs-below (omega (arith, length-map (c .inputs) var))
+      (λ u. omega (arith, getD-zeros 4097 u)))
 
   leaf-gate : (i : ℕ) → i < length (c .gates) → getD (leafNumbers c) (var (gateAt c i .lit)) 0 ≡ 0
   leaf-gate i h = leaf-none (var (gateAt c i .lit)) (λ a l e. input-gate c right a i l h e) (λ b l e. latch-gate c right b i l h e)
 
   leaf-zero : getD (leafNumbers c) 0 0 ≡ 0
   leaf-zero =
-      leaf-none 0 (λ i h e. omega (arith, some-var (inputAt c i) (input-in c i h))) (λ j h e. omega (arith, some-var (latchAt c j .lit) (latch-in c j h)))
+      leaf-none 0 (λ i h e. omega (arith, some-var (inputAt c i) (input-in c i h)))
+      (λ j h e. omega (arith, some-var (latchAt c j .lit) (latch-in c j h)))
 
   -- ---- all numbers
 
-  pub all-taken : Took (length (gateVars c)) (gateVars c) (operandVars (c .gates)) (length (c .inputs) + length (c .latches) + 1) (leafNumbers c)
+  pub all-taken : Took (length (gateVars c)) (gateVars c) (operandVars (c .gates)) (length (c .inputs) + length (c .latches) + 1)
+      (leafNumbers c)
       (numbering c .0) (numbering c .1)
   unfolding numbering
-  all-taken = took (length (gateVars c)) (gateVars c) (operandVars (c .gates)) (I + L + 1) (leafNumbers c) gates-below (omega arith) leaf-low
+  all-taken = took (length (gateVars c)) (gateVars c) (operandVars (c .gates)) (I + L + 1) (leafNumbers c) gates-below
+      (omega arith) leaf-low
 
   abbrev order : List ℕ
   order = numbering c .0
@@ -272,11 +281,13 @@ module _ {room : ℕ} {c : Circuit} (valid : Valid room c) where
   -- operands come before their gate
   pub left-before : (p : ℕ) → p < length (numbering c .0)
       → Numbered (numbering c .1) (length (c .inputs) + length (c .latches) + 1 + p) (var (gateAt c (getD (numbering c .0) p 0) .left))
-  left-before p h = subst (λ (u : ℕ). Numbered (numbering c .1) (I + L + 1 + p) u) (left-at (c .gates) (getD order p 0)) (all-taken .left p h)
+  left-before p h = subst (λ (u : ℕ). Numbered (numbering c .1) (I + L + 1 + p) u) (left-at (c .gates) (getD order p 0))
+      (all-taken .left p h)
 
   pub right-before : (p : ℕ) → p < length (numbering c .0)
       → Numbered (numbering c .1) (length (c .inputs) + length (c .latches) + 1 + p) (var (gateAt c (getD (numbering c .0) p 0) .right))
-  right-before p h = subst (λ (u : ℕ). Numbered (numbering c .1) (I + L + 1 + p) u) (right-at (c .gates) (getD order p 0)) (all-taken .right p h)
+  right-before p h = subst (λ (u : ℕ). Numbered (numbering c .1) (I + L + 1 + p) u) (right-at (c .gates) (getD order p 0))
+      (all-taken .right p h)
 
   -- no gate stands twice in the order
   order-once : Repeats (numbering c .0) → ⊥
@@ -326,7 +337,8 @@ module _ {room : ℕ} {c : Circuit} (valid : Valid room c) where
       false-T : {b : Bool} → b ≡ false → T b → ⊥
       false-T q t = subst T q t
 
-      go : (a : Bool) → has (numbering c .1) (var (gateAt c (w .0) .left)) ≡ a → (b : Bool) → has (numbering c .1) (var (gateAt c (w .0) .right)) ≡ b
+      go : (a : Bool) → has (numbering c .1) (var (gateAt c (w .0) .left)) ≡ a → (b : Bool) → has (numbering c .1)
+          (var (gateAt c (w .0) .right)) ≡ b
           → Waits (var (gateAt c (w .0) .left)) ⊎ Waits (var (gateAt c (w .0) .right))
       go false p b q = inl (known-waits (var (gateAt c (w .0) .left)) (left-known c known (w .0)) (false-T p))
       go true p false q = inr (known-waits (var (gateAt c (w .0) .right)) (right-known c known (w .0)) (false-T q))
@@ -341,7 +353,8 @@ module _ {room : ℕ} {c : Circuit} (valid : Valid room c) where
           (and (eqb (getD t (getD (gateVars c) i 0) 0) 0) _ own (and (has t (getD (operandVars (c .gates)) (2 * i) 0)) _ l r)))
 
   -- in that case every gate has a number
-  none-waits : leastBelow (length (gateVars c)) (isReady (gateVars c) (operandVars (c .gates)) (numbering c .1)) ≡ none → (u : ℕ) → Waits u → ⊥
+  none-waits : leastBelow (length (gateVars c)) (isReady (gateVars c) (operandVars (c .gates)) (numbering c .1)) ≡ none → (u : ℕ)
+      → Waits u → ⊥
   none-waits e u w = stuck-at c right Waits (waits-on e) u w (T-true (valid .order))
 
   listed : (i : ℕ) → i < length (c .gates) → (newNumber c (var (gateAt c i .lit)) ≡ 0 → ⊥) → List·Memᴰ i (numbering c .0)
@@ -368,12 +381,15 @@ module _ {room : ℕ} {c : Circuit} (valid : Valid room c) where
 
   -- and each has a place there
   pub order-has : (i : ℕ) → i < length (c .gates) → (p : ℕ) × (p < length (numbering c .0)) × (getD (numbering c .0) p 0 ≡ i)
-  order-has i h = mem-at 0 (go (pigeonhole (i ∷ numbering c .0) (upto (length (c .gates))) (omega (arith, order-length, length-from 0 (length (c .gates)))) within))
+  order-has i h = mem-at 0
+      (go (pigeonhole (i ∷ numbering c .0) (upto (length (c .gates)))
+      (omega (arith, order-length, length-from 0 (length (c .gates)))) within))
     where
       within : (x : ℕ) → List·Memᴰ x (i ∷ numbering c .0) → List·Memᴰ x (upto (length (c .gates)))
       within x m =
           ⊎-elim (λ e. upto-in (length (c .gates)) x (omega arith))
-          (λ k. let q = mem-at 0 k in upto-in (length (c .gates)) x (omega (arith, q .2, order-inside (q .0) (q .1)))) (List·Memᴰ·cases-cons m)
+          (λ k. let q = mem-at 0 k in upto-in (length (c .gates)) x (omega (arith, q .2, order-inside (q .0) (q .1))))
+          (List·Memᴰ·cases-cons m)
 
       go : Repeats (i ∷ numbering c .0) → List·Memᴰ i (numbering c .0)
       go (here m) = m

@@ -90,7 +90,8 @@ module _ (g : Gate) (t : T (descends g)) (low : g .lit < 2 ^ 32) where
       (rw (le-leb 1 a (omega (arith, under)), le-leb a (g .lit) (omega arith), difference-back b f (omega (arith, under)))
       (rw (le-leb b (g .lit - a) (omega (arith, x))) (λ i. some (record { lit = g .lit; left = x i; right = y i }, f))))
 
-gates-back : (v : ℕ) (gs : List Gate) (f : List ℕ) → map (λ g. g .lit) gs ≡ implied v (length gs) → T (every descends gs) → v + length gs ≤ 10000
+gates-back : (v : ℕ) (gs : List Gate) (f : List ℕ) → map (λ g. g .lit) gs ≡ implied v (length gs) → T (every descends gs)
+    → v + length gs ≤ 10000
     → gatesFrom v (length gs) (gatesText gs ++ f) ≡ some (gs, f)
 unfolding gatesFrom gatesText implied
 gates-back v [] f e t l = refl
@@ -116,7 +117,8 @@ latches-back v [] e = refl
 latches-back v (l ∷ ls) e =
     let own : 2 * v ≡ l .lit = cc in
     let rest : map (λ (x : Latch). x .lit) ls ≡ implied (suc v) (length ls) = cc in
-    ap₂ (λ (x : Latch) (xs : List Latch). x ∷ xs) (λ i. record { lit = own i; next = l .next; reset = reset-back (l .reset) i }) (latches-back (suc v) ls rest)
+    ap₂ (λ (x : Latch) (xs : List Latch). x ∷ xs) (λ i. record { lit = own i; next = l .next; reset = reset-back (l .reset) i })
+    (latches-back (suc v) ls rest)
 
 first-back : (ls : List ℕ) → map first (map literalRow ls) ≡ ls
 first-back [] = refl
@@ -182,7 +184,8 @@ module _ {room : ℕ} {d : Circuit} (v : Valid room d) (p : Placed d) where
   all-low : T (every low (defined d ++ used d))
   unfolding literalsRight
   all-low =
-      every-imp (λ l. leb l (2 * d .maxVar + 1)) low (λ l h. lt→ltb l (10 ^ 4) (low-of l (leb→le l (2 * d .maxVar + 1) h))) (defined d ++ used d)
+      every-imp (λ l. leb l (2 * d .maxVar + 1)) low (λ l h. lt→ltb l (10 ^ 4) (low-of l (leb→le l (2 * d .maxVar + 1) h)))
+      (defined d ++ used d)
       (all-at (literalTests d) (T-true (v .literals)) 0)
     where
       low-of : (l : ℕ) → l ≤ 2 * d .maxVar + 1 → l < 10 ^ 4
@@ -217,8 +220,10 @@ module _ {room : ℕ} {d : Circuit} (v : Valid room d) (p : Placed d) where
       let nexts = every-unmap low (λ (x : Latch). x .next) (d .latches) (every-left low n o u1) in
       record {
         latches =
-            every-map (λ x. low (x .lit)) (λ x. low (x .next)) (λ x. leb (x .reset) 1 || eqb (x .reset) (x .lit)) (rowFits (10 ^ 4) 1 2) latchTail
-            (λ x s t r. latch-fits (x .next) (x .reset) t (reset-low x s r)) (d .latches) lits nexts (all-at (literalTests d) (T-true (v .literals)) 3);
+            every-map (λ x. low (x .lit)) (λ x. low (x .next)) (λ x. leb (x .reset) 1 || eqb (x .reset) (x .lit))
+            (rowFits (10 ^ 4) 1 2) latchTail
+            (λ x s t r. latch-fits (x .next) (x .reset) t (reset-low x s r)) (d .latches) lits nexts
+            (all-at (literalTests d) (T-true (v .literals)) 3);
         outputs = ones-fit o (every-right low n o u1);
         bads = ones-fit b (every-right low (n ++ o) b u2);
         constraints = ones-fit k (every-right low (n ++ o ++ b) k u3);

@@ -74,8 +74,11 @@ start-under σ z l n =
     let w : σ (var (l .reset)) ≡ 0 = ap σ v ∙ z in
     let e : literalUnder σ (l .reset) ≡ l .reset = omega arith in
     let new : literalUnder σ (l .reset) ≡ literalUnder σ (l .lit) → ⊥ = λ q. omega (arith, n .number) in
-    let old : l .reset ≡ l .lit → ⊥ = λ q. omega (arith, n .own) in
-    (ne-eqb (literalUnder σ (l .reset)) (literalUnder σ (l .lit)) new ∙ sym (ne-eqb (l .reset) (l .lit) old), λ _. ap (λ (x : ℕ). eqb x 1) e))
+    let old : l .reset ≡ l .lit → ⊥ = λ q. omega (arith, n .own) in (
+      ne-eqb (literalUnder σ (l .reset)) (literalUnder σ (l .lit)) new ∙ sym (ne-eqb (l .reset) (l .lit) old),
+      λ _. ap
+          (λ (x : ℕ). eqb x 1) e,
+    ))
     (λ h.
     let q = eqb→eq (l .reset) (l .lit) h in (
       eq-eqb (literalUnder σ (l .reset)) (literalUnder σ (l .lit)) (ap (literalUnder σ) q) ∙ sym (eq-eqb (l .reset) (l .lit) q),
@@ -84,10 +87,12 @@ start-under σ z l n =
     (or-cases (leb (l .reset) 1) (eqb (l .reset) (l .lit)) (n .reset))
 
 module _ (σ : ℕ → ℕ) (z : σ 0 ≡ 0) where
-  tally-under : (ls : List Latch) → ((j : ℕ) → j < length ls → Numbered σ (getD ls j noLatch)) → tally isFree (map (latchUnder σ) ls) ≡ tally isFree ls
+  tally-under : (ls : List Latch) → ((j : ℕ) → j < length ls → Numbered σ (getD ls j noLatch)) → tally isFree
+      (map (latchUnder σ) ls) ≡ tally isFree ls
   tally-under [] g = refl
   tally-under (l ∷ ls) g =
-      ap₂ (λ (b : Bool) (n : ℕ). cond b 1 0 + n) (start-under σ z l (g 0 (omega arith)) .0) (tally-under ls (λ j h. g (suc j) (omega arith)))
+      ap₂ (λ (b : Bool) (n : ℕ). cond b 1 0 + n) (start-under σ z l (g 0 (omega arith)) .0)
+      (tally-under ls (λ j h. g (suc j) (omega arith)))
 
   starts-under : (f : ℕ → Bool) (j : ℕ) (ls : List Latch) → ((i : ℕ) → i < length ls → Numbered σ (getD ls i noLatch))
       → starts f j (map (latchUnder σ) ls) ≡ starts f j ls
@@ -95,18 +100,23 @@ module _ (σ : ℕ → ℕ) (z : σ 0 ≡ 0) where
   starts-under f j [] g = refl
   starts-under f j (l ∷ ls) g =
       let s = start-under σ z l (g 0 (omega arith)) in
-      go (isFree l) (s .1) (starts-under f (j + 1) ls (λ i h. g (suc i) (omega arith))) (starts-under f j ls (λ i h. g (suc i) (omega arith)))
+      go (isFree l) (s .1) (starts-under f (j + 1) ls (λ i h. g (suc i) (omega arith)))
+      (starts-under f j ls (λ i h. g (suc i) (omega arith)))
       (ap
-      (λ (b : Bool). cond b (f j ∷ starts f (j + 1) (map (latchUnder σ) ls)) (eqb (latchUnder σ l .reset) 1 ∷ starts f j (map (latchUnder σ) ls))) (s .0))
+      (λ (b : Bool). cond b (f j ∷ starts f (j + 1) (map (latchUnder σ) ls))
+      (eqb (latchUnder σ l .reset) 1 ∷ starts f j (map (latchUnder σ) ls))) (s .0))
     where
-      go : (b : Bool) → (b ≡ false → eqb (latchUnder σ l .reset) 1 ≡ eqb (l .reset) 1) → starts f (j + 1) (map (latchUnder σ) ls) ≡ starts f (j + 1) ls
+      go : (b : Bool) → (b ≡ false → eqb (latchUnder σ l .reset) 1 ≡ eqb (l .reset) 1) → starts f (j + 1)
+          (map (latchUnder σ) ls) ≡ starts f (j + 1) ls
           → starts f j (map (latchUnder σ) ls) ≡ starts f j ls → {xs : List Bool}
-          → xs ≡ cond b (f j ∷ starts f (j + 1) (map (latchUnder σ) ls)) (eqb (latchUnder σ l .reset) 1 ∷ starts f j (map (latchUnder σ) ls))
+          → xs ≡ cond b (f j ∷ starts f (j + 1) (map (latchUnder σ) ls))
+          (eqb (latchUnder σ l .reset) 1 ∷ starts f j (map (latchUnder σ) ls))
           → xs ≡ cond b (f j ∷ starts f (j + 1) ls) (eqb (l .reset) 1 ∷ starts f j ls)
       go true r p q e = e ∙ ap (λ (ys : List Bool). f j ∷ ys) p
       go false r p q e = e ∙ ap₂ (λ (x : Bool) (ys : List Bool). x ∷ ys) (r refl) q
 
-every-under : (p q : ℕ → Bool) (f : ℕ → ℕ) (xs : List ℕ) → ((i : ℕ) → i < length xs → p (f (getD xs i 0)) ≡ q (getD xs i 0)) → every p (map f xs) ≡ every q xs
+every-under : (p q : ℕ → Bool) (f : ℕ → ℕ) (xs : List ℕ) → ((i : ℕ) → i < length xs → p (f (getD xs i 0)) ≡ q (getD xs i 0)) → every p
+    (map f xs) ≡ every q xs
 every-under p q f [] h = refl
 every-under p q f (x ∷ xs) h = ap₂ (λ (a b : Bool). a && b) (h 0 (omega arith)) (every-under p q f xs (λ i l. h (suc i) (omega arith)))
 
@@ -128,7 +138,8 @@ module _ {room : ℕ} {c : Circuit} (valid : Valid room c) where
       record {
         own = definition c right (latchAt c j .lit) (latch-in c j h) .0;
         number = omega (arith, number-latch valid j h);
-        reset = every-at (λ (x : Latch). leb (x .reset) 1 || eqb (x .reset) (x .lit)) (c .latches) j noLatch h (all-at (literalTests c) right 3);
+        reset = every-at (λ (x : Latch). leb (x .reset) 1 || eqb (x .reset) (x .lit)) (c .latches) j noLatch h
+            (all-at (literalTests c) right 3);
       }
 
   -- the space of sequences is the same
@@ -157,7 +168,11 @@ module _ {room : ℕ} {c : Circuit} (valid : Valid room c) where
       record {
         zero = number-zero valid;
         input = λ i h. (omega (arith, inputs-length valid), ap var (input-at valid i h) ∙ under-var (inputAt c i));
-        latch = λ j h. (omega (arith, latches-length valid), ap (λ (l : Latch). var (l .lit)) (latch-at valid j h) ∙ under-var (latchAt c j .lit));
+        latch = λ j h. (
+          omega (arith, latches-length valid),
+          ap (λ (l : Latch). var (l .lit)) (latch-at valid j h) ∙ under-var
+              (latchAt c j .lit),
+        );
         next = λ j h. ap (λ (l : Latch). l .next) (latch-at valid j h);
         gate = λ i h.
             let r = order-has valid i h in
@@ -178,7 +193,12 @@ module _ {room : ℕ} {c : Circuit} (valid : Valid room c) where
       either g = go (ltb (literalUnder σ (g .left)) (literalUnder σ (g .right)))
         where
           go : (b : Bool) → SameOperands (newNumber c) g
-              (cond b (record { lit = literalUnder (newNumber c) (g .lit); left = literalUnder (newNumber c) (g .right); right = literalUnder (newNumber c) (g .left) })
+              (cond b (record {
+                lit = literalUnder (newNumber c) (g .lit);
+                left = literalUnder (newNumber c)
+                    (g .right);
+                right = literalUnder (newNumber c) (g .left);
+              })
               (gateUnder (newNumber c) g))
           go true = inr (refl, refl)
           go false = inl (refl, refl)
@@ -188,7 +208,8 @@ module _ {room : ℕ} {c : Circuit} (valid : Valid room c) where
   same-value r t l k =
       let v = renumbered-valid valid in
       sym
-      (embedded-value c (renumbered c) σ (λ i. i) (λ j. j) embeds right known (T-true (valid .order)) (T-true (v .literals)) (T-true (v .order)) r r
+      (embedded-value c (renumbered c) σ (λ i. i) (λ j. j) embeds right known (T-true (valid .order)) (T-true (v .literals))
+      (T-true (v .order)) r r
       (λ j h. refl) (λ u i h. refl) t l k)
 
   -- a line of outputs, bad lines or constraints, by its number
@@ -197,9 +218,11 @@ module _ {room : ℕ} {c : Circuit} (valid : Valid room c) where
       let e : literalUnder σ 0 ≡ 0 = omega (arith, number-zero valid) in
       ap (λ (x : ℕ). getD (map (literalUnder σ) ls) i x) (sym e) ∙ List·getD-map (literalUnder σ) ls i 0
 
-  pub same-output : (r : Run) (t i : ℕ) → valueAt (renumbered c) r t (getD (renumbered c .outputs) i 0) ≡ valueAt c r t (getD (c .outputs) i 0)
+  pub same-output : (r : Run) (t i : ℕ) → valueAt (renumbered c) r t (getD (renumbered c .outputs) i 0) ≡ valueAt c r t
+      (getD (c .outputs) i 0)
   unfolding renumbered
-  same-output r t i = ap (valueAt (renumbered c) r t) (line-at (c .outputs) i) ∙ same-value r t (getD (c .outputs) i 0) (output-known c known i)
+  same-output r t i = ap (valueAt (renumbered c) r t) (line-at (c .outputs) i) ∙ same-value r t (getD (c .outputs) i 0)
+      (output-known c known i)
 
   pub same-bad : (r : Run) (t b : ℕ) → valueAt (renumbered c) r t (getD (renumbered c .bads) b 0) ≡ valueAt c r t (getD (c .bads) b 0)
   unfolding renumbered
@@ -236,4 +259,5 @@ module _ {room : ℕ} {c : Circuit} (valid : Valid room c) where
   pub same-witness : (b t : ℕ) → firstWitness (renumbered c) b t ≡ firstWitness c b t
   unfolding firstWitness
   same-witness b t =
-      ap₂ (λ (q : Question) (f : ℕ → Run). elim (firstAt q t) [ Option.some x ↦ witness b (f x) | Option.none ↦ [] ]) (same-question b) (λ i x. same-run t x i)
+      ap₂ (λ (q : Question) (f : ℕ → Run). elim (firstAt q t) [ Option.some x ↦ witness b (f x) | Option.none ↦ [] ]) (same-question b)
+      (λ i x. same-run t x i)

@@ -37,7 +37,8 @@ pub given-at : (k : ℕ) (vs t : List ℕ) (j : ℕ) → Below vs (length t) →
 unfolding given
 given-at k [] t j i d h = absurd (not-suc-le-zero h)
 given-at k (v ∷ vs) t zero i d h =
-    given-other (suc k) vs (set t v k) v (λ j l e. d 0 (suc j) (omega arith) (omega arith) (sym e)) ∙ getD-set-same t v k 0 (i 0 (omega arith))
+    given-other (suc k) vs (set t v k) v (λ j l e. d 0 (suc j) (omega arith) (omega arith) (sym e)) ∙ getD-set-same t v k 0
+    (i 0 (omega arith))
     ∙ omega arith
 given-at k (v ∷ vs) t (suc j) i d h =
     given-at (suc k) vs (set t v k) j (λ a l. omega (arith, length-set t v k, i (suc a) (omega arith)))
@@ -47,7 +48,8 @@ given-at k (v ∷ vs) t (suc j) i d h =
 set-low : (t : List ℕ) (v x b : ℕ) → v < length t → x < b → ((u : ℕ) → getD t u 0 < b) → (u : ℕ) → getD (set t v x) u 0 < b
 set-low t v x b i h l u = ⊎-elim (λ e. omega (arith, e .1)) (λ e. omega (arith, e .1, l u)) (getD-set t v x u i)
 
-pub given-low : (k : ℕ) (vs t : List ℕ) (b : ℕ) → Below vs (length t) → k + length vs ≤ b → ((u : ℕ) → getD t u 0 < b) → (u : ℕ) → getD (given k vs t) u 0 < b
+pub given-low : (k : ℕ) (vs t : List ℕ) (b : ℕ) → Below vs (length t) → k + length vs ≤ b → ((u : ℕ) → getD t u 0 < b) → (u : ℕ) → getD
+    (given k vs t) u 0 < b
 unfolding given
 given-low k [] t b i h l = l
 given-low k (v ∷ vs) t b i h l =
@@ -91,12 +93,14 @@ took-none n vars ops k table l e =
     }
 
 -- an operand that has a number keeps it
-has-numbered : (t t′ : List ℕ) (b u : ℕ) → T (has t u) → ((v : ℕ) → getD t v 0 < b) → ((v : ℕ) → 0 < getD t v 0 → getD t′ v 0 ≡ getD t v 0) → Numbered t′ b u
+has-numbered : (t t′ : List ℕ) (b u : ℕ) → T (has t u) → ((v : ℕ) → getD t v 0 < b)
+    → ((v : ℕ) → 0 < getD t v 0 → getD t′ v 0 ≡ getD t v 0) → Numbered t′ b u
 has-numbered t t′ b u h l k =
     ⊎-elim (λ e. inl (eqb→eq u 0 e)) (λ e. let p = ltb→lt 0 (getD t u 0) e in inr (omega (arith, k u p), omega (arith, k u p, l u)))
     (or-cases (eqb u 0) (ltb 0 (getD t u 0)) h)
 
-module _ (vars ops : List ℕ) (k i : ℕ) (table : List ℕ) (known : Below vars (length table)) (some-number : 0 < k) (l : (u : ℕ) → getD table u 0 < k)
+module _ (vars ops : List ℕ) (k i : ℕ) (table : List ℕ) (known : Below vars (length table)) (some-number : 0 < k)
+    (l : (u : ℕ) → getD table u 0 < k)
     (inside : i < length vars) (ready : T (isReady vars ops table i)) where
   v : ℕ
   v = getD vars i 0
@@ -121,7 +125,8 @@ module _ (vars ops : List ℕ) (k i : ℕ) (table : List ℕ) (known : Below var
   next-low = set-low table (getD vars i 0) k (suc k) (known i inside) (omega arith) (λ u. omega (arith, l u))
 
   -- gate i, and then others
-  pub took-more : {n : ℕ} {order table′ : List ℕ} → Took n vars ops (suc k) (set table (getD vars i 0) k) order table′ → Took (suc n) vars ops k table (i ∷ order) table′
+  pub took-more : {n : ℕ} {order table′ : List ℕ} → Took n vars ops (suc k) (set table (getD vars i 0) k) order table′ → Took
+      (suc n) vars ops k table (i ∷ order) table′
   took-more {n} {order} {table′} t =
       let both = and-right (eqb (getD table (getD vars i 0) 0) 0) _ ready in
       let keeps : (u : ℕ) → 0 < getD table u 0 → getD table′ u 0 ≡ getD table u 0 = λ u h. t .kept u (omega (arith, stays u h)) ∙ stays u h in
@@ -131,8 +136,10 @@ module _ (vars ops : List ℕ) (k i : ℕ) (table : List ℕ) (known : Below var
         inside = λ p. inside-at p;
         blank = λ p. blank-at p;
         number = λ p. number-at p;
-        left = λ p. operand-at (λ x. 2 * x) (has-numbered table table′ k (getD ops (2 * i) 0) (and-left (has table (getD ops (2 * i) 0)) _ both) l keeps) (t .left) p;
-        right = λ p. operand-at (λ x. 2 * x + 1) (has-numbered table table′ k (getD ops (2 * i + 1) 0) (and-right (has table (getD ops (2 * i) 0)) _ both) l keeps) (t .right) p;
+        left = λ p. operand-at (λ x. 2 * x)
+            (has-numbered table table′ k (getD ops (2 * i) 0) (and-left (has table (getD ops (2 * i) 0)) _ both) l keeps) (t .left) p;
+        right = λ p. operand-at (λ x. 2 * x + 1)
+            (has-numbered table table′ k (getD ops (2 * i + 1) 0) (and-right (has table (getD ops (2 * i) 0)) _ both) l keeps) (t .right) p;
         kept = keeps;
         fresh = λ u z h. fresh-at u z h;
         stopped = λ h. t .stopped (omega arith);
@@ -150,15 +157,18 @@ module _ (vars ops : List ℕ) (k i : ℕ) (table : List ℕ) (known : Below var
       number-at zero h = t .kept (getD vars i 0) (omega (arith, put)) ∙ put ∙ omega arith
       number-at (suc p) h = t .number p (omega arith) ∙ omega arith
 
-      operand-at : (f : ℕ → ℕ) → Numbered table′ k (getD ops (f i) 0) → ((p : ℕ) → p < length order → Numbered table′ (suc k + p) (getD ops (f (getD order p 0)) 0))
+      operand-at : (f : ℕ → ℕ) → Numbered table′ k (getD ops (f i) 0)
+          → ((p : ℕ) → p < length order → Numbered table′ (suc k + p) (getD ops (f (getD order p 0)) 0))
           → (p : ℕ) → p < suc (length order) → Numbered table′ (k + p) (getD ops (f (getD (i ∷ order) p 0)) 0)
       operand-at f a b zero h = ⊎-elim (λ e. inl e) (λ e. inr (e .0, omega (arith, e .1))) a
       operand-at f a b (suc p) h = ⊎-elim (λ e. inl e) (λ e. inr (e .0, omega (arith, e .1))) (b p (omega arith))
 
-      fresh-at : (u : ℕ) → getD table u 0 ≡ 0 → 0 < getD table′ u 0 → (p : ℕ) × (p < suc (length order)) × (getD vars (getD (i ∷ order) p 0) 0 ≡ u)
+      fresh-at : (u : ℕ) → getD table u 0 ≡ 0 → 0 < getD table′ u 0 → (p : ℕ) × (p < suc (length order))
+          × (getD vars (getD (i ∷ order) p 0) 0 ≡ u)
       fresh-at u z h =
           ⊎-elim (λ e. (0, omega arith, sym (e .0)))
-          (λ e. let r = t .fresh u (e .1 ∙ z) h in (suc (r .0), omega (arith, r .1), r .2)) (getD-set table (getD vars i 0) k u (known i inside))
+          (λ e. let r = t .fresh u (e .1 ∙ z) h in (suc (r .0), omega (arith, r .1), r .2))
+          (getD-set table (getD vars i 0) k u (known i inside))
 
 -- taking gates
 pub took : (n : ℕ) (vars ops : List ℕ) (k : ℕ) (table : List ℕ) → Below vars (length table) → 0 < k → ((u : ℕ) → getD table u 0 < k)
@@ -167,7 +177,8 @@ unfolding taken
 took zero vars ops k table b p l = took-none 0 vars ops k table l (λ h. absurd (omega arith))
 took (suc n) vars ops k table b p l =
     go (leastBelow (length vars) (isReady vars ops table)) refl (least-below (isReady vars ops table) (length vars))
-    (λ i h r. took n vars ops (suc k) (set table (getD vars i 0) k) (λ j m. omega (arith, length-set table (getD vars i 0) k, b j m)) (omega arith)
+    (λ i h r. took n vars ops (suc k) (set table (getD vars i 0) k) (λ j m. omega (arith, length-set table (getD vars i 0) k, b j m))
+    (omega arith)
     (next-low vars ops k i table b p l h r))
   where
     go : (o : Option ℕ) → leastBelow (length vars) (isReady vars ops table) ≡ o → Least (isReady vars ops table) (length vars) o

@@ -41,4 +41,5 @@ module _ {m : List ℕ} (h : Holds m (circuitIn m)) where
     pub fitting : n ≤ length out → {out′ : List ℕ} → out′ ≡ front (writeBinary (circuitIn m)) out → WrittenBinary m out (gives n) out′
     unfolding judge
     fitting l q =
-        Operated.acts (circuitIn m) h (rw (le-leb (length (writeBinary (circuitIn m))) (length out) (omega arith))) (record { count = e; shows = q })
+        Operated.acts (circuitIn m) h (rw (le-leb (length (writeBinary (circuitIn m))) (length out) (omega arith)))
+        (record { count = e; shows = q })

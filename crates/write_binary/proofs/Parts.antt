@@ -94,7 +94,8 @@ module _ {m : List ℕ} {p : Layout} {names order : List ℕ} (g : Ready m p nam
 
   -- four parts, one after the other
   pub text-parts : writeBinary (circuitIn m)
-      ≡ headText p ++ (latchLines names m (p .latches) (p .l) ++ (literalLines names m (p .outputs) (p .o + p .b + p .c) ++ (gateBytes names m (p .gates) order 0 (p .a) ++ [])))
+      ≡ headText p ++ (latchLines names m (p .latches) (p .l) ++
+      (literalLines names m (p .outputs) (p .o + p .b + p .c) ++ (gateBytes names m (p .gates) order 0 (p .a) ++ [])))
   unfolding binaryText
   text-parts =
       let d = renumbered c in
@@ -116,7 +117,9 @@ module _ {m : List ℕ} {p : Layout} {names order : List ℕ} (g : Ready m p nam
       let n = sym (a .a-is) in
       regroup
       ∙ (λ x. head-part x ++ (latches-part (g .held) x ++ (lines-part (g .held) x ++ (gates-part (g .held) order order-at x ++ []))))
-      ∙ (λ x. headText p ++ (latchLines (t x) m (la x) (l x) ++ (literalLines (t x) m (oa x) (o x + b x + k x) ++ (gateBytes (t x) m (ga x) order 0 (n x) ++ []))))
+      ∙ (λ x. headText p ++
+      (latchLines (t x) m (la x) (l x) ++
+      (literalLines (t x) m (oa x) (o x + b x + k x) ++ (gateBytes (t x) m (ga x) order 0 (n x) ++ []))))
 
   -- ---- what the writers ask
 
@@ -133,7 +136,8 @@ module _ {m : List ℕ} {p : Layout} {names order : List ℕ} (g : Ready m p nam
   pub latches-within : (p .latches + 3 * p .l ≤ length m) × Within m (p .latches) (3 * p .l) names
   latches-within = (
     omega (arith, inside (g .held), a .latches-is, a .l-is),
-    subst₂ (λ (x n : ℕ). Within m x (3 * n) names) (sym (a .latches-is)) (sym (a .l-is)) (within (latchesAt m) (3 * word m 2) (latches-known (g .held))),
+    subst₂ (λ (x n : ℕ). Within m x (3 * n) names) (sym (a .latches-is)) (sym (a .l-is))
+        (within (latchesAt m) (3 * word m 2) (latches-known (g .held))),
   )
 
   lines-known : (j : ℕ) → j < word m 3 + word m 5 + word m 6 → Known (circuitIn m) (var (word m (outputsAt m + j)))
@@ -158,7 +162,8 @@ module _ {m : List ℕ} {p : Layout} {names order : List ℕ} (g : Ready m p nam
   lines-within =
       let n : word m 3 + word m 5 + word m 6 ≡ p .o + p .b + p .c = omega (arith, a .o-is, a .b-is, a .c-is) in (
         omega (arith, inside (g .held), a .outputs-is, a .o-is, a .b-is, a .c-is),
-        subst₂ (λ (x k : ℕ). Within m x k names) (sym (a .outputs-is)) n (within (outputsAt m) (word m 3 + word m 5 + word m 6) lines-known),
+        subst₂ (λ (x k : ℕ). Within m x k names) (sym (a .outputs-is)) n
+            (within (outputsAt m) (word m 3 + word m 5 + word m 6) lines-known),
       )
 
   -- the gate at a place of the order
@@ -177,7 +182,12 @@ module _ {m : List ℕ} {p : Layout} {names order : List ℕ} (g : Ready m p nam
       (λ x. gateUnderAt (g .numbered .numbers x) m (e x))
       ∙ ap
       (λ (z : Gate).
-      record { lit = literalUnder (newNumber c) (z .lit); left = literalUnder (newNumber c) (z .left); right = literalUnder (newNumber c) (z .right) })
+      record {
+        lit = literalUnder (newNumber c) (z .lit);
+        left = literalUnder (newNumber c) (z .left);
+        right = literalUnder (newNumber c)
+            (z .right);
+      })
       (sym w)
 
   pub listed : Listed names m (p .gates) (p .a) order
@@ -188,7 +198,8 @@ module _ {m : List ℕ} {p : Layout} {names order : List ℕ} (g : Ready m p nam
       let count : length (c .gates) ≡ p .a = gate-count m ∙ sym (a .a-is) in
       record {
         inside = omega (arith, inside (g .held), a .gates-is, a .a-is);
-        within = subst₂ (λ (x k : ℕ). Within m x (3 * k) names) (sym (a .gates-is)) (sym (a .a-is)) (within (gatesAt m) (3 * word m 4) (gates-known (g .held)));
+        within = subst₂ (λ (x k : ℕ). Within m x (3 * k) names) (sym (a .gates-is)) (sym (a .a-is))
+            (within (gatesAt m) (3 * word m 4) (gates-known (g .held)));
         room =
             omega (
               arith,
@@ -216,7 +227,8 @@ module _ {m : List ℕ} {p : Layout} {names order : List ℕ} (g : Ready m p nam
 
   module _ (out : List ℕ) (room : Room out 0 (writeBinary (circuitIn m))) where
     start : Rest out 0 (writeBinary (circuitIn m)) out 0
-        (headText p ++ (latchLines names m (p .latches) (p .l) ++ (literalLines names m (p .outputs) (p .o + p .b + p .c) ++ (gateBytes names m (p .gates) order 0 (p .a) ++ []))))
+        (headText p ++ (latchLines names m (p .latches) (p .l) ++
+        (literalLines names m (p .outputs) (p .o + p .b + p .c) ++ (gateBytes names m (p .gates) order 0 (p .a) ++ []))))
     start = subst (λ (r : List ℕ). Rest out 0 (writeBinary c) out 0 r) text-parts (rest-start out 0 (writeBinary c))
 
     pub head-room : Room out 0 (headText p)
@@ -224,7 +236,8 @@ module _ {m : List ℕ} {p : Layout} {names order : List ℕ} (g : Ready m p nam
 
     module _ {out₁ : List ℕ} {e₁ : ℕ} (p₁ : Placed out 0 (headText p) e₁ out₁) where
       after-head : Rest out 0 (writeBinary (circuitIn m)) out₁ e₁
-          (latchLines names m (p .latches) (p .l) ++ (literalLines names m (p .outputs) (p .o + p .b + p .c) ++ (gateBytes names m (p .gates) order 0 (p .a) ++ [])))
+          (latchLines names m (p .latches) (p .l) ++
+          (literalLines names m (p .outputs) (p .o + p .b + p .c) ++ (gateBytes names m (p .gates) order 0 (p .a) ++ [])))
       after-head = rest-more (headText p) (latchesText ++ (linesText ++ (gatesBytes ++ []))) room start p₁
 
       pub latches-room : Room out₁ e₁ (latchLines names m (p .latches) (p .l))
@@ -253,7 +266,11 @@ module _ {m : List ℕ} {p : Layout} {names order : List ℕ} (g : Ready m p nam
 
 pub name-placed : (out rest : List ℕ) → Room out 0 (bytes "aig " ++ rest) → Placed out 0 (bytes "aig ") 4 (sets out 0 (bytes "aig "))
 unfolding putText
-name-placed out rest room = record { past = refl; contents = sets-eq (bytes "aig ") out 0 (omega (arith, length-append (bytes "aig ") rest)) }
+name-placed out rest room = record {
+  past = refl;
+  contents = sets-eq (bytes "aig ") out 0
+      (omega (arith, length-append (bytes "aig ") rest));
+}
 
 pub head-line : (M I L O A B C : ℕ) → rowText (M ∷ I ∷ L ∷ O ∷ A ∷ B ∷ C ∷ []) 0 7 ≡ lineOf M (I ∷ L ∷ O ∷ A ∷ B ∷ C ∷ [])
 head-line M I L O A B C = row-line (M ∷ I ∷ L ∷ O ∷ A ∷ B ∷ C ∷ []) 0 6

@@ -28,13 +28,15 @@ use Rattle.renumbered_laws.proofs.Again.{renumbered-same}
 -- the binary writer answers one thing and leaves one output
 pub written-same : {m out o₁ o₂ : List ℕ} {a b : Answer ℕ} → WrittenBinary m out a o₁ → WrittenBinary m out b o₂ → (a ≡ b) × (o₁ ≡ o₂)
 written-same w v =
-    operated-same (λ (o p : List ℕ). o ≡ p) alike-self (λ c. refl) refl (λ c a b s t e f. (e .count ∙ sym (f .count), e .shows ∙ sym (f .shows))) w v
+    operated-same (λ (o p : List ℕ). o ≡ p) alike-self (λ c. refl) refl
+    (λ c a b s t e f. (e .count ∙ sym (f .count), e .shows ∙ sym (f .shows))) w v
 
 -- a text that fits is written
 pub written-in : {m out : List ℕ} (c : Circuit) → Holds m c → length (writeBinary c) ≤ length out
     → WrittenBinary m out (gives (length (writeBinary c))) (front (writeBinary c) out)
 unfolding judge
-written-in {out = out} c h l = Operated.acts c h (rw (le-leb (length (writeBinary c)) (length out) l)) (record { count = refl; shows = refl })
+written-in {out = out} c h l = Operated.acts c h (rw (le-leb (length (writeBinary c)) (length out) l))
+    (record { count = refl; shows = refl })
 
 -- every circuit that a memory holds is written, into an output of 24,576 bytes at least
 pub always-written : {m out out′ : List ℕ} {c : Circuit} {a : Answer ℕ} → Holds m c → 24576 ≤ length out → WrittenBinary m out a out′
@@ -77,11 +79,13 @@ write-load {m₂ = m₂} {m₂′ = m₂′} {a = a} {c = c} h w room l =
     (s .0, s .1, subst (λ (x : List ℕ). Holds x d) (sym (s .1)) (loaded-holds m₂ (binaryText d) e))
 
 -- of the renumbered circuit a search may answer what it may answer of the first one, for every bad line, bound and budget
-pub written-permitted : {m : List ℕ} {c : Circuit} → Holds m c → (b k D : ℕ) (o : Outcome) → permitted (renumbered c) b k D o ≡ permitted c b k D o
+pub written-permitted : {m : List ℕ} {c : Circuit} → Holds m c → (b k D : ℕ) (o : Outcome) → permitted
+    (renumbered c) b k D o ≡ permitted c b k D o
 written-permitted h = same-permitted (held-valid h)
 
 -- written again, the same bytes
-pub write-again : {m out out′ m₂ out₂ out₂′ : List ℕ} {n k : ℕ} {c : Circuit} → Holds m c → WrittenBinary m out (gives n) out′ → Holds m₂ (renumbered c)
+pub write-again : {m out out′ m₂ out₂ out₂′ : List ℕ} {n k : ℕ} {c : Circuit} → Holds m c → WrittenBinary m out (gives n) out′ → Holds m₂
+    (renumbered c)
     → WrittenBinary m₂ out₂ (gives k) out₂′ → (k ≡ n) × (take k out₂′ ≡ take n out′)
 write-again {c = c} h w h₂ w₂ =
     let v = held-valid h in

@@ -56,8 +56,11 @@ module _ (names m : List ℕ) where
   gates-text first make order (i ∷ is) j o e =
       let z : j + 0 ≡ j = omega arith in
       let here : word order j ≡ i = ap (word order) (sym z) ∙ o 0 (omega arith) in
-      ap₂ (λ (g : Gate) (w : List ℕ). gateText g ++ w) (e 0 (omega arith) ∙ ap (λ (x : ℕ). sorted (gateUnderAt names m (first + 3 * x))) (sym here))
-      (gates-text first make order is (j + 1) (λ k h. let q : j + 1 + k ≡ j + suc k = omega arith in ap (word order) q ∙ o (suc k) (omega arith)) (λ k h. e (suc k) (omega arith)))
+      ap₂ (λ (g : Gate) (w : List ℕ). gateText g ++ w)
+      (e 0 (omega arith) ∙ ap (λ (x : ℕ). sorted (gateUnderAt names m (first + 3 * x))) (sym here))
+      (gates-text first make order is (j + 1)
+      (λ k h. let q : j + 1 + k ≡ j + suc k = omega arith in ap (word order) q ∙ o (suc k) (omega arith))
+      (λ k h. e (suc k) (omega arith)))
 
 -- ---- the sections
 
@@ -84,9 +87,11 @@ module _ {m : List ℕ} (h : Holds m (circuitIn m)) where
   unfolding circuitIn
   constraints-are = column-words m (constraintsAt m) (word m 6)
 
-  pub latches-part : linesOf (map latchTail (renumbered (circuitIn m) .latches)) ≡ latchLines (numbering (circuitIn m) .1) m (latchesAt m) (word m 2)
+  pub latches-part : linesOf (map latchTail (renumbered (circuitIn m) .latches)) ≡ latchLines (numbering (circuitIn m) .1) m (latchesAt m)
+      (word m 2)
   unfolding renumbered
-  latches-part = ap (λ (ls : List Latch). linesOf (map latchTail (map (latchUnder (newNumber c)) ls))) latches-are ∙ latches-text T m (latchesAt m) (word m 2)
+  latches-part = ap (λ (ls : List Latch). linesOf (map latchTail (map (latchUnder (newNumber c)) ls))) latches-are ∙ latches-text T m
+      (latchesAt m) (word m 2)
 
   lines-of : (ls : List ℕ) (p n : ℕ) → ls ≡ wordsAt m p n
       → linesOf (map literalRow (map (literalUnder (newNumber (circuitIn m))) ls)) ≡ literalLines (numbering (circuitIn m) .1) m p n
@@ -102,15 +107,19 @@ module _ {m : List ℕ} (h : Holds m (circuitIn m)) where
       let e : q + word m 3 + word m 5 ≡ q + (word m 3 + word m 5) = omega arith in
       ap₂ (λ (x y : List ℕ). x ++ y ++ linesOf (map literalRow (map (literalUnder (newNumber c)) (c .constraints))))
       (lines-of (c .outputs) q (word m 3) outputs-are) (lines-of (c .bads) (badsAt m) (word m 5) bads-are)
-      ∙ ap₂ (λ (x y : List ℕ). x ++ y) (literals-add T m q (word m 3) (word m 5)) (lines-of (c .constraints) (constraintsAt m) (word m 6) constraints-are)
-      ∙ ap (λ (p : ℕ). literalLines T m q (word m 3 + word m 5) ++ literalLines T m p (word m 6)) e ∙ literals-add T m q (word m 3 + word m 5) (word m 6)
+      ∙ ap₂ (λ (x y : List ℕ). x ++ y) (literals-add T m q (word m 3) (word m 5))
+      (lines-of (c .constraints) (constraintsAt m) (word m 6) constraints-are)
+      ∙ ap (λ (p : ℕ). literalLines T m q (word m 3 + word m 5) ++ literalLines T m p (word m 6)) e ∙ literals-add T m q
+      (word m 3 + word m 5) (word m 6)
 
-  pub gates-part : (order : List ℕ) → ((j : ℕ) → j < length (numbering (circuitIn m) .0) → word order j ≡ getD (numbering (circuitIn m) .0) j 0)
+  pub gates-part : (order : List ℕ)
+      → ((j : ℕ) → j < length (numbering (circuitIn m) .0) → word order j ≡ getD (numbering (circuitIn m) .0) j 0)
       → gatesText (renumbered (circuitIn m) .gates) ≡ gateBytes (numbering (circuitIn m) .1) m (gatesAt m) order 0 (word m 4)
   unfolding renumbered
   gates-part order o =
       let v = valid h in
       let make : ℕ → Gate = λ i. sorted (gateUnder (newNumber c) (gateAt c i)) in
       gates-text T m (gatesAt m) make order (numbering c .0) 0 (λ k b. let z : 0 + k ≡ k = omega arith in ap (word order) z ∙ o k b)
-      (λ k b. ap (λ (g : Gate). sorted (gateUnder (newNumber c) g)) (gate-word m (getD (numbering c .0) k 0) (omega (arith, gate-count m, order-inside v k b))))
+      (λ k b. ap (λ (g : Gate). sorted (gateUnder (newNumber c) g))
+      (gate-word m (getD (numbering c .0) k 0) (omega (arith, gate-count m, order-inside v k b))))
       ∙ ap (gateBytes T m (gatesAt m) order 0) (order-length v ∙ gate-count m)
