@@ -1,5 +1,5 @@
-//! An analyser of one user's own: a circuit memory, and pins. What several answers are permitted for is judged by trying all sequences that
-//! obey the pins on the circuit itself; the others are computed.
+//! An analyser of one user's own: a circuit memory, and pins. A search, for which several answers are permitted, is judged by trying all
+//! sequences that obey the pins on the circuit itself; a fold by that of the circuit with constants; the other answers are computed.
 
 use crate::reference::{self, Circuit, Said, Verdict};
 

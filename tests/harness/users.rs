@@ -1,6 +1,6 @@
-//! Sequences of random calls of two users through the C interface, compared with two analysers that are kept apart: each has a circuit memory and
-//! pins of its own, and learns of the other user's calls only the loads and joins that were accepted. Clause 12.7. HARNESS_SPOIL=1 changes a
-//! pin behind the users' backs in 1 of 200 calls, which must be noticed.
+//! Sequences of random calls of two users through the C interface, compared with two analysers that are kept apart: each has a circuit
+//! memory and pins of its own, and learns of the other user's calls only the loads and joins that were accepted. Clause 12.7.
+//! HARNESS_SPOIL=1 changes a pin in 1 of 200 calls without telling the analysers, which must be noticed.
 
 #![allow(dead_code)]
 
@@ -171,7 +171,7 @@ impl Run {
 
     fn compare(&mut self, name: &'static str, user: u32, got: &Reply, expected: &Reply) {
         self.calls += 1;
-        let counts = self.tally.entry(name).or_insert([0, 0]);
+        let counts = self.tally.entry(kind(name, expected)).or_insert([0, 0]);
         counts[usize::from(expected.refused)] += 1;
         let mut faults = Vec::new();
         if got.code != expected.code || got.out != expected.out {
@@ -189,6 +189,19 @@ impl Run {
             self.differences += 1;
             println!("call {} {name} of user {user}: {}", self.calls, faults.join("; "));
         }
+    }
+}
+
+/// The operation, and for search and replay what it said.
+fn kind(name: &'static str, reply: &Reply) -> &'static str {
+    match (name, reply.refused, reply.code, reply.code >> 32) {
+        ("replay", false, 0, _) => "replay no",
+        ("replay", false, 1, _) => "replay all",
+        ("replay", false, ..) => "replay mixed",
+        ("search", false, _, 0) => "search found",
+        ("search", false, _, 1) => "search none",
+        ("search", false, _, 2) => "search spent",
+        _ => name,
     }
 }
 
