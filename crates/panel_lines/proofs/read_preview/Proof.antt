@@ -1,0 +1,24 @@
+-- `panel_lines::read_preview` meets its contract. Assumes nothing.
+use Rattle.panel_lines.proofs.Commands.{preview-none, preview-all}
+use borrow.Author.Needs.{needs}
+use Rattle.panel_lines.proofs.read_preview.Statement.{statement}
+use Rattle.panel_lines.proofs.read_preview.Tie as tie
+
+one-name-requires : tie.Need-one-name-requires
+one-name-requires c κs = search needs
+
+enum-known-file : tie.Need-enum-known-file
+enum-known-file c = search needs
+
+enum-told : tie.Need-enum-told
+enum-told c = search needs
+
+returns : tie.Need-returns
+returns c = preview-none ((c .before .before .before .before) .args .line .now) ((c .before .before .before .before) .args .at) (rw (c .enum-told .given .1) at ((c .before .before) .one-name .ensures))
+
+returns-2 : tie.Need-returns-2
+returns-2 c = preview-all ((c .before .before .before .before .before) .args .line .now) ((c .before .before .before .before .before) .args .at) (rw ((c .before) .file .given .1) at ((c .before .before .before) .one-name .ensures))
+
+pub read-preview-spec : {M : Type 1} → statement M
+read-preview-spec =
+    tie.close (tie.spec one-name-requires enum-known-file enum-told returns returns-2)

@@ -1,0 +1,46 @@
+-- `panel_lines::read_search` meets its contract. Assumes nothing.
+use Rattle.panel_lines.proofs.Commands.{search-none, search-half, search-all}
+use borrow.Author.Needs.{needs}
+use Rattle.panel_lines.proofs.read_search.Statement.{statement}
+use Rattle.panel_lines.proofs.read_search.Tie as tie
+
+number-after-requires : tie.Need-number-after-requires
+number-after-requires c κs = search needs
+
+enum-known-b : tie.Need-enum-known-b
+enum-known-b c = search needs
+
+enum-told : tie.Need-enum-told
+enum-told c = search needs
+
+returns : tie.Need-returns
+returns c = search-none ((c .before .before .before .before) .args .line .now) ((c .before .before .before .before) .args .at) (rw (c .enum-told .given .1) at ((c .before .before) .number-after .ensures))
+
+two-numbers-requires : tie.Need-two-numbers-requires
+two-numbers-requires c κs = (rw ((c .before) .b .given .1) at ((c .before .before .before) .number-after .ensures)) .within
+
+enum-known-k : tie.Need-enum-known-k
+enum-known-k c = search needs
+
+enum-told-2 : tie.Need-enum-told-2
+enum-told-2 c = search needs
+
+returns-2 : tie.Need-returns-2
+returns-2 c = search-half ((c .before .before .before .before .before .before .before .before) .args .line .now) ((c .before .before .before .before .before .before .before .before) .args .at) (rw ((c .before .before .before .before) .b .given .1) at ((c .before .before .before .before .before .before) .number-after .ensures)) (rw (c .enum-told2 .given .1) at ((c .before .before) .two-numbers .ensures))
+
+returns-3 : tie.Need-returns-3
+returns-3 c = search-all ((c .before .before .before .before .before .before .before .before .before) .args .line .now) ((c .before .before .before .before .before .before .before .before .before) .args .at) (rw ((c .before .before .before .before .before) .b .given .1) at ((c .before .before .before .before .before .before .before) .number-after .ensures)) _ _ (rw ((c .before) .k .given .1) at ((c .before .before .before) .two-numbers .ensures))
+
+pub read-search-spec : {M : Type 1} → statement M
+read-search-spec =
+    tie.close
+    (tie.spec
+    number-after-requires
+    enum-known-b
+    enum-told
+    returns
+    two-numbers-requires
+    enum-known-k
+    enum-told-2
+    returns-2
+    returns-3)

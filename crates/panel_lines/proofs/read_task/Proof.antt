@@ -1,0 +1,51 @@
+-- `panel_lines::read_task` meets its contract. Assumes nothing.
+use mathlib.Core.Path.{sym, _∙_}
+use Rattle.panel_lines.proofs.Commands.{verb-load, verb-preview, verb-query}
+use borrow.Author.Needs.{needs}
+use Rattle.panel_lines.proofs.read_task.Statement.{statement}
+use Rattle.panel_lines.proofs.read_task.Tie as tie
+
+slice-aggregate-is-word : tie.Need-slice-aggregate-is-word
+slice-aggregate-is-word c = search needs
+
+is-word-requires : tie.Need-is-word-requires
+is-word-requires c κs = search needs
+
+read-load-requires : tie.Need-read-load-requires
+read-load-requires c κs = search needs
+
+returns : tie.Need-returns
+returns c = verb-load ((c .before .before .before .before .before) .args .line .now) ((c .before .before .before .before .before) .args .verb) (sym ((c .before) .if1 .taken) ∙ (c .before .before) .is-word .ensures) (c .read-load .ensures)
+
+slice-aggregate-is-word-2 : tie.Need-slice-aggregate-is-word-2
+slice-aggregate-is-word-2 c = search needs
+
+is-word-requires-2 : tie.Need-is-word-requires-2
+is-word-requires-2 c κs = search needs
+
+read-preview-requires : tie.Need-read-preview-requires
+read-preview-requires c κs = search needs
+
+returns-2 : tie.Need-returns-2
+returns-2 c = verb-preview ((c .before .before .before .before .before .before .before .before) .args .line .now) ((c .before .before .before .before .before .before .before .before) .args .verb) (sym ((c .before .before .before .before) .if1 .left) ∙ (c .before .before .before .before .before) .is-word .ensures) (sym ((c .before) .if2 .taken) ∙ (c .before .before) .is-word2 .ensures) (c .read-preview .ensures)
+
+read-query-requires : tie.Need-read-query-requires
+read-query-requires c κs = search needs
+
+returns-3 : tie.Need-returns-3
+returns-3 c = verb-query ((c .before .before .before .before .before .before .before .before) .args .line .now) ((c .before .before .before .before .before .before .before .before) .args .verb) (sym ((c .before .before .before .before) .if1 .left) ∙ (c .before .before .before .before .before) .is-word .ensures) (sym ((c .before) .if2 .left) ∙ (c .before .before) .is-word2 .ensures) (c .read-query .ensures)
+
+pub read-task-spec : {M : Type 1} → statement M
+read-task-spec =
+    tie.close
+    (tie.spec
+    slice-aggregate-is-word
+    is-word-requires
+    read-load-requires
+    returns
+    slice-aggregate-is-word-2
+    is-word-requires-2
+    read-preview-requires
+    returns-2
+    read-query-requires
+    returns-3)
