@@ -24,7 +24,7 @@ use Rattle.limits.proofs.Refusals.{judge-first}
 use Rattle.pins.specs.Pins.{pinsOf}
 use Rattle.users.specs.Users.{ForUser, PinnedSearched, PinnedSearchEffect, PinnedFolded, PinnedFoldEffect, pinnedShown}
 use Rattle.user_write.specs.Written.{UserWritten}
-use Rattle.user_calls.specs.Calls.{UserLoaded, PinSet, PinEffect, pinTests}
+use Rattle.user_calls.specs.Calls.{Replaced, UserLoaded, PinSet, PinEffect, pinTests}
 use Rattle.search.specs.Chosen as Search
 use Rattle.fold.specs.Chosen as Fold
 use Rattle.history.specs.History.{State, Call, Reply, Step, userOf, isAccepted}
@@ -182,21 +182,21 @@ pin-same {m} {m′} {p} {p′} {user = user} {input = input} {value = value} e a
 pub load-same : (u : ℕ) {s t : State} {file m₁ m₂ p₁ p₂ : List ℕ} {user : ℕ} {x y : Answer (List ℕ)} → Same u s t
     → UserLoaded (s .memory) file (s .pins) user x m₁ p₁ → UserLoaded (t .memory) file (t .pins) user y m₂ p₂
     → (x ≡ y) × Same u (record { memory = m₁; work = s .work; pins = p₁ }) (record { memory = m₂; work = t .work; pins = p₂ })
-load-same u a (UserLoaded.stranger h) (UserLoaded.stranger k) = (refl, record { memory = a .memory; work = a .work; room = a .room; own = a .own })
-load-same u a (UserLoaded.stranger h) (UserLoaded.refuses k l) = absurd (omega arith)
-load-same u a (UserLoaded.stranger h) (UserLoaded.stores k l) = absurd (omega arith)
-load-same u a (UserLoaded.refuses h l) (UserLoaded.stranger k) = absurd (omega arith)
-load-same u a (UserLoaded.stores h l) (UserLoaded.stranger k) = absurd (omega arith)
-load-same u {file = file} a (UserLoaded.refuses h l) (UserLoaded.refuses {n = n} {m′ = m₂} k r) =
+load-same u a (Replaced.stranger h) (Replaced.stranger k) = (refl, record { memory = a .memory; work = a .work; room = a .room; own = a .own })
+load-same u a (Replaced.stranger h) (Replaced.refuses k l) = absurd (omega arith)
+load-same u a (Replaced.stranger h) (Replaced.stores k l) = absurd (omega arith)
+load-same u a (Replaced.refuses h l) (Replaced.stranger k) = absurd (omega arith)
+load-same u a (Replaced.stores h l) (Replaced.stranger k) = absurd (omega arith)
+load-same u {file = file} a (Replaced.refuses h l) (Replaced.refuses {n = n} {m′ = m₂} k r) =
     let z = loaded-same l (subst (λ (m : List ℕ). Loaded m file (refused n) m₂) (sym (a .memory)) r) in
     (z .0, record { memory = z .1; work = a .work; room = a .room; own = a .own })
-load-same u {file = file} a (UserLoaded.refuses h l) (UserLoaded.stores {counts = n} {m′ = m₂} k r) =
+load-same u {file = file} a (Replaced.refuses h l) (Replaced.stores {counts = n} {m′ = m₂} k r) =
     let q = loaded-same l (subst (λ (m : List ℕ). Loaded m file (gives n) m₂) (sym (a .memory)) r) .0 in
     let z : _≡_ {A = ℕ} 0 1 = cc in absurd (omega arith)
-load-same u {file = file} a (UserLoaded.stores h l) (UserLoaded.refuses {n = n} {m′ = m₂} k r) =
+load-same u {file = file} a (Replaced.stores h l) (Replaced.refuses {n = n} {m′ = m₂} k r) =
     let q = loaded-same l (subst (λ (m : List ℕ). Loaded m file (refused n) m₂) (sym (a .memory)) r) .0 in
     let z : _≡_ {A = ℕ} 0 1 = cc in absurd (omega arith)
-load-same u {s} {t} {file = file} a (UserLoaded.stores h l) (UserLoaded.stores {counts = n} {m′ = m₂} k r) =
+load-same u {s} {t} {file = file} a (Replaced.stores h l) (Replaced.stores {counts = n} {m′ = m₂} k r) =
     let z = loaded-same l (subst (λ (m : List ℕ). Loaded m file (gives n) m₂) (sym (a .memory)) r) in
     let e : replicate {A = ℕ} (length (s .pins)) 2 ≡ replicate (length (t .pins)) 2 = ap (λ (i : ℕ). replicate {A = ℕ} i 2) (a .room) in
     (z .0, record { memory = z .1; work = a .work; room = ap length e; own = λ i h. ap (λ (p : List ℕ). getD p (256 * u + i) 2) e })
@@ -246,9 +246,9 @@ pin-other u {p = p} {user = user} {input = input} {value = value} n (PinSet.know
 
 -- a call of another user that is no accepted load leaves what user u sees
 pub other-step : (u : ℕ) {c : Call} {r : Reply} {s t s₁ : State} → Same u s t → (userOf c ≡ u → ⊥) → (T (isAccepted r) → ⊥) → Step s c r s₁ → Same u s₁ t
-other-step u a n h (Step.loads (UserLoaded.stranger k)) = record { memory = a .memory; work = a .work; room = a .room; own = a .own }
-other-step u a n h (Step.loads (UserLoaded.refuses k (Loaded.refuses e))) = record { memory = a .memory; work = a .work; room = a .room; own = a .own }
-other-step u a n h (Step.loads (UserLoaded.stores k l)) = absurd (h tt)
+other-step u a n h (Step.loads (Replaced.stranger k)) = record { memory = a .memory; work = a .work; room = a .room; own = a .own }
+other-step u a n h (Step.loads (Replaced.refuses k (Loaded.refuses e))) = record { memory = a .memory; work = a .work; room = a .room; own = a .own }
+other-step u a n h (Step.loads (Replaced.stores k l)) = absurd (h tt)
 other-step u a n h (Step.pins x) =
     let z = pin-other u n x in
     record { memory = a .memory; work = a .work; room = z .0 ∙ a .room; own = λ i l. z .1 i l ∙ a .own i l }

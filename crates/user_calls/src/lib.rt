@@ -13,7 +13,7 @@ pub enum PinAnswer {
 }
 
 // Frees all pins.
-fn free_pins(pins: &mut [u8])
+pub fn free_pins(pins: &mut [u8])
     ensures { λ _. ⌜ now (pins .exit) ≡ replicate (length (now (pins .entry))) 2 ⌝ }
 {
     let mut i: usize = 0;

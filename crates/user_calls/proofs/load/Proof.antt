@@ -1,6 +1,6 @@
 -- `user_calls::load` meets its contract. Assumes nothing.
 use native.Mathlib.Omega.{arith}
-use Rattle.user_calls.specs.Calls.{UserLoaded}
+use Rattle.user_calls.specs.Calls.{Replaced}
 use borrow.Author.Needs.{needs}
 use Rattle.user_calls.proofs.load.Statement.{statement}
 use Rattle.user_calls.proofs.load.Tie as tie
@@ -10,7 +10,7 @@ use Rattle.load.proofs.load.Reads as load-reads
 use Rattle.user_calls.proofs.free_pins.Reads as free-pins-reads
 
 returns : tie.Need-returns
-returns c = UserLoaded.stranger (omega arith)
+returns c = Replaced.stranger (omega arith)
 
 load-requires : tie.Need-load-requires
 load-requires c κs = search needs
@@ -28,7 +28,7 @@ same-length : tie.Need-same-length
 same-length c = search needs
 
 returns-2 : tie.Need-returns-2
-returns-2 c = UserLoaded.refuses (omega arith) (rw (c .before .n .given .1) at (c .before .before .before .before .before .load .ensures))
+returns-2 c = Replaced.refuses (omega arith) (rw (c .before .n .given .1) at (c .before .before .before .before .before .load .ensures))
 
 same-length-2 : tie.Need-same-length-2
 same-length-2 c = search needs
@@ -37,7 +37,7 @@ same-length-3 : tie.Need-same-length-3
 same-length-3 c = search needs
 
 returns-3 : tie.Need-returns-3
-returns-3 c = rw (c .before .before .free-pins .ensures) (UserLoaded.stores (omega arith) (rw (c .before .before .before .before .before .k .given .1) at (c .before .before .before .before .before .before .before .before .before .load .ensures)))
+returns-3 c = rw (c .before .before .free-pins .ensures) (Replaced.stores (omega arith) (rw (c .before .before .before .before .before .k .given .1) at (c .before .before .before .before .before .before .before .before .before .load .ensures)))
 
 pub load-spec : {M : Type 1} → statement M
 load-spec =

@@ -1,0 +1,6 @@
+pub mod Free
+pub mod Pinned
+pub mod Verdicts
+pub mod Links
+pub mod Bytes
+pub mod Lengths

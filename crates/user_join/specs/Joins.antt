@@ -1,0 +1,9 @@
+-- Clause 12.7: a join into the shared circuit memory is a load. Assumes nothing.
+use mathlib.Core.List.{List}
+use Prim.Native.Nat.{ℕ}
+use Rattle.aiger.specs.Load.{Answer}
+use Rattle.joined.specs.Joined.{JoinedInto}
+use Rattle.user_calls.specs.Calls.{Replaced}
+
+abbrev pub UserJoined : List ℕ → List ℕ → List ℕ → List ℕ → ℕ → Answer (List ℕ) → List ℕ → List ℕ → Type 0
+UserJoined first second m pins user a m′ pins′ = Replaced user m pins (JoinedInto first second m) a m′ pins′
