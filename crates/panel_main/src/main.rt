@@ -1,17 +1,22 @@
 // The resident program: commands of two users, line by line from standard input, on one circuit memory, working memory and pin memory.
 use files::say;
 use libc::STDIN_FILENO;
-use panel_lines::Part;
+use panel_lines::Query;
 use panel_lines::Task;
-use replies::Report;
 ghost use mathlib.Core.Path.{_≡_};
 ghost use Prim.Native.Nat.{_≤_};
 ghost use lib.ListN.{length};
-ghost use Rattle.panel_lines.specs.Reading.{Inside, PartsInside};
+ghost use Rattle.io.specs.Counts.{Counts};
 
-// A line, without its line feed: how many bytes of it are kept; or the end of the input.
-enum Read {
-    Line(usize),
+// How many bytes of a line were kept, and whether the input had ended before it.
+struct Line {
+    count: usize,
+    ended: bool,
+}
+
+// What standard input has next. A read that fails ends it.
+enum Byte {
+    Value(u8),
     End,
 }
 
@@ -42,8 +47,170 @@ fn say_help() {
 
 // Prints an answer: its length, a line, and a text after it.
 fn answer(line: &[u8], out: &[u8]) {
-    files::say_number(line.len() as u64 + out.len() as u64);
+    files::say_number(std::num::wrapping_add_usize(line.len(), out.len()) as u64);
     say(b"\n");
     say(line);
     say(out);
+}
+
+fn next_byte() -> Byte {
+    let mut byte = [0u8; 1];
+    let got = libc::read(STDIN_FILENO, &mut byte);
+    if got <= 0 {
+        return Byte::End;
+    }
+    Byte::Value(byte[0])
+}
+
+// The line of n bytes in buf, after which the input goes on or has ended.
+fn line_of(n: usize, ended: bool, buf: &[u8]) -> Line
+    requires { ⌜ n ≤ length (now buf) ⌝ }
+    ensures { λ r. ⌜ Counts (r .count) (now (buf .entry)) ⌝ }
+{
+    Line { count: n, ended }
+}
+
+// Stores a byte after the first n of buf, where there is room. The answer is how many there are then.
+fn keep(b: u8, n: usize, buf: &mut [u8]) -> usize
+    requires { ⌜ n ≤ length (now buf) ⌝ }
+    ensures { λ r. ⌜ r ≤ length (now (buf .exit)) ⌝ }
+{
+    if n == buf.len() {
+        return n;
+    }
+    buf[n] = b;
+    n + 1
+}
+
+// Reads a line into the front of buf, as much as has room, and passes over the rest of it. The loop counts its turns down from a number that
+// no run uses up, since nothing says that a line ends.
+fn read_line(buf: &mut [u8]) -> Line
+    ensures { λ r. ⌜ Counts (r .count) (now (buf .exit)) ⌝ }
+{
+    let mut n: usize = 0;
+    let mut turns = u64::MAX;
+    while 0 < turns {
+        let Byte::Value(b) = next_byte() else {
+            return line_of(n, n == 0, buf);
+        };
+        if b == b'\n' {
+            return line_of(n, false, buf);
+        }
+        n = keep(b, n, buf);
+        turns -= 1;
+    }
+    line_of(n, false, buf)
+}
+
+// Loads the file with a name.
+fn load_named(name: &[u8], user: u64, m: &mut [u32], pins: &mut [u8]) {
+    let mut file = [0u8; 65537];
+    let mut line = [0u8; 128];
+    let got = files::read_named(name, &mut file);
+    if got.failed {
+        answer(b"unreadable\n", b"");
+        return;
+    }
+    let n = got.count;
+    let report = panel::load(user, &file[..n], m, pins, &mut line);
+    let said = report.line;
+    answer(&line[..said], b"");
+}
+
+// Previews the load of the file with a name.
+fn preview_named(name: &[u8], user: u64, m: &[u32], out: &mut [u8])
+    requires { ⌜ (length (now m) ≡ 33032) × (length (now out) ≡ 1572928) ⌝ }
+{
+    let mut file = [0u8; 65537];
+    let mut line = [0u8; 128];
+    let got = files::read_named(name, &mut file);
+    if got.failed {
+        answer(b"unreadable\n", b"");
+        return;
+    }
+    let n = got.count;
+    let report = panel::preview(user, &file[..n], m, out, &mut line);
+    let said = report.line;
+    let written = report.out;
+    answer(&line[..said], &out[..written]);
+}
+
+// Does what a query asks.
+fn query(user: u64, q: Query, m: &[u32], work: &mut [u32], pins: &mut [u8], out: &mut [u8]) {
+    let mut line = [0u8; 128];
+    let report = panel::query(user, q, m, work, pins, out, &mut line);
+    let said = report.line;
+    let written = report.out;
+    answer(&line[..said], &out[..written]);
+}
+
+// Answers a line.
+fn do_line(text: &[u8], m: &mut [u32], work: &mut [u32], pins: &mut [u8], out: &mut [u8])
+    requires { ⌜ (length (now m) ≡ 33032) × (length (now out) ≡ 1572928) ⌝ }
+{
+    let request = panel_lines::read_request(text);
+    let user = request.user;
+    let task = request.task;
+    match task {
+        Task::Ask(q) => query(user, q, m, work, pins, out),
+        Task::Load(file) => {
+            let from = file.from;
+            let to = file.to;
+            load_named(&text[from..to], user, m, pins);
+        }
+        Task::Preview(file) => {
+            let from = file.from;
+            let to = file.to;
+            preview_named(&text[from..to], user, m, out);
+        }
+        Task::Malformed => answer(b"malformed\n", b""),
+    }
+}
+
+// Reads a line and answers it. The answer is whether there was one.
+fn one_line(m: &mut [u32], work: &mut [u32], pins: &mut [u8], out: &mut [u8]) -> bool
+    requires { ⌜ (length (now m) ≡ 33032) × (length (now out) ≡ 1572928) ⌝ }
+{
+    let mut text = [0u8; 4097];
+    let line = read_line(&mut text);
+    if line.ended {
+        return false;
+    }
+    let n = line.count;
+    do_line(&text[..n], m, work, pins, out);
+    true
+}
+
+// Answers lines until the input ends.
+fn session(m: &mut [u32], work: &mut [u32], pins: &mut [u8], out: &mut [u8])
+    requires { ⌜ (length (now m) ≡ 33032) × (length (now out) ≡ 1572928) ⌝ }
+{
+    let mut turns = u64::MAX;
+    while turns > 0 && one_line(m, work, pins, out) {
+        turns -= 1;
+    }
+}
+
+// Lends the circuit memory of the greatest M, 4,096, and the pins of both users, all free.
+fn session_with(work: &mut [u32], out: &mut [u8])
+    requires { ⌜ length (now out) ≡ 1572928 ⌝ }
+{
+    let mut m = [0u32; 33032];
+    let mut pins = [2u8; 512];
+    session(&mut m, work, &mut pins, out);
+}
+
+// Lends the working memory and the output of the greatest size, 65,536. No text is longer than this output.
+fn session_of_both() {
+    let mut work = [0u32; 1048576];
+    let mut out = [0u8; 1572928];
+    session_with(&mut work, &mut out);
+}
+
+fn main() {
+    if os::arg_count() != 1 {
+        say_help();
+        return;
+    }
+    session_of_both();
 }

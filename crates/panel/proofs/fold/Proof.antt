@@ -27,7 +27,19 @@ same-length-2 : tie.Need-same-length-2
 same-length-2 c = search needs
 
 returns : tie.Need-returns
-returns c = let e = rw ((c .before) .n .given .1) at ((c .before .before .before .before .before .before .before) .fold .ensures) in record { answer = gives _; permitted = e; line-is = fronts-none _; out-is = refl; inside = fold-inside ((c .before .before .before .before .before .before .before .before .before .before .before .before .before .before .before) .args .m .now) ((c .before .before .before .before .before .before .before .before .before .before .before .before .before .before .before) .args .pins .now) ((c .before .before .before .before .before .before .before .before .before .before .before .before .before .before .before) .args .work .now) ((c .before .before .before .before .before .before .before .before .before .before .before .before .before .before .before) .args .out .now) ((c .before .before .before .before .before .before .before .before .before .before .before .before .before .before .before) .args .user) ((c .before .before .before .before .before .before .before .before .before .before .before .before .before .before .before) .args .f .b) ((c .before .before .before .before .before .before .before .before .before .before .before .before .before .before .before) .args .f .t) e }
+returns c =
+    let at-n = c .before in
+    let at-fold = at-n .before .before .before .before .before .before in
+    let start = at-fold .before .before .before .before .before .before .before .before in
+    let e = rw (at-n .n .given .1) at (at-fold .fold .ensures) in
+    record {
+      answer = gives _;
+      permitted = e;
+      line-is = fronts-none _;
+      out-is = refl;
+      inside = fold-inside (start .args .m .now) (start .args .pins .now) (start .args .work .now) (start .args .out .now)
+          (start .args .user) (start .args .f .b) (start .args .f .t) e;
+    }
 
 same-length-3 : tie.Need-same-length-3
 same-length-3 c = search needs
@@ -39,7 +51,17 @@ same-length-5 : tie.Need-same-length-5
 same-length-5 c = search needs
 
 returns-2 : tie.Need-returns-2
-returns-2 c = record { answer = refused _; permitted = rw ((c .before .before .before .before .before) .n2 .given .1) at ((c .before .before .before .before .before .before .before .before .before .before .before) .fold .ensures); line-is = (c .before .before) .refuse .ensures .0; out-is = (c .before .before) .refuse .ensures .1; inside = omega (arith, (c .before .before) .refuse .ensures .1) }
+returns-2 c =
+    let at-refuse = c .before .before in
+    let at-n2 = at-refuse .before .before .before in
+    let at-fold = at-n2 .before .before .before .before .before .before in
+    record {
+      answer = refused _;
+      permitted = rw (at-n2 .n2 .given .1) at (at-fold .fold .ensures);
+      line-is = at-refuse .refuse .ensures .0;
+      out-is = at-refuse .refuse .ensures .1;
+      inside = omega (arith, at-refuse .refuse .ensures .1);
+    }
 
 pub fold-spec : {M : Type 1} → statement M
 fold-spec =

@@ -16,7 +16,15 @@ same-length : tie.Need-same-length
 same-length c = search needs
 
 returns : tie.Need-returns
-returns c = record { answer = refused 18; permitted = Replaced.stranger (omega arith); line-is = (c .before .before) .refuse .ensures .0; out-is = (c .before .before) .refuse .ensures .1; inside = omega (arith, (c .before .before) .refuse .ensures .1) }
+returns c =
+    let at-refuse = c .before .before in
+    record {
+      answer = refused 18;
+      permitted = Replaced.stranger (omega arith);
+      line-is = at-refuse .refuse .ensures .0;
+      out-is = at-refuse .refuse .ensures .1;
+      inside = omega (arith, at-refuse .refuse .ensures .1);
+    }
 
 cast-load : tie.Need-cast-load
 cast-load c = search needs
@@ -37,7 +45,16 @@ same-length-4 : tie.Need-same-length-4
 same-length-4 c = search needs
 
 returns-2 : tie.Need-returns-2
-returns-2 c = record { answer = answered ((c .before .before .before .before .before .before .before .before) .load .result); permitted = (c .before .before .before .before .before .before .before .before) .load .ensures; line-is = rw (← load-words ((c .before .before .before .before .before .before .before .before) .load .result)) ((c .before .before) .write-answer .ensures); out-is = refl; inside = omega arith }
+returns-2 c =
+    let at-write-answer = c .before .before in
+    let at-load = at-write-answer .before .before .before .before .before .before in
+    record {
+      answer = answered (at-load .load .result);
+      permitted = at-load .load .ensures;
+      line-is = rw (← load-words (at-load .load .result)) (at-write-answer .write-answer .ensures);
+      out-is = refl;
+      inside = omega arith;
+    }
 
 pub load-spec : {M : Type 1} → statement M
 load-spec =

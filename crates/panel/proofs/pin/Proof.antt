@@ -15,7 +15,15 @@ same-length : tie.Need-same-length
 same-length c = search needs
 
 returns : tie.Need-returns
-returns c = record { answer = refused 18; permitted = PinSet.unknown (omega arith); line-is = (c .before .before) .refuse .ensures .0; out-is = (c .before .before) .refuse .ensures .1; inside = omega (arith, (c .before .before) .refuse .ensures .1) }
+returns c =
+    let at-refuse = c .before .before in
+    record {
+      answer = refused 18;
+      permitted = PinSet.unknown (omega arith);
+      line-is = at-refuse .refuse .ensures .0;
+      out-is = at-refuse .refuse .ensures .1;
+      inside = omega (arith, at-refuse .refuse .ensures .1);
+    }
 
 cast-set-pin : tie.Need-cast-set-pin
 cast-set-pin c = search needs
@@ -45,7 +53,17 @@ same-length-3 : tie.Need-same-length-3
 same-length-3 c = search needs
 
 returns-2 : tie.Need-returns-2
-returns-2 c = record { answer = refused _; permitted = rw ((c .before .before .before .before .before) .n .given .1) at ((c .before .before .before .before .before .before .before .before .before) .set-pin .ensures); line-is = (c .before .before) .refuse2 .ensures .0; out-is = (c .before .before) .refuse2 .ensures .1; inside = omega (arith, (c .before .before) .refuse2 .ensures .1) }
+returns-2 c =
+    let at-refuse2 = c .before .before in
+    let at-n = at-refuse2 .before .before .before in
+    let at-set-pin = at-n .before .before .before .before in
+    record {
+      answer = refused _;
+      permitted = rw (at-n .n .given .1) at (at-set-pin .set-pin .ensures);
+      line-is = at-refuse2 .refuse2 .ensures .0;
+      out-is = at-refuse2 .refuse2 .ensures .1;
+      inside = omega (arith, at-refuse2 .refuse2 .ensures .1);
+    }
 
 same-length-4 : tie.Need-same-length-4
 same-length-4 c = search needs
@@ -54,7 +72,17 @@ same-length-5 : tie.Need-same-length-5
 same-length-5 c = search needs
 
 returns-3 : tie.Need-returns-3
-returns-3 c = record { answer = gives tt; permitted = rw ((c .before .before .before .before .before) .enum-told .given .1) at ((c .before .before .before .before .before .before .before .before .before) .set-pin .ensures); line-is = placed-fronts ((c .before .before) .put .ensures); out-is = refl; inside = omega arith }
+returns-3 c =
+    let at-put = c .before .before in
+    let at-enum-told = at-put .before .before .before in
+    let at-set-pin = at-enum-told .before .before .before .before in
+    record {
+      answer = gives tt;
+      permitted = rw (at-enum-told .enum-told .given .1) at (at-set-pin .set-pin .ensures);
+      line-is = placed-fronts (at-put .put .ensures);
+      out-is = refl;
+      inside = omega arith;
+    }
 
 pub pin-spec : {M : Type 1} → statement M
 pin-spec =

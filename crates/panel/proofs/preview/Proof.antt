@@ -13,7 +13,11 @@ same-length : tie.Need-same-length
 same-length c = search needs
 
 returns : tie.Need-returns
-returns c = simp (lt-ltb 1 ((c .before .before .before .before .before .before .before .before .before) .args .user) (omega arith)) (refused-leaves 18 ((c .before .before .before .before .before .before .before .before .before) .args .out .now) ((c .before .before) .refuse .ensures .0) ((c .before .before) .refuse .ensures .1))
+returns c =
+    let at-refuse = c .before .before in
+    let start = at-refuse .before .before .before .before .before .before .before in
+    simp (lt-ltb 1 (start .args .user) (omega arith))
+    (refused-leaves 18 (start .args .out .now) (at-refuse .refuse .ensures .0) (at-refuse .refuse .ensures .1))
 
 preview-requires : tie.Need-preview-requires
 preview-requires c κs = search needs
@@ -25,7 +29,10 @@ same-length-3 : tie.Need-same-length-3
 same-length-3 c = search needs
 
 returns-2 : tie.Need-returns-2
-returns-2 c = simp (le-ltb 1 ((c .before .before .before .before .before .before .before .before .before .before .before .before) .args .user) (omega arith)) ((c .before .before .before .before) .preview .ensures)
+returns-2 c =
+    let at-preview = c .before .before .before .before in
+    let start = at-preview .before .before .before .before .before .before .before .before in
+    simp (le-ltb 1 (start .args .user) (omega arith)) (at-preview .preview .ensures)
 
 pub preview-spec : {M : Type 1} → statement M
 preview-spec =

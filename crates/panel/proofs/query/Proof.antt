@@ -14,7 +14,10 @@ same-length : tie.Need-same-length
 same-length c = search needs
 
 returns : tie.Need-returns
-returns c = strange ((c .before .before .before .before .before .before .before .before .before .before) .args .q) _ ((c .before .before .before .before .before .before .before .before .before .before) .args .out .now) (omega arith) ((c .before .before) .refuse .ensures .0) ((c .before .before) .refuse .ensures .1)
+returns c =
+    let at-refuse = c .before .before in
+    let start = at-refuse .before .before .before .before .before .before .before .before in
+    strange (start .args .q) _ (start .args .out .now) (omega arith) (at-refuse .refuse .ensures .0) (at-refuse .refuse .ensures .1)
 
 cast-known : tie.Need-cast-known
 cast-known c = search needs
@@ -50,7 +53,17 @@ same-length-3 : tie.Need-same-length-3
 same-length-3 c = search needs
 
 returns-2 : tie.Need-returns-2
-returns-2 c = let p = (c .before .before .before .before) .pin .ensures in rw ((c .before .before .before .before .before .before .before .before) .q .given .1) (record { answer = p .answer; permitted = (Step.pins (p .permitted), refl); line-is = p .line-is; out-is = p .out-is; inside = omega (arith, p .out-is) })
+returns-2 c =
+    let at-pin = c .before .before .before .before in
+    let at-q = at-pin .before .before .before .before in
+    let p = at-pin .pin .ensures in
+    rw (at-q .q .given .1) (record {
+      answer = p .answer;
+      permitted = (Step.pins (p .permitted), refl);
+      line-is = p .line-is;
+      out-is = p .out-is;
+      inside = omega (arith, p .out-is);
+    })
 
 same-length-4 : tie.Need-same-length-4
 same-length-4 c = search needs
@@ -65,7 +78,17 @@ same-length-7 : tie.Need-same-length-7
 same-length-7 c = search needs
 
 returns-3 : tie.Need-returns-3
-returns-3 c = let p = (c .before .before .before .before .before .before) .search .ensures in rw ((c .before .before .before .before .before .before .before .before .before .before .before .before) .q2 .given .1) (record { answer = p .answer; permitted = Step.searches (p .permitted) ((c .before .before .before .before .before .before) .search .kept .1 .1 .1 .1 .0); line-is = p .line-is; out-is = p .out-is; inside = p .inside })
+returns-3 c =
+    let at-search = c .before .before .before .before .before .before in
+    let at-q2 = at-search .before .before .before .before .before .before in
+    let p = at-search .search .ensures in
+    rw (at-q2 .q2 .given .1) (record {
+      answer = p .answer;
+      permitted = Step.searches (p .permitted) (at-search .search .kept .1 .1 .1 .1 .0);
+      line-is = p .line-is;
+      out-is = p .out-is;
+      inside = p .inside;
+    })
 
 same-length-8 : tie.Need-same-length-8
 same-length-8 c = search needs
@@ -80,7 +103,17 @@ same-length-11 : tie.Need-same-length-11
 same-length-11 c = search needs
 
 returns-4 : tie.Need-returns-4
-returns-4 c = let p = (c .before .before .before .before .before .before) .fold .ensures in rw ((c .before .before .before .before .before .before .before .before .before .before .before .before) .q3 .given .1) (record { answer = p .answer; permitted = Step.folds (p .permitted) ((c .before .before .before .before .before .before) .fold .kept .1 .1 .1 .1 .0); line-is = p .line-is; out-is = p .out-is; inside = p .inside })
+returns-4 c =
+    let at-fold = c .before .before .before .before .before .before in
+    let at-q3 = at-fold .before .before .before .before .before .before in
+    let p = at-fold .fold .ensures in
+    rw (at-q3 .q3 .given .1) (record {
+      answer = p .answer;
+      permitted = Step.folds (p .permitted) (at-fold .fold .kept .1 .1 .1 .1 .0);
+      line-is = p .line-is;
+      out-is = p .out-is;
+      inside = p .inside;
+    })
 
 same-length-12 : tie.Need-same-length-12
 same-length-12 c = search needs
@@ -89,7 +122,17 @@ same-length-13 : tie.Need-same-length-13
 same-length-13 c = search needs
 
 returns-5 : tie.Need-returns-5
-returns-5 c = let p = (c .before .before .before .before) .write .ensures in rw ((c .before .before .before .before .before .before .before) .enum-told .given .1) (record { answer = p .answer; permitted = Step.writes (p .permitted); line-is = p .line-is; out-is = p .out-is; inside = p .inside })
+returns-5 c =
+    let at-write = c .before .before .before .before in
+    let at-enum-told = at-write .before .before .before in
+    let p = at-write .write .ensures in
+    rw (at-enum-told .enum-told .given .1) (record {
+      answer = p .answer;
+      permitted = Step.writes (p .permitted);
+      line-is = p .line-is;
+      out-is = p .out-is;
+      inside = p .inside;
+    })
 
 pub query-spec : {M : Type 1} → statement M
 query-spec =

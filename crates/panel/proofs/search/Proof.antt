@@ -9,7 +9,11 @@ search-requires : tie.Need-search-requires
 search-requires c κs = search needs
 
 shown-length-requires : tie.Need-shown-length-requires
-shown-length-requires c κs = shown-fits ((c .before .before .before .before .before .before .before .before .before .before .before .before) .args .m .now) ((c .before .before .before .before .before .before .before .before .before .before .before .before) .args .pins .now) ((c .before .before .before .before .before .before .before .before .before .before .before .before) .args .work .now) ((c .before .before .before .before .before .before .before .before .before .before .before .before) .args .out .now) ((c .before .before .before .before) .search .result) ((c .before .before .before .before) .search .ensures)
+shown-length-requires c κs =
+    let at-search = c .before .before .before .before in
+    let start = at-search .before .before .before .before .before .before .before .before in
+    shown-fits (start .args .m .now) (start .args .pins .now) (start .args .work .now) (start .args .out .now)
+    (at-search .search .result) (at-search .search .ensures)
 
 write-answer-requires : tie.Need-write-answer-requires
 write-answer-requires c κs = search needs
@@ -24,7 +28,20 @@ same-length-3 : tie.Need-same-length-3
 same-length-3 c = search needs
 
 returns : tie.Need-returns
-returns c = record { answer = said ((c .before .before .before .before .before .before .before .before .before) .search .result); permitted = (c .before .before .before .before .before .before .before .before .before) .search .ensures; line-is = (c .before .before) .write-answer .ensures; out-is = (c .before .before .before .before) .shown-length .ensures; inside = shown-inside ((c .before .before .before .before .before .before .before .before .before .before .before .before .before .before .before .before .before) .args .m .now) ((c .before .before .before .before .before .before .before .before .before .before .before .before .before .before .before .before .before) .args .pins .now) ((c .before .before .before .before .before .before .before .before .before .before .before .before .before .before .before .before .before) .args .work .now) ((c .before .before .before .before .before .before .before .before .before .before .before .before .before .before .before .before .before) .args .out .now) ((c .before .before .before .before .before .before .before .before .before) .search .result) ((c .before .before .before .before .before .before .before .before .before) .search .ensures) ((c .before .before .before .before .before .before .before .before .before) .search .kept .1 .1 .1 .1 .1 .1 .1 .0) ((c .before .before .before .before) .shown-length .ensures) }
+returns c =
+    let at-write-answer = c .before .before in
+    let at-shown-length = at-write-answer .before .before in
+    let at-search = at-shown-length .before .before .before .before .before in
+    let start = at-search .before .before .before .before .before .before .before .before in
+    record {
+      answer = said (at-search .search .result);
+      permitted = at-search .search .ensures;
+      line-is = at-write-answer .write-answer .ensures;
+      out-is = at-shown-length .shown-length .ensures;
+      inside = shown-inside (start .args .m .now) (start .args .pins .now) (start .args .work .now) (start .args .out .now)
+          (at-search .search .result) (at-search .search .ensures) (at-search .search .kept .1 .1 .1 .1 .1 .1 .1 .0)
+          (at-shown-length .shown-length .ensures);
+    }
 
 pub search-spec : {M : Type 1} → statement M
 search-spec =

@@ -24,7 +24,18 @@ same-length : tie.Need-same-length
 same-length c = search needs
 
 returns : tie.Need-returns
-returns c = let e = rw ((c .before) .n .given .1) at ((c .before .before .before .before .before) .write .ensures) in record { answer = gives _; permitted = e; line-is = fronts-none _; out-is = refl; inside = write-inside ((c .before .before .before .before .before .before .before .before .before .before) .args .m .now) ((c .before .before .before .before .before .before .before .before .before .before) .args .out .now) e }
+returns c =
+    let at-n = c .before in
+    let at-write = at-n .before .before .before .before in
+    let start = at-write .before .before .before .before .before in
+    let e = rw (at-n .n .given .1) at (at-write .write .ensures) in
+    record {
+      answer = gives _;
+      permitted = e;
+      line-is = fronts-none _;
+      out-is = refl;
+      inside = write-inside (start .args .m .now) (start .args .out .now) e;
+    }
 
 same-length-2 : tie.Need-same-length-2
 same-length-2 c = search needs
@@ -33,7 +44,17 @@ same-length-3 : tie.Need-same-length-3
 same-length-3 c = search needs
 
 returns-2 : tie.Need-returns-2
-returns-2 c = record { answer = refused _; permitted = rw ((c .before .before .before .before .before) .n2 .given .1) at ((c .before .before .before .before .before .before .before .before .before) .write .ensures); line-is = (c .before .before) .refuse .ensures .0; out-is = (c .before .before) .refuse .ensures .1; inside = omega (arith, (c .before .before) .refuse .ensures .1) }
+returns-2 c =
+    let at-refuse = c .before .before in
+    let at-n2 = at-refuse .before .before .before in
+    let at-write = at-n2 .before .before .before .before in
+    record {
+      answer = refused _;
+      permitted = rw (at-n2 .n2 .given .1) at (at-write .write .ensures);
+      line-is = at-refuse .refuse .ensures .0;
+      out-is = at-refuse .refuse .ensures .1;
+      inside = omega (arith, at-refuse .refuse .ensures .1);
+    }
 
 pub write-spec : {M : Type 1} → statement M
 write-spec =

@@ -15,16 +15,29 @@ enum-told : tie.Need-enum-told
 enum-told c = search needs
 
 returns : tie.Need-returns
-returns c = wordless ((c .before .before .before .before) .args .line .now) ((c .before .before .before .before) .args .at) (rw (c .enum-told .given .1) at ((c .before .before) .word-after .ensures))
+returns c =
+    let at-word-after = c .before .before in
+    let start = at-word-after .before .before in
+    wordless (start .args .line .now) (start .args .at) (rw (c .enum-told .given .1) at (at-word-after .word-after .ensures))
 
 sub-read-argument : tie.Need-sub-read-argument
-sub-read-argument c = (rw ((c .before) .part .given .1) at ((c .before .before .before) .word-after .ensures)) .inside .forward
+sub-read-argument c =
+    let at-part = c .before in
+    let at-word-after = at-part .before .before in
+    (rw (at-part .part .given .1) at (at-word-after .word-after .ensures)) .inside .forward
 
 part-read-argument-start : tie.Need-part-read-argument-start
-part-read-argument-start c = let w = (rw ((c .before) .part .given .1) at ((c .before .before .before) .word-after .ensures)) in omega (arith, w .inside .forward, w .inside .within)
+part-read-argument-start c =
+    let at-part = c .before in
+    let at-word-after = at-part .before .before in
+    let w = (rw (at-part .part .given .1) at (at-word-after .word-after .ensures)) in
+    omega (arith, w .inside .forward, w .inside .within)
 
 part-read-argument-end : tie.Need-part-read-argument-end
-part-read-argument-end c = (rw ((c .before) .part .given .1) at ((c .before .before .before) .word-after .ensures)) .inside .within
+part-read-argument-end c =
+    let at-part = c .before in
+    let at-word-after = at-part .before .before in
+    (rw (at-part .part .given .1) at (at-word-after .word-after .ensures)) .inside .within
 
 read-argument-requires : tie.Need-read-argument-requires
 read-argument-requires c κs = search needs
@@ -36,10 +49,23 @@ enum-told-2 : tie.Need-enum-told-2
 enum-told-2 c = search needs
 
 returns-2 : tie.Need-returns-2
-returns-2 c = a-number ((c .before .before .before .before .before .before .before .before .before .before) .args .line .now) ((c .before .before .before .before .before .before .before .before .before .before) .args .at) (rw ((c .before .before .before .before .before .before) .part .given .1) at ((c .before .before .before .before .before .before .before .before) .word-after .ensures)) (rw ((c .before) .n .given .1) at ((c .before .before .before) .read-argument .ensures))
+returns-2 c =
+    let at-n = c .before in
+    let at-read-argument = at-n .before .before in
+    let at-part = at-read-argument .before .before .before in
+    let at-word-after = at-part .before .before in
+    let start = at-word-after .before .before in
+    a-number (start .args .line .now) (start .args .at) (rw (at-part .part .given .1) at (at-word-after .word-after .ensures))
+    (rw (at-n .n .given .1) at (at-read-argument .read-argument .ensures))
 
 returns-3 : tie.Need-returns-3
-returns-3 c = no-number ((c .before .before .before .before .before .before .before .before .before) .args .line .now) ((c .before .before .before .before .before .before .before .before .before) .args .at) (rw ((c .before .before .before .before .before) .part .given .1) at ((c .before .before .before .before .before .before .before) .word-after .ensures)) (rw (c .enum-told2 .given .1) at ((c .before .before) .read-argument .ensures))
+returns-3 c =
+    let at-read-argument = c .before .before in
+    let at-part = at-read-argument .before .before .before in
+    let at-word-after = at-part .before .before in
+    let start = at-word-after .before .before in
+    no-number (start .args .line .now) (start .args .at) (rw (at-part .part .given .1) at (at-word-after .word-after .ensures))
+    (rw (c .enum-told2 .given .1) at (at-read-argument .read-argument .ensures))
 
 pub number-after-spec : {M : Type 1} → statement M
 number-after-spec =

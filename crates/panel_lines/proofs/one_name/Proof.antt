@@ -15,13 +15,26 @@ enum-told : tie.Need-enum-told
 enum-told c = search needs
 
 returns : tie.Need-returns
-returns c = name-none ((c .before .before .before .before) .args .line .now) ((c .before .before .before .before) .args .at) (rw (c .enum-told .given .1) at ((c .before .before) .word-after .ensures))
+returns c =
+    let at-word-after = c .before .before in
+    let start = at-word-after .before .before in
+    name-none (start .args .line .now) (start .args .at) (rw (c .enum-told .given .1) at (at-word-after .word-after .ensures))
 
 returns-2 : tie.Need-returns-2
-returns-2 c = name-more ((c .before .before .before .before .before .before .before) .args .line .now) ((c .before .before .before .before .before .before .before) .args .at) (rw ((c .before .before .before) .name .given .1) at ((c .before .before .before .before .before) .word-after .ensures)) (c .if1 .taken)
+returns-2 c =
+    let at-name = c .before .before .before in
+    let at-word-after = at-name .before .before in
+    let start = at-word-after .before .before in
+    name-more (start .args .line .now) (start .args .at) (rw (at-name .name .given .1) at (at-word-after .word-after .ensures))
+    (c .if1 .taken)
 
 returns-3 : tie.Need-returns-3
-returns-3 c = name-all ((c .before .before .before .before .before .before .before) .args .line .now) ((c .before .before .before .before .before .before .before) .args .at) (rw ((c .before .before .before) .name .given .1) at ((c .before .before .before .before .before) .word-after .ensures)) (omega arith)
+returns-3 c =
+    let at-name = c .before .before .before in
+    let at-word-after = at-name .before .before in
+    let start = at-word-after .before .before in
+    name-all (start .args .line .now) (start .args .at) (rw (at-name .name .given .1) at (at-word-after .word-after .ensures))
+    (omega arith)
 
 pub one-name-spec : {M : Type 1} → statement M
 one-name-spec =

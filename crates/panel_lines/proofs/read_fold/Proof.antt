@@ -14,10 +14,17 @@ enum-told : tie.Need-enum-told
 enum-told c = search needs
 
 returns : tie.Need-returns
-returns c = fold-none ((c .before .before .before .before) .args .line .now) ((c .before .before .before .before) .args .at) (rw (c .enum-told .given .1) at ((c .before .before) .two-numbers .ensures))
+returns c =
+    let at-two-numbers = c .before .before in
+    let start = at-two-numbers .before .before in
+    fold-none (start .args .line .now) (start .args .at) (rw (c .enum-told .given .1) at (at-two-numbers .two-numbers .ensures))
 
 returns-2 : tie.Need-returns-2
-returns-2 c = fold-all ((c .before .before .before .before .before) .args .line .now) ((c .before .before .before .before .before) .args .at) _ _ (rw ((c .before) .b .given .1) at ((c .before .before .before) .two-numbers .ensures))
+returns-2 c =
+    let at-b = c .before in
+    let at-two-numbers = at-b .before .before in
+    let start = at-two-numbers .before .before in
+    fold-all (start .args .line .now) (start .args .at) _ _ (rw (at-b .b .given .1) at (at-two-numbers .two-numbers .ensures))
 
 pub read-fold-spec : {M : Type 1} → statement M
 read-fold-spec = tie.close (tie.spec two-numbers-requires enum-known-b enum-told returns returns-2)

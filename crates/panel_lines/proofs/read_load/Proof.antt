@@ -14,10 +14,17 @@ enum-told : tie.Need-enum-told
 enum-told c = search needs
 
 returns : tie.Need-returns
-returns c = load-none ((c .before .before .before .before) .args .line .now) ((c .before .before .before .before) .args .at) (rw (c .enum-told .given .1) at ((c .before .before) .one-name .ensures))
+returns c =
+    let at-one-name = c .before .before in
+    let start = at-one-name .before .before in
+    load-none (start .args .line .now) (start .args .at) (rw (c .enum-told .given .1) at (at-one-name .one-name .ensures))
 
 returns-2 : tie.Need-returns-2
-returns-2 c = load-all ((c .before .before .before .before .before) .args .line .now) ((c .before .before .before .before .before) .args .at) (rw ((c .before) .file .given .1) at ((c .before .before .before) .one-name .ensures))
+returns-2 c =
+    let at-file = c .before in
+    let at-one-name = at-file .before .before in
+    let start = at-one-name .before .before in
+    load-all (start .args .line .now) (start .args .at) (rw (at-file .file .given .1) at (at-one-name .one-name .ensures))
 
 pub read-load-spec : {M : Type 1} → statement M
 read-load-spec = tie.close (tie.spec one-name-requires enum-known-file enum-told returns returns-2)

@@ -15,7 +15,12 @@ read-pin-requires : tie.Need-read-pin-requires
 read-pin-requires c κs = search needs
 
 returns : tie.Need-returns
-returns c = verb-pin ((c .before .before .before .before .before) .args .line .now) ((c .before .before .before .before .before) .args .verb) (sym ((c .before) .if1 .taken) ∙ (c .before .before) .is-word .ensures) (c .read-pin .ensures)
+returns c =
+    let then1 = c .before in
+    let at-is-word = then1 .before in
+    let start = at-is-word .before .before .before in
+    verb-pin (start .args .line .now) (start .args .verb) (sym (then1 .if1 .taken) ∙ at-is-word .is-word .ensures)
+    (c .read-pin .ensures)
 
 slice-aggregate-is-word-2 : tie.Need-slice-aggregate-is-word-2
 slice-aggregate-is-word-2 c = search needs
@@ -27,7 +32,14 @@ read-search-requires : tie.Need-read-search-requires
 read-search-requires c κs = search needs
 
 returns-2 : tie.Need-returns-2
-returns-2 c = verb-search ((c .before .before .before .before .before .before .before .before) .args .line .now) ((c .before .before .before .before .before .before .before .before) .args .verb) (sym ((c .before .before .before .before) .if1 .left) ∙ (c .before .before .before .before .before) .is-word .ensures) (sym ((c .before) .if2 .taken) ∙ (c .before .before) .is-word2 .ensures) (c .read-search .ensures)
+returns-2 c =
+    let then2 = c .before in
+    let at-is-word2 = then2 .before in
+    let else1 = at-is-word2 .before .before in
+    let at-is-word = else1 .before in
+    let start = at-is-word .before .before .before in
+    verb-search (start .args .line .now) (start .args .verb) (sym (else1 .if1 .left) ∙ at-is-word .is-word .ensures)
+    (sym (then2 .if2 .taken) ∙ at-is-word2 .is-word2 .ensures) (c .read-search .ensures)
 
 slice-aggregate-is-word-3 : tie.Need-slice-aggregate-is-word-3
 slice-aggregate-is-word-3 c = search needs
@@ -39,7 +51,17 @@ read-fold-requires : tie.Need-read-fold-requires
 read-fold-requires c κs = search needs
 
 returns-3 : tie.Need-returns-3
-returns-3 c = verb-fold ((c .before .before .before .before .before .before .before .before .before .before .before) .args .line .now) ((c .before .before .before .before .before .before .before .before .before .before .before) .args .verb) (sym ((c .before .before .before .before .before .before .before) .if1 .left) ∙ (c .before .before .before .before .before .before .before .before) .is-word .ensures) (sym ((c .before .before .before .before) .if2 .left) ∙ (c .before .before .before .before .before) .is-word2 .ensures) (sym ((c .before) .if3 .taken) ∙ (c .before .before) .is-word3 .ensures) (c .read-fold .ensures)
+returns-3 c =
+    let then3 = c .before in
+    let at-is-word3 = then3 .before in
+    let else2 = at-is-word3 .before .before in
+    let at-is-word2 = else2 .before in
+    let else1 = at-is-word2 .before .before in
+    let at-is-word = else1 .before in
+    let start = at-is-word .before .before .before in
+    verb-fold (start .args .line .now) (start .args .verb) (sym (else1 .if1 .left) ∙ at-is-word .is-word .ensures)
+    (sym (else2 .if2 .left) ∙ at-is-word2 .is-word2 .ensures) (sym (then3 .if3 .taken) ∙ at-is-word3 .is-word3 .ensures)
+    (c .read-fold .ensures)
 
 slice-aggregate-is-word-4 : tie.Need-slice-aggregate-is-word-4
 slice-aggregate-is-word-4 c = search needs
@@ -51,10 +73,33 @@ read-write-requires : tie.Need-read-write-requires
 read-write-requires c κs = search needs
 
 returns-4 : tie.Need-returns-4
-returns-4 c = verb-write ((c .before .before .before .before .before .before .before .before .before .before .before .before .before .before) .args .line .now) ((c .before .before .before .before .before .before .before .before .before .before .before .before .before .before) .args .verb) (sym ((c .before .before .before .before .before .before .before .before .before .before) .if1 .left) ∙ (c .before .before .before .before .before .before .before .before .before .before .before) .is-word .ensures) (sym ((c .before .before .before .before .before .before .before) .if2 .left) ∙ (c .before .before .before .before .before .before .before .before) .is-word2 .ensures) (sym ((c .before .before .before .before) .if3 .left) ∙ (c .before .before .before .before .before) .is-word3 .ensures) (sym ((c .before) .if4 .taken) ∙ (c .before .before) .is-word4 .ensures) (c .read-write .ensures)
+returns-4 c =
+    let then4 = c .before in
+    let at-is-word4 = then4 .before in
+    let else3 = at-is-word4 .before .before in
+    let at-is-word3 = else3 .before in
+    let else2 = at-is-word3 .before .before in
+    let at-is-word2 = else2 .before in
+    let else1 = at-is-word2 .before .before in
+    let at-is-word = else1 .before in
+    let start = at-is-word .before .before .before in
+    verb-write (start .args .line .now) (start .args .verb) (sym (else1 .if1 .left) ∙ at-is-word .is-word .ensures)
+    (sym (else2 .if2 .left) ∙ at-is-word2 .is-word2 .ensures) (sym (else3 .if3 .left) ∙ at-is-word3 .is-word3 .ensures)
+    (sym (then4 .if4 .taken) ∙ at-is-word4 .is-word4 .ensures) (c .read-write .ensures)
 
 returns-5 : tie.Need-returns-5
-returns-5 c = verb-none ((c .before .before .before .before .before .before .before .before .before .before .before .before .before) .args .line .now) ((c .before .before .before .before .before .before .before .before .before .before .before .before .before) .args .verb) (sym ((c .before .before .before .before .before .before .before .before .before) .if1 .left) ∙ (c .before .before .before .before .before .before .before .before .before .before) .is-word .ensures) (sym ((c .before .before .before .before .before .before) .if2 .left) ∙ (c .before .before .before .before .before .before .before) .is-word2 .ensures) (sym ((c .before .before .before) .if3 .left) ∙ (c .before .before .before .before) .is-word3 .ensures) (sym (c .if4 .left) ∙ (c .before) .is-word4 .ensures)
+returns-5 c =
+    let at-is-word4 = c .before in
+    let else3 = at-is-word4 .before .before in
+    let at-is-word3 = else3 .before in
+    let else2 = at-is-word3 .before .before in
+    let at-is-word2 = else2 .before in
+    let else1 = at-is-word2 .before .before in
+    let at-is-word = else1 .before in
+    let start = at-is-word .before .before .before in
+    verb-none (start .args .line .now) (start .args .verb) (sym (else1 .if1 .left) ∙ at-is-word .is-word .ensures)
+    (sym (else2 .if2 .left) ∙ at-is-word2 .is-word2 .ensures) (sym (else3 .if3 .left) ∙ at-is-word3 .is-word3 .ensures)
+    (sym (c .if4 .left) ∙ at-is-word4 .is-word4 .ensures)
 
 pub read-query-spec : {M : Type 1} → statement M
 read-query-spec =

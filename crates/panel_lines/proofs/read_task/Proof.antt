@@ -15,7 +15,12 @@ read-load-requires : tie.Need-read-load-requires
 read-load-requires c κs = search needs
 
 returns : tie.Need-returns
-returns c = verb-load ((c .before .before .before .before .before) .args .line .now) ((c .before .before .before .before .before) .args .verb) (sym ((c .before) .if1 .taken) ∙ (c .before .before) .is-word .ensures) (c .read-load .ensures)
+returns c =
+    let then1 = c .before in
+    let at-is-word = then1 .before in
+    let start = at-is-word .before .before .before in
+    verb-load (start .args .line .now) (start .args .verb) (sym (then1 .if1 .taken) ∙ at-is-word .is-word .ensures)
+    (c .read-load .ensures)
 
 slice-aggregate-is-word-2 : tie.Need-slice-aggregate-is-word-2
 slice-aggregate-is-word-2 c = search needs
@@ -27,13 +32,27 @@ read-preview-requires : tie.Need-read-preview-requires
 read-preview-requires c κs = search needs
 
 returns-2 : tie.Need-returns-2
-returns-2 c = verb-preview ((c .before .before .before .before .before .before .before .before) .args .line .now) ((c .before .before .before .before .before .before .before .before) .args .verb) (sym ((c .before .before .before .before) .if1 .left) ∙ (c .before .before .before .before .before) .is-word .ensures) (sym ((c .before) .if2 .taken) ∙ (c .before .before) .is-word2 .ensures) (c .read-preview .ensures)
+returns-2 c =
+    let then2 = c .before in
+    let at-is-word2 = then2 .before in
+    let else1 = at-is-word2 .before .before in
+    let at-is-word = else1 .before in
+    let start = at-is-word .before .before .before in
+    verb-preview (start .args .line .now) (start .args .verb) (sym (else1 .if1 .left) ∙ at-is-word .is-word .ensures)
+    (sym (then2 .if2 .taken) ∙ at-is-word2 .is-word2 .ensures) (c .read-preview .ensures)
 
 read-query-requires : tie.Need-read-query-requires
 read-query-requires c κs = search needs
 
 returns-3 : tie.Need-returns-3
-returns-3 c = verb-query ((c .before .before .before .before .before .before .before .before) .args .line .now) ((c .before .before .before .before .before .before .before .before) .args .verb) (sym ((c .before .before .before .before) .if1 .left) ∙ (c .before .before .before .before .before) .is-word .ensures) (sym ((c .before) .if2 .left) ∙ (c .before .before) .is-word2 .ensures) (c .read-query .ensures)
+returns-3 c =
+    let else2 = c .before in
+    let at-is-word2 = else2 .before in
+    let else1 = at-is-word2 .before .before in
+    let at-is-word = else1 .before in
+    let start = at-is-word .before .before .before in
+    verb-query (start .args .line .now) (start .args .verb) (sym (else1 .if1 .left) ∙ at-is-word .is-word .ensures)
+    (sym (else2 .if2 .left) ∙ at-is-word2 .is-word2 .ensures) (c .read-query .ensures)
 
 pub read-task-spec : {M : Type 1} → statement M
 read-task-spec =
