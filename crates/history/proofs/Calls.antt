@@ -3,6 +3,7 @@
 use mathlib.Core.Path.{_≡_, refl, sym, ap, ap₂, _∙_, subst}
 use mathlib.Core.Bool.{Bool, true, false, cond, _&&_, _||_}
 use mathlib.Core.List.{List, [], _∷_}
+use mathlib.Core.Logic.{⊎-elim}
 use Prim.Native.Nat.{ℕ, zero, suc, _+_, _*_, _≤_, _<_}
 use native.Mathlib.Decide.{ℕ-discrete, decLt}
 use native.Mathlib.Omega.{arith}
@@ -10,20 +11,30 @@ use lib.Dec.{T, ltb, ltb→lt}
 use lib.ListN.{length, getD, set, take, drop, replicate, length-set, length-take}
 use lib.Seq.{getD-take, getD-drop, getD-set-same, getD-set-other}
 use Rattle.aiger.specs.Circuit.{Circuit}
-use Rattle.aiger.specs.Load.{Answer, refused, gives, load}
+use Rattle.aiger.specs.Load.{Answer, refused, gives, load, _>>=_}
 use Rattle.aiger.specs.Memory.{Holds, image}
 use Rattle.aiger.specs.Search.{Outcome}
 use Rattle.aiger.specs.Write.{countRow}
 use Rattle.aiger.specs.Operations.{Loaded, Written, Operated, judge, searchTests, foldTests, front}
 use Rattle.aiger.proofs.Tests.{and-left, and-right}
 use Rattle.roundtrip.proofs.LoadWrite.{counts-fit}
-use Rattle.roundtrip.proofs.Holding.{held-valid}
-use Rattle.roundtrip.proofs.LoadValid.{gives-same}
-use Rattle.roundtrip.proofs.Determined.{Alike, alike-self, operated-same, written-same}
+use Rattle.roundtrip.proofs.Holding.{held-valid, one-circuit}
+use Rattle.roundtrip.proofs.LoadValid.{some-same}
+use Rattle.roundtrip.proofs.Determined.{Alike, alike-self, operated-same, loaded-same, written-same}
+use Rattle.waveform_laws.proofs.Theorems.{waveformed-same}
 use Rattle.limits.proofs.Refusals.{judge-first}
 use Rattle.pins.specs.Pins.{pinsOf}
 use Rattle.users.specs.Users.{ForUser, PinnedSearched, PinnedSearchEffect, PinnedFolded, PinnedFoldEffect, pinnedShown}
 use Rattle.user_write.specs.Written.{UserWritten}
+use Rattle.completions.specs.Either.{Verdict, verdict}
+use Rattle.pinned_runs.specs.Obeys.{pinnedShows, PinnedReplayed, PinnedReplayEffect, pinnedWidenedText, PinnedWidened, PinnedWidenEffect}
+use Rattle.load.specs.Answers.{answered}
+use Rattle.load.specs.Preview.{countsOf}
+use Rattle.load.specs.declared.Judgement.{Judgement}
+use Rattle.joined.specs.Joined.{joined, joinTests, JoinedInto}
+use Rattle.waveform.specs.Waveform.{Waveformed}
+use Rattle.user_preview.specs.Previews.{UserPreviewed}
+use Rattle.user_join.specs.Joins.{UserJoined}
 use Rattle.user_calls.specs.Calls.{Replaced, UserLoaded, PinSet, PinEffect, pinTests}
 use Rattle.search.specs.Chosen as Search
 use Rattle.fold.specs.Chosen as Fold
@@ -60,14 +71,24 @@ own-pins u p p′ h = λ j i. one i j
               ∙ sym (past (take 256 (drop (256 * u) p′)) i 2 (omega (arith, few 256 (drop (256 * u) p′))))
         ]
 
--- ---- a load
+-- ---- a join
 
-pub loaded-same : {m f m₁ m₂ : List ℕ} {x y : Answer (List ℕ)} → Loaded m f x m₁ → Loaded m f y m₂ → (x ≡ y) × (m₁ ≡ m₂)
-loaded-same (Loaded.refuses {n = n} e) (Loaded.refuses {n = k} d) = let z : n ≡ k = (let q = sym e ∙ d in cc) in (ap refused z, refl)
-loaded-same (Loaded.refuses e) (Loaded.stores c d) = let q = sym e ∙ d in let z : _≡_ {A = ℕ} 0 1 = cc in absurd (omega arith)
-loaded-same (Loaded.stores c e) (Loaded.refuses d) = let q = sym e ∙ d in let z : _≡_ {A = ℕ} 0 1 = cc in absurd (omega arith)
-loaded-same {m} (Loaded.stores c e) (Loaded.stores d k) =
-    let z : c ≡ d = gives-same (sym e ∙ k) in
+joined-same : {first second m m₁ m₂ : List ℕ} {x y : Answer (List ℕ)} → JoinedInto first second m x m₁ → JoinedInto first second m y m₂ → (x ≡ y) × (m₁ ≡ m₂)
+joined-same (JoinedInto.noCircuit f) (JoinedInto.noCircuit g) = (refl, refl)
+joined-same (JoinedInto.noCircuit f) (JoinedInto.refuses c d h k j) = absurd (⊎-elim (λ n. n c h) (λ n. n d k) f)
+joined-same (JoinedInto.noCircuit f) (JoinedInto.stores c d h k j) = absurd (⊎-elim (λ n. n c h) (λ n. n d k) f)
+joined-same (JoinedInto.refuses c d h k j) (JoinedInto.noCircuit f) = absurd (⊎-elim (λ n. n c h) (λ n. n d k) f)
+joined-same (JoinedInto.stores c d h k j) (JoinedInto.noCircuit f) = absurd (⊎-elim (λ n. n c h) (λ n. n d k) f)
+joined-same {m = m} (JoinedInto.refuses c d {n = n} h k j) (JoinedInto.refuses c′ d′ {n = i} h′ k′ j′) =
+    let z : n ≡ i = (let q = sym j ∙ ap₂ (λ (x y : Circuit). judge (joinTests x y (length m))) (one-circuit h h′) (one-circuit k k′) ∙ j′ in cc) in (ap refused z, refl)
+joined-same {m = m} (JoinedInto.refuses c d h k j) (JoinedInto.stores c′ d′ h′ k′ j′) =
+    let q = sym j ∙ ap₂ (λ (x y : Circuit). judge (joinTests x y (length m))) (one-circuit h h′) (one-circuit k k′) ∙ j′ in
+    let z : _≡_ {A = ℕ} 0 1 = cc in absurd (omega arith)
+joined-same {m = m} (JoinedInto.stores c d h k j) (JoinedInto.refuses c′ d′ h′ k′ j′) =
+    let q = sym j ∙ ap₂ (λ (x y : Circuit). judge (joinTests x y (length m))) (one-circuit h h′) (one-circuit k k′) ∙ j′ in
+    let z : _≡_ {A = ℕ} 0 1 = cc in absurd (omega arith)
+joined-same {m = m} (JoinedInto.stores c d h k j) (JoinedInto.stores c′ d′ h′ k′ j′) =
+    let z : joined c d ≡ joined c′ d′ = ap₂ joined (one-circuit h h′) (one-circuit k k′) in
     (ap (λ (x : Circuit). gives (x .maxVar ∷ countRow x)) z, ap (λ (x : Circuit). front (image x) m) z)
 
 -- ---- an operation under pins
@@ -150,10 +171,10 @@ set-past (x ∷ xs) zero v h = absurd (omega arith)
 set-past (x ∷ xs) (suc i) v h = ap (λ (z : List ℕ). x ∷ z) (set-past xs i v (omega arith))
 
 -- two pin memories of which user u sees the same
-abbrev Agree : ℕ → List ℕ → List ℕ → Type 0
+abbrev pub Agree : ℕ → List ℕ → List ℕ → Type 0
 Agree u p p′ = (length p ≡ length p′) × ((i : ℕ) → i < 256 → getD p (256 * u + i) 2 ≡ getD p′ (256 * u + i) 2)
 
-set-agree : (u a v : ℕ) (p p′ : List ℕ) → Agree u p p′ → Agree u (set p a v) (set p′ a v)
+pub set-agree : (u a v : ℕ) (p p′ : List ℕ) → Agree u p p′ → Agree u (set p a v) (set p′ a v)
 set-agree u a v p p′ h =
     elim (decLt a (length p)) [
       | yes l ↦ (length-set p a v ∙ h .0 ∙ sym (length-set p′ a v), set-own u a v p p′ (h .0) l (h .1))
@@ -177,29 +198,79 @@ pin-same {m} {m′} {p} {p′} {user = user} {input = input} {value = value} e a
     one : (c : Circuit) (x y : Unit {0}) (s t : List ℕ) → s ≡ set p (256 * user + input) value → t ≡ set p′ (256 * user + input) value → (x ≡ y) × Agree user s t
     one c x y s t f g = (refl, rw (f, g) (set-agree user (256 * user + input) value p p′ a))
 
--- ---- a load of any user, as any user sees it
+-- ---- operations that write nothing, or the output alone
 
-pub load-same : (u : ℕ) {s t : State} {file m₁ m₂ p₁ p₂ : List ℕ} {user : ℕ} {x y : Answer (List ℕ)} → Same u s t
+-- two calls on one circuit memory under the same pins
+under-same : {A S : Type 0} {user : ℕ} {lent : S} (P : List ℕ → (ℕ → ℕ) → Answer A → S → Type 0)
+    → ((m : List ℕ) (q : ℕ → ℕ) (x y : Answer A) (a b : S) → P m q x a → P m q y b → (x ≡ y) × (a ≡ b))
+    → {m m′ : List ℕ} {q q′ : ℕ → ℕ} → m ≡ m′ → q ≡ q′ → (x y : Answer A) (a b : S) → ForUser user lent (P m q) x a → ForUser user lent (P m′ q′) y b → (x ≡ y) × (a ≡ b)
+under-same P f {m} {m′} {q} {q′} e d x y a b s t =
+    for-user (λ (a b : _). a ≡ b) refl (λ x y a b g h. f m q x y a b g (subst (λ (n : List ℕ). P n q y b) (sym e) (subst (λ (k : ℕ → ℕ). P m′ k y b) (sym d) h))) x y a b s t
+
+replay-one : (m : List ℕ) (q : ℕ → ℕ) (text : List ℕ) (x y : Answer Verdict) → PinnedReplayed m q text x → PinnedReplayed m q text y → x ≡ y
+replay-one m q text x y f g =
+    operated-same (λ (a b : Unit {0}). Unit {0}) alike-self (λ c. refl) tt (λ c a b s t e k. (one c a b s t e k, tt)) f g .0
+  where
+    one : (c : Circuit) (a b : Verdict) (s t : Unit {0}) → PinnedReplayEffect q text c a s → PinnedReplayEffect q text c b t → a ≡ b
+    one c a b s t e k =
+        let z : _≡_ {A = ℕ × List ℕ} (e .bad, e .body) (k .bad, k .body) = some-same (sym (e .reads) ∙ k .reads) in
+        e .judged ∙ ap (λ (h : ℕ × List ℕ). verdict (pinnedShows c q (h .0)) (h .1)) z ∙ sym (k .judged)
+
+widen-one : (m : List ℕ) (q : ℕ → ℕ) (text out : List ℕ) (x y : Answer ℕ) (o p : List ℕ) → PinnedWidened m q text out x o → PinnedWidened m q text out y p
+    → (x ≡ y) × (o ≡ p)
+widen-one m q text out x y o p f g =
+    operated-same (λ (a b : List ℕ). a ≡ b) alike-self (λ c. refl) refl (λ c a b s t e k. (e .count ∙ sym (k .count), one c a b s t e k)) f g
+  where
+    one : (c : Circuit) (a b : ℕ) (s t : List ℕ) → PinnedWidenEffect q text out c a s → PinnedWidenEffect q text out c b t → s ≡ t
+    one c a b s t e k =
+        let z : _≡_ {A = ℕ × List ℕ} (e .bad, e .body) (k .bad, k .body) = some-same (sym (e .reads) ∙ k .reads) in
+        e .writes ∙ ap (λ (h : ℕ × List ℕ). front (pinnedWidenedText c q text h) out) z ∙ sym (k .writes)
+
+preview-same : {room room′ : ℕ} {f : List ℕ} {user : ℕ} {r r′ : Judgement} → room ≡ room′ → UserPreviewed room f user r → UserPreviewed room′ f user r′
+    → Reply.previewed (answered (r .answer)) (r .needed) ≡ Reply.previewed (answered (r′ .answer)) (r′ .needed)
+preview-same e (UserPreviewed.stranger h) (UserPreviewed.stranger k) = refl
+preview-same e (UserPreviewed.stranger h) (UserPreviewed.known k p) = absurd (omega arith)
+preview-same e (UserPreviewed.known h p) (UserPreviewed.stranger k) = absurd (omega arith)
+preview-same {f = f} e (UserPreviewed.known h p) (UserPreviewed.known k q) =
+    ap₂ Reply.previewed (p .answer ∙ ap (λ (n : ℕ). load n f >>= λ c. gives (countsOf c)) e ∙ sym (q .answer)) (p .needed ∙ sym (q .needed))
+
+-- ---- a call that replaces the circuit, as any user sees it
+
+module _ (u : ℕ) {s t : State} (a : Same u s t) where
+  pub freed : {m₁ m₂ : List ℕ} → m₁ ≡ m₂
+      → Same u (record { memory = m₁; work = s .work; pins = replicate (length (s .pins)) 2 }) (record { memory = m₂; work = t .work; pins = replicate (length (t .pins)) 2 })
+  freed z =
+      let e : replicate {A = ℕ} (length (s .pins)) 2 ≡ replicate (length (t .pins)) 2 = ap (λ (i : ℕ). replicate {A = ℕ} i 2) (a .room) in
+      record { memory = z; work = a .work; room = ap length e; own = λ i h. ap (λ (p : List ℕ). getD p (256 * u + i) 2) e }
+
+  module _ {P Q : Answer (List ℕ) → List ℕ → Type 0}
+      (one : (x y : Answer (List ℕ)) (m₁ m₂ : List ℕ) → P x m₁ → Q y m₂ → (x ≡ y) × (m₁ ≡ m₂)) where
+    pub replaced-same : {m₁ m₂ p₁ p₂ : List ℕ} {user : ℕ} {x y : Answer (List ℕ)} → Replaced user (s .memory) (s .pins) P x m₁ p₁
+        → Replaced user (t .memory) (t .pins) Q y m₂ p₂
+        → (x ≡ y) × Same u (record { memory = m₁; work = s .work; pins = p₁ }) (record { memory = m₂; work = t .work; pins = p₂ })
+    replaced-same (Replaced.stranger h) (Replaced.stranger k) = (refl, record { memory = a .memory; work = a .work; room = a .room; own = a .own })
+    replaced-same (Replaced.stranger h) (Replaced.refuses k l) = absurd (omega arith)
+    replaced-same (Replaced.stranger h) (Replaced.stores k l) = absurd (omega arith)
+    replaced-same (Replaced.refuses h l) (Replaced.stranger k) = absurd (omega arith)
+    replaced-same (Replaced.stores h l) (Replaced.stranger k) = absurd (omega arith)
+    replaced-same (Replaced.refuses h l) (Replaced.refuses k r) =
+        let z = one _ _ _ _ l r in
+        (z .0, record { memory = z .1; work = a .work; room = a .room; own = a .own })
+    replaced-same (Replaced.refuses h l) (Replaced.stores k r) = let q = one _ _ _ _ l r .0 in let z : _≡_ {A = ℕ} 0 1 = cc in absurd (omega arith)
+    replaced-same (Replaced.stores h l) (Replaced.refuses k r) = let q = one _ _ _ _ l r .0 in let z : _≡_ {A = ℕ} 0 1 = cc in absurd (omega arith)
+    replaced-same (Replaced.stores h l) (Replaced.stores k r) = let z = one _ _ _ _ l r in (z .0, freed (z .1))
+
+load-same : (u : ℕ) {s t : State} {file m₁ m₂ p₁ p₂ : List ℕ} {user : ℕ} {x y : Answer (List ℕ)} → Same u s t
     → UserLoaded (s .memory) file (s .pins) user x m₁ p₁ → UserLoaded (t .memory) file (t .pins) user y m₂ p₂
     → (x ≡ y) × Same u (record { memory = m₁; work = s .work; pins = p₁ }) (record { memory = m₂; work = t .work; pins = p₂ })
-load-same u a (Replaced.stranger h) (Replaced.stranger k) = (refl, record { memory = a .memory; work = a .work; room = a .room; own = a .own })
-load-same u a (Replaced.stranger h) (Replaced.refuses k l) = absurd (omega arith)
-load-same u a (Replaced.stranger h) (Replaced.stores k l) = absurd (omega arith)
-load-same u a (Replaced.refuses h l) (Replaced.stranger k) = absurd (omega arith)
-load-same u a (Replaced.stores h l) (Replaced.stranger k) = absurd (omega arith)
-load-same u {file = file} a (Replaced.refuses h l) (Replaced.refuses {n = n} {m′ = m₂} k r) =
-    let z = loaded-same l (subst (λ (m : List ℕ). Loaded m file (refused n) m₂) (sym (a .memory)) r) in
-    (z .0, record { memory = z .1; work = a .work; room = a .room; own = a .own })
-load-same u {file = file} a (Replaced.refuses h l) (Replaced.stores {counts = n} {m′ = m₂} k r) =
-    let q = loaded-same l (subst (λ (m : List ℕ). Loaded m file (gives n) m₂) (sym (a .memory)) r) .0 in
-    let z : _≡_ {A = ℕ} 0 1 = cc in absurd (omega arith)
-load-same u {file = file} a (Replaced.stores h l) (Replaced.refuses {n = n} {m′ = m₂} k r) =
-    let q = loaded-same l (subst (λ (m : List ℕ). Loaded m file (refused n) m₂) (sym (a .memory)) r) .0 in
-    let z : _≡_ {A = ℕ} 0 1 = cc in absurd (omega arith)
-load-same u {s} {t} {file = file} a (Replaced.stores h l) (Replaced.stores {counts = n} {m′ = m₂} k r) =
-    let z = loaded-same l (subst (λ (m : List ℕ). Loaded m file (gives n) m₂) (sym (a .memory)) r) in
-    let e : replicate {A = ℕ} (length (s .pins)) 2 ≡ replicate (length (t .pins)) 2 = ap (λ (i : ℕ). replicate {A = ℕ} i 2) (a .room) in
-    (z .0, record { memory = z .1; work = a .work; room = ap length e; own = λ i h. ap (λ (p : List ℕ). getD p (256 * u + i) 2) e })
+load-same u {file = file} a x y =
+    replaced-same u a (λ x y m₁ m₂ l r. loaded-same l (subst (λ (m : List ℕ). Loaded m file y m₂) (sym (a .memory)) r)) x y
+
+join-same : (u : ℕ) {s t : State} {first second m₁ m₂ p₁ p₂ : List ℕ} {user : ℕ} {x y : Answer (List ℕ)} → Same u s t
+    → UserJoined first second (s .memory) (s .pins) user x m₁ p₁ → UserJoined first second (t .memory) (t .pins) user y m₂ p₂
+    → (x ≡ y) × Same u (record { memory = m₁; work = s .work; pins = p₁ }) (record { memory = m₂; work = t .work; pins = p₂ })
+join-same u {first = first} {second = second} a x y =
+    replaced-same u a (λ x y m₁ m₂ l r. joined-same l (subst (λ (m : List ℕ). JoinedInto first second m y m₂) (sym (a .memory)) r)) x y
 
 -- ---- one call
 
@@ -219,7 +290,24 @@ own-step {s = s} {t = t} a (Step.folds {user = user} {b = b} {t = n} {out = out}
     (ap₂ Reply.folded (z .0) (z .1), record { memory = a .memory; work = e ∙ a .work ∙ sym d; room = a .room; own = a .own })
 own-step a (Step.writes {user = user} {out = out} {out′ = o₁} {a = v} x) (Step.writes {out′ = o₂} {a = v′} y) =
     let z = write-same user out o₁ o₂ v v′ (a .memory) x y in
-    (ap₂ Reply.written (z .0) (z .1), record { memory = a .memory; work = a .work; room = a .room; own = a .own })
+    (ap₂ Reply.written (z .0) (z .1), a)
+own-step a (Step.previews x) (Step.previews y) = (preview-same (ap length (a .memory)) x y, a)
+own-step a (Step.joins {user = user} x) (Step.joins y) = let z = join-same user a x y in (ap Reply.loaded (z .0), z .1)
+own-step {s = s} {t = t} a (Step.replays {user = user} {text = text} {a = v} x) (Step.replays {a = v′} y) =
+    let z =
+    under-same {lent = tt {0}} (λ m q b _. PinnedReplayed m q text b) (λ m q b d _ _ f g. (replay-one m q text b d f g, refl)) (a .memory)
+    (own-pins user (s .pins) (t .pins) (a .own)) v v′ tt tt x y in
+    (ap Reply.replayed (z .0), a)
+own-step {s = s} {t = t} a (Step.widens {user = user} {text = text} {out = out} {out′ = o₁} {a = v} x) (Step.widens {out′ = o₂} {a = v′} y) =
+    let z =
+    under-same (λ m q. PinnedWidened m q text out) (λ m q b d o p f g. widen-one m q text out b d o p f g) (a .memory)
+    (own-pins user (s .pins) (t .pins) (a .own)) v v′ o₁ o₂ x y in
+    (ap₂ Reply.written (z .0) (z .1), a)
+own-step {s = s} {t = t} a (Step.waveforms {user = user} {only = only} {text = text} {out = out} {out′ = o₁} {a = v} x) (Step.waveforms {out′ = o₂} {a = v′} y) =
+    let z =
+    under-same (λ m q. Waveformed m only text out) (λ m q b d o p f g. waveformed-same f g) (a .memory)
+    (own-pins user (s .pins) (t .pins) (a .own)) v v′ o₁ o₂ x y in
+    (ap₂ Reply.written (z .0) (z .1), a)
 
 -- an accepted load has one reply, and every user sees the same after it
 pub load-step : (u : ℕ) {c : Call} {r r′ : Reply} {s t s₁ t₁ : State} → Same u s t → T (isAccepted r) → Step s c r s₁ → Step t c r′ t₁ → (r ≡ r′) × Same u s₁ t₁
@@ -228,6 +316,11 @@ load-step u a h (Step.pins x) y = absurd h
 load-step u a h (Step.searches x e) y = absurd h
 load-step u a h (Step.folds x e) y = absurd h
 load-step u a h (Step.writes x) y = absurd h
+load-step u a h (Step.previews x) y = absurd h
+load-step u a h (Step.joins x) (Step.joins y) = let z = join-same u a x y in (ap Reply.loaded (z .0), z .1)
+load-step u a h (Step.replays x) y = absurd h
+load-step u a h (Step.widens x) y = absurd h
+load-step u a h (Step.waveforms x) y = absurd h
 
 pin-other : (u : ℕ) {m p p₁ : List ℕ} {user input value : ℕ} {x : Answer (Unit {0})} → (user ≡ u → ⊥) → PinSet m user input value p x p₁ → Agree u p₁ p
 pin-other u n (PinSet.stranger h) = (refl, λ i l. refl)
@@ -254,4 +347,13 @@ other-step u a n h (Step.pins x) =
     record { memory = a .memory; work = a .work; room = z .0 ∙ a .room; own = λ i l. z .1 i l ∙ a .own i l }
 other-step u a n h (Step.searches x e) = record { memory = a .memory; work = e ∙ a .work; room = a .room; own = a .own }
 other-step u a n h (Step.folds x e) = record { memory = a .memory; work = e ∙ a .work; room = a .room; own = a .own }
-other-step u a n h (Step.writes x) = record { memory = a .memory; work = a .work; room = a .room; own = a .own }
+other-step u a n h (Step.writes x) = a
+other-step u a n h (Step.previews x) = a
+other-step u a n h (Step.joins (Replaced.stranger k)) = record { memory = a .memory; work = a .work; room = a .room; own = a .own }
+other-step u a n h (Step.joins (Replaced.refuses k (JoinedInto.noCircuit f))) = record { memory = a .memory; work = a .work; room = a .room; own = a .own }
+other-step u a n h (Step.joins (Replaced.refuses k (JoinedInto.refuses c d p q j))) =
+    record { memory = a .memory; work = a .work; room = a .room; own = a .own }
+other-step u a n h (Step.joins (Replaced.stores k l)) = absurd (h tt)
+other-step u a n h (Step.replays x) = a
+other-step u a n h (Step.widens x) = a
+other-step u a n h (Step.waveforms x) = a

@@ -1,2 +1,4 @@
 pub mod Calls
+pub mod Moves
 pub mod Undisturbed
+pub mod Free

@@ -10,6 +10,7 @@ use Rattle.aiger.proofs.Tests.{T-true, or-cases}
 use Rattle.meaning.proofs.Lists.{or-left, or-right, eqb-of}
 use Rattle.history.specs.History.{State, Call, Reply, Step, Event, History, userOf, isAccepted, concerns, concerning}
 use Rattle.history.proofs.Calls.{Same, own-step, load-step, other-step}
+use Rattle.history.proofs.Moves.{Moved, own-moves, accepted-moves}
 
 abbrev calls : List Event → List Call
 calls es = map (λ (e : Event). e .call) es
@@ -58,3 +59,26 @@ undisturbed u (x ∷ xs) es₂ {s} {t} a (History.goes {s′ = s₁} st h) k e =
         (other-step u a (λ q. false-not (concerns u x) c (or-left (eqb (userOf (x .call)) u) (isAccepted (x .reply)) (eqb-of q)))
         (λ q. false-not (concerns u x) c (or-right (eqb (userOf (x .call)) u) (isAccepted (x .reply)) q)) st)
         k d
+
+-- that shorter history is there: the events that concern user u, with the replies that they had, are a history by themselves
+pub apart : (u : ℕ) (es : List Event) {s t : State} → Same u s t → History s es → History t (concerning u es)
+unfolding concerning
+apart u [] a h = History.ends
+apart u (x ∷ xs) {s} {t} a (History.goes {s′ = s₁} st h) = go (concerns u x) refl (λ t′ b. apart u xs {s = s₁} {t = t′} b h)
+  where
+    moved : T (eqb (userOf (x .call)) u || isAccepted (x .reply)) → Moved u t (x .call) (x .reply) s₁
+    moved k =
+        ⊎-elim
+        (λ q.
+        let e = eqb→eq (userOf (x .call)) u q in
+        subst (λ (v : ℕ). Moved v t (x .call) (x .reply) s₁) e (own-moves (subst (λ (v : ℕ). Same v s t) (sym e) a) st))
+        (λ q. accepted-moves u a q st)
+        (or-cases (eqb (userOf (x .call)) u) (isAccepted (x .reply)) k)
+
+    go : (b : Bool) → concerns u x ≡ b → ((t′ : State) → Same u s₁ t′ → History t′ (concerning u xs))
+        → History t (cond b (x ∷ concerning u xs) (concerning u xs))
+    go true c f = let m = moved (T-true c) in History.goes (m .step) (f (m .next) (m .same))
+    go false c f =
+        f t
+        (other-step u a (λ q. false-not (concerns u x) c (or-left (eqb (userOf (x .call)) u) (isAccepted (x .reply)) (eqb-of q)))
+        (λ q. false-not (concerns u x) c (or-right (eqb (userOf (x .call)) u) (isAccepted (x .reply)) q)) st)

@@ -11,6 +11,14 @@ use Rattle.aiger.specs.Search.{Outcome}
 use Rattle.users.specs.Users.{PinnedSearched, PinnedFolded}
 use Rattle.user_calls.specs.Calls.{UserLoaded, PinSet}
 use Rattle.user_write.specs.Written.{UserWritten}
+use Rattle.user_preview.specs.Previews.{UserPreviewed}
+use Rattle.user_join.specs.Joins.{UserJoined}
+use Rattle.user_replay.specs.Replays.{UserReplayed}
+use Rattle.user_widen.specs.Widens.{UserWidened}
+use Rattle.user_waveform.specs.Waveforms.{UserWaveformed}
+use Rattle.completions.specs.Either.{Verdict}
+use Rattle.load.specs.Answers.{answered}
+use Rattle.load.specs.declared.Judgement.{Judgement}
 use Rattle.search.specs.Chosen as Search
 use Rattle.fold.specs.Chosen as Fold
 
@@ -27,14 +35,21 @@ pub data Call : Type 0 where
   search : (user b k D : ℕ) (out : List ℕ) → Call
   fold : (user b t : ℕ) (out : List ℕ) → Call
   write : (user : ℕ) (out : List ℕ) → Call
+  preview : (user : ℕ) (file : List ℕ) → Call
+  join : (user : ℕ) (first second : List ℕ) → Call
+  replay : (user : ℕ) (text : List ℕ) → Call
+  widen : (user : ℕ) (text out : List ℕ) → Call
+  waveform : (user : ℕ) (only : Bool) (text out : List ℕ) → Call
 
--- what a call gives back: the answer, and the output that was lent
+-- what a call gives back: the answer, and the output that was lent. A join answers as a load does; write, widening and waveform write a text
 pub data Reply : Type 0 where
   loaded : Answer (List ℕ) → Reply
   pinned : Answer (Unit {0}) → Reply
   searched : Answer Outcome → List ℕ → Reply
   folded : Answer ℕ → List ℕ → Reply
   written : Answer ℕ → List ℕ → Reply
+  previewed : Answer (List ℕ) → ℕ → Reply
+  replayed : Answer Verdict → Reply
 
 -- whose call it is
 abbrev pub userOf : Call → ℕ
@@ -43,8 +58,13 @@ userOf (Call.setPin user input value) = user
 userOf (Call.search user b k D out) = user
 userOf (Call.fold user b t out) = user
 userOf (Call.write user out) = user
+userOf (Call.preview user file) = user
+userOf (Call.join user first second) = user
+userOf (Call.replay user text) = user
+userOf (Call.widen user text out) = user
+userOf (Call.waveform user only text out) = user
 
--- a load was accepted
+-- a load, or a join, was accepted
 abbrev pub isAccepted : Reply → Bool
 isAccepted (Reply.loaded (refused n)) = false
 isAccepted (Reply.loaded (gives counts)) = true
@@ -52,6 +72,8 @@ isAccepted (Reply.pinned a) = false
 isAccepted (Reply.searched a out) = false
 isAccepted (Reply.folded a out) = false
 isAccepted (Reply.written a out) = false
+isAccepted (Reply.previewed a n) = false
+isAccepted (Reply.replayed a) = false
 
 -- what a call may answer and leave: the contract of its operation
 pub data Step (s : State) : Call → Reply → State → Type 0 where
@@ -66,7 +88,17 @@ pub data Step (s : State) : Call → Reply → State → Type 0 where
       → length w′ ≡ length (s .work)
       → Step s (Call.fold user b t out) (Reply.folded a out′) (record { memory = s .memory; work = w′; pins = s .pins })
   writes : {user : ℕ} {out out′ : List ℕ} {a : Answer ℕ} → UserWritten (s .memory) user out a out′
-      → Step s (Call.write user out) (Reply.written a out′) (record { memory = s .memory; work = s .work; pins = s .pins })
+      → Step s (Call.write user out) (Reply.written a out′) s
+  previews : {user : ℕ} {file : List ℕ} {r : Judgement} → UserPreviewed (length (s .memory)) file user r
+      → Step s (Call.preview user file) (Reply.previewed (answered (r .answer)) (r .needed)) s
+  joins : {user : ℕ} {first second m′ p′ : List ℕ} {a : Answer (List ℕ)} → UserJoined first second (s .memory) (s .pins) user a m′ p′
+      → Step s (Call.join user first second) (Reply.loaded a) (record { memory = m′; work = s .work; pins = p′ })
+  replays : {user : ℕ} {text : List ℕ} {a : Answer Verdict} → UserReplayed (s .memory) (s .pins) user text a
+      → Step s (Call.replay user text) (Reply.replayed a) s
+  widens : {user : ℕ} {text out out′ : List ℕ} {a : Answer ℕ} → UserWidened (s .memory) (s .pins) user text out a out′
+      → Step s (Call.widen user text out) (Reply.written a out′) s
+  waveforms : {user : ℕ} {only : Bool} {text out out′ : List ℕ} {a : Answer ℕ} → UserWaveformed (s .memory) user only text out a out′
+      → Step s (Call.waveform user only text out) (Reply.written a out′) s
 
 -- a call that was made, with what it gave back
 pub record Event : Type 0 where

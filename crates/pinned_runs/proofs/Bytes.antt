@@ -8,8 +8,8 @@ use native.Mathlib.Decide.{decLt, ℕ-discrete}
 use native.Mathlib.Omega.{arith}
 use borrow.Author.Tests.{le-leb, lt-leb, lt-ltb, le-ltb, eq-eqb, ne-eqb}
 use lib.Dec.{T, leb, ltb, eqb}
-use lib.ListN.{length, getD, set, length-set}
-use lib.Seq.{getD-set-same, getD-set-other}
+use lib.ListN.{length, getD, set, take, length-set}
+use lib.Seq.{getD-set-same, getD-set-other, getD-take, length-take-le}
 use Rattle.aiger.specs.Lists.{everyBelow}
 use Rattle.aiger.proofs.Tests.{below-at, below-all, T-true, true-T}
 use Rattle.completions.specs.Either.{isEither}
@@ -100,37 +100,39 @@ below-true f n k h l = sym (true-T (everyBelow n f) (below-all n f (λ j i. h j 
 pub below-false : (f : ℕ → Bool) (n k : ℕ) → k < n → f k ≡ false → false ≡ everyBelow n f
 below-false f n k l e = sym (both-ways (everyBelow n f) false (λ t. subst T e (below-at n f t k l)) (λ t. absurd t))
 
--- the first k bytes are settled, the others are as they were
-pub record Begun (P : ℕ → ℕ) (w left : List ℕ) (k : ℕ) : Type 0 where
-  pub size : length left ≡ length w
+-- the first k bytes are those of w, settled
+pub record Begun (P : ℕ → ℕ) (w copy left : List ℕ) (k : ℕ) : Type 0 where
+  pub size : length left ≡ length copy
   pub done : (j : ℕ) → j < k → getD left j 0 ≡ settledByte (P j) (getD w j 0)
-  pub rest : (j : ℕ) → k ≤ j → getD left j 0 ≡ getD w j 0
 
-pub begun-none : (P : ℕ → ℕ) (w : List ℕ) → Begun P w w 0
-begun-none P w = record { size = refl; done = λ j l. absurd (omega arith); rest = λ j l. refl }
+pub begun-none : (P : ℕ → ℕ) (w copy : List ℕ) → Begun P w copy copy 0
+begun-none P w copy = record { size = refl; done = λ j l. absurd (omega arith) }
 
-pub begun-more : (P : ℕ → ℕ) (w left : List ℕ) (k x : ℕ) → Begun P w left k → k < length w → x ≡ settledByte (P k) (getD left k 0) → Begun P w (set left k x) (k + 1)
-begun-more P w left k x b l e =
+pub begun-more : (P : ℕ → ℕ) (w copy left : List ℕ) (k x : ℕ) → Begun P w copy left k → k < length copy → x ≡ settledByte (P k) (getD w k 0)
+    → Begun P w copy (set left k x) (k + 1)
+begun-more P w copy left k x b l e =
     record {
       size = length-set left k x ∙ b .size;
       done = λ j h.
           elim (ℕ-discrete j k) [
             | yes z ↦
                 ap (λ (i : ℕ). getD (set left k x) i 0) z ∙ getD-set-same left k x 0 (omega (arith, b .size)) ∙ e
-                ∙ ap (settledByte (P k)) (b .rest k (omega arith)) ∙ sym (ap (λ (i : ℕ). settledByte (P i) (getD w i 0)) z)
+                ∙ sym (ap (λ (i : ℕ). settledByte (P i) (getD w i 0)) z)
             | no n ↦ getD-set-other left k j x 0 n ∙ b .done j (omega arith)
           ];
-      rest = λ j h. getD-set-other left k j x 0 (λ z. omega arith) ∙ b .rest j (omega arith);
     }
 
-pub begun-all : (P : ℕ → ℕ) (w left : List ℕ) (k : ℕ) → Begun P w left k → length w ≤ k → Settled P w left
-begun-all P w left k b l =
+pub begun-all : (P : ℕ → ℕ) (w copy left : List ℕ) (k : ℕ) → Begun P w copy left k → length w ≤ k → length w ≤ length copy → Settled P w (take (length w) left)
+begun-all P w copy left k b l h =
+    let n : length (take (length w) left) ≡ length w = length-take-le (length w) left (omega (arith, b .size)) in
     record {
-      size = b .size;
+      size = n;
       at = λ j.
-          elim (decLt j k) [
-            | yes h ↦ b .done j h
-            | no h ↦ b .rest j (omega arith) ∙ settle-other (P j) (getD w j 0) (λ e. zero-not (getD-past w j 0 (omega arith)) e)
+          elim (decLt j (length w)) [
+            | yes i ↦ getD-take (length w) left j 0 i ∙ b .done j (omega arith)
+            | no i ↦
+                getD-past (take (length w) left) j 0 (omega arith) ∙ sym (getD-past w j 0 (omega arith))
+                ∙ settle-other (P j) (getD w j 0) (zero-not (getD-past w j 0 (omega arith)))
           ];
     }
   where

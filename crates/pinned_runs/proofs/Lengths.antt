@@ -6,7 +6,7 @@ use mathlib.Core.Option.{none, some}
 use Prim.Native.Nat.{ℕ, zero, suc, _+_, _-_, _*_, _≤_, _<_}
 use native.Mathlib.Omega.{arith}
 use lib.Dec.{eqb, ltb, leb}
-use lib.ListN.{length, take, drop, length-drop}
+use lib.ListN.{length, getD, take, drop, length-drop}
 use lib.Seq.{take-all}
 use Rattle.aiger.specs.Lists.{same}
 use Rattle.aiger.specs.Text.{bytes, _>>=_, when}
@@ -20,7 +20,9 @@ use Rattle.completions.specs.Either.{completion}
 use Rattle.completions.proofs.Completions.{completes}
 use Rattle.completions.proofs.Forms.{completes-form}
 use Rattle.blocks.specs.Runs.{BodyRead, Fits}
+use Rattle.pins.specs.Pins.{pinsOf}
 use Rattle.pinned_runs.specs.Places.{OwnAt}
+use Rattle.pinned_runs.specs.declared.Own.{Own}
 
 bits-size : (n : ℕ) (w : List ℕ) (r : List Bool × List ℕ) → bits n w ≡ some r → length w ≡ n + 1 + length (r .1)
 unfolding bits
@@ -145,3 +147,8 @@ module _ (len user : ℕ) where
         inside = omega arith;
         bytes = λ pins e. let z : 256 * user + 256 - 256 * user ≡ 256 = omega arith in ap (λ (n : ℕ). take n (drop (256 * user) pins)) z;
       }
+
+-- the pins of the user, as those bytes give them
+pub own-are : (pins : List ℕ) (len user : ℕ) (r : Own) → length pins ≡ len → OwnAt len user r → (λ i. getD (take (r .to - r .from) (drop (r .from) pins)) i 2) ≡ pinsOf pins user
+unfolding pinsOf
+own-are pins len user r e o = ap {B = ℕ → ℕ} (λ (l : List ℕ) (i : ℕ). getD l i 2) (o .bytes pins e)

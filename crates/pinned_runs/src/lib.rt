@@ -3,7 +3,7 @@
 use layout::Layout;
 ghost use mathlib.Core.Path.{_≡_};
 ghost use Prim.Native.Nat.{_+_, _*_, _≤_};
-ghost use lib.ListN.{length, getD};
+ghost use lib.ListN.{length, getD, take};
 ghost use Rattle.aiger.specs.Lists.{everyBelow};
 ghost use Rattle.pinned_runs.specs.Places.{placePin, agreesAt, settledByte, Settled, OwnAt};
 
@@ -125,17 +125,18 @@ fn settle(pin: u8, byte: u8) -> u8
     byte
 }
 
-// Puts the pin's bit for each `x` that is held.
-pub fn put_pins(rows: Rows, own: &[u8], body: &mut [u8])
-    requires { ⌜ rows .inputs ≤ 256 ⌝ }
+// Copies a body, with the pin's bit for each `x` that is held.
+pub fn copy_settled(rows: Rows, own: &[u8], body: &[u8], copy: &mut [u8])
+    requires { ⌜ (rows .inputs ≤ 256) × (length (now body) ≤ length (now copy)) ⌝ }
     ensures { λ _. ⌜
-        Settled (placePin (λ i. getD (now (own .entry)) i 2) (rows .first) (rows .inputs) (rows .end)) (now (body .entry)) (now (body .exit))
+        Settled (placePin (λ i. getD (now (own .entry)) i 2) (rows .first) (rows .inputs) (rows .end)) (now (body .entry))
+        (take (length (now (body .entry))) (now (copy .exit)))
         ⌝ }
 {
     let mut k = 0;
     while k < body.len() {
         let pin = pin_of(rows, own, k);
-        body[k] = settle(pin, body[k]);
+        copy[k] = settle(pin, body[k]);
         k += 1;
     }
 }

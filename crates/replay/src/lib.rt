@@ -7,7 +7,7 @@ use witness::Heading;
 ghost use mathlib.Core.Path.{_≡_};
 ghost use mathlib.Core.List.{List};
 ghost use Prim.Native.Nat.{ℕ, _≤_, _<_};
-ghost use lib.ListN.{length, drop};
+ghost use lib.ListN.{length, getD, drop};
 ghost use Rattle.aiger.specs.Lists.{same};
 ghost use Rattle.aiger.specs.Text.{bytes};
 ghost use Rattle.aiger.specs.Circuit.{Circuit};
@@ -18,7 +18,8 @@ ghost use Rattle.completions.specs.Forms.{isSymbol, SameForm};
 ghost use Rattle.witness.specs.Line.{LineAt};
 ghost use Rattle.frames.specs.Lanes.{Ready};
 ghost use Rattle.blocks.specs.Runs.{Fits};
-ghost use Rattle.replay.specs.Answer.{answered, Judged};
+ghost use Rattle.pinned_runs.specs.Obeys.{PinnedReplayed};
+ghost use Rattle.replay.specs.Answer.{answered, Judged, demotedAnswer, SettledJudged, JudgedUnder};
 ghost use Rattle.replay.specs.Texts.{CountsOf, Counted, FramesRead, WitnessRead};
 
 // What replay answers.
@@ -203,9 +204,102 @@ fn judge_alone(m: &[u32], layout: Layout, order: &[u32], q: Question, body: &[u8
     judge(m, layout, order, q, body, &mut values, &mut state)
 }
 
-// Whether a text is a witness of the circuit in m, and if so which of its completions show a hit.
-pub fn replay(m: &[u32], text: &[u8]) -> ReplayAnswer
-    ensures { λ r. ⌜ EitherReplayed (now (m .entry)) (now (text .entry)) (answered r) ⌝ }
+// What an answer becomes where some completions differ from a pin.
+fn demote(answer: ReplayAnswer) -> ReplayAnswer
+    ensures { λ r. ⌜ answered r ≡ demotedAnswer (answered answer) ⌝ }
+{
+    match answer {
+        ReplayAnswer::All => ReplayAnswer::Mixed,
+        ReplayAnswer::No => ReplayAnswer::No,
+        ReplayAnswer::Mixed => ReplayAnswer::Mixed,
+        ReplayAnswer::Refused(n) => ReplayAnswer::Refused(n),
+    }
+}
+
+// Judges a body whose `x` are to be counted.
+fn judge_counted(m: &[u32], layout: Layout, order: &[u32], q: Question, body: &[u8]) -> ReplayAnswer
+    requires { ⌜ Ready (now m) layout (now order) 4097 ⌝ }
+    requires { ⌜ q .bad < word (now m) 5 ⌝ }
+    requires { ⌜ Fits (circuitIn (now m)) (q .bad) (q .frames) (eithers (now body)) (now body) ⌝ }
+    ensures { λ r. ⌜ Judged (circuitIn (now (m .entry))) (q .bad) (now (body .entry)) r ⌝ }
+{
+    let bad = q.bad;
+    let frames = q.frames;
+    let eithers = count_eithers(body);
+    let next = Question {
+        bad,
+        frames,
+        eithers,
+    };
+    judge_alone(m, layout, order, next, body)
+}
+
+// Judges a body by a copy with the pin's bit for each `x` that is held.
+fn judge_copy(
+    m: &[u32],
+    layout: Layout,
+    order: &[u32],
+    q: Question,
+    own: &[u8],
+    body: &[u8],
+    copy: &mut [u8],
+) -> ReplayAnswer
+    requires { ⌜ Ready (now m) layout (now order) 4097 ⌝ }
+    requires { ⌜ (q .bad < word (now m) 5) × (length (now body) ≤ length (now copy)) ⌝ }
+    requires { ⌜ Fits (circuitIn (now m)) (q .bad) (q .frames) (q .eithers) (now body) ⌝ }
+    ensures { λ r. ⌜ SettledJudged (circuitIn (now (m .entry))) (λ i. getD (now (own .entry)) i 2) (q .bad) (q .frames) (now (body .entry)) r ⌝ }
+{
+    let end = body.len();
+    let rows = pinned_runs::rows_of(layout, q.frames);
+    pinned_runs::copy_settled(rows, own, body, copy);
+    judge_counted(m, layout, order, q, &copy[0..end])
+}
+
+// The same, with memory of its own for the copy.
+fn judge_settled(
+    m: &[u32],
+    layout: Layout,
+    order: &[u32],
+    q: Question,
+    own: &[u8],
+    body: &[u8],
+) -> ReplayAnswer
+    requires { ⌜ Ready (now m) layout (now order) 4097 ⌝ }
+    requires { ⌜ q .bad < word (now m) 5 ⌝ }
+    requires { ⌜ Fits (circuitIn (now m)) (q .bad) (q .frames) (q .eithers) (now body) ⌝ }
+    ensures { λ r. ⌜ SettledJudged (circuitIn (now (m .entry))) (λ i. getD (now (own .entry)) i 2) (q .bad) (q .frames) (now (body .entry)) r ⌝ }
+{
+    let mut copy = [0u8; 66825];
+    judge_copy(m, layout, order, q, own, body, &mut copy)
+}
+
+// Whether all completions of a body show a hit that obeys the pins, none, or some.
+fn judge_under(
+    m: &[u32],
+    layout: Layout,
+    order: &[u32],
+    q: Question,
+    own: &[u8],
+    body: &[u8],
+) -> ReplayAnswer
+    requires { ⌜ Ready (now m) layout (now order) 4097 ⌝ }
+    requires { ⌜ q .bad < word (now m) 5 ⌝ }
+    requires { ⌜ Fits (circuitIn (now m)) (q .bad) (q .frames) (q .eithers) (now body) ⌝ }
+    ensures { λ r. ⌜ JudgedUnder (circuitIn (now (m .entry))) (λ i. getD (now (own .entry)) i 2) (q .bad) (now (body .entry)) r ⌝ }
+{
+    let rows = pinned_runs::rows_of(layout, q.frames);
+    if !pinned_runs::agree(rows, own, body, true) {
+        return ReplayAnswer::No;
+    }
+    if pinned_runs::agree(rows, own, body, false) {
+        return judge_alone(m, layout, order, q, body);
+    }
+    demote(judge_settled(m, layout, order, q, own, body))
+}
+
+// Replay under pins: own has a byte for each input, and an input without one is free.
+pub fn replay_under(m: &[u32], own: &[u8], text: &[u8]) -> ReplayAnswer
+    ensures { λ r. ⌜ PinnedReplayed (now (m .entry)) (λ i. getD (now (own .entry)) i 2) (now (text .entry)) (answered r) ⌝ }
 {
     let mut order = [0u32; 3072];
     let Held::Circuit(layout) = circuit::held_in(m, &mut order) else {
@@ -213,6 +307,13 @@ pub fn replay(m: &[u32], text: &[u8]) -> ReplayAnswer
     };
     match read_witness(layout, text) {
         Reading::Refused(n) => ReplayAnswer::Refused(n),
-        Reading::Read(start, q) => judge_alone(m, layout, &order, q, &text[start..]),
+        Reading::Read(start, q) => judge_under(m, layout, &order, q, own, &text[start..]),
     }
+}
+
+// Whether a text is a witness of the circuit in m, and if so which of its completions show a hit.
+pub fn replay(m: &[u32], text: &[u8]) -> ReplayAnswer
+    ensures { λ r. ⌜ EitherReplayed (now (m .entry)) (now (text .entry)) (answered r) ⌝ }
+{
+    replay_under(m, &text[0..0], text)
 }

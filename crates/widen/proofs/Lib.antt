@@ -1,4 +1,5 @@
 pub mod Steps
 pub mod Outputs
+pub mod Pins
 pub mod Headings
 pub mod Theorems

@@ -12,9 +12,10 @@ use lib.Seq.{take-all, take-append-le, drop-at, drop-drop, drop-append-le}
 use Rattle.aiger.specs.Circuit.{Circuit}
 use Rattle.aiger.specs.Load.{refused, gives}
 use Rattle.aiger.specs.Memory.{Holds}
-use Rattle.completions.specs.Either.{eithers, shows, readEither, widened, widenedText}
+use Rattle.completions.specs.Either.{eithers, readEither, widened}
 use Rattle.aiger.specs.Operations.{front, Test, need, judge, Operated}
-use Rattle.completions.specs.Operations.{eitherTests, widenTests, Widened}
+use Rattle.completions.specs.Operations.{eitherTests, widenTests}
+use Rattle.pinned_runs.specs.Obeys.{pinnedShows, pinnedWidenedText, PinnedWidened}
 use Rattle.limits.proofs.Refusals.{judge-refused, judge-rest}
 use Rattle.replay.proofs.Answers.{passed}
 
@@ -42,11 +43,11 @@ copied text out = ap (λ (w : List ℕ). w ++ drop (length text) out) (take-all 
 
 -- ---- the answers
 
-module _ {m : List ℕ} (c : Circuit) (held : Holds m c) (text out : List ℕ) where
+module _ {m : List ℕ} (c : Circuit) (held : Holds m c) (q : ℕ → ℕ) (text out : List ℕ) where
   abbrev short : Test
   short = need 13 (leb (length text) (length out))
 
-  pub refuses : (n : ℕ) → judge (eitherTests c text) ≡ refused n → Widened m text out (refused n) out
+  pub refuses : (n : ℕ) → judge (eitherTests c text) ≡ refused n → PinnedWidened m q text out (refused n) out
   refuses n e = Operated.refuses c held (judge-refused (eitherTests c text) (short ∷ []) n e)
 
   module _ (b : ℕ) (body : List ℕ) (e : readEither c text ≡ some (b, body)) (l : eithers body ≤ 16) where
@@ -61,24 +62,24 @@ module _ {m : List ℕ} (c : Circuit) (held : Holds m c) (text out : List ℕ) w
     unfolding judge
     last-passes k = rw (le-leb (length text) (length out) k)
 
-    pub too-short : length out < length text → Widened m text out (refused 13) out
+    pub too-short : length out < length text → PinnedWidened m q text out (refused 13) out
     too-short k = Operated.refuses c held (rest ∙ last-refuses k)
 
-    text-is : (start : ℕ) → start ≤ length text → body ≡ drop start text → widenedText c text (b, body) ≡ take start text ++ widened (shows c b) body
-    unfolding widenedText
-    text-is start s q =
-        let size : length body ≡ length text - start = ap length q ∙ length-drop start text in
-        let z : length text - length body ≡ start = omega arith in
-        ap (λ (j : ℕ). take j text ++ widened (shows c b) body) z
+    text-is : (start : ℕ) → start ≤ length text → body ≡ drop start text → pinnedWidenedText c q text (b, body) ≡ take start text ++ widened (pinnedShows c q b) body
+    unfolding pinnedWidenedText
+    text-is start s z =
+        let size : length body ≡ length text - start = ap length z ∙ length-drop start text in
+        let y : length text - length body ≡ start = omega arith in
+        ap (λ (j : ℕ). take j text ++ widened (pinnedShows c q b) body) y
 
     pub widens : length text ≤ length out → (start : ℕ) → start ≤ length text → body ≡ drop start text → (n : ℕ) → n ≡ length text → (o : List ℕ)
-        → o ≡ front (take start text ++ widened (shows c b) body) out → Widened m text out (gives n) o
-    widens k start s q n z o r =
+        → o ≡ front (take start text ++ widened (pinnedShows c q b) body) out → PinnedWidened m q text out (gives n) o
+    widens k start s y n z o r =
         Operated.acts c held (rest ∙ last-passes k)
         (record {
           bad = b;
           body = body;
           reads = e;
           count = z;
-          writes = r ∙ ap (λ (w : List ℕ). front w out) (sym (text-is start s q));
+          writes = r ∙ ap (λ (w : List ℕ). front w out) (sym (text-is start s y));
         })

@@ -7,13 +7,14 @@ ghost use mathlib.Core.Path.{_≡_};
 ghost use mathlib.Core.List.{_++_};
 ghost use Prim.Native.Nat.{_≤_, _<_};
 ghost use lib.Dec.{T};
-ghost use lib.ListN.{length, take, drop};
+ghost use lib.ListN.{length, getD, take, drop};
 ghost use Rattle.completions.specs.Either.{eithers, isBit, allPass, shows, widenAt, widenBelow, widened};
 ghost use Rattle.aiger.specs.Operations.{front};
 ghost use Rattle.completions.specs.Operations.{Widened};
 ghost use Rattle.layout.specs.Words.{word, circuitIn};
 ghost use Rattle.frames.specs.Lanes.{Ready};
 ghost use Rattle.blocks.specs.Runs.{Fits};
+ghost use Rattle.pinned_runs.specs.Obeys.{pinnedShows, PinnedWidened};
 ghost use Rattle.widen.specs.Answer.{answered};
 
 // What widening answers: the length of the text.
@@ -89,12 +90,13 @@ fn widen_at(
     count
 }
 
-// Widens a body all of whose completions hit.
+// Widens a body all of whose completions hit and obey the pins. A held input is passed over.
 fn widen_body(
     m: &[u32],
     layout: Layout,
     order: &[u32],
     q: Question,
+    own: &[u8],
     body: &mut [u8],
     values: &mut [u64],
     state: &mut [u64],
@@ -102,30 +104,37 @@ fn widen_body(
     requires { ⌜ Ready (now m) layout (now order) (length (now values)) ⌝ }
     requires { ⌜ (q .bad < word (now m) 5) × (1024 ≤ length (now state)) ⌝ }
     requires { ⌜ Fits (circuitIn (now m)) (q .bad) (q .frames) (q .eithers) (now body) ⌝ }
-    requires { ⌜ T (allPass (shows (circuitIn (now m)) (q .bad)) (now body)) ⌝ }
-    ensures { λ _. ⌜ now (body .exit) ≡ widenBelow (shows (circuitIn (now (m .entry))) (q .bad)) (now (body .entry)) (length (now (body .entry))) ⌝ }
+    requires { ⌜ T (allPass (pinnedShows (circuitIn (now m)) (λ i. getD (now own) i 2) (q .bad)) (now body)) ⌝ }
+    ensures { λ _. ⌜
+        now (body .exit)
+        ≡ widenBelow (pinnedShows (circuitIn (now (m .entry))) (λ i. getD (now (own .entry)) i 2) (q .bad)) (now (body .entry)) (length (now (body .entry)))
+        ⌝ }
 {
     let bad = q.bad;
     let frames = q.frames;
+    let rows = pinned_runs::rows_of(layout, frames);
     let mut eithers = q.eithers;
     let mut i = body.len();
     while 0 < i {
         i -= 1;
-        let next = Question {
-            bad,
-            frames,
-            eithers,
-        };
-        eithers = widen_at(m, layout, order, next, i, body, values, state);
+        if 1 < pinned_runs::pin_of(rows, own, i) {
+            let next = Question {
+                bad,
+                frames,
+                eithers,
+            };
+            eithers = widen_at(m, layout, order, next, i, body, values, state);
+        }
     }
 }
 
-// Widens a body where every completion hits; else it stays.
+// Widens a body where every completion hits and obeys the pins; else it stays.
 fn widen_hits(
     m: &[u32],
     layout: Layout,
     order: &[u32],
     q: Question,
+    own: &[u8],
     body: &mut [u8],
     values: &mut [u64],
     state: &mut [u64],
@@ -133,24 +142,28 @@ fn widen_hits(
     requires { ⌜ Ready (now m) layout (now order) (length (now values)) ⌝ }
     requires { ⌜ (q .bad < word (now m) 5) × (1024 ≤ length (now state)) ⌝ }
     requires { ⌜ Fits (circuitIn (now m)) (q .bad) (q .frames) (q .eithers) (now body) ⌝ }
-    ensures { λ _. ⌜ now (body .exit) ≡ widened (shows (circuitIn (now (m .entry))) (q .bad)) (now (body .entry)) ⌝ }
+    ensures { λ _. ⌜ now (body .exit) ≡ widened (pinnedShows (circuitIn (now (m .entry))) (λ i. getD (now (own .entry)) i 2) (q .bad)) (now (body .entry)) ⌝ }
 {
+    let rows = pinned_runs::rows_of(layout, q.frames);
+    if !pinned_runs::agree(rows, own, body, false) {
+        return;
+    }
     if !every_hit(m, layout, order, q, body, values, state) {
         return;
     }
-    widen_body(m, layout, order, q, body, values, state);
+    widen_body(m, layout, order, q, own, body, values, state);
 }
 
 // The same, with memory of its own for the words.
-fn widen_alone(m: &[u32], layout: Layout, order: &[u32], q: Question, body: &mut [u8])
+fn widen_alone(m: &[u32], layout: Layout, order: &[u32], q: Question, own: &[u8], body: &mut [u8])
     requires { ⌜ Ready (now m) layout (now order) 4097 ⌝ }
     requires { ⌜ q .bad < word (now m) 5 ⌝ }
     requires { ⌜ Fits (circuitIn (now m)) (q .bad) (q .frames) (q .eithers) (now body) ⌝ }
-    ensures { λ _. ⌜ now (body .exit) ≡ widened (shows (circuitIn (now (m .entry))) (q .bad)) (now (body .entry)) ⌝ }
+    ensures { λ _. ⌜ now (body .exit) ≡ widened (pinnedShows (circuitIn (now (m .entry))) (λ i. getD (now (own .entry)) i 2) (q .bad)) (now (body .entry)) ⌝ }
 {
     let mut values = [0u64; 4097];
     let mut state = [0u64; 1024];
-    widen_hits(m, layout, order, q, body, &mut values, &mut state);
+    widen_hits(m, layout, order, q, own, body, &mut values, &mut state);
 }
 
 // Copies a witness, whose body begins at `start`, to the front of out and widens the copy.
@@ -160,6 +173,7 @@ fn widen_copy(
     order: &[u32],
     q: Question,
     start: usize,
+    own: &[u8],
     text: &[u8],
     out: &mut [u8],
 )
@@ -168,17 +182,22 @@ fn widen_copy(
     requires { ⌜ Fits (circuitIn (now m)) (q .bad) (q .frames) (q .eithers) (drop start (now text)) ⌝ }
     ensures { λ _. ⌜
         now (out .exit)
-        ≡ front (take start (now (text .entry)) ++ widened (shows (circuitIn (now (m .entry))) (q .bad)) (drop start (now (text .entry)))) (now (out .entry))
+        ≡ front
+        (take start (now (text .entry))
+        ++ widened (pinnedShows (circuitIn (now (m .entry))) (λ i. getD (now (own .entry)) i 2) (q .bad)) (drop start (now (text .entry))))
+        (now (out .entry))
         ⌝ }
 {
     let end = text.len();
     bytes::copy(text, out);
-    widen_alone(m, layout, order, q, &mut out[start..end]);
+    widen_alone(m, layout, order, q, own, &mut out[start..end]);
 }
 
-// Writes a witness of the circuit in m, widened, to the front of out.
-pub fn widen(m: &[u32], text: &[u8], out: &mut [u8]) -> WidenAnswer
-    ensures { λ r. ⌜ Widened (now (m .entry)) (now (text .entry)) (now (out .entry)) (answered r) (now (out .exit)) ⌝ }
+// Widening under pins: own has a byte for each input, and an input without one is free.
+pub fn widen_under(m: &[u32], own: &[u8], text: &[u8], out: &mut [u8]) -> WidenAnswer
+    ensures { λ r. ⌜
+        PinnedWidened (now (m .entry)) (λ i. getD (now (own .entry)) i 2) (now (text .entry)) (now (out .entry)) (answered r) (now (out .exit))
+        ⌝ }
 {
     let mut order = [0u32; 3072];
     let Held::Circuit(layout) = circuit::held_in(m, &mut order) else {
@@ -190,8 +209,15 @@ pub fn widen(m: &[u32], text: &[u8], out: &mut [u8]) -> WidenAnswer
             if out.len() < text.len() {
                 return WidenAnswer::Refused(13);
             }
-            widen_copy(m, layout, &order, q, start, text, out);
+            widen_copy(m, layout, &order, q, start, own, text, out);
             WidenAnswer::Length(text.len())
         }
     }
+}
+
+// Writes a witness of the circuit in m, widened, to the front of out.
+pub fn widen(m: &[u32], text: &[u8], out: &mut [u8]) -> WidenAnswer
+    ensures { λ r. ⌜ Widened (now (m .entry)) (now (text .entry)) (now (out .entry)) (answered r) (now (out .exit)) ⌝ }
+{
+    widen_under(m, &text[0..0], text, out)
 }

@@ -11,7 +11,7 @@ slice-aggregate-widen-hits-2 c = search needs
 
 widen-hits-requires : tie.Need-widen-hits-requires
 widen-hits-requires c κs =
-    let S = c .before .before .before .before .before .before in
+    let S = c .before .before .before .before .before .before .before in
     (S .pre .0, ((S .pre .1 .0, search needs), S .pre .1 .1))
 
 same-length : tie.Need-same-length

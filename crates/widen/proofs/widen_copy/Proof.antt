@@ -4,9 +4,10 @@ use mathlib.Core.Bool.{Bool}
 use mathlib.Core.List.{List}
 use Prim.Native.Nat.{ℕ, _-_}
 use borrow.Rule.Slice.PartMut.{putMid}
-use lib.ListN.{length, take, drop, length-drop}
+use lib.ListN.{length, getD, take, drop, length-drop}
 use Rattle.aiger.specs.Operations.{front}
-use Rattle.completions.specs.Either.{shows, widened}
+use Rattle.completions.specs.Either.{widened}
+use Rattle.pinned_runs.specs.Obeys.{pinnedShows}
 use Rattle.layout.specs.Words.{circuitIn}
 use Rattle.blocks.specs.Runs.{Fits}
 use Rattle.completions.proofs.Widening.{widened-wider}
@@ -17,7 +18,7 @@ use Rattle.widen.proofs.widen_copy.Tie as tie
 
 -- after the copy: the entry, the output, and the body in it
 abbrev start : tie.After-copy → tie.Start
-start k = k .before .before .before .before .before .before
+start k = k .before .before .before .before .before .before .before
 
 out-is : (k : tie.After-copy) → (let a = start k .args in k .copy .last .1 .0 ≡ front (a .text .now) (a .out .now))
 out-is k = let a = start k .args in k .copy .ensures .1 ∙ copied (a .text .now) (a .out .now)
@@ -59,7 +60,7 @@ returns c =
     let w = c .before .before in
     let k = w .before .before .before .before in
     let a = start k .args in
-    let p : List ℕ → Bool = shows (circuitIn (a .m .now)) (a .q .bad) in
+    let p : List ℕ → Bool = pinnedShows (circuitIn (a .m .now)) (λ i. getD (a .own .now) i 2) (a .q .bad) in
     let text : List ℕ = a .text .now in
     let body : List ℕ = drop (a .start) text in
     ap₂ (putMid (a .start) (length text - a .start)) (out-is k) (w .widen-alone .ensures ∙ ap (widened p) (body-is k))

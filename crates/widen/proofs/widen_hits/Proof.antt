@@ -4,25 +4,62 @@ use mathlib.Core.Bool.{Bool}
 use mathlib.Core.List.{List}
 use Prim.Native.Nat.{ℕ}
 use native.Mathlib.Omega.{arith}
-use borrow.Author.Tests.{not-true, not-false}
-use Rattle.completions.specs.Either.{shows}
-use Rattle.layout.specs.Words.{circuitIn}
-use Rattle.aiger.proofs.Tests.{T-true}
-use Rattle.frames.proofs.Facts.{ready-with}
-use Rattle.completions.proofs.Widening.{widened-not, widened-steps}
 use borrow.Author.Needs.{needs}
+use borrow.Author.Tests.{not-true, not-false}
+use lib.ListN.{getD}
+use Rattle.aiger.proofs.Tests.{T-true}
+use Rattle.layout.specs.Words.{circuitIn}
+use Rattle.frames.proofs.Facts.{ready-with}
+use Rattle.completions.specs.Either.{allPass, shows}
+use Rattle.completions.proofs.Widening.{widened-not, widened-steps}
+use Rattle.pinned_runs.specs.Obeys.{pinnedShows}
+use Rattle.replay.proofs.Under.{rows-fit, inputs-few}
+use Rattle.widen.proofs.Pins.{stays-apart, all-agree}
 use Rattle.widen.proofs.widen_hits.Statement.{statement}
 use Rattle.widen.proofs.widen_hits.Tie as tie
 
--- the entry, from the test
-abbrev start : tie.After-every-hit → tie.Start
-start k = k .before .before .before .before .before .before .before .before .before
+rows-of-requires : tie.Need-rows-of-requires
+rows-of-requires c κs = let S = c .before .before .before .before .before .before in rows-fit (S .pre .0) (S .pre .1 .1)
 
-every-hit-requires : tie.Need-every-hit-requires
-every-hit-requires c κs = search needs
+-- after the rows: the entry, the pins and the test of completions
+module _ (r : tie.After-rows-of) where
+  abbrev S : tie.Start
+  S = r .before .before .before .before .before .before .before
+
+  abbrev q : ℕ → ℕ
+  q i = getD (S .args .own .now) i 2
+
+  abbrev w : List ℕ
+  w = S .args .body .now
+
+  abbrev p : List ℕ → Bool
+  p = pinnedShows (circuitIn (S .args .m .now)) q (S .args .q .bad)
+
+agree-requires : tie.Need-agree-requires
+agree-requires c κs =
+    let r = c .before in
+    inputs-few (S r .pre .0) (S r .pre .1 .1) (q r) (r .rows-of .result) (r .rows-of .ensures)
 
 same-length : tie.Need-same-length
 same-length c = search needs
+
+returns : tie.Need-returns
+returns c =
+    let a = c .before in
+    let r = a .before .before in
+    stays-apart (S r .pre .0) (S r .pre .1 .1) (q r) (r .rows-of .result) (r .rows-of .ensures) (a .agree .result) (a .agree .ensures)
+    (not-true (a .agree .result) (c .if1 .taken))
+
+-- where all bytes agree the plain test is the test under pins
+agreed : (e : tie.Else1) → (let r = e .before .before .before in allPass (p r) (w r) ≡ allPass (shows (circuitIn (S r .args .m .now)) (S r .args .q .bad)) (w r))
+agreed e =
+    let a = e .before in
+    let r = a .before .before in
+    all-agree (S r .pre .0) (S r .pre .1 .1) (q r) (r .rows-of .result) (r .rows-of .ensures) (a .agree .result) (a .agree .ensures)
+    (not-false (a .agree .result) (e .if1 .left))
+
+every-hit-requires : tie.Need-every-hit-requires
+every-hit-requires c κs = search needs
 
 same-length-2 : tie.Need-same-length-2
 same-length-2 c = search needs
@@ -30,27 +67,28 @@ same-length-2 c = search needs
 same-length-3 : tie.Need-same-length-3
 same-length-3 c = search needs
 
-returns : tie.Need-returns
-returns c =
-    let k = c .before .before .before .before .before in
-    let a = start k .args in
-    sym (widened-not (shows (circuitIn (a .m .now)) (a .q .bad)) (a .body .now)
-    (sym (k .every-hit .ensures) ∙ not-true (k .every-hit .result) (c .if1 .taken)))
+same-length-4 : tie.Need-same-length-4
+same-length-4 c = search needs
+
+returns-2 : tie.Need-returns-2
+returns-2 c =
+    let h = c .before .before .before .before .before in
+    let e = h .before .before .before .before in
+    let r = e .before .before .before in
+    sym (widened-not (p r) (w r) (agreed e ∙ sym (h .every-hit .ensures) ∙ not-true (h .every-hit .result) (c .if2 .taken)))
 
 widen-body-requires : tie.Need-widen-body-requires
 widen-body-requires c κs =
-    let k = c .before .before .before .before .before .before .before .before in
-    let S = start k in
-    let E = k .every-hit in (
-      ready-with (S .pre .0) (omega (arith, E .kept .1 .1 .1 .1 .1 .0, S .pre .0 .room)),
+    let h = c .before .before .before .before .before .before .before .before in
+    let e = h .before .before .before .before in
+    let r = e .before .before .before in
+    let E = h .every-hit in (
+      ready-with (S r .pre .0) (omega (arith, E .kept .1 .1 .1 .1 .1 .0, S r .pre .0 .room)),
       (
-        (S .pre .1 .0 .0, omega (arith, E .kept .1 .1 .1 .1 .1 .1 .0, S .pre .1 .0 .1)),
-        (S .pre .1 .1, T-true (sym (E .ensures) ∙ not-false (E .result) (c .before .before .before .if1 .left))),
+        (S r .pre .1 .0 .0, omega (arith, E .kept .1 .1 .1 .1 .1 .1 .0, S r .pre .1 .0 .1)),
+        (S r .pre .1 .1, T-true (agreed e ∙ sym (E .ensures) ∙ not-false (E .result) (c .before .before .before .if2 .left))),
       ),
     )
-
-same-length-4 : tie.Need-same-length-4
-same-length-4 c = search needs
 
 same-length-5 : tie.Need-same-length-5
 same-length-5 c = search needs
@@ -58,27 +96,32 @@ same-length-5 c = search needs
 same-length-6 : tie.Need-same-length-6
 same-length-6 c = search needs
 
-returns-2 : tie.Need-returns-2
-returns-2 c =
-    let w = c .before .before .before .before .before .before in
-    let e = w .before .before .before .before in
-    let k = e .before .before .before .before .before in
-    let a = start k .args in
-    let E = k .every-hit in
-    w .widen-body .ensures
-    ∙ sym (widened-steps (shows (circuitIn (a .m .now)) (a .q .bad)) (a .body .now) (sym (E .ensures) ∙ not-false (E .result) (e .if1 .left)))
+same-length-7 : tie.Need-same-length-7
+same-length-7 c = search needs
+
+returns-3 : tie.Need-returns-3
+returns-3 c =
+    let h = c .before .before .before .before .before .before .before .before .before .before .before .before .before .before .before in
+    let e = h .before .before .before .before in
+    let r = e .before .before .before in
+    let E = h .every-hit in
+    c .before .before .before .before .before .before .widen-body .ensures ∙ sym (widened-steps (p r) (w r) (agreed e ∙ sym (E .ensures) ∙ not-false (E .result) (c .before .before .before .before .before .before .before .before .before .before .if2 .left)))
 
 pub widen-hits-spec : {M : Type 1} → statement M
 widen-hits-spec =
     tie.close
     (tie.spec
-    every-hit-requires
+    rows-of-requires
+    agree-requires
     same-length
+    returns
+    every-hit-requires
     same-length-2
     same-length-3
-    returns
-    widen-body-requires
     same-length-4
+    returns-2
+    widen-body-requires
     same-length-5
     same-length-6
-    returns-2)
+    same-length-7
+    returns-3)

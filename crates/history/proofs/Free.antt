@@ -1,0 +1,93 @@
+-- With all pins of a user free every operation is what it is without users. Clause 12.7. Assumes nothing.
+use mathlib.Core.Path.{_≡_, refl, sym, ap, _∙_, subst}
+use mathlib.Core.Bool.{Bool, false}
+use mathlib.Core.List.{List}
+use Prim.Native.Nat.{ℕ, _^_, _≤_, _<_}
+use native.Mathlib.Omega.{arith}
+use lib.Dec.{T}
+use lib.ListN.{length}
+use Rattle.aiger.specs.Circuit.{Circuit}
+use Rattle.aiger.specs.Load.{Answer}
+use Rattle.aiger.specs.Frames.{Space, bitsIn, freeBits, space, run}
+use Rattle.aiger.specs.Search.{Outcome, Question, question, reaches, reachesIn, permitted, permittedOf}
+use Rattle.aiger.specs.Operations.{Operated, Searched, SearchEffect, searchTests, Folded, FoldEffect, foldTests, shown, front}
+use Rattle.pins.specs.Pins.{isHeld, pinsOf, pinned, pinnedSpace, pinnedQuestion, pinnedWitness}
+use Rattle.pins.proofs.Questions.{pinned-free, space-free, witness-free}
+use Rattle.users.specs.Users.{ForUser, PinnedSearched, PinnedSearchEffect, PinnedFolded, PinnedFoldEffect, pinnedShown}
+use Rattle.completions.specs.Either.{Verdict}
+use Rattle.completions.specs.Operations.{EitherReplayed, Widened}
+use Rattle.pinned_runs.proofs.Free.{replayed-free, widened-free}
+use Rattle.load.specs.declared.Judgement.{Judgement}
+use Rattle.load.specs.Preview.{Previewed}
+use Rattle.user_calls.specs.Calls.{Replaced}
+use Rattle.user_preview.specs.Previews.{UserPreviewed}
+use Rattle.user_replay.specs.Replays.{UserReplayed}
+use Rattle.user_widen.specs.Widens.{UserWidened}
+
+-- what is answered to a user who is known: so write and waveform, which pins do not change
+pub known-only : {A S : Type 0} {user : ℕ} {lent : S} {P : Answer A → S → Type 0} → user ≤ 1 → (a : Answer A) (s : S) → ForUser user lent P a s → P a s
+known-only u a s (ForUser.stranger h) = absurd (omega arith)
+known-only u a s (ForUser.known h p) = p
+
+pub known-preview : {room : ℕ} {f : List ℕ} {user : ℕ} → user ≤ 1 → (r : Judgement) → UserPreviewed room f user r → Previewed room f r
+known-preview u r (UserPreviewed.stranger h) = absurd (omega arith)
+known-preview u r (UserPreviewed.known h p) = p
+
+-- a load and a join of user 0
+pub first-replaces : {user : ℕ} {m pins : List ℕ} {P : Answer (List ℕ) → List ℕ → Type 0} → user ≡ 0 → (a : Answer (List ℕ)) (m′ pins′ : List ℕ)
+    → Replaced user m pins P a m′ pins′ → P a m′
+first-replaces z a m′ pins′ (Replaced.stranger h) = absurd (omega arith)
+first-replaces z a m′ pins′ (Replaced.refuses h p) = p
+first-replaces z a m′ pins′ (Replaced.stores h p) = p
+
+-- ---- operations under pins
+
+module _ (q : ℕ → ℕ) (free : (i : ℕ) → isHeld (q i) ≡ false) where
+  question-free : (c : Circuit) (b : ℕ) → pinnedQuestion c q b ≡ question c b
+  unfolding freeBits reaches run
+  question-free c b =
+      ap (λ (s : Space). record { places = λ t. 2 ^ bitsIn s t; hitting = reachesIn s c b }) (space-free q c (λ k _ _. free k))
+
+  shown-free : (c : Circuit) (b : ℕ) (o : Outcome) (out : List ℕ) → pinnedShown c q b o out ≡ shown c b o out
+  shown-free c b (Outcome.found t) out = ap (λ (w : List ℕ). front w out) (witness-free q c b t (λ k _ _. free k))
+  shown-free c b (Outcome.none k) out = refl
+  shown-free c b (Outcome.spent t) out = refl
+
+module _ (pins : List ℕ) (user : ℕ) (u : user ≤ 1) (free : (i : ℕ) → isHeld (pinsOf pins user i) ≡ false) where
+  abbrev q : ℕ → ℕ
+  q = pinsOf pins user
+
+  same : (c : Circuit) → pinned c q ≡ c
+  same c = pinned-free q c (λ k _ _. free k)
+
+  pub searched-free : {chosen : Circuit → ℕ → ℕ → ℕ → Outcome} {m w w′ out out′ : List ℕ} {b k D : ℕ} {a : Answer Outcome}
+      → PinnedSearched chosen m pins user b k D w out a w′ out′ → Searched chosen m b k D w out a w′ out′
+  searched-free {chosen} {m} {w} {w′} {out} {out′} {b} {k} {D} {a} x = go (known-only u a (w′, out′) x)
+    where
+      go : {a : Answer Outcome} {l : List ℕ × List ℕ} → Operated m (λ c. searchTests c b k D (length w) (length out)) (w, out) (PinnedSearchEffect chosen q b k D out) a l
+          → Operated m (λ c. searchTests c b k D (length w) (length out)) (w, out) (SearchEffect chosen b k D out) a l
+      go (Operated.noCircuit h) = Operated.noCircuit h
+      go (Operated.refuses c h j) = Operated.refuses c h j
+      go (Operated.acts c {a = o} h j e) =
+          Operated.acts c h j
+          (record {
+            chose = e .chose ∙ ap (λ (d : Circuit). chosen d b k D) (same c);
+            allowed = subst (λ (z : Question). T (permittedOf z k D o)) (question-free q free c b) (e .allowed);
+            shows = e .shows ∙ shown-free q free c b o out;
+          })
+
+  pub folded-free : {chosen : Circuit → ℕ → ℕ → Circuit} {m w w′ out out′ : List ℕ} {b t : ℕ} {a : Answer ℕ}
+      → PinnedFolded chosen m pins user b t w out a w′ out′ → Folded chosen m b t w out a w′ out′
+  folded-free {chosen} {m} {w} {w′} {out} {out′} {b} {t} {a} x = go (known-only u a (w′, out′) x)
+    where
+      go : {a : Answer ℕ} {l : List ℕ × List ℕ} → Operated m (λ c. foldTests c b t (length w) (length out)) (w, out) (PinnedFoldEffect chosen q b t out) a l
+          → Operated m (λ c. foldTests c b t (length w) (length out)) (w, out) (FoldEffect chosen b t out) a l
+      go (Operated.noCircuit h) = Operated.noCircuit h
+      go (Operated.refuses c h j) = Operated.refuses c h j
+      go (Operated.acts c {a = n} {s = l} h j e) = Operated.acts c h j (subst (λ (d : Circuit). FoldEffect chosen b t out d n l) (same c) e)
+
+  pub user-replayed-free : {m text : List ℕ} {a : Answer Verdict} → UserReplayed m pins user text a → EitherReplayed m text a
+  user-replayed-free {a = a} x = replayed-free q free (known-only {S = Unit {0}} u a tt x)
+
+  pub user-widened-free : {m text out out′ : List ℕ} {a : Answer ℕ} → UserWidened m pins user text out a out′ → Widened m text out a out′
+  user-widened-free {out′ = out′} {a = a} x = widened-free q free (known-only u a out′ x)

@@ -1,0 +1,187 @@
+-- A call of a user, or an accepted load, can be answered the same from any state of which the user sees the same. Clause 12.7. Assumes nothing.
+use mathlib.Core.Path.{_≡_, refl, sym, ap, _∙_, subst}
+use mathlib.Core.Bool.{Bool}
+use mathlib.Core.List.{List, [], _∷_}
+use Prim.Native.Nat.{ℕ, _+_, _*_, _≤_, _<_}
+use lib.Dec.{T}
+use lib.ListN.{length, getD, set, replicate}
+use Rattle.aiger.specs.Circuit.{Circuit}
+use Rattle.aiger.specs.Load.{Answer, refused, gives}
+use Rattle.aiger.specs.Memory.{Holds}
+use Rattle.aiger.specs.Search.{Outcome}
+use Rattle.aiger.specs.Operations.{Loaded, Written, Operated, HoldsNone, Test, judge, searchTests, foldTests}
+use Rattle.pins.specs.Pins.{pinsOf}
+use Rattle.users.specs.Users.{ForUser, PinnedSearched, PinnedSearchEffect, PinnedFolded, PinnedFoldEffect}
+use Rattle.user_calls.specs.Calls.{Replaced, PinSet, PinEffect, pinTests}
+use Rattle.user_write.specs.Written.{UserWritten}
+use Rattle.user_preview.specs.Previews.{UserPreviewed}
+use Rattle.user_replay.specs.Replays.{UserReplayed}
+use Rattle.user_widen.specs.Widens.{UserWidened}
+use Rattle.user_waveform.specs.Waveforms.{UserWaveformed}
+use Rattle.pinned_runs.specs.Obeys.{PinnedReplayed, PinnedWidened}
+use Rattle.joined.specs.Joined.{JoinedInto}
+use Rattle.load.specs.declared.Judgement.{Judgement}
+use Rattle.search.specs.Chosen as Search
+use Rattle.fold.specs.Chosen as Fold
+use Rattle.history.specs.History.{State, Call, Reply, Step, userOf, isAccepted}
+use Rattle.history.proofs.Calls.{Same, Agree, own-pins, set-agree, freed}
+
+-- ---- operations
+
+-- what an operation answers from m is answered from m′, where f takes what is left
+operated-moves : {A S R : Type 0} {m m′ : List ℕ} {tests tests′ : Circuit → List Test} {lent : S} {effect : Circuit → A → S → Type 0}
+    {effect′ : Circuit → A → R → Type 0} (f : S → R) → m ≡ m′ → ((c : Circuit) → tests c ≡ tests′ c)
+    → ((c : Circuit) (a : A) (s : S) → effect c a s → effect′ c a (f s)) → {a : Answer A} {s : S} → Operated m tests lent effect a s
+    → Operated m′ tests′ (f lent) effect′ a (f s)
+operated-moves f e t g (Operated.noCircuit h) = Operated.noCircuit (subst HoldsNone e h)
+operated-moves f e t g (Operated.refuses c h j) = Operated.refuses c (subst (λ (n : List ℕ). Holds n c) e h) (ap judge (sym (t c)) ∙ j)
+operated-moves f e t g (Operated.acts c {a = a} {s = s} h j k) =
+    Operated.acts c (subst (λ (n : List ℕ). Holds n c) e h) (ap judge (sym (t c)) ∙ j) (g c a s k)
+
+for-moves : {A S R : Type 0} {user : ℕ} {lent : S} {P : Answer A → S → Type 0} {Q : Answer A → R → Type 0} (f : S → R)
+    → ((a : Answer A) (s : S) → P a s → Q a (f s)) → {a : Answer A} {s : S} → ForUser user lent P a s → ForUser user (f lent) Q a (f s)
+for-moves f g (ForUser.stranger h) = ForUser.stranger h
+for-moves f g (ForUser.known {a = a} {s = s} h p) = ForUser.known h (g a s p)
+
+-- a step from t with this reply, to a state of which user u sees what he sees of s₁
+pub record Moved (u : ℕ) (t : State) (c : Call) (r : Reply) (s₁ : State) : Type 0 where
+  pub next : State
+  pub step : Step t c r next
+  pub same : Same u s₁ next
+
+module _ (u : ℕ) {s t : State} (a : Same u s t) where
+  -- where neither circuit memory nor pins change, and working memory keeps its length
+  kept : {w : List ℕ} → length w ≡ length (s .work) → Same u (record { memory = s .memory; work = w; pins = s .pins }) t
+  kept e = record { memory = a .memory; work = e ∙ a .work; room = a .room; own = a .own }
+
+  -- ---- calls that replace the circuit
+
+  module _ {P Q : Answer (List ℕ) → List ℕ → Type 0} (move : (x : Answer (List ℕ)) (m : List ℕ) → P x m → Q x m) where
+    pub record Replaces (user : ℕ) (x : Answer (List ℕ)) (m₁ p₁ : List ℕ) : Type 0 where
+      pub memory : List ℕ
+      pub pins : List ℕ
+      pub answers : Replaced user (t .memory) (t .pins) Q x memory pins
+      pub same : Same u (record { memory = m₁; work = s .work; pins = p₁ }) (record { memory = memory; work = t .work; pins = pins })
+
+    replaced-moves : {user : ℕ} {x : Answer (List ℕ)} {m₁ p₁ : List ℕ} → Replaced user (s .memory) (s .pins) P x m₁ p₁ → Replaces user x m₁ p₁
+    replaced-moves (Replaced.stranger h) =
+        record {
+          memory = t .memory;
+          pins = t .pins;
+          answers = Replaced.stranger h;
+          same = record { memory = a .memory; work = a .work; room = a .room; own = a .own };
+        }
+    replaced-moves (Replaced.refuses {n = n} {m′ = m} h l) =
+        record {
+          memory = m;
+          pins = t .pins;
+          answers = Replaced.refuses h (move (refused n) m l);
+          same = record { memory = refl; work = a .work; room = a .room; own = a .own };
+        }
+    replaced-moves (Replaced.stores {counts = k} {m′ = m} h l) =
+        record { memory = m; pins = replicate (length (t .pins)) 2; answers = Replaced.stores h (move (gives k) m l); same = freed u a refl }
+
+  load-moves : {user : ℕ} {file m₁ p₁ : List ℕ} {x : Answer (List ℕ)} → Replaced user (s .memory) (s .pins) (Loaded (s .memory) file) x m₁ p₁
+      → Moved u t (Call.load user file) (Reply.loaded x) (record { memory = m₁; work = s .work; pins = p₁ })
+  load-moves {file = file} x =
+      let z = replaced-moves (λ b n. subst (λ (m : List ℕ). Loaded m file b n) (a .memory)) x in
+      record { next = record { memory = z .memory; work = t .work; pins = z .pins }; step = Step.loads (z .answers); same = z .same }
+
+  join-moves : {user : ℕ} {first second m₁ p₁ : List ℕ} {x : Answer (List ℕ)} → Replaced user (s .memory) (s .pins) (JoinedInto first second (s .memory)) x m₁ p₁
+      → Moved u t (Call.join user first second) (Reply.loaded x) (record { memory = m₁; work = s .work; pins = p₁ })
+  join-moves {first = first} {second = second} x =
+      let z = replaced-moves (λ b n. subst (λ (m : List ℕ). JoinedInto first second m b n) (a .memory)) x in
+      record { next = record { memory = z .memory; work = t .work; pins = z .pins }; step = Step.joins (z .answers); same = z .same }
+
+-- ---- one call
+
+pin-moves : {m m′ p p′ p₁ : List ℕ} {user input value : ℕ} {x : Answer (Unit {0})} → m ≡ m′ → Agree user p p′ → PinSet m user input value p x p₁
+    → (p₂ : List ℕ) × PinSet m′ user input value p′ x p₂ × Agree user p₁ p₂
+pin-moves {p′ = p′} e a (PinSet.stranger h) = (p′, PinSet.stranger h, a)
+pin-moves {p′ = p′} e a (PinSet.unknown h) = (p′, PinSet.unknown h, a)
+pin-moves {p′ = p′} e a (PinSet.known h v (Operated.noCircuit f)) = (p′, PinSet.known h v (Operated.noCircuit (subst HoldsNone e f)), a)
+pin-moves {p′ = p′} {user = user} {input = input} e a (PinSet.known h v (Operated.refuses c k j)) = (
+  p′,
+  PinSet.known h v (Operated.refuses c (subst (λ (n : List ℕ). Holds n c) e k) (ap (λ (n : ℕ). judge (pinTests user input n c)) (sym (a .0)) ∙ j)),
+  a,
+)
+pin-moves {p = p} {p′ = p′} {user = user} {input = input} {value = value} e a (PinSet.known h v (Operated.acts c {s = s} k j f)) = (
+  set p′ (256 * user + input) value,
+  PinSet.known h v (Operated.acts c (subst (λ (n : List ℕ). Holds n c) e k) (ap (λ (n : ℕ). judge (pinTests user input n c)) (sym (a .0)) ∙ j) refl),
+  subst (λ (l : List ℕ). Agree user l (set p′ (256 * user + input) value)) (sym f) (set-agree user (256 * user + input) value p p′ a),
+)
+
+preview-moves : {room room′ : ℕ} {file : List ℕ} {user : ℕ} {r : Judgement} → room ≡ room′ → UserPreviewed room file user r → UserPreviewed room′ file user r
+preview-moves {file = file} {user = user} {r = r} e x = subst (λ (n : ℕ). UserPreviewed n file user r) e x
+
+-- a user's own call has the same answer from a state of which he sees the same
+pub own-moves : {c : Call} {r : Reply} {s t s₁ : State} → Same (userOf c) s t → Step s c r s₁ → Moved (userOf c) t c r s₁
+own-moves a (Step.loads {user = user} x) = load-moves user a x
+own-moves {s = s} {t = t} a (Step.pins x) =
+    let z = pin-moves (a .memory) (a .room, a .own) x in
+    record {
+      next = record { memory = t .memory; work = t .work; pins = z .0 };
+      step = Step.pins (z .1);
+      same = record { memory = a .memory; work = a .work; room = z .2 .0; own = z .2 .1 };
+    }
+own-moves {s = s} {t = t} a (Step.searches {user = user} {b = b} {k = k} {D = D} {out = out} {w′ = w} {out′ = o} x e) =
+    record {
+      next = t;
+      step = Step.searches
+          (for-moves (λ (l : List ℕ × List ℕ). (t .work, l .1))
+          (λ v l p. operated-moves (λ (l : List ℕ × List ℕ). (t .work, l .1)) (a .memory) (λ c. ap (λ (n : ℕ). searchTests c b k D n (length out)) (a .work))
+          (λ c v l f.
+          subst (λ (q : ℕ → ℕ). PinnedSearchEffect Search.chosen q b k D out c v (t .work, l .1)) (own-pins user (s .pins) (t .pins) (a .own))
+          (record { chose = f .chose; allowed = f .allowed; shows = f .shows })) p)
+          x) refl;
+      same = kept user a e;
+    }
+own-moves {s = s} {t = t} a (Step.folds {user = user} {b = b} {t = n} {out = out} {w′ = w} {out′ = o} x e) =
+    record {
+      next = t;
+      step = Step.folds
+          (for-moves (λ (l : List ℕ × List ℕ). (t .work, l .1))
+          (λ v l p. operated-moves (λ (l : List ℕ × List ℕ). (t .work, l .1)) (a .memory) (λ c. ap (λ (i : ℕ). foldTests c b n i (length out)) (a .work))
+          (λ c v l f.
+          subst (λ (q : ℕ → ℕ). PinnedFoldEffect Fold.chosen q b n out c v (t .work, l .1)) (own-pins user (s .pins) (t .pins) (a .own))
+          (record { permitted = f .permitted; short = f .short; count = f .count; shows = f .shows })) p)
+          x) refl;
+      same = kept user a e;
+    }
+own-moves {t = t} a (Step.writes {user = user} {out = out} {out′ = o} {a = v} x) =
+    record { next = t; step = Step.writes (subst (λ (m : List ℕ). UserWritten m user out v o) (a .memory) x); same = a }
+own-moves {t = t} a (Step.previews {user = user} {file = file} {r = r} x) =
+    record { next = t; step = Step.previews {r = r} (preview-moves (ap length (a .memory)) x); same = a }
+own-moves a (Step.joins {user = user} x) = join-moves user a x
+own-moves {s = s} {t = t} a (Step.replays {user = user} {text = text} {a = v} x) =
+    record {
+      next = t;
+      step = Step.replays
+          (subst (λ (m : List ℕ). ForUser {S = Unit {0}} user tt (λ b _. PinnedReplayed m (pinsOf (t .pins) user) text b) v tt) (a .memory)
+          (subst (λ (q : ℕ → ℕ). ForUser {S = Unit {0}} user tt (λ b _. PinnedReplayed (s .memory) q text b) v tt)
+          (own-pins user (s .pins) (t .pins) (a .own)) x));
+      same = a;
+    }
+own-moves {s = s} {t = t} a (Step.widens {user = user} {text = text} {out = out} {out′ = o} {a = v} x) =
+    record {
+      next = t;
+      step = Step.widens
+          (subst (λ (m : List ℕ). ForUser user out (PinnedWidened m (pinsOf (t .pins) user) text out) v o) (a .memory)
+          (subst (λ (q : ℕ → ℕ). ForUser user out (PinnedWidened (s .memory) q text out) v o) (own-pins user (s .pins) (t .pins) (a .own)) x));
+      same = a;
+    }
+own-moves {t = t} a (Step.waveforms {user = user} {only = only} {text = text} {out = out} {out′ = o} {a = v} x) =
+    record { next = t; step = Step.waveforms (subst (λ (m : List ℕ). UserWaveformed m user only text out v o) (a .memory) x); same = a }
+
+-- so has an accepted load, as any user sees it
+pub accepted-moves : (u : ℕ) {c : Call} {r : Reply} {s t s₁ : State} → Same u s t → T (isAccepted r) → Step s c r s₁ → Moved u t c r s₁
+accepted-moves u a h (Step.loads x) = load-moves u a x
+accepted-moves u a h (Step.pins x) = absurd h
+accepted-moves u a h (Step.searches x e) = absurd h
+accepted-moves u a h (Step.folds x e) = absurd h
+accepted-moves u a h (Step.writes x) = absurd h
+accepted-moves u a h (Step.previews x) = absurd h
+accepted-moves u a h (Step.joins x) = join-moves u a x
+accepted-moves u a h (Step.replays x) = absurd h
+accepted-moves u a h (Step.widens x) = absurd h
+accepted-moves u a h (Step.waveforms x) = absurd h

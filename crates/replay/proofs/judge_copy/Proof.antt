@@ -1,0 +1,98 @@
+-- `replay::judge_copy` meets its contract. Assumes nothing.
+use mathlib.Core.Path.{_≡_, refl, sym, ap, _∙_, subst}
+use mathlib.Core.List.{List}
+use Prim.Native.Nat.{ℕ, _-_, _≤_}
+use native.Mathlib.Omega.{arith}
+use borrow.Author.Needs.{needs}
+use lib.ListN.{length, getD, take}
+use Rattle.layout.specs.Words.{circuitIn}
+use Rattle.blocks.specs.Runs.{Fits}
+use Rattle.completions.specs.Either.{eithers}
+use Rattle.replay.specs.Answer.{Judged}
+use Rattle.pinned_runs.specs.Places.{pinAt, Settled}
+use Rattle.replay.proofs.Under.{rows-fit, inputs-few, pins-are, settled-fits}
+use Rattle.replay.proofs.judge_copy.Statement.{statement}
+use Rattle.replay.proofs.judge_copy.Tie as tie
+
+rows-of-requires : tie.Need-rows-of-requires
+rows-of-requires c κs = let S = c .before .before .before .before .before in rows-fit (S .pre .0) (S .pre .1 .1)
+
+copy-settled-requires : tie.Need-copy-settled-requires
+copy-settled-requires c κs =
+    let r = c .before in
+    let S = r .before .before .before .before .before .before in
+    (inputs-few (S .pre .0) (S .pre .1 .1) (λ i. getD (S .args .own .now) i 2) (r .rows-of .result) (r .rows-of .ensures), S .pre .1 .0 .1)
+
+-- the copy: the body with the pins' bits
+module _ (k : tie.After-copy-settled) where
+  abbrev S : tie.Start
+  S = k .before .before .before .before .before .before .before .before
+
+  abbrev body : List ℕ
+  body = S .args .body .now
+
+  abbrev q : ℕ → ℕ
+  q i = getD (S .args .own .now) i 2
+
+  abbrev copied : List ℕ
+  copied = take (length body) (k .copy-settled .last .1 .1 .1 .0)
+
+  settled : Settled (pinAt (circuitIn (S .args .m .now)) q (S .args .q .frames)) body copied
+  settled =
+      let r = k .before .before in
+      subst (λ (P : ℕ → ℕ). Settled P body copied) (pins-are (S .pre .0) (S .pre .1 .1) q (r .rows-of .result) (r .rows-of .ensures)) (k .copy-settled .ensures)
+
+  long : length body ≤ length (k .copy-settled .last .1 .1 .1 .0)
+  long = omega (arith, k .copy-settled .kept .1 .1 .1 .0, S .pre .1 .0 .1)
+
+  -- the part of the copy that is judged
+  part-is : take (length body - 0) (k .copy-settled .last .1 .1 .1 .0) ≡ copied
+  part-is = let e : length body - 0 ≡ length body = omega arith in ap (λ (n : ℕ). take n (k .copy-settled .last .1 .1 .1 .0)) e
+
+sub-judge-counted : tie.Need-sub-judge-counted
+sub-judge-counted c = search needs
+
+part-judge-counted-start : tie.Need-part-judge-counted-start
+part-judge-counted-start c = search needs
+
+part-judge-counted-end : tie.Need-part-judge-counted-end
+part-judge-counted-end c = long (c .before .before .before)
+
+judge-counted-requires : tie.Need-judge-counted-requires
+judge-counted-requires c κs =
+    let k = c .before .before .before .before in
+    let s = S k in
+    let a = s .args in (
+      s .pre .0,
+      (
+        s .pre .1 .0 .0,
+        subst (λ (w : List ℕ). Fits (circuitIn (a .m .now)) (a .q .bad) (a .q .frames) (eithers w) w) (sym (part-is k))
+            (settled-fits (s .pre .0) (s .pre .1 .1) (q k) (settled k)),
+      ),
+    )
+
+same-length : tie.Need-same-length
+same-length c = search needs
+
+returns : tie.Need-returns
+returns c =
+    let k = c .before .before .before .before .before in
+    let a = S k .args in
+    record {
+      text = copied k;
+      settled = settled k;
+      judged = subst (λ (w : List ℕ). Judged (circuitIn (a .m .now)) (a .q .bad) w (c .judge-counted .result)) (part-is k) (c .judge-counted .ensures);
+    }
+
+pub judge-copy-spec : {M : Type 1} → statement M
+judge-copy-spec =
+    tie.close
+    (tie.spec
+    rows-of-requires
+    copy-settled-requires
+    sub-judge-counted
+    part-judge-counted-start
+    part-judge-counted-end
+    judge-counted-requires
+    same-length
+    returns)

@@ -1,0 +1,23 @@
+-- `replay::judge_counted` meets its contract. Assumes nothing.
+use mathlib.Core.Path.{sym, subst}
+use Prim.Native.Nat.{ℕ}
+use borrow.Author.Needs.{needs}
+use Rattle.layout.specs.Words.{circuitIn}
+use Rattle.blocks.specs.Runs.{Fits}
+use Rattle.replay.proofs.judge_counted.Statement.{statement}
+use Rattle.replay.proofs.judge_counted.Tie as tie
+
+count-eithers-requires : tie.Need-count-eithers-requires
+count-eithers-requires c κs = tt
+
+judge-alone-requires : tie.Need-judge-alone-requires
+judge-alone-requires c κs =
+    let S = c .before .before .before .before in
+    let a = S .args in
+    (S .pre .0, (S .pre .1 .0, subst (λ (n : ℕ). Fits (circuitIn (a .m .now)) (a .q .bad) (a .q .frames) n (a .body .now)) (sym (c .count-eithers .ensures)) (S .pre .1 .1)))
+
+returns : tie.Need-returns
+returns c = c .judge-alone .ensures
+
+pub judge-counted-spec : {M : Type 1} → statement M
+judge-counted-spec = tie.close (tie.spec count-eithers-requires judge-alone-requires returns)
