@@ -6,9 +6,10 @@ use mathlib.Core.Option.{Option, none, some}
 use Prim.Native.Nat.{ℕ, _-_, _≤_, _<_}
 use native.Mathlib.Omega.{arith}
 use borrow.Author.Tests.{le-leb, lt-leb}
-use lib.ListN.{length, take, drop}
+use lib.ListN.{length, take, drop, drop-of-length-le}
+use lib.Seq.{drop-cons}
 use Rattle.aiger.specs.Lists.{same}
-use Rattle.aiger.specs.Text.{bytes, _>>=_}
+use Rattle.aiger.specs.Text.{bytes, when, _>>=_, _>>_}
 use Rattle.arguments.specs.Arguments.{numberOf}
 use Rattle.panel_lines.specs.Grammar.{
   Command,
@@ -24,15 +25,22 @@ use Rattle.panel_lines.specs.Grammar.{
   writeOf,
   loadOf,
   previewOf,
+  joinOf,
+  viewOf,
+  onlyOf,
+  waveformOf,
   queryOf,
+  witnessOf,
   commandOf,
   request,
 }
 use Rattle.panel_lines.specs.Reading.{Inside, textOf, Ends, WordAt, NumberAt, NameAt, taskOf, PartsInside, TaskIs, RequestIs}
 use Rattle.panel_lines.specs.declared.Part.{Part}
+use Rattle.panel_lines.specs.declared.View.{View}
+use Rattle.panel_lines.specs.declared.View.the-variants.{Replay, Widen, Waveform}
 use Rattle.panel_lines.specs.declared.Query.the-variants.{Pin, Search, Fold, Write}
 use Rattle.panel_lines.specs.declared.Task.{Task}
-use Rattle.panel_lines.specs.declared.Task.the-variants.{Ask, Load, Preview, Malformed}
+use Rattle.panel_lines.specs.declared.Task.the-variants.{Ask, Load, Preview, Join, Witness, Malformed}
 use Rattle.panel_lines.specs.declared.Request.{Request}
 use Rattle.panel_lines.proofs.Reading.{more-follows, all-read}
 
@@ -90,6 +98,60 @@ module _ (s : List ℕ) (at : ℕ) where
   unfolding previewOf
   preview-all n = record { meaning = rw (n .name-is); parts = n .inside }
 
+  pub join-none : word (drop at s) ≡ none → TaskIs s (joinOf (drop at s)) Malformed
+  unfolding joinOf
+  join-none e = record { meaning = rw e; parts = tt }
+
+  module _ {p : Part} (w : WordAt s at p) where
+    pub join-half : oneName (drop (p .to) s) ≡ none → TaskIs s (joinOf (drop at s)) Malformed
+    unfolding joinOf
+    join-half e = record { meaning = rw (w .word-is, e); parts = tt }
+
+    pub join-all : {q : Part} → NameAt s (p .to) q → TaskIs s (joinOf (drop at s)) (Join p q)
+    unfolding joinOf
+    join-all n = record { meaning = rw (w .word-is, n .name-is); parts = (w .inside, n .inside) }
+
+    pub waveform-half : none ≡ onlyOf (drop (p .to) s) → TaskIs s (waveformOf (drop at s)) Malformed
+    unfolding waveformOf
+    waveform-half e = record { meaning = rw (w .word-is, ← e); parts = tt }
+
+    pub waveform-all : (b : Bool) → some b ≡ onlyOf (drop (p .to) s) → TaskIs s (waveformOf (drop at s)) (Witness (Waveform b) p)
+    unfolding waveformOf
+    waveform-all b e = record { meaning = rw (w .word-is, ← e); parts = w .inside }
+
+  pub waveform-none : word (drop at s) ≡ none → TaskIs s (waveformOf (drop at s)) Malformed
+  unfolding waveformOf
+  waveform-none e = record { meaning = rw e; parts = tt }
+
+  module _ (v : View) where
+    pub view-none : oneName (drop at s) ≡ none → TaskIs s (viewOf v (drop at s)) Malformed
+    unfolding viewOf
+    view-none e = record { meaning = rw e; parts = tt }
+
+    pub view-all : {p : Part} → NameAt s at p → TaskIs s (viewOf v (drop at s)) (Witness v p)
+    unfolding viewOf
+    view-all n = record { meaning = rw (n .name-is); parts = n .inside }
+
+  pub only-nothing : length s ≤ at → some false ≡ onlyOf (drop at s)
+  unfolding onlyOf
+  only-nothing h = rw (drop-of-length-le s {i = at} h)
+
+  -- where something follows
+  module _ (h : at < length s) where
+    only-word : onlyOf (drop at s) ≡ (oneName (drop at s) >>= λ w. when (same w (bytes "inputs")) >> some true)
+    unfolding onlyOf
+    only-word = rw (drop-cons s at 0 h)
+
+    pub only-none : oneName (drop at s) ≡ none → none ≡ onlyOf (drop at s)
+    only-none e = sym (only-word ∙ rw e)
+
+    module _ {p : Part} (n : NameAt s at p) where
+      pub only-inputs : true ≡ same (textOf s p) (bytes "inputs") → some true ≡ onlyOf (drop at s)
+      only-inputs e = sym (only-word ∙ rw (n .name-is, ← e))
+
+      pub only-other : false ≡ same (textOf s p) (bytes "inputs") → none ≡ onlyOf (drop at s)
+      only-other e = sym (only-word ∙ rw (n .name-is, ← e))
+
 -- ---- a request
 
 -- a line that is no command
@@ -118,8 +180,8 @@ module _ (s : List ℕ) (r : Request) (e : r .task ≡ Malformed) where
     unfolding request
     no-verb u n = malformed-is s (request s) r e (rw (le-leb (length s) 4096 short, first-word s w, ← u, n))
 
-pub whole : (s : List ℕ) → length s ≤ 4096 → {end : ℕ} → Ends s 0 end → {user : ℕ} → some user ≡ numberOf (take end s) → {p : Part} → WordAt s end p
-    → {t : Task} → TaskIs s (commandOf (textOf s p) (drop (p .to) s)) t → RequestIs s (request s) (record { user = user; task = t })
+pub whole : (s : List ℕ) → length s ≤ 4096 → {end : ℕ} → Ends s 0 end → {user : ℕ} → some user ≡ numberOf (take end s)
+    → {p : Part} → WordAt s end p → {t : Task} → TaskIs s (commandOf (textOf s p) (drop (p .to) s)) t → RequestIs s (request s) (record { user = user; task = t })
 unfolding request
 whole s short w u p t =
     record {
@@ -141,12 +203,13 @@ module _ (s : List ℕ) (v : Part) where
     unfolding queryOf
     verb-pin a x = rw (← a) x
 
-    pub verb-search : false ≡ same said (bytes "pin") → true ≡ same said (bytes "search") → TaskIs s (searchOf rest) t → TaskIs s (queryOf said rest) t
+    pub verb-search : false ≡ same said (bytes "pin") → true ≡ same said (bytes "search") → TaskIs s (searchOf rest) t
+        → TaskIs s (queryOf said rest) t
     unfolding queryOf
     verb-search a b x = rw (← a, ← b) x
 
-    pub verb-fold : false ≡ same said (bytes "pin") → false ≡ same said (bytes "search") → true ≡ same said (bytes "fold") → TaskIs s (foldOf rest) t
-        → TaskIs s (queryOf said rest) t
+    pub verb-fold : false ≡ same said (bytes "pin") → false ≡ same said (bytes "search") → true ≡ same said (bytes "fold")
+        → TaskIs s (foldOf rest) t → TaskIs s (queryOf said rest) t
     unfolding queryOf
     verb-fold a b d x = rw (← a, ← b, ← d) x
 
@@ -159,13 +222,37 @@ module _ (s : List ℕ) (v : Part) where
     unfolding commandOf
     verb-load a x = rw (← a) x
 
-    pub verb-preview : false ≡ same said (bytes "load") → true ≡ same said (bytes "preview") → TaskIs s (previewOf rest) t → TaskIs s (commandOf said rest) t
-    unfolding commandOf
-    verb-preview a b x = rw (← a, ← b) x
+    module _ (a : false ≡ same said (bytes "load")) where
+      pub verb-preview : true ≡ same said (bytes "preview") → TaskIs s (previewOf rest) t → TaskIs s (commandOf said rest) t
+      unfolding commandOf
+      verb-preview b x = rw (← a, ← b) x
 
-    pub verb-query : false ≡ same said (bytes "load") → false ≡ same said (bytes "preview") → TaskIs s (queryOf said rest) t → TaskIs s (commandOf said rest) t
-    unfolding commandOf
-    verb-query a b x = rw (← a, ← b) x
+      module _ (b : false ≡ same said (bytes "preview")) where
+        pub verb-join : true ≡ same said (bytes "join") → TaskIs s (joinOf rest) t → TaskIs s (commandOf said rest) t
+        unfolding commandOf
+        verb-join d x = rw (← a, ← b, ← d) x
+
+        pub verb-witness : false ≡ same said (bytes "join") → TaskIs s (witnessOf said rest) t → TaskIs s (commandOf said rest) t
+        unfolding commandOf
+        verb-witness d x = rw (← a, ← b, ← d) x
+
+    pub verb-replay : true ≡ same said (bytes "replay") → TaskIs s (viewOf Replay rest) t → TaskIs s (witnessOf said rest) t
+    unfolding witnessOf
+    verb-replay a x = rw (← a) x
+
+    module _ (a : false ≡ same said (bytes "replay")) where
+      pub verb-widen : true ≡ same said (bytes "widen") → TaskIs s (viewOf Widen rest) t → TaskIs s (witnessOf said rest) t
+      unfolding witnessOf
+      verb-widen b x = rw (← a, ← b) x
+
+      module _ (b : false ≡ same said (bytes "widen")) where
+        pub verb-waveform : true ≡ same said (bytes "waveform") → TaskIs s (waveformOf rest) t → TaskIs s (witnessOf said rest) t
+        unfolding witnessOf
+        verb-waveform d x = rw (← a, ← b, ← d) x
+
+        pub verb-query : false ≡ same said (bytes "waveform") → TaskIs s (queryOf said rest) t → TaskIs s (witnessOf said rest) t
+        unfolding witnessOf
+        verb-query d x = rw (← a, ← b, ← d) x
 
   pub verb-none : false ≡ same said (bytes "pin") → false ≡ same said (bytes "search") → false ≡ same said (bytes "fold")
       → false ≡ same said (bytes "write") → TaskIs s (queryOf said rest) Malformed

@@ -47,17 +47,18 @@ module _ (s : List ℕ) (from : ℕ) where
         let x = getD s i 0 in
         let e : drop i s ≡ x ∷ drop (i + 1) s = rw (add-one i) (drop-cons s i 0 h) in
         let k : i + 1 - from ≡ suc (i - from) = omega (arith, r .forward) in
-        let g : getD (drop from s) (i - from) 0 ≡ x = getD-drop from s (i - from) 0 ∙ ap (λ (j : ℕ). getD s j 0) (omega (arith, r .forward)) in
-        let t : take (suc (i - from)) (drop from s) ≡ take (i - from) (drop from s) ++ (x ∷ []) =
-        take-suc (drop from s) (i - from) 0 (omega (arith, length-drop from s, r .forward)) ∙ ap (λ (y : ℕ). take (i - from) (drop from s) ++ (y ∷ [])) g in
-        let w = (split (drop (i + 1) s)) .0 in
+        let w = drop from s in
+        let g : getD w (i - from) 0 ≡ x = getD-drop from s (i - from) 0 ∙ ap (λ (j : ℕ). getD s j 0) (omega (arith, r .forward)) in
+        let t : take (suc (i - from)) w ≡ take (i - from) w ++ (x ∷ []) =
+        take-suc w (i - from) 0 (omega (arith, length-drop from s, r .forward)) ∙ ap (λ (y : ℕ). take (i - from) w ++ (y ∷ [])) g in
+        let v = (split (drop (i + 1) s)) .0 in
         record {
           forward = omega (arith, r .forward);
           within = omega arith;
           so-far =
               r .so-far
               ∙ rw (split-more (drop i s) (drop (i + 1) s) x e n, k, t)
-              (ap (λ (l : List ℕ). (l, (split (drop (i + 1) s)) .1)) (sym (append-assoc (take (i - from) (drop from s)) (x ∷ []) w)));
+              (ap (λ (l : List ℕ). (l, (split (drop (i + 1) s)) .1)) (sym (append-assoc (take (i - from) w) (x ∷ []) v)));
         }
 
     -- it is a space

@@ -1,6 +1,6 @@
--- Clause 12.7: the commands of the resident program. A command is a line: the user's number, a verb and its arguments, each after one space.
--- Assumes nothing.
-use mathlib.Core.Bool.{Bool, cond}
+-- Clause 12.7: the commands of the resident program. A command is a line: the user's number, a verb and its arguments, each after one
+-- space. -- Assumes nothing.
+use mathlib.Core.Bool.{Bool, true, false, cond}
 use mathlib.Core.List.{List, [], _∷_}
 use mathlib.Core.Option.{Option, none, some}
 use Prim.Native.Nat.{ℕ}
@@ -9,14 +9,18 @@ use lib.ListN.{length}
 use Rattle.aiger.specs.Lists.{same}
 use Rattle.aiger.specs.Text.{bytes, when, _>>=_, _>>_}
 use Rattle.arguments.specs.Arguments.{numberOf}
+use Rattle.panel_lines.specs.declared.View.{View}
+use Rattle.panel_lines.specs.declared.View.the-variants.{Replay, Widen, Waveform}
 use Rattle.panel_lines.specs.declared.Query.{Query}
 use Rattle.panel_lines.specs.declared.Query.the-variants.{Pin, Search, Fold, Write}
 
--- a command: a query of the loaded circuit, or one that names files
+-- a command: a query of the loaded circuit, or one that names files, of which a view is one of a witness
 pub data Command : Type 0 where
   query : Query → Command
   load : (file : List ℕ) → Command
   preview : (file : List ℕ) → Command
+  join : (old new : List ℕ) → Command
+  view : View → (witness : List ℕ) → Command
 
 -- the bytes before the first space, and those from it on
 unfoldable pub split : List ℕ → List ℕ × List ℕ
@@ -84,6 +88,29 @@ loadOf s = oneName s >>= λ f. some (Command.load f)
 unfoldable pub previewOf : List ℕ → Option Command
 previewOf s = oneName s >>= λ f. some (Command.preview f)
 
+-- join OLD NEW
+unfoldable pub joinOf : List ℕ → Option Command
+joinOf s = do
+  old ← word s
+  new ← oneName (old .1)
+  some (Command.join (old .0) new)
+
+-- replay WITNESS and widen WITNESS
+unfoldable pub viewOf : View → List ℕ → Option Command
+viewOf v s = oneName s >>= λ f. some (Command.view v f)
+
+-- nothing, or the word `inputs`
+unfoldable pub onlyOf : List ℕ → Option Bool
+onlyOf [] = some false
+onlyOf (c ∷ s) = oneName (c ∷ s) >>= λ w. when (same w (bytes "inputs")) >> some true
+
+-- waveform WITNESS [inputs]
+unfoldable pub waveformOf : List ℕ → Option Command
+waveformOf s = do
+  f ← word s
+  only ← onlyOf (f .1)
+  some (Command.view (Waveform only) (f .0))
+
 -- ---- a line
 
 -- what follows a verb, by the verb: first those that ask about the loaded circuit
@@ -94,11 +121,19 @@ queryOf verb s =
     (cond (same verb (bytes "fold")) (foldOf s)
     (cond (same verb (bytes "write")) (writeOf s) none)))
 
--- and those that name files
+-- then those that name a witness
+unfoldable pub witnessOf : List ℕ → List ℕ → Option Command
+witnessOf verb s =
+    cond (same verb (bytes "replay")) (viewOf Replay s)
+    (cond (same verb (bytes "widen")) (viewOf Widen s)
+    (cond (same verb (bytes "waveform")) (waveformOf s) (queryOf verb s)))
+
+-- and those that name files of circuits
 unfoldable pub commandOf : List ℕ → List ℕ → Option Command
 commandOf verb s =
     cond (same verb (bytes "load")) (loadOf s)
-    (cond (same verb (bytes "preview")) (previewOf s) (queryOf verb s))
+    (cond (same verb (bytes "preview")) (previewOf s)
+    (cond (same verb (bytes "join")) (joinOf s) (witnessOf verb s)))
 
 -- a line of at most 4,096 bytes, without the line feed: the user, and the command
 unfoldable pub request : List ℕ → Option (ℕ × Command)

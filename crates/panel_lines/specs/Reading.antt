@@ -1,5 +1,6 @@
 -- What the functions that read a command answer. A position of a line stands for the rest from there on. Assumes nothing.
 use mathlib.Core.Path.{_≡_}
+use mathlib.Core.Bool.{Bool}
 use mathlib.Core.List.{List}
 use mathlib.Core.Option.{Option, none, some}
 use Prim.Native.Nat.{ℕ, _-_, _≤_}
@@ -13,8 +14,10 @@ use Rattle.panel_lines.specs.declared.Number.{Number}
 use Rattle.panel_lines.specs.declared.Number.the-variants.{Value, Wrong}
 use Rattle.panel_lines.specs.declared.Two.{Two}
 use Rattle.panel_lines.specs.declared.Two.the-variants.{Both, Neither}
+use Rattle.panel_lines.specs.declared.Only.{Only}
+use Rattle.panel_lines.specs.declared.Only.the-variants.{Says, Unsaid}
 use Rattle.panel_lines.specs.declared.Task.{Task}
-use Rattle.panel_lines.specs.declared.Task.the-variants.{Ask, Load, Preview, Malformed}
+use Rattle.panel_lines.specs.declared.Task.the-variants.{Ask, Load, Preview, Join, Witness, Malformed}
 use Rattle.panel_lines.specs.declared.Request.{Request}
 
 -- a part lies in a line
@@ -63,17 +66,25 @@ abbrev pub NameIs : List ℕ → ℕ → Word → Type 0
 NameIs s at (At p) = NameAt s at p
 NameIs s at Missing = oneName (drop at s) ≡ none
 
+abbrev pub onlySaid : Only → Option Bool
+onlySaid (Says b) = some b
+onlySaid Unsaid = none
+
 -- the command that a task is: parts of the line are names of files
 abbrev pub taskOf : List ℕ → Task → Option Command
 taskOf s (Ask q) = some (Command.query q)
 taskOf s (Load p) = some (Command.load (textOf s p))
 taskOf s (Preview p) = some (Command.preview (textOf s p))
+taskOf s (Join p q) = some (Command.join (textOf s p) (textOf s q))
+taskOf s (Witness v p) = some (Command.view v (textOf s p))
 taskOf s Malformed = none
 
 abbrev pub PartsInside : List ℕ → Task → Type 0
 PartsInside s (Ask q) = Unit {0}
 PartsInside s (Load p) = Inside s p
 PartsInside s (Preview p) = Inside s p
+PartsInside s (Join p q) = Inside s p × Inside s q
+PartsInside s (Witness v p) = Inside s p
 PartsInside s Malformed = Unit {0}
 
 -- a task is a command, and its parts lie in the line

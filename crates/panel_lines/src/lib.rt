@@ -4,8 +4,35 @@ ghost use mathlib.Core.Path.{_≡_};
 ghost use Prim.Native.Nat.{_≤_};
 ghost use lib.ListN.{length, drop};
 ghost use Rattle.aiger.specs.Lists.{same};
-ghost use Rattle.panel_lines.specs.Grammar.{twoNumbers, pinOf, searchOf, foldOf, writeOf, loadOf, previewOf, queryOf, commandOf, request};
-ghost use Rattle.panel_lines.specs.Reading.{Inside, textOf, Ends, WordIs, NumberIs, twoOf, NameIs, TaskIs, RequestIs};
+ghost use Rattle.panel_lines.specs.Grammar.{
+  twoNumbers,
+  pinOf,
+  searchOf,
+  foldOf,
+  writeOf,
+  loadOf,
+  previewOf,
+  joinOf,
+  viewOf,
+  onlyOf,
+  waveformOf,
+  queryOf,
+  witnessOf,
+  commandOf,
+  request,
+};
+ghost use Rattle.panel_lines.specs.Reading.{
+  Inside,
+  textOf,
+  Ends,
+  WordIs,
+  NumberIs,
+  twoOf,
+  NameIs,
+  onlySaid,
+  TaskIs,
+  RequestIs,
+};
 
 // A part of a line: from its first byte to the one past its last.
 pub struct Part {
@@ -21,11 +48,20 @@ pub enum Query {
     Write,
 }
 
+// What is done with a witness of the loaded circuit. A waveform has the inputs alone where it says so.
+pub enum View {
+    Replay,
+    Widen,
+    Waveform(bool),
+}
+
 // What is to be done. Parts are the names of files.
 pub enum Task {
     Ask(Query),
     Load(Part),
     Preview(Part),
+    Join(Part, Part),
+    Witness(View, Part),
     Malformed,
 }
 
@@ -50,6 +86,12 @@ enum Number {
 enum Two {
     Both(u64, u64),
     Neither,
+}
+
+// Whether the word `inputs` stands there.
+enum Only {
+    Says(bool),
+    Unsaid,
 }
 
 // Where the word that begins at a position ends: at the next space, or with the line.
@@ -206,6 +248,62 @@ fn is_word(line: &[u8], part: Part, text: &[u8]) -> bool
     check::same(&line[from..to], text)
 }
 
+// The arguments `OLD NEW` of join.
+fn read_join(line: &[u8], at: usize) -> Task
+    requires { ⌜ at ≤ length (now line) ⌝ }
+    ensures { λ r. ⌜ TaskIs (now (line .entry)) (joinOf (drop at (now (line .entry)))) r ⌝ }
+{
+    let Word::At(old) = word_after(line, at) else {
+        return Task::Malformed;
+    };
+    let Word::At(new) = one_name(line, old.to) else {
+        return Task::Malformed;
+    };
+    Task::Join(old, new)
+}
+
+// The argument WITNESS of a view.
+fn read_view(line: &[u8], at: usize, view: View) -> Task
+    requires { ⌜ at ≤ length (now line) ⌝ }
+    ensures { λ r. ⌜ TaskIs (now (line .entry)) (viewOf view (drop at (now (line .entry)))) r ⌝ }
+{
+    let Word::At(witness) = one_name(line, at) else {
+        return Task::Malformed;
+    };
+    Task::Witness(view, witness)
+}
+
+// Whether the word `inputs` is all that follows a position, or nothing does.
+fn read_only(line: &[u8], at: usize) -> Only
+    requires { ⌜ at ≤ length (now line) ⌝ }
+    ensures { λ r. ⌜ onlySaid r ≡ onlyOf (drop at (now (line .entry))) ⌝ }
+{
+    if at == line.len() {
+        return Only::Says(false);
+    }
+    let Word::At(word) = one_name(line, at) else {
+        return Only::Unsaid;
+    };
+    if is_word(line, word, b"inputs") {
+        return Only::Says(true);
+    }
+    Only::Unsaid
+}
+
+// The arguments `WITNESS [inputs]` of waveform.
+fn read_waveform(line: &[u8], at: usize) -> Task
+    requires { ⌜ at ≤ length (now line) ⌝ }
+    ensures { λ r. ⌜ TaskIs (now (line .entry)) (waveformOf (drop at (now (line .entry)))) r ⌝ }
+{
+    let Word::At(witness) = word_after(line, at) else {
+        return Task::Malformed;
+    };
+    let Only::Says(only) = read_only(line, witness.to) else {
+        return Task::Malformed;
+    };
+    Task::Witness(View::Waveform(only), witness)
+}
+
 // The query of a verb, with what follows it.
 fn read_query(line: &[u8], verb: Part) -> Task
     requires { ⌜ Inside (now line) verb ⌝ }
@@ -227,6 +325,24 @@ fn read_query(line: &[u8], verb: Part) -> Task
     Task::Malformed
 }
 
+// The view or the query of a verb, with what follows it.
+fn read_witness(line: &[u8], verb: Part) -> Task
+    requires { ⌜ Inside (now line) verb ⌝ }
+    ensures { λ r. ⌜ TaskIs (now (line .entry)) (witnessOf (textOf (now (line .entry)) verb) (drop (verb .to) (now (line .entry)))) r ⌝ }
+{
+    let at = verb.to;
+    if is_word(line, verb, b"replay") {
+        return read_view(line, at, View::Replay);
+    }
+    if is_word(line, verb, b"widen") {
+        return read_view(line, at, View::Widen);
+    }
+    if is_word(line, verb, b"waveform") {
+        return read_waveform(line, at);
+    }
+    read_query(line, verb)
+}
+
 // The command of a verb, with what follows it.
 fn read_task(line: &[u8], verb: Part) -> Task
     requires { ⌜ Inside (now line) verb ⌝ }
@@ -239,7 +355,10 @@ fn read_task(line: &[u8], verb: Part) -> Task
     if is_word(line, verb, b"preview") {
         return read_preview(line, at);
     }
-    read_query(line, verb)
+    if is_word(line, verb, b"join") {
+        return read_join(line, at);
+    }
+    read_witness(line, verb)
 }
 
 // What is answered to a line that is no command.

@@ -3,6 +3,7 @@ use files::say;
 use libc::STDIN_FILENO;
 use panel_lines::Query;
 use panel_lines::Task;
+use panel_lines::View;
 ghost use mathlib.Core.Path.{_≡_};
 ghost use Prim.Native.Nat.{_≤_};
 ghost use lib.ListN.{length};
@@ -35,7 +36,17 @@ fn say_help() {
     say(
         b"    USER fold b t           the hit of bad line b at frame t, under the user's pins, as a circuit\n",
     );
-    say(b"    USER write              the loaded circuit as text\n\n");
+    say(b"    USER write              the loaded circuit as text\n");
+    say(
+        b"    USER replay WITNESS     whether the completions of a witness are hits under the user's pins\n",
+    );
+    say(b"    USER widen WITNESS      the witness with x for the bits that may be either\n");
+    say(
+        b"    USER waveform WITNESS [inputs]    the run of a witness as a value change dump, all wires or the inputs alone\n",
+    );
+    say(
+        b"    USER join OLD NEW       joins the circuits of two files into the shared memory, as a load\n\n",
+    );
     say(
         b"An answer is a line that has its length in bytes, and then so many bytes: what the command of this name prints, or\n",
     );
@@ -144,6 +155,44 @@ fn query(user: u64, q: Query, m: &[u32], work: &mut [u32], pins: &mut [u8], out:
     answer(&line[..said], &out[..written]);
 }
 
+// Does what is asked of the witness in the file with a name. A longer file is no witness.
+fn view_named(name: &[u8], user: u64, v: View, m: &[u32], pins: &[u8], out: &mut [u8]) {
+    let mut file = [0u8; 66826];
+    let mut line = [0u8; 128];
+    let got = files::read_named(name, &mut file);
+    if got.failed {
+        answer(b"unreadable\n", b"");
+        return;
+    }
+    let n = got.count;
+    let report = panel_files::view(user, v, &file[..n], m, pins, out, &mut line);
+    let said = report.line;
+    let written = report.out;
+    answer(&line[..said], &out[..written]);
+}
+
+// Joins the circuits of the files with two names.
+fn join_named(first: &[u8], second: &[u8], user: u64, m: &mut [u32], pins: &mut [u8]) {
+    let mut old = [0u8; 65537];
+    let mut new = [0u8; 65537];
+    let mut line = [0u8; 128];
+    let from = files::read_named(first, &mut old);
+    let to = files::read_named(second, &mut new);
+    if from.failed {
+        answer(b"unreadable\n", b"");
+        return;
+    }
+    if to.failed {
+        answer(b"unreadable\n", b"");
+        return;
+    }
+    let n = from.count;
+    let k = to.count;
+    let report = panel_join::join(user, &old[..n], &new[..k], m, pins, &mut line);
+    let said = report.line;
+    answer(&line[..said], b"");
+}
+
 // Answers a line.
 fn do_line(text: &[u8], m: &mut [u32], work: &mut [u32], pins: &mut [u8], out: &mut [u8])
     requires { ⌜ (length (now m) ≡ 33032) × (length (now out) ≡ 1572928) ⌝ }
@@ -162,6 +211,18 @@ fn do_line(text: &[u8], m: &mut [u32], work: &mut [u32], pins: &mut [u8], out: &
             let from = file.from;
             let to = file.to;
             preview_named(&text[from..to], user, m, out);
+        }
+        Task::Join(old, new) => {
+            let from = old.from;
+            let to = old.to;
+            let start = new.from;
+            let end = new.to;
+            join_named(&text[from..to], &text[start..end], user, m, pins);
+        }
+        Task::Witness(v, file) => {
+            let from = file.from;
+            let to = file.to;
+            view_named(&text[from..to], user, v, m, pins, out);
         }
         Task::Malformed => answer(b"malformed\n", b""),
     }
@@ -191,11 +252,11 @@ fn session(m: &mut [u32], work: &mut [u32], pins: &mut [u8], out: &mut [u8])
     }
 }
 
-// Lends the circuit memory of the greatest M, 4,096, and the pins of both users, all free.
+// Lends the circuit memory of the greatest M, 4,096, which holds no circuit at first, and the pins of both users, all free.
 fn session_with(work: &mut [u32], out: &mut [u8])
     requires { ⌜ length (now out) ≡ 1572928 ⌝ }
 {
-    let mut m = [0u32; 33032];
+    let mut m = [4294967295u32; 33032];
     let mut pins = [2u8; 512];
     session(&mut m, work, &mut pins, out);
 }

@@ -63,6 +63,75 @@ part-preview-named-end c =
 preview-named-requires : tie.Need-preview-named-requires
 preview-named-requires c κs = search needs
 
+enum-known-task-4 : tie.Need-enum-known-task-4
+enum-known-task-4 c = search needs
+
+sub-join-named : tie.Need-sub-join-named
+sub-join-named c =
+    let at-task4 = c .before in
+    let at-read-request = at-task4 .before .before in
+    (rw (at-task4 .task4 .given .1) at (at-read-request .read-request .ensures .parts)) .0 .forward
+
+part-join-named-start : tie.Need-part-join-named-start
+part-join-named-start c =
+    let at-task4 = c .before in
+    let at-read-request = at-task4 .before .before in
+    let i = (rw (at-task4 .task4 .given .1) at (at-read-request .read-request .ensures .parts)) .0 in
+    omega (arith, i .forward, i .within)
+
+part-join-named-end : tie.Need-part-join-named-end
+part-join-named-end c =
+    let at-task4 = c .before in
+    let at-read-request = at-task4 .before .before in
+    (rw (at-task4 .task4 .given .1) at (at-read-request .read-request .ensures .parts)) .0 .within
+
+sub-join-named-2 : tie.Need-sub-join-named-2
+sub-join-named-2 c =
+    let at-task4 = c .before .before in
+    let at-read-request = at-task4 .before .before in
+    (rw (at-task4 .task4 .given .1) at (at-read-request .read-request .ensures .parts)) .1 .forward
+
+part-join-named-start-2 : tie.Need-part-join-named-start-2
+part-join-named-start-2 c =
+    let at-task4 = c .before .before in
+    let at-read-request = at-task4 .before .before in
+    let i = (rw (at-task4 .task4 .given .1) at (at-read-request .read-request .ensures .parts)) .1 in
+    omega (arith, i .forward, i .within)
+
+part-join-named-end-2 : tie.Need-part-join-named-end-2
+part-join-named-end-2 c =
+    let at-task4 = c .before .before in
+    let at-read-request = at-task4 .before .before in
+    (rw (at-task4 .task4 .given .1) at (at-read-request .read-request .ensures .parts)) .1 .within
+
+join-named-requires : tie.Need-join-named-requires
+join-named-requires c κs = search needs
+
+enum-known-task-5 : tie.Need-enum-known-task-5
+enum-known-task-5 c = search needs
+
+sub-view-named : tie.Need-sub-view-named
+sub-view-named c =
+    let at-task5 = c .before in
+    let at-read-request = at-task5 .before .before in
+    (rw (at-task5 .task5 .given .1) at (at-read-request .read-request .ensures .parts)) .forward
+
+part-view-named-start : tie.Need-part-view-named-start
+part-view-named-start c =
+    let at-task5 = c .before in
+    let at-read-request = at-task5 .before .before in
+    let i = (rw (at-task5 .task5 .given .1) at (at-read-request .read-request .ensures .parts)) in
+    omega (arith, i .forward, i .within)
+
+part-view-named-end : tie.Need-part-view-named-end
+part-view-named-end c =
+    let at-task5 = c .before in
+    let at-read-request = at-task5 .before .before in
+    (rw (at-task5 .task5 .given .1) at (at-read-request .read-request .ensures .parts)) .within
+
+view-named-requires : tie.Need-view-named-requires
+view-named-requires c κs = search needs
+
 enum-told : tie.Need-enum-told
 enum-told c = search needs
 
@@ -108,8 +177,29 @@ same-length-8 c = search needs
 returns-3 : tie.Need-returns-3
 returns-3 c = search needs
 
+same-length-9 : tie.Need-same-length-9
+same-length-9 c = search needs
+
+same-length-10 : tie.Need-same-length-10
+same-length-10 c = search needs
+
 returns-4 : tie.Need-returns-4
 returns-4 c = search needs
+
+same-length-11 : tie.Need-same-length-11
+same-length-11 c = search needs
+
+same-length-12 : tie.Need-same-length-12
+same-length-12 c = search needs
+
+same-length-13 : tie.Need-same-length-13
+same-length-13 c = search needs
+
+returns-5 : tie.Need-returns-5
+returns-5 c = search needs
+
+returns-6 : tie.Need-returns-6
+returns-6 c = search needs
 
 pub do-line-spec : {M : Type 1} → statement M
 do-line-spec =
@@ -128,6 +218,19 @@ do-line-spec =
     part-preview-named-start
     part-preview-named-end
     preview-named-requires
+    enum-known-task-4
+    sub-join-named
+    part-join-named-start
+    part-join-named-end
+    sub-join-named-2
+    part-join-named-start-2
+    part-join-named-end-2
+    join-named-requires
+    enum-known-task-5
+    sub-view-named
+    part-view-named-start
+    part-view-named-end
+    view-named-requires
     enum-told
     slice-aggregate-answer
     slice-aggregate-answer-2
@@ -143,4 +246,11 @@ do-line-spec =
     same-length-7
     same-length-8
     returns-3
-    returns-4)
+    same-length-9
+    same-length-10
+    returns-4
+    same-length-11
+    same-length-12
+    same-length-13
+    returns-5
+    returns-6)
