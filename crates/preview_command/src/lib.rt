@@ -19,7 +19,7 @@ fn write_counts(line: &mut [u8], k: Counts) -> usize
 }
 
 // Writes what load answers. The answer is the length of the line.
-fn write_answer(line: &mut [u8], answer: LoadAnswer) -> usize
+pub fn write_answer(line: &mut [u8], answer: LoadAnswer) -> usize
     requires { ⌜ 128 ≤ length (now line) ⌝ }
     ensures { λ r. ⌜ Fronts (answerLine answer) (now (line .entry)) r (now (line .exit)) ⌝ }
 {

@@ -20,7 +20,7 @@ pub struct Terms {
 }
 
 // Writes what a search says to the front of line: with its cause in words where it refuses.
-fn write_answer(line: &mut [u8], answer: SearchAnswer) -> usize
+pub fn write_answer(line: &mut [u8], answer: SearchAnswer) -> usize
     requires { ⌜ 128 ≤ length (now line) ⌝ }
     ensures { λ r. ⌜ Fronts (saidWords (said answer)) (now (line .entry)) r (now (line .exit)) ⌝ }
 {

@@ -1,0 +1,106 @@
+-- `panel::pin` meets its contract. Assumes nothing.
+use mathlib.Core.Path.{refl}
+use native.Mathlib.Omega.{arith}
+use Rattle.aiger.specs.Load.{refused, gives}
+use Rattle.replies.proofs.Putting.{placed-fronts}
+use Rattle.user_calls.specs.Calls.{PinSet}
+use borrow.Author.Needs.{needs}
+use Rattle.panel.proofs.pin.Statement.{statement}
+use Rattle.panel.proofs.pin.Tie as tie
+
+refuse-requires : tie.Need-refuse-requires
+refuse-requires c κs = search needs
+
+same-length : tie.Need-same-length
+same-length c = search needs
+
+returns : tie.Need-returns
+returns c =
+    let at-refuse = c .before .before in
+    record {
+      answer = refused 18;
+      permitted = PinSet.unknown (omega arith);
+      line-is = at-refuse .refuse .ensures .0;
+      out-is = at-refuse .refuse .ensures .1;
+      inside = omega (arith, at-refuse .refuse .ensures .1);
+    }
+
+cast-set-pin : tie.Need-cast-set-pin
+cast-set-pin c = search needs
+
+set-pin-requires : tie.Need-set-pin-requires
+set-pin-requires c κs = search needs
+
+enum-known-n : tie.Need-enum-known-n
+enum-known-n c = search needs
+
+refuse-requires-2 : tie.Need-refuse-requires-2
+refuse-requires-2 c κs = search needs
+
+enum-told : tie.Need-enum-told
+enum-told c = search needs
+
+slice-aggregate-put : tie.Need-slice-aggregate-put
+slice-aggregate-put c = search needs
+
+put-requires : tie.Need-put-requires
+put-requires c κs = search needs
+
+same-length-2 : tie.Need-same-length-2
+same-length-2 c = search needs
+
+same-length-3 : tie.Need-same-length-3
+same-length-3 c = search needs
+
+returns-2 : tie.Need-returns-2
+returns-2 c =
+    let at-refuse2 = c .before .before in
+    let at-n = at-refuse2 .before .before .before in
+    let at-set-pin = at-n .before .before .before .before in
+    record {
+      answer = refused _;
+      permitted = rw (at-n .n .given .1) at (at-set-pin .set-pin .ensures);
+      line-is = at-refuse2 .refuse2 .ensures .0;
+      out-is = at-refuse2 .refuse2 .ensures .1;
+      inside = omega (arith, at-refuse2 .refuse2 .ensures .1);
+    }
+
+same-length-4 : tie.Need-same-length-4
+same-length-4 c = search needs
+
+same-length-5 : tie.Need-same-length-5
+same-length-5 c = search needs
+
+returns-3 : tie.Need-returns-3
+returns-3 c =
+    let at-put = c .before .before in
+    let at-enum-told = at-put .before .before .before in
+    let at-set-pin = at-enum-told .before .before .before .before in
+    record {
+      answer = gives tt;
+      permitted = rw (at-enum-told .enum-told .given .1) at (at-set-pin .set-pin .ensures);
+      line-is = placed-fronts (at-put .put .ensures);
+      out-is = refl;
+      inside = omega arith;
+    }
+
+pub pin-spec : {M : Type 1} → statement M
+pin-spec =
+    tie.close
+    (tie.spec
+    refuse-requires
+    same-length
+    returns
+    cast-set-pin
+    set-pin-requires
+    enum-known-n
+    refuse-requires-2
+    enum-told
+    slice-aggregate-put
+    put-requires
+    same-length-2
+    same-length-3
+    returns-2
+    same-length-4
+    same-length-5
+    returns-3)

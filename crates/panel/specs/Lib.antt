@@ -1,0 +1,2 @@
+-- What the contracts of `panel` cite. Assumes nothing.
+pub mod Answers

@@ -1,0 +1,181 @@
+// The work of the resident program's commands: what is to be printed is left at the fronts of line and out.
+use fold::FoldAnswer;
+use panel_lines::Query;
+use replies::Report;
+use search_command::Terms;
+use user_calls::PinAnswer;
+use write::WriteAnswer;
+ghost use mathlib.Core.Path.{_≡_};
+ghost use mathlib.Core.List.{[]};
+ghost use Prim.Native.Nat.{_≤_};
+ghost use lib.ListN.{length};
+ghost use Rattle.layout.specs.Words.{circuitIn};
+ghost use Rattle.job.specs.Replies.{shownLength};
+ghost use Rattle.replies.specs.Reply.{Leaves};
+ghost use Rattle.search_command.specs.Texts.{saidWords};
+ghost use Rattle.search.specs.Chosen as Search;
+ghost use Rattle.fold.specs.Chosen as Fold;
+ghost use Rattle.users.specs.Users.{PinnedSearched, PinnedFolded};
+ghost use Rattle.user_calls.specs.Calls.{PinSet};
+ghost use Rattle.user_write.specs.Written.{UserWritten};
+ghost use Rattle.panel.specs.Answers.{
+  pinWords,
+  textWords,
+  noText,
+  textLength,
+  Said,
+  LoadSaid,
+  Queried,
+  previewSaid,
+};
+
+// A bad line and a frame.
+struct Frame {
+    b: u64,
+    t: u64,
+}
+
+// Loads a file.
+pub fn load(user: u64, file: &[u8], m: &mut [u32], pins: &mut [u8], line: &mut [u8]) -> Report
+    requires { ⌜ 128 ≤ length (now line) ⌝ }
+    ensures { λ r. ⌜
+        LoadSaid user (now (file .entry)) (now (m .entry)) (now (pins .entry)) (now (line .entry)) r (now (m .exit)) (now (pins .exit)) (now (line .exit))
+        ⌝ }
+{
+    if 1 < user {
+        return replies::refuse(line, 18);
+    }
+    let answer = user_calls::load(user as u32, file, m, pins);
+    let said = preview_command::write_answer(line, answer);
+    Report { line: said, out: 0 }
+}
+
+// Previews the load of a file.
+pub fn preview(user: u64, file: &[u8], m: &[u32], out: &mut [u8], line: &mut [u8]) -> Report
+    requires { ⌜ (length (now m) ≡ 33032) × (32 ≤ length (now out)) × (128 ≤ length (now line)) ⌝ }
+    ensures { λ r. ⌜
+        Leaves (previewSaid user (now (file .entry))) (now (line .entry)) (now (out .entry)) r (now (line .exit)) (now (out .exit))
+        ⌝ }
+{
+    if 1 < user {
+        return replies::refuse(line, 18);
+    }
+    preview_command::preview(file, m, out, line)
+}
+
+// Sets a pin of a user who is known.
+fn pin(user: u32, input: u64, value: u64, m: &[u32], pins: &mut [u8], line: &mut [u8]) -> Report
+    requires { ⌜ 128 ≤ length (now line) ⌝ }
+    ensures { λ r. ⌜
+        Said (λ a. PinSet (now (m .entry)) user input value (now (pins .entry)) a (now (pins .exit))) pinWords noText (now (line .entry)) r (now (line .exit)) []
+        ⌝ }
+{
+    if 2 < value {
+        return replies::refuse(line, 18);
+    }
+    match user_calls::set_pin(user, input, value as u32, m, pins) {
+        PinAnswer::Refused(n) => replies::refuse(line, n),
+        PinAnswer::Set => {
+            let said = replies::put(line, 0, b"set\n");
+            Report { line: said, out: 0 }
+        }
+    }
+}
+
+// Searches under the pins of a user who is known.
+fn search(
+    user: u32,
+    q: Terms,
+    m: &[u32],
+    pins: &[u8],
+    work: &mut [u32],
+    out: &mut [u8],
+    line: &mut [u8],
+) -> Report
+    requires { ⌜ 128 ≤ length (now line) ⌝ }
+    ensures { λ r. ⌜
+        Said
+        (λ a.
+        PinnedSearched Search.chosen (now (m .entry)) (now (pins .entry)) user (q .b) (q .k) (q .d) (now (work .entry)) (now (out .entry)) a
+        (now (work .exit)) (now (out .exit)))
+        saidWords (shownLength (circuitIn (now (m .entry))) (q .b)) (now (line .entry)) r (now (line .exit)) (now (out .exit))
+        ⌝ }
+{
+    let answer = pinned_search::search(m, pins, user, q.b, q.k, q.d, work, out);
+    let witness = job::shown_length(m, q.b, answer);
+    let said = search_command::write_answer(line, answer);
+    Report {
+        line: said,
+        out: witness,
+    }
+}
+
+// Folds under the pins of a user who is known.
+fn fold(
+    user: u32,
+    f: Frame,
+    m: &[u32],
+    pins: &[u8],
+    work: &mut [u32],
+    out: &mut [u8],
+    line: &mut [u8],
+) -> Report
+    requires { ⌜ 128 ≤ length (now line) ⌝ }
+    ensures { λ r. ⌜
+        Said
+        (λ a.
+        PinnedFolded Fold.chosen (now (m .entry)) (now (pins .entry)) user (f .b) (f .t) (now (work .entry)) (now (out .entry)) a (now (work .exit))
+        (now (out .exit)))
+        textWords textLength (now (line .entry)) r (now (line .exit)) (now (out .exit))
+        ⌝ }
+{
+    match pinned_fold::fold(m, pins, user, f.b, f.t, work, out) {
+        FoldAnswer::Length(n) => Report { line: 0, out: n },
+        FoldAnswer::Refused(n) => replies::refuse(line, n),
+    }
+}
+
+// Writes the circuit for a user who is known.
+fn write(user: u32, m: &[u32], out: &mut [u8], line: &mut [u8]) -> Report
+    requires { ⌜ 128 ≤ length (now line) ⌝ }
+    ensures { λ r. ⌜
+        Said (λ a. UserWritten (now (m .entry)) user (now (out .entry)) a (now (out .exit))) textWords textLength (now (line .entry)) r (now (line .exit))
+        (now (out .exit))
+        ⌝ }
+{
+    match user_write::write(user, m, out) {
+        WriteAnswer::Length(n) => Report { line: 0, out: n },
+        WriteAnswer::Refused(n) => replies::refuse(line, n),
+    }
+}
+
+// Does what a query asks.
+pub fn query(
+    user: u64,
+    q: Query,
+    m: &[u32],
+    work: &mut [u32],
+    pins: &mut [u8],
+    out: &mut [u8],
+    line: &mut [u8],
+) -> Report
+    requires { ⌜ 128 ≤ length (now line) ⌝ }
+    ensures { λ r. ⌜
+        Queried q user
+        (record { memory = now (m .entry); work = now (work .entry); pins = now (pins .entry) })
+        (now (out .entry)) (now (line .entry)) r
+        (record { memory = now (m .entry); work = now (work .exit); pins = now (pins .exit) })
+        (now (out .exit)) (now (line .exit))
+        ⌝ }
+{
+    if 1 < user {
+        return replies::refuse(line, 18);
+    }
+    let known = user as u32;
+    match q {
+        Query::Pin(input, value) => pin(known, input, value, m, pins, line),
+        Query::Search(b, k, d) => search(known, Terms { b, k, d }, m, pins, work, out, line),
+        Query::Fold(b, t) => fold(known, Frame { b, t }, m, pins, work, out, line),
+        Query::Write => write(known, m, out, line),
+    }
+}

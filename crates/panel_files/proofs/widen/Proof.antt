@@ -1,0 +1,72 @@
+-- `panel_files::widen` meets its contract. Assumes nothing.
+use mathlib.Core.Path.{refl}
+use native.Mathlib.Omega.{arith}
+use Rattle.aiger.specs.Load.{refused, gives}
+use Rattle.replies.proofs.Putting.{fronts-none}
+use Rattle.panel_files.proofs.Views.{widen-inside}
+use borrow.Author.Needs.{needs}
+use Rattle.panel_files.proofs.widen.Statement.{statement}
+use Rattle.panel_files.proofs.widen.Tie as tie
+
+widen-requires : tie.Need-widen-requires
+widen-requires c κs = search needs
+
+enum-known-n : tie.Need-enum-known-n
+enum-known-n c = search needs
+
+enum-known-n-2 : tie.Need-enum-known-n-2
+enum-known-n-2 c = search needs
+
+refuse-requires : tie.Need-refuse-requires
+refuse-requires c κs = search needs
+
+same-length : tie.Need-same-length
+same-length c = search needs
+
+returns : tie.Need-returns
+returns c =
+    let at-n = c .before in
+    let at-widen = at-n .before .before .before .before in
+    let start = at-widen .before .before .before .before .before .before .before in
+    let e = rw (at-n .n .given .1) at (at-widen .widen .ensures) in
+    record {
+      answer = gives _;
+      permitted = e;
+      line-is = fronts-none _;
+      out-is = refl;
+      inside = widen-inside (start .args .m .now) (start .args .pins .now) (start .args .user) (start .args .witness .now)
+          (start .args .out .now) (at-widen .widen .kept .1 .1 .1 .1 .0) e;
+    }
+
+same-length-2 : tie.Need-same-length-2
+same-length-2 c = search needs
+
+same-length-3 : tie.Need-same-length-3
+same-length-3 c = search needs
+
+returns-2 : tie.Need-returns-2
+returns-2 c =
+    let at-refuse = c .before .before in
+    let at-n2 = at-refuse .before .before .before in
+    let at-widen = at-n2 .before .before .before .before in
+    record {
+      answer = refused _;
+      permitted = rw (at-n2 .n2 .given .1) at (at-widen .widen .ensures);
+      line-is = at-refuse .refuse .ensures .0;
+      out-is = at-refuse .refuse .ensures .1;
+      inside = omega (arith, at-refuse .refuse .ensures .1);
+    }
+
+pub widen-spec : {M : Type 1} → statement M
+widen-spec =
+    tie.close
+    (tie.spec
+    widen-requires
+    enum-known-n
+    enum-known-n-2
+    refuse-requires
+    same-length
+    returns
+    same-length-2
+    same-length-3
+    returns-2)

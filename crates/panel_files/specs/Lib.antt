@@ -1,0 +1,2 @@
+-- What the contracts of `panel_files` cite. Assumes nothing.
+pub mod Files

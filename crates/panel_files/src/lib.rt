@@ -1,0 +1,111 @@
+// The work of the resident program's commands that name a witness: what is to be printed is left at the fronts of line and out.
+use panel_lines::View;
+use replay::ReplayAnswer;
+use replies::Report;
+use waveform::WaveformAnswer;
+use widen::WidenAnswer;
+ghost use mathlib.Core.List.{[]};
+ghost use Prim.Native.Nat.{_≤_};
+ghost use lib.ListN.{length};
+ghost use Rattle.replies.specs.Reply.{Fronts};
+ghost use Rattle.replay.specs.Answer.{answered};
+ghost use Rattle.user_replay.specs.Replays.{UserReplayed};
+ghost use Rattle.user_widen.specs.Widens.{UserWidened};
+ghost use Rattle.user_waveform.specs.Waveforms.{UserWaveformed};
+ghost use Rattle.panel.specs.Answers.{textWords, noText, textLength, Said};
+ghost use Rattle.panel_files.specs.Files.{verdictWords, Viewed};
+
+// Writes what replay answers to the front of line.
+fn write_verdict(line: &mut [u8], answer: ReplayAnswer) -> usize
+    requires { ⌜ 128 ≤ length (now line) ⌝ }
+    ensures { λ r. ⌜ Fronts (verdictWords (answered answer)) (now (line .entry)) r (now (line .exit)) ⌝ }
+{
+    match answer {
+        ReplayAnswer::All => replies::put(line, 0, b"all\n"),
+        ReplayAnswer::No => replies::put(line, 0, b"no\n"),
+        ReplayAnswer::Mixed => replies::put(line, 0, b"mixed\n"),
+        ReplayAnswer::Refused(n) => replies::write_refusal(line, n),
+    }
+}
+
+// Replays a witness for a user who is known.
+fn replay(user: u32, witness: &[u8], m: &[u32], pins: &[u8], line: &mut [u8]) -> Report
+    requires { ⌜ 128 ≤ length (now line) ⌝ }
+    ensures { λ r. ⌜
+        Said (UserReplayed (now (m .entry)) (now (pins .entry)) user (now (witness .entry))) verdictWords noText (now (line .entry)) r
+        (now (line .exit)) []
+        ⌝ }
+{
+    let answer = user_replay::replay(m, pins, user, witness);
+    let said = write_verdict(line, answer);
+    Report { line: said, out: 0 }
+}
+
+// Widens a witness for a user who is known.
+fn widen(
+    user: u32,
+    witness: &[u8],
+    m: &[u32],
+    pins: &[u8],
+    out: &mut [u8],
+    line: &mut [u8],
+) -> Report
+    requires { ⌜ 128 ≤ length (now line) ⌝ }
+    ensures { λ r. ⌜
+        Said (λ a. UserWidened (now (m .entry)) (now (pins .entry)) user (now (witness .entry)) (now (out .entry)) a (now (out .exit)))
+        textWords textLength (now (line .entry)) r (now (line .exit)) (now (out .exit))
+        ⌝ }
+{
+    match user_widen::widen(m, pins, user, witness, out) {
+        WidenAnswer::Length(n) => Report { line: 0, out: n },
+        WidenAnswer::Refused(n) => replies::refuse(line, n),
+    }
+}
+
+// Shows the run of a witness to a user who is known.
+fn waveform(
+    user: u32,
+    only: bool,
+    witness: &[u8],
+    m: &[u32],
+    out: &mut [u8],
+    line: &mut [u8],
+) -> Report
+    requires { ⌜ 128 ≤ length (now line) ⌝ }
+    ensures { λ r. ⌜
+        Said (λ a. UserWaveformed (now (m .entry)) user only (now (witness .entry)) (now (out .entry)) a (now (out .exit)))
+        textWords textLength (now (line .entry)) r (now (line .exit)) (now (out .exit))
+        ⌝ }
+{
+    match user_waveform::waveform(m, user, witness, only, out) {
+        WaveformAnswer::Length(n) => Report { line: 0, out: n },
+        WaveformAnswer::Refused(n) => replies::refuse(line, n),
+    }
+}
+
+// Does what is asked of a witness.
+pub fn view(
+    user: u64,
+    v: View,
+    witness: &[u8],
+    m: &[u32],
+    pins: &[u8],
+    out: &mut [u8],
+    line: &mut [u8],
+) -> Report
+    requires { ⌜ 128 ≤ length (now line) ⌝ }
+    ensures { λ r. ⌜
+        Viewed v user (now (witness .entry)) (now (m .entry)) (now (pins .entry)) (now (out .entry)) (now (line .entry)) r (now (out .exit))
+        (now (line .exit))
+        ⌝ }
+{
+    if 1 < user {
+        return replies::refuse(line, 18);
+    }
+    let known = user as u32;
+    match v {
+        View::Replay => replay(known, witness, m, pins, line),
+        View::Widen => widen(known, witness, m, pins, out, line),
+        View::Waveform(only) => waveform(known, only, witness, m, out, line),
+    }
+}

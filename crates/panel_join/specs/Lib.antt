@@ -1,0 +1,2 @@
+-- What the contracts of `panel_join` cite. Assumes nothing.
+pub mod Joins

@@ -1,0 +1,260 @@
+-- The commands of a line, by their verbs. Assumes nothing.
+use mathlib.Core.Path.{_≡_, refl, sym, ap, _∙_, subst}
+use mathlib.Core.Bool.{Bool, true, false}
+use mathlib.Core.List.{List}
+use mathlib.Core.Option.{Option, none, some}
+use Prim.Native.Nat.{ℕ, _-_, _≤_, _<_}
+use native.Mathlib.Omega.{arith}
+use borrow.Author.Tests.{le-leb, lt-leb}
+use lib.ListN.{length, take, drop, drop-of-length-le}
+use lib.Seq.{drop-cons}
+use Rattle.aiger.specs.Lists.{same}
+use Rattle.aiger.specs.Text.{bytes, when, _>>=_, _>>_}
+use Rattle.arguments.specs.Arguments.{numberOf}
+use Rattle.panel_lines.specs.Grammar.{
+  Command,
+  split,
+  word,
+  number,
+  ended,
+  twoNumbers,
+  oneName,
+  pinOf,
+  searchOf,
+  foldOf,
+  writeOf,
+  loadOf,
+  previewOf,
+  joinOf,
+  viewOf,
+  onlyOf,
+  waveformOf,
+  queryOf,
+  witnessOf,
+  commandOf,
+  request,
+}
+use Rattle.panel_lines.specs.Reading.{Inside, textOf, Ends, WordAt, NumberAt, NameAt, taskOf, PartsInside, TaskIs, RequestIs}
+use Rattle.panel_lines.specs.declared.Part.{Part}
+use Rattle.panel_lines.specs.declared.View.{View}
+use Rattle.panel_lines.specs.declared.View.the-variants.{Replay, Widen, Waveform}
+use Rattle.panel_lines.specs.declared.Query.the-variants.{Pin, Search, Fold, Write}
+use Rattle.panel_lines.specs.declared.Task.{Task}
+use Rattle.panel_lines.specs.declared.Task.the-variants.{Ask, Load, Preview, Join, Witness, Malformed}
+use Rattle.panel_lines.specs.declared.Request.{Request}
+use Rattle.panel_lines.proofs.Reading.{more-follows, all-read}
+
+module _ (s : List ℕ) (at : ℕ) where
+  pub pin-none : none ≡ twoNumbers (drop at s) → TaskIs s (pinOf (drop at s)) Malformed
+  unfolding pinOf
+  pin-none e = record { meaning = rw (← e); parts = tt }
+
+  pub pin-all : (a b : ℕ) → some (a, b) ≡ twoNumbers (drop at s) → TaskIs s (pinOf (drop at s)) (Ask (Pin a b))
+  unfolding pinOf
+  pin-all a b e = record { meaning = rw (← e); parts = tt }
+
+  pub fold-none : none ≡ twoNumbers (drop at s) → TaskIs s (foldOf (drop at s)) Malformed
+  unfolding foldOf
+  fold-none e = record { meaning = rw (← e); parts = tt }
+
+  pub fold-all : (a b : ℕ) → some (a, b) ≡ twoNumbers (drop at s) → TaskIs s (foldOf (drop at s)) (Ask (Fold a b))
+  unfolding foldOf
+  fold-all a b e = record { meaning = rw (← e); parts = tt }
+
+  pub search-none : number (drop at s) ≡ none → TaskIs s (searchOf (drop at s)) Malformed
+  unfolding searchOf
+  search-none e = record { meaning = rw e; parts = tt }
+
+  module _ {b next : ℕ} (x : NumberAt s at b next) where
+    pub search-half : none ≡ twoNumbers (drop next s) → TaskIs s (searchOf (drop at s)) Malformed
+    unfolding searchOf
+    search-half e = record { meaning = rw (x .number-is, ← e); parts = tt }
+
+    pub search-all : (k d : ℕ) → some (k, d) ≡ twoNumbers (drop next s) → TaskIs s (searchOf (drop at s)) (Ask (Search b k d))
+    unfolding searchOf
+    search-all k d e = record { meaning = rw (x .number-is, ← e); parts = tt }
+
+  pub write-more : at < length s → TaskIs s (writeOf (drop at s)) Malformed
+  unfolding writeOf
+  write-more h = record { meaning = rw (more-follows s at h); parts = tt }
+
+  pub write-all : length s ≤ at → TaskIs s (writeOf (drop at s)) (Ask Write)
+  unfolding writeOf
+  write-all h = record { meaning = rw (all-read s at h); parts = tt }
+
+  pub load-none : oneName (drop at s) ≡ none → TaskIs s (loadOf (drop at s)) Malformed
+  unfolding loadOf
+  load-none e = record { meaning = rw e; parts = tt }
+
+  pub load-all : {p : Part} → NameAt s at p → TaskIs s (loadOf (drop at s)) (Load p)
+  unfolding loadOf
+  load-all n = record { meaning = rw (n .name-is); parts = n .inside }
+
+  pub preview-none : oneName (drop at s) ≡ none → TaskIs s (previewOf (drop at s)) Malformed
+  unfolding previewOf
+  preview-none e = record { meaning = rw e; parts = tt }
+
+  pub preview-all : {p : Part} → NameAt s at p → TaskIs s (previewOf (drop at s)) (Preview p)
+  unfolding previewOf
+  preview-all n = record { meaning = rw (n .name-is); parts = n .inside }
+
+  pub join-none : word (drop at s) ≡ none → TaskIs s (joinOf (drop at s)) Malformed
+  unfolding joinOf
+  join-none e = record { meaning = rw e; parts = tt }
+
+  module _ {p : Part} (w : WordAt s at p) where
+    pub join-half : oneName (drop (p .to) s) ≡ none → TaskIs s (joinOf (drop at s)) Malformed
+    unfolding joinOf
+    join-half e = record { meaning = rw (w .word-is, e); parts = tt }
+
+    pub join-all : {q : Part} → NameAt s (p .to) q → TaskIs s (joinOf (drop at s)) (Join p q)
+    unfolding joinOf
+    join-all n = record { meaning = rw (w .word-is, n .name-is); parts = (w .inside, n .inside) }
+
+    pub waveform-half : none ≡ onlyOf (drop (p .to) s) → TaskIs s (waveformOf (drop at s)) Malformed
+    unfolding waveformOf
+    waveform-half e = record { meaning = rw (w .word-is, ← e); parts = tt }
+
+    pub waveform-all : (b : Bool) → some b ≡ onlyOf (drop (p .to) s) → TaskIs s (waveformOf (drop at s)) (Witness (Waveform b) p)
+    unfolding waveformOf
+    waveform-all b e = record { meaning = rw (w .word-is, ← e); parts = w .inside }
+
+  pub waveform-none : word (drop at s) ≡ none → TaskIs s (waveformOf (drop at s)) Malformed
+  unfolding waveformOf
+  waveform-none e = record { meaning = rw e; parts = tt }
+
+  module _ (v : View) where
+    pub view-none : oneName (drop at s) ≡ none → TaskIs s (viewOf v (drop at s)) Malformed
+    unfolding viewOf
+    view-none e = record { meaning = rw e; parts = tt }
+
+    pub view-all : {p : Part} → NameAt s at p → TaskIs s (viewOf v (drop at s)) (Witness v p)
+    unfolding viewOf
+    view-all n = record { meaning = rw (n .name-is); parts = n .inside }
+
+  pub only-nothing : length s ≤ at → some false ≡ onlyOf (drop at s)
+  unfolding onlyOf
+  only-nothing h = rw (drop-of-length-le s {i = at} h)
+
+  -- where something follows
+  module _ (h : at < length s) where
+    only-word : onlyOf (drop at s) ≡ (oneName (drop at s) >>= λ w. when (same w (bytes "inputs")) >> some true)
+    unfolding onlyOf
+    only-word = rw (drop-cons s at 0 h)
+
+    pub only-none : oneName (drop at s) ≡ none → none ≡ onlyOf (drop at s)
+    only-none e = sym (only-word ∙ rw e)
+
+    module _ {p : Part} (n : NameAt s at p) where
+      pub only-inputs : true ≡ same (textOf s p) (bytes "inputs") → some true ≡ onlyOf (drop at s)
+      only-inputs e = sym (only-word ∙ rw (n .name-is, ← e))
+
+      pub only-other : false ≡ same (textOf s p) (bytes "inputs") → none ≡ onlyOf (drop at s)
+      only-other e = sym (only-word ∙ rw (n .name-is, ← e))
+
+-- ---- a request
+
+-- a line that is no command
+malformed-is : (s : List ℕ) (c : Option (ℕ × Command)) (r : Request) → r .task ≡ Malformed → none ≡ c → RequestIs s c r
+malformed-is s c r e n =
+    record {
+      meaning = ap (λ (t : Task). taskOf s t >>= λ k. some (r .user, k)) e ∙ n;
+      parts = subst (PartsInside s) (sym e) tt;
+    }
+
+-- the first word of a line
+first-word : (s : List ℕ) {end : ℕ} → Ends s 0 end → split s ≡ (take end s, drop end s)
+first-word s {end} w = let z : end - 0 ≡ end = omega arith in rw z at (w .word-is)
+
+module _ (s : List ℕ) (r : Request) (e : r .task ≡ Malformed) where
+  pub too-long : 4096 < length s → RequestIs s (request s) r
+  unfolding request
+  too-long h = malformed-is s (request s) r e (rw (lt-leb (length s) 4096 h))
+
+  module _ (short : length s ≤ 4096) {end : ℕ} (w : Ends s 0 end) where
+    pub no-user : none ≡ numberOf (take end s) → RequestIs s (request s) r
+    unfolding request
+    no-user n = malformed-is s (request s) r e (rw (le-leb (length s) 4096 short, first-word s w, ← n))
+
+    pub no-verb : {user : ℕ} → some user ≡ numberOf (take end s) → word (drop end s) ≡ none → RequestIs s (request s) r
+    unfolding request
+    no-verb u n = malformed-is s (request s) r e (rw (le-leb (length s) 4096 short, first-word s w, ← u, n))
+
+pub whole : (s : List ℕ) → length s ≤ 4096 → {end : ℕ} → Ends s 0 end → {user : ℕ} → some user ≡ numberOf (take end s)
+    → {p : Part} → WordAt s end p → {t : Task} → TaskIs s (commandOf (textOf s p) (drop (p .to) s)) t → RequestIs s (request s) (record { user = user; task = t })
+unfolding request
+whole s short w u p t =
+    record {
+      meaning = rw (le-leb (length s) 4096 short, first-word s w, ← u, p .word-is, ← t .meaning);
+      parts = t .parts;
+    }
+
+-- ---- verbs
+
+module _ (s : List ℕ) (v : Part) where
+  abbrev said : List ℕ
+  said = textOf s v
+
+  abbrev rest : List ℕ
+  rest = drop (v .to) s
+
+  module _ {t : Task} where
+    pub verb-pin : true ≡ same said (bytes "pin") → TaskIs s (pinOf rest) t → TaskIs s (queryOf said rest) t
+    unfolding queryOf
+    verb-pin a x = rw (← a) x
+
+    pub verb-search : false ≡ same said (bytes "pin") → true ≡ same said (bytes "search") → TaskIs s (searchOf rest) t
+        → TaskIs s (queryOf said rest) t
+    unfolding queryOf
+    verb-search a b x = rw (← a, ← b) x
+
+    pub verb-fold : false ≡ same said (bytes "pin") → false ≡ same said (bytes "search") → true ≡ same said (bytes "fold")
+        → TaskIs s (foldOf rest) t → TaskIs s (queryOf said rest) t
+    unfolding queryOf
+    verb-fold a b d x = rw (← a, ← b, ← d) x
+
+    pub verb-write : false ≡ same said (bytes "pin") → false ≡ same said (bytes "search") → false ≡ same said (bytes "fold")
+        → true ≡ same said (bytes "write") → TaskIs s (writeOf rest) t → TaskIs s (queryOf said rest) t
+    unfolding queryOf
+    verb-write a b d f x = rw (← a, ← b, ← d, ← f) x
+
+    pub verb-load : true ≡ same said (bytes "load") → TaskIs s (loadOf rest) t → TaskIs s (commandOf said rest) t
+    unfolding commandOf
+    verb-load a x = rw (← a) x
+
+    module _ (a : false ≡ same said (bytes "load")) where
+      pub verb-preview : true ≡ same said (bytes "preview") → TaskIs s (previewOf rest) t → TaskIs s (commandOf said rest) t
+      unfolding commandOf
+      verb-preview b x = rw (← a, ← b) x
+
+      module _ (b : false ≡ same said (bytes "preview")) where
+        pub verb-join : true ≡ same said (bytes "join") → TaskIs s (joinOf rest) t → TaskIs s (commandOf said rest) t
+        unfolding commandOf
+        verb-join d x = rw (← a, ← b, ← d) x
+
+        pub verb-witness : false ≡ same said (bytes "join") → TaskIs s (witnessOf said rest) t → TaskIs s (commandOf said rest) t
+        unfolding commandOf
+        verb-witness d x = rw (← a, ← b, ← d) x
+
+    pub verb-replay : true ≡ same said (bytes "replay") → TaskIs s (viewOf Replay rest) t → TaskIs s (witnessOf said rest) t
+    unfolding witnessOf
+    verb-replay a x = rw (← a) x
+
+    module _ (a : false ≡ same said (bytes "replay")) where
+      pub verb-widen : true ≡ same said (bytes "widen") → TaskIs s (viewOf Widen rest) t → TaskIs s (witnessOf said rest) t
+      unfolding witnessOf
+      verb-widen b x = rw (← a, ← b) x
+
+      module _ (b : false ≡ same said (bytes "widen")) where
+        pub verb-waveform : true ≡ same said (bytes "waveform") → TaskIs s (waveformOf rest) t → TaskIs s (witnessOf said rest) t
+        unfolding witnessOf
+        verb-waveform d x = rw (← a, ← b, ← d) x
+
+        pub verb-query : false ≡ same said (bytes "waveform") → TaskIs s (queryOf said rest) t → TaskIs s (witnessOf said rest) t
+        unfolding witnessOf
+        verb-query d x = rw (← a, ← b, ← d) x
+
+  pub verb-none : false ≡ same said (bytes "pin") → false ≡ same said (bytes "search") → false ≡ same said (bytes "fold")
+      → false ≡ same said (bytes "write") → TaskIs s (queryOf said rest) Malformed
+  unfolding queryOf
+  verb-none a b d f = rw (← a, ← b, ← d, ← f) (record { meaning = refl; parts = tt })

@@ -1,0 +1,65 @@
+-- `panel_lines::read_search` meets its contract. Assumes nothing.
+use Rattle.panel_lines.proofs.Commands.{search-none, search-half, search-all}
+use borrow.Author.Needs.{needs}
+use Rattle.panel_lines.proofs.read_search.Statement.{statement}
+use Rattle.panel_lines.proofs.read_search.Tie as tie
+
+number-after-requires : tie.Need-number-after-requires
+number-after-requires c κs = search needs
+
+enum-known-b : tie.Need-enum-known-b
+enum-known-b c = search needs
+
+enum-told : tie.Need-enum-told
+enum-told c = search needs
+
+returns : tie.Need-returns
+returns c =
+    let at-number-after = c .before .before in
+    let start = at-number-after .before .before in
+    search-none (start .args .line .now) (start .args .at) (rw (c .enum-told .given .1) at (at-number-after .number-after .ensures))
+
+two-numbers-requires : tie.Need-two-numbers-requires
+two-numbers-requires c κs =
+    let at-b = c .before in
+    let at-number-after = at-b .before .before in
+    (rw (at-b .b .given .1) at (at-number-after .number-after .ensures)) .within
+
+enum-known-k : tie.Need-enum-known-k
+enum-known-k c = search needs
+
+enum-told-2 : tie.Need-enum-told-2
+enum-told-2 c = search needs
+
+returns-2 : tie.Need-returns-2
+returns-2 c =
+    let at-two-numbers = c .before .before in
+    let at-b = at-two-numbers .before .before in
+    let at-number-after = at-b .before .before in
+    let start = at-number-after .before .before in
+    search-half (start .args .line .now) (start .args .at) (rw (at-b .b .given .1) at (at-number-after .number-after .ensures))
+    (rw (c .enum-told2 .given .1) at (at-two-numbers .two-numbers .ensures))
+
+returns-3 : tie.Need-returns-3
+returns-3 c =
+    let at-k = c .before in
+    let at-two-numbers = at-k .before .before in
+    let at-b = at-two-numbers .before .before in
+    let at-number-after = at-b .before .before in
+    let start = at-number-after .before .before in
+    search-all (start .args .line .now) (start .args .at) (rw (at-b .b .given .1) at (at-number-after .number-after .ensures)) _ _
+    (rw (at-k .k .given .1) at (at-two-numbers .two-numbers .ensures))
+
+pub read-search-spec : {M : Type 1} → statement M
+read-search-spec =
+    tie.close
+    (tie.spec
+    number-after-requires
+    enum-known-b
+    enum-told
+    returns
+    two-numbers-requires
+    enum-known-k
+    enum-told-2
+    returns-2
+    returns-3)

@@ -1,0 +1,67 @@
+-- `panel_lines::read_waveform` meets its contract. Assumes nothing.
+use Rattle.panel_lines.proofs.Commands.{waveform-none, waveform-half, waveform-all}
+use borrow.Author.Needs.{needs}
+use Rattle.panel_lines.proofs.read_waveform.Statement.{statement}
+use Rattle.panel_lines.proofs.read_waveform.Tie as tie
+
+word-after-requires : tie.Need-word-after-requires
+word-after-requires c κs = search needs
+
+enum-known-witness : tie.Need-enum-known-witness
+enum-known-witness c = search needs
+
+enum-told : tie.Need-enum-told
+enum-told c = search needs
+
+returns : tie.Need-returns
+returns c =
+    let at-word-after = c .before .before in
+    let start = at-word-after .before .before in
+    waveform-none (start .args .line .now) (start .args .at) (rw (c .enum-told .given .1) at (at-word-after .word-after .ensures))
+
+read-only-requires : tie.Need-read-only-requires
+read-only-requires c κs =
+    let at-witness = c .before in
+    let at-word-after = at-witness .before .before in
+    (rw (at-witness .witness .given .1) at (at-word-after .word-after .ensures)) .inside .within
+
+enum-known-only : tie.Need-enum-known-only
+enum-known-only c = search needs
+
+enum-told-2 : tie.Need-enum-told-2
+enum-told-2 c = search needs
+
+returns-2 : tie.Need-returns-2
+returns-2 c =
+    let at-read-only = c .before .before in
+    let at-witness = at-read-only .before .before in
+    let at-word-after = at-witness .before .before in
+    let start = at-word-after .before .before in
+    waveform-half (start .args .line .now) (start .args .at)
+    (rw (at-witness .witness .given .1) at (at-word-after .word-after .ensures))
+    (rw (c .enum-told2 .given .1) at (at-read-only .read-only .ensures))
+
+returns-3 : tie.Need-returns-3
+returns-3 c =
+    let at-only = c .before in
+    let at-read-only = at-only .before .before in
+    let at-witness = at-read-only .before .before in
+    let at-word-after = at-witness .before .before in
+    let start = at-word-after .before .before in
+    waveform-all (start .args .line .now) (start .args .at)
+    (rw (at-witness .witness .given .1) at (at-word-after .word-after .ensures)) _
+    (rw (at-only .only .given .1) at (at-read-only .read-only .ensures))
+
+pub read-waveform-spec : {M : Type 1} → statement M
+read-waveform-spec =
+    tie.close
+    (tie.spec
+    word-after-requires
+    enum-known-witness
+    enum-told
+    returns
+    read-only-requires
+    enum-known-only
+    enum-told-2
+    returns-2
+    returns-3)

@@ -1,0 +1,23 @@
+-- `panel_lines::word_after` meets its contract. Assumes nothing.
+use native.Mathlib.Omega.{arith}
+use Rattle.panel_lines.proofs.Reading.{no-word, a-word}
+use borrow.Author.Needs.{needs}
+use Rattle.panel_lines.proofs.word_after.Statement.{statement}
+use Rattle.panel_lines.proofs.word_after.Tie as tie
+
+returns : tie.Need-returns
+returns c = let start = c .before .before in no-word (start .args .line .now) (start .args .at) (omega arith)
+
+add-from : tie.Need-add-from
+add-from c = search needs
+
+word-end-requires : tie.Need-word-end-requires
+word-end-requires c κs = search needs
+
+returns-2 : tie.Need-returns-2
+returns-2 c =
+    let start = c .before .before .before in
+    a-word (start .args .line .now) (start .args .at) (c .word-end .result) (omega arith) (c .word-end .ensures)
+
+pub word-after-spec : {M : Type 1} → statement M
+word-after-spec = tie.close (tie.spec returns add-from word-end-requires returns-2)

@@ -1,0 +1,145 @@
+-- Clause 12.7: the commands of the resident program. A command is a line: the user's number, a verb and its arguments, each after one
+-- space. -- Assumes nothing.
+use mathlib.Core.Bool.{Bool, true, false, cond}
+use mathlib.Core.List.{List, [], _∷_}
+use mathlib.Core.Option.{Option, none, some}
+use Prim.Native.Nat.{ℕ}
+use lib.Dec.{eqb, leb}
+use lib.ListN.{length}
+use Rattle.aiger.specs.Lists.{same}
+use Rattle.aiger.specs.Text.{bytes, when, _>>=_, _>>_}
+use Rattle.arguments.specs.Arguments.{numberOf}
+use Rattle.panel_lines.specs.declared.View.{View}
+use Rattle.panel_lines.specs.declared.View.the-variants.{Replay, Widen, Waveform}
+use Rattle.panel_lines.specs.declared.Query.{Query}
+use Rattle.panel_lines.specs.declared.Query.the-variants.{Pin, Search, Fold, Write}
+
+-- a command: a query of the loaded circuit, or one that names files, of which a view is one of a witness
+pub data Command : Type 0 where
+  query : Query → Command
+  load : (file : List ℕ) → Command
+  preview : (file : List ℕ) → Command
+  join : (old new : List ℕ) → Command
+  view : View → (witness : List ℕ) → Command
+
+-- the bytes before the first space, and those from it on
+unfoldable pub split : List ℕ → List ℕ × List ℕ
+split [] = ([], [])
+split (c ∷ s) = cond (eqb c 32) ([], c ∷ s) (c ∷ (split s) .0, (split s) .1)
+
+-- the word after a space, and what follows it
+unfoldable pub word : List ℕ → Option (List ℕ × List ℕ)
+word [] = none
+word (c ∷ s) = some (split s)
+
+-- a word that is a number
+unfoldable pub number : List ℕ → Option (ℕ × List ℕ)
+number s = do
+  w ← word s
+  n ← numberOf (w .0)
+  some (n, w .1)
+
+-- nothing follows
+unfoldable pub ended : List ℕ → Option (Unit {0})
+ended [] = some tt
+ended (c ∷ s) = none
+
+-- ---- the arguments of a verb
+
+-- two numbers
+unfoldable pub twoNumbers : List ℕ → Option (ℕ × ℕ)
+twoNumbers s = do
+  a ← number s
+  b ← number (a .1)
+  ended (b .1)
+  some (a .0, b .0)
+
+-- one name of a file
+unfoldable pub oneName : List ℕ → Option (List ℕ)
+oneName s = do
+  f ← word s
+  ended (f .1)
+  some (f .0)
+
+-- pin INPUT VALUE
+unfoldable pub pinOf : List ℕ → Option Command
+pinOf s = twoNumbers s >>= λ p. some (Command.query (Pin (p .0) (p .1)))
+
+-- search b k D
+unfoldable pub searchOf : List ℕ → Option Command
+searchOf s = do
+  b ← number s
+  p ← twoNumbers (b .1)
+  some (Command.query (Search (b .0) (p .0) (p .1)))
+
+-- fold b t
+unfoldable pub foldOf : List ℕ → Option Command
+foldOf s = twoNumbers s >>= λ p. some (Command.query (Fold (p .0) (p .1)))
+
+-- write
+unfoldable pub writeOf : List ℕ → Option Command
+writeOf s = ended s >> some (Command.query Write)
+
+-- load FILE
+unfoldable pub loadOf : List ℕ → Option Command
+loadOf s = oneName s >>= λ f. some (Command.load f)
+
+-- preview FILE
+unfoldable pub previewOf : List ℕ → Option Command
+previewOf s = oneName s >>= λ f. some (Command.preview f)
+
+-- join OLD NEW
+unfoldable pub joinOf : List ℕ → Option Command
+joinOf s = do
+  old ← word s
+  new ← oneName (old .1)
+  some (Command.join (old .0) new)
+
+-- replay WITNESS and widen WITNESS
+unfoldable pub viewOf : View → List ℕ → Option Command
+viewOf v s = oneName s >>= λ f. some (Command.view v f)
+
+-- nothing, or the word `inputs`
+unfoldable pub onlyOf : List ℕ → Option Bool
+onlyOf [] = some false
+onlyOf (c ∷ s) = oneName (c ∷ s) >>= λ w. when (same w (bytes "inputs")) >> some true
+
+-- waveform WITNESS [inputs]
+unfoldable pub waveformOf : List ℕ → Option Command
+waveformOf s = do
+  f ← word s
+  only ← onlyOf (f .1)
+  some (Command.view (Waveform only) (f .0))
+
+-- ---- a line
+
+-- what follows a verb, by the verb: first those that ask about the loaded circuit
+unfoldable pub queryOf : List ℕ → List ℕ → Option Command
+queryOf verb s =
+    cond (same verb (bytes "pin")) (pinOf s)
+    (cond (same verb (bytes "search")) (searchOf s)
+    (cond (same verb (bytes "fold")) (foldOf s)
+    (cond (same verb (bytes "write")) (writeOf s) none)))
+
+-- then those that name a witness
+unfoldable pub witnessOf : List ℕ → List ℕ → Option Command
+witnessOf verb s =
+    cond (same verb (bytes "replay")) (viewOf Replay s)
+    (cond (same verb (bytes "widen")) (viewOf Widen s)
+    (cond (same verb (bytes "waveform")) (waveformOf s) (queryOf verb s)))
+
+-- and those that name files of circuits
+unfoldable pub commandOf : List ℕ → List ℕ → Option Command
+commandOf verb s =
+    cond (same verb (bytes "load")) (loadOf s)
+    (cond (same verb (bytes "preview")) (previewOf s)
+    (cond (same verb (bytes "join")) (joinOf s) (witnessOf verb s)))
+
+-- a line of at most 4,096 bytes, without the line feed: the user, and the command
+unfoldable pub request : List ℕ → Option (ℕ × Command)
+request line = do
+  when (leb (length line) 4096)
+  user ← numberOf ((split line) .0)
+  verb ← word ((split line) .1)
+  command ← commandOf (verb .0) (verb .1)
+  some (user, command)
