@@ -9,8 +9,8 @@ use lib.ListN.{getD}
 use Rattle.aiger.specs.Text.{_>>=_, _>>_, when}
 use Rattle.aiger.specs.Circuit.{Latch, Gate}
 
--- A number in groups of seven bits, lowest group first: each byte has a group, and 128 more where another group follows. The number at the
--- front, in n groups at most, and the bytes after it
+-- A number to the base 128, its digits from the least on, a byte each, with 128 added where another digit follows. The number at the
+-- front, of n digits at most, and the bytes after it
 unfoldable pub groups : ℕ → List ℕ → Option (ℕ × List ℕ)
 groups zero f = none
 groups (suc n) [] = none

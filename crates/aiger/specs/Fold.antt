@@ -76,9 +76,9 @@ abbrev pub foldRules : Circuit → ℕ → ℕ → Circuit → List Bool
 foldRules c b t d =
     -- inputs, output and gates as above
     shaped (freeBits c t) d
-    -- no gate has a constant operand, equal operands or opposite operands
+    -- the operands of a gate are of two variables, none of them the constant
     ∷ every plain (d .gates)
-    -- no two gates have the same operands
+    -- a pair of operands stands once
     ∷ pairwise (λ g h. not (alike g h)) (d .gates)
     -- no gate has an operand that is repeated one gate down
     ∷ every (λ g. every (λ h. not (repeatedIn g h)) (d .gates)) (d .gates)

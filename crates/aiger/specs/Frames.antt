@@ -54,7 +54,7 @@ state c r (suc t) = map (λ l. value (frame c (state c r t) (getD (r .rows) t []
 unfoldable pub valueAt : Circuit → Run → ℕ → ℕ → Bool
 valueAt c r t l = value (frame c (state c r t) (getD (r .rows) t [])) l
 
--- every constraint is true in frame t
+-- frame t breaks no constraint
 unfoldable pub constrained : Circuit → Run → ℕ → Bool
 constrained c r t = every (valueAt c r t) (c .constraints)
 

@@ -9,12 +9,12 @@ use Rattle.aiger.specs.Bits.{bit}
 unfoldable pub step : ℕ → ℕ
 step s = (s * 6364136223846793005 + 1442695040888963407) % 2 ^ 64
 
--- Clause 5.7: a draw is the state after its step, from state 1: draw i is the state after i steps, so that the first draw is draw 1
+-- Clause 5.7: draws are counted from 1 and start from state 1: draw i is the state that i steps lead to
 unfoldable pub draw : ℕ → ℕ
 draw zero = 1
 draw (suc i) = step (draw i)
 
--- Clause 5.7: in pattern p free bit j below 6 takes bit j of p, and from 6 on bit p of draw j - 5
+-- Clause 5.7: the value of free bit j in pattern p: a binary digit of p for the first six, after these a bit of a draw
 unfoldable pub patternBit : ℕ → ℕ → Bool
 patternBit j p = cond (ltb j 6) (bit p j) (bit (draw (j - 5)) p)
 

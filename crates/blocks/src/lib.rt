@@ -1,4 +1,5 @@
-// Blocks of 64 completions of a witness: which of them start as the resets say and hit in their last frame.
+// Blocks of 64 completions of a witness: their start values and rows as words, and which of them start as the resets say and hit in their
+// last frame.
 use layout::Layout;
 use literals::Lit;
 ghost use mathlib.Core.Path.{_≡_};

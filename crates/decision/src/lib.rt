@@ -1,5 +1,5 @@
 // What a frame has: the first sequences are tried on the circuit. Then the graph of the hit is searched: over its support alone where that is
-// small, else by conflicts, and over its support again where those took all their effort.
+// small, else by conflicts, and over its support from the floor on where those decide nothing.
 use conflicts::Verdict;
 use enumeration::Frame;
 use graph::Made;
@@ -24,7 +24,7 @@ ghost use Rattle.solver.specs.Solved.{FloorLeft};
 ghost use Rattle.decision.specs.Reach as R;
 ghost use Rattle.decision.specs.Decided.{FrameFits, Floored, FrameDecided, Prepared, Scannable, Scanned, Resumable, Resumed};
 
-// So many places of the support are tried in any case: 2 to the power 14.
+// Places of the support are tried up to this one, whatever the budget: 2 to the power 14.
 const LEAST: u64 = 16384;
 
 // Up to so many sequences are all tried on the circuit: 2 to the power 12. Up to 12 free bits a graph is made with merges by function, which cost

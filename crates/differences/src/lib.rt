@@ -1,4 +1,4 @@
-// The differences of binary AIGER: numbers in groups of seven bits, lowest group first, read from a text and written to one.
+// The differences of binary AIGER: numbers to the base 128, least digit first, read from a text and written to one.
 ghost use mathlib.Core.Path.{_≡_};
 ghost use Prim.Native.Nat.{_+_, _≤_};
 ghost use lib.ListN.{length};

@@ -1,4 +1,4 @@
--- Clause 12.1: the order in which the second writer numbers gates: each time the earliest listed gate whose operands have numbers. A table
+-- Clause 12.1: the order in which the second writer numbers gates: the next is the first in the list that waits for no operand. A table
 -- has the number of each variable, 0 where it has none; the constant, variable 0, has number 0 and counts as numbered. Gates are given by
 -- their variables, and by the variables of their operands, two for each gate. Assumes nothing.
 use mathlib.Core.Bool.{Bool, cond, _&&_, _||_}

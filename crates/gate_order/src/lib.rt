@@ -1,4 +1,4 @@
-// The order in which the gates of a circuit get numbers: each time the earliest listed gate whose operands have numbers. Each gate counts
+// The order in which the gates of a circuit get numbers: the next is the first in the list that waits for no operand. Each gate counts
 // the operands that it waits for; a number for a variable releases the slots that use it; and of the gates that wait for nothing the
 // earliest is found by blocks of 64.
 ghost use mathlib.Core.Path.{_≡_};
@@ -208,7 +208,7 @@ fn take_gates(
 }
 
 // Gives the gates of a circuit their numbers from k on: vars has their variables, ops those of their operands, and table the numbers that
-// variables have, 0 for none. Lists the gates in order, and answers how many there are. Working words are lent: links, which are 0, and
+// variables have, 0 for none. Lists those that get a number in order, and answers how many they are. Working words are lent: links, which are 0, and
 // waiting and marks, whatever they hold.
 pub fn number_gates(
     vars: &[u32],

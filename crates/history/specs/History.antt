@@ -22,7 +22,7 @@ use Rattle.load.specs.declared.Judgement.{Judgement}
 use Rattle.search.specs.Chosen as Search
 use Rattle.fold.specs.Chosen as Fold
 
--- what the users share: circuit memory and working memory, and the pins of both
+-- what stays from call to call: the circuit memory and the working memory of both users, and the pins of each
 pub record State : Type 0 where
   pub memory : List ℕ
   pub work : List ℕ

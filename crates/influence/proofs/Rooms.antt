@@ -87,11 +87,11 @@ module _ {m : List ℕ} {layout : Layout} {order : List ℕ} {count : ℕ} (r : 
 
     -- the marks at the end
     pub marks-are : (one two three : List ℕ) → one ≡ markBelow (λ i. word m (layout .bads + b + i)) 1 (replicate 4097 0)
-        → two ≡ markBelow (λ i. word m (layout .constraints + i)) (layout .c) one → three ≡ settle 33 (circuitIn m) b two → three ≡ marks (circuitIn m) b
+        → two ≡ markBelow (λ i. word m (layout .constraints + i)) (layout .c) one → three ≡ settle 129 (circuitIn m) b two → three ≡ marks (circuitIn m) b
     unfolding marks
     marks-are one two three e f g =
         g
-        ∙ ap (settle 33 c b)
+        ∙ ap (settle 129 c b)
         (f
         ∙ mark-same (λ i. word m (layout .constraints + i)) (λ i. getD (c .constraints) i 0) (layout .c) one (constraint-is)
         ∙ ap₂ (λ (n : ℕ) (ms : List ℕ). markBelow (λ i. getD (c .constraints) i 0) n ms) (constraints-are r)

@@ -56,10 +56,11 @@ unfoldable pub settle : ℕ → Circuit → ℕ → List ℕ → List ℕ
 settle zero c b ms = ms
 settle (suc n) c b ms = cond (closed c b ms) ms (settle n c b (spread c ms))
 
--- 33 rounds at most: each but the last marks a latch, and with more than 32 there is no search by states
+-- 129 rounds at most. Where gates stand after their operands a round goes through a whole frame, so that each round but the last marks a
+-- latch, of which a search by states has 32 at most; in another order a round may reach only some of the gates
 unfoldable pub marks : Circuit → ℕ → List ℕ
 marks c b =
-    settle 33 c b (markBelow (λ i. getD (c .constraints) i 0) (length (c .constraints)) (mark (getD (c .bads) b 0) (replicate 4097 0)))
+    settle 129 c b (markBelow (λ i. getD (c .constraints) i 0) (length (c .constraints)) (mark (getD (c .bads) b 0) (replicate 4097 0)))
 
 -- whether the marks are the cone; else all latches are kept
 unfoldable pub settled : Circuit → ℕ → Bool
@@ -70,7 +71,7 @@ unfoldable pub keptBelow : (ℕ → Bool) → ℕ → List ℕ
 keptBelow p zero = []
 keptBelow p (suc n) = cond (p n) (keptBelow p n ++ (n ∷ [])) (keptBelow p n)
 
--- the latches in the cone of influence of bad line b
+-- the latches in the cone of influence of bad line b; all latches where the marks are not closed
 unfoldable pub keptLatches : Circuit → ℕ → List ℕ
 keptLatches c b = keptBelow (λ j. not (settled c b) || marked (marks c b) (latchAt c j .lit)) (length (c .latches))
 

@@ -124,13 +124,13 @@ fn is_settled(m: &[u32], layout: Layout, order: &[u32], b: usize, marks: &[u32])
     gates & (latches & (bad & constraints))
 }
 
-// Rounds until the marks are closed, 33 at most.
+// Rounds until the marks are closed, 129 at most.
 fn settle(m: &[u32], layout: Layout, order: &[u32], b: usize, marks: &mut [u32])
     requires { ⌜ Ready (now m) layout (now order) (length (now marks)) ⌝ }
     requires { ⌜ b < word (now m) 5 ⌝ }
-    ensures { λ _. ⌜ now (marks .exit) ≡ settle 33 (circuitIn (now (m .entry))) b (now (marks .entry)) ⌝ }
+    ensures { λ _. ⌜ now (marks .exit) ≡ settle 129 (circuitIn (now (m .entry))) b (now (marks .entry)) ⌝ }
 {
-    let mut left: usize = 33;
+    let mut left: usize = 129;
     while 0 < left {
         if is_settled(m, layout, order, b, marks) {
             return;
@@ -181,7 +181,8 @@ fn keep(
     n
 }
 
-// Lists the latches in the cone of influence of bad line b, by their places in the file; answers how many there are.
+// Lists the latches in the cone of influence of bad line b, or all latches where the marks do not settle, by their places in the file;
+// answers how many there are.
 pub fn kept_latches(m: &[u32], layout: Layout, order: &[u32], b: usize, kept: &mut [u32]) -> usize
     requires { ⌜ Ready (now m) layout (now order) 4097 ⌝ }
     requires { ⌜ (b < word (now m) 5) × (1024 ≤ length (now kept)) ⌝ }

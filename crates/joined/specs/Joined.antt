@@ -64,8 +64,8 @@ secondNumber c d =
 abbrev pub pairsFrom : Circuit → Circuit → ℕ
 pairsFrom c d = length (c .inputs) + length (c .latches) + length (d .latches) + length (c .gates) + length (d .gates) + 1
 
--- inputs are shared in order; latches, gates and constraints of both, the first circuit's before the second's; the gates of the pairs
--- last; bad line j is the complement of the third gate of pair j; outputs and bad lines of the two are dropped
+-- the inputs of both are one list; the other lists are those of the first circuit and then those of the second, with the gates of the pairs
+-- at the end; bad line j is the complement of the third gate of pair j; neither outputs nor bad lines of the two are kept
 unfoldable pub joined : Circuit → Circuit → Circuit
 joined c d =
     let σ = firstNumber c d in

@@ -37,7 +37,7 @@ pub enum LoadAnswer {
     Refused(u32),
 }
 
-// A judgement of a file: what load answers, and the words that its circuit needs, 0 where its header does not tell.
+// A judgement of a file: what load answers, and the words that its circuit needs, 0 where its header gives no counts within the limits.
 pub struct Judgement {
     pub answer: LoadAnswer,
     pub needed: usize,
@@ -147,7 +147,7 @@ fn judge_sections(
     }
 }
 
-// A refusal before the words needed are known.
+// A refusal of a file without counts within the limits.
 fn refused(n: u32) -> Judgement
     ensures { λ r. ⌜ r ≡ record { answer = Refused n; needed = 0 } ⌝ }
 {

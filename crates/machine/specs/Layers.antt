@@ -64,8 +64,8 @@ unfoldable pub firstBelow : ℕ → (ℕ → Bool) → Option ℕ
 firstBelow zero p = none
 firstBelow (suc n) p = elim (firstBelow n p) [ some x ↦ some x | none ↦ cond (p n) (some n) none ]
 
--- what the layers say: frame t is the first with a hit, and its first one is x; no frame has a hit; or the search was given up, where
--- no frame before t has a hit
+-- what the layers say: frame t is the first with a hit, and its first one is x; no frame that was asked has a hit; or the search was given
+-- up, where no frame before t has a hit
 pub data Layered : Type 0 where
   hit : ℕ → ℕ → Layered
   clear : Layered

@@ -1,5 +1,5 @@
--- Clause 12.7: the commands of the resident program. A command is a line: the user's number, a verb and its arguments, each after one
--- space. -- Assumes nothing.
+-- Clause 12.7: the commands of the resident program. A command is a line: the user's number, a verb and its arguments, with one space
+-- between two of them. Assumes nothing.
 use mathlib.Core.Bool.{Bool, true, false, cond}
 use mathlib.Core.List.{List, [], _∷_}
 use mathlib.Core.Option.{Option, none, some}

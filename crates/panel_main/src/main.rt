@@ -261,7 +261,7 @@ fn session_with(work: &mut [u32], out: &mut [u8])
     session(&mut m, work, &mut pins, out);
 }
 
-// Lends the working memory and the output of the greatest size, 65,536. No text is longer than this output.
+// Lends the working memory and the output of the greatest size, 65,536. No text is longer than this output: 1,572,928 bytes for a fold, 1,456,223 for a waveform.
 fn session_of_both() {
     let mut work = [0u32; 1048576];
     let mut out = [0u8; 1572928];

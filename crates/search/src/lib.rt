@@ -1,4 +1,5 @@
-// The search: frame after frame from 0 up, until one has a hit, one is spent, or the bound is passed.
+// The search: by layers of states, and from where these are given up frame after frame, until one has a hit, one is spent, or the bound is
+// passed.
 use circuit::Held;
 use enumeration::Frame;
 use layout::Layout;
@@ -45,7 +46,7 @@ pub fn refusal(layout: Layout, b: u64, k: u64, d: u64, room: usize, len: usize) 
     0
 }
 
-// The search of frames t to k of a circuit that is ready, frame after frame.
+// The search of frames `start` to k of a circuit that is ready, frame after frame.
 fn search_from(
     m: &[u32],
     layout: Layout,

@@ -1,4 +1,4 @@
-// Calls of two users that change what they share: a load, and the setting of a pin.
+// A load into the circuit memory that two users share, and the setting of a pin of one of them.
 use circuit::Held;
 use load::LoadAnswer;
 ghost use mathlib.Core.Path.{_≡_};

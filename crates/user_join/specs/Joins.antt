@@ -1,4 +1,4 @@
--- Clause 12.7: a join into the shared circuit memory is a load. Assumes nothing.
+-- Clause 12.7: what a join of the users' circuit memory answers and leaves: it replaces the circuit as a load does. Assumes nothing.
 use mathlib.Core.List.{List}
 use Prim.Native.Nat.{ℕ}
 use Rattle.aiger.specs.Load.{Answer}

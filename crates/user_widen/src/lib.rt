@@ -1,4 +1,4 @@
-// Widening for a user: `x` never stands at an input that the user holds, and a witness that is not answered all under the user's pins stays.
+// Widening for a user: `x` is put at no input that the user holds, and a witness that is not answered all under the user's pins stays.
 use widen::WidenAnswer;
 ghost use Rattle.widen.specs.Answer.{answered};
 ghost use Rattle.user_widen.specs.Widens.{UserWidened};

@@ -1,4 +1,4 @@
-// The run of a witness as a value change dump (VCD): the operation waveform.
+// The operation waveform: what the wires of a circuit are in each frame of a witness, as a value change dump (VCD).
 use blocks::Question;
 use circuit::Held;
 use layout::Layout;

@@ -1,4 +1,4 @@
--- `influence::settle` meets its contract. The loop's invariant: `left` rounds from these marks on give what 33 give from the first ones. Assumes nothing.
+-- `influence::settle` meets its contract. The loop's invariant: `left` rounds from these marks on give what 129 give from the first ones. Assumes nothing.
 use mathlib.Core.Path.{_≡_, refl, sym, ap, ap₂, _∙_, subst}
 use Prim.Native.Nat.{ℕ, _+_, _-_, _*_, _≤_, _<_}
 use native.Mathlib.Omega.{arith}
@@ -13,7 +13,7 @@ use Rattle.influence.proofs.settle.Statement.{statement}
 use Rattle.influence.proofs.settle.Tie as tie
 
 abbrev Inv-loop : tie.InvT-loop
-Inv-loop m layout order b marks₀ left₀ marks left = (left ≤ 33) × (length marks ≡ length marks₀) × (settle left (circuitIn m) b marks ≡ settle 33 (circuitIn m) b marks₀)
+Inv-loop m layout order b marks₀ left₀ marks left = (left ≤ 129) × (length marks ≡ length marks₀) × (settle left (circuitIn m) b marks ≡ settle 129 (circuitIn m) b marks₀)
 
 abbrev μ-loop : tie.MeasureT-loop
 μ-loop m layout order b marks₀ left₀ marks left = left
