@@ -13,7 +13,7 @@ use lib.Dec.{T, leb}
 use lib.ListN.{length, getD, length-append, length-map, List·getD-append}
 use lib.Seq.{getD-append-add}
 use Rattle.aiger.specs.Circuit.{Circuit, Latch}
-use Rattle.aiger.specs.Load.{Answer, refused, gives}
+use Rattle.aiger.specs.Load.{Answer, refused, gives, load}
 use Rattle.aiger.specs.Memory.{Holds}
 use Rattle.aiger.specs.Frames.{Run, valueAt, allowed, hits}
 use Rattle.aiger.specs.Operations.{Test, need, isSome, judge}
@@ -25,6 +25,7 @@ use Rattle.completions.specs.Operations.{fewEithers, EitherReplayed}
 use Rattle.completions.proofs.Completions.{completes, all-at}
 use Rattle.roundtrip.proofs.Determined.{operated-same, alike-self, acted, refused-as}
 use Rattle.roundtrip.proofs.Holding.{held-valid}
+use Rattle.roundtrip.proofs.LoadValid.{load-valid}
 use Rattle.roundtrip.proofs.LoadWrite.{Counts, counts-fit}
 use Rattle.limits.proofs.Refusals.{judge-past}
 use Rattle.replay.proofs.Answers.{bad-none, was-read}
@@ -37,7 +38,7 @@ use Rattle.vcd.proofs.Parts.{dump-length, declarations-most, samples-most}
 use Rattle.levels.specs.Levels.{levelOver}
 use Rattle.levels.proofs.Levels.{over-high}
 use Rattle.samples.proofs.Samples.{samples-same}
-use Rattle.waveform.specs.Waveform.{isHigh, levelAt, frameCount, wireCount, waveform, waveformOf, Waveformed}
+use Rattle.waveform.specs.Waveform.{isHigh, levelAt, frameCount, wireCount, waveform, waveformOf, waveformTests, Waveformed}
 use Rattle.waveform_laws.proofs.Twins.{completions-twins, runs-twins}
 
 -- ---- Clause 13.6: one answer
@@ -79,27 +80,38 @@ wires-few c true n = omega (arith, n .inputs)
 wires-few c false n =
     simp (length-append, length-map) (omega (arith, n .inputs, n .latches, n .outputs, n .bads, n .constraints))
 
-text-short : {m : List ℕ} (c : Circuit) (only : Bool) (o : Option (ℕ × List ℕ)) → Holds m c → length (waveformOf c only o) ≤ 1456223
+text-short : (c : Circuit) (only : Bool) (o : Option (ℕ × List ℕ)) → Counts c → length (waveformOf c only o) ≤ 1456223
 unfolding waveformOf
-text-short c only none k = omega arith
-text-short c only (some h) k = waveform-short c only h (wires-few c only (counts-fit c (held-valid k .fit)))
+text-short c only none n = omega arith
+text-short c only (some h) n = waveform-short c only h (wires-few c only n)
 
--- 13 is never given where 1,456,223 bytes are lent
-pub never-short : {m text out out′ : List ℕ} {only : Bool} {a : Answer ℕ} (c : Circuit) → Holds m c → 1456223 ≤ length out
-    → Waveformed m only text out a out′ → a ≡ refused 13 → ⊥
+-- the tests never give 13 where the output has 1,456,223 bytes
+tests-suffice : (c : Circuit) (only : Bool) (text : List ℕ) (len : ℕ) → Counts c → 1456223 ≤ len → judge
+    (waveformTests c only text len) ≡ refused 13 → ⊥
 unfolding judge
-never-short {m} {text} {out} {out′} {only} {a} c k h w e =
+tests-suffice c only text len n h e =
     let o = readEither c text in
-    let p = le-leb (length (waveformOf c only o)) (length out) (omega (arith, text-short c only o k)) in
-    let room : Test = need 13 (leb (length (waveformOf c only o)) (length out)) in
+    let p = le-leb (length (waveformOf c only o)) len (omega (arith, text-short c only o n)) in
+    let room : Test = need 13 (leb (length (waveformOf c only o)) len) in
     let few : Test = need 16 (fewEithers o) in
-    let x = judge-past (need 14 (isSome o)) (few ∷ room ∷ []) 13 (λ z. omega (arith, z)) (refused-as k w e .0) in
+    let x = judge-past (need 14 (isSome o)) (few ∷ room ∷ []) 13 (λ z. omega (arith, z)) e in
     let y = judge-past few (room ∷ []) 13 (λ z. omega (arith, z)) (x .1) in
-    last (leb (length (waveformOf c only o)) (length out)) p (y .1)
+    last (leb (length (waveformOf c only o)) len) p (y .1)
   where
     last : (q : Bool) → q ≡ true → judge (need 13 q ∷ []) ≡ refused 13 → ⊥
     last true f z = let b : _≡_ {A = ℕ} 0 1 = cc in absurd (omega arith)
     last false f z = let b : _≡_ {A = ℕ} 0 1 = cc in absurd (omega arith)
+
+-- so 13 is never given where so many bytes are lent
+pub never-short : {m text out out′ : List ℕ} {only : Bool} {a : Answer ℕ} (c : Circuit) → Holds m c → 1456223 ≤ length out
+    → Waveformed m only text out a out′ → a ≡ refused 13 → ⊥
+never-short {m} {text} {out} {out′} {only} c k h w e =
+    tests-suffice c only text (length out) (counts-fit c (held-valid k .fit)) h (refused-as k w e .0)
+
+-- nor by the program waveform, which lends 1,572,928 bytes, on any file that it loads into its 33,032 words
+pub program-suffices : (f : List ℕ) {c : Circuit} (only : Bool) (text : List ℕ) → load 33032 f ≡ gives c
+    → judge (waveformTests c only text 1572928) ≡ refused 13 → ⊥
+program-suffices f {c} only text e = tests-suffice c only text 1572928 (counts-fit c (load-valid f e .fit)) (omega arith)
 
 -- ---- Clause 13.3: a witness without `x`
 
