@@ -7,8 +7,8 @@ use native.Mathlib.Omega.{arith}
 use lib.Dec.{leb}
 use lib.ListN.{length, drop, length-append}
 use Rattle.aiger.specs.Load.{refused, gives}
-use Rattle.aiger.specs.Witness.{readWitness}
 use Rattle.aiger.specs.Operations.{Operated, judge, need}
+use Rattle.completions.specs.Either.{readEither}
 use Rattle.completions.specs.Operations.{eitherTests}
 use Rattle.limits.proofs.Refusals.{judge-first, length-enough}
 use Rattle.replies.specs.Refusal.{refusalText}
@@ -33,7 +33,7 @@ widen-inside m pins user text out l (ForUser.known k (Operated.acts c h j e)) =
 pub waveform-inside : (m : List ℕ) (user : ℕ) (only : Bool) (text out : List ℕ) {out′ : List ℕ} {n : ℕ} → UserWaveformed m user only text out (gives n) out′
     → n ≤ length out′
 waveform-inside m user only text out (ForUser.known k (Operated.acts c h j e)) =
-    let w = waveformOf c only (readWitness c text) in
+    let w = waveformOf c only (readEither c text) in
     omega (arith, e .count, ap length (e .shows), length-append w (drop (length w) out))
 
 -- a user who is not known

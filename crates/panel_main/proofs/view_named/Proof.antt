@@ -40,7 +40,7 @@ view-requires c κs = search needs
 array-share-prefix-line : tie.Need-array-share-prefix-line
 array-share-prefix-line c =
     let at-view = c .before .before .before in
-    let start = at-view .before .before .before .before .before .before .before .before .before .before .before .before in
+    let start = at-view .before .before .before .before .before .before .before .before .before .before .before .before .before in
     omega (
       arith,
       (view-inside (start .args .v) (start .args .user) _ (start .args .m .now) (start .args .pins .now)
@@ -51,7 +51,7 @@ array-share-prefix-line c =
 slice-aggregate-answer-3 : tie.Need-slice-aggregate-answer-3
 slice-aggregate-answer-3 c =
     let at-view = c .before .before .before .before in
-    let start = at-view .before .before .before .before .before .before .before .before .before .before .before .before in
+    let start = at-view .before .before .before .before .before .before .before .before .before .before .before .before .before in
     sym (length-take-le (at-view .view .result .line) (at-view .view .last .1 .1 .1 .1 .1 .1 .0)
     ((view-inside (start .args .v) (start .args .user) _ (start .args .m .now) (start .args .pins .now) (start .args .out .now) _
     (at-view .view .result) (at-view .view .last .1 .1 .1 .1 .1 .0) (at-view .view .last .1 .1 .1 .1 .1 .1 .0)
@@ -60,7 +60,7 @@ slice-aggregate-answer-3 c =
 slice-reshare-prefix-answer : tie.Need-slice-reshare-prefix-answer
 slice-reshare-prefix-answer c =
     let at-view = c .before .before .before .before in
-    let start = at-view .before .before .before .before .before .before .before .before .before .before .before .before in
+    let start = at-view .before .before .before .before .before .before .before .before .before .before .before .before .before in
     omega (
       arith,
       (view-inside (start .args .v) (start .args .user) _ (start .args .m .now) (start .args .pins .now)
@@ -71,7 +71,7 @@ slice-reshare-prefix-answer c =
 slice-aggregate-answer-4 : tie.Need-slice-aggregate-answer-4
 slice-aggregate-answer-4 c =
     let at-view = c .before .before .before .before .before in
-    let start = at-view .before .before .before .before .before .before .before .before .before .before .before .before in
+    let start = at-view .before .before .before .before .before .before .before .before .before .before .before .before .before in
     sym (length-take-le (at-view .view .result .out) (at-view .view .last .1 .1 .1 .1 .1 .0)
     ((view-inside (start .args .v) (start .args .user) _ (start .args .m .now) (start .args .pins .now) (start .args .out .now) _
     (at-view .view .result) (at-view .view .last .1 .1 .1 .1 .1 .0) (at-view .view .last .1 .1 .1 .1 .1 .1 .0)
