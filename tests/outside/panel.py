@@ -143,7 +143,7 @@ def join(c, d):
 
 
 def dump_agrees(c, shown, only, said):
-    """Whether every wire of a value change dump has its value in every frame."""
+    """Whether every wire of a value change dump has its value in every frame: x where completions differ."""
     wires, frame, given = {}, -1, set()
     kinds = [("i", c.inputs)] if only else [("i", c.inputs), ("l", c.latches), ("o", c.outputs), ("b", c.bads), ("c", c.constraints)]
     literals = {f"{k}{n}": line[0] for k, lines in kinds for n, line in enumerate(lines)}
@@ -152,10 +152,11 @@ def dump_agrees(c, shown, only, said):
             wires[line.split()[3]] = line.split()[4]
         elif line.startswith("#"):
             frame += 1
-        elif line[:1] in ("0", "1") and frame >= 0:
+        elif line[:1] in ("0", "1", "x") and frame >= 0:
             l = literals[wires[line[1:]]]
             given.add((frame, wires[line[1:]]))
-            if (shown.frames[frame][l // 2] & 1) ^ (l % 2) != int(line[0]):
+            table = shown.frames[frame][l // 2] ^ (shown.ones if l % 2 else 0)
+            if line[0] != {0: "0", shown.ones: "1"}.get(table, "x"):
                 return False
     return sorted(wires.values()) == sorted(literals) and len(given) >= len(literals) * len(shown.frames)
 
@@ -241,8 +242,6 @@ class Analyser:
 
     def waveform(self, text, only, said):
         wrong, w = self.shown(text)
-        if wrong is None and w.x or wrong == "refused 16":
-            wrong = "refused 14"
         return said.startswith(wrong + ":") if wrong else dump_agrees(self.circuit, w, only, said)
 
     def write(self):
@@ -302,10 +301,10 @@ def agrees(user, words_of, said, users, found, folder):
     sizes = {"load": [1], "preview": [1], "pin": [2], "search": [3], "fold": [2], "write": [0], "replay": [1], "widen": [1], "waveform": [1, 2], "join": [2]}
     if len(args) not in sizes.get(verb, []) or "01" in args:
         return said == "malformed\n"
-    if verb in ("load", "preview", "join") and any(name not in found for name in args):
-        return said == "unreadable\n"
     if user > 1 or (user == 1 and verb in ("load", "join")):
         return said.startswith("refused 18:")
+    if verb in ("load", "preview", "join") and any(name not in found for name in args):
+        return said == "unreadable\n"
     mine = users[user]
     if verb == "join":
         wrong = [n for _, n in (found[name] for name in args) if n]
