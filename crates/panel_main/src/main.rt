@@ -1,9 +1,8 @@
 // The resident program: commands of two users, line by line from standard input, on one circuit memory, working memory and pin memory.
 use files::say;
 use libc::STDIN_FILENO;
-use panel_lines::Query;
-use panel_lines::Task;
-use panel_lines::View;
+use panel_session::Names;
+use panel_session::Said;
 ghost use mathlib.Core.Path.{_≡_};
 ghost use Prim.Native.Nat.{_≤_};
 ghost use lib.ListN.{length};
@@ -113,118 +112,85 @@ fn read_line(buf: &mut [u8]) -> Line
     line_of(n, false, buf)
 }
 
-// Loads the file with a name. A user who may not load is told so, whether there is such a file or not.
-fn load_named(name: &[u8], user: u64, m: &mut [u32], pins: &mut [u8]) {
-    let mut file = [0u8; 65537];
-    let mut line = [0u8; 128];
-    let got = files::read_named(name, &mut file);
-    if got.failed & (user == 0) {
-        answer(b"unreadable\n", b"");
-        return;
-    }
-    let n = got.count;
-    let report = panel::load(user, &file[..n], m, pins, &mut line);
-    let said = report.line;
-    answer(&line[..said], b"");
+// Prints what was said of a line.
+fn tell(said: Said, out: &[u8])
+    requires { ⌜ (said .count ≤ 128) × (said .out ≤ length (now out)) ⌝ }
+{
+    let line = said.line;
+    let count = said.count;
+    let written = said.out;
+    answer(&line[..count], &out[..written]);
 }
 
-// Previews the load of the file with a name.
-fn preview_named(name: &[u8], user: u64, m: &[u32], out: &mut [u8])
+// Answers a line that names one file. A witness has at most 66,825 bytes.
+fn with_one(
+    text: &[u8],
+    name: &[u8],
+    m: &mut [u32],
+    work: &mut [u32],
+    pins: &mut [u8],
+    out: &mut [u8],
+)
     requires { ⌜ (length (now m) ≡ 33032) × (length (now out) ≡ 1572928) ⌝ }
 {
-    let mut file = [0u8; 65537];
-    let mut line = [0u8; 128];
-    let got = files::read_named(name, &mut file);
-    if got.failed & (user <= 1) {
-        answer(b"unreadable\n", b"");
-        return;
-    }
-    let n = got.count;
-    let report = panel::preview(user, &file[..n], m, out, &mut line);
-    let said = report.line;
-    let written = report.out;
-    answer(&line[..said], &out[..written]);
-}
-
-// Does what a query asks.
-fn query(user: u64, q: Query, m: &[u32], work: &mut [u32], pins: &mut [u8], out: &mut [u8]) {
-    let mut line = [0u8; 128];
-    let report = panel::query(user, q, m, work, pins, out, &mut line);
-    let said = report.line;
-    let written = report.out;
-    answer(&line[..said], &out[..written]);
-}
-
-// Does what is asked of the witness in the file with a name. A longer file is no witness.
-fn view_named(name: &[u8], user: u64, v: View, m: &[u32], pins: &[u8], out: &mut [u8]) {
     let mut file = [0u8; 66826];
-    let mut line = [0u8; 128];
     let got = files::read_named(name, &mut file);
-    if got.failed & (user <= 1) {
-        answer(b"unreadable\n", b"");
+    if got.failed {
+        tell(panel_session::unreadable(text), out);
         return;
     }
     let n = got.count;
-    let report = panel_files::view(user, v, &file[..n], m, pins, out, &mut line);
-    let said = report.line;
-    let written = report.out;
-    answer(&line[..said], &out[..written]);
+    let said = panel_session::respond(text, &file[..n], b"", m, work, pins, out);
+    tell(said, out);
 }
 
-// Joins the circuits of the files with two names.
-fn join_named(first: &[u8], second: &[u8], user: u64, m: &mut [u32], pins: &mut [u8]) {
+// Answers a line that names two files.
+fn with_two(
+    text: &[u8],
+    first: &[u8],
+    second: &[u8],
+    m: &mut [u32],
+    work: &mut [u32],
+    pins: &mut [u8],
+    out: &mut [u8],
+)
+    requires { ⌜ (length (now m) ≡ 33032) × (length (now out) ≡ 1572928) ⌝ }
+{
     let mut old = [0u8; 65537];
     let mut new = [0u8; 65537];
-    let mut line = [0u8; 128];
     let from = files::read_named(first, &mut old);
     let to = files::read_named(second, &mut new);
-    if from.failed & (user == 0) {
-        answer(b"unreadable\n", b"");
-        return;
-    }
-    if to.failed & (user == 0) {
-        answer(b"unreadable\n", b"");
+    if from.failed | to.failed {
+        tell(panel_session::unreadable(text), out);
         return;
     }
     let n = from.count;
     let k = to.count;
-    let report = panel_join::join(user, &old[..n], &new[..k], m, pins, &mut line);
-    let said = report.line;
-    answer(&line[..said], b"");
+    let said = panel_session::respond(text, &old[..n], &new[..k], m, work, pins, out);
+    tell(said, out);
 }
 
 // Answers a line.
 fn do_line(text: &[u8], m: &mut [u32], work: &mut [u32], pins: &mut [u8], out: &mut [u8])
     requires { ⌜ (length (now m) ≡ 33032) × (length (now out) ≡ 1572928) ⌝ }
 {
-    let request = panel_lines::read_request(text);
-    let user = request.user;
-    let task = request.task;
-    match task {
-        Task::Ask(q) => query(user, q, m, work, pins, out),
-        Task::Load(file) => {
+    match panel_session::files_of(text) {
+        Names::Zero => {
+            let said = panel_session::respond(text, b"", b"", m, work, pins, out);
+            tell(said, out);
+        }
+        Names::One(file) => {
             let from = file.from;
             let to = file.to;
-            load_named(&text[from..to], user, m, pins);
+            with_one(text, &text[from..to], m, work, pins, out);
         }
-        Task::Preview(file) => {
-            let from = file.from;
-            let to = file.to;
-            preview_named(&text[from..to], user, m, out);
-        }
-        Task::Join(old, new) => {
+        Names::Two(old, new) => {
             let from = old.from;
             let to = old.to;
             let start = new.from;
             let end = new.to;
-            join_named(&text[from..to], &text[start..end], user, m, pins);
+            with_two(text, &text[from..to], &text[start..end], m, work, pins, out);
         }
-        Task::Witness(v, file) => {
-            let from = file.from;
-            let to = file.to;
-            view_named(&text[from..to], user, v, m, pins, out);
-        }
-        Task::Malformed => answer(b"malformed\n", b""),
     }
 }
 

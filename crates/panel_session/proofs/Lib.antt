@@ -1,0 +1,4 @@
+pub mod Outputs
+pub mod Turns
+pub mod Requests
+pub mod Undisturbed

@@ -1,0 +1,228 @@
+-- What the output held before a call does not matter. Assumes nothing.
+use mathlib.Core.Path.{_≡_, refl, sym, ap, _∙_, subst}
+use mathlib.Core.Bool.{Bool, true, false}
+use mathlib.Core.List.{List, [], _∷_, _++_}
+use mathlib.Core.Option.{Option, none, some}
+use Prim.Native.Nat.{ℕ, _+_, _-_, _≤_, _<_}
+use native.Mathlib.Omega.{arith}
+use borrow.Author.Tests.{eq-eqb}
+use lib.Dec.{T, leb}
+use lib.ListN.{length, take, drop, length-append, length-take}
+use Rattle.aiger.specs.Lists.{upto}
+use Rattle.aiger.specs.Text.{_>>=_, _>>_}
+use Rattle.aiger.specs.Circuit.{Circuit}
+use Rattle.aiger.specs.Frames.{runIn}
+use Rattle.aiger.specs.Load.{Answer, refused, gives}
+use Rattle.aiger.specs.Memory.{Holds}
+use Rattle.aiger.specs.Search.{Outcome, firstAt, permittedOf}
+use Rattle.aiger.specs.Witness.{witness, witnessLength, Witness, readRun}
+use Rattle.aiger.specs.Write.{write}
+use Rattle.aiger.specs.Operations.{Operated, Test, need, judge, front, searchTests, foldTests}
+use Rattle.aiger.proofs.Tests.{T-true}
+use Rattle.meaning.proofs.Decisions.{first-from}
+use Rattle.meaning.proofs.Outcomes.{found-out}
+use Rattle.roundtrip.proofs.Holding.{held}
+use Rattle.roundtrip.proofs.Lists.{upto-length, every-made}
+use Rattle.roundtrip.proofs.Witness.{Shaped, wide, witness-length, run-shaped}
+use Rattle.layout.specs.Words.{circuitIn}
+use Rattle.completions.specs.Either.{readEither, heading, completion, widened}
+use Rattle.completions.proofs.Widening.{widened-wider}
+use Rattle.pins.specs.Pins.{pinsOf, pinned, pinnedSpace, pinnedQuestion, pinnedWitness}
+use Rattle.pins.proofs.Inputs.{length-fill}
+use Rattle.pins.proofs.Questions.{run-fills}
+use Rattle.pins.proofs.Valid.{pinned-counts}
+use Rattle.pinned_runs.specs.Obeys.{pinnedShows, pinnedWidenedText}
+use Rattle.users.specs.Users.{ForUser, PinnedSearched, PinnedSearchEffect, PinnedFolded}
+use Rattle.user_write.specs.Written.{UserWritten, UserWrittenBinary}
+use Rattle.user_widen.specs.Widens.{UserWidened}
+use Rattle.user_waveform.specs.Waveforms.{UserWaveformed}
+use Rattle.renumbered.specs.Renumbered.{writeBinary}
+use Rattle.waveform.specs.Waveform.{waveformOf, waveformTests}
+use Rattle.completions.specs.Operations.{widenTests}
+use Rattle.widen.proofs.Headings.{headed}
+use Rattle.search.specs.Chosen as Search
+use Rattle.fold.specs.Chosen as Fold
+use Rattle.job.specs.Replies.{shownLength}
+use Rattle.panel.specs.Answers.{textLength}
+
+-- a text was written at the front of the output, and would be so whatever the output held
+pub record Told (out out₀ out′ : List ℕ) (n : ℕ) (P : List ℕ → Type 0) : Type 0 where
+  pub text : List ℕ
+  pub long : n ≡ length text
+  pub left : out′ ≡ front text out
+  pub again : P (front text out₀)
+
+-- nothing was written
+none-told : {out out₀ : List ℕ} {n : ℕ} {P : List ℕ → Type 0} → n ≡ 0 → P out₀ → Told out out₀ out n P
+none-told e p = record { text = []; long = e; left = refl; again = p }
+
+module _ {A : Type 0} {m out out₀ : List ℕ} {tests tests₀ : Circuit → List Test} (long : Answer A → ℕ) (zero-long : (n : ℕ) → long (refused n) ≡ 0)
+    (same : (c : Circuit) → tests c ≡ tests₀ c) where
+  -- an operation that is lent the output alone
+  pub operated-told : {effect effect₀ : Circuit → A → List ℕ → Type 0}
+      → ((c : Circuit) → Holds m c → judge (tests c) ≡ gives tt → (a : A) (s : List ℕ) → effect c a s → Told out out₀ s (long (gives a)) (effect₀ c a))
+      → {a : Answer A} {s : List ℕ} → Operated m tests out effect a s → Told out out₀ s (long a) (Operated m tests₀ out₀ effect₀ a)
+  operated-told f (Operated.noCircuit h) = none-told (zero-long 9) (Operated.noCircuit h)
+  operated-told f (Operated.refuses c {n = n} h j) = none-told (zero-long n) (Operated.refuses c h (ap judge (sym (same c)) ∙ j))
+  operated-told f (Operated.acts c {a = a} {s = s} h j e) =
+      let t = f c h j a s e in
+      record { text = t .text; long = t .long; left = t .left; again = Operated.acts c h (ap judge (sym (same c)) ∙ j) (t .again) }
+
+  -- one that is lent working memory and the output
+  pub operated-told-beside : {w : List ℕ} {effect effect₀ : Circuit → A → List ℕ × List ℕ → Type 0}
+      → ((c : Circuit) → Holds m c → judge (tests c) ≡ gives tt → (a : A) (w′ s : List ℕ) → effect c a (w′, s)
+      → Told out out₀ s (long (gives a)) (λ (o : List ℕ). effect₀ c a (w′, o)))
+      → {a : Answer A} {w′ s : List ℕ} → Operated m tests (w, out) effect a (w′, s)
+      → Told out out₀ s (long a) (λ (o : List ℕ). Operated m tests₀ (w, out₀) effect₀ a (w′, o))
+  operated-told-beside f (Operated.noCircuit h) = none-told (zero-long 9) (Operated.noCircuit h)
+  operated-told-beside f (Operated.refuses c {n = n} h j) = none-told (zero-long n) (Operated.refuses c h (ap judge (sym (same c)) ∙ j))
+  operated-told-beside f (Operated.acts c {a = a} {s = s} h j e) =
+      let t = f c h j a (s .0) (s .1) e in
+      record { text = t .text; long = t .long; left = t .left; again = Operated.acts c h (ap judge (sym (same c)) ∙ j) (t .again) }
+
+module _ {A : Type 0} {user : ℕ} {out out₀ : List ℕ} (long : Answer A → ℕ) (zero-long : (n : ℕ) → long (refused n) ≡ 0) where
+  pub for-told : {P P₀ : Answer A → List ℕ → Type 0} → ((a : Answer A) (s : List ℕ) → P a s → Told out out₀ s (long a) (P₀ a))
+      → {a : Answer A} {s : List ℕ} → ForUser user out P a s → Told out out₀ s (long a) (ForUser user out₀ P₀ a)
+  for-told f (ForUser.stranger h) = none-told (zero-long 18) (ForUser.stranger h)
+  for-told f (ForUser.known {a = a} {s = s} h p) =
+      let t = f a s p in
+      record { text = t .text; long = t .long; left = t .left; again = ForUser.known h (t .again) }
+
+  pub for-told-beside : {w : List ℕ} {P P₀ : Answer A → List ℕ × List ℕ → Type 0}
+      → ((a : Answer A) (w′ s : List ℕ) → P a (w′, s) → Told out out₀ s (long a) (λ (o : List ℕ). P₀ a (w′, o)))
+      → {a : Answer A} {w′ s : List ℕ} → ForUser user (w, out) P a (w′, s)
+      → Told out out₀ s (long a) (λ (o : List ℕ). ForUser user (w, out₀) P₀ a (w′, o))
+  for-told-beside f (ForUser.stranger h) = none-told (zero-long 18) (ForUser.stranger h)
+  for-told-beside f (ForUser.known {a = a} {s = s} h p) =
+      let t = f a (s .0) (s .1) p in
+      record { text = t .text; long = t .long; left = t .left; again = ForUser.known h (t .again) }
+
+-- ---- operations that write a text and answer its length
+
+pub write-told : {m out out₀ out′ : List ℕ} {user : ℕ} {a : Answer ℕ} → length out ≡ length out₀ → UserWritten m user out a out′
+    → Told out out₀ out′ (textLength a) (UserWritten m user out₀ a)
+write-told {out = out} {out₀ = out₀} e x =
+    for-told textLength (λ n. refl)
+    (λ a s p.
+    operated-told textLength (λ n. refl) (λ c. ap (λ (n : ℕ). need 13 (leb (length (write c)) n) ∷ []) e)
+    (λ c h j n s f. record { text = write c; long = f .count; left = f .shows; again = record { count = f .count; shows = refl } }) p)
+    x
+
+pub binary-told : {m out out₀ out′ : List ℕ} {user : ℕ} {a : Answer ℕ} → length out ≡ length out₀ → UserWrittenBinary m user out a out′
+    → Told out out₀ out′ (textLength a) (UserWrittenBinary m user out₀ a)
+binary-told {out = out} {out₀ = out₀} e x =
+    for-told textLength (λ n. refl)
+    (λ a s p.
+    operated-told textLength (λ n. refl) (λ c. ap (λ (n : ℕ). need 13 (leb (length (writeBinary c)) n) ∷ []) e)
+    (λ c h j n s f. record { text = writeBinary c; long = f .count; left = f .shows; again = record { count = f .count; shows = refl } }) p)
+    x
+
+pub waveform-told : {m text out out₀ out′ : List ℕ} {user : ℕ} {only : Bool} {a : Answer ℕ} → length out ≡ length out₀
+    → UserWaveformed m user only text out a out′ → Told out out₀ out′ (textLength a) (UserWaveformed m user only text out₀ a)
+waveform-told {text = text} {out = out} {out₀ = out₀} {only = only} e x =
+    for-told textLength (λ n. refl)
+    (λ a s p.
+    operated-told textLength (λ n. refl) (λ c. ap (λ (n : ℕ). waveformTests c only text n) e)
+    (λ c h j n s f.
+    record { text = waveformOf c only (readEither c text); long = f .count; left = f .shows; again = record { count = f .count; shows = refl } }) p)
+    x
+
+read-heading : (c : Circuit) (text : List ℕ) (h : ℕ × List ℕ) → readEither c text ≡ some h → heading text ≡ some h
+unfolding readEither
+read-heading c text h e = go (heading text) e
+  where
+    read : (k : ℕ × List ℕ) (o : Option Witness) → (o >> some k) ≡ some h → _≡_ {A = Option (ℕ × List ℕ)} (some k) (some h)
+    read k none q = let z : _≡_ {A = ℕ} 0 1 = cc in absurd (omega arith)
+    read k (some x) q = q
+
+    go : (o : Option (ℕ × List ℕ)) → (o >>= λ k. readRun c (k .0) (completion 0 (k .1)) >> some k) ≡ some h → o ≡ some h
+    go none q = let z : _≡_ {A = ℕ} 0 1 = cc in absurd (omega arith)
+    go (some k) q = read k (readRun c (k .0) (completion 0 (k .1))) q
+
+-- a widened witness is as long as the witness
+widened-long : (c : Circuit) (q : ℕ → ℕ) (text : List ℕ) (b : ℕ) (body : List ℕ) → readEither c text ≡ some (b, body)
+    → length text ≡ length (pinnedWidenedText c q text (b, body))
+unfolding pinnedWidenedText
+widened-long c q text b body r =
+    let H = headed text b body (read-heading c text (b, body) r) in
+    let z : length text ≡ length (H .lines) + length body = ap length (H .text-is) ∙ length-append (H .lines) body in
+    sym (length-append (take (length text - length body) text) (widened (pinnedShows c q b) body)
+    ∙ omega (arith, length-take (length text - length body) text, z, widened-wider (pinnedShows c q b) body .size))
+
+pub widen-told : (pins : List ℕ) {m text out out₀ out′ : List ℕ} {user : ℕ} {a : Answer ℕ} → length out ≡ length out₀
+    → UserWidened m pins user text out a out′ → Told out out₀ out′ (textLength a) (UserWidened m pins user text out₀ a)
+widen-told pins {text = text} {out = out} {out₀ = out₀} {user = user} e x =
+    for-told textLength (λ n. refl)
+    (λ a s p.
+    operated-told textLength (λ n. refl) (λ c. ap (λ (n : ℕ). widenTests c text n) e)
+    (λ c h j n s f.
+    record {
+      text = pinnedWidenedText c (pinsOf pins user) text (f .bad, f .body);
+      long = f .count ∙ widened-long c (pinsOf pins user) text (f .bad) (f .body) (f .reads);
+      left = f .writes;
+      again = record { bad = f .bad; body = f .body; reads = f .reads; count = f .count; writes = refl };
+    }) p)
+    x
+
+pub fold-told : (pins : List ℕ) {m w w′ out out₀ out′ : List ℕ} {user b t : ℕ} {a : Answer ℕ} → length out ≡ length out₀
+    → PinnedFolded Fold.chosen m pins user b t w out a w′ out′
+    → Told out out₀ out′ (textLength a) (λ (o : List ℕ). PinnedFolded Fold.chosen m pins user b t w out₀ a w′ o)
+fold-told pins {w = w} {out = out} {out₀ = out₀} {user = user} {b = b} {t = t} e x =
+    for-told-beside textLength (λ n. refl)
+    (λ a w′ s p.
+    operated-told-beside textLength (λ n. refl) (λ c. ap (λ (n : ℕ). foldTests c b t (length w) n) e)
+    (λ c h j n w′ s f.
+    record {
+      text = write (Fold.chosen (pinned c (pinsOf pins user)) b t);
+      long = f .count;
+      left = f .shows;
+      again = record { permitted = f .permitted; short = f .short; count = f .count; shows = refl };
+    }) p)
+    x
+
+-- ---- search
+
+module _ (c : Circuit) (q : ℕ → ℕ) where
+  shaped : (t x : ℕ) → Shaped c t (runIn (pinnedSpace c q) t x)
+  shaped t x =
+      let n = length (c .inputs) in
+      record {
+        start = ap length (run-fills c q t x .start) ∙ run-shaped (pinned c q) t x .start ∙ pinned-counts c q .latches;
+        frames = upto-length _ (t + 1);
+        inputs = every-made (wide n) _ (λ u. T-true (eq-eqb _ n (length-fill q _ n 0 0))) (upto (t + 1));
+      }
+
+  -- the length of the witness of the first hit
+  witness-long : (b k D t : ℕ) → T (permittedOf (pinnedQuestion c q b) k D (Outcome.found t)) → witnessLength c b t ≡ length (pinnedWitness c q b t)
+  unfolding pinnedWitness
+  witness-long b k D t h =
+      let f = found-out (pinnedQuestion c q b) k D t h in
+      let x = f .place in
+      let some : firstAt (pinnedQuestion c q b) t ≡ Option.some x = first-from (pinnedQuestion c q b .hitting t) (f .first) in
+      sym (witness-length c b t (runIn (pinnedSpace c q) t x) (shaped t x))
+      ∙ sym (ap (λ (o : Option ℕ). length {A = ℕ} (elim o [ Option.some y ↦ witness b (runIn (pinnedSpace c q) t y) | Option.none ↦ [] ])) some)
+
+  -- what an outcome shows, as a text
+  outcome-told : {out out₀ s : List ℕ} (w : List ℕ) (m : List ℕ) (b k D : ℕ) → circuitIn m ≡ c → (o : Outcome) → PinnedSearchEffect Search.chosen q b k D out c o (w, s)
+      → Told out out₀ s (shownLength (circuitIn m) b (gives o)) (λ (z : List ℕ). PinnedSearchEffect Search.chosen q b k D out₀ c o (w, z))
+  outcome-told w m b k D e (Outcome.found t) f =
+      record {
+        text = pinnedWitness c q b t;
+        long = ap (λ (d : Circuit). witnessLength d b t) e ∙ witness-long b k D t (f .allowed);
+        left = f .shows;
+        again = record { chose = f .chose; allowed = f .allowed; shows = refl };
+      }
+  outcome-told w m b k D e (Outcome.none n) f =
+      record { text = []; long = refl; left = f .shows; again = record { chose = f .chose; allowed = f .allowed; shows = refl } }
+  outcome-told w m b k D e (Outcome.spent t) f =
+      record { text = []; long = refl; left = f .shows; again = record { chose = f .chose; allowed = f .allowed; shows = refl } }
+
+pub search-told : (pins : List ℕ) {m w w′ out out₀ out′ : List ℕ} {user b k D : ℕ} {a : Answer Outcome} → length out ≡ length out₀
+    → PinnedSearched Search.chosen m pins user b k D w out a w′ out′
+    → Told out out₀ out′ (shownLength (circuitIn m) b a) (λ (o : List ℕ). PinnedSearched Search.chosen m pins user b k D w out₀ a w′ o)
+search-told pins {m = m} {w = w} {out = out} {out₀ = out₀} {user = user} {b = b} {k = k} {D = D} e x =
+    for-told-beside (shownLength (circuitIn m) b) (λ n. refl)
+    (λ a w′ s p.
+    operated-told-beside (shownLength (circuitIn m) b) (λ n. refl) (λ c. ap (λ (n : ℕ). searchTests c b k D (length w) n) e)
+    (λ c h j o w′ s f. outcome-told c (pinsOf pins user) w′ m b k D (held h) o f) p)
+    x

@@ -1,0 +1,325 @@
+-- From what the commands leave to the turn that a line is. Assumes nothing.
+use mathlib.Core.Path.{_≡_, refl, sym, ap, _∙_, subst}
+use mathlib.Core.Bool.{Bool, true, false, cond}
+use mathlib.Core.List.{List, [], _∷_, _++_}
+use mathlib.Core.Option.{Option, none, some}
+use mathlib.Core.Logic.{⊎-elim}
+use Prim.Native.Nat.{ℕ, _≤_, _<_}
+use native.Mathlib.Omega.{arith}
+use native.Mathlib.Decide.{decLt, decLe}
+use borrow.Author.Tests.{lt-ltb, le-ltb, ne-eqb}
+use lib.Dec.{eqb, ltb}
+use lib.ListN.{length, take, drop, replicate, length-replicate}
+use Rattle.aiger.specs.Circuit.{Circuit}
+use Rattle.aiger.specs.Load.{Answer, refused, gives, load, _>>=_}
+use Rattle.aiger.specs.Memory.{Holds}
+use Rattle.aiger.specs.Search.{Outcome}
+use Rattle.aiger.specs.Operations.{front}
+use lib.Seq.{take-at}
+use Rattle.roundtrip.proofs.Holding.{loaded-holds, one-circuit}
+use Rattle.layout.specs.Words.{circuitIn}
+use Rattle.joined.specs.Joined.{JoinedInto}
+use Rattle.load.specs.Answers.{answered}
+use Rattle.load.specs.Preview.{Previewed, countsOf, wordsNeeded}
+use Rattle.load.specs.declared.Judgement.{Judgement}
+use Rattle.load.specs.declared.LoadAnswer.the-variants.{Loaded, Refused}
+use Rattle.user_preview.specs.Previews.{UserPreviewed}
+use Rattle.user_calls.specs.Calls.{Replaced}
+use Rattle.user_join.specs.Joins.{UserJoined}
+use Rattle.replies.specs.Refusal.{refusalText}
+use Rattle.replies.specs.Reply.{Reply, Fronts, Leaves, refusal}
+use Rattle.replies.specs.declared.Report.{Report}
+use Rattle.replies.proofs.Putting.{fronts-none, fronts-taken, fronts-inside}
+use Rattle.job.specs.Replies.{Shows}
+use Rattle.history.specs.History as History
+use Rattle.preview_command.specs.Texts.{previewLine, previewReply, wordsLine}
+use Rattle.panel_lines.specs.Grammar.{Command, request}
+use Rattle.panel_lines.specs.declared.Query.{Query}
+use Rattle.panel_lines.specs.declared.Query.the-variants.{Pin, Search, Fold, Write}
+use Rattle.panel_lines.specs.declared.View.{View}
+use Rattle.panel_lines.specs.declared.View.the-variants.{Replay, Widen, Waveform}
+use Rattle.panel.specs.Answers.{loadWords, LoadSaid, Queried, previewSaid}
+use Rattle.panel_files.specs.Files.{Viewed}
+use Rattle.panel_join.specs.Joins.{NewJoined, FilesJoined, JoinSaid}
+use Rattle.panel_session.specs.Session.{Files, Action, fileWords, joinAction, queryCall, viewCall, actionOf, lineAction, told, badOf, Turn}
+use Rattle.panel_session.specs.Answered.{Says, Answered}
+use Rattle.panel_session.specs.declared.Said.{Said}
+use Rattle.panel_session.proofs.Outputs.{
+  Told,
+  search-told,
+  fold-told,
+  write-told,
+  widen-told,
+  waveform-told,
+}
+
+-- what a report says of a line's bytes and of the output, for an action
+pub record Taken (room : ℕ) (action : Action) (s : History.State) (line out : List ℕ) (r : Report) (s′ : History.State) (line′ out′ : List ℕ) : Type 0 where
+  pub reply : Reply
+  pub loaded : Bool
+  pub turn : (text : List ℕ) (files : Files) → lineAction room files (request text) ≡ action → Turn room text files s reply loaded s′
+  pub line-is : Fronts (reply .line) line (r .line) line′
+  pub out-is : Fronts (reply .out) out (r .out) out′
+
+-- nothing is printed from the output
+untouched : {out out′ : List ℕ} {n : ℕ} → n ≡ 0 → out′ ≡ out → Fronts [] out n out′
+untouched e f = record { long = e; contents = f }
+
+-- a text that stands at the front of the output is printed
+printed : (text zeros : List ℕ) {out out′ : List ℕ} {n l : ℕ} → n ≡ l → l ≡ length text → out′ ≡ front text out → Fronts (take l (front text zeros)) out n out′
+printed text zeros {out} {out′} {n = n} {l = l} e f g =
+    let z : take l (front text zeros) ≡ text = take-at text (drop (length text) zeros) l (sym f) in
+    subst (λ (x : List ℕ). Fronts x out n out′) (sym z) (record { long = e ∙ f; contents = g })
+
+-- an output of as many bytes
+as-long : (out : List ℕ) → length out ≡ length {A = ℕ} (replicate (length out) 0)
+as-long out = sym (length-replicate {A = ℕ} (length out) 0)
+
+-- ---- a file that is previewed
+
+-- the judgement that load's answer and the words needed make
+abbrev judged : Answer Circuit → ℕ → Judgement
+judged (refused k) n = record { answer = Refused k; needed = n }
+judged (gives c) n =
+    record {
+      answer = Loaded (record {
+        m = c .maxVar;
+        i = length (c .inputs);
+        l = length (c .latches);
+        o = length (c .outputs);
+        a = length (c .gates);
+        b = length (c .bads);
+        c = length (c .constraints);
+      });
+      needed = n;
+    }
+
+judged-answer : (a : Answer Circuit) (n : ℕ) → answered (judged a n .answer) ≡ (a >>= λ c. gives (countsOf c))
+judged-answer (refused k) n = refl
+judged-answer (gives c) n = refl
+
+judged-line : (a : Answer Circuit) (n : ℕ) → previewLine a ≡ loadWords (answered (judged a n .answer))
+judged-line (refused k) n = refl
+judged-line (gives c) n = refl
+
+judged-needed : (a : Answer Circuit) (n : ℕ) → judged a n .needed ≡ n
+judged-needed (refused k) n = refl
+judged-needed (gives c) n = refl
+
+known-preview : (user : ℕ) (file m : List ℕ) → length m ≡ 33032 → user ≤ 1
+    → UserPreviewed (length m) file user (judged (load 33032 file) (wordsNeeded file))
+known-preview user file m e h =
+    UserPreviewed.known h
+    (record {
+      answer = judged-answer (load 33032 file) (wordsNeeded file) ∙ ap (λ (n : ℕ). load n file >>= λ c. gives (countsOf c)) (sym e);
+      needed = judged-needed (load 33032 file) (wordsNeeded file);
+    })
+
+-- ---- files that are joined
+
+held-words : (f : List ℕ) {c : Circuit} → load 33032 f ≡ gives c → Holds (fileWords c) c
+unfolding fileWords
+held-words f l = loaded-holds (replicate 33032 0) f (ap (λ (n : ℕ). load n f) (length-replicate {A = ℕ} 33032 0) ∙ l)
+
+module _ {first second first₀ second₀ : List ℕ} {c d : Circuit} (h : Holds first c) (k : Holds second d) (h₀ : Holds first₀ c) (k₀ : Holds second₀ d) where
+  joined-moves : {m m′ : List ℕ} {a : Answer (List ℕ)} → JoinedInto first second m a m′ → JoinedInto first₀ second₀ m a m′
+  joined-moves (JoinedInto.noCircuit f) = absurd (⊎-elim (λ n. n c h) (λ n. n d k) f)
+  joined-moves (JoinedInto.refuses c′ d′ h′ k′ j) =
+      JoinedInto.refuses c′ d′ (subst (Holds first₀) (sym (one-circuit h′ h)) h₀) (subst (Holds second₀) (sym (one-circuit k′ k)) k₀) j
+  joined-moves (JoinedInto.stores c′ d′ h′ k′ j) =
+      JoinedInto.stores c′ d′ (subst (Holds first₀) (sym (one-circuit h′ h)) h₀) (subst (Holds second₀) (sym (one-circuit k′ k)) k₀) j
+
+  rejoined : {m m′ pins pins′ : List ℕ} {a : Answer (List ℕ)} → UserJoined first second m pins 0 a m′ pins′ → UserJoined first₀ second₀ m pins 0 a m′ pins′
+  rejoined (Replaced.stranger l) = Replaced.stranger l
+  rejoined (Replaced.refuses e j) = Replaced.refuses e (joined-moves j)
+  rejoined (Replaced.stores e j) = Replaced.stores e (joined-moves j)
+
+module _ {m w p line out : List ℕ} {r : Report} {line′ out′ : List ℕ} where
+  -- ---- queries
+
+  pub query-taken : (user : ℕ) (q : Query) {s′ : History.State} → Queried q user (record { memory = m; work = w; pins = p }) out line r s′ out′ line′
+      → Taken (length out) (Action.calls (queryCall (length out) user q)) (record { memory = m; work = w; pins = p }) line out r s′ line′ out′
+  query-taken user (Pin input value) x =
+      record {
+        reply = _;
+        loaded = _;
+        turn = λ t f e. Turn.calls e (x .permitted .0);
+        line-is = x .line-is;
+        out-is = untouched (x .out-is) (x .permitted .1);
+      }
+  query-taken user (Search b k D) x = go (x .permitted)
+    where
+      go : {s′ : History.State} → History.Step (record { memory = m; work = w; pins = p }) (History.Call.search user b k D out) (History.Reply.searched (x .answer) out′) s′
+          → Taken (length out) (Action.calls (queryCall (length out) user (Search b k D))) (record { memory = m; work = w; pins = p }) line out r s′ line′ out′
+      go (History.Step.searches y l) =
+          let t = search-told p (as-long out) y in
+          record {
+            reply = _;
+            loaded = _;
+            turn = λ u f e. Turn.calls e (History.Step.searches (t .again) l);
+            line-is = x .line-is;
+            out-is = printed (t .text) (replicate (length out) 0) (x .out-is) (t .long) (t .left);
+          }
+  query-taken user (Fold b t) x = go (x .permitted)
+    where
+      go : {s′ : History.State} → History.Step (record { memory = m; work = w; pins = p }) (History.Call.fold user b t out) (History.Reply.folded (x .answer) out′) s′
+          → Taken (length out) (Action.calls (queryCall (length out) user (Fold b t))) (record { memory = m; work = w; pins = p }) line out r s′ line′ out′
+      go (History.Step.folds y l) =
+          let t = fold-told p (as-long out) y in
+          record {
+            reply = _;
+            loaded = _;
+            turn = λ u f e. Turn.calls e (History.Step.folds (t .again) l);
+            line-is = x .line-is;
+            out-is = printed (t .text) (replicate (length out) 0) (x .out-is) (t .long) (t .left);
+          }
+  query-taken user Write x = go (x .permitted)
+    where
+      go : {s′ : History.State} → History.Step (record { memory = m; work = w; pins = p }) (History.Call.write user out) (History.Reply.written (x .answer) out′) s′
+          → Taken (length out) (Action.calls (queryCall (length out) user Write)) (record { memory = m; work = w; pins = p }) line out r s′ line′ out′
+      go (History.Step.writes y) =
+          let t = write-told (as-long out) y in
+          record {
+            reply = _;
+            loaded = _;
+            turn = λ u f e. Turn.calls e (History.Step.writes (t .again));
+            line-is = x .line-is;
+            out-is = printed (t .text) (replicate (length out) 0) (x .out-is) (t .long) (t .left);
+          }
+
+  -- ---- views
+
+  pub view-taken : (user : ℕ) (v : View) (text : List ℕ) → Viewed v user text m p out line r out′ line′
+      → Taken (length out) (Action.calls (viewCall (length out) user text v)) (record { memory = m; work = w; pins = p }) line out r (record { memory = m; work = w; pins = p }) line′ out′
+  view-taken user Replay text x =
+      record {
+        reply = _;
+        loaded = _;
+        turn = λ u f e. Turn.calls e (History.Step.replays (x .permitted .0));
+        line-is = x .line-is;
+        out-is = untouched (x .out-is) (x .permitted .1);
+      }
+  view-taken user Widen text x =
+      let t = widen-told p (as-long out) (x .permitted) in
+      record {
+        reply = _;
+        loaded = _;
+        turn = λ u f e. Turn.calls e (History.Step.widens (t .again));
+        line-is = x .line-is;
+        out-is = printed (t .text) (replicate (length out) 0) (x .out-is) (t .long) (t .left);
+      }
+  view-taken user (Waveform only) text x =
+      let t = waveform-told (as-long out) (x .permitted) in
+      record {
+        reply = _;
+        loaded = _;
+        turn = λ u f e. Turn.calls e (History.Step.waveforms (t .again));
+        line-is = x .line-is;
+        out-is = printed (t .text) (replicate (length out) 0) (x .out-is) (t .long) (t .left);
+      }
+
+  -- ---- commands that name files of circuits
+
+  pub load-taken : (user : ℕ) (file : List ℕ) {m′ p′ : List ℕ} → LoadSaid user file m p line r m′ p′ line′ → out′ ≡ out
+      → Taken (length out) (Action.calls (History.Call.load user file)) (record { memory = m; work = w; pins = p }) line out r (record { memory = m′; work = w; pins = p′ }) line′ out′
+  load-taken user file x o =
+      record {
+        reply = _;
+        loaded = _;
+        turn = λ u f e. Turn.calls e (History.Step.loads (x .permitted));
+        line-is = x .line-is;
+        out-is = untouched (x .out-is) o;
+      }
+
+  pub preview-taken : (user : ℕ) (file : List ℕ) → length m ≡ 33032 → Leaves (previewSaid user file) line out r line′ out′
+      → Taken (length out) (Action.calls (History.Call.preview user file)) (record { memory = m; work = w; pins = p }) line out r (record { memory = m; work = w; pins = p }) line′ out′
+  unfolding previewReply
+  preview-taken user file l x =
+      elim (decLt 1 user) [
+        | yes h ↦
+            let y : Leaves (refusal 18) line out r line′ out′ =
+            subst (λ (b : Bool). Leaves (cond b (refusal 18) (previewReply file)) line out r line′ out′) (lt-ltb 1 user h) x in
+            record {
+              reply = _;
+              loaded = _;
+              turn = λ u f e. Turn.calls e (History.Step.previews {r = record { answer = Refused 18; needed = 0 }} (UserPreviewed.stranger h));
+              line-is = y .line-is;
+              out-is = y .out-is;
+            }
+        | no h ↦
+            let y : Leaves (previewReply file) line out r line′ out′ =
+            subst (λ (b : Bool). Leaves (cond b (refusal 18) (previewReply file)) line out r line′ out′) (le-ltb 1 user (omega arith)) x in
+            let a = load 33032 file in
+            let n = wordsNeeded file in
+            record {
+              reply = _;
+              loaded = _;
+              turn = λ u f e. Turn.calls e (History.Step.previews {r = judged a n} (known-preview user file m l (omega arith)));
+              line-is = subst (λ (t : List ℕ). Fronts t line (r .line) line′) (judged-line a n) (y .line-is);
+              out-is = subst (λ (i : ℕ). Fronts (wordsLine i) out (r .out) out′) (sym (judged-needed a n)) (y .out-is);
+            }
+      ]
+
+  pub join-taken : (user : ℕ) (old new first second : List ℕ) {m′ p′ : List ℕ} → JoinSaid (λ a. FilesJoined first second m p user a m′ p′) line r line′
+      → out′ ≡ out
+      → Taken (length out) (actionOf (length out) user first second (Command.join old new)) (record { memory = m; work = w; pins = p }) line out r (record { memory = m′; work = w; pins = p′ }) line′
+      out′
+  join-taken user old new first second x o = go (x .answer) (x .permitted) (x .line-is)
+    where
+      says : (n : ℕ) (z : Action) → z ≡ Action.prints (refusalText n) → Fronts (refusalText n) line (r .line) line′
+          → Taken (length out) z (record { memory = m; work = w; pins = p }) line out r (record { memory = m; work = w; pins = p }) line′ out′
+      says n z q f =
+          record {
+            reply = record { line = refusalText n; out = [] };
+            loaded = false;
+            turn = λ u g e. Turn.prints (e ∙ q);
+            line-is = f;
+            out-is = untouched (x .out-is) o;
+          }
+
+      go : (a : Answer (List ℕ)) {m′ p′ : List ℕ} → FilesJoined first second m p user a m′ p′ → Fronts (loadWords a) line (r .line) line′
+          → Taken (length out) (actionOf (length out) user first second (Command.join old new)) (record { memory = m; work = w; pins = p }) line out r
+          (record { memory = m′; work = w; pins = p′ }) line′ out′
+      go a (FilesJoined.stranger h) f = says 18 _ (simp (ne-eqb user 0 (λ e. omega (arith, e, h)))) f
+      go a (FilesJoined.refuses {n = n} u l) f = says n _ (rw (u, l)) f
+      go a (FilesJoined.joins u l h (NewJoined.refuses {n = n} k)) f = says n _ (rw (u, l, k)) f
+      go a (FilesJoined.joins {c = c} u l h (NewJoined.joins {d = d} k g j)) f =
+          let q : actionOf (length out) user first second (Command.join old new) ≡ Action.calls (History.Call.join 0 (fileWords c) (fileWords d)) = rw (u, l, k) in
+          record {
+            reply = _;
+            loaded = _;
+            turn = λ v i e. Turn.calls (e ∙ q) (History.Step.joins (rejoined h g (held-words first l) (held-words second k) j));
+            line-is = f;
+            out-is = untouched (x .out-is) o;
+          }
+
+  pub malformed-taken : (t : List ℕ) → Fronts t line (r .line) line′ → r .out ≡ 0 → out′ ≡ out → Taken (length out) (Action.prints t) (record { memory = m; work = w; pins = p }) line out r (record { memory = m; work = w; pins = p }) line′ out′
+  malformed-taken t f e o =
+      record { reply = record { line = t; out = [] }; loaded = false; turn = λ u g q. Turn.prints q; line-is = f; out-is = untouched e o }
+
+-- ---- a line
+
+module _ {text first second : List ℕ} {s : History.State} {line out : List ℕ} {r : Report} {s′ : History.State} {line′ out′ : List ℕ} {user : ℕ} {c : Command} where
+  -- what is left for a line whose files were read
+  pub answers : request text ≡ some (user, c) → Taken (length out) (actionOf (length out) user first second c) s line out r s′ line′ out′ → (q : Said)
+      → q .line ≡ line′ → q .count ≡ r .line → q .out ≡ r .out → Answered text (Files.read first second) s out q s′ out′
+  answers e t q l n o =
+      record {
+        reply = t .reply;
+        loaded = t .loaded;
+        turn = t .turn text (Files.read first second) (ap (lineAction (length out) (Files.read first second)) e);
+        line-is = record {
+          inside = rw (l, n) (fronts-inside (t .line-is));
+          contents = rw (l, n) (fronts-taken (t .line-is));
+        };
+        out-is = rw o (t .out-is);
+      }
+
+-- a line alone
+pub says-alone : {text : List ℕ} {files : Files} {s : History.State} (out : List ℕ) {t : List ℕ} {r : Said}
+    → lineAction (length out) files (request text) ≡ Action.prints t → Says r t → Answered text files s out r s out
+says-alone out {t} e y =
+    record { reply = record { line = t; out = [] }; loaded = false; turn = Turn.prints e; line-is = y .line-is; out-is = untouched (y .out-is) refl }
+
+pub says-fronts : {t line line′ : List ℕ} {n : ℕ} (r : Said) → Fronts t line n line′ → r .line ≡ line′ → r .count ≡ n → r .out ≡ 0 → Says r t
+says-fronts r f l n o = record { line-is = record { inside = rw (l, n) (fronts-inside f); contents = rw (l, n) (fronts-taken f) }; out-is = o }

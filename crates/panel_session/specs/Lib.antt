@@ -1,0 +1,4 @@
+-- What the contracts of `panel_session` cite. Assumes nothing.
+pub mod Session
+pub mod Naming
+pub mod Answered

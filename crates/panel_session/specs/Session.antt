@@ -1,0 +1,144 @@
+-- Clause 12.7: the resident program line by line. A line is a call of two users' history, or a text is printed at once and nothing changes.
+-- Assumes nothing.
+use mathlib.Core.Path.{_≡_}
+use mathlib.Core.Bool.{Bool, true, false, cond, _||_}
+use mathlib.Core.List.{List, [], _∷_}
+use mathlib.Core.Option.{Option, none, some}
+use Prim.Native.Nat.{ℕ}
+use lib.Dec.{eqb, leb}
+use lib.ListN.{length, take, replicate}
+use Rattle.aiger.specs.Text.{bytes}
+use Rattle.aiger.specs.Circuit.{Circuit}
+use Rattle.aiger.specs.Load.{Answer, refused, gives, load}
+use Rattle.aiger.specs.Memory.{image}
+use Rattle.aiger.specs.Operations.{front}
+use Rattle.layout.specs.Words.{circuitIn}
+use Rattle.job.specs.Replies.{shownLength}
+use Rattle.replies.specs.Refusal.{refusalText}
+use Rattle.replies.specs.Reply.{Reply, refusal}
+use Rattle.search_command.specs.Texts.{saidWords}
+use Rattle.preview_command.specs.Texts.{wordsLine}
+use Rattle.history.specs.History as History
+use Rattle.panel_lines.specs.Grammar.{Command, request}
+use Rattle.panel_lines.specs.declared.Query.{Query}
+use Rattle.panel_lines.specs.declared.Query.the-variants.{Pin, Search, Fold, Write}
+use Rattle.panel_lines.specs.declared.View.{View}
+use Rattle.panel_lines.specs.declared.View.the-variants.{Replay, Widen, Waveform}
+use Rattle.panel.specs.Answers.{loadWords, pinWords, textWords, textLength}
+use Rattle.panel_files.specs.Files.{verdictWords}
+
+-- ---- what a line asks
+
+-- the files that a line names: one of them cannot be read, or the bytes of the first and of the second
+pub data Files : Type 0 where
+  missing : Files
+  read : (first second : List ℕ) → Files
+
+-- a call of a history, or a line that is printed at once
+pub data Action : Type 0 where
+  calls : History.Call → Action
+  prints : List ℕ → Action
+
+-- a memory into which a file was loaded: 33,032 words, those that M 4,096 needs
+unfoldable pub fileWords : Circuit → List ℕ
+fileWords c = front (image c) (replicate 33032 0)
+
+-- user 0's join of two files, by what load says of each
+abbrev pub joinAction : Answer Circuit → Answer Circuit → Action
+joinAction (refused n) b = Action.prints (refusalText n)
+joinAction (gives c) (refused n) = Action.prints (refusalText n)
+joinAction (gives c) (gives d) = Action.calls (History.Call.join 0 (fileWords c) (fileWords d))
+
+-- a query; the output lent to it has `room` bytes, and what they held does not matter
+abbrev pub queryCall : ℕ → ℕ → Query → History.Call
+queryCall room user (Pin input value) = History.Call.setPin user input value
+queryCall room user (Search b k D) = History.Call.search user b k D (replicate room 0)
+queryCall room user (Fold b t) = History.Call.fold user b t (replicate room 0)
+queryCall room user Write = History.Call.write user (replicate room 0)
+
+-- a view of a witness
+abbrev pub viewCall : ℕ → ℕ → List ℕ → View → History.Call
+viewCall room user text Replay = History.Call.replay user text
+viewCall room user text Widen = History.Call.widen user text (replicate room 0)
+viewCall room user text (Waveform only) = History.Call.waveform user only text (replicate room 0)
+
+-- a command whose files were read. A join by another user than 0 gets 18 before its files are judged
+abbrev pub actionOf : ℕ → ℕ → List ℕ → List ℕ → Command → Action
+actionOf room user first second (Command.query q) = Action.calls (queryCall room user q)
+actionOf room user first second (Command.load file) = Action.calls (History.Call.load user first)
+actionOf room user first second (Command.preview file) = Action.calls (History.Call.preview user first)
+actionOf room user first second (Command.join old new) =
+    cond (eqb user 0) (joinAction (load 33032 first) (load 33032 second)) (Action.prints (refusalText 18))
+actionOf room user first second (Command.view v file) = Action.calls (viewCall room user first v)
+
+-- who is answered `unreadable` where a file cannot be read: user 0 for a load or a join, either user else
+abbrev pub mayAsk : ℕ → Command → Bool
+mayAsk user (Command.query q) = leb user 1
+mayAsk user (Command.load file) = eqb user 0
+mayAsk user (Command.preview file) = leb user 1
+mayAsk user (Command.join old new) = eqb user 0
+mayAsk user (Command.view v file) = leb user 1
+
+-- a line that is no command is `malformed`; 18 comes before `unreadable`
+abbrev pub lineAction : ℕ → Files → Option (ℕ × Command) → Action
+lineAction room files none = Action.prints (bytes "malformed\n")
+lineAction room Files.missing (some r) = Action.prints (cond (mayAsk (r .0) (r .1)) (bytes "unreadable\n") (refusalText 18))
+lineAction room (Files.read first second) (some r) = actionOf room (r .0) first second (r .1)
+
+-- ---- what is printed for a reply
+
+-- the bad line of a search, whose witness has so many bytes
+abbrev pub badOf : History.Call → ℕ
+badOf (History.Call.load user file) = 0
+badOf (History.Call.setPin user input value) = 0
+badOf (History.Call.search user b k D out) = b
+badOf (History.Call.fold user b t out) = b
+badOf (History.Call.write user out) = 0
+badOf (History.Call.writeBinary user out) = 0
+badOf (History.Call.preview user file) = 0
+badOf (History.Call.join user first second) = 0
+badOf (History.Call.replay user text) = 0
+badOf (History.Call.widen user text out) = 0
+badOf (History.Call.waveform user only text out) = 0
+
+-- a line, and the text after it, for a circuit c and a bad line b
+abbrev pub told : Circuit → ℕ → History.Reply → Reply
+told c b (History.Reply.loaded a) = record { line = loadWords a; out = [] }
+told c b (History.Reply.pinned a) = record { line = pinWords a; out = [] }
+told c b (History.Reply.searched a out) = record { line = saidWords a; out = take (shownLength c b a) out }
+told c b (History.Reply.folded a out) = record { line = textWords a; out = take (textLength a) out }
+told c b (History.Reply.written a out) = record { line = textWords a; out = take (textLength a) out }
+told c b (History.Reply.previewed a n) = record { line = loadWords a; out = wordsLine n }
+told c b (History.Reply.replayed a) = record { line = verdictWords a; out = [] }
+
+-- ---- a line, and a session
+
+-- what is printed for a line, whether a circuit was loaded, and the state after it
+pub data Turn (room : ℕ) (line : List ℕ) (files : Files) (s : History.State) : Reply → Bool → History.State → Type 0 where
+  prints : {text : List ℕ} → lineAction room files (request line) ≡ Action.prints text
+      → Turn room line files s (record { line = text; out = [] }) false s
+  calls : {call : History.Call} {reply : History.Reply} {s′ : History.State} → lineAction room files (request line) ≡ Action.calls call
+      → History.Step s call reply s′ → Turn room line files s (told (circuitIn (s .memory)) (badOf call) reply) (History.isAccepted reply) s′
+
+-- a line that was answered
+pub record Exchange : Type 0 where
+  pub line : List ℕ
+  pub files : Files
+  pub reply : Reply
+  pub loaded : Bool
+
+-- lines that are answered one after the other, from a state
+pub data Session (room : ℕ) : History.State → List Exchange → Type 0 where
+  ends : {s : History.State} → Session room s []
+  goes : {s s′ : History.State} {e : Exchange} {es : List Exchange} → Turn room (e .line) (e .files) s (e .reply) (e .loaded) s′
+      → Session room s′ es → Session room s (e ∷ es)
+
+-- whether a line is a command of user u
+abbrev pub isOf : ℕ → Option (ℕ × Command) → Bool
+isOf u none = false
+isOf u (some r) = eqb (r .0) u
+
+-- the exchanges that concern user u: the user's own lines, and those by which a circuit was loaded
+unfoldable pub concerning : ℕ → List Exchange → List Exchange
+concerning u [] = []
+concerning u (e ∷ es) = cond (isOf u (request (e .line)) || e .loaded) (e ∷ concerning u es) (concerning u es)

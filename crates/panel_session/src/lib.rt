@@ -1,0 +1,144 @@
+// A line of the resident program, from its bytes and those of the files that it names to what is printed.
+use panel_lines::Part;
+use panel_lines::Task;
+use replies::Report;
+ghost use mathlib.Core.Path.{_≡_};
+ghost use mathlib.Core.Bool.{cond};
+ghost use mathlib.Core.List.{List};
+ghost use Prim.Native.Nat.{ℕ, _≤_};
+ghost use lib.ListN.{length};
+ghost use Rattle.aiger.specs.Text.{bytes};
+ghost use Rattle.replies.specs.Refusal.{refusalText};
+ghost use Rattle.history.specs.History.{State};
+ghost use Rattle.panel_lines.specs.Grammar.{request};
+ghost use Rattle.panel_session.specs.Session.{Files};
+ghost use Rattle.panel_session.specs.Naming.{namedBy, namesOf, NamesInside};
+ghost use Rattle.panel_session.specs.Answered.{Says, Answered};
+
+// The names of files in a line.
+pub enum Names {
+    Zero,
+    One(Part),
+    Two(Part, Part),
+}
+
+// A line that is to be printed, its length, and how many bytes of the output follow it.
+pub struct Said {
+    pub line: [u8; 128],
+    pub count: usize,
+    pub out: usize,
+}
+
+// Which files a line names.
+pub fn files_of(text: &[u8]) -> Names
+    ensures { λ r. ⌜
+        (namesOf (now (text .entry)) r ≡ namedBy (request (now (text .entry)))) × NamesInside (now (text .entry)) r
+        ⌝ }
+{
+    let request = panel_lines::read_request(text);
+    let task = request.task;
+    match task {
+        Task::Ask(_) => Names::Zero,
+        Task::Load(file) => Names::One(file),
+        Task::Preview(file) => Names::One(file),
+        Task::Join(old, new) => Names::Two(old, new),
+        Task::Witness(_, file) => Names::One(file),
+        Task::Malformed => Names::Zero,
+    }
+}
+
+// What is to be printed by a report.
+fn said_of(line: [u8; 128], r: Report) -> Said
+    ensures { λ s. ⌜ (s .line ≡ line) × (s .count ≡ r .line) × (s .out ≡ r .out) ⌝ }
+{
+    Said {
+        line,
+        count: r.line,
+        out: r.out,
+    }
+}
+
+// Says that a line is no command.
+fn malformed() -> Said
+    ensures { λ r. ⌜ Says r (bytes "malformed\n") ⌝ }
+{
+    let mut line = [0u8; 128];
+    let count = replies::put(&mut line, 0, b"malformed\n");
+    Said { line, count, out: 0 }
+}
+
+// Says that a file cannot be read, or 18 to a user who may not ask.
+fn missing(may: bool) -> Said
+    ensures { λ r. ⌜ Says r (cond may (bytes "unreadable\n") (refusalText 18)) ⌝ }
+{
+    let mut line = [0u8; 128];
+    if may {
+        let count = replies::put(&mut line, 0, b"unreadable\n");
+        return Said { line, count, out: 0 };
+    }
+    let r = replies::refuse(&mut line, 18);
+    said_of(line, r)
+}
+
+// Answers a line of whose files one cannot be read.
+pub fn unreadable(text: &[u8]) -> Said
+    ensures { λ r. ⌜ ((s : State) (out : List ℕ) → Answered (now (text .entry)) Files.missing s out r s out) ⌝ }
+{
+    let request = panel_lines::read_request(text);
+    let user = request.user;
+    let task = request.task;
+    match task {
+        Task::Ask(_) => missing(user <= 1),
+        Task::Load(_) => missing(user == 0),
+        Task::Preview(_) => missing(user <= 1),
+        Task::Join(_, _) => missing(user == 0),
+        Task::Witness(_, _) => missing(user <= 1),
+        Task::Malformed => malformed(),
+    }
+}
+
+// Answers a line that names no file, or whose files were read.
+pub fn respond(
+    text: &[u8],
+    first: &[u8],
+    second: &[u8],
+    m: &mut [u32],
+    work: &mut [u32],
+    pins: &mut [u8],
+    out: &mut [u8],
+) -> Said
+    requires { ⌜ (length (now m) ≡ 33032) × (32 ≤ length (now out)) ⌝ }
+    ensures { λ r. ⌜
+        Answered (now (text .entry)) (Files.read (now (first .entry)) (now (second .entry)))
+        (record { memory = now (m .entry); work = now (work .entry); pins = now (pins .entry) }) (now (out .entry)) r
+        (record { memory = now (m .exit); work = now (work .exit); pins = now (pins .exit) }) (now (out .exit))
+        ⌝ }
+{
+    let request = panel_lines::read_request(text);
+    let user = request.user;
+    let task = request.task;
+    let mut line = [0u8; 128];
+    match task {
+        Task::Ask(q) => {
+            let r = panel::query(user, q, m, work, pins, out, &mut line);
+            said_of(line, r)
+        }
+        Task::Load(_) => {
+            let r = panel::load(user, first, m, pins, &mut line);
+            said_of(line, r)
+        }
+        Task::Preview(_) => {
+            let r = panel::preview(user, first, m, out, &mut line);
+            said_of(line, r)
+        }
+        Task::Join(_, _) => {
+            let r = panel_join::join(user, first, second, m, pins, &mut line);
+            said_of(line, r)
+        }
+        Task::Witness(v, _) => {
+            let r = panel_files::view(user, v, first, m, pins, out, &mut line);
+            said_of(line, r)
+        }
+        Task::Malformed => malformed(),
+    }
+}
