@@ -27,7 +27,7 @@ use Rattle.panel_lines.specs.Grammar.{
   previewOf,
   joinOf,
   viewOf,
-  onlyOf,
+  flagOf,
   waveformOf,
   queryOf,
   witnessOf,
@@ -38,11 +38,10 @@ use Rattle.panel_lines.specs.Reading.{Inside, textOf, Ends, WordAt, Numb
 use Rattle.panel_lines.specs.declared.Part.{Part}
 use Rattle.panel_lines.specs.declared.View.{View}
 use Rattle.panel_lines.specs.declared.View.the-variants.{Replay, Widen, Waveform}
-use Rattle.panel_lines.specs.declared.Query.the-variants.{Pin, Search, Fold, Write}
+use Rattle.panel_lines.specs.declared.Query.the-variants.{Pin, Search, Fold, Write, WriteBinary}
 use Rattle.panel_lines.specs.declared.Task.{Task}
 use Rattle.panel_lines.specs.declared.Task.the-variants.{Ask, Load, Preview, Join, Witness, Malformed}
 use Rattle.panel_lines.specs.declared.Request.{Request}
-use Rattle.panel_lines.proofs.Reading.{more-follows, all-read}
 
 module _ (s : List ℕ) (at : ℕ) where
   pub pin-none : none ≡ twoNumbers (drop at s) → TaskIs s (pinOf (drop at s)) Malformed
@@ -74,13 +73,17 @@ module _ (s : List ℕ) (at : ℕ) where
     unfolding searchOf
     search-all k d e = record { meaning = rw (x .number-is, ← e); parts = tt }
 
-  pub write-more : at < length s → TaskIs s (writeOf (drop at s)) Malformed
+  pub write-none : none ≡ flagOf (bytes "binary") (drop at s) → TaskIs s (writeOf (drop at s)) Malformed
   unfolding writeOf
-  write-more h = record { meaning = rw (more-follows s at h); parts = tt }
+  write-none e = record { meaning = rw (← e); parts = tt }
 
-  pub write-all : length s ≤ at → TaskIs s (writeOf (drop at s)) (Ask Write)
+  pub write-binary : some true ≡ flagOf (bytes "binary") (drop at s) → TaskIs s (writeOf (drop at s)) (Ask WriteBinary)
   unfolding writeOf
-  write-all h = record { meaning = rw (all-read s at h); parts = tt }
+  write-binary e = record { meaning = rw (← e); parts = tt }
+
+  pub write-text : some false ≡ flagOf (bytes "binary") (drop at s) → TaskIs s (writeOf (drop at s)) (Ask Write)
+  unfolding writeOf
+  write-text e = record { meaning = rw (← e); parts = tt }
 
   pub load-none : oneName (drop at s) ≡ none → TaskIs s (loadOf (drop at s)) Malformed
   unfolding loadOf
@@ -111,11 +114,12 @@ module _ (s : List ℕ) (at : ℕ) where
     unfolding joinOf
     join-all n = record { meaning = rw (w .word-is, n .name-is); parts = (w .inside, n .inside) }
 
-    pub waveform-half : none ≡ onlyOf (drop (p .to) s) → TaskIs s (waveformOf (drop at s)) Malformed
+    pub waveform-half : none ≡ flagOf (bytes "inputs") (drop (p .to) s) → TaskIs s (waveformOf (drop at s)) Malformed
     unfolding waveformOf
     waveform-half e = record { meaning = rw (w .word-is, ← e); parts = tt }
 
-    pub waveform-all : (b : Bool) → some b ≡ onlyOf (drop (p .to) s) → TaskIs s (waveformOf (drop at s)) (Witness (Waveform b) p)
+    pub waveform-all : (b : Bool) → some b ≡ flagOf (bytes "inputs") (drop (p .to) s)
+        → TaskIs s (waveformOf (drop at s)) (Witness (Waveform b) p)
     unfolding waveformOf
     waveform-all b e = record { meaning = rw (w .word-is, ← e); parts = w .inside }
 
@@ -132,25 +136,27 @@ module _ (s : List ℕ) (at : ℕ) where
     unfolding viewOf
     view-all n = record { meaning = rw (n .name-is); parts = n .inside }
 
-  pub only-nothing : length s ≤ at → some false ≡ onlyOf (drop at s)
-  unfolding onlyOf
-  only-nothing h = rw (drop-of-length-le s {i = at} h)
+  -- a word that may be given
+  module _ (w : List ℕ) where
+    pub flag-unset : length s ≤ at → some false ≡ flagOf w (drop at s)
+    unfolding flagOf
+    flag-unset h = rw (drop-of-length-le s {i = at} h)
 
-  -- where something follows
-  module _ (h : at < length s) where
-    only-word : onlyOf (drop at s) ≡ (oneName (drop at s) >>= λ w. when (same w (bytes "inputs")) >> some true)
-    unfolding onlyOf
-    only-word = rw (drop-cons s at 0 h)
+    -- where something follows
+    module _ (h : at < length s) where
+      flag-word : flagOf w (drop at s) ≡ (oneName (drop at s) >>= λ v. when (same v w) >> some true)
+      unfolding flagOf
+      flag-word = rw (drop-cons s at 0 h)
 
-    pub only-none : oneName (drop at s) ≡ none → none ≡ onlyOf (drop at s)
-    only-none e = sym (only-word ∙ rw e)
+      pub flag-none : oneName (drop at s) ≡ none → none ≡ flagOf w (drop at s)
+      flag-none e = sym (flag-word ∙ rw e)
 
-    module _ {p : Part} (n : NameAt s at p) where
-      pub only-inputs : true ≡ same (textOf s p) (bytes "inputs") → some true ≡ onlyOf (drop at s)
-      only-inputs e = sym (only-word ∙ rw (n .name-is, ← e))
+      module _ {p : Part} (n : NameAt s at p) where
+        pub flag-given : true ≡ same (textOf s p) w → some true ≡ flagOf w (drop at s)
+        flag-given e = sym (flag-word ∙ rw (n .name-is, ← e))
 
-      pub only-other : false ≡ same (textOf s p) (bytes "inputs") → none ≡ onlyOf (drop at s)
-      only-other e = sym (only-word ∙ rw (n .name-is, ← e))
+        pub flag-other : false ≡ same (textOf s p) w → none ≡ flagOf w (drop at s)
+        flag-other e = sym (flag-word ∙ rw (n .name-is, ← e))
 
 -- ---- a request
 

@@ -12,7 +12,7 @@ use Rattle.arguments.specs.Arguments.{numberOf}
 use Rattle.panel_lines.specs.declared.View.{View}
 use Rattle.panel_lines.specs.declared.View.the-variants.{Replay, Widen, Waveform}
 use Rattle.panel_lines.specs.declared.Query.{Query}
-use Rattle.panel_lines.specs.declared.Query.the-variants.{Pin, Search, Fold, Write}
+use Rattle.panel_lines.specs.declared.Query.the-variants.{Pin, Search, Fold, Write, WriteBinary}
 
 -- a command: a query of the loaded circuit, or one that names files, of which a view is one of a witness
 pub data Command : Type 0 where
@@ -27,10 +27,10 @@ unfoldable pub split : List ℕ → List ℕ × List ℕ
 split [] = ([], [])
 split (c ∷ s) = cond (eqb c 32) ([], c ∷ s) (c ∷ (split s) .0, (split s) .1)
 
--- the word after a space, and what follows it
+-- the word after a space, which has a byte at least, and what follows it
 unfoldable pub word : List ℕ → Option (List ℕ × List ℕ)
 word [] = none
-word (c ∷ s) = some (split s)
+word (c ∷ s) = when (leb 1 (length ((split s) .0))) >> some (split s)
 
 -- a word that is a number
 unfoldable pub number : List ℕ → Option (ℕ × List ℕ)
@@ -61,6 +61,11 @@ oneName s = do
   ended (f .1)
   some (f .0)
 
+-- nothing, or a word that may be given
+unfoldable pub flagOf : List ℕ → List ℕ → Option Bool
+flagOf w [] = some false
+flagOf w (c ∷ s) = oneName (c ∷ s) >>= λ v. when (same v w) >> some true
+
 -- pin INPUT VALUE
 unfoldable pub pinOf : List ℕ → Option Command
 pinOf s = twoNumbers s >>= λ p. some (Command.query (Pin (p .0) (p .1)))
@@ -76,9 +81,9 @@ searchOf s = do
 unfoldable pub foldOf : List ℕ → Option Command
 foldOf s = twoNumbers s >>= λ p. some (Command.query (Fold (p .0) (p .1)))
 
--- write
+-- write [binary]
 unfoldable pub writeOf : List ℕ → Option Command
-writeOf s = ended s >> some (Command.query Write)
+writeOf s = flagOf (bytes "binary") s >>= λ b. some (Command.query (cond b WriteBinary Write))
 
 -- load FILE
 unfoldable pub loadOf : List ℕ → Option Command
@@ -99,16 +104,11 @@ joinOf s = do
 unfoldable pub viewOf : View → List ℕ → Option Command
 viewOf v s = oneName s >>= λ f. some (Command.view v f)
 
--- nothing, or the word `inputs`
-unfoldable pub onlyOf : List ℕ → Option Bool
-onlyOf [] = some false
-onlyOf (c ∷ s) = oneName (c ∷ s) >>= λ w. when (same w (bytes "inputs")) >> some true
-
 -- waveform WITNESS [inputs]
 unfoldable pub waveformOf : List ℕ → Option Command
 waveformOf s = do
   f ← word s
-  only ← onlyOf (f .1)
+  only ← flagOf (bytes "inputs") (f .1)
   some (Command.view (Waveform only) (f .0))
 
 -- ---- a line

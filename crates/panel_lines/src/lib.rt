@@ -14,7 +14,7 @@ ghost use Rattle.panel_lines.specs.Grammar.{
   previewOf,
   joinOf,
   viewOf,
-  onlyOf,
+  flagOf,
   waveformOf,
   queryOf,
   witnessOf,
@@ -29,7 +29,7 @@ ghost use Rattle.panel_lines.specs.Reading.{
   NumberIs,
   twoOf,
   NameIs,
-  onlySaid,
+  givenOf,
   TaskIs,
   RequestIs,
 };
@@ -46,6 +46,7 @@ pub enum Query {
     Search(u64, u64, u64),
     Fold(u64, u64),
     Write,
+    WriteBinary,
 }
 
 // What is done with a witness of the loaded circuit. A waveform has the inputs alone where it says so.
@@ -88,10 +89,10 @@ enum Two {
     Neither,
 }
 
-// Whether the word `inputs` stands there.
-enum Only {
-    Says(bool),
-    Unsaid,
+// Whether a word that may be given is given. Unknown is any other.
+enum Flag {
+    Given(bool),
+    Unknown,
 }
 
 // Where the word that begins at a position ends: at the next space, or with the line.
@@ -109,7 +110,7 @@ fn word_end(line: &[u8], from: usize) -> usize
     i
 }
 
-// The word after the space at a position.
+// The word after the space at a position. It is not empty.
 fn word_after(line: &[u8], at: usize) -> Word
     requires { ⌜ at ≤ length (now line) ⌝ }
     ensures { λ r. ⌜ WordIs (now (line .entry)) at r ⌝ }
@@ -119,6 +120,9 @@ fn word_after(line: &[u8], at: usize) -> Word
     }
     let from = at + 1;
     let to = word_end(line, from);
+    if to == from {
+        return Word::Missing;
+    }
     Word::At(Part { from, to })
 }
 
@@ -205,17 +209,6 @@ fn read_fold(line: &[u8], at: usize) -> Task
     Task::Ask(Query::Fold(b, t))
 }
 
-// Write has no arguments.
-fn read_write(line: &[u8], at: usize) -> Task
-    requires { ⌜ at ≤ length (now line) ⌝ }
-    ensures { λ r. ⌜ TaskIs (now (line .entry)) (writeOf (drop at (now (line .entry)))) r ⌝ }
-{
-    if at < line.len() {
-        return Task::Malformed;
-    }
-    Task::Ask(Query::Write)
-}
-
 // The argument FILE of load.
 fn read_load(line: &[u8], at: usize) -> Task
     requires { ⌜ at ≤ length (now line) ⌝ }
@@ -273,21 +266,35 @@ fn read_view(line: &[u8], at: usize, view: View) -> Task
     Task::Witness(view, witness)
 }
 
-// Whether the word `inputs` is all that follows a position, or nothing does.
-fn read_only(line: &[u8], at: usize) -> Only
+// Whether a word that may be given is all that follows a position, or nothing does.
+fn read_flag(line: &[u8], at: usize, text: &[u8]) -> Flag
     requires { ⌜ at ≤ length (now line) ⌝ }
-    ensures { λ r. ⌜ onlySaid r ≡ onlyOf (drop at (now (line .entry))) ⌝ }
+    ensures { λ r. ⌜ givenOf r ≡ flagOf (now (text .entry)) (drop at (now (line .entry))) ⌝ }
 {
     if at == line.len() {
-        return Only::Says(false);
+        return Flag::Given(false);
     }
     let Word::At(word) = one_name(line, at) else {
-        return Only::Unsaid;
+        return Flag::Unknown;
     };
-    if is_word(line, word, b"inputs") {
-        return Only::Says(true);
+    if is_word(line, word, text) {
+        return Flag::Given(true);
     }
-    Only::Unsaid
+    Flag::Unknown
+}
+
+// The argument `[binary]` of write.
+fn read_write(line: &[u8], at: usize) -> Task
+    requires { ⌜ at ≤ length (now line) ⌝ }
+    ensures { λ r. ⌜ TaskIs (now (line .entry)) (writeOf (drop at (now (line .entry)))) r ⌝ }
+{
+    let Flag::Given(binary) = read_flag(line, at, b"binary") else {
+        return Task::Malformed;
+    };
+    if binary {
+        return Task::Ask(Query::WriteBinary);
+    }
+    Task::Ask(Query::Write)
 }
 
 // The arguments `WITNESS [inputs]` of waveform.
@@ -298,7 +305,7 @@ fn read_waveform(line: &[u8], at: usize) -> Task
     let Word::At(witness) = word_after(line, at) else {
         return Task::Malformed;
     };
-    let Only::Says(only) = read_only(line, witness.to) else {
+    let Flag::Given(only) = read_flag(line, witness.to, b"inputs") else {
         return Task::Malformed;
     };
     Task::Witness(View::Waveform(only), witness)

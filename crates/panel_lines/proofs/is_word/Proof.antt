@@ -1,5 +1,5 @@
 -- `panel_lines::is_word` meets its contract. Assumes nothing.
-use Rattle.job.proofs.Requests.{by-same}
+use Rattle.panel_lines.proofs.Reading.{by-same}
 use Rattle.panel_lines.specs.Reading.{textOf}
 use borrow.Author.Needs.{needs}
 use Rattle.panel_lines.proofs.is_word.Statement.{statement}
