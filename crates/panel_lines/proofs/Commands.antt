@@ -29,13 +29,13 @@ use Rattle.panel_lines.specs.Grammar.{
   viewOf,
   flagOf,
   waveformOf,
-  queryOf,
-  witnessOf,
+  verbOf,
   commandOf,
   request,
 }
 use Rattle.panel_lines.specs.Reading.{Inside, textOf, Ends, WordAt, NumberAt, NameAt, taskOf, PartsInside, TaskIs, RequestIs}
 use Rattle.panel_lines.specs.declared.Part.{Part}
+use Rattle.panel_lines.specs.declared.Verb.{Verb}
 use Rattle.panel_lines.specs.declared.View.{View}
 use Rattle.panel_lines.specs.declared.View.the-variants.{Replay, Widen, Waveform}
 use Rattle.panel_lines.specs.declared.Query.the-variants.{Pin, Search, Fold, Write, WriteBinary}
@@ -187,80 +187,11 @@ module _ (s : List ℕ) (r : Request) (e : r .task ≡ Malformed) where
     no-verb u n = malformed-is s (request s) r e (rw (le-leb (length s) 4096 short, first-word s w, ← u, n))
 
 pub whole : (s : List ℕ) → length s ≤ 4096 → {end : ℕ} → Ends s 0 end → {user : ℕ} → some user ≡ numberOf (take end s)
-    → {p : Part} → WordAt s end p → {t : Task} → TaskIs s (commandOf (textOf s p) (drop (p .to) s)) t → RequestIs s (request s) (record { user = user; task = t })
+    → {p : Part} → WordAt s end p → {v : Verb} → v ≡ verbOf (textOf s p) → {t : Task} → TaskIs s (commandOf v (drop (p .to) s)) t
+    → RequestIs s (request s) (record { user = user; task = t })
 unfolding request
-whole s short w u p t =
+whole s short w u p v t =
     record {
-      meaning = rw (le-leb (length s) 4096 short, first-word s w, ← u, p .word-is, ← t .meaning);
+      meaning = rw (le-leb (length s) 4096 short, first-word s w, ← u, p .word-is, ← v, ← t .meaning);
       parts = t .parts;
     }
-
--- ---- verbs
-
-module _ (s : List ℕ) (v : Part) where
-  abbrev said : List ℕ
-  said = textOf s v
-
-  abbrev rest : List ℕ
-  rest = drop (v .to) s
-
-  module _ {t : Task} where
-    pub verb-pin : true ≡ same said (bytes "pin") → TaskIs s (pinOf rest) t → TaskIs s (queryOf said rest) t
-    unfolding queryOf
-    verb-pin a x = rw (← a) x
-
-    pub verb-search : false ≡ same said (bytes "pin") → true ≡ same said (bytes "search") → TaskIs s (searchOf rest) t
-        → TaskIs s (queryOf said rest) t
-    unfolding queryOf
-    verb-search a b x = rw (← a, ← b) x
-
-    pub verb-fold : false ≡ same said (bytes "pin") → false ≡ same said (bytes "search") → true ≡ same said (bytes "fold")
-        → TaskIs s (foldOf rest) t → TaskIs s (queryOf said rest) t
-    unfolding queryOf
-    verb-fold a b d x = rw (← a, ← b, ← d) x
-
-    pub verb-write : false ≡ same said (bytes "pin") → false ≡ same said (bytes "search") → false ≡ same said (bytes "fold")
-        → true ≡ same said (bytes "write") → TaskIs s (writeOf rest) t → TaskIs s (queryOf said rest) t
-    unfolding queryOf
-    verb-write a b d f x = rw (← a, ← b, ← d, ← f) x
-
-    pub verb-load : true ≡ same said (bytes "load") → TaskIs s (loadOf rest) t → TaskIs s (commandOf said rest) t
-    unfolding commandOf
-    verb-load a x = rw (← a) x
-
-    module _ (a : false ≡ same said (bytes "load")) where
-      pub verb-preview : true ≡ same said (bytes "preview") → TaskIs s (previewOf rest) t → TaskIs s (commandOf said rest) t
-      unfolding commandOf
-      verb-preview b x = rw (← a, ← b) x
-
-      module _ (b : false ≡ same said (bytes "preview")) where
-        pub verb-join : true ≡ same said (bytes "join") → TaskIs s (joinOf rest) t → TaskIs s (commandOf said rest) t
-        unfolding commandOf
-        verb-join d x = rw (← a, ← b, ← d) x
-
-        pub verb-witness : false ≡ same said (bytes "join") → TaskIs s (witnessOf said rest) t → TaskIs s (commandOf said rest) t
-        unfolding commandOf
-        verb-witness d x = rw (← a, ← b, ← d) x
-
-    pub verb-replay : true ≡ same said (bytes "replay") → TaskIs s (viewOf Replay rest) t → TaskIs s (witnessOf said rest) t
-    unfolding witnessOf
-    verb-replay a x = rw (← a) x
-
-    module _ (a : false ≡ same said (bytes "replay")) where
-      pub verb-widen : true ≡ same said (bytes "widen") → TaskIs s (viewOf Widen rest) t → TaskIs s (witnessOf said rest) t
-      unfolding witnessOf
-      verb-widen b x = rw (← a, ← b) x
-
-      module _ (b : false ≡ same said (bytes "widen")) where
-        pub verb-waveform : true ≡ same said (bytes "waveform") → TaskIs s (waveformOf rest) t → TaskIs s (witnessOf said rest) t
-        unfolding witnessOf
-        verb-waveform d x = rw (← a, ← b, ← d) x
-
-        pub verb-query : false ≡ same said (bytes "waveform") → TaskIs s (queryOf said rest) t → TaskIs s (witnessOf said rest) t
-        unfolding witnessOf
-        verb-query d x = rw (← a, ← b, ← d) x
-
-  pub verb-none : false ≡ same said (bytes "pin") → false ≡ same said (bytes "search") → false ≡ same said (bytes "fold")
-      → false ≡ same said (bytes "write") → TaskIs s (queryOf said rest) Malformed
-  unfolding queryOf
-  verb-none a b d f = rw (← a, ← b, ← d, ← f) (record { meaning = refl; parts = tt })

@@ -82,7 +82,8 @@ module _ (s : List ℕ) (from : ℕ) where
           within = r .within;
           word-is =
               r .so-far
-              ∙ rw (split-space (drop i s) (drop (suc i) s) (getD s i 0) d e) (ap (λ (l : List ℕ). (l, drop i s)) (append-nil (take (i - from) (drop from s))));
+              ∙ rw (split-space (drop i s) (drop (suc i) s) (getD s i 0) d e)
+              (ap (λ (l : List ℕ). (l, drop i s)) (append-nil (take (i - from) (drop from s))));
         }
 
     -- the line ends
@@ -92,7 +93,9 @@ module _ (s : List ℕ) (from : ℕ) where
         record {
           forward = r .forward;
           within = r .within;
-          word-is = r .so-far ∙ rw (split-none (drop i s) d, d) (ap (λ (l : List ℕ). (l, [])) (append-nil (take (i - from) (drop from s))));
+          word-is =
+              r .so-far
+              ∙ rw (split-none (drop i s) d, d) (ap (λ (l : List ℕ). (l, [])) (append-nil (take (i - from) (drop from s))));
         }
 
 -- ---- a word after a space

@@ -9,6 +9,7 @@ use lib.ListN.{length}
 use Rattle.aiger.specs.Lists.{same}
 use Rattle.aiger.specs.Text.{bytes, when, _>>=_, _>>_}
 use Rattle.arguments.specs.Arguments.{numberOf}
+use Rattle.panel_lines.specs.declared.Verb.{Verb}
 use Rattle.panel_lines.specs.declared.View.{View}
 use Rattle.panel_lines.specs.declared.View.the-variants.{Replay, Widen, Waveform}
 use Rattle.panel_lines.specs.declared.Query.{Query}
@@ -113,27 +114,42 @@ waveformOf s = do
 
 -- ---- a line
 
--- what follows a verb, by the verb: first those that ask about the loaded circuit
-unfoldable pub queryOf : List ℕ → List ℕ → Option Command
-queryOf verb s =
-    cond (same verb (bytes "pin")) (pinOf s)
-    (cond (same verb (bytes "search")) (searchOf s)
-    (cond (same verb (bytes "fold")) (foldOf s)
-    (cond (same verb (bytes "write")) (writeOf s) none)))
+-- the verbs
+abbrev pub verbs : List (List ℕ × Verb)
+verbs =
+    (bytes "pin", Verb.Pin)
+    ∷ (bytes "search", Verb.Search)
+    ∷ (bytes "fold", Verb.Fold)
+    ∷ (bytes "write", Verb.Write)
+    ∷ (bytes "load", Verb.Load)
+    ∷ (bytes "preview", Verb.Preview)
+    ∷ (bytes "join", Verb.Join)
+    ∷ (bytes "replay", Verb.Replay)
+    ∷ (bytes "widen", Verb.Widen)
+    ∷ (bytes "waveform", Verb.Waveform)
+    ∷ []
 
--- then those that name a witness
-unfoldable pub witnessOf : List ℕ → List ℕ → Option Command
-witnessOf verb s =
-    cond (same verb (bytes "replay")) (viewOf Replay s)
-    (cond (same verb (bytes "widen")) (viewOf Widen s)
-    (cond (same verb (bytes "waveform")) (waveformOf s) (queryOf verb s)))
+-- the verb that a word is in a table
+abbrev pub among : List (List ℕ × Verb) → List ℕ → Verb
+among [] w = Verb.Unknown
+among (v ∷ vs) w = cond (same w (v .0)) (v .1) (among vs w)
 
--- and those that name files of circuits
-unfoldable pub commandOf : List ℕ → List ℕ → Option Command
-commandOf verb s =
-    cond (same verb (bytes "load")) (loadOf s)
-    (cond (same verb (bytes "preview")) (previewOf s)
-    (cond (same verb (bytes "join")) (joinOf s) (witnessOf verb s)))
+abbrev pub verbOf : List ℕ → Verb
+verbOf w = among verbs w
+
+-- a verb with what follows it
+abbrev pub commandOf : Verb → List ℕ → Option Command
+commandOf Verb.Pin s = pinOf s
+commandOf Verb.Search s = searchOf s
+commandOf Verb.Fold s = foldOf s
+commandOf Verb.Write s = writeOf s
+commandOf Verb.Load s = loadOf s
+commandOf Verb.Preview s = previewOf s
+commandOf Verb.Join s = joinOf s
+commandOf Verb.Replay s = viewOf Replay s
+commandOf Verb.Widen s = viewOf Widen s
+commandOf Verb.Waveform s = waveformOf s
+commandOf Verb.Unknown s = none
 
 -- a line of at most 4,096 bytes, without the line feed: the user, and the command
 unfoldable pub request : List ℕ → Option (ℕ × Command)
@@ -141,5 +157,5 @@ request line = do
   when (leb (length line) 4096)
   user ← numberOf ((split line) .0)
   verb ← word ((split line) .1)
-  command ← commandOf (verb .0) (verb .1)
+  command ← commandOf (verbOf (verb .0)) (verb .1)
   some (user, command)

@@ -1,6 +1,7 @@
 // A line of the resident program as a command.
 use arguments::Argument;
 ghost use mathlib.Core.Path.{_≡_};
+ghost use mathlib.Core.Bool.{cond};
 ghost use Prim.Native.Nat.{_≤_};
 ghost use lib.ListN.{length, drop};
 ghost use Rattle.aiger.specs.Lists.{same};
@@ -16,8 +17,7 @@ ghost use Rattle.panel_lines.specs.Grammar.{
   viewOf,
   flagOf,
   waveformOf,
-  queryOf,
-  witnessOf,
+  verbOf,
   commandOf,
   request,
 };
@@ -38,6 +38,21 @@ ghost use Rattle.panel_lines.specs.Reading.{
 pub struct Part {
     pub from: usize,
     pub to: usize,
+}
+
+// The word after the user's number. Unknown is any that is no verb.
+enum Verb {
+    Pin,
+    Search,
+    Fold,
+    Write,
+    Load,
+    Preview,
+    Join,
+    Replay,
+    Widen,
+    Waveform,
+    Unknown,
 }
 
 // What asks about the loaded circuit, or sets a pin of it.
@@ -311,61 +326,53 @@ fn read_waveform(line: &[u8], at: usize) -> Task
     Task::Witness(View::Waveform(only), witness)
 }
 
-// The query of a verb, with what follows it.
-fn read_query(line: &[u8], verb: Part) -> Task
-    requires { ⌜ Inside (now line) verb ⌝ }
-    ensures { λ r. ⌜ TaskIs (now (line .entry)) (queryOf (textOf (now (line .entry)) verb) (drop (verb .to) (now (line .entry)))) r ⌝ }
+// A verb where a part of a line is its text, and another where it is not.
+fn verb_where(line: &[u8], part: Part, text: &[u8], verb: Verb, other: Verb) -> Verb
+    requires { ⌜ Inside (now line) part ⌝ }
+    ensures { λ r. ⌜ r ≡ cond (same (textOf (now (line .entry)) part) (now (text .entry))) verb other ⌝ }
 {
-    let at = verb.to;
-    if is_word(line, verb, b"pin") {
-        return read_pin(line, at);
+    if is_word(line, part, text) {
+        return verb;
     }
-    if is_word(line, verb, b"search") {
-        return read_search(line, at);
-    }
-    if is_word(line, verb, b"fold") {
-        return read_fold(line, at);
-    }
-    if is_word(line, verb, b"write") {
-        return read_write(line, at);
-    }
-    Task::Malformed
+    other
 }
 
-// The view or the query of a verb, with what follows it.
-fn read_witness(line: &[u8], verb: Part) -> Task
-    requires { ⌜ Inside (now line) verb ⌝ }
-    ensures { λ r. ⌜ TaskIs (now (line .entry)) (witnessOf (textOf (now (line .entry)) verb) (drop (verb .to) (now (line .entry)))) r ⌝ }
+// The verb that a part of a line is.
+fn verb_of(line: &[u8], part: Part) -> Verb
+    requires { ⌜ Inside (now line) part ⌝ }
+    ensures { λ r. ⌜ r ≡ verbOf (textOf (now (line .entry)) part) ⌝ }
 {
-    let at = verb.to;
-    if is_word(line, verb, b"replay") {
-        return read_view(line, at, View::Replay);
-    }
-    if is_word(line, verb, b"widen") {
-        return read_view(line, at, View::Widen);
-    }
-    if is_word(line, verb, b"waveform") {
-        return read_waveform(line, at);
-    }
-    read_query(line, verb)
+    let verb = Verb::Unknown;
+    let verb = verb_where(line, part, b"waveform", Verb::Waveform, verb);
+    let verb = verb_where(line, part, b"widen", Verb::Widen, verb);
+    let verb = verb_where(line, part, b"replay", Verb::Replay, verb);
+    let verb = verb_where(line, part, b"join", Verb::Join, verb);
+    let verb = verb_where(line, part, b"preview", Verb::Preview, verb);
+    let verb = verb_where(line, part, b"load", Verb::Load, verb);
+    let verb = verb_where(line, part, b"write", Verb::Write, verb);
+    let verb = verb_where(line, part, b"fold", Verb::Fold, verb);
+    let verb = verb_where(line, part, b"search", Verb::Search, verb);
+    verb_where(line, part, b"pin", Verb::Pin, verb)
 }
 
 // The command of a verb, with what follows it.
-fn read_task(line: &[u8], verb: Part) -> Task
-    requires { ⌜ Inside (now line) verb ⌝ }
-    ensures { λ r. ⌜ TaskIs (now (line .entry)) (commandOf (textOf (now (line .entry)) verb) (drop (verb .to) (now (line .entry)))) r ⌝ }
+fn read_task(line: &[u8], at: usize, verb: Verb) -> Task
+    requires { ⌜ at ≤ length (now line) ⌝ }
+    ensures { λ r. ⌜ TaskIs (now (line .entry)) (commandOf verb (drop at (now (line .entry)))) r ⌝ }
 {
-    let at = verb.to;
-    if is_word(line, verb, b"load") {
-        return read_load(line, at);
+    match verb {
+        Verb::Pin => read_pin(line, at),
+        Verb::Search => read_search(line, at),
+        Verb::Fold => read_fold(line, at),
+        Verb::Write => read_write(line, at),
+        Verb::Load => read_load(line, at),
+        Verb::Preview => read_preview(line, at),
+        Verb::Join => read_join(line, at),
+        Verb::Replay => read_view(line, at, View::Replay),
+        Verb::Widen => read_view(line, at, View::Widen),
+        Verb::Waveform => read_waveform(line, at),
+        Verb::Unknown => Task::Malformed,
     }
-    if is_word(line, verb, b"preview") {
-        return read_preview(line, at);
-    }
-    if is_word(line, verb, b"join") {
-        return read_join(line, at);
-    }
-    read_witness(line, verb)
 }
 
 // What is answered to a line that is no command.
@@ -389,9 +396,9 @@ pub fn read_request(line: &[u8]) -> Request
     let Argument::Number(user) = arguments::read_argument(&line[..end]) else {
         return malformed();
     };
-    let Word::At(verb) = word_after(line, end) else {
+    let Word::At(part) = word_after(line, end) else {
         return malformed();
     };
-    let task = read_task(line, verb);
+    let task = read_task(line, part.to, verb_of(line, part));
     Request { user, task }
 }

@@ -7,7 +7,9 @@ use Rattle.panel_lines.proofs.read_flag.Statement.{statement}
 use Rattle.panel_lines.proofs.read_flag.Tie as tie
 
 returns : tie.Need-returns
-returns c = let start = c .before .before .before in flag-unset (start .args .line .now) (start .args .at) (start .args .text .now) (omega arith)
+returns c =
+    let start = c .before .before .before in
+    flag-unset (start .args .line .now) (start .args .at) (start .args .text .now) (omega arith)
 
 one-name-requires : tie.Need-one-name-requires
 one-name-requires c κs = search needs
