@@ -27,22 +27,21 @@ use Rattle.panel_lines.specs.Grammar.{
   previewOf,
   joinOf,
   viewOf,
-  onlyOf,
+  flagOf,
   waveformOf,
-  queryOf,
-  witnessOf,
+  verbOf,
   commandOf,
   request,
 }
 use Rattle.panel_lines.specs.Reading.{Inside, textOf, Ends, WordAt, NumberAt, NameAt, taskOf, PartsInside, TaskIs, RequestIs}
 use Rattle.panel_lines.specs.declared.Part.{Part}
+use Rattle.panel_lines.specs.declared.Verb.{Verb}
 use Rattle.panel_lines.specs.declared.View.{View}
 use Rattle.panel_lines.specs.declared.View.the-variants.{Replay, Widen, Waveform}
-use Rattle.panel_lines.specs.declared.Query.the-variants.{Pin, Search, Fold, Write}
+use Rattle.panel_lines.specs.declared.Query.the-variants.{Pin, Search, Fold, Write, WriteBinary}
 use Rattle.panel_lines.specs.declared.Task.{Task}
 use Rattle.panel_lines.specs.declared.Task.the-variants.{Ask, Load, Preview, Join, Witness, Malformed}
 use Rattle.panel_lines.specs.declared.Request.{Request}
-use Rattle.panel_lines.proofs.Reading.{more-follows, all-read}
 
 module _ (s : List ℕ) (at : ℕ) where
   pub pin-none : none ≡ twoNumbers (drop at s) → TaskIs s (pinOf (drop at s)) Malformed
@@ -74,13 +73,17 @@ module _ (s : List ℕ) (at : ℕ) where
     unfolding searchOf
     search-all k d e = record { meaning = rw (x .number-is, ← e); parts = tt }
 
-  pub write-more : at < length s → TaskIs s (writeOf (drop at s)) Malformed
+  pub write-none : none ≡ flagOf (bytes "binary") (drop at s) → TaskIs s (writeOf (drop at s)) Malformed
   unfolding writeOf
-  write-more h = record { meaning = rw (more-follows s at h); parts = tt }
+  write-none e = record { meaning = rw (← e); parts = tt }
 
-  pub write-all : length s ≤ at → TaskIs s (writeOf (drop at s)) (Ask Write)
+  pub write-binary : some true ≡ flagOf (bytes "binary") (drop at s) → TaskIs s (writeOf (drop at s)) (Ask WriteBinary)
   unfolding writeOf
-  write-all h = record { meaning = rw (all-read s at h); parts = tt }
+  write-binary e = record { meaning = rw (← e); parts = tt }
+
+  pub write-text : some false ≡ flagOf (bytes "binary") (drop at s) → TaskIs s (writeOf (drop at s)) (Ask Write)
+  unfolding writeOf
+  write-text e = record { meaning = rw (← e); parts = tt }
 
   pub load-none : oneName (drop at s) ≡ none → TaskIs s (loadOf (drop at s)) Malformed
   unfolding loadOf
@@ -111,11 +114,12 @@ module _ (s : List ℕ) (at : ℕ) where
     unfolding joinOf
     join-all n = record { meaning = rw (w .word-is, n .name-is); parts = (w .inside, n .inside) }
 
-    pub waveform-half : none ≡ onlyOf (drop (p .to) s) → TaskIs s (waveformOf (drop at s)) Malformed
+    pub waveform-half : none ≡ flagOf (bytes "inputs") (drop (p .to) s) → TaskIs s (waveformOf (drop at s)) Malformed
     unfolding waveformOf
     waveform-half e = record { meaning = rw (w .word-is, ← e); parts = tt }
 
-    pub waveform-all : (b : Bool) → some b ≡ onlyOf (drop (p .to) s) → TaskIs s (waveformOf (drop at s)) (Witness (Waveform b) p)
+    pub waveform-all : (b : Bool) → some b ≡ flagOf (bytes "inputs") (drop (p .to) s)
+        → TaskIs s (waveformOf (drop at s)) (Witness (Waveform b) p)
     unfolding waveformOf
     waveform-all b e = record { meaning = rw (w .word-is, ← e); parts = w .inside }
 
@@ -132,25 +136,27 @@ module _ (s : List ℕ) (at : ℕ) where
     unfolding viewOf
     view-all n = record { meaning = rw (n .name-is); parts = n .inside }
 
-  pub only-nothing : length s ≤ at → some false ≡ onlyOf (drop at s)
-  unfolding onlyOf
-  only-nothing h = rw (drop-of-length-le s {i = at} h)
+  -- a word that may be given
+  module _ (w : List ℕ) where
+    pub flag-unset : length s ≤ at → some false ≡ flagOf w (drop at s)
+    unfolding flagOf
+    flag-unset h = rw (drop-of-length-le s {i = at} h)
 
-  -- where something follows
-  module _ (h : at < length s) where
-    only-word : onlyOf (drop at s) ≡ (oneName (drop at s) >>= λ w. when (same w (bytes "inputs")) >> some true)
-    unfolding onlyOf
-    only-word = rw (drop-cons s at 0 h)
+    -- where something follows
+    module _ (h : at < length s) where
+      flag-word : flagOf w (drop at s) ≡ (oneName (drop at s) >>= λ v. when (same v w) >> some true)
+      unfolding flagOf
+      flag-word = rw (drop-cons s at 0 h)
 
-    pub only-none : oneName (drop at s) ≡ none → none ≡ onlyOf (drop at s)
-    only-none e = sym (only-word ∙ rw e)
+      pub flag-none : oneName (drop at s) ≡ none → none ≡ flagOf w (drop at s)
+      flag-none e = sym (flag-word ∙ rw e)
 
-    module _ {p : Part} (n : NameAt s at p) where
-      pub only-inputs : true ≡ same (textOf s p) (bytes "inputs") → some true ≡ onlyOf (drop at s)
-      only-inputs e = sym (only-word ∙ rw (n .name-is, ← e))
+      module _ {p : Part} (n : NameAt s at p) where
+        pub flag-given : true ≡ same (textOf s p) w → some true ≡ flagOf w (drop at s)
+        flag-given e = sym (flag-word ∙ rw (n .name-is, ← e))
 
-      pub only-other : false ≡ same (textOf s p) (bytes "inputs") → none ≡ onlyOf (drop at s)
-      only-other e = sym (only-word ∙ rw (n .name-is, ← e))
+        pub flag-other : false ≡ same (textOf s p) w → none ≡ flagOf w (drop at s)
+        flag-other e = sym (flag-word ∙ rw (n .name-is, ← e))
 
 -- ---- a request
 
@@ -181,80 +187,11 @@ module _ (s : List ℕ) (r : Request) (e : r .task ≡ Malformed) where
     no-verb u n = malformed-is s (request s) r e (rw (le-leb (length s) 4096 short, first-word s w, ← u, n))
 
 pub whole : (s : List ℕ) → length s ≤ 4096 → {end : ℕ} → Ends s 0 end → {user : ℕ} → some user ≡ numberOf (take end s)
-    → {p : Part} → WordAt s end p → {t : Task} → TaskIs s (commandOf (textOf s p) (drop (p .to) s)) t → RequestIs s (request s) (record { user = user; task = t })
+    → {p : Part} → WordAt s end p → {v : Verb} → v ≡ verbOf (textOf s p) → {t : Task} → TaskIs s (commandOf v (drop (p .to) s)) t
+    → RequestIs s (request s) (record { user = user; task = t })
 unfolding request
-whole s short w u p t =
+whole s short w u p v t =
     record {
-      meaning = rw (le-leb (length s) 4096 short, first-word s w, ← u, p .word-is, ← t .meaning);
+      meaning = rw (le-leb (length s) 4096 short, first-word s w, ← u, p .word-is, ← v, ← t .meaning);
       parts = t .parts;
     }
-
--- ---- verbs
-
-module _ (s : List ℕ) (v : Part) where
-  abbrev said : List ℕ
-  said = textOf s v
-
-  abbrev rest : List ℕ
-  rest = drop (v .to) s
-
-  module _ {t : Task} where
-    pub verb-pin : true ≡ same said (bytes "pin") → TaskIs s (pinOf rest) t → TaskIs s (queryOf said rest) t
-    unfolding queryOf
-    verb-pin a x = rw (← a) x
-
-    pub verb-search : false ≡ same said (bytes "pin") → true ≡ same said (bytes "search") → TaskIs s (searchOf rest) t
-        → TaskIs s (queryOf said rest) t
-    unfolding queryOf
-    verb-search a b x = rw (← a, ← b) x
-
-    pub verb-fold : false ≡ same said (bytes "pin") → false ≡ same said (bytes "search") → true ≡ same said (bytes "fold")
-        → TaskIs s (foldOf rest) t → TaskIs s (queryOf said rest) t
-    unfolding queryOf
-    verb-fold a b d x = rw (← a, ← b, ← d) x
-
-    pub verb-write : false ≡ same said (bytes "pin") → false ≡ same said (bytes "search") → false ≡ same said (bytes "fold")
-        → true ≡ same said (bytes "write") → TaskIs s (writeOf rest) t → TaskIs s (queryOf said rest) t
-    unfolding queryOf
-    verb-write a b d f x = rw (← a, ← b, ← d, ← f) x
-
-    pub verb-load : true ≡ same said (bytes "load") → TaskIs s (loadOf rest) t → TaskIs s (commandOf said rest) t
-    unfolding commandOf
-    verb-load a x = rw (← a) x
-
-    module _ (a : false ≡ same said (bytes "load")) where
-      pub verb-preview : true ≡ same said (bytes "preview") → TaskIs s (previewOf rest) t → TaskIs s (commandOf said rest) t
-      unfolding commandOf
-      verb-preview b x = rw (← a, ← b) x
-
-      module _ (b : false ≡ same said (bytes "preview")) where
-        pub verb-join : true ≡ same said (bytes "join") → TaskIs s (joinOf rest) t → TaskIs s (commandOf said rest) t
-        unfolding commandOf
-        verb-join d x = rw (← a, ← b, ← d) x
-
-        pub verb-witness : false ≡ same said (bytes "join") → TaskIs s (witnessOf said rest) t → TaskIs s (commandOf said rest) t
-        unfolding commandOf
-        verb-witness d x = rw (← a, ← b, ← d) x
-
-    pub verb-replay : true ≡ same said (bytes "replay") → TaskIs s (viewOf Replay rest) t → TaskIs s (witnessOf said rest) t
-    unfolding witnessOf
-    verb-replay a x = rw (← a) x
-
-    module _ (a : false ≡ same said (bytes "replay")) where
-      pub verb-widen : true ≡ same said (bytes "widen") → TaskIs s (viewOf Widen rest) t → TaskIs s (witnessOf said rest) t
-      unfolding witnessOf
-      verb-widen b x = rw (← a, ← b) x
-
-      module _ (b : false ≡ same said (bytes "widen")) where
-        pub verb-waveform : true ≡ same said (bytes "waveform") → TaskIs s (waveformOf rest) t → TaskIs s (witnessOf said rest) t
-        unfolding witnessOf
-        verb-waveform d x = rw (← a, ← b, ← d) x
-
-        pub verb-query : false ≡ same said (bytes "waveform") → TaskIs s (queryOf said rest) t → TaskIs s (witnessOf said rest) t
-        unfolding witnessOf
-        verb-query d x = rw (← a, ← b, ← d) x
-
-  pub verb-none : false ≡ same said (bytes "pin") → false ≡ same said (bytes "search") → false ≡ same said (bytes "fold")
-      → false ≡ same said (bytes "write") → TaskIs s (queryOf said rest) Malformed
-  unfolding queryOf
-  verb-none a b d f = rw (← a, ← b, ← d, ← f) (record { meaning = refl; parts = tt })

@@ -6,15 +6,27 @@ use mathlib.Core.Option.{Option, none, some}
 use Prim.Native.Nat.{ℕ, zero, suc, _+_, _-_, _≤_, _<_}
 use native.Mathlib.Numerals.{add-one}
 use native.Mathlib.Omega.{arith}
-use borrow.Author.Tests.{eq-eqb, ne-eqb}
-use lib.Dec.{eqb}
+use borrow.Author.Tests.{le-leb, lt-leb, eq-eqb, ne-eqb}
+use lib.Dec.{eqb, leb}
 use lib.ListN.{length, take, drop, getD, length-drop, drop-of-length-le}
-use lib.Seq.{take-suc, drop-cons, getD-drop}
-use Rattle.aiger.specs.Text.{_>>=_, _>>_}
+use lib.Seq.{take-suc, drop-cons, getD-drop, length-take-le}
+use Rattle.aiger.specs.Lists.{same}
+use Rattle.aiger.specs.Text.{when, _>>=_, _>>_}
+use Rattle.aiger.proofs.Tests.{T-true, true-T}
+use Rattle.meaning.proofs.Lists.{same-eq, same-of}
 use Rattle.arguments.specs.Arguments.{numberOf}
 use Rattle.panel_lines.specs.Grammar.{split, word, number, ended, twoNumbers, oneName}
 use Rattle.panel_lines.specs.Reading.{Inside, textOf, Ends, WordAt, NumberAt, NameAt}
 use Rattle.panel_lines.specs.declared.Part.{Part}
+
+-- a flag that is true exactly where two lists are equal
+pub by-same : (r : Bool) (xs ys : List ℕ) → (r ≡ true → xs ≡ ys) × (xs ≡ ys → r ≡ true) → r ≡ same xs ys
+by-same true xs ys h = sym (true-T (same xs ys) (same-of (h .0 refl)))
+by-same false xs ys h = go (same xs ys) refl
+  where
+    go : (b : Bool) → same xs ys ≡ b → false ≡ b
+    go true e = h .1 (same-eq xs ys (T-true e))
+    go false e = refl
 
 -- ---- where a word ends
 
@@ -70,7 +82,8 @@ module _ (s : List ℕ) (from : ℕ) where
           within = r .within;
           word-is =
               r .so-far
-              ∙ rw (split-space (drop i s) (drop (suc i) s) (getD s i 0) d e) (ap (λ (l : List ℕ). (l, drop i s)) (append-nil (take (i - from) (drop from s))));
+              ∙ rw (split-space (drop i s) (drop (suc i) s) (getD s i 0) d e)
+              (ap (λ (l : List ℕ). (l, drop i s)) (append-nil (take (i - from) (drop from s))));
         }
 
     -- the line ends
@@ -80,7 +93,9 @@ module _ (s : List ℕ) (from : ℕ) where
         record {
           forward = r .forward;
           within = r .within;
-          word-is = r .so-far ∙ rw (split-none (drop i s) d, d) (ap (λ (l : List ℕ). (l, [])) (append-nil (take (i - from) (drop from s))));
+          word-is =
+              r .so-far
+              ∙ rw (split-none (drop i s) d, d) (ap (λ (l : List ℕ). (l, [])) (append-nil (take (i - from) (drop from s))));
         }
 
 -- ---- a word after a space
@@ -89,14 +104,27 @@ pub no-word : (s : List ℕ) (at : ℕ) → length s ≤ at → word (drop at s)
 unfolding word
 no-word s at h = rw (drop-of-length-le s {i = at} h)
 
-pub a-word : (s : List ℕ) (at end : ℕ) → at < length s → Ends s (at + 1) end → WordAt s at (record { from = at + 1; to = end })
-unfolding word
-a-word s at end h e =
-    let d : drop at s ≡ getD s at 0 ∷ drop (at + 1) s = rw (add-one at) (drop-cons s at 0 h) in
-    record {
-      inside = record { forward = e .forward; within = e .within };
-      word-is = rw d (ap (λ (p : List ℕ × List ℕ). some p) (e .word-is));
-    }
+-- the space at `at` is followed by the word that ends at `end`
+module _ (s : List ℕ) (at end : ℕ) (h : at < length s) (e : Ends s (at + 1) end) where
+  from-space : drop at s ≡ getD s at 0 ∷ drop (at + 1) s
+  from-space = rw (add-one at) (drop-cons s at 0 h)
+
+  size : length (take (end - (at + 1)) (drop (at + 1) s)) ≡ end - (at + 1)
+  size = length-take-le (end - (at + 1)) (drop (at + 1) s) (omega (arith, length-drop (at + 1) s, e .within))
+
+  pub empty-word : end ≡ at + 1 → word (drop at s) ≡ none
+  unfolding word
+  empty-word z =
+      rw (from-space, e .word-is, lt-leb 1 (length (take (end - (at + 1)) (drop (at + 1) s))) (omega (arith, size)))
+
+  pub a-word : at + 1 < end → WordAt s at (record { from = at + 1; to = end })
+  unfolding word
+  a-word n =
+      record {
+        inside = record { forward = e .forward; within = e .within };
+        word-is =
+            rw (from-space, e .word-is, le-leb 1 (length (take (end - (at + 1)) (drop (at + 1) s))) (omega (arith, size)));
+      }
 
 -- ---- a number after a space
 

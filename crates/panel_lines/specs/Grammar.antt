@@ -9,10 +9,11 @@ use lib.ListN.{length}
 use Rattle.aiger.specs.Lists.{same}
 use Rattle.aiger.specs.Text.{bytes, when, _>>=_, _>>_}
 use Rattle.arguments.specs.Arguments.{numberOf}
+use Rattle.panel_lines.specs.declared.Verb.{Verb}
 use Rattle.panel_lines.specs.declared.View.{View}
 use Rattle.panel_lines.specs.declared.View.the-variants.{Replay, Widen, Waveform}
 use Rattle.panel_lines.specs.declared.Query.{Query}
-use Rattle.panel_lines.specs.declared.Query.the-variants.{Pin, Search, Fold, Write}
+use Rattle.panel_lines.specs.declared.Query.the-variants.{Pin, Search, Fold, Write, WriteBinary}
 
 -- a command: a query of the loaded circuit, or one that names files, of which a view is one of a witness
 pub data Command : Type 0 where
@@ -27,10 +28,10 @@ unfoldable pub split : List ℕ → List ℕ × List ℕ
 split [] = ([], [])
 split (c ∷ s) = cond (eqb c 32) ([], c ∷ s) (c ∷ (split s) .0, (split s) .1)
 
--- the word after a space, and what follows it
+-- the word after a space, which has a byte at least, and what follows it
 unfoldable pub word : List ℕ → Option (List ℕ × List ℕ)
 word [] = none
-word (c ∷ s) = some (split s)
+word (c ∷ s) = when (leb 1 (length ((split s) .0))) >> some (split s)
 
 -- a word that is a number
 unfoldable pub number : List ℕ → Option (ℕ × List ℕ)
@@ -61,6 +62,11 @@ oneName s = do
   ended (f .1)
   some (f .0)
 
+-- nothing, or a word that may be given
+unfoldable pub flagOf : List ℕ → List ℕ → Option Bool
+flagOf w [] = some false
+flagOf w (c ∷ s) = oneName (c ∷ s) >>= λ v. when (same v w) >> some true
+
 -- pin INPUT VALUE
 unfoldable pub pinOf : List ℕ → Option Command
 pinOf s = twoNumbers s >>= λ p. some (Command.query (Pin (p .0) (p .1)))
@@ -76,9 +82,9 @@ searchOf s = do
 unfoldable pub foldOf : List ℕ → Option Command
 foldOf s = twoNumbers s >>= λ p. some (Command.query (Fold (p .0) (p .1)))
 
--- write
+-- write [binary]
 unfoldable pub writeOf : List ℕ → Option Command
-writeOf s = ended s >> some (Command.query Write)
+writeOf s = flagOf (bytes "binary") s >>= λ b. some (Command.query (cond b WriteBinary Write))
 
 -- load FILE
 unfoldable pub loadOf : List ℕ → Option Command
@@ -99,41 +105,51 @@ joinOf s = do
 unfoldable pub viewOf : View → List ℕ → Option Command
 viewOf v s = oneName s >>= λ f. some (Command.view v f)
 
--- nothing, or the word `inputs`
-unfoldable pub onlyOf : List ℕ → Option Bool
-onlyOf [] = some false
-onlyOf (c ∷ s) = oneName (c ∷ s) >>= λ w. when (same w (bytes "inputs")) >> some true
-
 -- waveform WITNESS [inputs]
 unfoldable pub waveformOf : List ℕ → Option Command
 waveformOf s = do
   f ← word s
-  only ← onlyOf (f .1)
+  only ← flagOf (bytes "inputs") (f .1)
   some (Command.view (Waveform only) (f .0))
 
 -- ---- a line
 
--- what follows a verb, by the verb: first those that ask about the loaded circuit
-unfoldable pub queryOf : List ℕ → List ℕ → Option Command
-queryOf verb s =
-    cond (same verb (bytes "pin")) (pinOf s)
-    (cond (same verb (bytes "search")) (searchOf s)
-    (cond (same verb (bytes "fold")) (foldOf s)
-    (cond (same verb (bytes "write")) (writeOf s) none)))
+-- the verbs
+abbrev pub verbs : List (List ℕ × Verb)
+verbs =
+    (bytes "pin", Verb.Pin)
+    ∷ (bytes "search", Verb.Search)
+    ∷ (bytes "fold", Verb.Fold)
+    ∷ (bytes "write", Verb.Write)
+    ∷ (bytes "load", Verb.Load)
+    ∷ (bytes "preview", Verb.Preview)
+    ∷ (bytes "join", Verb.Join)
+    ∷ (bytes "replay", Verb.Replay)
+    ∷ (bytes "widen", Verb.Widen)
+    ∷ (bytes "waveform", Verb.Waveform)
+    ∷ []
 
--- then those that name a witness
-unfoldable pub witnessOf : List ℕ → List ℕ → Option Command
-witnessOf verb s =
-    cond (same verb (bytes "replay")) (viewOf Replay s)
-    (cond (same verb (bytes "widen")) (viewOf Widen s)
-    (cond (same verb (bytes "waveform")) (waveformOf s) (queryOf verb s)))
+-- the verb that a word is in a table
+abbrev pub among : List (List ℕ × Verb) → List ℕ → Verb
+among [] w = Verb.Unknown
+among (v ∷ vs) w = cond (same w (v .0)) (v .1) (among vs w)
 
--- and those that name files of circuits
-unfoldable pub commandOf : List ℕ → List ℕ → Option Command
-commandOf verb s =
-    cond (same verb (bytes "load")) (loadOf s)
-    (cond (same verb (bytes "preview")) (previewOf s)
-    (cond (same verb (bytes "join")) (joinOf s) (witnessOf verb s)))
+abbrev pub verbOf : List ℕ → Verb
+verbOf w = among verbs w
+
+-- a verb with what follows it
+abbrev pub commandOf : Verb → List ℕ → Option Command
+commandOf Verb.Pin s = pinOf s
+commandOf Verb.Search s = searchOf s
+commandOf Verb.Fold s = foldOf s
+commandOf Verb.Write s = writeOf s
+commandOf Verb.Load s = loadOf s
+commandOf Verb.Preview s = previewOf s
+commandOf Verb.Join s = joinOf s
+commandOf Verb.Replay s = viewOf Replay s
+commandOf Verb.Widen s = viewOf Widen s
+commandOf Verb.Waveform s = waveformOf s
+commandOf Verb.Unknown s = none
 
 -- a line of at most 4,096 bytes, without the line feed: the user, and the command
 unfoldable pub request : List ℕ → Option (ℕ × Command)
@@ -141,5 +157,5 @@ request line = do
   when (leb (length line) 4096)
   user ← numberOf ((split line) .0)
   verb ← word ((split line) .1)
-  command ← commandOf (verb .0) (verb .1)
+  command ← commandOf (verbOf (verb .0)) (verb .1)
   some (user, command)

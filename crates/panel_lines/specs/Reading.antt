@@ -14,8 +14,8 @@ use Rattle.panel_lines.specs.declared.Number.{Number}
 use Rattle.panel_lines.specs.declared.Number.the-variants.{Value, Wrong}
 use Rattle.panel_lines.specs.declared.Two.{Two}
 use Rattle.panel_lines.specs.declared.Two.the-variants.{Both, Neither}
-use Rattle.panel_lines.specs.declared.Only.{Only}
-use Rattle.panel_lines.specs.declared.Only.the-variants.{Says, Unsaid}
+use Rattle.panel_lines.specs.declared.Flag.{Flag}
+use Rattle.panel_lines.specs.declared.Flag.the-variants.{Given, Unknown}
 use Rattle.panel_lines.specs.declared.Task.{Task}
 use Rattle.panel_lines.specs.declared.Task.the-variants.{Ask, Load, Preview, Join, Witness, Malformed}
 use Rattle.panel_lines.specs.declared.Request.{Request}
@@ -66,9 +66,9 @@ abbrev pub NameIs : List ℕ → ℕ → Word → Type 0
 NameIs s at (At p) = NameAt s at p
 NameIs s at Missing = oneName (drop at s) ≡ none
 
-abbrev pub onlySaid : Only → Option Bool
-onlySaid (Says b) = some b
-onlySaid Unsaid = none
+abbrev pub givenOf : Flag → Option Bool
+givenOf (Given b) = some b
+givenOf Unknown = none
 
 -- the command that a task is: parts of the line are names of files
 abbrev pub taskOf : List ℕ → Task → Option Command

@@ -1,5 +1,5 @@
 -- `panel_lines::is_word` meets its contract. Assumes nothing.
-use Rattle.job.proofs.Requests.{by-same}
+use Rattle.panel_lines.proofs.Reading.{by-same}
 use Rattle.panel_lines.specs.Reading.{textOf}
 use borrow.Author.Needs.{needs}
 use Rattle.panel_lines.proofs.is_word.Statement.{statement}
@@ -18,7 +18,9 @@ same-requires : tie.Need-same-requires
 same-requires c κs = search needs
 
 returns : tie.Need-returns
-returns c = by-same (c .same .result) (textOf (c .before .before .before .before .args .line .now) (c .before .before .before .before .args .part)) (c .before .before .before .before .args .text .now) (c .same .ensures)
+returns c =
+    let start = c .before .before .before .before in
+    by-same (c .same .result) (textOf (start .args .line .now) (start .args .part)) (start .args .text .now) (c .same .ensures)
 
 pub is-word-spec : {M : Type 1} → statement M
 is-word-spec = tie.close (tie.spec sub-same part-same-start part-same-end same-requires returns)

@@ -48,8 +48,8 @@ returns-2 c =
 word-after-requires : tie.Need-word-after-requires
 word-after-requires c κs = search needs
 
-enum-known-verb : tie.Need-enum-known-verb
-enum-known-verb c = search needs
+enum-known-part : tie.Need-enum-known-part
+enum-known-part c = search needs
 
 enum-told-2 : tie.Need-enum-told-2
 enum-told-2 c = search needs
@@ -69,23 +69,31 @@ returns-3 c =
     (rw (at-user .user .given .1) at (at-read-argument .read-argument .ensures))
     (rw (at-enum-told2 .enum-told2 .given .1) at (at-word-after .word-after .ensures))
 
+verb-of-requires : tie.Need-verb-of-requires
+verb-of-requires c κs =
+    let at-part = c .before in
+    let at-word-after = at-part .before .before in
+    (rw (at-part .part .given .1) at (at-word-after .word-after .ensures)) .inside
+
 read-task-requires : tie.Need-read-task-requires
 read-task-requires c κs =
-    let at-verb = c .before in
-    let at-word-after = at-verb .before .before in
-    (rw (at-verb .verb .given .1) at (at-word-after .word-after .ensures)) .inside
+    let at-part = c .before .before in
+    let at-word-after = at-part .before .before in
+    (rw (at-part .part .given .1) at (at-word-after .word-after .ensures)) .inside .within
 
 returns-4 : tie.Need-returns-4
 returns-4 c =
-    let at-verb = c .before .before in
-    let at-word-after = at-verb .before .before in
+    let at-verb-of = c .before in
+    let at-part = at-verb-of .before .before in
+    let at-word-after = at-part .before .before in
     let at-user = at-word-after .before .before in
     let at-read-argument = at-user .before .before in
     let at-word-end = at-read-argument .before .before in
     let start = at-word-end .before .before .before in
     whole (start .args .line .now) (omega arith) (at-word-end .word-end .ensures)
     (rw (at-user .user .given .1) at (at-read-argument .read-argument .ensures))
-    (rw (at-verb .verb .given .1) at (at-word-after .word-after .ensures)) (c .read-task .ensures)
+    (rw (at-part .part .given .1) at (at-word-after .word-after .ensures)) (at-verb-of .verb-of .ensures)
+    (c .read-task .ensures)
 
 pub read-request-spec : {M : Type 1} → statement M
 read-request-spec =
@@ -101,9 +109,10 @@ read-request-spec =
     malformed-requires-2
     returns-2
     word-after-requires
-    enum-known-verb
+    enum-known-part
     enum-told-2
     malformed-requires-3
     returns-3
+    verb-of-requires
     read-task-requires
     returns-4)

@@ -1,99 +1,138 @@
 -- `panel_lines::read_task` meets its contract. Assumes nothing.
-use mathlib.Core.Path.{sym, _∙_}
-use Rattle.panel_lines.proofs.Commands.{verb-load, verb-preview, verb-join, verb-witness}
+use mathlib.Core.Path.{refl}
 use borrow.Author.Needs.{needs}
 use Rattle.panel_lines.proofs.read_task.Statement.{statement}
 use Rattle.panel_lines.proofs.read_task.Tie as tie
 
-slice-aggregate-is-word : tie.Need-slice-aggregate-is-word
-slice-aggregate-is-word c = search needs
+enum-told : tie.Need-enum-told
+enum-told c = search needs
 
-is-word-requires : tie.Need-is-word-requires
-is-word-requires c κs = search needs
+read-pin-requires : tie.Need-read-pin-requires
+read-pin-requires c κs = search needs
+
+enum-told-2 : tie.Need-enum-told-2
+enum-told-2 c = search needs
+
+read-search-requires : tie.Need-read-search-requires
+read-search-requires c κs = search needs
+
+enum-told-3 : tie.Need-enum-told-3
+enum-told-3 c = search needs
+
+read-fold-requires : tie.Need-read-fold-requires
+read-fold-requires c κs = search needs
+
+enum-told-4 : tie.Need-enum-told-4
+enum-told-4 c = search needs
+
+read-write-requires : tie.Need-read-write-requires
+read-write-requires c κs = search needs
+
+enum-told-5 : tie.Need-enum-told-5
+enum-told-5 c = search needs
 
 read-load-requires : tie.Need-read-load-requires
 read-load-requires c κs = search needs
 
-returns : tie.Need-returns
-returns c =
-    let then1 = c .before in
-    let at-is-word = then1 .before in
-    let start = at-is-word .before .before .before in
-    verb-load (start .args .line .now) (start .args .verb) (sym (then1 .if1 .taken) ∙ at-is-word .is-word .ensures)
-    (c .read-load .ensures)
-
-slice-aggregate-is-word-2 : tie.Need-slice-aggregate-is-word-2
-slice-aggregate-is-word-2 c = search needs
-
-is-word-requires-2 : tie.Need-is-word-requires-2
-is-word-requires-2 c κs = search needs
+enum-told-6 : tie.Need-enum-told-6
+enum-told-6 c = search needs
 
 read-preview-requires : tie.Need-read-preview-requires
 read-preview-requires c κs = search needs
 
-returns-2 : tie.Need-returns-2
-returns-2 c =
-    let then2 = c .before in
-    let at-is-word2 = then2 .before in
-    let else1 = at-is-word2 .before .before in
-    let at-is-word = else1 .before in
-    let start = at-is-word .before .before .before in
-    verb-preview (start .args .line .now) (start .args .verb) (sym (else1 .if1 .left) ∙ at-is-word .is-word .ensures)
-    (sym (then2 .if2 .taken) ∙ at-is-word2 .is-word2 .ensures) (c .read-preview .ensures)
-
-slice-aggregate-is-word-3 : tie.Need-slice-aggregate-is-word-3
-slice-aggregate-is-word-3 c = search needs
-
-is-word-requires-3 : tie.Need-is-word-requires-3
-is-word-requires-3 c κs = search needs
+enum-told-7 : tie.Need-enum-told-7
+enum-told-7 c = search needs
 
 read-join-requires : tie.Need-read-join-requires
 read-join-requires c κs = search needs
 
-returns-3 : tie.Need-returns-3
-returns-3 c =
-    let then3 = c .before in
-    let at-is-word3 = then3 .before in
-    let else2 = at-is-word3 .before .before in
-    let at-is-word2 = else2 .before in
-    let else1 = at-is-word2 .before .before in
-    let at-is-word = else1 .before in
-    let start = at-is-word .before .before .before in
-    verb-join (start .args .line .now) (start .args .verb) (sym (else1 .if1 .left) ∙ at-is-word .is-word .ensures)
-    (sym (else2 .if2 .left) ∙ at-is-word2 .is-word2 .ensures) (sym (then3 .if3 .taken) ∙ at-is-word3 .is-word3 .ensures)
-    (c .read-join .ensures)
+enum-told-8 : tie.Need-enum-told-8
+enum-told-8 c = search needs
 
-read-witness-requires : tie.Need-read-witness-requires
-read-witness-requires c κs = search needs
+read-view-requires : tie.Need-read-view-requires
+read-view-requires c κs = search needs
+
+enum-told-9 : tie.Need-enum-told-9
+enum-told-9 c = search needs
+
+read-view-requires-2 : tie.Need-read-view-requires-2
+read-view-requires-2 c κs = search needs
+
+enum-told-10 : tie.Need-enum-told-10
+enum-told-10 c = search needs
+
+read-waveform-requires : tie.Need-read-waveform-requires
+read-waveform-requires c κs = search needs
+
+enum-told-11 : tie.Need-enum-told-11
+enum-told-11 c = search needs
+
+returns : tie.Need-returns
+returns c = rw (c .before .enum-told .given .1) (c .read-pin .ensures)
+
+returns-2 : tie.Need-returns-2
+returns-2 c = rw (c .before .enum-told2 .given .1) (c .read-search .ensures)
+
+returns-3 : tie.Need-returns-3
+returns-3 c = rw (c .before .enum-told3 .given .1) (c .read-fold .ensures)
 
 returns-4 : tie.Need-returns-4
-returns-4 c =
-    let else3 = c .before in
-    let at-is-word3 = else3 .before in
-    let else2 = at-is-word3 .before .before in
-    let at-is-word2 = else2 .before in
-    let else1 = at-is-word2 .before .before in
-    let at-is-word = else1 .before in
-    let start = at-is-word .before .before .before in
-    verb-witness (start .args .line .now) (start .args .verb) (sym (else1 .if1 .left) ∙ at-is-word .is-word .ensures)
-    (sym (else2 .if2 .left) ∙ at-is-word2 .is-word2 .ensures) (sym (else3 .if3 .left) ∙ at-is-word3 .is-word3 .ensures)
-    (c .read-witness .ensures)
+returns-4 c = rw (c .before .enum-told4 .given .1) (c .read-write .ensures)
+
+returns-5 : tie.Need-returns-5
+returns-5 c = rw (c .before .enum-told5 .given .1) (c .read-load .ensures)
+
+returns-6 : tie.Need-returns-6
+returns-6 c = rw (c .before .enum-told6 .given .1) (c .read-preview .ensures)
+
+returns-7 : tie.Need-returns-7
+returns-7 c = rw (c .before .enum-told7 .given .1) (c .read-join .ensures)
+
+returns-8 : tie.Need-returns-8
+returns-8 c = rw (c .before .enum-told8 .given .1) (c .read-view .ensures)
+
+returns-9 : tie.Need-returns-9
+returns-9 c = rw (c .before .enum-told9 .given .1) (c .read-view2 .ensures)
+
+returns-10 : tie.Need-returns-10
+returns-10 c = rw (c .before .enum-told10 .given .1) (c .read-waveform .ensures)
+
+returns-11 : tie.Need-returns-11
+returns-11 c = rw (c .enum-told11 .given .1) (record { meaning = refl; parts = tt })
 
 pub read-task-spec : {M : Type 1} → statement M
 read-task-spec =
     tie.close
     (tie.spec
-    slice-aggregate-is-word
-    is-word-requires
+    enum-told
+    read-pin-requires
+    enum-told-2
+    read-search-requires
+    enum-told-3
+    read-fold-requires
+    enum-told-4
+    read-write-requires
+    enum-told-5
     read-load-requires
-    returns
-    slice-aggregate-is-word-2
-    is-word-requires-2
+    enum-told-6
     read-preview-requires
-    returns-2
-    slice-aggregate-is-word-3
-    is-word-requires-3
+    enum-told-7
     read-join-requires
+    enum-told-8
+    read-view-requires
+    enum-told-9
+    read-view-requires-2
+    enum-told-10
+    read-waveform-requires
+    enum-told-11
+    returns
+    returns-2
     returns-3
-    read-witness-requires
-    returns-4)
+    returns-4
+    returns-5
+    returns-6
+    returns-7
+    returns-8
+    returns-9
+    returns-10
+    returns-11)

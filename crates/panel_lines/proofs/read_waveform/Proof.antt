@@ -19,9 +19,12 @@ returns c =
     let start = at-word-after .before .before in
     waveform-none (start .args .line .now) (start .args .at) (rw (c .enum-told .given .1) at (at-word-after .word-after .ensures))
 
-read-only-requires : tie.Need-read-only-requires
-read-only-requires c κs =
-    let at-witness = c .before in
+slice-aggregate-read-flag : tie.Need-slice-aggregate-read-flag
+slice-aggregate-read-flag c = search needs
+
+read-flag-requires : tie.Need-read-flag-requires
+read-flag-requires c κs =
+    let at-witness = c .before .before in
     let at-word-after = at-witness .before .before in
     (rw (at-witness .witness .given .1) at (at-word-after .word-after .ensures)) .inside .within
 
@@ -33,24 +36,24 @@ enum-told-2 c = search needs
 
 returns-2 : tie.Need-returns-2
 returns-2 c =
-    let at-read-only = c .before .before in
-    let at-witness = at-read-only .before .before in
+    let at-read-flag = c .before .before in
+    let at-witness = at-read-flag .before .before .before in
     let at-word-after = at-witness .before .before in
     let start = at-word-after .before .before in
     waveform-half (start .args .line .now) (start .args .at)
     (rw (at-witness .witness .given .1) at (at-word-after .word-after .ensures))
-    (rw (c .enum-told2 .given .1) at (at-read-only .read-only .ensures))
+    (rw (c .enum-told2 .given .1) at (at-read-flag .read-flag .ensures))
 
 returns-3 : tie.Need-returns-3
 returns-3 c =
     let at-only = c .before in
-    let at-read-only = at-only .before .before in
-    let at-witness = at-read-only .before .before in
+    let at-read-flag = at-only .before .before in
+    let at-witness = at-read-flag .before .before .before in
     let at-word-after = at-witness .before .before in
     let start = at-word-after .before .before in
     waveform-all (start .args .line .now) (start .args .at)
     (rw (at-witness .witness .given .1) at (at-word-after .word-after .ensures)) _
-    (rw (at-only .only .given .1) at (at-read-only .read-only .ensures))
+    (rw (at-only .only .given .1) at (at-read-flag .read-flag .ensures))
 
 pub read-waveform-spec : {M : Type 1} → statement M
 read-waveform-spec =
@@ -60,7 +63,8 @@ read-waveform-spec =
     enum-known-witness
     enum-told
     returns
-    read-only-requires
+    slice-aggregate-read-flag
+    read-flag-requires
     enum-known-only
     enum-told-2
     returns-2

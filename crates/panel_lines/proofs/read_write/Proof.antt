@@ -1,14 +1,51 @@
 -- `panel_lines::read_write` meets its contract. Assumes nothing.
-use native.Mathlib.Omega.{arith}
-use Rattle.panel_lines.proofs.Commands.{write-more, write-all}
+use Rattle.panel_lines.proofs.Commands.{write-none, write-binary, write-text}
+use borrow.Author.Needs.{needs}
 use Rattle.panel_lines.proofs.read_write.Statement.{statement}
 use Rattle.panel_lines.proofs.read_write.Tie as tie
 
+slice-aggregate-read-flag : tie.Need-slice-aggregate-read-flag
+slice-aggregate-read-flag c = search needs
+
+read-flag-requires : tie.Need-read-flag-requires
+read-flag-requires c κs = search needs
+
+enum-known-binary : tie.Need-enum-known-binary
+enum-known-binary c = search needs
+
+enum-told : tie.Need-enum-told
+enum-told c = search needs
+
 returns : tie.Need-returns
-returns c = let start = c .before in write-more (start .args .line .now) (start .args .at) (c .if1 .taken)
+returns c =
+    let at-read-flag = c .before .before in
+    let start = at-read-flag .before .before .before in
+    write-none (start .args .line .now) (start .args .at) (rw (c .enum-told .given .1) at (at-read-flag .read-flag .ensures))
 
 returns-2 : tie.Need-returns-2
-returns-2 c = let start = c .before in write-all (start .args .line .now) (start .args .at) (omega arith)
+returns-2 c =
+    let at-binary = c .before .before in
+    let at-read-flag = at-binary .before .before in
+    let start = at-read-flag .before .before .before in
+    write-binary (start .args .line .now) (start .args .at)
+    (rw (at-binary .binary .given .1, c .if1 .taken) at (at-read-flag .read-flag .ensures))
+
+returns-3 : tie.Need-returns-3
+returns-3 c =
+    let at-binary = c .before .before in
+    let at-read-flag = at-binary .before .before in
+    let start = at-read-flag .before .before .before in
+    write-text (start .args .line .now) (start .args .at)
+    (rw (at-binary .binary .given .1, c .if1 .left) at (at-read-flag .read-flag .ensures))
 
 pub read-write-spec : {M : Type 1} → statement M
-read-write-spec = tie.close (tie.spec returns returns-2)
+read-write-spec =
+    tie.close
+    (tie.spec
+    slice-aggregate-read-flag
+    read-flag-requires
+    enum-known-binary
+    enum-told
+    returns
+    returns-2
+    returns-3)
