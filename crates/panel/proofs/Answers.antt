@@ -32,10 +32,11 @@ use Rattle.search.specs.declared.SearchAnswer.the-variants as Variants
 use Rattle.fold.specs.Chosen as Fold
 use Rattle.users.specs.Users.{ForUser, PinnedSearched, PinnedFolded}
 use Rattle.user_calls.specs.Calls.{PinSet}
-use Rattle.user_write.specs.Written.{UserWritten}
+use Rattle.user_write.specs.Written.{UserWritten, UserWrittenBinary}
+use Rattle.renumbered.specs.Renumbered.{writeBinary}
 use Rattle.history.specs.History.{State, Step}
 use Rattle.panel_lines.specs.declared.Query.{Query}
-use Rattle.panel_lines.specs.declared.Query.the-variants.{Pin, Search, Fold, Write}
+use Rattle.panel_lines.specs.declared.Query.the-variants.{Pin, Search, Fold, Write, WriteBinary}
 use Rattle.panel.specs.Answers.{loadWords, Said, Queried}
 
 -- the line of a load
@@ -54,6 +55,9 @@ fold-inside m pins w out user b t (ForUser.known k (Operated.acts c h j e)) = fr
 
 pub write-inside : (m out : List ℕ) {out′ : List ℕ} {user n : ℕ} → UserWritten m user out (gives n) out′ → n ≤ length out′
 write-inside m out (ForUser.known k (Operated.acts c h j e)) = front-inside (write c) out (e .count) (e .shows)
+
+pub binary-inside : (m out : List ℕ) {out′ : List ℕ} {user n : ℕ} → UserWrittenBinary m user out (gives n) out′ → n ≤ length out′
+binary-inside m out (ForUser.known k (Operated.acts c h j e)) = front-inside (writeBinary c) out (e .count) (e .shows)
 
 -- ---- a search
 
@@ -99,4 +103,6 @@ strange (Search b k D) s out h f e =
     record { answer = refused 18; permitted = Step.searches (ForUser.stranger h) refl; line-is = f; out-is = e; inside = omega arith }
 strange (Fold b t) s out h f e =
     record { answer = refused 18; permitted = Step.folds (ForUser.stranger h) refl; line-is = f; out-is = e; inside = omega arith }
+strange WriteBinary s out h f e =
+    record { answer = refused 18; permitted = Step.writesBinary (ForUser.stranger h); line-is = f; out-is = e; inside = omega arith }
 strange Write s out h f e = record { answer = refused 18; permitted = Step.writes (ForUser.stranger h); line-is = f; out-is = e; inside = omega arith }

@@ -19,7 +19,7 @@ use Rattle.preview_command.specs.Texts.{previewReply}
 use Rattle.user_calls.specs.Calls.{UserLoaded}
 use Rattle.history.specs.History as History
 use Rattle.panel_lines.specs.declared.Query.{Query}
-use Rattle.panel_lines.specs.declared.Query.the-variants.{Pin, Search, Fold, Write}
+use Rattle.panel_lines.specs.declared.Query.the-variants.{Pin, Search, Fold, Write, WriteBinary}
 
 -- ---- lines, by answers
 
@@ -73,6 +73,8 @@ Queried (Fold b t) user s out line r s′ out′ line′ =
     Said (λ a. History.Step s (History.Call.fold user b t out) (History.Reply.folded a out′) s′) textWords textLength line r line′ out′
 Queried Write user s out line r s′ out′ line′ =
     Said (λ a. History.Step s (History.Call.write user out) (History.Reply.written a out′) s′) textWords textLength line r line′ out′
+Queried WriteBinary user s out line r s′ out′ line′ =
+    Said (λ a. History.Step s (History.Call.writeBinary user out) (History.Reply.written a out′) s′) textWords textLength line r line′ out′
 
 -- preview FILE: what the program preview prints, to a user who is known
 abbrev pub previewSaid : ℕ → List ℕ → Reply

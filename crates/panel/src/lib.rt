@@ -17,7 +17,7 @@ ghost use Rattle.search.specs.Chosen as Search;
 ghost use Rattle.fold.specs.Chosen as Fold;
 ghost use Rattle.users.specs.Users.{PinnedSearched, PinnedFolded};
 ghost use Rattle.user_calls.specs.Calls.{PinSet};
-ghost use Rattle.user_write.specs.Written.{UserWritten};
+ghost use Rattle.user_write.specs.Written.{UserWritten, UserWrittenBinary};
 ghost use Rattle.panel.specs.Answers.{
   pinWords,
   textWords,
@@ -149,6 +149,20 @@ fn write(user: u32, m: &[u32], out: &mut [u8], line: &mut [u8]) -> Report
     }
 }
 
+// Writes the circuit in binary form for a user who is known.
+fn write_binary(user: u32, m: &[u32], out: &mut [u8], line: &mut [u8]) -> Report
+    requires { ⌜ 128 ≤ length (now line) ⌝ }
+    ensures { λ r. ⌜
+        Said (λ a. UserWrittenBinary (now (m .entry)) user (now (out .entry)) a (now (out .exit))) textWords textLength (now (line .entry)) r
+        (now (line .exit)) (now (out .exit))
+        ⌝ }
+{
+    match user_write::write_binary(user, m, out) {
+        WriteAnswer::Length(n) => Report { line: 0, out: n },
+        WriteAnswer::Refused(n) => replies::refuse(line, n),
+    }
+}
+
 // Does what a query asks.
 pub fn query(
     user: u64,
@@ -177,5 +191,6 @@ pub fn query(
         Query::Search(b, k, d) => search(known, Terms { b, k, d }, m, pins, work, out, line),
         Query::Fold(b, t) => fold(known, Frame { b, t }, m, pins, work, out, line),
         Query::Write => write(known, m, out, line),
+        Query::WriteBinary => write_binary(known, m, out, line),
     }
 }

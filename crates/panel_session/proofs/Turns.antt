@@ -35,7 +35,7 @@ use Rattle.history.specs.History as History
 use Rattle.preview_command.specs.Texts.{previewLine, previewReply, wordsLine}
 use Rattle.panel_lines.specs.Grammar.{Command, request}
 use Rattle.panel_lines.specs.declared.Query.{Query}
-use Rattle.panel_lines.specs.declared.Query.the-variants.{Pin, Search, Fold, Write}
+use Rattle.panel_lines.specs.declared.Query.the-variants.{Pin, Search, Fold, Write, WriteBinary}
 use Rattle.panel_lines.specs.declared.View.{View}
 use Rattle.panel_lines.specs.declared.View.the-variants.{Replay, Widen, Waveform}
 use Rattle.panel.specs.Answers.{loadWords, LoadSaid, Queried, previewSaid}
@@ -49,6 +49,7 @@ use Rattle.panel_session.proofs.Outputs.{
   search-told,
   fold-told,
   write-told,
+  binary-told,
   widen-told,
   waveform-told,
 }
@@ -183,6 +184,20 @@ module _ {m w p line out : List ℕ} {r : Report} {line′ out′ : List ℕ} wh
             reply = _;
             loaded = _;
             turn = λ u f e. Turn.calls e (History.Step.writes (t .again));
+            line-is = x .line-is;
+            out-is = printed (t .text) (replicate (length out) 0) (x .out-is) (t .long) (t .left);
+          }
+
+  query-taken user WriteBinary x = go (x .permitted)
+    where
+      go : {s′ : History.State} → History.Step (record { memory = m; work = w; pins = p }) (History.Call.writeBinary user out) (History.Reply.written (x .answer) out′) s′
+          → Taken (length out) (Action.calls (queryCall (length out) user WriteBinary)) (record { memory = m; work = w; pins = p }) line out r s′ line′ out′
+      go (History.Step.writesBinary y) =
+          let t = binary-told (as-long out) y in
+          record {
+            reply = _;
+            loaded = _;
+            turn = λ u f e. Turn.calls e (History.Step.writesBinary (t .again));
             line-is = x .line-is;
             out-is = printed (t .text) (replicate (length out) 0) (x .out-is) (t .long) (t .left);
           }

@@ -20,7 +20,7 @@ use Rattle.history.proofs.Calls.{Same, own-step, load-step, other-step}
 use Rattle.history.proofs.Moves.{Moved, own-moves, accepted-moves}
 use Rattle.panel_lines.specs.Grammar.{Command, request}
 use Rattle.panel_lines.specs.declared.Query.{Query}
-use Rattle.panel_lines.specs.declared.Query.the-variants.{Pin, Search, Fold, Write}
+use Rattle.panel_lines.specs.declared.Query.the-variants.{Pin, Search, Fold, Write, WriteBinary}
 use Rattle.panel_lines.specs.declared.View.{View}
 use Rattle.panel_lines.specs.declared.View.the-variants.{Replay, Widen, Waveform}
 use Rattle.panel_session.specs.Session.{
@@ -47,6 +47,7 @@ query-user room user (Pin input value) = refl
 query-user room user (Search b k D) = refl
 query-user room user (Fold b t) = refl
 query-user room user Write = refl
+query-user room user WriteBinary = refl
 
 view-user : (room user : ℕ) (text : List ℕ) (v : View) → History.userOf (viewCall room user text v) ≡ user
 view-user room user text Replay = refl

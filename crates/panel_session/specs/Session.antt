@@ -21,7 +21,7 @@ use Rattle.preview_command.specs.Texts.{wordsLine}
 use Rattle.history.specs.History as History
 use Rattle.panel_lines.specs.Grammar.{Command, request}
 use Rattle.panel_lines.specs.declared.Query.{Query}
-use Rattle.panel_lines.specs.declared.Query.the-variants.{Pin, Search, Fold, Write}
+use Rattle.panel_lines.specs.declared.Query.the-variants.{Pin, Search, Fold, Write, WriteBinary}
 use Rattle.panel_lines.specs.declared.View.{View}
 use Rattle.panel_lines.specs.declared.View.the-variants.{Replay, Widen, Waveform}
 use Rattle.panel.specs.Answers.{loadWords, pinWords, textWords, textLength}
@@ -55,6 +55,7 @@ queryCall room user (Pin input value) = History.Call.setPin user input value
 queryCall room user (Search b k D) = History.Call.search user b k D (replicate room 0)
 queryCall room user (Fold b t) = History.Call.fold user b t (replicate room 0)
 queryCall room user Write = History.Call.write user (replicate room 0)
+queryCall room user WriteBinary = History.Call.writeBinary user (replicate room 0)
 
 -- a view of a witness
 abbrev pub viewCall : ℕ → ℕ → List ℕ → View → History.Call

@@ -46,6 +46,12 @@ enum-told c = search needs
 write-requires : tie.Need-write-requires
 write-requires c κs = search needs
 
+enum-told-2 : tie.Need-enum-told-2
+enum-told-2 c = search needs
+
+write-binary-requires : tie.Need-write-binary-requires
+write-binary-requires c κs = search needs
+
 same-length-2 : tie.Need-same-length-2
 same-length-2 c = search needs
 
@@ -134,6 +140,25 @@ returns-5 c =
       inside = p .inside;
     })
 
+same-length-14 : tie.Need-same-length-14
+same-length-14 c = search needs
+
+same-length-15 : tie.Need-same-length-15
+same-length-15 c = search needs
+
+returns-6 : tie.Need-returns-6
+returns-6 c =
+    let at-write-binary = c .before .before .before .before in
+    let at-enum-told2 = at-write-binary .before .before .before in
+    let p = at-write-binary .write-binary .ensures in
+    rw (at-enum-told2 .enum-told2 .given .1) (record {
+      answer = p .answer;
+      permitted = Step.writesBinary (p .permitted);
+      line-is = p .line-is;
+      out-is = p .out-is;
+      inside = p .inside;
+    })
+
 pub query-spec : {M : Type 1} → statement M
 query-spec =
     tie.close
@@ -150,6 +175,8 @@ query-spec =
     fold-requires
     enum-told
     write-requires
+    enum-told-2
+    write-binary-requires
     same-length-2
     same-length-3
     returns-2
@@ -165,4 +192,7 @@ query-spec =
     returns-4
     same-length-12
     same-length-13
-    returns-5)
+    returns-5
+    same-length-14
+    same-length-15
+    returns-6)

@@ -1,0 +1,71 @@
+-- `panel::write_binary` meets its contract. Assumes nothing.
+use mathlib.Core.Path.{refl}
+use native.Mathlib.Omega.{arith}
+use Rattle.aiger.specs.Load.{refused, gives}
+use Rattle.replies.proofs.Putting.{fronts-none}
+use Rattle.panel.proofs.Answers.{binary-inside}
+use borrow.Author.Needs.{needs}
+use Rattle.panel.proofs.write_binary.Statement.{statement}
+use Rattle.panel.proofs.write_binary.Tie as tie
+
+write-binary-requires : tie.Need-write-binary-requires
+write-binary-requires c κs = search needs
+
+enum-known-n : tie.Need-enum-known-n
+enum-known-n c = search needs
+
+enum-known-n-2 : tie.Need-enum-known-n-2
+enum-known-n-2 c = search needs
+
+refuse-requires : tie.Need-refuse-requires
+refuse-requires c κs = search needs
+
+same-length : tie.Need-same-length
+same-length c = search needs
+
+returns : tie.Need-returns
+returns c =
+    let at-n = c .before in
+    let at-write-binary = at-n .before .before .before .before in
+    let start = at-write-binary .before .before .before .before .before in
+    let e = rw (at-n .n .given .1) at (at-write-binary .write-binary .ensures) in
+    record {
+      answer = gives _;
+      permitted = e;
+      line-is = fronts-none _;
+      out-is = refl;
+      inside = binary-inside (start .args .m .now) (start .args .out .now) e;
+    }
+
+same-length-2 : tie.Need-same-length-2
+same-length-2 c = search needs
+
+same-length-3 : tie.Need-same-length-3
+same-length-3 c = search needs
+
+returns-2 : tie.Need-returns-2
+returns-2 c =
+    let at-refuse = c .before .before in
+    let at-n2 = at-refuse .before .before .before in
+    let at-write-binary = at-n2 .before .before .before .before in
+    record {
+      answer = refused _;
+      permitted = rw (at-n2 .n2 .given .1) at (at-write-binary .write-binary .ensures);
+      line-is = at-refuse .refuse .ensures .0;
+      out-is = at-refuse .refuse .ensures .1;
+      inside = omega (arith, at-refuse .refuse .ensures .1);
+    }
+
+pub write-binary-spec : {M : Type 1} → statement M
+write-binary-spec =
+    tie.close
+    (tie.spec
+    write-binary-requires
+    enum-known-n
+    enum-known-n-2
+    refuse-requires
+    same-length
+    returns
+    same-length-2
+    same-length-3
+    returns-2)
