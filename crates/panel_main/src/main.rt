@@ -114,7 +114,7 @@ fn read_line(buf: &mut [u8]) -> Line
 
 // Prints what was said of a line.
 fn tell(said: Said, out: &[u8])
-    requires { ⌜ (said .count ≤ 128) × (said .out ≤ length (now out)) ⌝ }
+    requires { ⌜ (said .count ≤ length (said .line)) × (said .out ≤ length (now out)) ⌝ }
 {
     let line = said.line;
     let count = said.count;

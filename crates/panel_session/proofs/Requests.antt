@@ -18,4 +18,3 @@ requested {text} {r = r} q e f =
 
 pub unrequested : {text : List ℕ} {r : Request} → RequestIs text (request text) r → r .task ≡ Malformed → request text ≡ none
 unrequested {text} {r = r} q e = sym (q .meaning) ∙ ap (λ (o : Option Command). o >>= λ t. some (r .user, t)) (ap (taskOf text) e)
-

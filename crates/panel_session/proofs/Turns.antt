@@ -187,7 +187,6 @@ module _ {m w p line out : List ℕ} {r : Report} {line′ out′ : List ℕ} wh
             line-is = x .line-is;
             out-is = printed (t .text) (replicate (length out) 0) (x .out-is) (t .long) (t .left);
           }
-
   query-taken user WriteBinary x = go (x .permitted)
     where
       go : {s′ : History.State} → History.Step (record { memory = m; work = w; pins = p }) (History.Call.writeBinary user out) (History.Reply.written (x .answer) out′) s′
@@ -338,3 +337,8 @@ says-alone out {t} e y =
 
 pub says-fronts : {t line line′ : List ℕ} {n : ℕ} (r : Said) → Fronts t line n line′ → r .line ≡ line′ → r .count ≡ n → r .out ≡ 0 → Says r t
 says-fronts r f l n o = record { line-is = record { inside = rw (l, n) (fronts-inside f); contents = rw (l, n) (fronts-taken f) }; out-is = o }
+
+-- what is to be printed lies in the answer's bytes and in the output
+pub answered-inside : {text : List ℕ} {files : Files} {s : History.State} {out : List ℕ} {r : Said} {s′ : History.State} {out′ : List ℕ}
+    → Answered text files s out r s′ out′ → (r .count ≤ length (r .line)) × (r .out ≤ length out′)
+answered-inside x = (x .line-is .inside, fronts-inside (x .out-is))

@@ -167,10 +167,9 @@ module _ (u : ℕ) {room : ℕ} {line : List ℕ} {files : Files} {s t : History
       let v = own-step (subst (λ (i : ℕ). Same i s t) (sym o) a) x y′ in
       (v .0, subst (λ (i : ℕ). Same i s₁ t₁) o (v .1)))
       (λ k. load-step u a k x y′)
-      (or-cases (isOf u (request line)) (History.isAccepted r) h) in
-      (
+      (or-cases (isOf u (request line)) (History.isAccepted r) h) in (
         ap (λ (w : List ℕ). told (circuitIn w) (badOf c) r) (a .memory) ∙ ap (told (circuitIn (t .memory)) (badOf c)) (z .0)
-        ∙ ap (λ (v : History.Call). told (circuitIn (t .memory)) (badOf v) r′) (sym q),
+            ∙ ap (λ (v : History.Call). told (circuitIn (t .memory)) (badOf v) r′) (sym q),
         ap History.isAccepted (z .0),
         z .1,
       )

@@ -11,12 +11,12 @@ use Rattle.panel_session.specs.declared.Names.the-variants.{Zero, One, T
 abbrev pub namedBy : Option (ℕ × Command) → List (List ℕ)
 namedBy none = []
 namedBy (some r) = elim (r .1) [
-    | Command.query q ↦ []
-    | Command.load file ↦ file ∷ []
-    | Command.preview file ↦ file ∷ []
-    | Command.join old new ↦ old ∷ new ∷ []
-    | Command.view v file ↦ file ∷ []
-  ]
+  | Command.query q ↦ []
+  | Command.load file ↦ file ∷ []
+  | Command.preview file ↦ file ∷ []
+  | Command.join old new ↦ old ∷ new ∷ []
+  | Command.view v file ↦ file ∷ []
+]
 
 -- the same, as parts of the line
 abbrev pub namesOf : List ℕ → Names → List (List ℕ)

@@ -64,7 +64,11 @@ fn malformed() -> Said
 {
     let mut line = [0u8; 128];
     let count = replies::put(&mut line, 0, b"malformed\n");
-    Said { line, count, out: 0 }
+    Said {
+        line,
+        count,
+        out: 0,
+    }
 }
 
 // Says that a file cannot be read, or 18 to a user who may not ask.
@@ -74,7 +78,11 @@ fn missing(may: bool) -> Said
     let mut line = [0u8; 128];
     if may {
         let count = replies::put(&mut line, 0, b"unreadable\n");
-        return Said { line, count, out: 0 };
+        return Said {
+            line,
+            count,
+            out: 0,
+        };
     }
     let r = replies::refuse(&mut line, 18);
     said_of(line, r)

@@ -37,8 +37,7 @@ returns-2 : tie.Need-returns-2
 returns-2 c =
     let at-task = c .before in
     let at-read = at-task .before .before in
-    let start = at-read .before .before in
-    (
+    let start = at-read .before .before in (
       sym (ap namedBy (requested (at-read .read-request .ensures) (at-task .task .given .1) refl)),
       subst (PartsInside (start .args .text .now)) (at-task .task .given .1) (at-read .read-request .ensures .parts),
     )
@@ -47,8 +46,7 @@ returns-3 : tie.Need-returns-3
 returns-3 c =
     let at-task = c .before in
     let at-read = at-task .before .before in
-    let start = at-read .before .before in
-    (
+    let start = at-read .before .before in (
       sym (ap namedBy (requested (at-read .read-request .ensures) (at-task .task2 .given .1) refl)),
       subst (PartsInside (start .args .text .now)) (at-task .task2 .given .1) (at-read .read-request .ensures .parts),
     )
@@ -57,8 +55,7 @@ returns-4 : tie.Need-returns-4
 returns-4 c =
     let at-task = c .before in
     let at-read = at-task .before .before in
-    let start = at-read .before .before in
-    (
+    let start = at-read .before .before in (
       sym (ap namedBy (requested (at-read .read-request .ensures) (at-task .task3 .given .1) refl)),
       subst (PartsInside (start .args .text .now)) (at-task .task3 .given .1) (at-read .read-request .ensures .parts),
     )
@@ -67,8 +64,7 @@ returns-5 : tie.Need-returns-5
 returns-5 c =
     let at-task = c .before in
     let at-read = at-task .before .before in
-    let start = at-read .before .before in
-    (
+    let start = at-read .before .before in (
       sym (ap namedBy (requested (at-read .read-request .ensures) (at-task .task4 .given .1) refl)),
       subst (PartsInside (start .args .text .now)) (at-task .task4 .given .1) (at-read .read-request .ensures .parts),
     )

@@ -1,0 +1,35 @@
+-- `panel_main::tell` meets its contract. Assumes nothing.
+use native.Mathlib.Omega.{arith}
+use lib.ListN.{length-take}
+use borrow.Author.Needs.{needs}
+use Rattle.panel_main.proofs.tell.Statement.{statement}
+use Rattle.panel_main.proofs.tell.Tie as tie
+
+array-share-prefix-line : tie.Need-array-share-prefix-line
+array-share-prefix-line c = c .before .before .pre .0
+
+slice-aggregate-answer : tie.Need-slice-aggregate-answer
+slice-aggregate-answer c =
+    let start = c .before .before .before in
+    omega (arith, length-take (start .args .said .count) (start .args .said .line), start .pre .0)
+
+slice-aggregate-answer-2 : tie.Need-slice-aggregate-answer-2
+slice-aggregate-answer-2 c =
+    let start = c .before .before .before .before in
+    omega (arith, length-take (start .args .said .out) (start .args .out .now), start .pre .1)
+
+answer-requires : tie.Need-answer-requires
+answer-requires c κs = search needs
+
+returns : tie.Need-returns
+returns c = search needs
+
+pub tell-spec : {M : Type 1} → statement M
+tell-spec =
+    tie.close
+    (tie.spec
+    array-share-prefix-line
+    slice-aggregate-answer
+    slice-aggregate-answer-2
+    answer-requires
+    returns)
