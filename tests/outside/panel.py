@@ -31,6 +31,29 @@ def text(c):
     return aiger.joined([["aag"] + c.counts[:7]], c.inputs, latches, c.outputs, c.bads, c.constraints, c.gates)
 
 
+def coded(c):
+    """The circuit in binary form: inputs, latches and gates numbered in turn, each time the first gate whose operands have a number."""
+    place, left, order = {0: 0}, list(c.gates), []
+    for line in c.inputs + c.latches:
+        place[line[0] // 2] = len(place)
+    while left:
+        gate = next(g for g in left if g[1] // 2 in place and g[2] // 2 in place)
+        left.remove(gate)
+        order.append(gate)
+        place[gate[0] // 2] = len(place)
+    literal = lambda l: 2 * place[l // 2] + l % 2
+    lines = [["aig", len(place) - 1] + c.counts[1:7]]
+    for i, line in enumerate(c.latches):
+        reset = c.reset(i)
+        lines.append([literal(line[1])] + ([] if reset == 0 else [literal(reset)] if reset == line[0] else [reset]))
+    lines += [[literal(line[0])] for line in c.outputs + c.bads + c.constraints]
+    body = "".join(" ".join(map(str, line)) + "\n" for line in lines).encode()
+    for gate in order:
+        small, large = sorted(literal(l) for l in gate[1:])
+        body += aiger.groups(literal(gate[0]) - large) + aiger.groups(large - small)
+    return body.decode("latin-1")
+
+
 class Table:
     """All sequences of frame t at once: bit x of a value belongs to sequence x, whose first free bit is the highest."""
 
@@ -244,8 +267,8 @@ class Analyser:
         wrong, w = self.shown(text)
         return said.startswith(wrong + ":") if wrong else dump_agrees(self.circuit, w, only, said)
 
-    def write(self):
-        return "refused 9" if self.circuit is None else text(self.circuit)
+    def write(self, binary):
+        return "refused 9" if self.circuit is None else coded(self.circuit) if binary else text(self.circuit)
 
 
 def files(r, folder):
@@ -291,15 +314,15 @@ def command(r, user, mine, names, seen, folder):
     if kind == "fold":
         return [kind, r.below(4), bound(r, mine.circuit, mine.pins)]
     if kind == "write":
-        return [kind]
-    return [["fnord"], ["pin", 1], ["search", 0, 1], ["write", "now"], ["load"], ["pin", "01", 1], ["x" * 5000]][r.below(7)]
+        return [kind] + (["binary"] if r.below(2) else [])
+    return [["fnord"], ["pin", 1], ["search", 0, 1], ["write", "now"], ["load"], ["load", ""], ["join", "", "c1"], ["pin", "01", 1], ["x" * 5000]][r.below(9)]
 
 
 def agrees(user, words_of, said, users, found, folder):
     """Whether the answer is right; an accepted load is given to both analysers."""
     verb, args = words_of[0], words_of[1:]
-    sizes = {"load": [1], "preview": [1], "pin": [2], "search": [3], "fold": [2], "write": [0], "replay": [1], "widen": [1], "waveform": [1, 2], "join": [2]}
-    if len(args) not in sizes.get(verb, []) or "01" in args:
+    sizes = {"load": [1], "preview": [1], "pin": [2], "search": [3], "fold": [2], "write": [0, 1], "replay": [1], "widen": [1], "waveform": [1, 2], "join": [2]}
+    if len(args) not in sizes.get(verb, []) or "01" in args or "" in args or (verb == "write" and args not in ([], ["binary"])):
         return said == "malformed\n"
     if user > 1 or (user == 1 and verb in ("load", "join")):
         return said.startswith("refused 18:")
@@ -336,7 +359,7 @@ def agrees(user, words_of, said, users, found, folder):
         return mine.search(*args, said)
     if verb == "fold":
         return mine.fold(*args, said)
-    return said == mine.write() or (mine.circuit is None and said.startswith("refused 9:"))
+    return said == mine.write(args == ["binary"]) or (mine.circuit is None and said.startswith("refused 9:"))
 
 
 def main():
@@ -353,7 +376,7 @@ def main():
             words_of = command(r, user, users[min(user, 1)], names, seen, folder)
             panel.stdin.write((" ".join(map(str, [user] + words_of)) + "\n").encode())
             panel.stdin.flush()
-            said = panel.stdout.read(int(panel.stdout.readline())).decode()
+            said = panel.stdout.read(int(panel.stdout.readline())).decode("latin-1")
             kind = f"{words_of[0]}: {said.split(' ')[0].split(chr(10))[0]}" if len(words_of[0]) < 9 else "long line"
             done[kind] = done.get(kind, 0) + 1
             if said.startswith("found "):

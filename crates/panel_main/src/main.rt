@@ -35,7 +35,7 @@ fn say_help() {
     say(
         b"    USER fold b t           the hit of bad line b at frame t, under the user's pins, as a circuit\n",
     );
-    say(b"    USER write              the loaded circuit as text\n");
+    say(b"    USER write [binary]     the loaded circuit as text, or in binary form\n");
     say(
         b"    USER replay WITNESS     whether the completions of a witness are hits under the user's pins\n",
     );
