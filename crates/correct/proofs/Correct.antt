@@ -42,6 +42,9 @@ use Rattle.load.proofs.Previews.{preview-load}
 use Rattle.history.specs.History.{State, Event, History, concerning}
 use Rattle.history.proofs.Calls.{Same}
 use Rattle.history.proofs.Undisturbed.{undisturbed, apart}
+use Rattle.panel_session.specs.Session.{Files, Exchange, Session}
+use Rattle.panel_session.specs.Session as lines
+use Rattle.panel_session.proofs.Undisturbed as panel
 use Rattle.fold.specs.Chosen as folding
 use Rattle.joined.specs.Joined.{literalUnder, joined, joinTests, JoinedInto}
 use Rattle.parting.proofs.Parted.{firstRun, secondRun}
@@ -224,6 +227,13 @@ pub record Correct : Type 1 where
   pub users-undisturbed : (u : ℕ) (es es₂ : List Event) {s t : State} → Same u s t → History s es → History t es₂
       → map (λ (e : Event). e .call) es₂ ≡ map (λ (e : Event). e .call) (concerning u es)
       → map (λ (e : Event). e .reply) es₂ ≡ map (λ (e : Event). e .reply) (concerning u es)
+  -- the lines of the resident program that concern user u are a session by themselves, with the same texts
+  pub panel-apart : (u : ℕ) {room : ℕ} (es : List Exchange) {s t : State} → Same u s t → Session room s es → Session room t (lines.concerning u es)
+  -- and whatever session has these lines prints these texts
+  pub panel-undisturbed : (u : ℕ) {room : ℕ} (es es₂ : List Exchange) {s t : State} → Same u s t → Session room s es → Session room t es₂
+      → map {B = List ℕ × Files} (λ (e : Exchange). (e .line, e .files)) es₂
+      ≡ map {B = List ℕ × Files} (λ (e : Exchange). (e .line, e .files)) (lines.concerning u es)
+      → map (λ (e : Exchange). e .reply) es₂ ≡ map (λ (e : Exchange). e .reply) (lines.concerning u es)
 
 -- ---- the fields that stand nowhere else
 
@@ -320,4 +330,6 @@ correct =
       waveform-hit = λ {c = c} h r. all-shown c h r;
       users-apart = apart;
       users-undisturbed = undisturbed;
+      panel-apart = panel.apart;
+      panel-undisturbed = panel.undisturbed;
     }
