@@ -39,8 +39,7 @@ use Rattle.load.specs.Answers.{answered}
 use Rattle.load.specs.Preview.{Previewed}
 use Rattle.load.specs.declared.Judgement.{Judgement}
 use Rattle.load.proofs.Previews.{preview-load}
-use Rattle.history.specs.History.{State, Event, History, concerning}
-use Rattle.history.proofs.Calls.{Same}
+use Rattle.history.specs.History.{State, Event, History, Same, concerning}
 use Rattle.history.proofs.Undisturbed.{undisturbed, apart}
 use Rattle.panel_session.specs.Session.{Files, Exchange, Session}
 use Rattle.panel_session.specs.Session as lines

@@ -1,4 +1,4 @@
--- What one call answers and leaves is determined by what its user sees, and a call of another user leaves that as it was, unless it is an
+-- What one call answers and leaves is determined by what is the same to its user, and a call of another user leaves that as it was, unless it is an
 -- accepted load. Clause 12.7. Assumes nothing.
 use mathlib.Core.Path.{_≡_, refl, sym, ap, ap₂, _∙_, subst}
 use mathlib.Core.Bool.{Bool, true, false, cond, _&&_, _||_}
@@ -40,14 +40,7 @@ use Rattle.user_join.specs.Joins.{UserJoined}
 use Rattle.user_calls.specs.Calls.{Replaced, UserLoaded, PinSet, PinEffect, pinTests}
 use Rattle.search.specs.Chosen as Search
 use Rattle.fold.specs.Chosen as Fold
-use Rattle.history.specs.History.{State, Call, Reply, Step, userOf, isAccepted}
-
--- what user u sees of a state: the circuit memory, how long the other memories are, and the user's own pins
-pub record Same (u : ℕ) (s t : State) : Type 0 where
-  pub memory : s .memory ≡ t .memory
-  pub work : length (s .work) ≡ length (t .work)
-  pub room : length (s .pins) ≡ length (t .pins)
-  pub own : (i : ℕ) → i < 256 → getD (s .pins) (256 * u + i) 2 ≡ getD (t .pins) (256 * u + i) 2
+use Rattle.history.specs.History.{State, Call, Reply, Step, Same, userOf, isAccepted}
 
 past : (l : List ℕ) (i d : ℕ) → length l ≤ i → getD l i d ≡ d
 past [] i d h = refl
@@ -172,7 +165,7 @@ set-past [] i v h = refl
 set-past (x ∷ xs) zero v h = absurd (omega arith)
 set-past (x ∷ xs) (suc i) v h = ap (λ (z : List ℕ). x ∷ z) (set-past xs i v (omega arith))
 
--- two pin memories of which user u sees the same
+-- two pin memories that are the same to user u
 abbrev pub Agree : ℕ → List ℕ → List ℕ → Type 0
 Agree u p p′ = (length p ≡ length p′) × ((i : ℕ) → i < 256 → getD p (256 * u + i) 2 ≡ getD p′ (256 * u + i) 2)
 
@@ -236,7 +229,7 @@ preview-same e (UserPreviewed.known h p) (UserPreviewed.stranger k) = absurd (om
 preview-same {f = f} e (UserPreviewed.known h p) (UserPreviewed.known k q) =
     ap₂ Reply.previewed (p .answer ∙ ap (λ (n : ℕ). load n f >>= λ c. gives (countsOf c)) e ∙ sym (q .answer)) (p .needed ∙ sym (q .needed))
 
--- ---- a call that replaces the circuit, as any user sees it
+-- ---- a call that replaces the circuit, for any user
 
 module _ (u : ℕ) {s t : State} (a : Same u s t) where
   pub freed : {m₁ m₂ : List ℕ} → m₁ ≡ m₂
@@ -276,7 +269,7 @@ join-same u {first = first} {second = second} a x y =
 
 -- ---- one call
 
--- a user's own call has one reply, and leaves states of which the user sees the same
+-- a user's own call has one reply, and leaves states that are the same to the user
 pub own-step : {c : Call} {r r′ : Reply} {s t s₁ t₁ : State} → Same (userOf c) s t → Step s c r s₁ → Step t c r′ t₁ → (r ≡ r′) × Same (userOf c) s₁ t₁
 own-step a (Step.loads {user = user} x) (Step.loads y) = let z = load-same user a x y in (ap Reply.loaded (z .0), z .1)
 own-step a (Step.pins x) (Step.pins y) =
@@ -316,7 +309,7 @@ own-step {s = s} {t = t} a (Step.waveforms {user = user} {only = only} {text = t
     (own-pins user (s .pins) (t .pins) (a .own)) v v′ o₁ o₂ x y in
     (ap₂ Reply.written (z .0) (z .1), a)
 
--- an accepted load has one reply, and every user sees the same after it
+-- an accepted load has one reply, and leaves states that are the same to every user
 pub load-step : (u : ℕ) {c : Call} {r r′ : Reply} {s t s₁ t₁ : State} → Same u s t → T (isAccepted r) → Step s c r s₁ → Step t c r′ t₁ → (r ≡ r′) × Same u s₁ t₁
 load-step u a h (Step.loads x) (Step.loads y) = let z = load-same u a x y in (ap Reply.loaded (z .0), z .1)
 load-step u a h (Step.pins x) y = absurd h
@@ -345,7 +338,7 @@ pin-other u {p = p} {user = user} {input = input} {value = value} n (PinSet.know
     apart : (i : ℕ) → i < 256 → input < 256 → 256 * u + i ≡ 256 * user + input → ⊥
     apart i l d e = n (omega arith)
 
--- a call of another user that is no accepted load leaves what user u sees
+-- a call of another user that is no accepted load leaves a state that is the same to user u
 pub other-step : (u : ℕ) {c : Call} {r : Reply} {s t s₁ : State} → Same u s t → (userOf c ≡ u → ⊥) → (T (isAccepted r) → ⊥) → Step s c r s₁ → Same u s₁ t
 other-step u a n h (Step.loads (Replaced.stranger k)) = record { memory = a .memory; work = a .work; room = a .room; own = a .own }
 other-step u a n h (Step.loads (Replaced.refuses k (Loaded.refuses e))) = record { memory = a .memory; work = a .work; room = a .room; own = a .own }

@@ -1,4 +1,4 @@
--- A call of a user, or an accepted load, can be answered the same from any state of which the user sees the same. Clause 12.7. Assumes nothing.
+-- A call of a user, or an accepted load, can be answered the same from any state that is the same to the user. Clause 12.7. Assumes nothing.
 use mathlib.Core.Path.{_≡_, refl, sym, ap, _∙_, subst}
 use mathlib.Core.Bool.{Bool}
 use mathlib.Core.List.{List, [], _∷_}
@@ -23,8 +23,8 @@ use Rattle.joined.specs.Joined.{JoinedInto}
 use Rattle.load.specs.declared.Judgement.{Judgement}
 use Rattle.search.specs.Chosen as Search
 use Rattle.fold.specs.Chosen as Fold
-use Rattle.history.specs.History.{State, Call, Reply, Step, userOf, isAccepted}
-use Rattle.history.proofs.Calls.{Same, Agree, own-pins, set-agree, freed}
+use Rattle.history.specs.History.{State, Call, Reply, Step, Same, userOf, isAccepted}
+use Rattle.history.proofs.Calls.{Agree, own-pins, set-agree, freed}
 
 -- ---- operations
 
@@ -43,7 +43,7 @@ for-moves : {A S R : Type 0} {user : ℕ} {lent : S} {P : Answer A → S → Typ
 for-moves f g (ForUser.stranger h) = ForUser.stranger h
 for-moves f g (ForUser.known {a = a} {s = s} h p) = ForUser.known h (g a s p)
 
--- a step from t with this reply, to a state of which user u sees what he sees of s₁
+-- a step from t with this reply, to a state that is the same to user u as s₁
 pub record Moved (u : ℕ) (t : State) (c : Call) (r : Reply) (s₁ : State) : Type 0 where
   pub next : State
   pub step : Step t c r next
@@ -114,7 +114,7 @@ pin-moves {p = p} {p′ = p′} {user = user} {input = input} {value = value} e 
 preview-moves : {room room′ : ℕ} {file : List ℕ} {user : ℕ} {r : Judgement} → room ≡ room′ → UserPreviewed room file user r → UserPreviewed room′ file user r
 preview-moves {file = file} {user = user} {r = r} e x = subst (λ (n : ℕ). UserPreviewed n file user r) e x
 
--- a user's own call has the same answer from a state of which he sees the same
+-- a user's own call has the same answer from a state that is the same to the user
 pub own-moves : {c : Call} {r : Reply} {s t s₁ : State} → Same (userOf c) s t → Step s c r s₁ → Moved (userOf c) t c r s₁
 own-moves a (Step.loads {user = user} x) = load-moves user a x
 own-moves {s = s} {t = t} a (Step.pins x) =
@@ -175,7 +175,7 @@ own-moves {s = s} {t = t} a (Step.widens {user = user} {text = text} {out = out}
 own-moves {t = t} a (Step.waveforms {user = user} {only = only} {text = text} {out = out} {out′ = o} {a = v} x) =
     record { next = t; step = Step.waveforms (subst (λ (m : List ℕ). UserWaveformed m user only text out v o) (a .memory) x); same = a }
 
--- so has an accepted load, as any user sees it
+-- so has an accepted load, for any user
 pub accepted-moves : (u : ℕ) {c : Call} {r : Reply} {s t s₁ : State} → Same u s t → T (isAccepted r) → Step s c r s₁ → Moved u t c r s₁
 accepted-moves u a h (Step.loads x) = load-moves u a x
 accepted-moves u a h (Step.pins x) = absurd h

@@ -8,8 +8,8 @@ use native.Mathlib.Omega.{arith}
 use lib.Dec.{T, eqb, eqb→eq}
 use Rattle.aiger.proofs.Tests.{T-true, or-cases}
 use Rattle.meaning.proofs.Lists.{or-left, or-right, eqb-of}
-use Rattle.history.specs.History.{State, Call, Reply, Step, Event, History, userOf, isAccepted, concerns, concerning}
-use Rattle.history.proofs.Calls.{Same, own-step, load-step, other-step}
+use Rattle.history.specs.History.{State, Call, Reply, Step, Event, History, Same, userOf, isAccepted, concerns, concerning}
+use Rattle.history.proofs.Calls.{own-step, load-step, other-step}
 use Rattle.history.proofs.Moves.{Moved, own-moves, accepted-moves}
 
 abbrev calls : List Event → List Call
@@ -34,7 +34,7 @@ false-not : (b : Bool) → b ≡ false → T b → ⊥
 false-not true e t = subst T e t
 false-not false e t = t
 
--- the theorem: from states of which user u sees the same, a history and one that has its calls that concern u, and no others, give the
+-- the theorem: from states that are the same to user u, a history and one that has its calls that concern u, and no others, give the
 -- same replies to them
 pub undisturbed : (u : ℕ) (es es₂ : List Event) {s t : State} → Same u s t → History s es → History t es₂
     → map (λ (e : Event). e .call) es₂ ≡ map (λ (e : Event). e .call) (concerning u es)

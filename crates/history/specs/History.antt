@@ -3,9 +3,9 @@
 use mathlib.Core.Path.{_≡_}
 use mathlib.Core.Bool.{Bool, true, false, cond, _||_}
 use mathlib.Core.List.{List, [], _∷_}
-use Prim.Native.Nat.{ℕ}
+use Prim.Native.Nat.{ℕ, _+_, _*_, _<_}
 use lib.Dec.{eqb}
-use lib.ListN.{length}
+use lib.ListN.{length, getD}
 use Rattle.aiger.specs.Load.{Answer, refused, gives}
 use Rattle.aiger.specs.Search.{Outcome}
 use Rattle.users.specs.Users.{PinnedSearched, PinnedFolded}
@@ -121,3 +121,10 @@ concerns u e = eqb (userOf (e .call)) u || isAccepted (e .reply)
 unfoldable pub concerning : ℕ → List Event → List Event
 concerning u [] = []
 concerning u (e ∷ es) = cond (concerns u e) (e ∷ concerning u es) (concerning u es)
+
+-- two states are the same to user u: they have the same circuit memory and the same pins of user u, and the other memories are as long
+pub record Same (u : ℕ) (s t : State) : Type 0 where
+  pub memory : s .memory ≡ t .memory
+  pub work : length (s .work) ≡ length (t .work)
+  pub room : length (s .pins) ≡ length (t .pins)
+  pub own : (i : ℕ) → i < 256 → getD (s .pins) (256 * u + i) 2 ≡ getD (t .pins) (256 * u + i) 2

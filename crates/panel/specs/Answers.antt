@@ -1,4 +1,4 @@
--- Clause 12.7: what the resident program answers to a command, and what the command leaves. Each command is a call of two users' history;
+-- Clause 12.7: what the resident program answers to a command, and what the command leaves. A query is a call of two users' history;
 -- what is printed is a line, and for some answers a text after it. Assumes nothing.
 use mathlib.Core.Path.{_≡_}
 use mathlib.Core.Bool.{cond}
@@ -76,6 +76,6 @@ Queried Write user s out line r s′ out′ line′ =
 Queried WriteBinary user s out line r s′ out′ line′ =
     Said (λ a. History.Step s (History.Call.writeBinary user out) (History.Reply.written a out′) s′) textWords textLength line r line′ out′
 
--- preview FILE: what the program preview prints, to a user who is known
+-- preview FILE: what the program preview prints, to user 0 or 1; 18 to any other
 abbrev pub previewSaid : ℕ → List ℕ → Reply
 previewSaid user file = cond (ltb 1 user) (refusal 18) (previewReply file)

@@ -15,7 +15,7 @@ use Rattle.panel_lines.specs.declared.View.the-variants.{Replay, Widen, 
 use Rattle.panel_lines.specs.declared.Query.{Query}
 use Rattle.panel_lines.specs.declared.Query.the-variants.{Pin, Search, Fold, Write, WriteBinary}
 
--- a command: a query of the loaded circuit, or one that names files, of which a view is one of a witness
+-- a command: a query, which names no file; or load, preview, join, or a view of a witness, which name files
 pub data Command : Type 0 where
   query : Query → Command
   load : (file : List ℕ) → Command
@@ -28,7 +28,7 @@ unfoldable pub split : List ℕ → List ℕ × List ℕ
 split [] = ([], [])
 split (c ∷ s) = cond (eqb c 32) ([], c ∷ s) (c ∷ (split s) .0, (split s) .1)
 
--- the word after a space, which has a byte at least, and what follows it
+-- the word after a space, which has a byte at least, and what follows it. What is given is empty, or begins with the space at which `split` ended
 unfoldable pub word : List ℕ → Option (List ℕ × List ℕ)
 word [] = none
 word (c ∷ s) = when (leb 1 (length ((split s) .0))) >> some (split s)
@@ -129,7 +129,7 @@ verbs =
     ∷ (bytes "waveform", Verb.Waveform)
     ∷ []
 
--- the verb that a word is in a table
+-- the verb that a table gives for a word
 abbrev pub among : List (List ℕ × Verb) → List ℕ → Verb
 among [] w = Verb.Unknown
 among (v ∷ vs) w = cond (same w (v .0)) (v .1) (among vs w)

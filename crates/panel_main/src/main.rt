@@ -7,6 +7,8 @@ ghost use mathlib.Core.Path.{_≡_};
 ghost use Prim.Native.Nat.{_≤_};
 ghost use lib.ListN.{length};
 ghost use Rattle.io.specs.Counts.{Counts};
+ghost use Rattle.panel_lines.specs.Grammar.{request};
+ghost use Rattle.panel_session.specs.Naming.{namedBy};
 
 // How many bytes of a line were kept, and whether the input had ended before it.
 struct Line {
@@ -132,6 +134,7 @@ fn with_one(
     out: &mut [u8],
 )
     requires { ⌜ (length (now m) ≡ 33032) × (length (now out) ≡ 1572928) ⌝ }
+    requires { ⌜ 1 ≤ length (namedBy (request (now text))) ⌝ }
 {
     let mut file = [0u8; 66826];
     let got = files::read_named(name, &mut file);
@@ -155,6 +158,7 @@ fn with_two(
     out: &mut [u8],
 )
     requires { ⌜ (length (now m) ≡ 33032) × (length (now out) ≡ 1572928) ⌝ }
+    requires { ⌜ 1 ≤ length (namedBy (request (now text))) ⌝ }
 {
     let mut old = [0u8; 65537];
     let mut new = [0u8; 65537];
@@ -227,7 +231,7 @@ fn session_with(work: &mut [u32], out: &mut [u8])
     session(&mut m, work, &mut pins, out);
 }
 
-// Lends the working memory and the output of the greatest size, 65,536. No text is longer than this output: 1,572,928 bytes for a fold, 1,456,223 for a waveform.
+// Lends the working memory and the output of the greatest size, 65,536. No text is longer than this output: fold asks for 1,572,928 bytes at most, waveform for 1,456,223.
 fn session_of_both() {
     let mut work = [0u32; 1048576];
     let mut out = [0u8; 1572928];

@@ -1,5 +1,5 @@
--- What is printed for a user's lines is what a session without the other's lines prints, other than those by which a circuit is loaded.
--- Clause 12.7. Assumes nothing.
+-- What is printed for a user's commands is what a session prints that has these commands, and those by which a circuit was loaded, and no
+-- others. Clause 12.7. Assumes nothing.
 use mathlib.Core.Path.{_≡_, refl, sym, ap, ap₂, _∙_, subst}
 use mathlib.Core.Bool.{Bool, true, false, cond, _||_}
 use mathlib.Core.List.{List, [], _∷_, map}
@@ -8,6 +8,8 @@ use mathlib.Core.Option.{Option, none, some}
 use Prim.Native.Nat.{ℕ}
 use native.Mathlib.Omega.{arith}
 use lib.Dec.{T, eqb, eqb→eq}
+use lib.ListN.{length}
+use Rattle.aiger.specs.Text.{bytes}
 use Rattle.aiger.specs.Circuit.{Circuit}
 use Rattle.aiger.specs.Load.{Answer, refused, gives, load}
 use Rattle.aiger.proofs.Tests.{T-true, or-cases}
@@ -16,7 +18,8 @@ use Rattle.layout.specs.Words.{circuitIn}
 use Rattle.replies.specs.Refusal.{refusalText}
 use Rattle.replies.specs.Reply.{Reply}
 use Rattle.history.specs.History as History
-use Rattle.history.proofs.Calls.{Same, own-step, load-step, other-step}
+use Rattle.history.specs.History.{Same}
+use Rattle.history.proofs.Calls.{own-step, load-step, other-step}
 use Rattle.history.proofs.Moves.{Moved, own-moves, accepted-moves}
 use Rattle.panel_lines.specs.Grammar.{Command, request}
 use Rattle.panel_lines.specs.declared.Query.{Query}
@@ -30,6 +33,8 @@ use Rattle.panel_session.specs.Session.{
   queryCall,
   viewCall,
   actionOf,
+  mayAsk,
+  filesOf,
   lineAction,
   badOf,
   told,
@@ -76,7 +81,11 @@ action-user room user first second (Command.join old new) = go (eqb user 0) (λ 
 action-user room user first second (Command.view v f) = view-user room user first v
 
 line-user : (room : ℕ) (files : Files) (r : ℕ × Command) → CallsFor (r .0) (lineAction room files (some r))
-line-user room Files.missing r = tt
+line-user room Files.missing r = go (eqb (length (filesOf (r .1))) 0)
+  where
+    go : (b : Bool) → CallsFor (r .0) (cond b (actionOf room (r .0) [] [] (r .1)) (Action.prints (cond (mayAsk (r .0) (r .1)) (bytes "unreadable\n") (refusalText 18))))
+    go true = action-user room (r .0) [] [] (r .1)
+    go false = tt
 line-user room (Files.read first second) r = action-user room (r .0) first second (r .1)
 
 -- a line that is a call of user u is a line of user u
@@ -93,14 +102,14 @@ false-not : (b : Bool) → b ≡ false → T b → ⊥
 false-not true e t = subst T e t
 false-not false e t = t
 
--- a turn from t, to a state of which user u sees what he sees of s₁
+-- a turn from t, to a state that is the same to user u as s₁
 record Turned (u room : ℕ) (line : List ℕ) (files : Files) (t : History.State) (reply : Reply) (loaded : Bool) (s₁ : History.State) : Type 0 where
   next : History.State
   turn : Turn room line files t reply loaded next
   same : Same u s₁ next
 
 module _ (u : ℕ) {room : ℕ} {line : List ℕ} {files : Files} {s t : History.State} (a : Same u s t) where
-  -- what concerns user u is answered the same from any state of which he sees the same
+  -- what concerns user u is answered the same from any state that is the same to u
   turned : {reply : Reply} {loaded : Bool} {s₁ : History.State} → T (isOf u (request line) || loaded) → Turn room line files s reply loaded s₁
       → Turned u room line files t reply loaded s₁
   turned h (Turn.prints e) = record { next = t; turn = Turn.prints e; same = a }
@@ -119,7 +128,7 @@ module _ (u : ℕ) {room : ℕ} {line : List ℕ} {files : Files} {s t : History
         same = m .same;
       }
 
-  -- what does not concern user u leaves what he sees
+  -- what does not concern user u leaves a state that is the same to u
   passed : {reply : Reply} {loaded : Bool} {s₁ : History.State} → (T (isOf u (request line) || loaded) → ⊥) → Turn room line files s reply loaded s₁ → Same u s₁ t
   passed h (Turn.prints e) = a
   passed h (Turn.calls {reply = r} e x) =
@@ -181,8 +190,8 @@ asked es = map {B = List ℕ × Files} (λ (e : Exchange). (e .line, e .files)) 
 abbrev printed : List Exchange → List Reply
 printed es = map (λ (e : Exchange). e .reply) es
 
--- the theorem: from states of which user u sees the same, a session and one that has its lines that concern u, and no others, print the
--- same for them
+-- the theorem: let two sessions start from states that are the same to user u. If the second has just those lines of the first that concern
+-- u, with the same files, then it prints the same replies to them
 pub undisturbed : (u : ℕ) {room : ℕ} (es es₂ : List Exchange) {s t : History.State} → Same u s t → Session room s es → Session room t es₂
     → map {B = List ℕ × Files} (λ (e : Exchange). (e .line, e .files)) es₂ ≡ map {B = List ℕ × Files} (λ (e : Exchange). (e .line, e .files)) (concerning u es)
     → map (λ (e : Exchange). e .reply) es₂ ≡ map (λ (e : Exchange). e .reply) (concerning u es)

@@ -4,19 +4,14 @@ use mathlib.Core.Option.{Option, none, some}
 use Prim.Native.Nat.{ℕ}
 use Rattle.panel_lines.specs.Grammar.{Command}
 use Rattle.panel_lines.specs.Reading.{Inside, textOf}
+use Rattle.panel_session.specs.Session.{filesOf}
 use Rattle.panel_session.specs.declared.Names.{Names}
 use Rattle.panel_session.specs.declared.Names.the-variants.{Zero, One, Two}
 
--- the files that a command names
+-- the files that a line names
 abbrev pub namedBy : Option (ℕ × Command) → List (List ℕ)
 namedBy none = []
-namedBy (some r) = elim (r .1) [
-  | Command.query q ↦ []
-  | Command.load file ↦ file ∷ []
-  | Command.preview file ↦ file ∷ []
-  | Command.join old new ↦ old ∷ new ∷ []
-  | Command.view v file ↦ file ∷ []
-]
+namedBy (some r) = filesOf (r .1)
 
 -- the same, as parts of the line
 abbrev pub namesOf : List ℕ → Names → List (List ℕ)
@@ -24,6 +19,7 @@ namesOf s Zero = []
 namesOf s (One p) = textOf s p ∷ []
 namesOf s (Two p q) = textOf s p ∷ textOf s q ∷ []
 
+-- they lie in the line
 abbrev pub NamesInside : List ℕ → Names → Type 0
 NamesInside s Zero = Unit {0}
 NamesInside s (One p) = Inside s p

@@ -29,7 +29,8 @@ use Rattle.panel_files.specs.Files.{verdictWords}
 
 -- ---- what a line asks
 
--- the files that a line names: one of them cannot be read, or the bytes of the first and of the second
+-- the files that a line names: at least one of them cannot be read; or the bytes of the first and of the second. Of a file that is longer than
+-- any circuit file or witness these are its first bytes, more than 66,825, or 65,536 in a join: it is refused with the same number
 pub data Files : Type 0 where
   missing : Files
   read : (first second : List ℕ) → Files
@@ -39,7 +40,7 @@ pub data Action : Type 0 where
   calls : History.Call → Action
   prints : List ℕ → Action
 
--- a memory into which a file was loaded: 33,032 words, those that M 4,096 needs
+-- a memory into which a file was loaded: the circuit's words, and 0 after them, of 33,032 words, those that M 4,096 needs
 unfoldable pub fileWords : Circuit → List ℕ
 fileWords c = front (image c) (replicate 33032 0)
 
@@ -72,7 +73,7 @@ actionOf room user first second (Command.join old new) =
     cond (eqb user 0) (joinAction (load 33032 first) (load 33032 second)) (Action.prints (refusalText 18))
 actionOf room user first second (Command.view v file) = Action.calls (viewCall room user first v)
 
--- who is answered `unreadable` where a file cannot be read: user 0 for a load or a join, either user else
+-- who is answered `unreadable` where a file cannot be read: user 0 for a load or a join, either user for the others
 abbrev pub mayAsk : ℕ → Command → Bool
 mayAsk user (Command.query q) = leb user 1
 mayAsk user (Command.load file) = eqb user 0
@@ -80,20 +81,33 @@ mayAsk user (Command.preview file) = leb user 1
 mayAsk user (Command.join old new) = eqb user 0
 mayAsk user (Command.view v file) = leb user 1
 
--- a line that is no command is `malformed`; 18 comes before `unreadable`
+-- the files that a command names
+abbrev pub filesOf : Command → List (List ℕ)
+filesOf (Command.query q) = []
+filesOf (Command.load file) = file ∷ []
+filesOf (Command.preview file) = file ∷ []
+filesOf (Command.join old new) = old ∷ new ∷ []
+filesOf (Command.view v file) = file ∷ []
+
+-- a command: 18 comes before `unreadable`, and a command that names no file needs none
+abbrev pub commandAction : ℕ → Files → ℕ → Command → Action
+commandAction room Files.missing user c =
+    cond (eqb (length (filesOf c)) 0) (actionOf room user [] [] c) (Action.prints (cond (mayAsk user c) (bytes "unreadable\n") (refusalText 18)))
+commandAction room (Files.read first second) user c = actionOf room user first second c
+
+-- a line that is no command is `malformed`
 abbrev pub lineAction : ℕ → Files → Option (ℕ × Command) → Action
 lineAction room files none = Action.prints (bytes "malformed\n")
-lineAction room Files.missing (some r) = Action.prints (cond (mayAsk (r .0) (r .1)) (bytes "unreadable\n") (refusalText 18))
-lineAction room (Files.read first second) (some r) = actionOf room (r .0) first second (r .1)
+lineAction room files (some r) = commandAction room files (r .0) (r .1)
 
 -- ---- what is printed for a reply
 
--- the bad line of a search, whose witness has so many bytes
+-- the bad line of a search, on which the length of its witness depends; 0 for other calls
 abbrev pub badOf : History.Call → ℕ
 badOf (History.Call.load user file) = 0
 badOf (History.Call.setPin user input value) = 0
 badOf (History.Call.search user b k D out) = b
-badOf (History.Call.fold user b t out) = b
+badOf (History.Call.fold user b t out) = 0
 badOf (History.Call.write user out) = 0
 badOf (History.Call.writeBinary user out) = 0
 badOf (History.Call.preview user file) = 0
@@ -102,7 +116,7 @@ badOf (History.Call.replay user text) = 0
 badOf (History.Call.widen user text out) = 0
 badOf (History.Call.waveform user only text out) = 0
 
--- a line, and the text after it, for a circuit c and a bad line b
+-- a line, and the text after it, for a circuit c and a bad line b. A preview answers 0 words where none are told, and `wordsLine 0` is empty
 abbrev pub told : Circuit → ℕ → History.Reply → Reply
 told c b (History.Reply.loaded a) = record { line = loadWords a; out = [] }
 told c b (History.Reply.pinned a) = record { line = pinWords a; out = [] }
@@ -139,7 +153,7 @@ abbrev pub isOf : ℕ → Option (ℕ × Command) → Bool
 isOf u none = false
 isOf u (some r) = eqb (r .0) u
 
--- the exchanges that concern user u: the user's own lines, and those by which a circuit was loaded
+-- the exchanges that concern user u: the user's own commands, and those by which a circuit was loaded. A malformed line is no one's
 unfoldable pub concerning : ℕ → List Exchange → List Exchange
 concerning u [] = []
 concerning u (e ∷ es) = cond (isOf u (request (e .line)) || e .loaded) (e ∷ concerning u es) (concerning u es)

@@ -88,15 +88,16 @@ fn missing(may: bool) -> Said
     said_of(line, r)
 }
 
-// Answers a line of whose files one cannot be read.
+// Answers a line of whose files one cannot be read. A query names none.
 pub fn unreadable(text: &[u8]) -> Said
+    requires { ⌜ 1 ≤ length (namedBy (request (now text))) ⌝ }
     ensures { λ r. ⌜ ((s : State) (out : List ℕ) → Answered (now (text .entry)) Files.missing s out r s out) ⌝ }
 {
     let request = panel_lines::read_request(text);
     let user = request.user;
     let task = request.task;
     match task {
-        Task::Ask(_) => missing(user <= 1),
+        Task::Ask(_) => malformed(),
         Task::Load(_) => missing(user == 0),
         Task::Preview(_) => missing(user <= 1),
         Task::Join(_, _) => missing(user == 0),

@@ -1,5 +1,7 @@
 -- `panel_main::do_line` meets its contract. Assumes nothing.
+use mathlib.Core.Path.{ap}
 use native.Mathlib.Omega.{arith}
+use lib.ListN.{length}
 use Rattle.panel_session.proofs.Turns.{answered-inside}
 use borrow.Author.Needs.{needs}
 use Rattle.panel_main.proofs.do_line.Statement.{statement}
@@ -50,7 +52,12 @@ part-with-one-end c =
     i .within
 
 with-one-requires : tie.Need-with-one-requires
-with-one-requires c κs = search needs
+with-one-requires c κs =
+    let at-file = c .before .before in
+    let at-files-of = at-file .before .before in (
+      at-files-of .before .before .before .before .before .before .pre,
+      omega (arith, ap length (rw (at-file .file .given .1) at (at-files-of .files-of .ensures .0))),
+    )
 
 enum-known-old : tie.Need-enum-known-old
 enum-known-old c = search needs
@@ -98,7 +105,12 @@ part-with-two-end-2 c =
     i .within
 
 with-two-requires : tie.Need-with-two-requires
-with-two-requires c κs = search needs
+with-two-requires c κs =
+    let at-old = c .before .before .before in
+    let at-files-of = at-old .before .before in (
+      at-files-of .before .before .before .before .before .before .pre,
+      omega (arith, ap length (rw (at-old .old .given .1) at (at-files-of .files-of .ensures .0))),
+    )
 
 same-length : tie.Need-same-length
 same-length c = search needs

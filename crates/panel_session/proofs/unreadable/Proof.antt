@@ -1,9 +1,10 @@
 -- `panel_session::unreadable` meets its contract. Assumes nothing.
-use mathlib.Core.Path.{refl, ap, subst}
+use mathlib.Core.Path.{refl, ap}
 use lib.ListN.{length}
 use Rattle.panel_session.specs.Session.{Files, lineAction}
-use Rattle.panel_session.proofs.Requests.{requested, unrequested}
+use Rattle.panel_session.proofs.Requests.{unrequested}
 use Rattle.panel_session.proofs.Turns.{says-alone}
+use Rattle.panel_session.proofs.Lacking.{lacks, unnamed}
 use borrow.Author.Needs.{needs}
 use Rattle.panel_session.proofs.unreadable.Statement.{statement}
 use Rattle.panel_session.proofs.unreadable.Tie as tie
@@ -14,83 +15,69 @@ read-request-requires c κs = search needs
 enum-told : tie.Need-enum-told
 enum-told c = search needs
 
-missing-requires : tie.Need-missing-requires
-missing-requires c κs = search needs
+malformed-requires : tie.Need-malformed-requires
+malformed-requires c κs = search needs
 
 enum-told-2 : tie.Need-enum-told-2
 enum-told-2 c = search needs
 
-missing-requires-2 : tie.Need-missing-requires-2
-missing-requires-2 c κs = search needs
+missing-requires : tie.Need-missing-requires
+missing-requires c κs = search needs
 
 enum-told-3 : tie.Need-enum-told-3
 enum-told-3 c = search needs
 
-missing-requires-3 : tie.Need-missing-requires-3
-missing-requires-3 c κs = search needs
+missing-requires-2 : tie.Need-missing-requires-2
+missing-requires-2 c κs = search needs
 
 enum-told-4 : tie.Need-enum-told-4
 enum-told-4 c = search needs
 
-missing-requires-4 : tie.Need-missing-requires-4
-missing-requires-4 c κs = search needs
+missing-requires-3 : tie.Need-missing-requires-3
+missing-requires-3 c κs = search needs
 
 enum-told-5 : tie.Need-enum-told-5
 enum-told-5 c = search needs
 
-missing-requires-5 : tie.Need-missing-requires-5
-missing-requires-5 c κs = search needs
+missing-requires-4 : tie.Need-missing-requires-4
+missing-requires-4 c κs = search needs
 
 enum-told-6 : tie.Need-enum-told-6
 enum-told-6 c = search needs
 
-malformed-requires : tie.Need-malformed-requires
-malformed-requires c κs = search needs
+malformed-requires-2 : tie.Need-malformed-requires-2
+malformed-requires-2 c κs = search needs
 
 returns : tie.Need-returns
 returns c =
     let at-told = c .before in
     let at-read = at-told .before .before in
-    λ s out.
-    says-alone out
-    (ap (lineAction (length out) Files.missing) (requested (at-read .read-request .ensures) (at-told .enum-told .given .1) refl))
-    (c .missing .ensures)
+    let start = at-read .before .before in
+    λ s out. absurd (unnamed _ (at-read .read-request .ensures) (at-told .enum-told .given .1) refl (start .pre))
 
 returns-2 : tie.Need-returns-2
 returns-2 c =
     let at-told = c .before in
     let at-read = at-told .before .before in
-    λ s out.
-    says-alone out
-    (ap (lineAction (length out) Files.missing) (requested (at-read .read-request .ensures) (at-told .enum-told2 .given .1) refl))
-    (c .missing2 .ensures)
+    lacks _ (at-read .read-request .ensures) (at-told .enum-told2 .given .1) refl refl (c .missing .ensures)
 
 returns-3 : tie.Need-returns-3
 returns-3 c =
     let at-told = c .before in
     let at-read = at-told .before .before in
-    λ s out.
-    says-alone out
-    (ap (lineAction (length out) Files.missing) (requested (at-read .read-request .ensures) (at-told .enum-told3 .given .1) refl))
-    (c .missing3 .ensures)
+    lacks _ (at-read .read-request .ensures) (at-told .enum-told3 .given .1) refl refl (c .missing2 .ensures)
 
 returns-4 : tie.Need-returns-4
 returns-4 c =
     let at-told = c .before in
     let at-read = at-told .before .before in
-    λ s out.
-    says-alone out
-    (ap (lineAction (length out) Files.missing) (requested (at-read .read-request .ensures) (at-told .enum-told4 .given .1) refl))
-    (c .missing4 .ensures)
+    lacks _ (at-read .read-request .ensures) (at-told .enum-told4 .given .1) refl refl (c .missing3 .ensures)
 
 returns-5 : tie.Need-returns-5
 returns-5 c =
     let at-told = c .before in
     let at-read = at-told .before .before in
-    λ s out.
-    says-alone out
-    (ap (lineAction (length out) Files.missing) (requested (at-read .read-request .ensures) (at-told .enum-told5 .given .1) refl))
-    (c .missing5 .ensures)
+    lacks _ (at-read .read-request .ensures) (at-told .enum-told5 .given .1) refl refl (c .missing4 .ensures)
 
 returns-6 : tie.Need-returns-6
 returns-6 c =
@@ -98,7 +85,7 @@ returns-6 c =
     let at-read = at-told .before .before in
     λ s out.
     says-alone out (ap (lineAction (length out) Files.missing) (unrequested (at-read .read-request .ensures) (at-told .enum-told6 .given .1)))
-    (c .malformed .ensures)
+    (c .malformed2 .ensures)
 
 pub unreadable-spec : {M : Type 1} → statement M
 unreadable-spec =
@@ -106,17 +93,17 @@ unreadable-spec =
     (tie.spec
     read-request-requires
     enum-told
-    missing-requires
-    enum-told-2
-    missing-requires-2
-    enum-told-3
-    missing-requires-3
-    enum-told-4
-    missing-requires-4
-    enum-told-5
-    missing-requires-5
-    enum-told-6
     malformed-requires
+    enum-told-2
+    missing-requires
+    enum-told-3
+    missing-requires-2
+    enum-told-4
+    missing-requires-3
+    enum-told-5
+    missing-requires-4
+    enum-told-6
+    malformed-requires-2
     returns
     returns-2
     returns-3
