@@ -53,7 +53,7 @@ part-with-one-end c =
 
 with-one-requires : tie.Need-with-one-requires
 with-one-requires c κs =
-    let at-file = c .before .before in
+    let at-file = c .before .before .before .before .before .before in
     let at-files-of = at-file .before .before in (
       at-files-of .before .before .before .before .before .before .pre,
       omega (arith, ap length (rw (at-file .file .given .1) at (at-files-of .files-of .ensures .0))),
@@ -106,7 +106,7 @@ part-with-two-end-2 c =
 
 with-two-requires : tie.Need-with-two-requires
 with-two-requires c κs =
-    let at-old = c .before .before .before in
+    let at-old = c .before .before .before .before .before .before .before in
     let at-files-of = at-old .before .before in (
       at-files-of .before .before .before .before .before .before .pre,
       omega (arith, ap length (rw (at-old .old .given .1) at (at-files-of .files-of .ensures .0))),
