@@ -7,27 +7,6 @@ use borrow.Author.Needs.{needs}
 use Rattle.panel_session.proofs.files_of.Statement.{statement}
 use Rattle.panel_session.proofs.files_of.Tie as tie
 
-read-request-requires : tie.Need-read-request-requires
-read-request-requires c κs = search needs
-
-enum-told : tie.Need-enum-told
-enum-told c = search needs
-
-enum-known-task : tie.Need-enum-known-task
-enum-known-task c = search needs
-
-enum-known-task-2 : tie.Need-enum-known-task-2
-enum-known-task-2 c = search needs
-
-enum-known-task-3 : tie.Need-enum-known-task-3
-enum-known-task-3 c = search needs
-
-enum-known-task-4 : tie.Need-enum-known-task-4
-enum-known-task-4 c = search needs
-
-enum-told-2 : tie.Need-enum-told-2
-enum-told-2 c = search needs
-
 returns : tie.Need-returns
 returns c =
     let at-read = c .before .before in
@@ -78,13 +57,13 @@ pub files-of-spec : {M : Type 1} → statement M
 files-of-spec =
     tie.close
     (tie.spec
-    read-request-requires
-    enum-told
-    enum-known-task
-    enum-known-task-2
-    enum-known-task-3
-    enum-known-task-4
-    enum-told-2
+    (λ c κs. search needs)
+    (λ c. search needs)
+    (λ c. search needs)
+    (λ c. search needs)
+    (λ c. search needs)
+    (λ c. search needs)
+    (λ c. search needs)
     returns
     returns-2
     returns-3

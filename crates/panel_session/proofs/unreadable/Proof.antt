@@ -9,45 +9,6 @@ use borrow.Author.Needs.{needs}
 use Rattle.panel_session.proofs.unreadable.Statement.{statement}
 use Rattle.panel_session.proofs.unreadable.Tie as tie
 
-read-request-requires : tie.Need-read-request-requires
-read-request-requires c κs = search needs
-
-enum-told : tie.Need-enum-told
-enum-told c = search needs
-
-malformed-requires : tie.Need-malformed-requires
-malformed-requires c κs = search needs
-
-enum-told-2 : tie.Need-enum-told-2
-enum-told-2 c = search needs
-
-missing-requires : tie.Need-missing-requires
-missing-requires c κs = search needs
-
-enum-told-3 : tie.Need-enum-told-3
-enum-told-3 c = search needs
-
-missing-requires-2 : tie.Need-missing-requires-2
-missing-requires-2 c κs = search needs
-
-enum-told-4 : tie.Need-enum-told-4
-enum-told-4 c = search needs
-
-missing-requires-3 : tie.Need-missing-requires-3
-missing-requires-3 c κs = search needs
-
-enum-told-5 : tie.Need-enum-told-5
-enum-told-5 c = search needs
-
-missing-requires-4 : tie.Need-missing-requires-4
-missing-requires-4 c κs = search needs
-
-enum-told-6 : tie.Need-enum-told-6
-enum-told-6 c = search needs
-
-malformed-requires-2 : tie.Need-malformed-requires-2
-malformed-requires-2 c κs = search needs
-
 returns : tie.Need-returns
 returns c =
     let at-told = c .before in
@@ -91,19 +52,19 @@ pub unreadable-spec : {M : Type 1} → statement M
 unreadable-spec =
     tie.close
     (tie.spec
-    read-request-requires
-    enum-told
-    malformed-requires
-    enum-told-2
-    missing-requires
-    enum-told-3
-    missing-requires-2
-    enum-told-4
-    missing-requires-3
-    enum-told-5
-    missing-requires-4
-    enum-told-6
-    malformed-requires-2
+    (λ c κs. search needs)
+    (λ c. search needs)
+    (λ c κs. search needs)
+    (λ c. search needs)
+    (λ c κs. search needs)
+    (λ c. search needs)
+    (λ c κs. search needs)
+    (λ c. search needs)
+    (λ c κs. search needs)
+    (λ c. search needs)
+    (λ c κs. search needs)
+    (λ c. search needs)
+    (λ c κs. search needs)
     returns
     returns-2
     returns-3
