@@ -4,8 +4,8 @@ use libc::STDIN_FILENO;
 use panel_session::Names;
 use panel_session::Said;
 ghost use mathlib.Core.Path.{_≡_};
-ghost use Prim.Native.Nat.{_≤_};
-ghost use lib.ListN.{length};
+ghost use Prim.Native.Nat.{_+_, _≤_, _<_};
+ghost use lib.ListN.{length, set};
 ghost use Rattle.io.specs.Counts.{Counts};
 ghost use Rattle.panel_lines.specs.Grammar.{request};
 ghost use Rattle.panel_session.specs.Naming.{namedBy};
@@ -77,7 +77,7 @@ fn next_byte() -> Byte {
 // The line of n bytes in buf, after which the input goes on or has ended.
 fn line_of(n: usize, ended: bool, buf: &[u8]) -> Line
     requires { ⌜ n ≤ length (now buf) ⌝ }
-    ensures { λ r. ⌜ Counts (r .count) (now (buf .entry)) ⌝ }
+    ensures { λ r. ⌜ Counts (r .count) (now (buf .entry)) × (r .count ≡ n) × (r .ended ≡ ended) ⌝ }
 {
     Line { count: n, ended }
 }
@@ -85,7 +85,10 @@ fn line_of(n: usize, ended: bool, buf: &[u8]) -> Line
 // Stores a byte after the first n of buf, where there is room. The answer is how many there are then.
 fn keep(b: u8, n: usize, buf: &mut [u8]) -> usize
     requires { ⌜ n ≤ length (now buf) ⌝ }
-    ensures { λ r. ⌜ r ≤ length (now (buf .exit)) ⌝ }
+    ensures { λ r. ⌜
+        (r ≤ length (now (buf .exit))) × (n ≡ length (now (buf .entry)) → (r ≡ n) × (now (buf .exit) ≡ now (buf .entry)))
+        × (n < length (now (buf .entry)) → (r ≡ n + 1) × (now (buf .exit) ≡ set (now (buf .entry)) n b))
+        ⌝ }
 {
     if n == buf.len() {
         return n;

@@ -7,28 +7,10 @@ use borrow.Author.Needs.{needs}
 use Rattle.panel_main.proofs.do_line.Statement.{statement}
 use Rattle.panel_main.proofs.do_line.Tie as tie
 
-files-of-requires : tie.Need-files-of-requires
-files-of-requires c κs = search needs
-
-enum-told : tie.Need-enum-told
-enum-told c = search needs
-
-slice-aggregate-respond : tie.Need-slice-aggregate-respond
-slice-aggregate-respond c = search needs
-
-slice-aggregate-respond-2 : tie.Need-slice-aggregate-respond-2
-slice-aggregate-respond-2 c = search needs
-
-respond-requires : tie.Need-respond-requires
-respond-requires c κs = search needs
-
 tell-requires : tie.Need-tell-requires
 tell-requires c κs =
     let at-respond = c .before .before .before .before .before .before .before .before .before in
     answered-inside (at-respond .respond .ensures)
-
-enum-known-file : tie.Need-enum-known-file
-enum-known-file c = search needs
 
 sub-with-one : tie.Need-sub-with-one
 sub-with-one c =
@@ -58,9 +40,6 @@ with-one-requires c κs =
       at-files-of .before .before .before .before .before .before .pre,
       omega (arith, ap length (rw (at-file .file .given .1) at (at-files-of .files-of .ensures .0))),
     )
-
-enum-known-old : tie.Need-enum-known-old
-enum-known-old c = search needs
 
 sub-with-two : tie.Need-sub-with-two
 sub-with-two c =
@@ -112,67 +91,22 @@ with-two-requires c κs =
       omega (arith, ap length (rw (at-old .old .given .1) at (at-files-of .files-of .ensures .0))),
     )
 
-same-length : tie.Need-same-length
-same-length c = search needs
-
-same-length-2 : tie.Need-same-length-2
-same-length-2 c = search needs
-
-same-length-3 : tie.Need-same-length-3
-same-length-3 c = search needs
-
-same-length-4 : tie.Need-same-length-4
-same-length-4 c = search needs
-
-returns : tie.Need-returns
-returns c = search needs
-
-same-length-5 : tie.Need-same-length-5
-same-length-5 c = search needs
-
-same-length-6 : tie.Need-same-length-6
-same-length-6 c = search needs
-
-same-length-7 : tie.Need-same-length-7
-same-length-7 c = search needs
-
-same-length-8 : tie.Need-same-length-8
-same-length-8 c = search needs
-
-returns-2 : tie.Need-returns-2
-returns-2 c = search needs
-
-same-length-9 : tie.Need-same-length-9
-same-length-9 c = search needs
-
-same-length-10 : tie.Need-same-length-10
-same-length-10 c = search needs
-
-same-length-11 : tie.Need-same-length-11
-same-length-11 c = search needs
-
-same-length-12 : tie.Need-same-length-12
-same-length-12 c = search needs
-
-returns-3 : tie.Need-returns-3
-returns-3 c = search needs
-
 pub do-line-spec : {M : Type 1} → statement M
 do-line-spec =
     tie.close
     (tie.spec
-    files-of-requires
-    enum-told
-    slice-aggregate-respond
-    slice-aggregate-respond-2
-    respond-requires
+    (λ c κs. search needs)
+    (λ c. search needs)
+    (λ c. search needs)
+    (λ c. search needs)
+    (λ c κs. search needs)
     tell-requires
-    enum-known-file
+    (λ c. search needs)
     sub-with-one
     part-with-one-start
     part-with-one-end
     with-one-requires
-    enum-known-old
+    (λ c. search needs)
     sub-with-two
     part-with-two-start
     part-with-two-end
@@ -180,18 +114,18 @@ do-line-spec =
     part-with-two-start-2
     part-with-two-end-2
     with-two-requires
-    same-length
-    same-length-2
-    same-length-3
-    same-length-4
-    returns
-    same-length-5
-    same-length-6
-    same-length-7
-    same-length-8
-    returns-2
-    same-length-9
-    same-length-10
-    same-length-11
-    same-length-12
-    returns-3)
+    (λ c. search needs)
+    (λ c. search needs)
+    (λ c. search needs)
+    (λ c. search needs)
+    (λ c. search needs)
+    (λ c. search needs)
+    (λ c. search needs)
+    (λ c. search needs)
+    (λ c. search needs)
+    (λ c. search needs)
+    (λ c. search needs)
+    (λ c. search needs)
+    (λ c. search needs)
+    (λ c. search needs)
+    (λ c. search needs))

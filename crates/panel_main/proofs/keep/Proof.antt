@@ -1,4 +1,5 @@
 -- `panel_main::keep` meets its contract. Assumes nothing.
+use mathlib.Core.Path.{refl}
 use native.Mathlib.Omega.{arith}
 use lib.ListN.{length-set}
 use borrow.Author.Needs.{needs}
@@ -6,19 +7,10 @@ use Rattle.panel_main.proofs.keep.Statement.{statement}
 use Rattle.panel_main.proofs.keep.Tie as tie
 
 returns : tie.Need-returns
-returns c = search needs
-
-slice-write-buf : tie.Need-slice-write-buf
-slice-write-buf c = search needs
-
-add-result : tie.Need-add-result
-add-result c = search needs
-
-same-length : tie.Need-same-length
-same-length c = search needs
+returns c = (omega arith, (λ e. (refl, refl)), λ h. absurd (omega (arith, h)))
 
 returns-2 : tie.Need-returns-2
-returns-2 c = simp length-set (omega arith)
+returns-2 c = (simp length-set (omega arith), (λ e. absurd (omega (arith, e))), λ h. (refl, refl))
 
 pub keep-spec : {M : Type 1} → statement M
-keep-spec = tie.close (tie.spec returns slice-write-buf add-result same-length returns-2)
+keep-spec = tie.close (tie.spec returns (λ c. search needs) (λ c. search needs) (λ c. search needs) returns-2)

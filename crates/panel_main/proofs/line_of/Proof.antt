@@ -1,11 +1,11 @@
 -- `panel_main::line_of` meets its contract. Assumes nothing.
-use mathlib.Core.Path.{sym}
+use mathlib.Core.Path.{refl, sym}
 use lib.Seq.{length-take-le}
 use Rattle.panel_main.proofs.line_of.Statement.{statement}
 use Rattle.panel_main.proofs.line_of.Tie as tie
 
 returns : tie.Need-returns
-returns c = (c .pre, sym (length-take-le (c .args .n) (c .args .buf .now) (c .pre)))
+returns c = ((c .pre, sym (length-take-le (c .args .n) (c .args .buf .now) (c .pre))), refl, refl)
 
 pub line-of-spec : {M : Type 1} → statement M
 line-of-spec = tie.close (tie.spec returns)

@@ -15,10 +15,7 @@ slice-aggregate-session-with-2 c = sym (length-replicate {A = ℕ} 1572928 0)
 session-with-requires : tie.Need-session-with-requires
 session-with-requires c κs = length-replicate {A = ℕ} 1572928 0
 
-returns : tie.Need-returns
-returns c = search needs
-
 pub session-of-both-spec : {M : Type 1} → statement M
 session-of-both-spec =
     tie.close
-    (tie.spec slice-aggregate-session-with slice-aggregate-session-with-2 session-with-requires returns)
+    (tie.spec slice-aggregate-session-with slice-aggregate-session-with-2 session-with-requires (λ c. search needs))

@@ -18,12 +18,6 @@ slice-aggregate-answer-2 c =
     let start = c .before .before .before .before in
     omega (arith, length-take (start .args .said .out) (start .args .out .now), start .pre .1)
 
-answer-requires : tie.Need-answer-requires
-answer-requires c κs = search needs
-
-returns : tie.Need-returns
-returns c = search needs
-
 pub tell-spec : {M : Type 1} → statement M
 tell-spec =
     tie.close
@@ -31,5 +25,5 @@ tell-spec =
     array-share-prefix-line
     slice-aggregate-answer
     slice-aggregate-answer-2
-    answer-requires
-    returns)
+    (λ c κs. search needs)
+    (λ c. search needs))
