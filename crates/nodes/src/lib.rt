@@ -1,6 +1,7 @@
 // Graphs of folded frames: nodes, edges, and the record of a node in working memory.
 use literals::Node;
 ghost use mathlib.Core.Path.{_≡_};
+ghost use lib.Dec.{eqb};
 ghost use Rattle.nodes.specs.Edges.{wordEdge, edgeWord, opposite};
 
 // How many free bits a graph has, how many nodes it has now, and for how many there is room.
@@ -26,6 +27,24 @@ impl Edge {
     {
         let k = self.0.0 as u64;
         if self.1 { 2 * k + 1 } else { 2 * k }
+    }
+
+    pub fn node(self) -> Node
+        ensures { λ r. ⌜ r ≡ self .0 ⌝ }
+    {
+        self.0
+    }
+
+    pub fn is_complement(self) -> bool
+        ensures { λ r. ⌜ r ≡ self .1 ⌝ }
+    {
+        self.1
+    }
+
+    pub fn equals(self, e: Edge) -> bool
+        ensures { λ r. ⌜ r ≡ eqb (edgeWord self) (edgeWord e) ⌝ }
+    {
+        self.word() == e.word()
     }
 
     pub fn complement(self) -> Edge
