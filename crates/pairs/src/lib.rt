@@ -2,6 +2,9 @@
 use literals::Node;
 use nodes::Edge;
 use nodes::Graph;
+use nodes::PAIR_BEFORE;
+use nodes::PAIR_LAST;
+use nodes::RIGHT;
 ghost use mathlib.Core.Path.{_≡_};
 ghost use Prim.Native.Nat.{_+_, _*_, _<_, _^_};
 ghost use lib.ListN.{length};
@@ -11,14 +14,6 @@ ghost use Rattle.nodes.specs.Last.{lastBefore};
 ghost use Rattle.pairs.specs.Bucket.{bucketOf};
 ghost use Rattle.pairs.specs.Answers.{placeOf};
 ghost use Rattle.pairs.specs.Store.{hasPair, isPair, Chained, Empty, Started, Room, Appended};
-
-// Words of a node's record, after the left operand, which is the first: the right operand, the node before it in its bucket, and the last
-// node of the bucket that has the record's number. The last two are one more than a node, or 0.
-const RIGHT: usize = 1;
-
-const BEFORE: usize = 4;
-
-const LAST: usize = 6;
 
 // The gate with given operands, or that there is none.
 pub enum Lookup {
@@ -60,7 +55,7 @@ pub fn start_pairs(work: &mut [u32], g: Graph)
     let room = g.room;
     let mut h = 0;
     while h < room {
-        work[16 * h + LAST] = 0;
+        work[16 * h + PAIR_LAST] = 0;
         h += 1;
     }
 }
@@ -73,12 +68,12 @@ pub fn find_pair(work: &[u32], g: Graph, left: Edge, right: Edge) -> Lookup
 {
     let room = g.room;
     let h = bucket(room, left, right);
-    let mut next = word(work, h, LAST);
+    let mut next = word(work, h, PAIR_LAST);
     while 0 < next {
         if has_pair(work, next - 1, left, right) {
             return Lookup::Gate(Node((next - 1) as u32));
         }
-        next = word(work, next - 1, BEFORE);
+        next = word(work, next - 1, PAIR_BEFORE);
     }
     Lookup::Nothing
 }
@@ -94,8 +89,8 @@ pub fn append_pair(work: &mut [u32], g: Graph, left: Edge, right: Edge) -> Graph
     let h = bucket(room, left, right);
     work[16 * k] = left.word() as u32;
     work[16 * k + RIGHT] = right.word() as u32;
-    work[16 * k + BEFORE] = work[16 * h + LAST];
-    work[16 * h + LAST] = (k + 1) as u32;
+    work[16 * k + PAIR_BEFORE] = work[16 * h + PAIR_LAST];
+    work[16 * h + PAIR_LAST] = (k + 1) as u32;
     Graph {
         free: g.free,
         nodes: k + 1,

@@ -2,6 +2,7 @@
 use literals::Node;
 use nodes::Edge;
 use nodes::Graph;
+use nodes::RIGHT;
 ghost use mathlib.Core.Path.{_≡_};
 ghost use Rattle.nodes.specs.Store.{pairsOf};
 ghost use Rattle.nodes.specs.Edges.{edgeWord};
@@ -73,7 +74,7 @@ pub fn simplify(work: &[u32], g: Graph, left: Edge, right: Edge) -> Simple
                 return Simple::Gate;
             }
             let first = Edge::from_word(work[16 * k]);
-            let second = Edge::from_word(work[16 * k + 1]);
+            let second = Edge::from_word(work[16 * k + RIGHT]);
             lower_rule(first, second, left, right)
         }
     }
