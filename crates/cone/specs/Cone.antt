@@ -6,17 +6,17 @@ use Prim.Native.Nat.{ℕ, zero, suc, _+_, _-_, _*_, _%_, _≤_}
 use lib.Dec.{T, leb, eqb}
 use lib.ListN.{length}
 use Rattle.aiger.specs.Lists.{upto}
-use Rattle.aiger.specs.Circuit.{Circuit, Gate, var}
-use Rattle.nodes.specs.Graph.{Pair, pairAt}
+use Rattle.aiger.specs.Circuit.{Circuit, Gate}
+use Rattle.nodes.specs.Graph.{nodeOf, Pair, pairAt}
 
 -- k is the node of an operand
 unfoldable pub operandOf : Pair → ℕ → Bool
-operandOf p k = eqb k (var (p .left)) || eqb k (var (p .right))
+operandOf p k = eqb k (nodeOf (p .left)) || eqb k (nodeOf (p .right))
 
 -- node k is marked once the s gates from gate j on are passed, the last one first: the root's node is marked at the start, and a
 -- gate that is marked when it is passed marks the nodes of its operands
 unfoldable pub marked : ℕ → List Pair → ℕ → ℕ → ℕ → ℕ → Bool
-marked n gs root zero j k = eqb k (var root)
+marked n gs root zero j k = eqb k (nodeOf root)
 marked n gs root (suc s) j k = marked n gs root s (j + 1) k || (marked n gs root s (j + 1) (n + 1 + j) && operandOf (pairAt gs j) k)
 
 -- node k leads to the root
@@ -38,7 +38,7 @@ Numbered n gs root k = (k ≤ n) ⊎ T (inCone n gs root k)
 
 -- the literal of an edge
 unfoldable pub renumbered : ℕ → List Pair → ℕ → ℕ → ℕ
-renumbered n gs root e = 2 * number n gs root (var e) + e % 2
+renumbered n gs root e = 2 * number n gs root (nodeOf e) + e % 2
 
 -- gate j of the graph as a gate of the circuit
 unfoldable pub keptGate : ℕ → List Pair → ℕ → ℕ → Gate

@@ -6,8 +6,7 @@ use Prim.Native.Nat.{ℕ, _+_, _*_, _≤_, _<_}
 use lib.Dec.{T, eqb}
 use lib.ListN.{length, getD}
 use Rattle.aiger.specs.Bits.{nonzero}
-use Rattle.aiger.specs.Circuit.{var}
-use Rattle.nodes.specs.Graph.{Pair, Built}
+use Rattle.nodes.specs.Graph.{nodeOf, Pair, Built}
 use Rattle.nodes.specs.Store.{field, pairOf, pairsOf, Sized}
 use Rattle.nodes.specs.declared.Graph.{Graph}
 use Rattle.cone.specs.Cone.{operandOf, inCone, keptBefore, number, Numbered}
@@ -24,7 +23,7 @@ Marks gs work g root = (k : ℕ) → k < g .nodes → field work k 10 ≡ cond (
 pub record Markable (work : List ℕ) (g : Graph) (root : ℕ) : Type 0 where
   pub sized : Sized g (length work)
   pub built : Built (g .free) (pairsOf work g)
-  pub inside : var root < g .nodes
+  pub inside : nodeOf root < g .nodes
 
 -- the nodes that lead to the root are marked
 pub record ConeMarked (work last : List ℕ) (g : Graph) (root : ℕ) : Type 0 where
@@ -40,8 +39,8 @@ pub record TopMarked (work last : List ℕ) (g : Graph) (top : ℕ) : Type 0 whe
 -- where node k may be passed: its operands are earlier nodes
 pub record Passable (work : List ℕ) (k : ℕ) : Type 0 where
   pub held : 16 * k + 16 ≤ length work
-  pub left : var (field work k 0) < k
-  pub right : var (field work k 1) < k
+  pub left : nodeOf (field work k 0) < k
+  pub right : nodeOf (field work k 1) < k
 
 -- the nodes of the operands of node k are marked, if it is marked
 pub record Passed (work last : List ℕ) (k : ℕ) : Type 0 where

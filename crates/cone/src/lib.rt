@@ -3,6 +3,9 @@
 use literals::Node;
 use nodes::Edge;
 use nodes::Graph;
+use nodes::MARK;
+use nodes::NUMBER;
+use nodes::RIGHT;
 ghost use Prim.Native.Nat.{_+_, _*_, _≤_, _<_};
 ghost use lib.ListN.{length};
 ghost use Rattle.nodes.specs.Store.{Sized};
@@ -18,11 +21,11 @@ fn start_marks(work: &mut [u32], g: Graph, top: Node)
     let nodes = g.nodes;
     let mut k = 0;
     while k < nodes {
-        work[16 * k + 10] = 0;
+        work[16 * k + MARK] = 0;
         k += 1;
     }
     let t = top.0 as usize;
-    work[16 * t + 10] = 1;
+    work[16 * t + MARK] = 1;
 }
 
 // Marks the nodes of the operands of node k, if it is marked.
@@ -30,13 +33,15 @@ fn mark_gate(work: &mut [u32], k: usize)
     requires { ⌜ Passable (now work) k ⌝ }
     ensures { λ r. ⌜ Passed (now (work .entry)) (now (work .exit)) k ⌝ }
 {
-    if work[16 * k + 10] == 0 {
+    if work[16 * k + MARK] == 0 {
         return;
     }
-    let left = (work[16 * k] / 2) as usize;
-    let right = (work[16 * k + 1] / 2) as usize;
-    work[16 * left + 10] = 1;
-    work[16 * right + 10] = 1;
+    let a = Edge::from_word(work[16 * k]);
+    let b = Edge::from_word(work[16 * k + RIGHT]);
+    let left = a.0.0 as usize;
+    let right = b.0.0 as usize;
+    work[16 * left + MARK] = 1;
+    work[16 * right + MARK] = 1;
 }
 
 // Marks the nodes that lead to the root. Gates are passed from the last one to the first.
@@ -61,7 +66,7 @@ fn number_leaves(work: &mut [u32], g: Graph)
     let free = g.free;
     let mut k = 0;
     while k < free + 1 {
-        work[16 * k + 10] = k as u32;
+        work[16 * k + NUMBER] = k as u32;
         k += 1;
     }
 }
@@ -71,11 +76,11 @@ fn number_gate(work: &mut [u32], k: usize, next: usize) -> usize
     requires { ⌜ (16 * k + 16 ≤ length (now work)) × (next < 65536) ⌝ }
     ensures { λ r. ⌜ GateNumbered (now (work .entry)) (now (work .exit)) k next r ⌝ }
 {
-    let mark = work[16 * k + 10];
+    let mark = work[16 * k + MARK];
     if mark == 0 {
         return next;
     }
-    work[16 * k + 10] = next as u32;
+    work[16 * k + NUMBER] = next as u32;
     next + 1
 }
 

@@ -6,12 +6,12 @@ use Prim.Native.Nat.{ℕ, zero, suc, _+_, _*_, _≤_, _<_}
 use lib.Dec.{eqb}
 use lib.ListN.{length}
 use Rattle.aiger.specs.Text.{bytes}
-use Rattle.aiger.specs.Circuit.{Circuit, var}
+use Rattle.aiger.specs.Circuit.{Circuit}
 use Rattle.aiger.specs.Write.{lineOf}
 use Rattle.aiger.specs.Operations.{front}
 use Rattle.literals.specs.Literal.{signed, wordOf}
 use Rattle.literals.specs.declared.Lit.{Lit}
-use Rattle.nodes.specs.Graph.{Built}
+use Rattle.nodes.specs.Graph.{nodeOf, Built}
 use Rattle.nodes.specs.Store.{field, pairsOf, Sized}
 use Rattle.nodes.specs.Edges.{wordEdge}
 use Rattle.nodes.specs.declared.Graph.{Graph}
@@ -55,8 +55,8 @@ pub record NodeFits (work : List ℕ) (k : ℕ) : Type 0 where
 -- a gate of the memory whose operands are nodes of it
 pub record GateFits (work : List ℕ) (k : ℕ) : Type 0 where
   pub node : NodeFits work k
-  pub left : NodeFits work (var (field work k 0))
-  pub right : NodeFits work (var (field work k 1))
+  pub left : NodeFits work (nodeOf (field work k 0))
+  pub right : NodeFits work (nodeOf (field work k 1))
 
 -- all gates of the graph
 pub record GatesFit (work : List ℕ) (g : Graph) : Type 0 where
@@ -71,7 +71,7 @@ foldedIn work g root = folded (g .free) (pairsOf work g) root
 pub record Writable (work : List ℕ) (g : Graph) (root kept : ℕ) : Type 0 where
   pub sized : Sized g (length work)
   pub built : Built (g .free) (pairsOf work g)
-  pub inside : var root < g .nodes
+  pub inside : nodeOf root < g .nodes
   pub assigned : Assigned (pairsOf work g) work g root kept
 
 -- the text is at the front of the output, and r is its length

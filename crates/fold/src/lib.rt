@@ -5,14 +5,17 @@ use literals::Lit;
 use literals::Var;
 use nodes::Edge;
 use nodes::Graph;
+use nodes::NUMBER;
+use nodes::RIGHT;
 ghost use mathlib.Core.Path.{_≡_};
 ghost use Prim.Native.Nat.{_+_, _-_, _*_, _≤_, _<_};
 ghost use lib.ListN.{length};
 ghost use Rattle.aiger.specs.Write.{write};
-ghost use Rattle.aiger.specs.Circuit.{Circuit, var};
+ghost use Rattle.aiger.specs.Circuit.{Circuit};
 ghost use Rattle.aiger.specs.Operations.{judge, foldTests, Folded};
 ghost use Rattle.layout.specs.Words.{circuitIn};
 ghost use Rattle.limits.specs.Limits.{Limited, CountsOf, told};
+ghost use Rattle.nodes.specs.Graph.{nodeOf};
 ghost use Rattle.nodes.specs.Edges.{edgeWord};
 ghost use Rattle.write.specs.Output.{Room, Placed};
 ghost use Rattle.fold.specs.Text.{literalOf, literalWord, gateText, gatesText, inputsText, headText, NodeFits, GateFits, GatesFit, foldedIn, Writable, Shown};
@@ -61,12 +64,12 @@ fn literal(work: &[u32], e: Edge) -> Lit
     ensures { λ r. ⌜ r ≡ literalOf (now (work .entry)) e ⌝ }
 {
     let k = e.0.0 as usize;
-    Lit(Var(work[16 * k + 10]), e.1)
+    Lit(Var(work[16 * k + NUMBER]), e.1)
 }
 
 // The word of the literal of the edge whose word is w.
 fn literal_word(work: &[u32], w: u32) -> u32
-    requires { ⌜ NodeFits (now work) (var w) ⌝ }
+    requires { ⌜ NodeFits (now work) (nodeOf w) ⌝ }
     ensures { λ r. ⌜ r ≡ literalWord (now (work .entry)) w ⌝ }
 {
     literal(work, Edge::from_word(w)).word() as u32
@@ -77,13 +80,13 @@ fn write_gate(work: &[u32], k: usize, out: &mut [u8], at: usize) -> usize
     requires { ⌜ GateFits (now work) k × Room (now out) at (gateText (now work) k) ⌝ }
     ensures { λ r. ⌜ Placed (now (out .entry)) at (gateText (now (work .entry)) k) r (now (out .exit)) ⌝ }
 {
-    let number = work[16 * k + 10];
+    let number = work[16 * k + NUMBER];
     if number == 0 {
         return at;
     }
     let own = Lit(Var(number), false).word() as u32;
     let left = literal_word(work, work[16 * k]);
-    let right = literal_word(work, work[16 * k + 1]);
+    let right = literal_word(work, work[16 * k + RIGHT]);
     let row = [own, left, right];
     write::write_row(&row, 0, 3, out, at)
 }

@@ -27,8 +27,6 @@ use Rattle.signatures.specs.Twin.{edgeUnder, bothUnder, Conjunction}
 use Rattle.rules.specs.Rules.{simplified}
 use Rattle.graph.specs.Stored.{Fresh, Twinless}
 use Rattle.graph.specs.Chosen.{Outcome, hasOperands, isTwin, twinOf, orAdded, orMerged, orMade, conjoin}
-use Rattle.rules.specs.declared.Simple.the-variants.{Known, Gate}
-use Rattle.rules.specs.declared.Simple.{Simple}
 
 -- ---- edges of a built graph differ in function
 
@@ -185,10 +183,10 @@ module _ (n : ℕ) (gs : List Pair) (left right : ℕ) (order : right ≤ left) 
   ordered = rw (max-eq-left order, min-eq-right order)
 
   -- a rule
-  pub conjoin-known : (e : ℕ) → simplified n gs left right ≡ Known e → conjoin n gs left right ≡ record { gates = gs; edge = e }
+  pub conjoin-known : (e : ℕ) → simplified n gs left right ≡ some e → conjoin n gs left right ≡ record { gates = gs; edge = e }
   conjoin-known e s = ordered ∙ ap (orMade n gs left right) s
 
-  module _ (built : Built n gs) (s : simplified n gs left right ≡ Gate) where
+  module _ (built : Built n gs) (s : simplified n gs left right ≡ none) where
     gate-made : conjoin n gs left right ≡ orMerged n gs left right (lastBelow (hasOperands gs left right) (length gs))
     gate-made = ordered ∙ ap (orMade n gs left right) s
 

@@ -3,6 +3,7 @@ use mathlib.Core.Path.{_≡_, refl, sym, ap, ap₂, _∙_, subst}
 use mathlib.Core.Bool.{Bool, false, _&&_}
 use mathlib.Core.List.{List, [], _∷_, _++_}
 use mathlib.Core.Logic.{⊎-elim}
+use mathlib.Core.Option.{none, some}
 use Prim.Native.Nat.{ℕ, _+_, _-_, _*_, _^_, _≤_, _<_}
 use native.Mathlib.Omega.{arith}
 use lib.ListN.{length}
@@ -11,10 +12,10 @@ use Rattle.aiger.specs.Frames.{freeBit}
 use Rattle.nodes.specs.Graph.{Pair, nodeValues, edgeValue, nodes, pairAt, Built, Extends, same, more}
 use Rattle.nodes.specs.Store.{pairsOf, oneMore}
 use Rattle.nodes.specs.Last.{lastBefore}
-use Rattle.nodes.specs.Edges.{edgeOf, wordEdge, edgeWord}
+use Rattle.nodes.specs.Edges.{edgeOf, edgeWord}
 use Rattle.nodes.specs.declared.Graph.{Graph}
 use Rattle.nodes.specs.declared.Edge.{Edge}
-use Rattle.nodes.proofs.Laws.{node-constant, edge-new, edge-gate, edge-word, nodes-pairsOf, length-pairsOf, pairsOf-same}
+use Rattle.nodes.proofs.Laws.{node-constant, edge-new, edge-gate, word-node, nodes-pairsOf, length-pairsOf, pairsOf-same}
 use Rattle.pairs.specs.Store.{isPair, PairStore}
 use Rattle.pairs.proofs.Buckets.{SamePairs, store-same}
 use Rattle.pairs.proofs.Found.{found-gate, found-holds, found-none}
@@ -23,7 +24,6 @@ use Rattle.rules.specs.Rules.{simplified}
 use Rattle.graph.specs.Stored.{Stored, Operands, madeOf, Conjoined, Proper, New, Twinless}
 use Rattle.graph.specs.Chosen.{Outcome, conjoin}
 use Rattle.graph.specs.declared.Made.{Made}
-use Rattle.rules.specs.declared.Simple.the-variants.{Known, Gate}
 use Rattle.rules.proofs.Rules as rules
 use Rattle.rules.proofs.Rules.{ruled-value, ruled-edge, ruled-nonconstant-gate, ruled-larger, lowered-value, lowered-edge, known-cases, gate-cases}
 use Rattle.graph.proofs.Chosen.{conjoin-known, conjoin-hashed, conjoin-added}
@@ -54,18 +54,18 @@ module _ (work last : List ℕ) (g : Graph) (a b : ℕ) (stored : Stored last g)
         value = λ x u. ap₂ (λ (hs : List Pair) (y : ℕ). edgeValue (g .free) hs (freeBit (g .free) x) y) kept q ∙ v x u;
       }
 
-  -- the edge that a word stands for
-  pub word-made : (w : ℕ) (e : Edge) → e ≡ wordEdge w → var w < g .nodes
-      → ((x : ℕ) → x < 2 ^ (g .free) → edgeValue (g .free) (pairsOf work g) (freeBit (g .free) x) w ≡ both work g a b x)
-      → conjoin (g .free) (pairsOf work g) a b ≡ record { gates = pairsOf work g; edge = w }
+  -- the edge whose word is known
+  pub word-made : (e : Edge) → var (edgeWord e) < g .nodes
+      → ((x : ℕ) → x < 2 ^ (g .free) → edgeValue (g .free) (pairsOf work g) (freeBit (g .free) x) (edgeWord e) ≡ both work g a b x)
+      → conjoin (g .free) (pairsOf work g) a b ≡ record { gates = pairsOf work g; edge = edgeWord e }
       → Conjoined work last g a b (madeOf g e)
-  word-made w e q l v o = edge-made w e (ap (λ (z : Edge). z .0 .0) q) (ap edgeWord q ∙ edge-word w) l v o
+  word-made e l v o = edge-made (edgeWord e) e (sym (word-node e)) refl l v o
 
 -- ---- the rules
 
 module _ (work : List ℕ) (g : Graph) (left right : ℕ) (ready : Operands work g left right) (order : right ≤ left) where
   -- the value and the node of the edge that a rule says
-  rule-value : (w : ℕ) → simplified (g .free) (pairsOf work g) left right ≡ Known w → (x : ℕ)
+  rule-value : (w : ℕ) → simplified (g .free) (pairsOf work g) left right ≡ some w → (x : ℕ)
       → edgeValue (g .free) (pairsOf work g) (freeBit (g .free) x) w ≡ both work g left right x
   rule-value w s x =
       let n = g .free in
@@ -81,17 +81,17 @@ module _ (work : List ℕ) (g : Graph) (left right : ℕ) (ready : Operands work
       (ap (edgeValue n gs f) z ∙ edge-gate n gs f i l (pairAt gs i) refl (b .earlier i l) (omega (arith, b .earlier i l, b .larger i l))) (q .1))
       (known-cases n gs left right w s)
 
-  rule-edge : (w : ℕ) → simplified (g .free) (pairsOf work g) left right ≡ Known w → var w < g .nodes
+  rule-edge : (w : ℕ) → simplified (g .free) (pairsOf work g) left right ≡ some w → var w < g .nodes
   rule-edge w s =
       ⊎-elim (λ q. ruled-edge (g .nodes) (ready .left) (rules.ruled left right) w q) (λ q. lowered-edge (g .nodes) (ready .left) (ready .right) (q .1))
       (known-cases (g .free) (pairsOf work g) left right w s)
 
-  pub known-made : (w : ℕ) (e : Edge) → e ≡ wordEdge w → simplified (g .free) (pairsOf work g) left right ≡ Known w → Conjoined work work g left right (madeOf g e)
-  known-made w e q s =
-      word-made work work g left right (ready .stored) refl w e q (rule-edge w s) (λ x u. rule-value w s x)
-      (conjoin-known (g .free) (pairsOf work g) left right order w s)
+  pub known-made : (e : Edge) → simplified (g .free) (pairsOf work g) left right ≡ some (edgeWord e) → Conjoined work work g left right (madeOf g e)
+  known-made e s =
+      word-made work work g left right (ready .stored) refl e (rule-edge (edgeWord e) s) (λ x u. rule-value (edgeWord e) s x)
+      (conjoin-known (g .free) (pairsOf work g) left right order (edgeWord e) s)
 
-  pub gate-proper : simplified (g .free) (pairsOf work g) left right ≡ Gate → Proper work g left right
+  pub gate-proper : simplified (g .free) (pairsOf work g) left right ≡ none → Proper work g left right
   gate-proper s =
       let r = gate-cases (g .free) (pairsOf work g) left right s .0 in
       record {
@@ -124,9 +124,6 @@ module _ (work : List ℕ) (g : Graph) (left right : ℕ) (ready : Proper work g
   found-below h =
       let d = found-holds work g left right r e h in
       omega (arith, found-gate work g left right r e h, d .below, length-pairsOf work g)
-
-  pub found-bound : (k : ℕ) → k + 1 ≡ r → k < 65536
-  found-bound k q = omega (arith, found-below (omega arith), ready .stored .sized .nodes, ready .stored .sized .room)
 
   found-chosen : 0 < r → conjoin (g .free) (pairsOf work g) left right ≡ record { gates = pairsOf work g; edge = 2 * (r - 1) }
   found-chosen h =

@@ -11,7 +11,7 @@ use Rattle.aiger.specs.Signature.{PatternWord}
 use Rattle.words.proofs.Bits.{bit-and}
 use Rattle.nodes.specs.Graph.{Pair, pairAt}
 use Rattle.nodes.specs.Store.{field, pairOf, pairsOf, Sized, oneMore}
-use Rattle.nodes.specs.Edges.{edgeOf, wordEdge}
+use Rattle.nodes.specs.Edges.{edgeOf, edgeWord}
 use Rattle.nodes.specs.declared.Graph.{Graph}
 use Rattle.nodes.specs.declared.Edge.{Edge}
 use Rattle.nodes.proofs.Laws.{pairAt-new, pairsOf-same, pairsOf-more, nodes-pairsOf}
@@ -150,10 +150,11 @@ module _ (work last : List ℕ) (g : Graph) (left right r : ℕ) (ready : New wo
   twin-edge : (k : ℕ) → r ≡ k + 1 → var k < g .nodes
   twin-edge k z = omega (arith, d .twin .found k z .0, nodes-pairsOf work g (ready .proper .stored .sized .leaves))
 
-  pub twin-made : g .free ≤ 12 → (k : ℕ) → r ≡ k + 1 → (e : Edge) → e ≡ wordEdge k → Conjoined work last g left right (madeOf g e)
-  twin-made few k z e q =
+  pub twin-made : g .free ≤ 12 → (e : Edge) → r ≡ edgeWord e + 1 → Conjoined work last g left right (madeOf g e)
+  twin-made few e z =
+      let k = edgeWord e in
       let equal = d .twin .found k z .1 in
-      word-made work last g left right twin-stored twin-pairs k e q (twin-edge k z) equal
+      word-made work last g left right twin-stored twin-pairs e (twin-edge k z) equal
       (conjoin-merged (g .free) (pairsOf work g) left right (omega (arith, ready .proper .larger)) (ready .proper .stored .built)
       (ready .proper .no-rule) (ready .fresh) few k (d .twin .found k z .0) equal)
 

@@ -9,8 +9,6 @@ use Rattle.aiger.specs.Lists.{everyBelow, lastBelow}
 use Rattle.nodes.specs.Graph.{Pair, nodes, pairAt}
 use Rattle.signatures.specs.Twin.{edgeUnder, bothUnder}
 use Rattle.rules.specs.Rules.{simplified}
-use Rattle.rules.specs.declared.Simple.{Simple}
-use Rattle.rules.specs.declared.Simple.the-variants.{Known, Gate}
 
 -- the gates of a graph, and an edge of it
 pub record Outcome : Type 0 where
@@ -40,9 +38,9 @@ orMerged n gs left right none = orAdded n gs left right (twinOf n gs left right)
 orMerged n gs left right (some i) = record { gates = gs; edge = 2 * (n + 1 + i) }
 
 -- the edge that a rule says, or else the gate with these operands, or what is made where there is none
-abbrev pub orMade : ℕ → List Pair → ℕ → ℕ → Simple → Outcome
-orMade n gs left right (Known e) = record { gates = gs; edge = e }
-orMade n gs left right Gate = orMerged n gs left right (lastBelow (hasOperands gs left right) (length gs))
+abbrev pub orMade : ℕ → List Pair → ℕ → ℕ → Option ℕ → Outcome
+orMade n gs left right (some e) = record { gates = gs; edge = e }
+orMade n gs left right none = orMerged n gs left right (lastBelow (hasOperands gs left right) (length gs))
 
 -- the conjunction of edges a and b in the graph over n free bits whose gates are gs
 unfoldable pub conjoin : ℕ → List Pair → ℕ → ℕ → Outcome

@@ -2,11 +2,11 @@
 use mathlib.Core.Path.{_≡_}
 use mathlib.Core.Bool.{_&&_}
 use mathlib.Core.List.{List}
+use mathlib.Core.Option.{none}
 use Prim.Native.Nat.{ℕ, _+_, _*_, _^_, _≤_, _<_}
 use lib.ListN.{length}
-use Rattle.aiger.specs.Circuit.{var}
 use Rattle.aiger.specs.Frames.{freeBit}
-use Rattle.nodes.specs.Graph.{Pair, edgeValue, pairAt, InGraph, Built, Extends}
+use Rattle.nodes.specs.Graph.{nodeOf, Pair, edgeValue, pairAt, InGraph, Built, Extends}
 use Rattle.nodes.specs.Store.{pairsOf, Sized}
 use Rattle.nodes.specs.Edges.{edgeWord}
 use Rattle.nodes.specs.declared.Graph.{Graph}
@@ -17,7 +17,6 @@ use Rattle.signatures.specs.Twin.{Conjunction}
 use Rattle.rules.specs.Rules.{simplified}
 use Rattle.graph.specs.Chosen.{conjoin}
 use Rattle.graph.specs.declared.Made.{Made}
-use Rattle.rules.specs.declared.Simple.the-variants.{Gate}
 
 -- the graph g stands in the memory
 pub record Stored (work : List ℕ) (g : Graph) : Type 0 where
@@ -40,8 +39,8 @@ pub record Enough (free room words : ℕ) : Type 0 where
 pub record Operands (work : List ℕ) (g : Graph) (a b : ℕ) : Type 0 where
   pub stored : Stored work g
   pub room : g .nodes < g .room
-  pub left : var a < g .nodes
-  pub right : var b < g .nodes
+  pub left : nodeOf a < g .nodes
+  pub right : nodeOf b < g .nodes
 
 abbrev pub madeOf : Graph → Edge → Made
 madeOf g e = record { graph = g; edge = e }
@@ -64,10 +63,10 @@ pub record Conjoined (work last : List ℕ) (g : Graph) (a b : ℕ) (made : Made
 pub record Proper (work : List ℕ) (g : Graph) (left right : ℕ) : Type 0 where
   pub stored : Stored work g
   pub room : g .nodes < g .room
-  pub earlier : var left < g .nodes
-  pub larger : var right < var left
+  pub earlier : nodeOf left < g .nodes
+  pub larger : nodeOf right < nodeOf left
   pub nonconstant : 2 ≤ right
-  pub no-rule : simplified (g .free) (pairsOf work g) left right ≡ Gate
+  pub no-rule : simplified (g .free) (pairsOf work g) left right ≡ none
 
 -- no gate of gs has these operands
 abbrev pub Fresh : List Pair → ℕ → ℕ → Type 0

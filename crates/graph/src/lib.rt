@@ -38,10 +38,10 @@ pub fn start(work: &mut [u32], free: usize, room: usize) -> Graph
 }
 
 // Adds a gate. There are more than twelve free bits, so that signatures are not kept.
-fn append_plain(work: &mut [u32], g: Graph, left: u32, right: u32) -> Made
-    requires { ⌜ New (now work) g left right ⌝ }
+fn append_plain(work: &mut [u32], g: Graph, left: Edge, right: Edge) -> Made
+    requires { ⌜ New (now work) g (edgeWord left) (edgeWord right) ⌝ }
     requires { ⌜ 12 < g .free ⌝ }
-    ensures { λ r. ⌜ Conjoined (now (work .entry)) (now (work .exit)) g left right r ⌝ }
+    ensures { λ r. ⌜ Conjoined (now (work .entry)) (now (work .exit)) g (edgeWord left) (edgeWord right) r ⌝ }
 {
     let k = g.nodes as u32;
     let graph = pairs::append_pair(work, g, left, right);
@@ -52,11 +52,11 @@ fn append_plain(work: &mut [u32], g: Graph, left: u32, right: u32) -> Made
 }
 
 // Adds a gate with its signature.
-fn append_signed(work: &mut [u32], g: Graph, left: u32, right: u32) -> Made
-    requires { ⌜ New (now work) g left right ⌝ }
+fn append_signed(work: &mut [u32], g: Graph, left: Edge, right: Edge) -> Made
+    requires { ⌜ New (now work) g (edgeWord left) (edgeWord right) ⌝ }
     requires { ⌜ g .free ≤ 12 ⌝ }
-    requires { ⌜ Twinless (g .free) (pairsOf (now work) g) left right ⌝ }
-    ensures { λ r. ⌜ Conjoined (now (work .entry)) (now (work .exit)) g left right r ⌝ }
+    requires { ⌜ Twinless (g .free) (pairsOf (now work) g) (edgeWord left) (edgeWord right) ⌝ }
+    ensures { λ r. ⌜ Conjoined (now (work .entry)) (now (work .exit)) g (edgeWord left) (edgeWord right) r ⌝ }
 {
     let k = g.nodes as u32;
     let s = signatures::signature(work, left) & signatures::signature(work, right);
@@ -69,29 +69,26 @@ fn append_signed(work: &mut [u32], g: Graph, left: u32, right: u32) -> Made
 }
 
 // An edge that is equal in function, or a new gate.
-fn merge(work: &mut [u32], g: Graph, left: u32, right: u32) -> Made
-    requires { ⌜ New (now work) g left right ⌝ }
+fn merge(work: &mut [u32], g: Graph, left: Edge, right: Edge) -> Made
+    requires { ⌜ New (now work) g (edgeWord left) (edgeWord right) ⌝ }
     requires { ⌜ g .free ≤ 12 ⌝ }
-    ensures { λ r. ⌜ Conjoined (now (work .entry)) (now (work .exit)) g left right r ⌝ }
+    ensures { λ r. ⌜ Conjoined (now (work .entry)) (now (work .exit)) g (edgeWord left) (edgeWord right) r ⌝ }
 {
     match signatures::find_twin(work, g, left, right) {
-        Match::Edge(e) => Made {
-            graph: g,
-            edge: Edge::from_word(e),
-        },
+        Match::Edge(e) => Made { graph: g, edge: e },
         Match::Nothing => append_signed(work, g, left, right),
     }
 }
 
 // The gate with these operands, or what is made where there is none.
-fn make_gate(work: &mut [u32], g: Graph, left: u32, right: u32) -> Made
-    requires { ⌜ Proper (now work) g left right ⌝ }
-    ensures { λ r. ⌜ Conjoined (now (work .entry)) (now (work .exit)) g left right r ⌝ }
+fn make_gate(work: &mut [u32], g: Graph, left: Edge, right: Edge) -> Made
+    requires { ⌜ Proper (now work) g (edgeWord left) (edgeWord right) ⌝ }
+    ensures { λ r. ⌜ Conjoined (now (work .entry)) (now (work .exit)) g (edgeWord left) (edgeWord right) r ⌝ }
 {
     match pairs::find_pair(work, g, left, right) {
         Lookup::Gate(k) => Made {
             graph: g,
-            edge: Edge(Node(k as u32), false),
+            edge: Edge(k, false),
         },
         Lookup::Nothing => {
             if 12 < g.free {
@@ -103,16 +100,13 @@ fn make_gate(work: &mut [u32], g: Graph, left: u32, right: u32) -> Made
 }
 
 // The conjunction of two edges, of which left is the larger.
-fn make_ordered(work: &mut [u32], g: Graph, left: u32, right: u32) -> Made
-    requires { ⌜ Operands (now work) g left right ⌝ }
-    requires { ⌜ right ≤ left ⌝ }
-    ensures { λ r. ⌜ Conjoined (now (work .entry)) (now (work .exit)) g left right r ⌝ }
+fn make_ordered(work: &mut [u32], g: Graph, left: Edge, right: Edge) -> Made
+    requires { ⌜ Operands (now work) g (edgeWord left) (edgeWord right) ⌝ }
+    requires { ⌜ edgeWord right ≤ edgeWord left ⌝ }
+    ensures { λ r. ⌜ Conjoined (now (work .entry)) (now (work .exit)) g (edgeWord left) (edgeWord right) r ⌝ }
 {
     match simplify(work, g, left, right) {
-        Simple::Known(e) => Made {
-            graph: g,
-            edge: Edge::from_word(e),
-        },
+        Simple::Known(e) => Made { graph: g, edge: e },
         Simple::Gate => make_gate(work, g, left, right),
     }
 }
@@ -122,10 +116,8 @@ pub fn make(work: &mut [u32], g: Graph, a: Edge, b: Edge) -> Made
     requires { ⌜ Operands (now work) g (edgeWord a) (edgeWord b) ⌝ }
     ensures { λ r. ⌜ Conjoined (now (work .entry)) (now (work .exit)) g (edgeWord a) (edgeWord b) r ⌝ }
 {
-    let p = a.word() as u32;
-    let q = b.word() as u32;
-    if p < q {
-        return make_ordered(work, g, q, p);
+    if a.word() < b.word() {
+        return make_ordered(work, g, b, a);
     }
-    make_ordered(work, g, p, q)
+    make_ordered(work, g, a, b)
 }

@@ -7,13 +7,13 @@ use native.Mathlib.Omega.{arith}
 use lib.ListN.{length, getD, take, drop, length-append, List·getD-append}
 use lib.Seq.{getD-at, split-at, length-take-le}
 use Rattle.aiger.specs.Lists.{upto}
-use Rattle.aiger.specs.Bits.{nonzero}
-use Rattle.aiger.specs.Circuit.{var}
+use Rattle.aiger.specs.Bits.{nonzero, odd}
+use Rattle.aiger.specs.Fold.{complement}
 use Rattle.meaning.proofs.Lists.{map-upto-eq, map-upto-suc, length-map-upto, getD-map-upto}
 use Rattle.meaning.proofs.Values.{value-even, value-eq, value-complement}
 use Rattle.literals.specs.Literal.{signed}
 use Rattle.literals.proofs.Words.{word-odd}
-use Rattle.nodes.specs.Graph.{Pair, leaves, edgeIn, grown, nodeValues, edgeValue, nodes, noPair, pairAt, InGraph, Extends, same, more}
+use Rattle.nodes.specs.Graph.{nodeOf, Pair, leaves, edgeIn, grown, nodeValues, edgeValue, nodes, noPair, pairAt, InGraph, Extends, same, more}
 use Rattle.nodes.specs.Store.{field, pairOf, pairsOf, oneMore}
 use Rattle.nodes.specs.Edges.{edgeOf, wordEdge, edgeWord, opposite}
 use Rattle.nodes.specs.declared.Graph.{Graph}
@@ -57,12 +57,12 @@ node-append n gs hs f k h =
     ∙ grown-keeps (grown (leaves n f) gs) hs k (let e = length-nodeValues n gs f in omega arith)
 
 -- edges with the same value at their node
-pub edge-eq : (us vs : List Bool) (e : ℕ) → getD us (var e) false ≡ getD vs (var e) false → edgeIn us e ≡ edgeIn vs e
+pub edge-eq : (us vs : List Bool) (e : ℕ) → getD us (nodeOf e) false ≡ getD vs (nodeOf e) false → edgeIn us e ≡ edgeIn vs e
 edge-eq us vs e h = value-eq (λ k. getD us k false) (λ k. getD vs k false) e h
 
 -- the same of edges
 pub edge-append : (n : ℕ) (gs hs : List Pair) (f : ℕ → Bool) (e : ℕ) → InGraph n gs e → edgeValue n (gs ++ hs) f e ≡ edgeValue n gs f e
-edge-append n gs hs f e h = edge-eq (nodeValues n (gs ++ hs) f) (nodeValues n gs f) e (node-append n gs hs f (var e) h)
+edge-append n gs hs f e h = edge-eq (nodeValues n (gs ++ hs) f) (nodeValues n gs f) e (node-append n gs hs f (nodeOf e) h)
 
 pub edge-extends : (n : ℕ) {gs hs : List Pair} (f : ℕ → Bool) (e : ℕ) → Extends gs hs → InGraph n gs e → edgeValue n hs f e ≡ edgeValue n gs f e
 edge-extends n f e same h = refl
@@ -101,7 +101,7 @@ edge-new n gs p f =
     ∙ getD-at (nodeValues n gs f) v [] false (nodes n gs) (length-nodeValues n gs f)
 
 -- the same of gate i, whose operands are earlier nodes
-pub edge-gate : (n : ℕ) (gs : List Pair) (f : ℕ → Bool) (i : ℕ) → i < length gs → (p : Pair) → pairAt gs i ≡ p → var (p .left) < n + 1 + i → var (p .right) < n + 1 + i
+pub edge-gate : (n : ℕ) (gs : List Pair) (f : ℕ → Bool) (i : ℕ) → i < length gs → (p : Pair) → pairAt gs i ≡ p → nodeOf (p .left) < n + 1 + i → nodeOf (p .right) < n + 1 + i
     → edgeValue n gs f (2 * (n + 1 + i)) ≡ (edgeValue n gs f (p .left) && edgeValue n gs f (p .right))
 edge-gate n gs f i h p q l r =
     let hs = take i gs in
@@ -112,7 +112,7 @@ edge-gate n gs f i h p q l r =
     let z : gs ≡ hs ++ ((p ∷ []) ++ t) = split-at gs i noPair h ∙ ap (λ (z : Pair). hs ++ z ∷ t) q in
     let k : nodes n hs ≡ n + 1 + i = ap (λ (z : ℕ). n + 1 + z) m in
     let d : 2 * (n + 1 + i) / 2 ≡ n + 1 + i = omega arith in
-    let a : (e : ℕ) → var e < n + 1 + i → edgeValue n gs f e ≡ edgeValue n hs f e = λ e u.
+    let a : (e : ℕ) → nodeOf e < n + 1 + i → edgeValue n gs f e ≡ edgeValue n hs f e = λ e u.
     ap (λ (x : List Pair). edgeValue n x f e) z ∙ edge-append n hs ((p ∷ []) ++ t) f e (omega arith) in
     ap (λ (x : List Pair). edgeValue n x f (2 * (n + 1 + i))) s ∙ edge-append n (hs ++ (p ∷ [])) t f (2 * (n + 1 + i)) (omega arith)
     ∙ ap (λ (x : ℕ). edgeValue n (hs ++ (p ∷ [])) f (2 * x)) (sym k) ∙ edge-new n hs p f
@@ -155,7 +155,7 @@ pairAt-new gs p = getD-at gs p [] noPair (length gs) refl
 -- ---- edges and words
 
 -- the parts of an edge, read off its word
-pub word-node : (e : Edge) → var (edgeWord e) ≡ e .0 .0
+pub word-node : (e : Edge) → nodeOf (edgeWord e) ≡ e .0 .0
 word-node e = go (e .0 .0) (e .1)
   where
     go : (k : ℕ) (b : Bool) → (2 * k + cond b 1 0) / 2 ≡ k
@@ -174,6 +174,17 @@ edge-word w = omega (arith, bit-back (w % 2) (omega arith))
 -- an edge is the one that its word stands for
 pub word-edge : (e : Edge) → wordEdge (edgeWord e) ≡ e
 word-edge e = ap₂ edgeOf (word-node e) (word-odd (signed (e .0 .0) (e .1)))
+
+-- the sign of an edge, and its opposite, read off its word
+pub word-sign : (e : Edge) → odd (edgeWord e) ≡ e .1
+word-sign e = word-odd (signed (e .0 .0) (e .1))
+
+pub word-opposite : (e : Edge) → complement (edgeWord e) ≡ edgeWord (opposite e)
+word-opposite e = go (e .0 .0) (e .1)
+  where
+    go : (k : ℕ) (b : Bool) → complement (2 * k + cond b 1 0) ≡ 2 * k + cond (not b) 1 0
+    go k true = omega arith
+    go k false = omega arith
 
 -- an opposite edge has the opposite value
 pub edge-opposite : (n : ℕ) (gs : List Pair) (f : ℕ → Bool) (e : Edge) → edgeValue n gs f (edgeWord (opposite e)) ≡ not (edgeValue n gs f (edgeWord e))

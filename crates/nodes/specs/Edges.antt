@@ -2,7 +2,7 @@
 use mathlib.Core.Bool.{Bool, not, cond}
 use Prim.Native.Nat.{ℕ, _+_, _*_}
 use Rattle.aiger.specs.Bits.{odd}
-use Rattle.aiger.specs.Circuit.{var}
+use Rattle.nodes.specs.Graph.{nodeOf}
 use Rattle.nodes.specs.declared.Edge.{Edge}
 
 -- the edge to a node, or to its complement where the sign is true
@@ -11,7 +11,7 @@ edgeOf k b = record { 0 = record { 0 = k }; 1 = b }
 
 -- the edge that a word stands for
 abbrev pub wordEdge : ℕ → Edge
-wordEdge w = edgeOf (var w) (odd w)
+wordEdge w = edgeOf (nodeOf w) (odd w)
 
 -- 2k is node k and 2k + 1 its complement
 abbrev pub edgeWord : Edge → ℕ

@@ -1,5 +1,5 @@
 -- A gate more, in front of its bucket. Assumes nothing.
-use mathlib.Core.Path.{_≡_, sym, ap, ap₂, _∙_}
+use mathlib.Core.Path.{_≡_, sym, ap, ap₂, _∙_, subst}
 use mathlib.Core.List.{List, [], _∷_, _++_}
 use Prim.Native.Nat.{ℕ, _+_, _*_, _≤_, _<_}
 use native.Mathlib.Decide.{ℕ-discrete}
@@ -141,3 +141,7 @@ module _ (work : List ℕ) (g : Graph) (left right b : ℕ) (ready : Room work g
         others = λ i n0 n1 n4 n6.
             linked-other two (g .nodes) b i n4 (λ q. n6 (omega arith)) ∙ operands-other work (g .nodes) left right i n0 n1;
       }
+
+-- the same gate by equal words of its operands
+pub appended-as : {work last : List ℕ} {g : Graph} {l m p q : ℕ} → l ≡ p → m ≡ q → Appended work last g l m → Appended work last g p q
+appended-as {work} {last} {g} {l} {m} {p} {q} e f a = subst (λ (x : ℕ). Appended work last g x q) e (subst (λ (y : ℕ). Appended work last g l y) f a)

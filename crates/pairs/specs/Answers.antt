@@ -5,5 +5,5 @@ use Rattle.pairs.specs.declared.Lookup.the-variants.{Gate, Nothing}
 
 -- one more than the node, as the words of a record have it; 0 for none
 abbrev pub placeOf : Lookup → ℕ
-placeOf (Gate k) = k + 1
+placeOf (Gate k) = k .0 + 1
 placeOf Nothing = 0

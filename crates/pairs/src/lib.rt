@@ -1,34 +1,33 @@
 // Structural hashing: gates in buckets by their operands. A bucket is a chain from its last node to the node before it, and so on.
+use literals::Node;
+use nodes::Edge;
 use nodes::Graph;
+use nodes::PAIR_BEFORE;
+use nodes::PAIR_LAST;
+use nodes::RIGHT;
 ghost use mathlib.Core.Path.{_≡_};
-ghost use Prim.Native.Nat.{_+_, _*_, _<_};
+ghost use Prim.Native.Nat.{_+_, _*_, _<_, _^_};
 ghost use lib.ListN.{length};
 ghost use Rattle.nodes.specs.Store.{field, oneMore};
+ghost use Rattle.nodes.specs.Edges.{edgeWord};
 ghost use Rattle.nodes.specs.Last.{lastBefore};
 ghost use Rattle.pairs.specs.Bucket.{bucketOf};
 ghost use Rattle.pairs.specs.Answers.{placeOf};
 ghost use Rattle.pairs.specs.Store.{hasPair, isPair, Chained, Empty, Started, Room, Appended};
 
-// Words of a node's record, after the left operand, which is the first: the right operand, the node before it in its bucket, and the last
-// node of the bucket that has the record's number. The last two are one more than a node, or 0.
-const RIGHT: usize = 1;
-
-const BEFORE: usize = 4;
-
-const LAST: usize = 6;
-
 // The gate with given operands, or that there is none.
 pub enum Lookup {
-    Gate(usize),
+    Gate(Node),
     Nothing,
 }
 
 // The bucket of a pair of operands.
-fn bucket(room: usize, left: u32, right: u32) -> usize
+fn bucket(room: usize, left: Edge, right: Edge) -> usize
     requires { ⌜ 0 < room ⌝ }
-    ensures { λ r. ⌜ (r ≡ bucketOf room left right) × (r < room) ⌝ }
+    requires { ⌜ (edgeWord left < 2 ^ 32) × (edgeWord right < 2 ^ 32) ⌝ }
+    ensures { λ r. ⌜ (r ≡ bucketOf room (edgeWord left) (edgeWord right)) × (r < room) ⌝ }
 {
-    let sum = (left as u64) * 1327217885 + (right as u64) * 889516853;
+    let sum = left.word() * 1327217885 + right.word() * 889516853;
     (sum / 65536 % (room as u64)) as usize
 }
 
@@ -41,11 +40,11 @@ fn word(work: &[u32], k: usize, f: usize) -> usize
 }
 
 // Whether node k has these operands.
-fn has_pair(work: &[u32], k: usize, left: u32, right: u32) -> bool
+fn has_pair(work: &[u32], k: usize, left: Edge, right: Edge) -> bool
     requires { ⌜ 16 * k + 1 < length (now work) ⌝ }
-    ensures { λ r. ⌜ r ≡ hasPair (now (work .entry)) left right k ⌝ }
+    ensures { λ r. ⌜ r ≡ hasPair (now (work .entry)) (edgeWord left) (edgeWord right) k ⌝ }
 {
-    (work[16 * k] == left) & (work[16 * k + RIGHT] == right)
+    (work[16 * k] as u64 == left.word()) & (work[16 * k + RIGHT] as u64 == right.word())
 }
 
 // Empties the buckets.
@@ -56,40 +55,42 @@ pub fn start_pairs(work: &mut [u32], g: Graph)
     let room = g.room;
     let mut h = 0;
     while h < room {
-        work[16 * h + LAST] = 0;
+        work[16 * h + PAIR_LAST] = 0;
         h += 1;
     }
 }
 
 // The gate with these operands.
-pub fn find_pair(work: &[u32], g: Graph, left: u32, right: u32) -> Lookup
+pub fn find_pair(work: &[u32], g: Graph, left: Edge, right: Edge) -> Lookup
     requires { ⌜ Chained (now work) g ⌝ }
-    ensures { λ r. ⌜ placeOf r ≡ lastBefore (isPair (now (work .entry)) g left right) (g .nodes) ⌝ }
+    requires { ⌜ (edgeWord left < 2 ^ 32) × (edgeWord right < 2 ^ 32) ⌝ }
+    ensures { λ r. ⌜ placeOf r ≡ lastBefore (isPair (now (work .entry)) g (edgeWord left) (edgeWord right)) (g .nodes) ⌝ }
 {
     let room = g.room;
     let h = bucket(room, left, right);
-    let mut next = word(work, h, LAST);
+    let mut next = word(work, h, PAIR_LAST);
     while 0 < next {
         if has_pair(work, next - 1, left, right) {
-            return Lookup::Gate(next - 1);
+            return Lookup::Gate(Node((next - 1) as u32));
         }
-        next = word(work, next - 1, BEFORE);
+        next = word(work, next - 1, PAIR_BEFORE);
     }
     Lookup::Nothing
 }
 
 // Adds a gate with these operands as the last node of the graph and of its bucket.
-pub fn append_pair(work: &mut [u32], g: Graph, left: u32, right: u32) -> Graph
+pub fn append_pair(work: &mut [u32], g: Graph, left: Edge, right: Edge) -> Graph
     requires { ⌜ Room (now work) g ⌝ }
-    ensures { λ r. ⌜ (r ≡ oneMore g) × Appended (now (work .entry)) (now (work .exit)) g left right ⌝ }
+    requires { ⌜ (edgeWord left < 2 ^ 32) × (edgeWord right < 2 ^ 32) ⌝ }
+    ensures { λ r. ⌜ (r ≡ oneMore g) × Appended (now (work .entry)) (now (work .exit)) g (edgeWord left) (edgeWord right) ⌝ }
 {
     let k = g.nodes;
     let room = g.room;
     let h = bucket(room, left, right);
-    work[16 * k] = left;
-    work[16 * k + RIGHT] = right;
-    work[16 * k + BEFORE] = work[16 * h + LAST];
-    work[16 * h + LAST] = (k + 1) as u32;
+    work[16 * k] = left.word() as u32;
+    work[16 * k + RIGHT] = right.word() as u32;
+    work[16 * k + PAIR_BEFORE] = work[16 * h + PAIR_LAST];
+    work[16 * h + PAIR_LAST] = (k + 1) as u32;
     Graph {
         free: g.free,
         nodes: k + 1,

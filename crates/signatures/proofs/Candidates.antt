@@ -1,5 +1,5 @@
 -- Laws of the list of candidates: one more, and those that pass. Assumes nothing.
-use mathlib.Core.Path.{_≡_, refl, sym, ap, _∙_}
+use mathlib.Core.Path.{_≡_, refl, sym, ap, _∙_, subst}
 use mathlib.Core.Bool.{Bool, true, false, not}
 use mathlib.Core.List.{List}
 use mathlib.Core.Logic.{_⊎_, inl, inr}
@@ -84,13 +84,18 @@ module _ (work : List ℕ) (left e : ℕ) {w x r : ℕ} (has : HasWord work 8 x 
       (λ f s. not-same (bit x r) (bit w r) (d .here h)
       (has r h ∙ ap (λ (g : ℕ). value (λ k. bit (wordAt work k 8) r) g) (sym (s .0)) ∙ sym (s .1 r h)))
 
-  pub keep-one : 64 ≤ r → 16 * left + 11 < length work → Pushed work (set work (16 * left + 11) e) left (Same work e w) (left + 1)
-  keep-one h within =
-      pushed-one work left e within (λ f s. s .0)
+  pub keep-one : 64 ≤ r → 16 * left + 11 < length work → {v : ℕ} → v ≡ e
+      → Pushed work (set work (16 * left + 11) v) left (Same work e w) (left + 1)
+  keep-one h within {v} z =
+      pushed-one work left v within (λ f s. s .0 ∙ sym z)
       (λ f q. (
-        q,
-        λ p l. sym (d .below p (omega arith)) ∙ has p l ∙ ap (λ (g : ℕ). value (λ k. bit (wordAt work k 8) p) g) (sym q),
+        q ∙ z,
+        λ p l. sym (d .below p (omega arith)) ∙ has p l ∙ ap (λ (g : ℕ). value (λ k. bit (wordAt work k 8) p) g) (sym (q ∙ z)),
       ))
+
+-- the same edge by an equal word
+pub same-as : {work last : List ℕ} {count r e f : ℕ} (w : ℕ) → e ≡ f → Pushed work last count (Same work e w) r → Pushed work last count (Same work f w) r
+same-as {work} {last} {count} {r} w q p = subst (λ (x : ℕ). Pushed work last count (Same work x w) r) q p
 
 -- ---- those that pass
 

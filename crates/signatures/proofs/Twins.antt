@@ -101,6 +101,11 @@ module _ (k t s : ℕ) (ht : t < 2 ^ 64) (hs : s < 2 ^ 64) where
   candidate-none a b =
       record { found = λ e r. absurd (omega arith); none = λ z e v h. ⊎-elim a b (signature-cases e h) }
 
+-- the word of the edge of an earlier node fits
+pub candidate-small : {k t s : ℕ} (r : ℕ) → Candidate k t s r → k < 65536 → r ≤ 2 ^ 32
+candidate-small zero c h = omega arith
+candidate-small (suc e) c h = let z : suc e ≡ e + 1 = omega arith in omega (arith, c .found e z .0)
+
 -- the edge of the node that has signature s is the candidate
 candidate-all : {k t s r : ℕ} → Candidate k t s r → (e : ℕ) → var e ≡ k → Bits t s e → r ≡ e + 1
 candidate-all {k} {t} {s} {r} c e v h = go (eqb r 0) refl
@@ -272,8 +277,8 @@ module _ {work now last : List ℕ} {g : Graph} {a b s count left : ℕ} (ready 
             listed-none last left e z (checked .all e l (λ k. subst (λ (hs : List Pair). Conjunction n hs a b e) (sym gates) c));
       }
 
-  pub twin-first : 0 < left → Twin n gs a b (field last 0 11 + 1)
-  twin-first h =
+  first-twin : 0 < left → Twin n gs a b (field last 0 11 + 1)
+  first-twin h =
       let m = count-nodes in
       let x = checked .listed (field last 0 11) (listed-first last left h) in
       let y = gathered .listed (field last 0 11) (x .0) in
@@ -285,6 +290,9 @@ module _ {work now last : List ℕ} {g : Graph} {a b s count left : ℕ} (ready 
             );
         none = λ z e u c. absurd (omega arith);
       }
+
+  pub twin-first : 0 < left → {e : ℕ} → e ≡ field last 0 11 → Twin n gs a b (e + 1)
+  twin-first h q = subst (λ (x : ℕ). Twin n gs a b (x + 1)) (sym q) (first-twin h)
 
   searched-kept : Kept searchWord work last
   searched-kept = kept-trans searchWord work now last (gathered .kept) (checked .kept)

@@ -7,10 +7,12 @@ use native.Mathlib.Omega.{arith}
 use lib.ListN.{length, getD, set, length-set}
 use lib.Seq.{getD-set-same, getD-set-other}
 use lib.Dec.{eqb}
-use Rattle.aiger.specs.Bits.{odd}
-use Rattle.literals.proofs.Words.{odd-test}
 use Rattle.words.proofs.Bits.{xor-true, xor-false}
+use Rattle.nodes.specs.Graph.{edgeBy}
 use Rattle.nodes.specs.Store.{field}
+use Rattle.nodes.specs.Edges.{edgeWord}
+use Rattle.nodes.specs.declared.Edge.{Edge}
+use Rattle.nodes.proofs.Laws.{word-node, word-sign}
 use Rattle.signatures.specs.Words.{wordAt, Put, Kept, simulationWord, searchWord}
 
 pub true-false : true ≡ false → ⊥
@@ -31,13 +33,14 @@ or-false false y e = e
 pub kept-simulated : (work last : List ℕ) → Kept simulationWord work last → Kept searchWord work last
 kept-simulated work last s k f h t = s k f h (or-false (eqb f 11) (simulationWord f) t)
 
--- the sign of an edge, as code tests it
-pub edge-sign : (e : ℕ) (b : Bool) → xor (eqb (e % 2) 1) b ≡ cond (odd e) (not b) b
-edge-sign e b = ap (λ (t : Bool). xor t b) (odd-test e) ∙ go (odd e)
+-- the value of an edge, as code computes it
+pub edge-sign : (v : ℕ → Bool) (e : Edge) → xor (e .1) (v (e .0 .0)) ≡ edgeBy v (edgeWord e)
+edge-sign v e =
+    go (e .1) (v (e .0 .0)) ∙ sym (ap₂ (λ (t : Bool) (k : ℕ). cond t (not (v k)) (v k)) (word-sign e) (word-node e))
   where
-    go : (t : Bool) → xor t b ≡ cond t (not b) b
-    go true = xor-true b
-    go false = xor-false b
+    go : (t b : Bool) → xor t b ≡ cond t (not b) b
+    go true b = xor-true b
+    go false b = xor-false b
 
 -- ---- words
 

@@ -6,9 +6,8 @@ use Prim.Native.Nat.{ℕ, _+_, _-_, _*_, _≤_, _<_}
 use lib.Dec.{eqb}
 use lib.ListN.{length, getD}
 use Rattle.aiger.specs.Bits.{bit}
-use Rattle.aiger.specs.Circuit.{var}
 use Rattle.aiger.specs.Signature.{patternBit}
-use Rattle.nodes.specs.Graph.{Pair, edgeValue, pairAt}
+use Rattle.nodes.specs.Graph.{nodeOf, Pair, edgeValue, pairAt}
 use Rattle.nodes.specs.Store.{field, pairsOf}
 use Rattle.nodes.specs.declared.Graph.{Graph}
 use Rattle.signatures.specs.Words.{wordAt, Kept, signatureWord}
@@ -47,8 +46,8 @@ pub record SignatureStore (work : List ℕ) (g : Graph) : Type 0 where
 
 -- both operands of each gate are earlier nodes
 pub record Ordered (n : ℕ) (gs : List Pair) : Type 0 where
-  pub left : (i : ℕ) → i < length gs → var (pairAt gs i .left) < n + 1 + i
-  pub right : (i : ℕ) → i < length gs → var (pairAt gs i .right) < n + 1 + i
+  pub left : (i : ℕ) → i < length gs → nodeOf (pairAt gs i .left) < n + 1 + i
+  pub right : (i : ℕ) → i < length gs → nodeOf (pairAt gs i .right) < n + 1 + i
 
 -- the graph without its last node
 abbrev pub oneLess : Graph → Graph
@@ -58,8 +57,8 @@ oneLess g = record { free = g .free; nodes = g .nodes - 1; room = g .room }
 pub record Unsigned (work : List ℕ) (g : Graph) (s : ℕ) : Type 0 where
   pub gate : g .free + 1 < g .nodes
   pub store : SignatureStore work (oneLess g)
-  pub left : var (field work (g .nodes - 1) 0) < g .nodes - 1
-  pub right : var (field work (g .nodes - 1) 1) < g .nodes - 1
+  pub left : nodeOf (field work (g .nodes - 1) 0) < g .nodes - 1
+  pub right : nodeOf (field work (g .nodes - 1) 1) < g .nodes - 1
   pub bits :
       (p : ℕ) → p < 64
       → bit s p

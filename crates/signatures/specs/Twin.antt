@@ -6,10 +6,9 @@ use mathlib.Core.Logic.{_⊎_}
 use Prim.Native.Nat.{ℕ, _+_, _*_, _^_, _≤_, _<_}
 use lib.ListN.{length, getD}
 use Rattle.aiger.specs.Bits.{bit}
-use Rattle.aiger.specs.Circuit.{var}
-use Rattle.aiger.specs.Frames.{value, freeBit}
+use Rattle.aiger.specs.Frames.{freeBit}
 use Rattle.aiger.specs.Signature.{PatternWord}
-use Rattle.nodes.specs.Graph.{Pair, edgeValue, InGraph}
+use Rattle.nodes.specs.Graph.{nodeOf, edgeBy, Pair, edgeValue, InGraph}
 use Rattle.nodes.specs.Store.{field, pairsOf, Sized}
 use Rattle.nodes.specs.declared.Graph.{Graph}
 use Rattle.signatures.specs.Words.{wordAt, Kept, simulationWord, searchWord}
@@ -38,8 +37,8 @@ pub record Ready (work : List ℕ) (g : Graph) (a b : ℕ) : Type 0 where
   pub free : g .free ≤ 12
   pub ordered : Ordered (g .free) (pairsOf work g)
   pub store : SignatureStore work g
-  pub left : var a < g .nodes
-  pub right : var b < g .nodes
+  pub left : nodeOf a < g .nodes
+  pub right : nodeOf b < g .nodes
 
 pub record Searched (work last : List ℕ) (g : Graph) (a b r : ℕ) : Type 0 where
   pub twin : Twin (g .free) (pairsOf work g) a b r
@@ -69,7 +68,7 @@ pub record GateSet (work last : List ℕ) (k : ℕ) : Type 0 where
   pub right :
       (p : ℕ) → p < 64
       → bit (wordAt last k 8) p
-      ≡ (value (λ j. bit (wordAt work j 8) p) (field work k 0) && value (λ j. bit (wordAt work j 8) p) (field work k 1))
+      ≡ (edgeBy (λ j. bit (wordAt work j 8) p) (field work k 0) && edgeBy (λ j. bit (wordAt work j 8) p) (field work k 1))
   pub others : (i : ℕ) → (i ≡ 16 * k + 8 → ⊥) → (i ≡ 16 * k + 9 → ⊥) → getD last i 0 ≡ getD work i 0
 
 -- what a simulation needs
@@ -81,12 +80,12 @@ pub record Simulable (work : List ℕ) (g : Graph) : Type 0 where
 
 -- w is the word of edge e: that of its node in words f and f + 1, or the complement
 abbrev pub HasWord : List ℕ → ℕ → ℕ → ℕ → Type 0
-HasWord work f w e = (p : ℕ) → p < 64 → bit w p ≡ value (λ k. bit (wordAt work k f) p) e
+HasWord work f w e = (p : ℕ) → p < 64 → bit w p ≡ edgeBy (λ k. bit (wordAt work k f) p) e
 
 -- r is one more than the edge of node k whose signature is s, where t is that of the node; or 0
 pub record Candidate (k t s r : ℕ) : Type 0 where
-  pub found : (e : ℕ) → r ≡ e + 1 → (var e ≡ k) × ((p : ℕ) → p < 64 → bit s p ≡ value (λ j. bit t p) e)
-  pub none : r ≡ 0 → (e : ℕ) → var e ≡ k → ((p : ℕ) → p < 64 → bit s p ≡ value (λ j. bit t p) e) → ⊥
+  pub found : (e : ℕ) → r ≡ e + 1 → (nodeOf e ≡ k) × ((p : ℕ) → p < 64 → bit s p ≡ edgeBy (λ j. bit t p) e)
+  pub none : r ≡ 0 → (e : ℕ) → nodeOf e ≡ k → ((p : ℕ) → p < 64 → bit s p ≡ edgeBy (λ j. bit t p) e) → ⊥
 
 -- s is the signature of the conjunction of a and b
 abbrev pub Both : List ℕ → Graph → ℕ → ℕ → ℕ → Type 0
@@ -100,7 +99,7 @@ Listed work count e = (i : ℕ) × (i < count) × (field work i 11 ≡ e)
 -- the candidates are at most m, and edges of the first m nodes
 pub record Candidates (work : List ℕ) (count m : ℕ) : Type 0 where
   pub few : count ≤ m
-  pub nodes : (e : ℕ) → Listed work count e → var e < m
+  pub nodes : (e : ℕ) → Listed work count e → nodeOf e < m
 
 -- the edge that New names, if it names one, was put after the first count candidates; r is how many there are now
 pub record Pushed (work last : List ℕ) (count : ℕ) (New : ℕ → Type 0) (r : ℕ) : Type 0 where
@@ -113,8 +112,8 @@ pub record Pushed (work last : List ℕ) (count : ℕ) (New : ℕ → Type 0) (r
 -- the candidates are the edges whose signature is s
 pub record Gathered (work last : List ℕ) (g : Graph) (s count : ℕ) : Type 0 where
   pub few : count ≤ g .nodes
-  pub listed : (e : ℕ) → Listed last count e → (var e < g .nodes) × HasWord work 2 s e
-  pub all : (e : ℕ) → var e < g .nodes → HasWord work 2 s e → Listed last count e
+  pub listed : (e : ℕ) → Listed last count e → (nodeOf e < g .nodes) × HasWord work 2 s e
+  pub all : (e : ℕ) → nodeOf e < g .nodes → HasWord work 2 s e → Listed last count e
   pub kept : Kept searchWord work last
 
 -- of the first count candidates those that pass are left

@@ -1,15 +1,22 @@
 // Signatures of nodes, and the search for an edge that is equal in function to a conjunction. A signature is a 64-bit word whose bit p is
 // the node's value in pattern p.
 use literals::Node;
+use nodes::CANDIDATE;
+use nodes::Edge;
 use nodes::Graph;
+use nodes::RIGHT;
+use nodes::SIGNATURE;
+use nodes::SIGNATURE_BEFORE;
+use nodes::SIGNATURE_LAST;
+use nodes::VALUES;
 ghost use mathlib.Core.Path.{_≡_};
-ghost use Prim.Native.Nat.{ℕ, _+_, _*_, _/_, _≤_, _<_};
+ghost use Prim.Native.Nat.{ℕ, _+_, _*_, _/_, _^_, _≤_, _<_};
 ghost use lib.ListN.{length, getD};
 ghost use Rattle.aiger.specs.Bits.{bit};
-ghost use Rattle.aiger.specs.Circuit.{var};
-ghost use Rattle.aiger.specs.Frames.{value};
 ghost use Rattle.aiger.specs.Signature.{PatternWord};
+ghost use Rattle.nodes.specs.Graph.{nodeOf, edgeBy};
 ghost use Rattle.nodes.specs.Store.{field, pairsOf, Sized};
+ghost use Rattle.nodes.specs.Edges.{edgeWord};
 ghost use Rattle.signatures.specs.Words.{wordAt, Put};
 ghost use Rattle.signatures.specs.Bucket.{normal as normalOf, halves as halvesOf, scrambled, bucketOf};
 ghost use Rattle.signatures.specs.Store.{patternValue, SignatureStore, Linked, Unsigned, Signed, SignedLast};
@@ -18,7 +25,7 @@ ghost use Rattle.signatures.specs.Twin as Twin;
 
 // An edge, or that there is none.
 pub enum Match {
-    Edge(u32),
+    Edge(Edge),
     Nothing,
 }
 
@@ -47,20 +54,20 @@ fn put_word(work: &mut [u32], k: usize, f: usize, w: u64)
 }
 
 // The word of an edge: that of its node in words f and f + 1, or the complement.
-fn edge_word(work: &[u32], edge: u32, f: usize) -> u64
-    requires { ⌜ (16 * var edge + (f + 1) < length (now work)) × (f < 16) ⌝ }
-    ensures { λ r. ⌜ ((p : ℕ) → p < 64 → bit r p ≡ value (λ k. bit (wordAt (now (work .entry)) k f) p) edge) ⌝ }
+fn edge_word(work: &[u32], edge: Edge, f: usize) -> u64
+    requires { ⌜ (16 * nodeOf (edgeWord edge) + (f + 1) < length (now work)) × (f < 16) ⌝ }
+    ensures { λ r. ⌜ ((p : ℕ) → p < 64 → bit r p ≡ edgeBy (λ k. bit (wordAt (now (work .entry)) k f) p) (edgeWord edge)) ⌝ }
 {
-    let k = (edge / 2) as usize;
-    words::literal_word(word_at(work, k, f), edge % 2 == 1)
+    let k = edge.0.0 as usize;
+    words::literal_word(word_at(work, k, f), edge.is_complement())
 }
 
 // The signature of an edge.
-pub fn signature(work: &[u32], edge: u32) -> u64
-    requires { ⌜ 16 * var edge + 3 < length (now work) ⌝ }
-    ensures { λ r. ⌜ ((g : Graph) → SignatureStore (now (work .entry)) g → var edge < g .nodes → PatternWord (patternValue (g .free) (pairsOf (now (work .entry)) g) edge) r) ⌝ }
+pub fn signature(work: &[u32], edge: Edge) -> u64
+    requires { ⌜ 16 * nodeOf (edgeWord edge) + 3 < length (now work) ⌝ }
+    ensures { λ r. ⌜ ((g : Graph) → SignatureStore (now (work .entry)) g → nodeOf (edgeWord edge) < g .nodes → PatternWord (patternValue (g .free) (pairsOf (now (work .entry)) g) (edgeWord edge)) r) ⌝ }
 {
-    edge_word(work, edge, 2)
+    edge_word(work, edge, SIGNATURE)
 }
 
 // A signature, or its complement where bit 0 is set.
@@ -100,7 +107,7 @@ fn clear_heads(work: &mut [u32], room: usize)
 {
     let mut h = 0;
     while h < room {
-        work[16 * h + 7] = 0;
+        work[16 * h + SIGNATURE_LAST] = 0;
         h += 1;
     }
 }
@@ -111,9 +118,9 @@ fn link(work: &mut [u32], room: usize, k: usize, s: u64)
     ensures { λ r. ⌜ Linked (now (work .entry)) (now (work .exit)) room k s ⌝ }
 {
     let h = bucket(s, room);
-    put_word(work, k, 2, s);
-    work[16 * k + 5] = work[16 * h + 7];
-    work[16 * h + 7] = (k + 1) as u32;
+    put_word(work, k, SIGNATURE, s);
+    work[16 * k + SIGNATURE_BEFORE] = work[16 * h + SIGNATURE_LAST];
+    work[16 * h + SIGNATURE_LAST] = (k + 1) as u32;
 }
 
 // Gives the constant and the free bits their signatures, and puts them in their buckets.
@@ -150,24 +157,24 @@ fn set_leaves(work: &mut [u32], free: usize, q: u64)
     requires { ⌜ 16 * free + 16 ≤ length (now work) ⌝ }
     ensures { λ r. ⌜ Twin.LeavesSet (now (work .entry)) (now (work .exit)) free q ⌝ }
 {
-    put_word(work, 0, 8, 0);
+    put_word(work, 0, VALUES, 0);
     let mut j = 0;
     while j < free {
         let w = words::counting_word(free - (j + 1), q);
-        put_word(work, j + 1, 8, w);
+        put_word(work, j + 1, VALUES, w);
         j += 1;
     }
 }
 
 // The values of a gate: the conjunction of those of its operands.
 fn eval_gate(work: &mut [u32], k: usize)
-    requires { ⌜ (16 * k + 16 ≤ length (now work)) × (var (field (now work) k 0) < k) × (var (field (now work) k 1) < k) ⌝ }
+    requires { ⌜ (16 * k + 16 ≤ length (now work)) × (nodeOf (field (now work) k 0) < k) × (nodeOf (field (now work) k 1) < k) ⌝ }
     ensures { λ r. ⌜ Twin.GateSet (now (work .entry)) (now (work .exit)) k ⌝ }
 {
-    let left = work[16 * k];
-    let right = work[16 * k + 1];
-    let w = edge_word(work, left, 8) & edge_word(work, right, 8);
-    put_word(work, k, 8, w);
+    let left = Edge::from_word(work[16 * k]);
+    let right = Edge::from_word(work[16 * k + RIGHT]);
+    let w = edge_word(work, left, VALUES) & edge_word(work, right, VALUES);
+    put_word(work, k, VALUES, w);
 }
 
 // The values of all gates.
@@ -184,27 +191,26 @@ fn eval_gates(work: &mut [u32], g: Graph)
 
 // The edge of node k whose signature is s, where t is that of the node.
 fn candidate(k: Node, t: u64, s: u64) -> Match
-    requires { ⌜ k .0 < 65536 ⌝ }
     ensures { λ r. ⌜ Twin.Candidate (k .0) t s (placeOf r) ⌝ }
 {
     if words::first_difference(t, s) == 64 {
-        return Match::Edge(2 * k.0);
+        return Match::Edge(Edge(k, false));
     }
     if words::first_difference(t, !s) == 64 {
-        return Match::Edge(2 * k.0 + 1);
+        return Match::Edge(Edge(k, true));
     }
     Match::Nothing
 }
 
-// Adds an edge to the candidates, if there is one: word 11 of record i is candidate i. Answers how many there are.
+// Adds an edge to the candidates, if there is one. Answers how many there are.
 fn push(work: &mut [u32], count: usize, e: Match) -> usize
-    requires { ⌜ 16 * count + 11 < length (now work) ⌝ }
+    requires { ⌜ (16 * count + 11 < length (now work)) × (placeOf e ≤ 2 ^ 32) ⌝ }
     ensures { λ r. ⌜ Twin.Pushed (now (work .entry)) (now (work .exit)) count (λ d. placeOf e ≡ d + 1) r ⌝ }
 {
     match e {
         Match::Nothing => count,
         Match::Edge(w) => {
-            work[16 * count + 11] = w;
+            work[16 * count + CANDIDATE] = w.word() as u32;
             count + 1
         }
     }
@@ -218,26 +224,26 @@ fn gather(work: &mut [u32], g: Graph, s: u64) -> usize
     let room = g.room;
     let h = bucket(s, room);
     let mut count = 0;
-    let mut next = work[16 * h + 7];
+    let mut next = work[16 * h + SIGNATURE_LAST];
     while 0 < next {
         let k = next - 1;
         let i = k as usize;
-        let e = candidate(Node(k), word_at(work, i, 2), s);
+        let e = candidate(Node(k), word_at(work, i, SIGNATURE), s);
         count = push(work, count, e);
-        next = work[16 * i + 5];
+        next = work[16 * i + SIGNATURE_BEFORE];
     }
     count
 }
 
 // Puts edge e after the candidates that are left, if its values are w. Answers how many are left.
-fn keep(work: &mut [u32], left: usize, e: u32, w: u64) -> usize
-    requires { ⌜ (16 * left + 11 < length (now work)) × (16 * var e + 9 < length (now work)) ⌝ }
-    ensures { λ r. ⌜ Twin.Pushed (now (work .entry)) (now (work .exit)) left (λ d. (d ≡ e) × Twin.HasWord (now (work .entry)) 8 w d) r ⌝ }
+fn keep(work: &mut [u32], left: usize, e: Edge, w: u64) -> usize
+    requires { ⌜ (16 * left + 11 < length (now work)) × (16 * nodeOf (edgeWord e) + 9 < length (now work)) × (edgeWord e < 2 ^ 32) ⌝ }
+    ensures { λ r. ⌜ Twin.Pushed (now (work .entry)) (now (work .exit)) left (λ d. (d ≡ edgeWord e) × Twin.HasWord (now (work .entry)) 8 w d) r ⌝ }
 {
-    if words::first_difference(edge_word(work, e, 8), w) < 64 {
+    if words::first_difference(edge_word(work, e, VALUES), w) < 64 {
         return left;
     }
-    work[16 * left + 11] = e;
+    work[16 * left + CANDIDATE] = e.word() as u32;
     left + 1
 }
 
@@ -249,7 +255,7 @@ fn filter(work: &mut [u32], count: usize, w: u64) -> usize
     let mut left = 0;
     let mut i = 0;
     while i < count {
-        let e = work[16 * i + 11];
+        let e = Edge::from_word(work[16 * i + CANDIDATE]);
         left = keep(work, left, e, w);
         i += 1;
     }
@@ -257,24 +263,24 @@ fn filter(work: &mut [u32], count: usize, w: u64) -> usize
 }
 
 // Keeps the candidates that have the values of the conjunction of a and b in block q of 64 sequences.
-fn check_block(work: &mut [u32], g: Graph, a: u32, b: u32, count: usize, q: u64) -> usize
+fn check_block(work: &mut [u32], g: Graph, a: Edge, b: Edge, count: usize, q: u64) -> usize
     requires { ⌜ Twin.Simulable (now work) g × Twin.Candidates (now work) count (g .nodes) ⌝ }
-    requires { ⌜ (var a < g .nodes) × (var b < g .nodes) ⌝ }
-    ensures { λ r. ⌜ Twin.CheckedBlock (now (work .entry)) (now (work .exit)) g a b count q r ⌝ }
+    requires { ⌜ (nodeOf (edgeWord a) < g .nodes) × (nodeOf (edgeWord b) < g .nodes) ⌝ }
+    ensures { λ r. ⌜ Twin.CheckedBlock (now (work .entry)) (now (work .exit)) g (edgeWord a) (edgeWord b) count q r ⌝ }
 {
     let free = g.free;
     set_leaves(work, free, q);
     eval_gates(work, g);
-    let both = edge_word(work, a, 8) & edge_word(work, b, 8);
+    let both = edge_word(work, a, VALUES) & edge_word(work, b, VALUES);
     filter(work, count, both)
 }
 
 // Keeps the candidates that are equal in function to the conjunction of a and b: all sequences are tried, 64 at a time. With six free
 // bits or fewer the patterns are all sequences, so that a candidate's signature is enough.
-fn check_blocks(work: &mut [u32], g: Graph, a: u32, b: u32, count: usize) -> usize
+fn check_blocks(work: &mut [u32], g: Graph, a: Edge, b: Edge, count: usize) -> usize
     requires { ⌜ Twin.Simulable (now work) g × Twin.Candidates (now work) count (g .nodes) ⌝ }
-    requires { ⌜ (var a < g .nodes) × (var b < g .nodes) × (g .free ≤ 12) ⌝ }
-    ensures { λ r. ⌜ Twin.Checked (now (work .entry)) (now (work .exit)) g a b count r ⌝ }
+    requires { ⌜ (nodeOf (edgeWord a) < g .nodes) × (nodeOf (edgeWord b) < g .nodes) × (g .free ≤ 12) ⌝ }
+    ensures { λ r. ⌜ Twin.Checked (now (work .entry)) (now (work .exit)) g (edgeWord a) (edgeWord b) count r ⌝ }
 {
     if g.free <= 6 {
         return count;
@@ -293,9 +299,9 @@ fn check_blocks(work: &mut [u32], g: Graph, a: u32, b: u32, count: usize) -> usi
 }
 
 // An edge that is equal in function to the conjunction of a and b.
-pub fn find_twin(work: &mut [u32], g: Graph, a: u32, b: u32) -> Match
-    requires { ⌜ Twin.Ready (now work) g a b ⌝ }
-    ensures { λ r. ⌜ Twin.Searched (now (work .entry)) (now (work .exit)) g a b (placeOf r) ⌝ }
+pub fn find_twin(work: &mut [u32], g: Graph, a: Edge, b: Edge) -> Match
+    requires { ⌜ Twin.Ready (now work) g (edgeWord a) (edgeWord b) ⌝ }
+    ensures { λ r. ⌜ Twin.Searched (now (work .entry)) (now (work .exit)) g (edgeWord a) (edgeWord b) (placeOf r) ⌝ }
 {
     let s = signature(work, a) & signature(work, b);
     let count = gather(work, g, s);
@@ -303,5 +309,5 @@ pub fn find_twin(work: &mut [u32], g: Graph, a: u32, b: u32) -> Match
     if left == 0 {
         return Match::Nothing;
     }
-    Match::Edge(work[11])
+    Match::Edge(Edge::from_word(work[CANDIDATE]))
 }

@@ -14,7 +14,7 @@ use Rattle.layout.specs.declared.Layout.{Layout}
 use Rattle.frames.specs.Lanes.{Ready, Leaves, Computed, constrainedIn, badIn}
 use Rattle.frames.specs.Lanes as lanes
 use Rattle.frames.specs.Starts.{freeBefore}
-use Rattle.nodes.specs.Graph.{edgeValue}
+use Rattle.nodes.specs.Graph.{nodeOf, edgeValue}
 use Rattle.nodes.specs.Store.{pairsOf}
 use Rattle.nodes.specs.Edges.{edgeWord}
 use Rattle.nodes.specs.declared.Graph.{Graph}
@@ -59,7 +59,7 @@ Blank map = (v : ℕ) → getD map v 0 ≡ 0
 
 -- each word is that of an edge of the graph
 abbrev pub Edges : Graph → List ℕ → Type 0
-Edges g map = (v : ℕ) → var (getD map v 0) < g .nodes
+Edges g map = (v : ℕ) → nodeOf (getD map v 0) < g .nodes
 
 -- the values of the variables in sequence x of n free bits
 abbrev pub mapped : ℕ → List ℕ → Graph → List ℕ → ℕ → ℕ → Bool
@@ -85,7 +85,7 @@ pub record Grown (n count : ℕ) (work : List ℕ) (g : Graph) (last : List ℕ)
   pub room : h .room ≡ g .room
   pub least : g .nodes ≤ h .nodes
   pub most : h .nodes ≤ g .nodes + count
-  pub kept : (f : ℕ → Bool) (e : ℕ) → var e < g .nodes → edgeValue n (pairsOf last h) f e ≡ edgeValue n (pairsOf work g) f e
+  pub kept : (f : ℕ → Bool) (e : ℕ) → nodeOf e < g .nodes → edgeValue n (pairsOf last h) f e ≡ edgeValue n (pairsOf work g) f e
 
 -- the graph and the map are those of s
 pub record Agrees (s : Mapping) (work : List ℕ) (g : Graph) (map : List ℕ) : Type 0 where

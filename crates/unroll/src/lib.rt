@@ -11,6 +11,7 @@ ghost use mathlib.Core.Path.{_≡_};
 ghost use mathlib.Core.List.{[]};
 ghost use Prim.Native.Nat.{ℕ, _+_, _^_, _≤_, _<_};
 ghost use lib.ListN.{length, getD, set};
+ghost use Rattle.literals.specs.Literal.{wordOf};
 ghost use Rattle.nodes.specs.Store.{pairsOf};
 ghost use Rattle.nodes.specs.Edges.{edgeWord};
 ghost use Rattle.layout.specs.Words.{word, gateIn, circuitIn};
@@ -51,14 +52,15 @@ fn free_edge(j: usize) -> Edge
 }
 
 // The edge of a latch's start: constant, or the free bit that is next.
-fn start_edge(lit: u32, reset: u32, next: usize) -> Edge
+fn start_edge(l: Lit, reset: Lit, next: usize) -> Edge
     requires { ⌜ next < 65536 ⌝ }
-    ensures { λ r. ⌜ r ≡ startEdge lit reset next ⌝ }
+    ensures { λ r. ⌜ r ≡ startEdge (wordOf l) (wordOf reset) next ⌝ }
 {
-    if reset == lit {
+    let word = reset.word();
+    if word == l.word() {
         return free_edge(next);
     }
-    Edge(Node(0), reset == 1)
+    Edge(Node(0), word == 1)
 }
 
 // Gives each latch the edge of its start.
@@ -74,7 +76,8 @@ fn put_starts(m: &[u32], layout: Layout, map: &mut [u32])
         let lit = m[latches + 3 * j];
         let reset = m[latches + 3 * j + 2];
         let l = Lit::from_word(lit);
-        put_edge(map, l.var(), start_edge(lit, reset, next));
+        let start = Lit::from_word(reset);
+        put_edge(map, l.var(), start_edge(l, start, next));
         next += layout::free_start(lit, reset);
         j += 1;
     }

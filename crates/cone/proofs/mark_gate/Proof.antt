@@ -1,13 +1,25 @@
 -- `cone::mark_gate` meets its contract. Assumes nothing.
-use mathlib.Core.Path.{refl, ap}
-use Prim.Native.Nat.{ℕ, _+_, _*_, _/_}
+use mathlib.Core.Path.{_≡_, ap, _∙_}
+use mathlib.Core.List.{List}
+use Prim.Native.Nat.{ℕ, _+_, _*_}
 use native.Mathlib.Omega.{arith}
 use lib.ListN.{length-set, getD}
 use denote.Ref.{now}
+use Rattle.nodes.specs.Graph.{nodeOf}
+use Rattle.nodes.specs.Store.{field}
+use Rattle.nodes.specs.Edges.{wordEdge}
+use Rattle.nodes.specs.declared.Edge.{Edge}
 use Rattle.cone.proofs.Marking.{passed-none, passed-both, first-word}
 use borrow.Author.Needs.{needs}
 use Rattle.cone.proofs.mark_gate.Statement.{statement}
 use Rattle.cone.proofs.mark_gate.Tie as tie
+
+-- the nodes of the operands that are read
+left-node : (m : List ℕ) (k : ℕ) {e : Edge} → e ≡ wordEdge (getD m (16 * k) 0) → e .0 .0 ≡ nodeOf (field m k 0)
+left-node m k q = ap (λ (e : Edge). e .0 .0) q ∙ ap nodeOf (first-word m k)
+
+right-node : (m : List ℕ) (k : ℕ) {e : Edge} → e ≡ wordEdge (getD m (16 * k + 1) 0) → e .0 .0 ≡ nodeOf (field m k 1)
+right-node m k q = ap (λ (e : Edge). e .0 .0) q
 
 mul-if1 : tie.Need-mul-if1
 mul-if1 c = search needs
@@ -22,69 +34,115 @@ slice-read-if1 : tie.Need-slice-read-if1
 slice-read-if1 c = search needs
 
 returns : tie.Need-returns
-returns c = let a = c .before .before .args in passed-none (now (a .work)) (a .k) (omega arith)
+returns c = let a = c .before .before .before .args in passed-none (now (a .work)) (a .k) (omega arith)
 
-mul-left : tie.Need-mul-left
-mul-left c = search needs
+mul-from-word : tie.Need-mul-from-word
+mul-from-word c = search needs
 
-mul-left-2 : tie.Need-mul-left-2
-mul-left-2 c = search needs
+mul-from-word-2 : tie.Need-mul-from-word-2
+mul-from-word-2 c = search needs
 
-slice-read-left : tie.Need-slice-read-left
-slice-read-left c = search needs
+slice-read-from-word : tie.Need-slice-read-from-word
+slice-read-from-word c = search needs
+
+from-word-requires : tie.Need-from-word-requires
+from-word-requires c κs = search needs
+
+mul-from-word-3 : tie.Need-mul-from-word-3
+mul-from-word-3 c = search needs
+
+add-from-word : tie.Need-add-from-word
+add-from-word c = search needs
+
+mul-from-word-4 : tie.Need-mul-from-word-4
+mul-from-word-4 c = search needs
+
+slice-read-from-word-2 : tie.Need-slice-read-from-word-2
+slice-read-from-word-2 c = search needs
+
+from-word-requires-2 : tie.Need-from-word-requires-2
+from-word-requires-2 c κs = search needs
 
 cast-left : tie.Need-cast-left
-cast-left c = omega (arith, first-word (now (c .before .before .before .args .work)) (c .before .before .before .args .k))
-
-mul-right : tie.Need-mul-right
-mul-right c = search needs
-
-add-right : tie.Need-add-right
-add-right c = search needs
-
-mul-right-2 : tie.Need-mul-right-2
-mul-right-2 c = search needs
-
-slice-read-right : tie.Need-slice-read-right
-slice-read-right c = search needs
+cast-left c = search needs
 
 cast-right : tie.Need-cast-right
 cast-right c = search needs
 
 mul-work : tie.Need-mul-work
-mul-work c = omega (arith, first-word (now (c .before .before .before .before .args .work)) (c .before .before .before .before .args .k))
+mul-work c =
+    let s = c .before .before .before .before .before .before .before .before .before in
+    let m = now (s .args .work) in
+    let l = left-node m (s .args .k) (c .before .before .before .before .from-word .ensures) in
+    let r = right-node m (s .args .k) (c .before .before .from-word2 .ensures) in
+    omega (arith, l, r, s .pre .held, s .pre .left, s .pre .right)
 
 add-work : tie.Need-add-work
-add-work c = omega (arith, first-word (now (c .before .before .before .before .args .work)) (c .before .before .before .before .args .k))
+add-work c =
+    let s = c .before .before .before .before .before .before .before .before .before in
+    let m = now (s .args .work) in
+    let l = left-node m (s .args .k) (c .before .before .before .before .from-word .ensures) in
+    let r = right-node m (s .args .k) (c .before .before .from-word2 .ensures) in
+    omega (arith, l, r, s .pre .held, s .pre .left, s .pre .right)
 
 mul-work-2 : tie.Need-mul-work-2
-mul-work-2 c = omega (arith, first-word (now (c .before .before .before .before .args .work)) (c .before .before .before .before .args .k))
+mul-work-2 c =
+    let s = c .before .before .before .before .before .before .before .before .before in
+    let m = now (s .args .work) in
+    let l = left-node m (s .args .k) (c .before .before .before .before .from-word .ensures) in
+    let r = right-node m (s .args .k) (c .before .before .from-word2 .ensures) in
+    omega (arith, l, r, s .pre .held, s .pre .left, s .pre .right)
 
 slice-write-work : tie.Need-slice-write-work
-slice-write-work c = omega (arith, first-word (now (c .before .before .before .before .args .work)) (c .before .before .before .before .args .k))
+slice-write-work c =
+    let s = c .before .before .before .before .before .before .before .before .before in
+    let m = now (s .args .work) in
+    let l = left-node m (s .args .k) (c .before .before .before .before .from-word .ensures) in
+    let r = right-node m (s .args .k) (c .before .before .from-word2 .ensures) in
+    omega (arith, l, r, s .pre .held, s .pre .left, s .pre .right)
 
 mul-work-3 : tie.Need-mul-work-3
-mul-work-3 c = omega (arith, first-word (now (c .before .before .before .before .args .work)) (c .before .before .before .before .args .k))
+mul-work-3 c =
+    let s = c .before .before .before .before .before .before .before .before .before in
+    let m = now (s .args .work) in
+    let l = left-node m (s .args .k) (c .before .before .before .before .from-word .ensures) in
+    let r = right-node m (s .args .k) (c .before .before .from-word2 .ensures) in
+    omega (arith, l, r, s .pre .held, s .pre .left, s .pre .right)
 
 add-work-2 : tie.Need-add-work-2
-add-work-2 c = omega (arith, first-word (now (c .before .before .before .before .args .work)) (c .before .before .before .before .args .k))
+add-work-2 c =
+    let s = c .before .before .before .before .before .before .before .before .before in
+    let m = now (s .args .work) in
+    let l = left-node m (s .args .k) (c .before .before .before .before .from-word .ensures) in
+    let r = right-node m (s .args .k) (c .before .before .from-word2 .ensures) in
+    omega (arith, l, r, s .pre .held, s .pre .left, s .pre .right)
 
 mul-work-4 : tie.Need-mul-work-4
-mul-work-4 c = omega (arith, first-word (now (c .before .before .before .before .args .work)) (c .before .before .before .before .args .k))
+mul-work-4 c =
+    let s = c .before .before .before .before .before .before .before .before .before in
+    let m = now (s .args .work) in
+    let l = left-node m (s .args .k) (c .before .before .before .before .from-word .ensures) in
+    let r = right-node m (s .args .k) (c .before .before .from-word2 .ensures) in
+    omega (arith, l, r, s .pre .held, s .pre .left, s .pre .right)
 
 slice-write-work-2 : tie.Need-slice-write-work-2
-slice-write-work-2 c = simp length-set (omega (arith, first-word (now (c .before .before .before .before .args .work)) (c .before .before .before .before .args .k)))
+slice-write-work-2 c =
+    let s = c .before .before .before .before .before .before .before .before .before in
+    let m = now (s .args .work) in
+    let l = left-node m (s .args .k) (c .before .before .before .before .from-word .ensures) in
+    let r = right-node m (s .args .k) (c .before .before .from-word2 .ensures) in
+    simp length-set (omega (arith, l, r, s .pre .held, s .pre .right))
 
 same-length : tie.Need-same-length
 same-length c = search needs
 
 returns-2 : tie.Need-returns-2
 returns-2 c =
-    let s = c .before .before .before .before in
+    let s = c .before .before .before .before .before .before .before .before .before in
     let m = now (s .args .work) in
-    let k = s .args .k in
-    passed-both m k (getD m (16 * k) 0 / 2) (getD m (16 * k + 1) 0 / 2) (s .pre) (λ z. omega arith)
-    (ap (λ (x : ℕ). x / 2) (first-word m k)) refl
+    let l = left-node m (s .args .k) (c .before .before .before .before .from-word .ensures) in
+    let r = right-node m (s .args .k) (c .before .before .from-word2 .ensures) in
+    passed-both m (s .args .k) _ _ (s .pre) (λ z. omega arith) l r
 
 pub mark-gate-spec : {M : Type 1} → statement M
 mark-gate-spec =
@@ -95,14 +153,16 @@ mark-gate-spec =
     mul-if1-2
     slice-read-if1
     returns
-    mul-left
-    mul-left-2
-    slice-read-left
+    mul-from-word
+    mul-from-word-2
+    slice-read-from-word
+    from-word-requires
+    mul-from-word-3
+    add-from-word
+    mul-from-word-4
+    slice-read-from-word-2
+    from-word-requires-2
     cast-left
-    mul-right
-    add-right
-    mul-right-2
-    slice-read-right
     cast-right
     mul-work
     add-work

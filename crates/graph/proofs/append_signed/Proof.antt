@@ -1,6 +1,8 @@
 -- `graph::append_signed` meets its contract: the word of the gate is the conjunction of the signatures of its operands. Assumes nothing.
 use mathlib.Core.Path.{_∙_}
 use native.Mathlib.Omega.{arith}
+use Rattle.nodes.specs.Edges.{edgeWord}
+use Rattle.graph.proofs.Operands.{word-bound}
 use Rattle.graph.proofs.Signed.{larger-size, signature-appended, signed-made}
 use borrow.Author.Needs.{needs}
 use Rattle.graph.proofs.append_signed.Statement.{statement}
@@ -22,7 +24,7 @@ signature-requires-2 c κs =
 append-pair-requires : tie.Need-append-pair-requires
 append-pair-requires c κs =
     let w = c .before .before .before .before .before .before .before .pre .0 .proper in
-    record { sized = w .stored .sized; store = w .stored .pairs; room = w .room }
+    (record { sized = w .stored .sized; store = w .stored .pairs; room = w .room }, word-bound w)
 
 append-signature-requires : tie.Need-append-signature-requires
 append-signature-requires c κs =
@@ -32,8 +34,8 @@ append-signature-requires c κs =
     let p = c .before .before .before .append-pair in
     let m = c .before .before .before .before .before .before .before .signature in
     let n = c .before .before .before .before .before .signature2 in (
-      larger-size (a .work .now) (p .last .0) (a .g) (a .left) (a .right) (s .pre .0) (s .pre .1 .0) (p .kept .0) (p .ensures .1) (p .result) (p .ensures .0),
-      signature-appended (a .work .now) (p .last .0) (a .g) (a .left) (a .right) (s .pre .0) (s .pre .1 .0) (p .kept .0) (p .ensures .1) (m .result) (n .result)
+      larger-size (a .work .now) (p .last .0) (a .g) (edgeWord (a .left)) (edgeWord (a .right)) (s .pre .0) (s .pre .1 .0) (p .kept .0) (p .ensures .1) (p .result) (p .ensures .0),
+      signature-appended (a .work .now) (p .last .0) (a .g) (edgeWord (a .left)) (edgeWord (a .right)) (s .pre .0) (s .pre .1 .0) (p .kept .0) (p .ensures .1) (m .result) (n .result)
           (m .ensures (a .g) (w .stored .signatures (s .pre .1 .0)) (w .earlier))
           (n .ensures (a .g) (w .stored .signatures (s .pre .1 .0)) (omega (arith, w .earlier, w .larger))) (p .result) (p .ensures .0),
     )
@@ -47,7 +49,7 @@ returns c =
     let a = s .args in
     let p = c .before .before .before .before .before .before .append-pair in
     let q = c .before .before .append-signature in
-    signed-made (a .work .now) (p .last .0) (a .g) (a .left) (a .right) (s .pre .0) (s .pre .1 .0) (p .kept .0) (p .ensures .1) (q .last .0) _
+    signed-made (a .work .now) (p .last .0) (a .g) (edgeWord (a .left)) (edgeWord (a .right)) (s .pre .0) (s .pre .1 .0) (p .kept .0) (p .ensures .1) (q .last .0) _
     (q .kept .0 ∙ p .kept .0) (s .pre .1 .1) (p .result) (p .ensures .0) (q .ensures)
 
 pub append-signed-spec : {M : Type 1} → statement M

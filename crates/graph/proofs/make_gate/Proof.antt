@@ -2,8 +2,10 @@
 -- Assumes nothing.
 use mathlib.Core.Path.{refl, sym, ap, _∙_}
 use native.Mathlib.Omega.{arith}
+use Rattle.nodes.specs.Edges.{edgeWord}
 use Rattle.pairs.specs.Answers.{placeOf}
-use Rattle.graph.proofs.Outcomes.{found-bound, found-made, found-new}
+use Rattle.graph.proofs.Operands.{word-bound}
+use Rattle.graph.proofs.Outcomes.{found-made, found-new}
 use borrow.Author.Needs.{needs}
 use Rattle.graph.proofs.make_gate.Statement.{statement}
 use Rattle.graph.proofs.make_gate.Tie as tie
@@ -11,19 +13,10 @@ use Rattle.graph.proofs.make_gate.Tie as tie
 find-pair-requires : tie.Need-find-pair-requires
 find-pair-requires c κs =
     let w = c .before .before .pre in
-    record { sized = w .stored .sized; store = w .stored .pairs }
+    (record { sized = w .stored .sized; store = w .stored .pairs }, word-bound w)
 
 enum-known-k : tie.Need-enum-known-k
 enum-known-k c = search needs
-
-cast-t10 : tie.Need-cast-t10
-cast-t10 c =
-    let s = c .before .before .before .before .before .before in
-    let f = c .before .before .before .find-pair in
-    let b =
-    found-bound (s .args .work .now) (s .args .g) (s .args .left) (s .args .right) (s .pre) (placeOf (f .result)) (f .ensures)
-    (c .before .k .given .0 .0) (sym (ap placeOf (c .before .k .given .1))) in
-    omega (arith, b)
 
 enum-told : tie.Need-enum-told
 enum-told c = search needs
@@ -32,7 +25,7 @@ append-plain-requires : tie.Need-append-plain-requires
 append-plain-requires c κs =
     let s = c .before .before .before .before .before .before .before .before in
     let f = c .before .before .before .before .before .find-pair in (
-      found-new (s .args .work .now) (s .args .g) (s .args .left) (s .args .right) (s .pre) (placeOf (f .result)) (f .ensures)
+      found-new (s .args .work .now) (s .args .g) (edgeWord (s .args .left)) (edgeWord (s .args .right)) (s .pre) (placeOf (f .result)) (f .ensures)
           (ap placeOf (c .before .before .before .enum-told .given .1)),
       omega (arith, c .before .if1 .taken),
     )
@@ -47,7 +40,7 @@ merge-requires : tie.Need-merge-requires
 merge-requires c κs =
     let s = c .before .before .before .before .before .before .before .before in
     let f = c .before .before .before .before .before .find-pair in (
-      found-new (s .args .work .now) (s .args .g) (s .args .left) (s .args .right) (s .pre) (placeOf (f .result)) (f .ensures)
+      found-new (s .args .work .now) (s .args .g) (edgeWord (s .args .left)) (edgeWord (s .args .right)) (s .pre) (placeOf (f .result)) (f .ensures)
           (ap placeOf (c .before .before .before .enum-told .given .1)),
       omega (arith, c .before .if1 .left),
     )
@@ -59,7 +52,7 @@ returns-2 : tie.Need-returns-2
 returns-2 c =
     let s = c .before .before .before .before .before .before in
     let f = c .before .before .before .find-pair in
-    found-made (s .args .work .now) (s .args .g) (s .args .left) (s .args .right) (s .pre) (placeOf (f .result)) (f .ensures) _
+    found-made (s .args .work .now) (s .args .g) (edgeWord (s .args .left)) (edgeWord (s .args .right)) (s .pre) (placeOf (f .result)) (f .ensures) _
     (sym (ap placeOf (c .before .k .given .1)))
 
 same-length-3 : tie.Need-same-length-3
@@ -74,7 +67,6 @@ make-gate-spec =
     (tie.spec
     find-pair-requires
     enum-known-k
-    cast-t10
     enum-told
     append-plain-requires
     same-length

@@ -1,5 +1,7 @@
 -- `graph::make_ordered` meets its contract: a rule gives the edge, or the operands are those of a gate. Assumes nothing.
-use mathlib.Core.Path.{sym, _∙_}
+use mathlib.Core.Path.{sym, ap, _∙_}
+use Rattle.nodes.specs.Edges.{edgeWord}
+use Rattle.rules.specs.Rules.{known}
 use Rattle.graph.proofs.Outcomes.{known-made, gate-proper}
 use borrow.Author.Needs.{needs}
 use Rattle.graph.proofs.make_ordered.Statement.{statement}
@@ -13,26 +15,23 @@ simplify-requires c κs =
 enum-known-e : tie.Need-enum-known-e
 enum-known-e c = search needs
 
-from-word-requires : tie.Need-from-word-requires
-from-word-requires c κs = search needs
-
 enum-told : tie.Need-enum-told
 enum-told c = search needs
 
 make-gate-requires : tie.Need-make-gate-requires
 make-gate-requires c κs =
     let s = c .before .before .before .before .before .before in
-    gate-proper (s .args .work .now) (s .args .g) (s .args .left) (s .args .right) (s .pre .0) (s .pre .1)
-    (sym (c .before .before .before .simplify .ensures) ∙ c .before .enum-told .given .1)
+    gate-proper (s .args .work .now) (s .args .g) (edgeWord (s .args .left)) (edgeWord (s .args .right)) (s .pre .0) (s .pre .1)
+    (sym (c .before .before .before .simplify .ensures) ∙ ap known (c .before .enum-told .given .1))
 
 same-length : tie.Need-same-length
 same-length c = search needs
 
 returns : tie.Need-returns
 returns c =
-    let s = c .before .before .before .before .before .before .before in
-    known-made (s .args .work .now) (s .args .g) (s .args .left) (s .args .right) (s .pre .0) (s .pre .1) _ (c .from-word .result) (c .from-word .ensures)
-    (sym (c .before .before .before .before .simplify .ensures) ∙ c .before .before .e .given .1)
+    let s = c .before .before .before .before .before .before in
+    known-made (s .args .work .now) (s .args .g) (edgeWord (s .args .left)) (edgeWord (s .args .right)) (s .pre .0) (s .pre .1) _
+    (sym (c .before .before .before .simplify .ensures) ∙ ap known (c .before .e .given .1))
 
 same-length-2 : tie.Need-same-length-2
 same-length-2 c = search needs
@@ -46,7 +45,6 @@ make-ordered-spec =
     (tie.spec
     simplify-requires
     enum-known-e
-    from-word-requires
     enum-told
     make-gate-requires
     same-length

@@ -1,15 +1,22 @@
 -- `pairs::append_pair` meets its contract: each store is in the memory, and the four stores put the gate in front of its bucket.
 -- Assumes nothing.
-use mathlib.Core.Path.{refl}
+use mathlib.Core.Path.{refl, sym, ap₂, _∙_}
 use native.Mathlib.Omega.{arith}
 use borrow.Author.Needs.{needs}
 use lib.ListN.{length-set}
-use Rattle.pairs.proofs.Append.{written-appended, stores-written}
+use Rattle.pairs.specs.Bucket.{bucketOf}
+use Rattle.pairs.proofs.Append.{appended-as, written-appended, stores-written}
 use Rattle.pairs.proofs.append_pair.Statement.{statement}
 use Rattle.pairs.proofs.append_pair.Tie as tie
 
 bucket-requires : tie.Need-bucket-requires
-bucket-requires c κs = search needs
+bucket-requires c κs = let s = c .before in (omega (arith, s .pre .0 .room), s .pre .1)
+
+word-requires : tie.Need-word-requires
+word-requires c κs = search needs
+
+cast-work : tie.Need-cast-work
+cast-work c = omega (arith, c .word .ensures, c .before .before .before .pre .1 .0)
 
 mul-work : tie.Need-mul-work
 mul-work c = search needs
@@ -19,6 +26,12 @@ mul-work-2 c = search needs
 
 slice-write-work : tie.Need-slice-write-work
 slice-write-work c = search needs
+
+word-requires-2 : tie.Need-word-requires-2
+word-requires-2 c κs = search needs
+
+cast-work-2 : tie.Need-cast-work-2
+cast-work-2 c = omega (arith, c .word2 .ensures, c .before .before .before .before .pre .1 .1)
 
 mul-work-3 : tie.Need-mul-work-3
 mul-work-3 c = search needs
@@ -59,8 +72,8 @@ slice-write-work-3 c = simp length-set (omega arith)
 add-work-4 : tie.Need-add-work-4
 add-work-4 c = search needs
 
-cast-work : tie.Need-cast-work
-cast-work c = search needs
+cast-work-3 : tie.Need-cast-work-3
+cast-work-3 c = search needs
 
 mul-work-9 : tie.Need-mul-work-9
 mul-work-9 c = search needs
@@ -74,27 +87,39 @@ mul-work-10 c = search needs
 slice-write-work-4 : tie.Need-slice-write-work-4
 slice-write-work-4 c = simp length-set (omega arith)
 
-add-t9 : tie.Need-add-t9
-add-t9 c = search needs
+add-t10 : tie.Need-add-t10
+add-t10 c = search needs
 
 same-length : tie.Need-same-length
 same-length c = search needs
 
 returns : tie.Need-returns
 returns c =
-    let a = c .before .before .before .args in
-    let r = c .before .before .before .pre in
-    let b = c .before .bucket in
-    (refl, written-appended (a .work .now) _ (a .g) (a .left) (a .right) r (stores-written (a .work .now) (a .g) (a .left) (a .right) (b .result) r (b .ensures .0) (b .ensures .1)))
+    let s = c .before .before .before .before .before in
+    let a = s .args in
+    let r = s .pre .0 in
+    let l = c .before .before .word in
+    let m = c .before .word2 in
+    let b = c .before .before .before .bucket in (
+      refl,
+      appended-as (l .ensures) (m .ensures)
+          (written-appended (a .work .now) _ (a .g) (l .result) (m .result) r
+          (stores-written (a .work .now) (a .g) (l .result) (m .result) (b .result) r
+          (b .ensures .0 ∙ sym (ap₂ (bucketOf (a .g .room)) (l .ensures) (m .ensures))) (b .ensures .1))),
+    )
 
 pub append-pair-spec : {M : Type 1} → statement M
 append-pair-spec =
     tie.close
     (tie.spec
     bucket-requires
+    word-requires
+    cast-work
     mul-work
     mul-work-2
     slice-write-work
+    word-requires-2
+    cast-work-2
     mul-work-3
     add-work
     mul-work-4
@@ -108,11 +133,11 @@ append-pair-spec =
     mul-work-8
     slice-write-work-3
     add-work-4
-    cast-work
+    cast-work-3
     mul-work-9
     add-work-5
     mul-work-10
     slice-write-work-4
-    add-t9
+    add-t10
     same-length
     returns)

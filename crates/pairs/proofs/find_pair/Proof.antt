@@ -3,6 +3,7 @@
 use mathlib.Core.Path.{_≡_, refl, sym, ap, _∙_}
 use Prim.Native.Nat.{ℕ, _+_, _-_}
 use native.Mathlib.Omega.{arith}
+use Rattle.nodes.specs.Edges.{edgeWord}
 use Rattle.nodes.specs.declared.Graph.{Graph}
 use Rattle.pairs.specs.Bucket.{bucketOf}
 use Rattle.pairs.specs.Store.{Chained}
@@ -11,7 +12,7 @@ use Rattle.pairs.proofs.find_pair.Statement.{statement}
 use Rattle.pairs.proofs.find_pair.Tie as tie
 
 abbrev Inv-loop : tie.InvT-loop
-Inv-loop work left right room h next₀ next = (g : Graph) → Chained work g → room ≡ g .room → Walk work g left right next
+Inv-loop work left right room h next₀ next = (g : Graph) → Chained work g → room ≡ g .room → Walk work g (edgeWord left) (edgeWord right) next
 
 abbrev μ-loop : tie.MeasureT-loop
 μ-loop work left right room h next₀ next = next
@@ -19,11 +20,11 @@ abbrev μ-loop : tie.MeasureT-loop
 -- the invariant at the graph that was given
 walk : (c : tie.In-loop Inv-loop μ-loop)
     → Walk (c .before .before .before .before .before .args .work .now) (c .before .before .before .before .before .args .g)
-    (c .before .before .before .before .before .args .left) (c .before .before .before .before .before .args .right) (c .before .loop .next)
-walk c = c .before .loop .inv (c .before .before .before .before .before .args .g) (c .before .before .before .before .before .pre) refl
+    (edgeWord (c .before .before .before .before .before .args .left)) (edgeWord (c .before .before .before .before .before .args .right)) (c .before .loop .next)
+walk c = c .before .loop .inv (c .before .before .before .before .before .args .g) (c .before .before .before .before .before .pre .0) refl
 
 bucket-requires : tie.Need-bucket-requires Inv-loop μ-loop
-bucket-requires c κs = omega arith
+bucket-requires c κs = let s = c .before in (omega (arith, s .pre .0 .sized .leaves, s .pre .0 .sized .nodes), s .pre .1)
 
 word-requires : tie.Need-word-requires Inv-loop μ-loop
 word-requires c κs = omega arith
@@ -31,8 +32,8 @@ word-requires c κs = omega arith
 loop-holds : tie.Need-loop-holds Inv-loop μ-loop
 loop-holds c g d e =
     let a = c .before .before .before .args in
-    walk-start (a .work .now) g (a .left) (a .right) d (c .before .bucket .result) (c .word .result)
-    (c .before .bucket .ensures .0 ∙ ap (λ (x : ℕ). bucketOf x (a .left) (a .right)) e)
+    walk-start (a .work .now) g (edgeWord (a .left)) (edgeWord (a .right)) d (c .before .bucket .result) (c .word .result)
+    (c .before .bucket .ensures .0 ∙ ap (λ (x : ℕ). bucketOf x (edgeWord (a .left)) (edgeWord (a .right))) e)
     (omega arith) (c .word .ensures)
 
 sub-has-pair : tie.Need-sub-has-pair Inv-loop μ-loop
@@ -44,12 +45,15 @@ has-pair-requires c κs = omega (arith, walk c .bound)
 sub-t11 : tie.Need-sub-t11 Inv-loop μ-loop
 sub-t11 c = omega arith
 
+cast-t12 : tie.Need-cast-t12 Inv-loop μ-loop
+cast-t12 c = omega (arith, walk (c .before .before) .bound, c .before .before .before .before .before .before .before .pre .0 .sized .nodes, c .before .before .before .before .before .before .before .pre .0 .sized .room)
+
 returns : tie.Need-returns Inv-loop μ-loop
 returns c =
     let t = c .before .before .before .before .before .before .before in
     let n = c .before .before .before .loop .next in
     let k : n ≡ n - 1 + 1 = omega arith in
-    sym k ∙ walk-found (t .args .work .now) (t .args .g) (t .args .left) (t .args .right) n (n - 1) k (walk (c .before .before))
+    sym k ∙ walk-found (t .args .work .now) (t .args .g) (edgeWord (t .args .left)) (edgeWord (t .args .right)) n (n - 1) k (walk (c .before .before))
     (sym (c .before .has-pair .ensures) ∙ c .if1 .taken)
 
 sub-word : tie.Need-sub-word Inv-loop μ-loop
@@ -62,22 +66,22 @@ loop-less : tie.Need-loop-less Inv-loop μ-loop
 loop-less c =
     let t = c .before .before .before .before .before .before .before .before in
     let n = c .before .before .before .before .loop .next in
-    walk-less (t .args .work .now) (t .args .g) (t .args .left) (t .args .right) (t .pre) n (n - 1) (c .word2 .result) (omega arith)
+    walk-less (t .args .work .now) (t .args .g) (edgeWord (t .args .left)) (edgeWord (t .args .right)) (t .pre .0) n (n - 1) (c .word2 .result) (omega arith)
     (walk (c .before .before .before)) (c .word2 .ensures)
 
 loop-again : tie.Need-loop-again Inv-loop μ-loop
 loop-again c g d e =
     let t = c .before .before .before .before .before .before .before .before in
     let n = c .before .before .before .before .loop .next in
-    walk-more (t .args .work .now) g (t .args .left) (t .args .right) d n (n - 1) (c .word2 .result) (omega arith)
+    walk-more (t .args .work .now) g (edgeWord (t .args .left)) (edgeWord (t .args .right)) d n (n - 1) (c .word2 .result) (omega arith)
     (c .before .before .before .before .loop .inv g d e) (sym (c .before .before .has-pair .ensures) ∙ c .before .if1 .left)
     (c .word2 .ensures)
 
 returns-2 : tie.Need-returns-2 Inv-loop μ-loop
 returns-2 c =
     let t = c .before .before .before .before .before in
-    walk-end (t .args .work .now) (t .args .g) (t .args .left) (t .args .right) (c .before .loop .next) (omega arith)
-    (c .before .loop .inv (t .args .g) (t .pre) refl)
+    walk-end (t .args .work .now) (t .args .g) (edgeWord (t .args .left)) (edgeWord (t .args .right)) (c .before .loop .next) (omega arith)
+    (c .before .loop .inv (t .args .g) (t .pre .0) refl)
 
 pub find-pair-spec : {M : Type 1} → statement M
 find-pair-spec =
@@ -91,6 +95,7 @@ find-pair-spec =
     sub-has-pair
     has-pair-requires
     sub-t11
+    cast-t12
     returns
     sub-word
     word-requires-2

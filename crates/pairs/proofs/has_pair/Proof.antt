@@ -1,11 +1,12 @@
 -- `pairs::has_pair` meets its contract. Assumes nothing.
-use mathlib.Core.Path.{_≡_, ap}
+use mathlib.Core.Path.{_≡_, ap, ap₂, _∙_}
 use mathlib.Core.Bool.{_&&_}
 use Prim.Native.Nat.{ℕ, _+_, _*_}
 use native.Mathlib.Omega.{arith}
 use borrow.Author.Needs.{needs}
 use lib.Dec.{eqb}
 use lib.ListN.{getD}
+use Rattle.nodes.specs.Edges.{edgeWord}
 use Rattle.pairs.specs.Store.{hasPair}
 use Rattle.pairs.proofs.has_pair.Statement.{statement}
 use Rattle.pairs.proofs.has_pair.Tie as tie
@@ -19,6 +20,12 @@ mul-result-2 c = search needs
 shared-slice-read-result : tie.Need-shared-slice-read-result
 shared-slice-read-result c = search needs
 
+cast-result : tie.Need-cast-result
+cast-result c = omega (arith, c .shared-slice-known2 .given (16 * c .before .before .args .k))
+
+word-requires : tie.Need-word-requires
+word-requires c κs = search needs
+
 mul-result-3 : tie.Need-mul-result-3
 mul-result-3 c = search needs
 
@@ -31,13 +38,20 @@ mul-result-4 c = search needs
 shared-slice-read-result-2 : tie.Need-shared-slice-read-result-2
 shared-slice-read-result-2 c = search needs
 
+cast-result-2 : tie.Need-cast-result-2
+cast-result-2 c = omega (arith, c .shared-slice-known3 .given (16 * c .before .before .before .before .args .k + 1))
+
+word-requires-2 : tie.Need-word-requires-2
+word-requires-2 c κs = search needs
+
 returns : tie.Need-returns
 unfolding hasPair
 returns c =
-    let a = c .before .before .args in
+    let a = c .before .before .before .before .before .args in
     let w = a .work .now in
     let e : 16 * a .k ≡ 16 * a .k + 0 = omega arith in
-    ap (λ (i : ℕ). eqb (getD w i 0) (a .left) && eqb (getD w (16 * a .k + 1) 0) (a .right)) e
+    ap₂ (λ (l r : ℕ). eqb (getD w (16 * a .k) 0) l && eqb (getD w (16 * a .k + 1) 0) r) (c .before .before .word .ensures) (c .word2 .ensures)
+    ∙ ap (λ (i : ℕ). eqb (getD w i 0) (edgeWord (a .left)) && eqb (getD w (16 * a .k + 1) 0) (edgeWord (a .right))) e
 
 pub has-pair-spec : {M : Type 1} → statement M
 has-pair-spec =
@@ -46,8 +60,12 @@ has-pair-spec =
     mul-result
     mul-result-2
     shared-slice-read-result
+    cast-result
+    word-requires
     mul-result-3
     add-result
     mul-result-4
     shared-slice-read-result-2
+    cast-result-2
+    word-requires-2
     returns)

@@ -1,7 +1,10 @@
 -- `rules::simplify` meets its contract: a basic rule, or one for the gate that the left operand is. Assumes nothing.
-use mathlib.Core.Path.{sym, _∙_}
+use mathlib.Core.Path.{sym, ap, _∙_}
 use native.Mathlib.Omega.{arith}
 use Rattle.nodes.specs.Store.{pairsOf}
+use Rattle.nodes.specs.Edges.{edgeWord}
+use Rattle.nodes.proofs.Laws.{word-node}
+use Rattle.rules.specs.Rules.{known}
 use Rattle.rules.proofs.Rules.{simplified-known, simplified-leaf, lower-of}
 use borrow.Author.Needs.{needs}
 use Rattle.rules.proofs.simplify.Statement.{statement}
@@ -21,32 +24,42 @@ cast-k c = search needs
 
 returns : tie.Need-returns
 returns c =
-    let b = c .before .before .before .before in
+    let b = c .before .before .before .before .before in
     let a = b .before .before .args in
     sym
-    (simplified-leaf (a .g .free) (pairsOf (a .work .now) (a .g)) (a .left) (a .right) (sym (b .basic-rule .ensures) ∙ c .before .before .enum-told .given .1)
-    (omega (arith, c .if1 .taken)))
+    (simplified-leaf (a .g .free) (pairsOf (a .work .now) (a .g)) (edgeWord (a .left)) (edgeWord (a .right))
+    (sym (b .basic-rule .ensures) ∙ ap known (c .before .before .before .enum-told .given .1)) (omega (arith, c .if1 .taken, word-node (a .left))))
 
-mul-lower-rule : tie.Need-mul-lower-rule
-mul-lower-rule c = search needs
+mul-from-word : tie.Need-mul-from-word
+mul-from-word c = search needs
 
-mul-lower-rule-2 : tie.Need-mul-lower-rule-2
-mul-lower-rule-2 c = search needs
+mul-from-word-2 : tie.Need-mul-from-word-2
+mul-from-word-2 c = search needs
 
-shared-slice-read-lower-rule : tie.Need-shared-slice-read-lower-rule
-shared-slice-read-lower-rule c = search needs
+shared-slice-read-from-word : tie.Need-shared-slice-read-from-word
+shared-slice-read-from-word c =
+    let s = c .before .before .before .before .before .before .before .before in
+    omega (arith, s .pre .sized .nodes, s .pre .sized .held, s .pre .inside, word-node (s .args .left))
 
-mul-lower-rule-3 : tie.Need-mul-lower-rule-3
-mul-lower-rule-3 c = search needs
+from-word-requires : tie.Need-from-word-requires
+from-word-requires c κs = search needs
 
-add-lower-rule : tie.Need-add-lower-rule
-add-lower-rule c = search needs
+mul-from-word-3 : tie.Need-mul-from-word-3
+mul-from-word-3 c = search needs
 
-mul-lower-rule-4 : tie.Need-mul-lower-rule-4
-mul-lower-rule-4 c = search needs
+add-from-word : tie.Need-add-from-word
+add-from-word c = search needs
 
-shared-slice-read-lower-rule-2 : tie.Need-shared-slice-read-lower-rule-2
-shared-slice-read-lower-rule-2 c = search needs
+mul-from-word-4 : tie.Need-mul-from-word-4
+mul-from-word-4 c = search needs
+
+shared-slice-read-from-word-2 : tie.Need-shared-slice-read-from-word-2
+shared-slice-read-from-word-2 c =
+    let s = c .before .before .before .before .before .before .before .before .before .before in
+    omega (arith, s .pre .sized .nodes, s .pre .sized .held, s .pre .inside, word-node (s .args .left))
+
+from-word-requires-2 : tie.Need-from-word-requires-2
+from-word-requires-2 c κs = search needs
 
 lower-rule-requires : tie.Need-lower-rule-requires
 lower-rule-requires c κs = search needs
@@ -55,14 +68,17 @@ returns-2 : tie.Need-returns-2
 returns-2 c =
     let b = c .before .before .before in
     let a = b .before .before .args in
-    sym (simplified-known (a .g .free) (pairsOf (a .work .now) (a .g)) (a .left) (a .right) _ (sym (b .basic-rule .ensures) ∙ c .before .e .given .1))
+    sym
+    (simplified-known (a .g .free) (pairsOf (a .work .now) (a .g)) (edgeWord (a .left)) (edgeWord (a .right)) _
+    (sym (b .basic-rule .ensures) ∙ ap known (c .before .e .given .1)))
 
 returns-3 : tie.Need-returns-3
 returns-3 c =
-    let b = c .before .before .before .before .before .before .before in
+    let b = c .before .before .before .before .before .before .before .before .before .before in
     let s = b .before .before in
-    lower-of (s .args .work .now) (s .args .g) (s .args .left) (s .args .right) (s .pre) (sym (b .basic-rule .ensures) ∙ c .before .before .before .before .before .enum-told .given .1)
-    (omega (arith, c .before .before .before .if1 .left)) (c .lower-rule .ensures)
+    lower-of (s .args .work .now) (s .args .g) (s .args .left) (edgeWord (s .args .right)) (s .pre)
+    (sym (b .basic-rule .ensures) ∙ ap known (c .before .before .before .before .before .before .before .before .enum-told .given .1)) (omega (arith, c .before .before .before .before .before .if1 .left)) (c .before .before .before .from-word .ensures)
+    (c .before .from-word2 .ensures) (c .lower-rule .ensures)
 
 pub simplify-spec : {M : Type 1} → statement M
 simplify-spec =
@@ -73,13 +89,15 @@ simplify-spec =
     enum-told
     cast-k
     returns
-    mul-lower-rule
-    mul-lower-rule-2
-    shared-slice-read-lower-rule
-    mul-lower-rule-3
-    add-lower-rule
-    mul-lower-rule-4
-    shared-slice-read-lower-rule-2
+    mul-from-word
+    mul-from-word-2
+    shared-slice-read-from-word
+    from-word-requires
+    mul-from-word-3
+    add-from-word
+    mul-from-word-4
+    shared-slice-read-from-word-2
+    from-word-requires-2
     lower-rule-requires
     returns-2
     returns-3)

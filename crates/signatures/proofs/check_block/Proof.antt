@@ -1,6 +1,7 @@
 -- `signatures::check_block` meets its contract. Assumes nothing.
 use native.Mathlib.Omega.{arith}
 use denote.Ref.{now}
+use Rattle.nodes.specs.Edges.{edgeWord}
 use Rattle.signatures.proofs.Words.{kept-simulated}
 use Rattle.signatures.proofs.Candidates.{candidates-more}
 use Rattle.signatures.proofs.Simulations.{simulable-kept, block-candidates, block-sifted}
@@ -45,7 +46,7 @@ returns c =
     let x = d .edge-word in
     let y = c .before .before .before .before .edge-word2 in
     let f = c .before .before .filter in
-    block-sifted (l .ensures) (e .ensures) (s .pre .0 .1) (a .a) (a .b) (x .result) (y .result)
+    block-sifted (l .ensures) (e .ensures) (s .pre .0 .1) (edgeWord (a .a)) (edgeWord (a .b)) (x .result) (y .result)
     (s .pre .1 .0) (s .pre .1 .1) (x .ensures) (y .ensures) (f .ensures)
 
 pub check-block-spec : {M : Type 1} → statement M

@@ -6,6 +6,7 @@ use native.Mathlib.Omega.{arith}
 use lib.ListN.{length}
 use denote.Ref.{now}
 use Rattle.nodes.specs.Store.{pairsOf}
+use Rattle.nodes.specs.Edges.{edgeWord}
 use Rattle.signatures.specs.Twin.{Sifted}
 use Rattle.signatures.proofs.Candidates.{candidates-sifted}
 use Rattle.signatures.proofs.Simulations.{simulable-kept, all-blocks, InBlocks, blocks-none, blocks-next, blocks-few, blocks-end}
@@ -14,7 +15,7 @@ use Rattle.signatures.proofs.check_blocks.Tie as tie
 
 abbrev Inv-loop : tie.InvT-loop
 Inv-loop work₀ g a b count blocks left₀ q₀ work left q =
-    (q ≤ blocks) × (length work ≡ length work₀) × Sifted work₀ work (InBlocks (g .free) (pairsOf work₀ g) a b q) count left
+    (q ≤ blocks) × (length work ≡ length work₀) × Sifted work₀ work (InBlocks (g .free) (pairsOf work₀ g) (edgeWord a) (edgeWord b) q) count left
 
 abbrev μ-loop : tie.MeasureT-loop
 μ-loop work₀ g a b count blocks left₀ q₀ work left q = blocks - q
@@ -22,7 +23,7 @@ abbrev μ-loop : tie.MeasureT-loop
 returns : tie.Need-returns Inv-loop μ-loop
 returns c =
     let a = c .before .before .before .args in
-    blocks-few (a .g .free) (pairsOf (now (a .work)) (a .g)) (a .a) (a .b) (omega arith)
+    blocks-few (a .g .free) (pairsOf (now (a .work)) (a .g)) (edgeWord (a .a)) (edgeWord (a .b)) (omega arith)
 
 sub-blocks : tie.Need-sub-blocks Inv-loop μ-loop
 sub-blocks c = omega arith
@@ -34,7 +35,7 @@ loop-holds : tie.Need-loop-holds Inv-loop μ-loop
 loop-holds c =
     let a = c .before .before .before .before .args in
     let m = now (a .work) in
-    (omega arith, refl, blocks-none (a .g .free) (pairsOf m (a .g)) (a .a) (a .b))
+    (omega arith, refl, blocks-none (a .g .free) (pairsOf m (a .g)) (edgeWord (a .a)) (edgeWord (a .b)))
 
 same-length : tie.Need-same-length Inv-loop μ-loop
 same-length c = c .before .before .loop .inv .1
@@ -46,9 +47,9 @@ returns-2 c =
     let l = c .before .before .loop in
     let h = all-blocks (a .g .free) (omega arith) (omega arith) in
     let u =
-    subst (λ (n : ℕ). Sifted m (l .work) (InBlocks (a .g .free) (pairsOf m (a .g)) (a .a) (a .b) (l .q)) (a .count) n) (c .if2 .taken)
+    subst (λ (n : ℕ). Sifted m (l .work) (InBlocks (a .g .free) (pairsOf m (a .g)) (edgeWord (a .a)) (edgeWord (a .b)) (l .q)) (a .count) n) (c .if2 .taken)
     (l .inv .2) in
-    blocks-end (a .g .free) (pairsOf m (a .g)) (a .a) (a .b) (l .q) (omega arith) (omega arith) (inl refl) u
+    blocks-end (a .g .free) (pairsOf m (a .g)) (edgeWord (a .a)) (edgeWord (a .b)) (l .q) (omega arith) (omega arith) (inl refl) u
 
 check-block-requires : tie.Need-check-block-requires Inv-loop μ-loop
 check-block-requires c κs =
@@ -77,7 +78,7 @@ loop-again c =
     let k = c .before .before .check-block in (
       omega arith,
       k .kept .0 ∙ l .inv .1,
-      blocks-next (a .g) (a .a) (a .b) (l .q) (l .inv .2) (k .ensures),
+      blocks-next (a .g) (edgeWord (a .a)) (edgeWord (a .b)) (l .q) (l .inv .2) (k .ensures),
     )
 
 same-length-2 : tie.Need-same-length-2 Inv-loop μ-loop
@@ -89,7 +90,7 @@ returns-3 c =
     let m = now (a .work) in
     let l = c .before .loop in
     let h = all-blocks (a .g .free) (omega arith) (omega arith) in
-    blocks-end (a .g .free) (pairsOf m (a .g)) (a .a) (a .b) (l .q) (omega arith) (omega arith) (inr (omega arith)) (l .inv .2)
+    blocks-end (a .g .free) (pairsOf m (a .g)) (edgeWord (a .a)) (edgeWord (a .b)) (l .q) (omega arith) (omega arith) (inr (omega arith)) (l .inv .2)
 
 pub check-blocks-spec : {M : Type 1} → statement M
 check-blocks-spec =

@@ -1,12 +1,17 @@
 -- `signatures::filter` meets its contract. The invariant: of the first i candidates those whose word is w are left. Assumes nothing.
-use mathlib.Core.Path.{_≡_, refl, sym, _∙_, subst}
-use Prim.Native.Nat.{ℕ, _-_, _≤_}
+use mathlib.Core.Path.{_≡_, refl, sym, ap, _∙_, subst}
+use mathlib.Core.List.{List}
+use Prim.Native.Nat.{ℕ, _+_, _-_, _*_, _≤_}
 use native.Mathlib.Omega.{arith}
-use lib.ListN.{length}
+use lib.ListN.{length, getD}
+use borrow.Author.Needs.{needs}
 use denote.Ref.{now}
 use Rattle.nodes.specs.Store.{field}
+use Rattle.nodes.specs.Edges.{edgeWord, wordEdge}
+use Rattle.nodes.specs.declared.Edge.{Edge}
+use Rattle.nodes.proofs.Laws.{edge-word}
 use Rattle.signatures.specs.Twin.{HasWord, Sifted}
-use Rattle.signatures.proofs.Candidates.{SiftedUpto, upto-none, upto-more}
+use Rattle.signatures.proofs.Candidates.{same-as, SiftedUpto, upto-none, upto-more}
 use Rattle.signatures.proofs.filter.Statement.{statement}
 use Rattle.signatures.proofs.filter.Tie as tie
 
@@ -16,30 +21,38 @@ Inv-loop work₀ count w left₀ i₀ work left i = (i ≤ count) × (length wor
 abbrev μ-loop : tie.MeasureT-loop
 μ-loop work₀ count w left₀ i₀ work left i = count - i
 
+-- the word of the candidate that is read
+read : (m : List ℕ) (i : ℕ) {e : Edge} → e ≡ wordEdge (getD m (16 * i + 11) 0) → edgeWord e ≡ field m i 11
+read m i q = ap edgeWord q ∙ edge-word (getD m (16 * i + 11) 0)
+
 loop-holds : tie.Need-loop-holds Inv-loop μ-loop
 loop-holds c =
     let a = c .before .args in
     (omega arith, refl, upto-none (now (a .work)) (a .w))
 
-mul-e : tie.Need-mul-e Inv-loop μ-loop
-mul-e c = omega arith
+mul-from-word : tie.Need-mul-from-word Inv-loop μ-loop
+mul-from-word c = omega arith
 
-add-e : tie.Need-add-e Inv-loop μ-loop
-add-e c = omega arith
+add-from-word : tie.Need-add-from-word Inv-loop μ-loop
+add-from-word c = omega arith
 
-mul-e-2 : tie.Need-mul-e-2 Inv-loop μ-loop
-mul-e-2 c = omega arith
+mul-from-word-2 : tie.Need-mul-from-word-2 Inv-loop μ-loop
+mul-from-word-2 c = omega arith
 
-slice-read-e : tie.Need-slice-read-e Inv-loop μ-loop
-slice-read-e c = omega arith
+slice-read-from-word : tie.Need-slice-read-from-word Inv-loop μ-loop
+slice-read-from-word c = omega arith
+
+from-word-requires : tie.Need-from-word-requires Inv-loop μ-loop
+from-word-requires c κs = search needs
 
 keep-requires : tie.Need-keep-requires Inv-loop μ-loop
 keep-requires c κs =
-    let s = c .before .before .before .before .before in
-    let l = c .before .before .before .loop in
+    let s = c .before .before .before .before .before .before in
+    let l = c .before .before .before .before .loop in
     let u = l .inv .2 in
-    let n = s .pre .nodes (field (l .work) (l .i) 11) (l .i, c .before .before .loop-test .taken, sym (u .rest (l .i) (omega arith))) in
-    (omega (arith, u .sifted .fewer), omega arith)
+    let n = s .pre .nodes (field (l .work) (l .i) 11) (l .i, c .before .before .before .loop-test .taken, sym (u .rest (l .i) (omega arith))) in
+    let x = read (l .work) (l .i) (c .before .from-word .ensures) in
+    (omega (arith, u .sifted .fewer), omega arith, omega (arith, c .before .before .slice-known2 .given (16 * l .i + 11)))
 
 add-i : tie.Need-add-i Inv-loop μ-loop
 add-i c = omega arith
@@ -49,10 +62,12 @@ loop-less c = omega arith
 
 loop-again : tie.Need-loop-again Inv-loop μ-loop
 loop-again c =
-    let a = c .before .before .before .before .before .before .before .before .args in
-    let l = c .before .before .before .before .before .before .loop in
-    let k = c .before .before .keep in
-    (omega arith, k .kept .0 ∙ l .inv .1, upto-more (l .inv .2) (k .ensures))
+    let l = c .before .before .before .before .before .before .before .loop in
+    let k = c .before .before .keep in (
+      omega arith,
+      k .kept .0 ∙ l .inv .1,
+      upto-more (l .inv .2) (same-as (c .before .before .before .before .before .before .before .before .before .args .w) (read (l .work) (l .i) (c .before .before .before .before .from-word .ensures)) (k .ensures)),
+    )
 
 same-length : tie.Need-same-length Inv-loop μ-loop
 same-length c = c .before .loop .inv .1
@@ -71,10 +86,11 @@ filter-spec =
     Inv-loop
     μ-loop
     loop-holds
-    mul-e
-    add-e
-    mul-e-2
-    slice-read-e
+    mul-from-word
+    add-from-word
+    mul-from-word-2
+    slice-read-from-word
+    from-word-requires
     keep-requires
     add-i
     loop-less

@@ -1,10 +1,13 @@
 -- `signatures::find_twin` meets its contract. Assumes nothing.
-use mathlib.Core.Path.{ap₂, _∙_}
+use mathlib.Core.Path.{ap, ap₂, _∙_}
 use mathlib.Core.Bool.{_&&_}
 use native.Mathlib.Omega.{arith}
 use lib.Bits.{bitAnd, and-lt}
+use lib.ListN.{getD}
 use denote.Ref.{now}
 use Rattle.words.proofs.Bits.{bit-and}
+use Rattle.nodes.specs.Edges.{edgeWord}
+use Rattle.nodes.proofs.Laws.{edge-word}
 use Rattle.signatures.specs.Twin.{Both}
 use Rattle.signatures.proofs.Simulations.{simulable-kept}
 use Rattle.signatures.proofs.Twins.{twin-none, twin-first, searched}
@@ -16,7 +19,7 @@ use Rattle.signatures.proofs.find_twin.Tie as tie
 module _ (c : tie.After-signature2) where
   both : (
       let a = c .before .before .before .before .before .args in
-      Both (now (a .work)) (a .g) (a .a) (a .b) (bitAnd (c .before .before .signature .result) (c .signature2 .result)))
+      Both (now (a .work)) (a .g) (edgeWord (a .a)) (edgeWord (a .b)) (bitAnd (c .before .before .signature .result) (c .signature2 .result)))
   both =
       let t = c .before .before .before .before .before in
       let x = c .before .before .signature .ensures (t .args .g) (t .pre .store) (t .pre .left) in
@@ -59,20 +62,24 @@ returns c =
     let h = both (c .before .before .before .before .before .before .before .before .before) in
     searched (t .pre) h (k .ensures) (l .ensures) (twin-none (t .pre) h (k .ensures) (l .ensures) (c .if1 .taken))
 
-slice-read-t20 : tie.Need-slice-read-t20
-slice-read-t20 c = search needs
+slice-read-from-word : tie.Need-slice-read-from-word
+slice-read-from-word c = search needs
+
+from-word-requires : tie.Need-from-word-requires
+from-word-requires c κs = search needs
 
 same-length-2 : tie.Need-same-length-2
 same-length-2 c = search needs
 
 returns-2 : tie.Need-returns-2
 returns-2 c =
-    let d = c .before .before .before .before in
+    let d = c .before .before .before .before .before in
     let t = d .before .before .before .before .before .before .before .before .before .before .before in
     let k = d .before .before .before .before .gather in
     let l = d .check-blocks in
     let h = both (d .before .before .before .before .before .before) in
-    searched (t .pre) h (k .ensures) (l .ensures) (twin-first (t .pre) h (k .ensures) (l .ensures) (omega arith))
+    searched (t .pre) h (k .ensures) (l .ensures) (twin-first (t .pre) h (k .ensures) (l .ensures) (omega arith)
+    (ap edgeWord (c .from-word .ensures) ∙ edge-word (getD (l .last .0) 11 0)))
 
 pub find-twin-spec : {M : Type 1} → statement M
 find-twin-spec =
@@ -84,6 +91,7 @@ find-twin-spec =
     check-blocks-requires
     same-length
     returns
-    slice-read-t20
+    slice-read-from-word
+    from-word-requires
     same-length-2
     returns-2)

@@ -2,12 +2,13 @@
 use mathlib.Core.Path.{_≡_, refl, sym, _∙_, subst}
 use Prim.Native.Nat.{ℕ}
 use native.Mathlib.Omega.{arith}
+use borrow.Author.Needs.{needs}
 use lib.ListN.{length}
 use denote.Ref.{now}
 use Rattle.nodes.specs.Store.{field}
 use Rattle.nodes.specs.declared.Graph.{Graph}
 use Rattle.signatures.specs.Store.{SignatureStore}
-use Rattle.signatures.proofs.Twins.{Walked, walk-start, walk-less, walk-more, walk-end}
+use Rattle.signatures.proofs.Twins.{candidate-small, Walked, walk-start, walk-less, walk-more, walk-end}
 use Rattle.signatures.proofs.gather.Statement.{statement}
 use Rattle.signatures.proofs.gather.Tie as tie
 
@@ -62,14 +63,12 @@ word-at-requires c κs =
     omega (arith, w .room)
 
 candidate-requires : tie.Need-candidate-requires Inv-loop μ-loop
-candidate-requires c κs =
-    let w = walked (c .before .before .before) in
-    omega (arith, w .room)
+candidate-requires c κs = search needs
 
 push-requires : tie.Need-push-requires Inv-loop μ-loop
 push-requires c κs =
     let w = walked (c .before .before .before .before .before) in
-    omega (arith, w .room)
+    (omega (arith, w .room), candidate-small _ (c .before .candidate .ensures) (omega (arith, w .room)))
 
 mul-next-3 : tie.Need-mul-next-3 Inv-loop μ-loop
 mul-next-3 c = omega (arith, walked (c .before .before .before .before .before .before .before .before) .room)

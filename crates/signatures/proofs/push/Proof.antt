@@ -3,6 +3,7 @@ use mathlib.Core.Path.{_≡_, sym, ap, _∙_}
 use Prim.Native.Nat.{ℕ, _+_}
 use native.Mathlib.Omega.{arith}
 use denote.Ref.{now}
+use Rattle.nodes.specs.Edges.{edgeWord}
 use Rattle.signatures.specs.Answers.{placeOf}
 use Rattle.signatures.proofs.Candidates.{pushed-none, pushed-one}
 use borrow.Author.Needs.{needs}
@@ -14,6 +15,12 @@ enum-told c = search needs
 
 enum-known-e : tie.Need-enum-known-e
 enum-known-e c = search needs
+
+word-requires : tie.Need-word-requires
+word-requires c κs = search needs
+
+cast-work : tie.Need-cast-work
+cast-work c = omega (arith, c .before .before .before .before .before .pre .1, ap placeOf (c .before .before .e .given .1), c .word .ensures)
 
 mul-work : tie.Need-mul-work
 mul-work c = search needs
@@ -38,10 +45,12 @@ same-length c = search needs
 
 returns-2 : tie.Need-returns-2
 returns-2 c =
-    let a = c .before .before .before .args in
-    let w = c .before .e .given .0 .0 in
-    let z : placeOf (a .e) ≡ w + 1 = ap placeOf (c .before .e .given .1) in
-    pushed-one (now (a .work)) (a .count) w (c .before .before .before .pre) (λ d q. omega arith) (λ d q. omega arith)
+    let s = c .before .before .before .before .before in
+    let a = s .args in
+    let w = c .before .before .e .given .0 .0 in
+    let z : placeOf (a .e) ≡ edgeWord w + 1 = ap placeOf (c .before .before .e .given .1) in
+    let y : c .word .result ≡ edgeWord w = c .word .ensures in
+    pushed-one (now (a .work)) (a .count) (c .word .result) (s .pre .0) (λ d q. omega arith) (λ d q. omega arith)
 
 pub push-spec : {M : Type 1} → statement M
 push-spec =
@@ -49,6 +58,8 @@ push-spec =
     (tie.spec
     enum-told
     enum-known-e
+    word-requires
+    cast-work
     mul-work
     add-work
     mul-work-2

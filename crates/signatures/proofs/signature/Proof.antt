@@ -2,6 +2,7 @@
 use mathlib.Core.Path.{_∙_}
 use native.Mathlib.Omega.{arith}
 use denote.Ref.{now}
+use Rattle.nodes.specs.Edges.{edgeWord}
 use Rattle.signatures.proofs.Stores.{store-edge}
 use borrow.Author.Needs.{needs}
 use Rattle.signatures.proofs.signature.Statement.{statement}
@@ -14,7 +15,7 @@ returns : tie.Need-returns
 returns c =
     λ g s h.
     let a = c .before .before .args in
-    record { fits = omega arith; bits = λ p l. c .edge-word .ensures p l ∙ store-edge (now (a .work)) g s (a .edge) h p l }
+    record { fits = omega arith; bits = λ p l. c .edge-word .ensures p l ∙ store-edge (now (a .work)) g s (edgeWord (a .edge)) h p l }
 
 pub signature-spec : {M : Type 1} → statement M
 signature-spec = tie.close (tie.spec edge-word-requires returns)

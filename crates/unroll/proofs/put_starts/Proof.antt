@@ -1,11 +1,13 @@
 -- `unroll::put_starts` meets its contract. Assumes nothing.
-use mathlib.Core.Path.{_≡_, refl, sym, ap, _∙_, subst}
+use mathlib.Core.Path.{_≡_, refl, sym, ap, ap₂, _∙_, subst}
 use Prim.Native.Nat.{ℕ, _+_, _-_, _*_, _≤_}
 use native.Mathlib.Omega.{arith}
 use lib.ListN.{length}
 use Rattle.layout.specs.Words.{word, circuitIn}
+use Rattle.literals.specs.Literal.{wordOf}
 use Rattle.literals.specs.declared.Lit.{Lit}
 use Rattle.literals.specs.declared.Var.{Var}
+use Rattle.literals.proofs.Words.{word-literal}
 use Rattle.nodes.specs.Edges.{edgeWord}
 use Rattle.nodes.specs.declared.Edge.{Edge}
 use Rattle.frames.proofs.Facts.{latches-inside, latches-apart}
@@ -59,28 +61,31 @@ shared-slice-read-reset c = omega (arith, latches-inside (c .before .before .bef
 from-word-requires : tie.Need-from-word-requires Inv-loop μ-loop
 from-word-requires c κs = search needs
 
+from-word-requires-2 : tie.Need-from-word-requires-2 Inv-loop μ-loop
+from-word-requires-2 c κs = search needs
+
 var-requires : tie.Need-var-requires Inv-loop μ-loop
 var-requires c κs = search needs
 
 start-edge-requires : tie.Need-start-edge-requires Inv-loop μ-loop
 start-edge-requires c κs =
-    let S = c .before .before .before .before .before .before .before .before .before in
-    let L = c .before .before .before .before .before .before .loop in
+    let S = c .before .before .before .before .before .before .before .before .before .before in
+    let L = c .before .before .before .before .before .before .before .loop in
     let r = S .pre .1 in
     omega (arith, L .inv .2, free-part (circuitIn (S .args .m .now)) (L .j), starts-few (r .held) (r .layout-of))
 
 put-edge-requires : tie.Need-put-edge-requires Inv-loop μ-loop
 put-edge-requires c κs =
-    let S = c .before .before .before .before .before .before .before .before .before .before in
-    let L = c .before .before .before .before .before .before .before .loop in
+    let S = c .before .before .before .before .before .before .before .before .before .before .before in
+    let L = c .before .before .before .before .before .before .before .before .loop in
     let r = S .pre .1 in
     let m = S .args .m .now in
     let p = S .args .layout .latches + 3 * L .j in (
-      omega (arith, ap (λ (v : Var). v .0) (c .before .var .ensures), ap (λ (l : Lit). l .0 .0) (c .before .before .before .from-word .ensures), latches-apart r .below (L .j) (omega arith), L .inv .1),
+      omega (arith, ap (λ (v : Var). v .0) (c .before .var .ensures), ap (λ (l : Lit). l .0 .0) (c .before .before .before .before .from-word .ensures), latches-apart r .below (L .j) (omega arith), L .inv .1),
       omega (
         arith,
         ap (λ (e : Edge). edgeWord e) (c .start-edge .ensures),
-        start-small (word m p) (word m (p + 2)) (L .next),
+        start-small (wordOf (c .before .before .before .before .from-word .result)) (wordOf (c .before .before .before .from-word2 .result)) (L .next),
         L .inv .2,
         free-part (circuitIn m) (L .j),
         starts-few (r .held) (r .layout-of),
@@ -92,30 +97,34 @@ free-start-requires c κs = search needs
 
 add-next : tie.Need-add-next Inv-loop μ-loop
 add-next c =
-    let L = c .before .before .before .before .before .before .before .before .before .before .before .loop in
-    let r = c .before .before .before .before .before .before .before .before .before .before .before .before .before .before .pre .1 in
+    let L = c .before .before .before .before .before .before .before .before .before .before .before .before .loop in
+    let r = c .before .before .before .before .before .before .before .before .before .before .before .before .before .before .before .pre .1 in
     omega (arith, L .inv .2, c .free-start .ensures, count-part (r .held) (r .layout-of) (L .j) (omega arith), starts-few (r .held) (r .layout-of))
 
 add-j : tie.Need-add-j Inv-loop μ-loop
-add-j c = omega (arith, latches-inside (c .before .before .before .before .before .before .before .before .before .before .before .before .before .before .pre .1))
+add-j c = omega (arith, latches-inside (c .before .before .before .before .before .before .before .before .before .before .before .before .before .before .before .pre .1))
 
 loop-less : tie.Need-loop-less Inv-loop μ-loop
 loop-less c = omega arith
 
 loop-again : tie.Need-loop-again Inv-loop μ-loop
 loop-again c =
-    let S = c .before .before .before .before .before .before .before .before .before .before .before .before .before .before in
-    let L = c .before .before .before .before .before .before .before .before .before .before .before .loop in
+    let S = c .before .before .before .before .before .before .before .before .before .before .before .before .before .before .before in
+    let L = c .before .before .before .before .before .before .before .before .before .before .before .before .loop in
+    let u = c .before .before .before .before .before .before .before .before .before .before .before .loop-test .taken in
     let P = c .before .before .before .put-edge in
     let r = S .pre .1 in
     let m = S .args .m .now in
     let p = S .args .layout .latches + 3 * L .j in (
-      omega arith,
+      omega (arith, u),
       P .kept .0 ∙ L .inv .1,
-      omega (arith, L .inv .2, c .free-start .ensures, count-more (r .held) (r .layout-of) (L .j) (omega arith)),
-      put-more (latchVar m (S .args .layout .latches)) (startWord m (S .args .layout .latches)) (L .j) (S .args .map .now) (L .map) (P .last .0) (latches-apart r) (L .inv .1) (omega arith) (L .inv .3)
-          (ap (λ (v : Var). v .0) (c .before .before .before .before .before .var .ensures) ∙ ap (λ (l : Lit). l .0 .0) (c .before .before .before .before .before .before .before .from-word .ensures))
-          (ap (λ (e : Edge). edgeWord e) (c .before .before .before .before .start-edge .ensures ∙ ap (λ (k : ℕ). startEdge (word m p) (word m (p + 2)) k) (L .inv .2))) (P .ensures),
+      omega (arith, L .inv .2, c .free-start .ensures, count-more (r .held) (r .layout-of) (L .j) (omega (arith, u))),
+      put-more (latchVar m (S .args .layout .latches)) (startWord m (S .args .layout .latches)) (L .j) (S .args .map .now) (L .map) (P .last .0) (latches-apart r) (L .inv .1) (omega (arith, u)) (L .inv .3)
+          (ap (λ (v : Var). v .0) (c .before .before .before .before .before .var .ensures) ∙ ap (λ (l : Lit). l .0 .0) (c .before .before .before .before .before .before .before .before .from-word .ensures))
+          (ap (λ (e : Edge). edgeWord e) (c .before .before .before .before .start-edge .ensures
+          ∙ ap₂ (λ (x y : ℕ). startEdge x y (L .next)) (ap wordOf (c .before .before .before .before .before .before .before .before .from-word .ensures) ∙ word-literal (word m p))
+          (ap wordOf (c .before .before .before .before .before .before .before .from-word2 .ensures) ∙ word-literal (word m (p + 2)))
+          ∙ ap (λ (k : ℕ). startEdge (word m p) (word m (p + 2)) k) (L .inv .2))) (P .ensures),
     )
 
 same-length : tie.Need-same-length Inv-loop μ-loop
@@ -145,6 +154,7 @@ put-starts-spec =
     mul-reset-2
     shared-slice-read-reset
     from-word-requires
+    from-word-requires-2
     var-requires
     start-edge-requires
     put-edge-requires
