@@ -1,14 +1,8 @@
 // The operations for two users for programs in C and Rust: numbers and slices only. A slice is a pointer and a length. The users share
 // memory, work and pins; pins has 256 bytes for each user.
 // Clause 10.5: whatever is lent, nothing outside it is touched, and every call returns.
-use fold::FoldAnswer;
 use load::LoadAnswer;
-use replay::ReplayAnswer;
-use search::SearchAnswer;
 use user_calls::PinAnswer;
-use waveform::WaveformAnswer;
-use widen::WidenAnswer;
-use write::WriteAnswer;
 ghost use mathlib.Core.Bool.{not};
 ghost use lib.Dec.{eqb};
 ghost use lib.ListN.{length};
@@ -38,10 +32,7 @@ pub extern "C" fn yunverok_user_load(
         loadCode r
         ⌝ }
 {
-    match user_calls::load(user, file, memory, pins) {
-        LoadAnswer::Loaded(_) => 0,
-        LoadAnswer::Refused(n) => n,
-    }
+    service::load_code(user_calls::load(user, file, memory, pins))
 }
 
 // Sets the pin of an input: 0, or the number of the refusal.
@@ -81,12 +72,7 @@ pub extern "C" fn yunverok_user_search(
         searchCode r
         ⌝ }
 {
-    match pinned_search::search(memory, pins, user, b, k, d, work, out) {
-        SearchAnswer::Found(t) => t as u64,
-        SearchAnswer::Nothing(k) => 0x1_0000_0000 + k as u64,
-        SearchAnswer::Spent(t) => 0x2_0000_0000 + t as u64,
-        SearchAnswer::Refused(n) => 0x3_0000_0000 + n as u64,
-    }
+    service::search_code(pinned_search::search(memory, pins, user, b, k, d, work, out))
 }
 
 // Folds bad line b at frame t: the length of the text, or 2^32 + number for a refusal.
@@ -108,10 +94,7 @@ pub extern "C" fn yunverok_user_fold(
         writeCode r
         ⌝ }
 {
-    match pinned_fold::fold(memory, pins, user, b, t, work, out) {
-        FoldAnswer::Length(n) => n as u64,
-        FoldAnswer::Refused(n) => 0x1_0000_0000 + n as u64,
-    }
+    service::fold_code(pinned_fold::fold(memory, pins, user, b, t, work, out))
 }
 
 // Replays a witness: 1 for all, 0 for no, 2 for mixed, or the number of the refusal, 18, 9, 14 or 16.
@@ -119,12 +102,7 @@ pub extern "C" fn yunverok_user_fold(
 pub extern "C" fn yunverok_user_replay(memory: &[u32], pins: &[u8], user: u32, text: &[u8]) -> u32
     ensures { λ r. ⌜ Coded (λ a. UserReplayed (now (memory .entry)) (now (pins .entry)) user (now (text .entry)) a) replayCode r ⌝ }
 {
-    match user_replay::replay(memory, pins, user, text) {
-        ReplayAnswer::All => 1,
-        ReplayAnswer::No => 0,
-        ReplayAnswer::Mixed => 2,
-        ReplayAnswer::Refused(n) => n,
-    }
+    service::replay_code(user_replay::replay(memory, pins, user, text))
 }
 
 // Widens a witness: the length of the text, which is that of the witness, or 2^32 + number for a refusal.
@@ -142,10 +120,7 @@ pub extern "C" fn yunverok_user_widen(
         writeCode r
         ⌝ }
 {
-    match user_widen::widen(memory, pins, user, text, out) {
-        WidenAnswer::Length(n) => n as u64,
-        WidenAnswer::Refused(n) => 0x1_0000_0000 + n as u64,
-    }
+    service::widen_code(user_widen::widen(memory, pins, user, text, out))
 }
 
 // Writes: the length of the text, or 2^32 + number for a refusal.
@@ -153,10 +128,7 @@ pub extern "C" fn yunverok_user_widen(
 pub extern "C" fn yunverok_user_write(user: u32, memory: &[u32], out: &mut [u8]) -> u64
     ensures { λ r. ⌜ Coded (λ a. UserWritten (now (memory .entry)) user (now (out .entry)) a (now (out .exit))) writeCode r ⌝ }
 {
-    match user_write::write(user, memory, out) {
-        WriteAnswer::Length(n) => n as u64,
-        WriteAnswer::Refused(n) => 0x1_0000_0000 + n as u64,
-    }
+    service::write_code(user_write::write(user, memory, out))
 }
 
 // Writes the binary form: the length of the text, or 2^32 + number for a refusal.
@@ -164,10 +136,7 @@ pub extern "C" fn yunverok_user_write(user: u32, memory: &[u32], out: &mut [u8])
 pub extern "C" fn yunverok_user_write_binary(user: u32, memory: &[u32], out: &mut [u8]) -> u64
     ensures { λ r. ⌜ Coded (λ a. UserWrittenBinary (now (memory .entry)) user (now (out .entry)) a (now (out .exit))) writeCode r ⌝ }
 {
-    match user_write::write_binary(user, memory, out) {
-        WriteAnswer::Length(n) => n as u64,
-        WriteAnswer::Refused(n) => 0x1_0000_0000 + n as u64,
-    }
+    service::write_code(user_write::write_binary(user, memory, out))
 }
 
 // Preview of a load: the words needed for a file that user 0's load would accept, and its counts at the front of counts; or 2^32 times the
@@ -210,10 +179,7 @@ pub extern "C" fn yunverok_user_join(
         loadCode r
         ⌝ }
 {
-    match user_join::join(user, first, second, memory, pins) {
-        LoadAnswer::Loaded(_) => 0,
-        LoadAnswer::Refused(n) => n,
-    }
+    service::load_code(user_join::join(user, first, second, memory, pins))
 }
 
 // Shows a witness as a value change dump, all wires or, where inputs is not 0, the inputs alone: the length of the text, or
@@ -232,8 +198,5 @@ pub extern "C" fn yunverok_user_waveform(
         writeCode r
         ⌝ }
 {
-    match user_waveform::waveform(memory, user, text, inputs != 0, out) {
-        WaveformAnswer::Length(n) => n as u64,
-        WaveformAnswer::Refused(n) => 0x1_0000_0000 + n as u64,
-    }
+    service::waveform_code(user_waveform::waveform(memory, user, text, inputs != 0, out))
 }
