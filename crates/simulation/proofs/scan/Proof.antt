@@ -19,13 +19,13 @@ use Rattle.simulation.proofs.first_in.Reads as first-in-reads
 use Rattle.simulation.proofs.next_hits.Reads as next-hits-reads
 
 abbrev Inv-loop : tie.InvT-loop
-Inv-loop work₀ g root slots firsts start those total block₀ hits₀ work block hits =
+Inv-loop work₀ g root slots firsts total block₀ hits₀ work block hits =
     (block < 67108864) × (length work ≡ length work₀) × Kept work₀ work × InBlock (g .free) (pairsOf work₀ g) root block work (g .nodes)
     × ((p : ℕ) → p < 64 → bit hits p ≡ hitAt (g .free) (pairsOf work₀ g) root (block * 64 + p))
     × ((y : ℕ) → y < 64 * block → T (hitAt (g .free) (pairsOf work₀ g) root y) → ⊥)
 
 abbrev μ-loop : tie.MeasureT-loop
-μ-loop work₀ g root slots firsts start those total block₀ hits₀ work block hits = total - 64 * block
+μ-loop work₀ g root slots firsts total block₀ hits₀ work block hits = total - 64 * block
 
 loop-holds : tie.Need-loop-holds Inv-loop μ-loop
 loop-holds c =
