@@ -49,7 +49,8 @@ returns c =
     let s = c .before .before .before .before .before .before .before in
     let l = c .before .before .before .loop in
     let w = now (s .args .work) in
-    c .first-in .ensures (hitAt (s .args .g .free) (pairsOf w (s .args .g)) (s .args .root)) (l .inv .4) (l .inv .5) (λ e. absurd (omega arith))
+    c .first-in .ensures (hitAt (s .args .g .free) (pairsOf w (s .args .g)) (s .args .root)) (l .inv .4) (l .inv .5)
+    (λ e. absurd (omega arith))
 
 next-hits-requires : tie.Need-next-hits-requires Inv-loop μ-loop
 next-hits-requires c κs =
@@ -78,7 +79,8 @@ loop-again c =
       kept-trans w (l .work) (e .last .0) (l .inv .2) (e .ensures .kept),
       a .0,
       a .1,
-      none-more (hitAt (g .free) (pairsOf w g) (s .args .root)) (l .block) (λ p h. ap (λ (x : ℕ). bit x p) (sym z) ∙ l .inv .4 p h) (l .inv .5),
+      none-more (hitAt (g .free) (pairsOf w g) (s .args .root)) (l .block) (λ p h. ap (λ (x : ℕ). bit x p) (sym z) ∙ l .inv .4 p h)
+          (l .inv .5),
     )
 
 first-in-requires-2 : tie.Need-first-in-requires-2 Inv-loop μ-loop
