@@ -30,23 +30,14 @@ fn number_read(vars: &[u32], ops: &[u32], k: u32, names: &mut [u32], order: &mut
     requires { ⌜ Gates (now vars) (now ops) (now names) × Apart (now vars) × (length (now names) ≤ 4097) ⌝ }
     requires { ⌜ (length (now vars) ≤ length (now order)) × (k + length (now vars) ≤ 10000) × (0 < k) ⌝ }
     ensures { λ r. ⌜
-        Numbered (now (vars .entry)) (now (ops .entry)) k (now (names .entry)) (now (order .entry)) r (now (names .exit)) (now (order .exit))
+        Numbered (now (vars .entry)) (now (ops .entry)) k (now (names .entry)) (now (order .entry)) r (now (names .exit))
+        (now (order .exit))
         ⌝ }
 {
     let n = vars.len();
     let mut links = [0u32; 10241];
     let mut waiting = [0u32; 3072];
-    let mut marks = [0u32; 48];
-    gate_order::number_gates(
-        vars,
-        ops,
-        k,
-        names,
-        order,
-        &mut links,
-        &mut waiting[..n],
-        &mut marks,
-    )
+    gate_order::number_gates(vars, ops, k, names, order, &mut links, &mut waiting[..n])
 }
 
 // Numbers the gates of the circuit in m, whose inputs and latches have numbers.

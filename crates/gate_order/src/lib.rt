@@ -4,7 +4,21 @@
 ghost use mathlib.Core.Path.{_≡_};
 ghost use Prim.Native.Nat.{_+_, _*_, _≤_, _<_};
 ghost use lib.ListN.{length};
-ghost use Rattle.gate_order.specs.Waiting.{Below, lacks, waits, Users, Marked, Waiting, Put, FirstIn, BlockSeen, Gates, Stale, Apart, Numbered};
+ghost use Rattle.gate_order.specs.Waiting.{
+  Below,
+  lacks,
+  waits,
+  Users,
+  Marked,
+  Waiting,
+  Put,
+  FirstIn,
+  BlockSeen,
+  Gates,
+  Stale,
+  Apart,
+  Numbered,
+};
 ghost use Rattle.gate_order.specs.Waiting.{Zeros, FoundReady};
 
 // 1 where variable v has no number, else 0.
@@ -144,7 +158,10 @@ fn refresh(
 )
     requires { ⌜ Gates (now vars) (now ops) (now table) × (length (now waiting) ≡ length (now vars)) ⌝ }
     requires { ⌜ (g < length (now vars)) × (length (now vars) ≤ 64 * length (now marks)) ⌝ }
-    ensures { λ r. ⌜ Put (now (waiting .entry)) (now (marks .entry)) g (waits (now (vars .entry)) (now (ops .entry)) (now (table .entry)) g) (now (waiting .exit)) (now (marks .exit)) ⌝ }
+    ensures { λ r. ⌜
+        Put (now (waiting .entry)) (now (marks .entry)) g (waits (now (vars .entry)) (now (ops .entry)) (now (table .entry)) g)
+        (now (waiting .exit)) (now (marks .exit))
+        ⌝ }
 {
     let w = count_waits(vars, ops, table, g);
     put_count(waiting, marks, g, w);
@@ -161,7 +178,10 @@ fn refresh_users(
     marks: &mut [u32],
 )
     requires { ⌜ Gates (now vars) (now ops) (now table) × Users (now ops) (length (now ops)) (now links) ⌝ }
-    requires { ⌜ (v < 4097) × (4097 + length (now ops) ≤ length (now links)) × Stale (now vars) (now ops) (now table) v (length (now ops)) (now waiting) (now marks) ⌝ }
+    requires { ⌜
+        (v < 4097) × (4097 + length (now ops) ≤ length (now links))
+        × Stale (now vars) (now ops) (now table) v (length (now ops)) (now waiting) (now marks)
+        ⌝ }
     ensures { λ r. ⌜ Waiting (now (vars .entry)) (now (ops .entry)) (now (table .entry)) (now (waiting .exit)) (now (marks .exit)) ⌝ }
 {
     let mut cur = links[v];
@@ -173,7 +193,7 @@ fn refresh_users(
 }
 
 // Gives the gates numbers from k on, each time to the first that waits for nothing, and lists them in order. The answer is how many got
-// one. Working words: links of the slots, what each gate waits for, marks of blocks.
+// one. Working words: links of the slots, and what each gate waits for.
 fn take_gates(
     vars: &[u32],
     ops: &[u32],
@@ -182,25 +202,29 @@ fn take_gates(
     order: &mut [u32],
     links: &[u32],
     waiting: &mut [u32],
-    marks: &mut [u32],
 ) -> usize
     requires { ⌜ Gates (now vars) (now ops) (now table) × Users (now ops) (length (now ops)) (now links) × Apart (now vars) ⌝ }
     requires { ⌜ (length (now table) ≤ 4097) × (4097 + length (now ops) ≤ length (now links)) × (length (now vars) ≤ length (now order)) ⌝ }
-    requires { ⌜ (k + length (now vars) ≤ 10000) × (0 < k) × Waiting (now vars) (now ops) (now table) (now waiting) (now marks) ⌝ }
-    ensures { λ r. ⌜ Numbered (now (vars .entry)) (now (ops .entry)) k (now (table .entry)) (now (order .entry)) r (now (table .exit)) (now (order .exit)) ⌝ }
+    requires { ⌜ (k + length (now vars) ≤ 10000) × (0 < k) × (length (now waiting) ≡ length (now vars)) ⌝ }
+    ensures { λ r. ⌜
+        Numbered (now (vars .entry)) (now (ops .entry)) k (now (table .entry)) (now (order .entry)) r (now (table .exit))
+        (now (order .exit))
+        ⌝ }
 {
+    let mut marks = [0u32; 48];
+    start_waiting(vars, ops, table, waiting, &mut marks);
     let mut n: usize = 0;
     let mut next = k;
     while n < vars.len() {
-        let i = first_ready(waiting, marks);
+        let i = first_ready(waiting, &mut marks);
         if vars.len() <= i {
             return n;
         }
         let v = vars[i] as usize;
         order[n] = i as u32;
         table[v] = next;
-        refresh(vars, ops, table, i, waiting, marks);
-        refresh_users(vars, ops, table, v, links, waiting, marks);
+        refresh(vars, ops, table, i, waiting, &mut marks);
+        refresh_users(vars, ops, table, v, links, waiting, &mut marks);
         n += 1;
         next += 1;
     }
@@ -208,8 +232,8 @@ fn take_gates(
 }
 
 // Gives the gates of a circuit their numbers from k on: vars has their variables, ops those of their operands, and table the numbers that
-// variables have, 0 for none. Lists those that get a number in order, and answers how many they are. Working words are lent: links, which are 0, and
-// waiting and marks, whatever they hold.
+// variables have, 0 for none. Lists those that get a number in order, and answers how many they are. Working words are lent: links, which
+// are 0, and waiting, whatever it holds.
 pub fn number_gates(
     vars: &[u32],
     ops: &[u32],
@@ -218,15 +242,16 @@ pub fn number_gates(
     order: &mut [u32],
     links: &mut [u32],
     waiting: &mut [u32],
-    marks: &mut [u32],
 ) -> usize
     requires { ⌜ Gates (now vars) (now ops) (now table) × Apart (now vars) × (length (now table) ≤ 4097) ⌝ }
     requires { ⌜ (length (now vars) ≤ length (now order)) × (k + length (now vars) ≤ 10000) × (0 < k) ⌝ }
     requires { ⌜ (4097 + length (now ops) ≤ length (now links)) × Zeros (now links) ⌝ }
-    requires { ⌜ (length (now waiting) ≡ length (now vars)) × (length (now vars) ≤ 64 * length (now marks)) ⌝ }
-    ensures { λ r. ⌜ Numbered (now (vars .entry)) (now (ops .entry)) k (now (table .entry)) (now (order .entry)) r (now (table .exit)) (now (order .exit)) ⌝ }
+    requires { ⌜ length (now waiting) ≡ length (now vars) ⌝ }
+    ensures { λ r. ⌜
+        Numbered (now (vars .entry)) (now (ops .entry)) k (now (table .entry)) (now (order .entry)) r (now (table .exit))
+        (now (order .exit))
+        ⌝ }
 {
     link_users(ops, links);
-    start_waiting(vars, ops, table, waiting, marks);
-    take_gates(vars, ops, k, table, order, links, waiting, marks)
+    take_gates(vars, ops, k, table, order, links, waiting)
 }

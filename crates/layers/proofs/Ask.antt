@@ -55,7 +55,8 @@ module _ (c : Part) (b lo hi quota : ℕ) (r₀ hd₀ : List ℕ) where
     pub entry-in : (q : ℕ) → q < (hi - lo) * blocks → lo + q / blocks < hi
     entry-in q l = omega (arith, quotient-below q (hi - lo) blocks l)
 
-    module _ {q met : ℕ} {r hd : List ℕ} (k : Asking q met r hd) (l : q < (hi - lo) * blocks) (s : ℕ) (e : s ≡ getD r (4 * (lo + q / blocks)) 0)
+    module _ {q met : ℕ} {r hd : List ℕ} (k : Asking q met r hd) (l : q < (hi - lo) * blocks) (s : ℕ)
+        (e : s ≡ getD r (4 * (lo + q / blocks)) 0)
         (values : List ℕ) (p : ℕ) (f : FirstRow c b s (q % blocks) values p) where
       state-is : (t : ℕ) (es : List Entry) → Holds rows t lo quota hi r₀ hd₀ es → s ≡ stateOf es (lo + q / blocks)
       state-is t es h =
@@ -67,7 +68,8 @@ module _ (c : Part) (b lo hi quota : ℕ) (r₀ hd₀ : List ℕ) where
       before t es h y yl x =
           f .before y yl (subst (λ (z : ℕ). T (hitIn (c .circuit) b (valuesIn c z (q % blocks * 64 + y)))) (sym (state-is t es h)) x)
 
-      trace : (t : ℕ) (es : List Entry) → Holds rows t lo quota hi r₀ hd₀ es → Trace rows r t (lo + q / blocks) (placeOf es (lo + q / blocks))
+      trace : (t : ℕ) (es : List Entry) → Holds rows t lo quota hi r₀ hd₀ es
+          → Trace rows r t (lo + q / blocks) (placeOf es (lo + q / blocks))
       trace t es h =
           let i = entry-in q l in
           trace-kept rows r₀ r hi (k .words) t (lo + q / blocks) (placeOf es (lo + q / blocks)) i
@@ -89,7 +91,8 @@ module _ (c : Part) (b lo hi quota : ℕ) (r₀ hd₀ : List ℕ) where
                 let y = a .holds rows t (length es) x (expanded (machineOf c b) es lo (64 * q)) (k .holds t es h) (omega (arith, k .longer))
                 (rows-in c b (q % blocks) (mod-lt q (pow-pos (length (c .circuit .inputs) - 6)))) (trace t es h) in
                 subst (Holds rows (suc t) (length es) quota met₂ r₂ hd₂)
-                (ap (λ (z : ℕ). metRows (λ v. nextIn c z (q % blocks * 64 + v)) (λ v. x * rows + (64 * (q % blocks) + v)) n (expanded (machineOf c b) es lo (64 * q))) (state-is t es h)
+                (ap (λ (z : ℕ). metRows (λ v. nextIn c z (q % blocks * 64 + v)) (λ v. x * rows + (64 * (q % blocks) + v)) n
+                (expanded (machineOf c b) es lo (64 * q))) (state-is t es h)
                 ∙ sym (expand-block c b q es lo)) y;
             quiet = λ t es h. quiet-block c b q es lo (k .quiet t es h) p (before t es h) w;
           }
@@ -101,9 +104,11 @@ module _ (c : Part) (b lo hi quota : ℕ) (r₀ hd₀ : List ℕ) where
           let i = entry-in q l in
           let E = lo + q / blocks in
           let g = h .counted high in
-          let lt : layerSlots (machineOf c b) es lo ≡ 64 * ((hi - lo) * blocks) = layer-total c b es lo ∙ ap (λ (x : ℕ). 64 * ((x - lo) * blocks)) g in
+          let lt : layerSlots (machineOf c b) es lo ≡ 64 * ((hi - lo) * blocks) = layer-total c b es lo
+          ∙ ap (λ (x : ℕ). 64 * ((x - lo) * blocks)) g in
           let small : p < 64 = omega arith in
-          let here : T (hitIn (c .circuit) b (valuesIn c (stateOf es E) (q % blocks * 64 + p))) = subst (λ (z : ℕ). T (hitIn (c .circuit) b (valuesIn c z (q % blocks * 64 + p)))) (state-is t es h) (f .here small) in
+          let here : T (hitIn (c .circuit) b (valuesIn c (stateOf es E) (q % blocks * 64 + p))) = subst
+          (λ (z : ℕ). T (hitIn (c .circuit) b (valuesIn c z (q % blocks * 64 + p)))) (state-is t es h) (f .here small) in
           let ri = row-in c b (q % blocks) p (mod-lt q (pow-pos (length (c .circuit .inputs) - 6))) w in (
             64 * q + p,
             first-slot c b q es lo (k .quiet t es h) p (before t es h) w here (layerSlots (machineOf c b) es lo) (omega arith),
@@ -114,7 +119,8 @@ module _ (c : Part) (b lo hi quota : ℕ) (r₀ hd₀ : List ℕ) where
             omega arith,
           )
 
-    pub asking-end : {q met : ℕ} {r hd : List ℕ} → Asking q met r hd → q ≡ (hi - lo) * blocks → (t : ℕ) (es : List Entry) → Holds rows t lo quota hi r₀ hd₀ es
+    pub asking-end : {q met : ℕ} {r hd : List ℕ} → Asking q met r hd → q ≡ (hi - lo) * blocks → (t : ℕ) (es : List Entry)
+        → Holds rows t lo quota hi r₀ hd₀ es
         → AskedOf c b t lo quota r hd es (Met met)
     unfolding AskedOf
     asking-end {q} {met} {r} {hd} k e t es h =

@@ -21,8 +21,13 @@ unfolding started
 started-longer m y zero = let e : y + 0 ≡ y = omega arith in omega (arith, ap (λ (n : ℕ). length (started m n)) e)
 started-longer m y (suc d) =
     let e : y + suc d ≡ suc (y + d) = omega arith in
-    omega
-    (arith, started-longer m y d, ap (λ (n : ℕ). length (started m n)) e, meets (some (m .start (y + d))) (y + d) (started m (y + d)) .longer)
+    omega (
+      arith,
+      started-longer m y d,
+      ap (λ (n : ℕ). length (started m n)) e,
+      meets (some (m .start (y + d))) (y + d)
+          (started m (y + d)) .longer,
+    )
 
 -- a table that lost a state has lost one, whatever is met after it
 pub holds-lost : {rows t lo quota count : ℕ} {r hd : List ℕ} {es : List Entry} (fs : List Entry) → quota < count → length es ≤ length fs
@@ -73,5 +78,6 @@ module _ (c : Part) (quota : ℕ) (r₀ hd₀ : List ℕ) where
         fits = k .fits;
         holds = λ rows b z.
             holds-lost (started (machineOf c b) n) l
-            (omega (arith, started-longer (machineOf c b) y (n - y), ap (λ (i : ℕ). length (started (machineOf c b) i)) e)) (k .holds rows b z);
+            (omega (arith, started-longer (machineOf c b) y (n - y), ap (λ (i : ℕ). length (started (machineOf c b) i)) e))
+            (k .holds rows b z);
       }

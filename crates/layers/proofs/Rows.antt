@@ -1,16 +1,21 @@
 -- Rows met one after the other. Assumes nothing.
 use mathlib.Core.Path.{_≡_, refl, sym, ap, ap₂, _∙_, subst}
-use mathlib.Core.List.{List}
+use mathlib.Core.List.{List, map}
 use mathlib.Core.Option.{Option, none, some}
 use Prim.Native.Nat.{ℕ, zero, suc, _+_, _*_, _≤_, _<_}
 use native.Mathlib.Numerals.{add-one}
 use native.Mathlib.Omega.{arith}
-use lib.ListN.{length, getD}
+use lib.ListN.{length, getD, length-map}
+use lib.Seq.{ext-getD}
 use mathlib.Core.Bool.{Bool, true, false, not, cond, _&&_}
 use mathlib.Core.Logic.{_⊎_, inl, inr, ⊎-elim}
 use native.Mathlib.Decide.{ℕ-discrete}
 use lib.Dec.{T}
 use Rattle.aiger.specs.Bits.{bit}
+use Rattle.aiger.specs.Lists.{upto}
+use Rattle.aiger.specs.Frames.{value}
+use Rattle.meaning.specs.Frame.{latchAt}
+use Rattle.meaning.proofs.Lists.{getD-map-upto}
 use Rattle.aiger.specs.Circuit.{literalsRight, usedDefined, acyclic}
 use Rattle.aiger.specs.Signature.{FirstDifference}
 use Rattle.aiger.proofs.Tests.{T-true}
@@ -22,19 +27,22 @@ use Rattle.states.proofs.Walk.{met-some}
 use Rattle.states.specs.Table.{Fits, Meets}
 use Rattle.states.specs.Trace.{Trace, Holds, Leads}
 use Rattle.states.proofs.Laws.{trace-kept, words-kept, meets-lengths, holds-met, fits-met}
-use Rattle.influence.specs.Part.{Part, Closed}
-use Rattle.transitions.specs.Transitions.{valuesIn, nextNumber, nextIn}
-use Rattle.transitions.proofs.Rows.{hit-is}
+use Rattle.influence.specs.Part.{Part, keptAt, Closed}
+use Rattle.transitions.specs.Transitions.{numberOf, valuesIn, ValuedIn, nextNumber, nextIn}
+use Rattle.transitions.proofs.Numbers.{map-at}
+use Rattle.transitions.proofs.Rows.{hit-is, next-is}
 use Rattle.layers.proofs.Begin.{holds-lost}
 use Rattle.layers.specs.Rows.{leading, metRows, RowsMet, RowStep, Valued, FirstRow}
 
 -- none yet
-pub rows-none : (next : ℕ → Option ℕ) (quota count e first : ℕ) (r hd : List ℕ) → Fits quota count r hd → RowsMet next quota count e first 0 r hd count r hd
+pub rows-none : (next : ℕ → Option ℕ) (quota count e first : ℕ) (r hd : List ℕ) → Fits quota count r hd
+    → RowsMet next quota count e first 0 r hd count r hd
 unfolding metRows
 rows-none next quota count e first r hd f =
     record { longer = omega arith; words = λ j l. refl; fits = f; holds = λ rows t lo x es h l w k. h }
 
-leads : (rows : ℕ) (r : List ℕ) (t count e row x : ℕ) → e < count → row < rows → Trace rows r t e x → Leads rows r (suc t) count e row (x * rows + row)
+leads : (rows : ℕ) (r : List ℕ) (t count e row x : ℕ) → e < count → row < rows → Trace rows r t e x
+    → Leads rows r (suc t) count e row (x * rows + row)
 unfolding Leads
 leads rows r t count e row x l w h = (l, w, (x, h, refl))
 
@@ -53,9 +61,11 @@ rows-more next quota count e first n r hd met r₁ hd₁ s met₂ r₂ hd₂ a q
           let before = a .holds rows t lo x es h k (omega arith) tr in
           let tr₁ : Trace rows r₁ t e x = trace-kept rows r r₁ count (a .words) t e x k tr in
           let y = x * rows + (first + n) in
-          let after = holds-met before s e (first + n) y (leads rows r₁ t met e (first + n) x (omega (arith, a .longer)) (omega arith) tr₁) m in
+          let after = holds-met before s e (first + n) y (leads rows r₁ t met e (first + n) x (omega (arith, a .longer)) (omega arith)
+          tr₁) m in
           subst (λ (z : ℕ). Holds rows (suc t) lo quota met₂ r₂ hd₂ (metRows next (λ p. x * rows + (first + p)) z es)) (sym (add-one n))
-          (subst (λ (o : Option ℕ). Holds rows (suc t) lo quota met₂ r₂ hd₂ (meet o y (metRows next (λ p. x * rows + (first + p)) n es))) (sym q) after);
+          (subst (λ (o : Option ℕ). Holds rows (suc t) lo quota met₂ r₂ hd₂ (meet o y (metRows next (λ p. x * rows + (first + p)) n es)))
+          (sym q) after);
     }
 
 -- where a state is lost, the rows after it change nothing
@@ -84,7 +94,8 @@ met-kept o y s es e =
     met-some s (meet o y es) (i .0) (omega (arith, i .1, t .longer)) (ap (λ (x : Entry). x .state) (t .old (i .0) (i .1)) ∙ i .2)
 
 -- the states of the rows are met
-met-row : (next : ℕ → Option ℕ) (place : ℕ → ℕ) (n : ℕ) (es : List Entry) (p s : ℕ) → p < n → next p ≡ some s → met s (metRows next place n es) ≡ true
+met-row : (next : ℕ → Option ℕ) (place : ℕ → ℕ) (n : ℕ) (es : List Entry) (p s : ℕ) → p < n → next p ≡ some s
+    → met s (metRows next place n es) ≡ true
 unfolding metRows
 met-row next place zero es p s l g = absurd (omega arith)
 met-row next place (suc n) es p s l g = elim (ℕ-discrete p n) [
@@ -104,7 +115,8 @@ unfolding meet
 meet-none o y es e = ap (λ (x : Option ℕ). meet x y es) e
 
 -- a row at which nothing is met
-rows-stay : (next : ℕ → Option ℕ) (quota count e first n : ℕ) (r hd : List ℕ) (met₁ : ℕ) (r₁ hd₁ : List ℕ) → RowsMet next quota count e first n r hd met₁ r₁ hd₁
+rows-stay : (next : ℕ → Option ℕ) (quota count e first n : ℕ) (r hd : List ℕ) (met₁ : ℕ) (r₁ hd₁ : List ℕ)
+    → RowsMet next quota count e first n r hd met₁ r₁ hd₁
     → ((place : ℕ → ℕ) (es : List Entry) → meet (next n) (place n) (metRows next place n es) ≡ metRows next place n es)
     → RowsMet next quota count e first (n + 1) r hd met₁ r₁ hd₁
 unfolding metRows
@@ -120,13 +132,15 @@ rows-stay next quota count e first n r hd met₁ r₁ hd₁ a stay =
     }
 
 -- a row that leads nowhere
-pub rows-nowhere : (next : ℕ → Option ℕ) (quota count e first n : ℕ) (r hd : List ℕ) (met₁ : ℕ) (r₁ hd₁ : List ℕ) → RowsMet next quota count e first n r hd met₁ r₁ hd₁
+pub rows-nowhere : (next : ℕ → Option ℕ) (quota count e first n : ℕ) (r hd : List ℕ) (met₁ : ℕ) (r₁ hd₁ : List ℕ)
+    → RowsMet next quota count e first n r hd met₁ r₁ hd₁
     → next n ≡ none → RowsMet next quota count e first (n + 1) r hd met₁ r₁ hd₁
 rows-nowhere next quota count e first n r hd met₁ r₁ hd₁ a q =
     rows-stay next quota count e first n r hd met₁ r₁ hd₁ a (λ place es. meet-none (next n) (place n) (metRows next place n es) q)
 
 -- a row that leads where a row before it leads
-pub rows-skip : (next : ℕ → Option ℕ) (quota count e first n : ℕ) (r hd : List ℕ) (met₁ : ℕ) (r₁ hd₁ : List ℕ) → RowsMet next quota count e first n r hd met₁ r₁ hd₁
+pub rows-skip : (next : ℕ → Option ℕ) (quota count e first n : ℕ) (r hd : List ℕ) (met₁ : ℕ) (r₁ hd₁ : List ℕ)
+    → RowsMet next quota count e first n r hd met₁ r₁ hd₁
     → (p s : ℕ) → p < n → next p ≡ some s → next n ≡ some s → RowsMet next quota count e first (n + 1) r hd met₁ r₁ hd₁
 rows-skip next quota count e first n r hd met₁ r₁ hd₁ a p s l f g =
     rows-stay next quota count e first n r hd met₁ r₁ hd₁ a
@@ -140,10 +154,11 @@ Dropped start numbers p left =
     (q : ℕ) → q < 64 → bit left q ≡ false → (bit start q ≡ false) ⊎ ((z : ℕ) × (z < p) × (bit start z ≡ true) × (numbers z ≡ numbers q))
 
 -- The first n rows of those that are left at the start are met.
-pub record Treated (start : ℕ) (numbers : ℕ → ℕ) (quota count e first n : ℕ) (r hd : List ℕ) (met₁ left : ℕ) (r₁ hd₁ : List ℕ) : Type 0 where
-  pub rows : RowsMet (leading start numbers) quota count e first n r hd met₁ r₁ hd₁
-  pub dropped : Dropped start numbers n left
-  pub within : (q : ℕ) → bit left q ≡ true → bit start q ≡ true
+pub record Treated (start : ℕ) (numbers : ℕ → ℕ) (quota count e first n : ℕ) (r hd : List ℕ) (met₁ left : ℕ) (r₁ hd₁ : List ℕ) : Type 0
+  where
+    pub rows : RowsMet (leading start numbers) quota count e first n r hd met₁ r₁ hd₁
+    pub dropped : Dropped start numbers n left
+    pub within : (q : ℕ) → bit left q ≡ true → bit start q ≡ true
 
 pub treated-none : (start : ℕ) (numbers : ℕ → ℕ) (quota count e first : ℕ) (r hd : List ℕ) → Fits quota count r hd
     → Treated start numbers quota count e first 0 r hd count start r hd
@@ -158,8 +173,10 @@ lead-none : (start : ℕ) (numbers : ℕ → ℕ) (p : ℕ) → bit start p ≡ 
 lead-none start numbers p e = ap (λ (q : Bool). cond q (some (numbers p)) none) e
 
 -- one row more
-pub treated-more : (start : ℕ) (numbers : ℕ → ℕ) (quota count e first n : ℕ) (r hd : List ℕ) {met₁ left : ℕ} {r₁ hd₁ : List ℕ} {met₂ left₂ : ℕ} {r₂ hd₂ : List ℕ}
-    → n < 64 → Treated start numbers quota count e first n r hd met₁ left r₁ hd₁ → RowStep numbers quota e (first + n) n met₁ left r₁ hd₁ met₂ left₂ r₂ hd₂
+pub treated-more : (start : ℕ) (numbers : ℕ → ℕ) (quota count e first n : ℕ) (r hd : List ℕ) {met₁ left : ℕ} {r₁ hd₁ : List ℕ}
+    {met₂ left₂ : ℕ} {r₂ hd₂ : List ℕ}
+    → n < 64 → Treated start numbers quota count e first n r hd met₁ left r₁ hd₁
+    → RowStep numbers quota e (first + n) n met₁ left r₁ hd₁ met₂ left₂ r₂ hd₂
     → Treated start numbers quota count e first (n + 1) r hd met₂ left₂ r₂ hd₂
 treated-more start numbers quota count e first n r hd {met₁} {left} {r₁} {hd₁} w a (RowStep.skipped f) =
     record {
@@ -188,13 +205,15 @@ treated-more start numbers quota count e first n r hd {met₁} {left} {r₁} {hd
     }
 
 -- the same states, named otherwise
-same-rows : (f g : ℕ → Option ℕ) (place : ℕ → ℕ) (n : ℕ) (es : List Entry) → ((p : ℕ) → p < n → f p ≡ g p) → metRows f place n es ≡ metRows g place n es
+same-rows : (f g : ℕ → Option ℕ) (place : ℕ → ℕ) (n : ℕ) (es : List Entry) → ((p : ℕ) → p < n → f p ≡ g p)
+    → metRows f place n es ≡ metRows g place n es
 unfolding metRows
 same-rows f g place zero es h = refl
 same-rows f g place (suc n) es h =
     ap₂ (λ (o : Option ℕ) (l : List Entry). meet o (place n) l) (h n (omega arith)) (same-rows f g place n es (λ p l. h p (omega arith)))
 
-pub rows-named : (f g : ℕ → Option ℕ) (quota count e first n : ℕ) (r hd : List ℕ) (met : ℕ) (r₁ hd₁ : List ℕ) → ((p : ℕ) → p < n → f p ≡ g p)
+pub rows-named : (f g : ℕ → Option ℕ) (quota count e first n : ℕ) (r hd : List ℕ) (met : ℕ) (r₁ hd₁ : List ℕ)
+    → ((p : ℕ) → p < n → f p ≡ g p)
     → RowsMet f quota count e first n r hd met r₁ hd₁ → RowsMet g quota count e first n r hd met r₁ hd₁
 rows-named f g quota count e first n r hd met r₁ hd₁ q a =
     record {
@@ -202,13 +221,42 @@ rows-named f g quota count e first n r hd met r₁ hd₁ q a =
       words = a .words;
       fits = a .fits;
       holds = λ rows t lo x es h k w tr.
-          subst (Holds rows (suc t) lo quota met r₁ hd₁) (same-rows f g (λ p. x * rows + (first + p)) n es q) (a .holds rows t lo x es h k w tr);
+          subst (Holds rows (suc t) lo quota met r₁ hd₁) (same-rows f g (λ p. x * rows + (first + p)) n es q)
+          (a .holds rows t lo x es h k w tr);
     }
 
 -- where a row leads, from its bit and its state's number
-pub next-in : (c : Part) (s r : ℕ) (q : Bool) (x : ℕ) → q ≡ constrainedIn (c .circuit) (valuesIn c s r) → x ≡ nextNumber c s r → cond q (some x) none ≡ nextIn c s r
+pub next-in : (c : Part) (s r : ℕ) (q : Bool) (x : ℕ) → q ≡ constrainedIn (c .circuit) (valuesIn c s r) → x ≡ nextNumber c s r
+    → cond q (some x) none ≡ nextIn c s r
 unfolding nextIn
 next-in c s r q x e f = ap₂ (λ (p : Bool) (n : ℕ). cond p (some n) none) e f
+
+-- a bit by itself
+one : (b : Bool) → bit (cond b 1 0) 0 ≡ b
+unfolding bit
+one true = refl
+one false = refl
+
+-- the state that a row leads to, from the words of the latches that are kept
+pub next-of : (c : Part) → T (literalsRight (c .circuit)) → T (usedDefined (c .circuit)) → T (acyclic (c .circuit)) → (b : ℕ) → Closed c b
+    → (s r : ℕ) (w : ℕ → Bool) → ValuedIn c s r w → (words : List ℕ) (p : ℕ) → length words ≡ length (c .kept)
+    → ((i : ℕ) → i < length (c .kept) → bit (getD words i 0) p ≡ value w (latchAt (c .circuit) (keptAt c i) .next))
+    → numberOf (map (λ x. bit x p) words) ≡ nextNumber c s r
+next-of c right known a b closed s r w v words p e q =
+    let latches = length (c .circuit .latches) in
+    let g : ℕ → ℕ = λ j. cond (value w (latchAt (c .circuit) j .next)) 1 0 in
+    let st = map g (upto latches) in
+    let at : (j : ℕ) → j < latches → bit (getD st j 0) 0 ≡ value w (latchAt (c .circuit) j .next) =
+    λ j l. ap (λ (x : ℕ). bit x 0) (getD-map-upto g latches j 0 l) ∙ one (value w (latchAt (c .circuit) j .next)) in
+    let f : ℕ → Bool = λ x. bit x p in
+    let h : ℕ → Bool = λ j. bit (getD st j 0) 0 in
+    ap numberOf
+    (ext-getD false (map f words) (map h (c .kept)) (length-map words f ∙ e ∙ sym (length-map (c .kept) h))
+    (λ i l.
+    let k : i < length words = omega (arith, length-map words f) in
+    let o : i < length (c .kept) = omega arith in
+    map-at f words i k ∙ q i o ∙ sym (at (keptAt c i) (closed .listed .inside i o)) ∙ sym (map-at h (c .kept) i o)))
+    ∙ next-is c (closed .listed) right known a b closed s r w v st 0 at
 
 and-swap : (a b : Bool) → (a && b) ≡ (b && a)
 and-swap true true = refl
@@ -217,9 +265,11 @@ and-swap false true = refl
 and-swap false false = refl
 
 -- the first row, from the word of hits
-pub first-row : (c : Part) → T (literalsRight (c .circuit)) → T (usedDefined (c .circuit)) → T (acyclic (c .circuit)) → (b : ℕ) → Closed c b → (s block : ℕ) (values : List ℕ) (bad hits r : ℕ)
+pub first-row : (c : Part) → T (literalsRight (c .circuit)) → T (usedDefined (c .circuit)) → T (acyclic (c .circuit)) → (b : ℕ)
+    → Closed c b → (s block : ℕ) (values : List ℕ) (bad hits r : ℕ)
     → Valued c s block values → ((p : ℕ) → p < 64 → bit bad p ≡ badIn (c .circuit) b (lane values p))
-    → ((p : ℕ) → p < 64 → bit hits p ≡ (bit bad p && constrainedIn (c .circuit) (lane values p))) → FirstDifference 64 hits 0 r → FirstRow c b s block values r
+    → ((p : ℕ) → p < 64 → bit hits p ≡ (bit bad p && constrainedIn (c .circuit) (lane values p))) → FirstDifference 64 hits 0 r
+    → FirstRow c b s block values r
 first-row c right known a b closed s block values bad hits r v g h f =
     let same : (p : ℕ) → p < 64 → bit hits p ≡ hitIn (c .circuit) b (valuesIn c s (block * 64 + p)) =
     λ p l.

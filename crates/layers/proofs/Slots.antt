@@ -81,7 +81,8 @@ module _ (c : Part) (b : ℕ) where
     slot-split : (p : ℕ) → 64 * q + p ≡ q / blocks * (64 * blocks) + (block * 64 + p)
     slot-split p =
         let a : q / blocks * blocks + q % blocks ≡ q = div-add-mod' q blocks in
-        let d : q / blocks * (64 * blocks) ≡ 64 * (q / blocks * blocks) = sym (mul-assoc (q / blocks) 64 blocks) ∙ ap (λ (x : ℕ). x * blocks) (mul-comm (q / blocks) 64) ∙ mul-assoc 64 (q / blocks) blocks in
+        let d : q / blocks * (64 * blocks) ≡ 64 * (q / blocks * blocks) = sym (mul-assoc (q / blocks) 64 blocks)
+        ∙ ap (λ (x : ℕ). x * blocks) (mul-comm (q / blocks) 64) ∙ mul-assoc 64 (q / blocks) blocks in
         omega arith
 
     slot-small : (p : ℕ) → p < 64 → block * 64 + p < 64 * blocks
@@ -101,13 +102,16 @@ module _ (c : Part) (b : ℕ) where
       unfolding machineOf
       place-at p l = ap₂ (λ (x : ℕ) (y : ℕ). placeOf es (lo + x) * rows + y) (slot-over p l) (slot-rest p l)
 
-      step-at : (p : ℕ) → p < 64 → slotStep m es lo (64 * q + p) ≡ cond (ltb (block * 64 + p) rows) (nextIn c (stateOf es e) (block * 64 + p)) none
+      step-at : (p : ℕ) → p < 64 → slotStep m es lo (64 * q + p) ≡ cond (ltb (block * 64 + p) rows)
+          (nextIn c (stateOf es e) (block * 64 + p)) none
       unfolding machineOf
       step-at p l = ap₂ (λ (x : ℕ) (y : ℕ). cond (ltb y rows) (nextIn c (stateOf es (lo + x)) y) none) (slot-over p l) (slot-rest p l)
 
-      hit-at : (p : ℕ) → p < 64 → slotHit m es lo (64 * q + p) ≡ (ltb (block * 64 + p) rows && hitIn (c .circuit) b (valuesIn c (stateOf es e) (block * 64 + p)))
+      hit-at : (p : ℕ) → p < 64 → slotHit m es lo (64 * q + p) ≡ (ltb (block * 64 + p) rows && hitIn (c .circuit) b
+          (valuesIn c (stateOf es e) (block * 64 + p)))
       unfolding machineOf
-      hit-at p l = ap₂ (λ (x : ℕ) (y : ℕ). ltb y rows && hitIn (c .circuit) b (valuesIn c (stateOf es (lo + x)) y)) (slot-over p l) (slot-rest p l)
+      hit-at p l = ap₂ (λ (x : ℕ) (y : ℕ). ltb y rows && hitIn (c .circuit) b (valuesIn c (stateOf es (lo + x)) y)) (slot-over p l)
+          (slot-rest p l)
 
       -- ---- the next states of a block
       abbrev next : ℕ → Option ℕ
@@ -126,8 +130,10 @@ module _ (c : Part) (b : ℕ) where
 
       expand-part : (p : ℕ) → p ≤ 64 → expanded m es lo (64 * q + p) ≡ metRows next places (min p n) (expanded m es lo (64 * q))
       unfolding expanded metRows meet
-      expand-part zero l = ap (expanded m es lo) {x = 64 * q + 0} {y = 64 * q} (omega arith) ∙ ap (λ (k : ℕ). metRows next places k (expanded m es lo (64 * q))) {x = 0} {y = min 0 n} (omega arith)
-      expand-part (suc p) l = ap (expanded m es lo) {x = 64 * q + suc p} {y = suc (64 * q + p)} (omega arith) ∙ go (decLt p n) (expand-part p (omega arith))
+      expand-part zero l = ap (expanded m es lo) {x = 64 * q + 0} {y = 64 * q} (omega arith)
+          ∙ ap (λ (k : ℕ). metRows next places k (expanded m es lo (64 * q))) {x = 0} {y = min 0 n} (omega arith)
+      expand-part (suc p) l = ap (expanded m es lo) {x = 64 * q + suc p} {y = suc (64 * q + p)} (omega arith)
+          ∙ go (decLt p n) (expand-part p (omega arith))
         where
           go : Dec (p < n) → expanded m es lo (64 * q + p) ≡ metRows next places (min p n) (expanded m es lo (64 * q))
               → expanded m es lo (suc (64 * q + p)) ≡ metRows next places (min (suc p) n) (expanded m es lo (64 * q))
@@ -140,7 +146,8 @@ module _ (c : Part) (b : ℕ) where
               ∙ ap (λ (k : ℕ). metRows next places k (expanded m es lo (64 * q))) (sym v)
           go (no h) r =
               let v : min p n ≡ min (suc p) n = omega arith in
-              ap (λ (o : Option ℕ). meet o (slotPlace m es lo (64 * q + p)) (expanded m es lo (64 * q + p))) (step-out p (omega arith) (omega arith))
+              ap (λ (o : Option ℕ). meet o (slotPlace m es lo (64 * q + p)) (expanded m es lo (64 * q + p)))
+              (step-out p (omega arith) (omega arith))
               ∙ r ∙ ap (λ (k : ℕ). metRows next places k (expanded m es lo (64 * q))) v
 
       pub expand-block : expanded m es lo (64 * (q + 1)) ≡ metRows next places n (expanded m es lo (64 * q))
@@ -160,7 +167,8 @@ module _ (c : Part) (b : ℕ) where
               let p = z - 64 * q in
               let g : 64 * q + p ≡ z = omega arith in
               before p (omega arith)
-              (and-right (ltb (block * 64 + p) rows) (hitIn (c .circuit) b (valuesIn c (stateOf es e) (block * 64 + p))) (subst T (ap (slotHit m es lo) (sym g) ∙ hit-at p (omega arith)) h))
+              (and-right (ltb (block * 64 + p) rows) (hitIn (c .circuit) b (valuesIn c (stateOf es e) (block * 64 + p)))
+              (subst T (ap (slotHit m es lo) (sym g) ∙ hit-at p (omega arith)) h))
         ]
 
         -- none at all, where the first is no row
@@ -170,16 +178,19 @@ module _ (c : Part) (b : ℕ) where
           | no d ↦
               let p = z - 64 * q in
               let g : 64 * q + p ≡ z = omega arith in
-              let t = and-left (ltb (block * 64 + p) rows) (hitIn (c .circuit) b (valuesIn c (stateOf es e) (block * 64 + p))) (subst T (ap (slotHit m es lo) (sym g) ∙ hit-at p (omega arith)) h) in
+              let t = and-left (ltb (block * 64 + p) rows) (hitIn (c .circuit) b (valuesIn c (stateOf es e) (block * 64 + p)))
+              (subst T (ap (slotHit m es lo) (sym g) ∙ hit-at p (omega arith)) h) in
               omega (arith, ltb→lt (block * 64 + p) rows t, row-out block p block-in (omega arith) (omega arith))
         ]
 
         -- the first row is the first slot
-        pub first-slot : r < n → T (hitIn (c .circuit) b (valuesIn c (stateOf es e) (block * 64 + r))) → (total : ℕ) → 64 * q + r < total → firstBelow total (slotHit m es lo) ≡ some (64 * q + r)
+        pub first-slot : r < n → T (hitIn (c .circuit) b (valuesIn c (stateOf es e) (block * 64 + r))) → (total : ℕ) → 64 * q + r < total
+            → firstBelow total (slotHit m es lo) ≡ some (64 * q + r)
         first-slot w h total l =
             let a : T (ltb (block * 64 + r) rows) = T-true (lt-ltb (block * 64 + r) rows (row-in block r block-in w)) in
             first-is (slotHit m es lo) total (64 * q + r) l
-            (subst T (sym (hit-at r (omega arith))) (and (ltb (block * 64 + r) rows) (hitIn (c .circuit) b (valuesIn c (stateOf es e) (block * 64 + r))) a h))
+            (subst T (sym (hit-at r (omega arith))) (and (ltb (block * 64 + r) rows)
+            (hitIn (c .circuit) b (valuesIn c (stateOf es e) (block * 64 + r))) a h))
             (λ y k. quiet-part y k (omega arith))
 
   -- the slots of a layer

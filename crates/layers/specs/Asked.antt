@@ -16,7 +16,9 @@ use Rattle.layers.specs.declared.Asked.the-variants.{Hit, Met}
 unfoldable pub AskedOf : Part → ℕ → ℕ → ℕ → ℕ → List ℕ → List ℕ → List Entry → Asked → Type 0
 AskedOf c b t lo quota records heads es (Hit e row) =
     (z : ℕ) × (firstBelow (layerSlots (machineOf c b) es lo) (slotHit (machineOf c b) es lo) ≡ some z)
-    × (y : ℕ) × Trace (2 ^ length (c .circuit .inputs)) records t e y × (row < 2 ^ length (c .circuit .inputs)) × (slotPlace (machineOf c b) es lo z ≡ y * 2 ^ length (c .circuit .inputs) + row) × (e < length es)
+    × (y : ℕ) × Trace (2 ^ length (c .circuit .inputs)) records t e y × (row < 2 ^ length (c .circuit .inputs))
+    × (slotPlace (machineOf c b) es lo z ≡ y * 2 ^ length (c .circuit .inputs) + row) × (e < length es)
 AskedOf c b t lo quota records heads es (Met count) =
     (firstBelow (layerSlots (machineOf c b) es lo) (slotHit (machineOf c b) es lo) ≡ none)
-    × Holds (2 ^ length (c .circuit .inputs)) (suc t) (length es) quota count records heads (expanded (machineOf c b) es lo (layerSlots (machineOf c b) es lo))
+    × Holds (2 ^ length (c .circuit .inputs)) (suc t) (length es) quota count records heads
+    (expanded (machineOf c b) es lo (layerSlots (machineOf c b) es lo))

@@ -7,7 +7,8 @@ use mathlib.Core.Option.{Option, none, some}
 use Prim.Native.Nat.{ℕ, zero, suc, _+_, _*_, _^_, _≤_, _<_, min}
 use lib.Dec.{T}
 use lib.ListN.{length, getD}
-use Rattle.frames.specs.Lanes.{lane, hitIn}
+use Rattle.aiger.specs.Circuit.{Circuit}
+use Rattle.frames.specs.Lanes.{lane, hitIn, constrainedIn}
 use Rattle.machine.specs.Layers.{Entry, meet}
 use Rattle.aiger.specs.Bits.{bit}
 use Rattle.states.specs.Table.{Fits, Meets}
@@ -38,7 +39,8 @@ pub record RowsMet (next : ℕ → Option ℕ) (quota count e first n : ℕ) (r 
 pub data RowStep (numbers : ℕ → ℕ) (quota e row p met left : ℕ) (r hd : List ℕ) : ℕ → ℕ → List ℕ → List ℕ → Type 0 where
   skipped : bit left p ≡ false → RowStep numbers quota e row p met left r hd met left r hd
   taken : {met′ left′ : ℕ} {r′ hd′ : List ℕ} → bit left p ≡ true → Meets quota met (numbers p) e row r hd met′ r′ hd′
-      → ((q : ℕ) → q < 64 → bit left′ q ≡ false → (bit left q ≡ false) ⊎ (numbers q ≡ numbers p)) → ((q : ℕ) → bit left′ q ≡ true → bit left q ≡ true)
+      → ((q : ℕ) → q < 64 → bit left′ q ≡ false → (bit left q ≡ false) ⊎ (numbers q ≡ numbers p))
+      → ((q : ℕ) → bit left′ q ≡ true → bit left q ≡ true)
       → RowStep numbers quota e row p met left r hd met′ left′ r′ hd′
 
 -- the words are the values of state s with the rows of a block
@@ -51,6 +53,10 @@ pub record FirstRow (c : Part) (b s block : ℕ) (values : List ℕ) (r : ℕ) :
   pub before : (p : ℕ) → p < r → T (hitIn (c .circuit) b (valuesIn c s (block * 64 + p))) → ⊥
   pub here : r < 64 → T (hitIn (c .circuit) b (valuesIn c s (block * 64 + r)))
   pub valued : Valued c s block values
+
+-- `allowed` are the rows of a block that break no constraint, by their values
+abbrev pub Allowed : Circuit → List ℕ → ℕ → Type 0
+Allowed c values allowed = (p : ℕ) → p < 64 → bit allowed p ≡ constrainedIn c (lane values p)
 
 -- the rows of a block of record e are met, whatever state the values are of and whatever bad line the latches that are kept decide
 abbrev pub BlockMet : Part → List ℕ → ℕ → ℕ → ℕ → ℕ → List ℕ → List ℕ → ℕ → List ℕ → List ℕ → Type 0

@@ -11,24 +11,32 @@ ghost use Rattle.fold.specs.Chosen.{chosen};
 ghost use Rattle.fold.specs.Answer.{answered};
 ghost use Rattle.pinned_fold.specs.Steps.{FoldFits, FoldIs};
 
+// What is folded: the hit of bad line b at frame t.
+pub struct Frame {
+    pub b: u64,
+    pub t: u64,
+}
+
 // Folds under the pins of a user who is known, where all tests pass.
 fn fold_known(
     m: &[u32],
     layout: Layout,
     pins: &[u8],
     user: usize,
-    b: u64,
-    t: u64,
+    q: Frame,
     work: &mut [u32],
     out: &mut [u8],
 ) -> FoldAnswer
-    requires { ⌜ FoldFits (now m) layout user b t (length (now work)) (length (now out)) ⌝ }
-    ensures { λ r. ⌜ FoldIs (circuitIn (now (m .entry))) (pinsOf (now (pins .entry)) user) b t (now (out .entry)) (answered r) (now (out .exit)) ⌝ }
+    requires { ⌜ FoldFits (now m) layout user (q .b) (q .t) (length (now work)) (length (now out)) ⌝ }
+    ensures { λ r. ⌜
+        FoldIs (circuitIn (now (m .entry))) (pinsOf (now (pins .entry)) user) (q .b) (q .t) (now (out .entry)) (answered r)
+        (now (out .exit))
+        ⌝ }
 {
     let mut table = [2u8; 4097];
     let mut words = [0u32; 33032];
     pinning::pin_circuit(m, layout, pins, user, &mut table, &mut words);
-    fold::fold(&words, b, t, work, out)
+    fold::fold(&words, q.b, q.t, work, out)
 }
 
 // Writes the hit of bad line b at frame t, under the user's pins, as a circuit without latches.
@@ -42,7 +50,8 @@ pub fn fold(
     out: &mut [u8],
 ) -> FoldAnswer
     ensures { λ r. ⌜
-        PinnedFolded chosen (now (m .entry)) (now (pins .entry)) user b t (now (work .entry)) (now (out .entry)) (answered r) (now (work .exit))
+        PinnedFolded chosen (now (m .entry)) (now (pins .entry)) user b t (now (work .entry)) (now (out .entry)) (answered r)
+        (now (work .exit))
         (now (out .exit))
         ⌝ }
 {
@@ -56,5 +65,5 @@ pub fn fold(
     if number != 0 {
         return FoldAnswer::Refused(number);
     }
-    fold_known(m, layout, pins, user as usize, b, t, work, out)
+    fold_known(m, layout, pins, user as usize, Frame { b, t }, work, out)
 }

@@ -2,6 +2,7 @@
 use circuit::Held;
 use layout::Layout;
 use search::SearchAnswer;
+use search::Terms;
 ghost use mathlib.Core.Path.{_≡_};
 ghost use Prim.Native.Nat.{_+_, _≤_};
 ghost use lib.ListN.{length};
@@ -18,19 +19,20 @@ fn search_text(
     layout: Layout,
     pins: &[u8],
     user: usize,
-    b: u64,
-    k: u64,
-    d: u64,
+    q: Terms,
     work: &mut [u32],
     text: &mut [u8],
 ) -> SearchAnswer
-    requires { ⌜ PinnedFits (now m) layout user b k d (length (now work)) (length (now text)) ⌝ }
-    ensures { λ r. ⌜ TextIs (circuitIn (now (m .entry))) (pinsOf (now (pins .entry)) user) b k d (now (text .entry)) (said r) (now (text .exit)) ⌝ }
+    requires { ⌜ PinnedFits (now m) layout user (q .b) (q .k) (q .d) (length (now work)) (length (now text)) ⌝ }
+    ensures { λ r. ⌜
+        TextIs (circuitIn (now (m .entry))) (pinsOf (now (pins .entry)) user) (q .b) (q .k) (q .d) (now (text .entry)) (said r)
+        (now (text .exit))
+        ⌝ }
 {
     let mut table = [2u8; 4097];
     let mut words = [0u32; 33032];
     pinning::pin_circuit(m, layout, pins, user, &mut table, &mut words);
-    search::search(&words, b, k, d, work, text)
+    search::search(&words, q.b, q.k, q.d, work, text)
 }
 
 // Where the rows of a witness for b begin.
@@ -47,19 +49,21 @@ fn search_known(
     layout: Layout,
     pins: &[u8],
     user: usize,
-    b: u64,
-    k: u64,
-    d: u64,
+    q: Terms,
     work: &mut [u32],
     out: &mut [u8],
 ) -> SearchAnswer
-    requires { ⌜ PinnedFits (now m) layout user b k d (length (now work)) (length (now out)) ⌝ }
-    ensures { λ r. ⌜ OutputIs (circuitIn (now (m .entry))) (pinsOf (now (pins .entry)) user) b k d (now (out .entry)) (said r) (now (out .exit)) ⌝ }
+    requires { ⌜ PinnedFits (now m) layout user (q .b) (q .k) (q .d) (length (now work)) (length (now out)) ⌝ }
+    ensures { λ r. ⌜
+        OutputIs (circuitIn (now (m .entry))) (pinsOf (now (pins .entry)) user) (q .b) (q .k) (q .d) (now (out .entry)) (said r)
+        (now (out .exit))
+        ⌝ }
 {
     let mut text = [0u8; 66825];
     let inputs = layout.i;
+    let b = q.b;
     let start = rows_at(layout.l, b as u32);
-    match search_text(m, layout, pins, user, b, k, d, work, &mut text) {
+    match search_text(m, layout, pins, user, q, work, &mut text) {
         SearchAnswer::Found(t) => {
             expansion::expand(&text, start, t as usize, inputs, pins, user, out);
             SearchAnswer::Found(t)
@@ -82,7 +86,8 @@ pub fn search(
     out: &mut [u8],
 ) -> SearchAnswer
     ensures { λ r. ⌜
-        PinnedSearched chosen (now (m .entry)) (now (pins .entry)) user b k d (now (work .entry)) (now (out .entry)) (said r) (now (work .exit))
+        PinnedSearched chosen (now (m .entry)) (now (pins .entry)) user b k d (now (work .entry)) (now (out .entry)) (said r)
+        (now (work .exit))
         (now (out .exit))
         ⌝ }
 {
@@ -96,5 +101,5 @@ pub fn search(
     if number != 0 {
         return SearchAnswer::Refused(number);
     }
-    search_known(m, layout, pins, user as usize, b, k, d, work, out)
+    search_known(m, layout, pins, user as usize, Terms { b, k, d }, work, out)
 }

@@ -48,16 +48,29 @@ module _ (c : Part) (b k : ℕ) (records : List ℕ) (r : Found) (f : FoundOf c 
     -- what writing the free bits asks
     pub asks : k ≤ 255 → u ≤ 16 → size (c .circuit) k ≤ length records
         → (t ≤ 255) × (row < 2 ^ i) × (u ≤ 16) × (i ≤ 16) × (4 * e + 4 ≤ length records) × (u + i * (t + 1) ≤ length records)
-    asks l h w =
-        (omega (arith, p .within), subst (λ (x : ℕ). row < 2 ^ x) (sym is) (p .row-in), h, omega (arith, p .narrow), p .inside, omega (arith, bits-is, bits-within (c .circuit) t k (p .within)))
+    asks l h w = (
+      omega (arith, p .within),
+      subst (λ (x : ℕ). row < 2 ^ x) (sym is) (p .row-in),
+      h,
+      omega (arith, p .narrow),
+      p .inside,
+      omega
+          (arith, bits-is, bits-within (c .circuit) t k (p .within)),
+    )
 
     pub asks-trace : (y : ℕ) × Trace (2 ^ i) records t e y
     asks-trace = (p .prefix, subst (λ (x : ℕ). Trace (2 ^ x) records t e (p .prefix)) (sym is) (p .trace))
 
     -- and what it gives
-    pub gives-bits : (work : List ℕ) → ((y : ℕ) → Trace (2 ^ i) records t e y → FreeBits (u + i * (t + 1)) (y * 2 ^ i + row) work) → LayersOf c b k work (Hit t)
+    pub gives-bits : (work : List ℕ) → ((y : ℕ) → Trace (2 ^ i) records t e y → FreeBits (u + i * (t + 1)) (y * 2 ^ i + row) work)
+        → LayersOf c b k work (Hit t)
     unfolding LayersOf asks-trace
     gives-bits work h =
         let x = p .prefix * 2 ^ length (c .circuit .inputs) + row in
-        let z : p .prefix * 2 ^ i + row ≡ x = ap (λ (n : ℕ). p .prefix * 2 ^ n + row) is in
-        (x, p .first, p .within, subst (λ (n : ℕ). FreeBits n x work) bits-is (subst (λ (n : ℕ). FreeBits (u + i * (t + 1)) n work) z (h (p .prefix) (asks-trace .1))))
+        let z : p .prefix * 2 ^ i + row ≡ x = ap (λ (n : ℕ). p .prefix * 2 ^ n + row) is in (
+          x,
+          p .first,
+          p .within,
+          subst (λ (n : ℕ). FreeBits n x work) bits-is
+              (subst (λ (n : ℕ). FreeBits (u + i * (t + 1)) n work) z (h (p .prefix) (asks-trace .1))),
+        )

@@ -12,7 +12,20 @@ use lib.ListN.{length}
 use lib.Pow.{pow-pos}
 use Rattle.aiger.specs.Frames.{freeStarts}
 use Rattle.machine.specs.Machine.{Machine}
-use Rattle.machine.specs.Layers.{Entry, started, slotPlace, slotHit, expanded, layerSlots, firstBelow, Layered, hit, clear, gaveUp, layersFrom}
+use Rattle.machine.specs.Layers.{
+  Entry,
+  started,
+  slotPlace,
+  slotHit,
+  expanded,
+  layerSlots,
+  firstBelow,
+  Layered,
+  hit,
+  clear,
+  gaveUp,
+  layersFrom,
+}
 use Rattle.machine.specs.Layers as spec
 use Rattle.machine.proofs.Starts.{some-start}
 use Rattle.influence.specs.Part.{Part}
@@ -22,7 +35,8 @@ use Rattle.reachable.specs.Quota.{quota}
 use Rattle.reachable.specs.Layers.{layered}
 
 -- a table holds what it held with another quota, if that is no less than its records
-pub holds-with : {rows t lo quota count : ℕ} {r hd : List ℕ} {es : List Entry} (q : ℕ) → 4 * q ≤ length r → q < 4294967295 → count ≤ quota → count ≤ q
+pub holds-with : {rows t lo quota count : ℕ} {r hd : List ℕ} {es : List Entry} (q : ℕ) → 4 * q ≤ length r → q < 4294967295 → count ≤ quota
+    → count ≤ q
     → Holds rows t lo quota count r hd es → Holds rows t lo q count r hd es
 holds-with q b d l k h =
     record {
@@ -42,13 +56,19 @@ module _ (m : Machine) (q : ℕ → ℕ) (n t : ℕ) (es : List Entry) (lo : ℕ
   all = expanded m es lo (layerSlots m es lo)
 
   abbrev after : Option ℕ → Bool → Bool → Layered
-  after o a b = elim o [ some z ↦ hit t (slotPlace m es lo z) | none ↦ cond a (cond b clear (layersFrom m q n (suc t) all (length es))) (gaveUp (suc t)) ]
+  after o a b = elim o [
+    | some z ↦ hit t (slotPlace m es lo z)
+    | none ↦ cond a (cond b clear (layersFrom m q n (suc t) all (length es)))
+        (gaveUp (suc t))
+  ]
 
-  unrolled : layersFrom m q (suc n) t es lo ≡ after (firstBelow (layerSlots m es lo) (slotHit m es lo)) (leb (length all) (q t)) (eqb (length all) (length es))
+  unrolled : layersFrom m q (suc n) t es lo ≡ after (firstBelow (layerSlots m es lo) (slotHit m es lo)) (leb (length all) (q t))
+      (eqb (length all) (length es))
   unfolding layersFrom
   unrolled = refl
 
-  pub from-hit : (z : ℕ) → firstBelow (layerSlots m es lo) (slotHit m es lo) ≡ some z → layersFrom m q (suc n) t es lo ≡ hit t (slotPlace m es lo z)
+  pub from-hit : (z : ℕ) → firstBelow (layerSlots m es lo) (slotHit m es lo) ≡ some z
+      → layersFrom m q (suc n) t es lo ≡ hit t (slotPlace m es lo z)
   from-hit z e = unrolled ∙ ap (λ (o : Option ℕ). after o (leb (length all) (q t)) (eqb (length all) (length es))) e
 
   module _ (e : firstBelow (layerSlots m es lo) (slotHit m es lo) ≡ none) where
@@ -56,7 +76,8 @@ module _ (m : Machine) (q : ℕ → ℕ) (n t : ℕ) (es : List Entry) (lo : ℕ
     from-lost l =
         unrolled ∙ ap₂ (λ (o : Option ℕ) (a : Bool). after o a (eqb (length all) (length es))) e (lt-leb (length all) (q t) l)
 
-    pub from-last : length (expanded m es lo (layerSlots m es lo)) ≤ q t → length (expanded m es lo (layerSlots m es lo)) ≡ length es → layersFrom m q (suc n) t es lo ≡ clear
+    pub from-last : length (expanded m es lo (layerSlots m es lo)) ≤ q t → length (expanded m es lo (layerSlots m es lo)) ≡ length es
+        → layersFrom m q (suc n) t es lo ≡ clear
     from-last l k =
         unrolled ∙ ap₂ (λ (o : Option ℕ) (a : Bool). after o a (eqb (length all) (length es))) e (le-leb (length all) (q t) l)
         ∙ ap (after none true) (eq-eqb (length all) (length es) k)
@@ -83,13 +104,15 @@ module _ (c : Part) (b k : ℕ) where
   unfolding layered machineOf spec.layered
   opened = refl
 
-  pub rest-start : length (started (machineOf c b) (2 ^ freeStarts (c .circuit))) ≤ quota c 0 → Rest 0 (started (machineOf c b) (2 ^ freeStarts (c .circuit))) 0
+  pub rest-start : length (started (machineOf c b) (2 ^ freeStarts (c .circuit))) ≤ quota c 0
+      → Rest 0 (started (machineOf c b) (2 ^ freeStarts (c .circuit))) 0
   rest-start l =
       opened ∙ ap (λ (a : Bool). cond a (layersFrom m (quota c) (k + 1) 0 first 0) (gaveUp 0)) (le-leb (length first) (quota c 0) l)
       ∙ ap (λ (n : ℕ). layersFrom m (quota c) n 0 first 0) {x = k + 1} {y = k + 1 - 0} (omega arith)
 
   pub rest-full : quota c 0 < length (started (machineOf c b) (2 ^ freeStarts (c .circuit))) → layered c b k ≡ gaveUp 0
-  rest-full l = opened ∙ ap (λ (a : Bool). cond a (layersFrom m (quota c) (k + 1) 0 first 0) (gaveUp 0)) (lt-leb (length first) (quota c 0) l)
+  rest-full l = opened ∙ ap (λ (a : Bool). cond a (layersFrom m (quota c) (k + 1) 0 first 0) (gaveUp 0))
+      (lt-leb (length first) (quota c 0) l)
 
   -- without a quota
   pub rest-none : quota c 0 ≡ 0 → layered c b k ≡ gaveUp 0
@@ -108,7 +131,8 @@ module _ (c : Part) (b k : ℕ) where
     rest-hit z e = one-more ∙ from-hit m (quota c) (k - t) t es lo z e
 
     module _ (e : firstBelow (layerSlots (machineOf c b) es lo) (slotHit (machineOf c b) es lo) ≡ none) where
-      pub rest-lost : quota c t < length (expanded (machineOf c b) es lo (layerSlots (machineOf c b) es lo)) → layered c b k ≡ gaveUp (t + 1)
+      pub rest-lost : quota c t < length (expanded (machineOf c b) es lo (layerSlots (machineOf c b) es lo))
+          → layered c b k ≡ gaveUp (t + 1)
       rest-lost h = one-more ∙ from-lost m (quota c) (k - t) t es lo e h ∙ ap gaveUp (sym (add-one t))
 
       pub rest-last : length (expanded (machineOf c b) es lo (layerSlots (machineOf c b) es lo)) ≤ quota c t
@@ -121,4 +145,5 @@ module _ (c : Part) (b k : ℕ) where
       rest-more h q =
           let all = expanded m es lo (layerSlots m es lo) in
           one-more ∙ from-more m (quota c) (k - t) t es lo e h q
-          ∙ ap₂ (λ (n : ℕ) (u : ℕ). layersFrom m (quota c) n u all (length es)) {x = k - t} {y = k + 1 - (t + 1)} (omega arith) (sym (add-one t))
+          ∙ ap₂ (λ (n : ℕ) (u : ℕ). layersFrom m (quota c) n u all (length es)) {x = k - t} {y = k + 1 - (t + 1)} (omega arith)
+          (sym (add-one t))

@@ -9,7 +9,20 @@ use lib.Dec.{leb, eqb}
 use lib.ListN.{length}
 use Rattle.machine.specs.Machine.{Machine}
 use Rattle.machine.specs.Layers as spec
-use Rattle.machine.specs.Layers.{Entry, started, slotPlace, slotHit, expanded, layerSlots, firstBelow, Layered, hit, clear, gaveUp, layersFrom}
+use Rattle.machine.specs.Layers.{
+  Entry,
+  started,
+  slotPlace,
+  slotHit,
+  expanded,
+  layerSlots,
+  firstBelow,
+  Layered,
+  hit,
+  clear,
+  gaveUp,
+  layersFrom,
+}
 use Rattle.influence.specs.Part.{Part}
 use Rattle.transitions.specs.Transitions.{machineOf}
 use Rattle.reachable.specs.Quota.{quota}
@@ -26,10 +39,18 @@ module _ (m : Machine) (q : ℕ → ℕ) where
       (from-more n k (suc t) (expanded m es lo (layerSlots m es lo)) (length es) u x (omega arith))
     where
       go : (o : Option ℕ) (a b : Bool)
-          → elim o [ some z ↦ hit t (slotPlace m es lo z) | none ↦ cond a (cond b clear (layersFrom m q n (suc t) (expanded m es lo (layerSlots m es lo)) (length es))) (gaveUp (suc t)) ] ≡ hit u x
+          → elim o [
+            | some z ↦ hit t (slotPlace m es lo z)
+            | none ↦ cond a
+                (cond b clear (layersFrom m q n (suc t) (expanded m es lo (layerSlots m es lo)) (length es))) (gaveUp (suc t))
+          ] ≡ hit u x
           → (layersFrom m q n (suc t) (expanded m es lo (layerSlots m es lo)) (length es) ≡ hit u x
           → layersFrom m q k (suc t) (expanded m es lo (layerSlots m es lo)) (length es) ≡ hit u x)
-          → elim o [ some z ↦ hit t (slotPlace m es lo z) | none ↦ cond a (cond b clear (layersFrom m q k (suc t) (expanded m es lo (layerSlots m es lo)) (length es))) (gaveUp (suc t)) ] ≡ hit u x
+          → elim o [
+            | some z ↦ hit t (slotPlace m es lo z)
+            | none ↦ cond a
+                (cond b clear (layersFrom m q k (suc t) (expanded m es lo (layerSlots m es lo)) (length es))) (gaveUp (suc t))
+          ] ≡ hit u x
       go (some z) a b h r = h
       go none true true h r = h
       go none true false h r = r h
@@ -46,7 +67,9 @@ layered-more c b j k {t} {x} l e = go (leb (length first) (quota c 0)) e
     first : List Entry
     first = started (machineOf c b) (machineOf c b .starts)
 
-    go : (a : Bool) → cond a (layersFrom (machineOf c b) (quota c) (j + 1) 0 (started (machineOf c b) (machineOf c b .starts)) 0) (gaveUp 0) ≡ hit t x
+    go : (a : Bool) → cond a (layersFrom (machineOf c b) (quota c) (j + 1) 0 (started (machineOf c b) (machineOf c b .starts)) 0)
+        (gaveUp 0) ≡ hit t x
         → cond a (layersFrom (machineOf c b) (quota c) (k + 1) 0 (started (machineOf c b) (machineOf c b .starts)) 0) (gaveUp 0) ≡ hit t x
-    go true h = from-more (machineOf c b) (quota c) (j + 1) (k + 1) 0 (started (machineOf c b) (machineOf c b .starts)) 0 t x (omega arith) h
+    go true h = from-more (machineOf c b) (quota c) (j + 1) (k + 1) 0 (started (machineOf c b) (machineOf c b .starts)) 0 t x
+        (omega arith) h
     go false h = h

@@ -40,7 +40,8 @@ module _ (c : Part) where
   pub effort-some : 0 < effort c
   unfolding effort
   effort-some =
-      let a : 1 * 1 ≤ (length (c .circuit .gates) + length (c .circuit .latches) + 1) * 2 ^ (I - 6) = mul-le-mul {n₁ = 1} {m₁ = 1} {n₂ = length (c .circuit .gates) + length (c .circuit .latches) + 1} {m₂ = 2 ^ (I - 6)} (omega arith) (pow-pos (I - 6)) in
+      let a : 1 * 1 ≤ (length (c .circuit .gates) + length (c .circuit .latches) + 1) * 2 ^ (I - 6) = mul-le-mul {n₁ = 1} {m₁ = 1}
+      {n₂ = length (c .circuit .gates) + length (c .circuit .latches) + 1} {m₂ = 2 ^ (I - 6)} (omega arith) (pow-pos (I - 6)) in
       omega arith
 
   pub size-mono : (t u : ℕ) → t ≤ u → size (c .circuit) t ≤ size (c .circuit) u
@@ -54,10 +55,12 @@ module _ (c : Part) where
   unfolding quota
   quota-mono t u l = go small
     where
-      go : (b : Bool) → cond b (min (4 * size (c .circuit) t) ((40000 + 128 * size (c .circuit) t) / effort c)) 0 ≤ cond b (min (4 * size (c .circuit) u) ((40000 + 128 * size (c .circuit) u) / effort c)) 0
+      go : (b : Bool) → cond b (min (4 * size (c .circuit) t) ((40000 + 128 * size (c .circuit) t) / effort c)) 0 ≤ cond b
+          (min (4 * size (c .circuit) u) ((40000 + 128 * size (c .circuit) u) / effort c)) 0
       go true =
           let a = size-mono t u l in
-          let d : (40000 + 128 * size (c .circuit) t) / effort c ≤ (40000 + 128 * size (c .circuit) u) / effort c = quotient-mono (40000 + 128 * size (c .circuit) t) (40000 + 128 * size (c .circuit) u) (effort c) effort-some (omega arith) in
+          let d : (40000 + 128 * size (c .circuit) t) / effort c ≤ (40000 + 128 * size (c .circuit) u) / effort c = quotient-mono
+          (40000 + 128 * size (c .circuit) t) (40000 + 128 * size (c .circuit) u) (effort c) effort-some (omega arith) in
           omega arith
       go false = omega arith
 
@@ -86,24 +89,34 @@ module _ (c : Part) where
 
   pub quota-many : (t : ℕ) → 16 < length (c .circuit .inputs) → quota c t ≡ 0
   unfolding quota
-  quota-many t l = ap (λ (b : Bool). cond (b && (leb (length (c .kept)) 32 && leb (freeStarts (c .circuit)) 16)) (min (4 * size (c .circuit) t) ((40000 + 128 * size (c .circuit) t) / effort c)) 0) (lt-leb I 16 l)
+  quota-many t l = ap (λ (b : Bool). cond (b && (leb (length (c .kept)) 32 && leb (freeStarts (c .circuit)) 16))
+      (min (4 * size (c .circuit) t) ((40000 + 128 * size (c .circuit) t) / effort c)) 0) (lt-leb I 16 l)
 
   pub quota-latches : (t : ℕ) → length (c .circuit .inputs) ≤ 16 → 32 < length (c .kept) → quota c t ≡ 0
   unfolding quota
   quota-latches t l h =
-      ap₂ (λ (a b : Bool). cond (a && (b && leb (freeStarts (c .circuit)) 16)) (min (4 * size (c .circuit) t) ((40000 + 128 * size (c .circuit) t) / effort c)) 0) (le-leb I 16 l) (lt-leb (length (c .kept)) 32 h)
+      ap₂ (λ (a b : Bool). cond (a && (b && leb (freeStarts (c .circuit)) 16))
+      (min (4 * size (c .circuit) t) ((40000 + 128 * size (c .circuit) t) / effort c)) 0) (le-leb I 16 l)
+      (lt-leb (length (c .kept)) 32 h)
 
   pub quota-free : (t : ℕ) → length (c .circuit .inputs) ≤ 16 → length (c .kept) ≤ 32 → 16 < freeStarts (c .circuit) → quota c t ≡ 0
   unfolding quota
   quota-free t l h f =
-      ap₂ (λ (a b : Bool). cond (a && (b && leb (freeStarts (c .circuit)) 16)) (min (4 * size (c .circuit) t) ((40000 + 128 * size (c .circuit) t) / effort c)) 0) (le-leb I 16 l) (le-leb (length (c .kept)) 32 h)
-      ∙ ap (λ (b : Bool). cond b (min (4 * size (c .circuit) t) ((40000 + 128 * size (c .circuit) t) / effort c)) 0) (lt-leb (freeStarts (c .circuit)) 16 f)
+      ap₂ (λ (a b : Bool). cond (a && (b && leb (freeStarts (c .circuit)) 16))
+      (min (4 * size (c .circuit) t) ((40000 + 128 * size (c .circuit) t) / effort c)) 0) (le-leb I 16 l)
+      (le-leb (length (c .kept)) 32 h)
+      ∙ ap (λ (b : Bool). cond b (min (4 * size (c .circuit) t) ((40000 + 128 * size (c .circuit) t) / effort c)) 0)
+      (lt-leb (freeStarts (c .circuit)) 16 f)
 
-  pub quota-is : (t : ℕ) → length (c .circuit .inputs) ≤ 16 → length (c .kept) ≤ 32 → freeStarts (c .circuit) ≤ 16 → quota c t ≡ min (4 * size (c .circuit) t) ((40000 + 128 * size (c .circuit) t) / effort c)
+  pub quota-is : (t : ℕ) → length (c .circuit .inputs) ≤ 16 → length (c .kept) ≤ 32 → freeStarts (c .circuit) ≤ 16
+      → quota c t ≡ min (4 * size (c .circuit) t) ((40000 + 128 * size (c .circuit) t) / effort c)
   unfolding quota
   quota-is t l h f =
-      ap₂ (λ (a b : Bool). cond (a && (b && leb (freeStarts (c .circuit)) 16)) (min (4 * size (c .circuit) t) ((40000 + 128 * size (c .circuit) t) / effort c)) 0) (le-leb I 16 l) (le-leb (length (c .kept)) 32 h)
-      ∙ ap (λ (b : Bool). cond b (min (4 * size (c .circuit) t) ((40000 + 128 * size (c .circuit) t) / effort c)) 0) (le-leb (freeStarts (c .circuit)) 16 f)
+      ap₂ (λ (a b : Bool). cond (a && (b && leb (freeStarts (c .circuit)) 16))
+      (min (4 * size (c .circuit) t) ((40000 + 128 * size (c .circuit) t) / effort c)) 0) (le-leb I 16 l)
+      (le-leb (length (c .kept)) 32 h)
+      ∙ ap (λ (b : Bool). cond b (min (4 * size (c .circuit) t) ((40000 + 128 * size (c .circuit) t) / effort c)) 0)
+      (le-leb (freeStarts (c .circuit)) 16 f)
 
 -- ---- a circuit in memory
 module _ {m : List ℕ} {p : Layout} (ks : List ℕ) (held : Holds m (circuitIn m)) (a : LayoutOf m p) where
@@ -119,7 +132,8 @@ module _ {m : List ℕ} {p : Layout} (ks : List ℕ) (held : Holds m (circuitIn 
   pub gates-small : p .a ≤ 3072
   gates-small = omega (arith, gates-is, counts held .gates)
 
-  pub effort-is : (words rows : ℕ) → words ≡ 2 ^ (p .i - 6) → rows ≡ 2 ^ p .i → (p .a + p .l + 1) * words + (length ks + 8) * rows ≡ effort (partIn m ks)
+  pub effort-is : (words rows : ℕ) → words ≡ 2 ^ (p .i - 6) → rows ≡ 2 ^ p .i
+      → (p .a + p .l + 1) * words + (length ks + 8) * rows ≡ effort (partIn m ks)
   unfolding effort
   effort-is words rows w r = let x = inputs-is in let y = latches-is in let z = gates-is in cc
 

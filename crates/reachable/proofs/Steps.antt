@@ -28,7 +28,12 @@ meet-longer o y es = meets o y es .longer
 expanded-longer : (m : Machine) (es : List Entry) (lo z : ℕ) → length es ≤ length (expanded m es lo z)
 unfolding expanded
 expanded-longer m es lo zero = omega arith
-expanded-longer m es lo (suc z) = omega (arith, expanded-longer m es lo z, meet-longer (slotStep m es lo z) (slotPlace m es lo z) (expanded m es lo z))
+expanded-longer m es lo (suc z) = omega (
+  arith,
+  expanded-longer m es lo z,
+  meet-longer (slotStep m es lo z) (slotPlace m es lo z)
+      (expanded m es lo z),
+)
 
 module _ (c : Part) (b k : ℕ) where
   -- the table holds the layer of frame t, and frames t to k are left
@@ -63,7 +68,8 @@ module _ (c : Part) (b k : ℕ) where
   unfolding FoundOf
   standing-end t lo hi records heads s l = rest-end c b k t (s .entries) lo (s .left) l
 
-  module _ (t lo hi most : ℕ) (r₀ hd₀ : List ℕ) (s : Standing t lo hi r₀ hd₀) (l : t ≤ k) (q : most ≡ quota c t) (room : 4 * most ≤ length r₀) (few : most < 4294967295)
+  module _ (t lo hi most : ℕ) (r₀ hd₀ : List ℕ) (s : Standing t lo hi r₀ hd₀) (l : t ≤ k) (q : most ≡ quota c t)
+      (room : 4 * most ≤ length r₀) (few : most < 4294967295)
       (high : hi ≤ most) where
     abbrev es : List Entry
     es = s .entries
@@ -76,7 +82,8 @@ module _ (c : Part) (b k : ℕ) where
     counted = s .holds .counted (omega arith)
 
     module _ (records heads : List ℕ) (same : length records ≡ length r₀) (a : Asked)
-        (asked : (u : ℕ) (xs : List Entry) → Holds (2 ^ length (c .circuit .inputs)) u lo most hi r₀ hd₀ xs → AskedOf c b u lo most records heads xs a) where
+        (asked : (u : ℕ) (xs : List Entry) → Holds (2 ^ length (c .circuit .inputs)) u lo most hi r₀ hd₀ xs
+        → AskedOf c b u lo most records heads xs a) where
       pub case-hit : length (c .circuit .inputs) ≤ 16 → {e row : ℕ} → a ≡ Hit e row → FoundOf c b k records (At t e row)
       unfolding AskedOf FoundOf
       case-hit w {e} {row} q =
@@ -84,7 +91,8 @@ module _ (c : Part) (b k : ℕ) where
           (y, rest-hit c b k t es lo (s .left) l z f ∙ ap (hit t) sp, tr, rl, l, omega (arith, counted), w)
 
       met-case : {met : ℕ} → a ≡ Met met → (firstBelow (layerSlots (machineOf c b) es lo) (slotHit (machineOf c b) es lo) ≡ none)
-          × Holds (2 ^ length (c .circuit .inputs)) (suc t) (length es) most met records heads (expanded (machineOf c b) es lo (layerSlots (machineOf c b) es lo))
+          × Holds (2 ^ length (c .circuit .inputs)) (suc t) (length es) most met records heads
+          (expanded (machineOf c b) es lo (layerSlots (machineOf c b) es lo))
       unfolding AskedOf
       met-case e = subst (AskedOf c b t lo most records heads es) e (asked t es standing-holds)
 
@@ -94,7 +102,8 @@ module _ (c : Part) (b k : ℕ) where
 
       pub case-last : {met : ℕ} → a ≡ Met met → met ≤ most → met ≡ hi → FoundOf c b k records Nowhere
       unfolding FoundOf
-      case-last e h w = let m = met-case e in rest-last c b k t es lo (s .left) l (m .0) (omega (arith, m .1 .counted h)) (omega (arith, m .1 .counted h, counted))
+      case-last e h w = let m = met-case e in rest-last c b k t es lo (s .left) l (m .0) (omega (arith, m .1 .counted h))
+          (omega (arith, m .1 .counted h, counted))
 
       pub case-more : {met : ℕ} → a ≡ Met met → met ≤ most → (met ≡ hi → ⊥) → Standing (t + 1) hi met records heads
       case-more {met} e h w =
@@ -106,6 +115,7 @@ module _ (c : Part) (b k : ℕ) where
             holds = subst (λ (u : ℕ). Holds (2 ^ length (c .circuit .inputs)) u hi met met records heads all) (sym (add-one t))
                 (subst (λ (n : ℕ). Holds (2 ^ length (c .circuit .inputs)) (suc t) n met met records heads all) counted
                 (holds-with met (omega (arith, m .1 .quota-room)) (omega arith) h (omega arith) (m .1)));
-            left = subst (λ (n : ℕ). Rest c b k (t + 1) all n) counted (rest-more c b k t es lo (s .left) l (m .0) (omega arith) (λ x. w (omega (arith, counted))));
+            left = subst (λ (n : ℕ). Rest c b k (t + 1) all n) counted
+                (rest-more c b k t es lo (s .left) l (m .0) (omega arith) (λ x. w (omega (arith, counted))));
             low = omega (arith, counted, expanded-longer (machineOf c b) es lo (layerSlots (machineOf c b) es lo));
           }

@@ -22,7 +22,8 @@ layered c b k = spec.layered (machineOf c b) (quota c) (k + 1)
 -- the first hit is row `row` of record e
 unfoldable pub FoundOf : Part → ℕ → ℕ → List ℕ → Found → Type 0
 FoundOf c b k records (At t e row) =
-    (y : ℕ) × (layered c b k ≡ spec.hit t (y * 2 ^ length (c .circuit .inputs) + row)) × Trace (2 ^ length (c .circuit .inputs)) records t e y × (row < 2 ^ length (c .circuit .inputs)) × (t ≤ k)
+    (y : ℕ) × (layered c b k ≡ spec.hit t (y * 2 ^ length (c .circuit .inputs) + row))
+    × Trace (2 ^ length (c .circuit .inputs)) records t e y × (row < 2 ^ length (c .circuit .inputs)) × (t ≤ k)
     × (4 * e + 4 ≤ length records) × (length (c .circuit .inputs) ≤ 16)
 FoundOf c b k records Nowhere = layered c b k ≡ spec.clear
 FoundOf c b k records (Left t) = layered c b k ≡ spec.gaveUp t

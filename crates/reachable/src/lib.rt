@@ -1,5 +1,7 @@
 // The frames of a search by layers of states, until one has a hit, no state is new, or there are too many states.
 use layers::Asked;
+use layers::Layer;
+use layers::Starts;
 use layout::Layout;
 ghost use mathlib.Core.Path.{_≡_};
 ghost use mathlib.Core.List.{List, []};
@@ -11,9 +13,12 @@ ghost use Rattle.layout.specs.Words.{word, circuitIn};
 ghost use Rattle.layout.specs.Layout.{LayoutOf};
 ghost use Rattle.frames.specs.Lanes.{Ready};
 ghost use Rattle.enumeration.specs.Frame.{FreeBits};
+ghost use Rattle.machine.specs.Layers.{started};
+ghost use Rattle.states.specs.Table.{Fits};
 ghost use Rattle.states.specs.Trace as trace;
-ghost use Rattle.influence.specs.Part.{Closed, partIn};
+ghost use Rattle.influence.specs.Part.{Listed, Closed, partIn};
 ghost use Rattle.influence.specs.Cone.{partOf};
+ghost use Rattle.transitions.specs.Transitions.{machineOf};
 ghost use Rattle.reachable.specs.Quota.{effort, quota};
 ghost use Rattle.reachable.specs.Layers.{FoundOf, LayersOf};
 
@@ -29,6 +34,13 @@ enum Found {
     At(usize, usize, usize),
     Nowhere,
     Left(usize),
+}
+
+// What the frames 0 to k of a circuit are asked for: bad line b. layout says where the parts of the circuit stand.
+struct Question {
+    layout: Layout,
+    b: usize,
+    k: usize,
 }
 
 // 2 to the power n.
@@ -77,27 +89,58 @@ fn quota(m: &[u32], layout: Layout, t: usize, kept: &[u32]) -> usize
     if affordable < most { affordable } else { most }
 }
 
+// Meets the start states, up to quota records, in a table without records: the number of records, or one more than quota.
+fn meet_starts(
+    m: &[u32],
+    layout: Layout,
+    quota: usize,
+    records: &mut [u32],
+    heads: &mut [u32],
+    kept: &[u32],
+) -> usize
+    requires { ⌜ Holds (now m) (circuitIn (now m)) ⌝ }
+    requires { ⌜ LayoutOf (now m) layout ⌝ }
+    requires { ⌜
+        (layout .u ≤ 16) × Fits quota 0 (now records) (now heads) × Listed (partIn (now m) (now kept)) × (length (now kept) ≤ 32)
+        ⌝ }
+    ensures { λ r. ⌜
+        ((rows b : ℕ) → trace.Holds rows 0 0 quota 0 (now (records .entry)) (now (heads .entry)) []
+        → trace.Holds rows 0 0 quota r (now (records .exit)) (now (heads .exit))
+        (started (machineOf (partIn (now (m .entry)) (now (kept .entry))) b) (2 ^ layout .u)))
+        ⌝ }
+{
+    let count = power(layout.u);
+    let starts = Starts { count, quota };
+    let mut state = [0u64; 1024];
+    layers::meet_starts(m, layout, starts, records, heads, kept, &mut state)
+}
+
 // Asks frame after frame, where the quota of frame 0 is not 0 and the heads are 0.
 fn ask_frames(
     m: &[u32],
-    layout: Layout,
     order: &[u32],
-    b: usize,
-    k: usize,
+    q: Question,
     records: &mut [u32],
     heads: &mut [u32],
     values: &mut [u64],
-    state: &mut [u64],
     kept: &[u32],
 ) -> Found
-    requires { ⌜ Ready (now m) layout (now order) (length (now values)) ⌝ }
-    requires { ⌜ (b < word (now m) 5) × (1024 ≤ length (now state)) × (k ≤ 255) × (0 < quota (partIn (now m) (now kept)) 0) × Closed (partIn (now m) (now kept)) b ⌝ }
-    requires { ⌜ (16 * size (circuitIn (now m)) k ≤ length (now records)) × (size (circuitIn (now m)) k ≤ 65536) × (4096 ≤ length (now heads)) × ((h : ℕ) → h < 4096 → getD (now heads) h 0 ≡ 0) ⌝ }
-    ensures { λ r. ⌜ FoundOf (partIn (now (m .entry)) (now (kept .entry))) b k (now (records .exit)) r ⌝ }
+    requires { ⌜ Ready (now m) (q .layout) (now order) (length (now values)) ⌝ }
+    requires { ⌜
+        (q .b < word (now m) 5) × (q .k ≤ 255) × (0 < quota (partIn (now m) (now kept)) 0) × Closed (partIn (now m) (now kept)) (q .b)
+        ⌝ }
+    requires { ⌜
+        (16 * size (circuitIn (now m)) (q .k) ≤ length (now records)) × (size (circuitIn (now m)) (q .k) ≤ 65536)
+        × (4096 ≤ length (now heads))
+        × ((h : ℕ) → h < 4096 → getD (now heads) h 0 ≡ 0)
+        ⌝ }
+    ensures { λ r. ⌜ FoundOf (partIn (now (m .entry)) (now (kept .entry))) (q .b) (q .k) (now (records .exit)) r ⌝ }
 {
+    let layout = q.layout;
+    let b = q.b;
+    let k = q.k;
     let first = quota(m, layout, 0, kept);
-    let count = power(layout.u);
-    let starts = layers::meet_starts(m, layout, count, first, records, heads, kept, state);
+    let starts = meet_starts(m, layout, first, records, heads, kept);
     if first < starts {
         return Found::Left(0);
     }
@@ -106,20 +149,14 @@ fn ask_frames(
     let mut t = 0;
     while t <= k {
         let most = quota(m, layout, t, kept);
-        match layers::ask_layer(
-            m,
+        let layer = Layer {
             layout,
-            order,
             b,
             lo,
             hi,
-            most,
-            records,
-            heads,
-            values,
-            state,
-            kept,
-        ) {
+            quota: most,
+        };
+        match layers::ask_layer(m, order, layer, records, heads, values, kept) {
             Asked::Hit(e, row) => {
                 return Found::At(t, e, row);
             }
@@ -156,26 +193,21 @@ fn find_first(
 {
     let mut heads = [0u32; 4096];
     let mut values = [0u64; 4097];
-    let mut state = [0u64; 1024];
-    ask_frames(
-        m,
-        layout,
-        order,
-        b,
-        k,
-        records,
-        &mut heads,
-        &mut values,
-        &mut state,
-        kept,
-    )
+    let q = Question { layout, b, k };
+    ask_frames(m, order, q, records, &mut heads, &mut values, kept)
 }
 
 // Leaves at the front of working memory the free bits of row `row` of record e, of the layer of frame t.
 fn put_free(t: usize, e: usize, row: usize, free: usize, width: usize, work: &mut [u32])
-    requires { ⌜ (t ≤ 255) × (row < 2 ^ width) × (free ≤ 16) × (width ≤ 16) × (4 * e + 4 ≤ length (now work)) × (free + width * (t + 1) ≤ length (now work)) ⌝ }
+    requires { ⌜
+        (t ≤ 255) × (row < 2 ^ width) × (free ≤ 16) × (width ≤ 16) × (4 * e + 4 ≤ length (now work))
+        × (free + width * (t + 1) ≤ length (now work))
+        ⌝ }
     requires { ⌜ ((y : ℕ) × trace.Trace (2 ^ width) (now work) t e y) ⌝ }
-    ensures { λ _. ⌜ ((y : ℕ) → trace.Trace (2 ^ width) (now (work .entry)) t e y → FreeBits (free + width * (t + 1)) (y * 2 ^ width + row) (now (work .exit))) ⌝ }
+    ensures { λ _. ⌜
+        ((y : ℕ) → trace.Trace (2 ^ width) (now (work .entry)) t e y
+        → FreeBits (free + width * (t + 1)) (y * 2 ^ width + row) (now (work .exit)))
+        ⌝ }
 {
     let mut trace = [0u32; 257];
     traces::walk(work, t, e, row, &mut trace);

@@ -48,7 +48,8 @@ module _ {m : List ℕ} (held : Holds m (circuitIn m)) {b k D : ℕ} {work out :
       }
 
   -- what the search of the frames answers is the answer
-  pub answered-with : {n : ℕ} → judge (searchTests (circuitIn m) b k D (length work) (length out)) ≡ told n → n ≡ 0 → {a : Answer Outcome} {work′ out′ : List ℕ}
+  pub answered-with : {n : ℕ} → judge (searchTests (circuitIn m) b k D (length work) (length out)) ≡ told n → n ≡ 0
+      → {a : Answer Outcome} {work′ out′ : List ℕ}
       → Answered (circuitIn m) b k D out a out′ → Searched chosen m b k D work out a work′ out′
   answered-with {n} e z {a} {work′} {out′} w =
       subst (λ (r : Answer Outcome). Searched chosen m b k D work out r work′ out′) (sym (w .says))

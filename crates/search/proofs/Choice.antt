@@ -45,10 +45,12 @@ module _ (q : Question) (f : ℕ → Decision) (k D : ℕ) (right : (t : ℕ) �
 module _ (c : Circuit) (b k D : ℕ) where
   -- frames of the machine without a hit are frames of the circuit without one
   quiet-of : (t : ℕ) → QuietBefore (machineOf (partOf c b) b) t → Quiet (question c b) t
-  quiet-of t q u l x a h r = q u l x (subst (λ (n : ℕ). x < n) (sym (prefixes-of (partOf c b) b u)) h) (subst T (reaches-of (partOf c b) b (part-closed c b) u x) r)
+  quiet-of t q u l x a h r = q u l x (subst (λ (n : ℕ). x < n) (sym (prefixes-of (partOf c b) b u)) h)
+      (subst T (reaches-of (partOf c b) b (part-closed c b) u x) r)
 
   -- the first hit of the machine is that of the circuit
-  first-of : {t x : ℕ} → Says (machineOf (partOf c b) b) (fair (partOf c b) b) (k + 1) (Layered.hit t x) → decisions.FirstHit (reaches c b t) (2 ^ freeBits c t) 0 x
+  first-of : {t x : ℕ} → Says (machineOf (partOf c b) b) (fair (partOf c b) b) (k + 1) (Layered.hit t x)
+      → decisions.FirstHit (reaches c b t) (2 ^ freeBits c t) 0 x
   first-of {t} {x} (l, q, f) =
       record {
         from = omega arith;
@@ -58,17 +60,20 @@ module _ (c : Circuit) (b k D : ℕ) where
       }
 
   -- what the layers say is permitted
-  layers-permitted : (o : Layered) → Says (machineOf (partOf c b) b) (fair (partOf c b) b) (k + 1) o → T (permitted c b k D (byLayers c b k D o))
+  layers-permitted : (o : Layered) → Says (machineOf (partOf c b) b) (fair (partOf c b) b) (k + 1) o
+      → T (permitted c b k D (byLayers c b k D o))
   layers-permitted (Layered.hit t x) (l, q, f) =
       found-in (question c b) k D t (record { within = omega arith; quiet = quiet-of t q; place = x; first = first-of (l, q, f) })
   layers-permitted Layered.clear q = none-in (question c b) k D k (record { bound = refl; quiet = quiet-of (k + 1) q })
   layers-permitted (Layered.gaveUp t) (l, q) =
-      from (question c b) (λ u. decisionOf c b u D) k D (λ u. decided-says c b u D (decisionOf c b u D) refl) (k + 1 - t) t (omega arith) (quiet-of t q)
+      from (question c b) (λ u. decisionOf c b u D) k D (λ u. decided-says c b u D (decisionOf c b u D) refl) (k + 1 - t) t (omega arith)
+      (quiet-of t q)
 
   -- the chosen outcome is permitted
   pub chosen-permitted : T (permitted c b k D (chosen c b k D))
   unfolding chosen layered
-  chosen-permitted = layers-permitted (layered (partOf c b) b k) (layered-says (machineOf (partOf c b) b) (fair (partOf c b) b) (quota (partOf c b)) (k + 1))
+  chosen-permitted = layers-permitted (layered (partOf c b) b k)
+      (layered-says (machineOf (partOf c b) b) (fair (partOf c b) b) (quota (partOf c b)) (k + 1))
 
   -- the outcome is what frames t to k give
   abbrev pub Left : ℕ → Type 0
@@ -85,7 +90,8 @@ module _ (c : Circuit) (b k D : ℕ) where
   layers-shown {t} {x} e =
       sym
       (first-witness c b t x
-      (first-of (subst (Says (machineOf (partOf c b) b) (fair (partOf c b) b) (k + 1)) e (layered-says (machineOf (partOf c b) b) (fair (partOf c b) b) (quota (partOf c b)) (k + 1)))))
+      (first-of (subst (Says (machineOf (partOf c b) b) (fair (partOf c b) b) (k + 1)) e
+      (layered-says (machineOf (partOf c b) b) (fair (partOf c b) b) (quota (partOf c b)) (k + 1)))))
 
   pub chosen-none : layered (partOf c b) b k ≡ Layered.clear → chosen c b k D ≡ Outcome.none k
   unfolding chosen
@@ -98,19 +104,23 @@ module _ (c : Circuit) (b k D : ℕ) where
   -- they are given up at a frame up to the one after the bound
   pub left-within : {t : ℕ} → layered (partOf c b) b k ≡ Layered.gaveUp t → t ≤ k + 1
   unfolding layered
-  left-within e = subst (Says (machineOf (partOf c b) b) (fair (partOf c b) b) (k + 1)) e (layered-says (machineOf (partOf c b) b) (fair (partOf c b) b) (quota (partOf c b)) (k + 1)) .0
+  left-within e = subst (Says (machineOf (partOf c b) b) (fair (partOf c b) b) (k + 1)) e
+      (layered-says (machineOf (partOf c b) b) (fair (partOf c b) b) (quota (partOf c b)) (k + 1)) .0
 
   -- what frame t decides
-  unroll : (t : ℕ) → t ≤ k → chosenFrom (λ u. decisionOf c b u D) k t (k + 1 - t) ≡ outcomeOf (decisionOf c b t D) t (chosenFrom (λ u. decisionOf c b u D) k (t + 1) (k + 1 - (t + 1)))
+  unroll : (t : ℕ) → t ≤ k → chosenFrom (λ u. decisionOf c b u D) k t (k + 1 - t) ≡ outcomeOf (decisionOf c b t D) t
+      (chosenFrom (λ u. decisionOf c b u D) k (t + 1) (k + 1 - (t + 1)))
   unfolding chosenFrom
   unroll t l =
       let n = k + 1 - (t + 1) in
       let e : k + 1 - t ≡ suc n = omega arith in
-      ap (chosenFrom (λ u. decisionOf c b u D) k t) e ∙ ap (λ (s : ℕ). outcomeOf (decisionOf c b t D) t (chosenFrom (λ u. decisionOf c b u D) k s n)) (sym (add-one t))
+      ap (chosenFrom (λ u. decisionOf c b u D) k t) e ∙ ap (λ (s : ℕ). outcomeOf (decisionOf c b t D) t
+      (chosenFrom (λ u. decisionOf c b u D) k s n)) (sym (add-one t))
 
   decide : (t : ℕ) → t ≤ k → Left t → {d : Decision} → decisionOf c b t D ≡ d
       → chosen c b k D ≡ outcomeOf d t (chosenFrom (λ u. decisionOf c b u D) k (t + 1) (k + 1 - (t + 1)))
-  decide t l i e = i ∙ unroll t l ∙ ap (λ (d : Decision). outcomeOf d t (chosenFrom (λ u. decisionOf c b u D) k (t + 1) (k + 1 - (t + 1)))) e
+  decide t l i e = i ∙ unroll t l ∙ ap (λ (d : Decision). outcomeOf d t
+      (chosenFrom (λ u. decisionOf c b u D) k (t + 1) (k + 1 - (t + 1)))) e
 
   -- the first hit that is decided is the one that is shown
   pub hit-shown : (t x : ℕ) → decisionOf c b t D ≡ Decision.hit x → witness b (run c t x) ≡ firstWitness c b t

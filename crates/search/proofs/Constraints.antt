@@ -1,4 +1,5 @@
--- Constraints hold in every frame. Clauses 2.5 and 12.4: a witness that a search shows breaks none in any of its frames, and where a circuit
+-- Constraints hold in every frame. Clauses 2.5 and 12.4: a witness that a search shows breaks none in any of its frames, and where a
+-- circuit
 -- has none, hits and answers are those that counting constraints in the frame of the hit alone would give. Assumes nothing.
 use mathlib.Core.Path.{_≡_, refl, sym, ap, ap₂, _∙_, subst, fun-ext}
 use mathlib.Core.Bool.{Bool, true, _&&_}
@@ -23,14 +24,16 @@ use Rattle.search.proofs.Theorems.{found-only}
 -- ---- a witness that a search shows
 
 -- a sequence that hits breaks no constraint in any frame up to that of the hit
-pub reached-allowed : (c : Circuit) (b t x : ℕ) → T (reaches c b t x) → (u l : ℕ) → u ≤ t → List·Memᴰ l (c .constraints) → T (valueAt c (run c t x) u l)
+pub reached-allowed : (c : Circuit) (b t x : ℕ) → T (reaches c b t x) → (u l : ℕ) → u ≤ t → List·Memᴰ l (c .constraints)
+    → T (valueAt c (run c t x) u l)
 unfolding reaches reachesIn run hits
 reached-allowed c b t x h u l k m =
     let r = run c t x in
     constraint-true c r t u l (and-left (allowed c r t) (valueAt c r t (getD (c .bads) b 0)) h) k m
 
 -- the witness at the front of the output is the run of a sequence in which every constraint is true in every frame
-pub witness-allowed : {m w out w′ out′ : List ℕ} {c : Circuit} {b k D t : ℕ} → Holds m c → Searched chosen m b k D w out (gives (Outcome.found t)) w′ out′
+pub witness-allowed : {m w out w′ out′ : List ℕ} {c : Circuit} {b k D t : ℕ} → Holds m c
+    → Searched chosen m b k D w out (gives (Outcome.found t)) w′ out′
     → (x : ℕ) × (x < 2 ^ freeBits c t) × (out′ ≡ front (witness b (run c t x)) out)
     × ((u l : ℕ) → u ≤ t → List·Memᴰ l (c .constraints) → T (valueAt c (run c t x) u l))
 witness-allowed {out = out} {c = c} {b = b} {t = t} h s =

@@ -23,6 +23,13 @@ pub enum SearchAnswer {
     Refused(u32),
 }
 
+// The terms of a search: a bad line, a bound, and a budget for each frame.
+pub struct Terms {
+    pub b: u64,
+    pub k: u64,
+    pub d: u64,
+}
+
 // Whether a budget is right.
 fn is_budget(d: u64) -> bool
     ensures { λ r. ⌜ r ≡ budgetRight d ⌝ }
@@ -46,22 +53,27 @@ pub fn refusal(layout: Layout, b: u64, k: u64, d: u64, room: usize, len: usize) 
     0
 }
 
-// The search of frames `start` to k of a circuit that is ready, frame after frame.
+// The search of the frames from `start` on of a circuit that is ready, frame after frame.
 fn search_from(
     m: &[u32],
     layout: Layout,
     order: &[u32],
-    b: usize,
     start: usize,
-    k: usize,
-    d: u64,
+    q: Terms,
     work: &mut [u32],
     out: &mut [u8],
 ) -> SearchAnswer
-    requires { ⌜ SearchFits (now m) layout (now order) b k d (now work) (now out) ⌝ }
-    requires { ⌜ (start ≤ k + 1) × (chosen (circuitIn (now m)) b k d ≡ chosenFrom (λ u. decisionOf (circuitIn (now m)) b u d) k start (k + 1 - start)) ⌝ }
-    ensures { λ r. ⌜ Answered (circuitIn (now (m .entry))) b k d (now (out .entry)) (said r) (now (out .exit)) ⌝ }
+    requires { ⌜ SearchFits (now m) layout (now order) (q .b) (q .k) (q .d) (now work) (now out) ⌝ }
+    requires { ⌜
+        (start ≤ q .k + 1)
+        × (chosen (circuitIn (now m)) (q .b) (q .k) (q .d)
+        ≡ chosenFrom (λ u. decisionOf (circuitIn (now m)) (q .b) u (q .d)) (q .k) start (q .k + 1 - start))
+        ⌝ }
+    ensures { λ r. ⌜ Answered (circuitIn (now (m .entry))) (q .b) (q .k) (q .d) (now (out .entry)) (said r) (now (out .exit)) ⌝ }
 {
+    let b = q.b as usize;
+    let k = q.k as usize;
+    let d = q.d;
     let mut t = start;
     while t <= k {
         match decision::decide(m, layout, order, b, t, d, work) {
@@ -80,33 +92,35 @@ fn search_from(
     SearchAnswer::Nothing(k as u32)
 }
 
-// The search of frames 0 to k of a circuit that is ready: by layers of states, and where there are too many, frame after frame.
+// The search of a circuit that is ready: by layers of states, and where there are too many, frame after frame.
 fn search_frames(
     m: &[u32],
     layout: Layout,
     order: &[u32],
-    b: usize,
-    k: usize,
-    d: u64,
+    q: Terms,
     work: &mut [u32],
     out: &mut [u8],
 ) -> SearchAnswer
-    requires { ⌜ SearchFits (now m) layout (now order) b k d (now work) (now out) ⌝ }
-    ensures { λ r. ⌜ Answered (circuitIn (now (m .entry))) b k d (now (out .entry)) (said r) (now (out .exit)) ⌝ }
+    requires { ⌜ SearchFits (now m) layout (now order) (q .b) (q .k) (q .d) (now work) (now out) ⌝ }
+    ensures { λ r. ⌜ Answered (circuitIn (now (m .entry))) (q .b) (q .k) (q .d) (now (out .entry)) (said r) (now (out .exit)) ⌝ }
 {
+    let b = q.b as usize;
+    let k = q.k as usize;
     match reachable::search_layers(m, layout, order, b, k, work) {
         Layers::Hit(t) => {
             witness::write_witness(out, m, layout, b as u32, t, work);
             SearchAnswer::Found(t as u32)
         }
         Layers::Clear => SearchAnswer::Nothing(k as u32),
-        Layers::GaveUp(t) => search_from(m, layout, order, b, t, k, d, work, out),
+        Layers::GaveUp(t) => search_from(m, layout, order, t, q, work, out),
     }
 }
 
 // Whether bad line b can be reached within bound k, with a budget of d sequences for each frame.
 pub fn search(m: &[u32], b: u64, k: u64, d: u64, work: &mut [u32], out: &mut [u8]) -> SearchAnswer
-    ensures { λ r. ⌜ Searched chosen (now (m .entry)) b k d (now (work .entry)) (now (out .entry)) (said r) (now (work .exit)) (now (out .exit)) ⌝ }
+    ensures { λ r. ⌜
+        Searched chosen (now (m .entry)) b k d (now (work .entry)) (now (out .entry)) (said r) (now (work .exit)) (now (out .exit))
+        ⌝ }
 {
     let mut order = [0u32; 3072];
     let Held::Circuit(layout) = circuit::held_in(m, &mut order) else {
@@ -116,5 +130,5 @@ pub fn search(m: &[u32], b: u64, k: u64, d: u64, work: &mut [u32], out: &mut [u8
     if number != 0 {
         return SearchAnswer::Refused(number);
     }
-    search_frames(m, layout, &order, b as usize, k as usize, d, work, out)
+    search_frames(m, layout, &order, Terms { b, k, d }, work, out)
 }

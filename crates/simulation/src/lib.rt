@@ -11,7 +11,33 @@ ghost use Rattle.aiger.specs.Bits.{nonzero, bit};
 ghost use Rattle.aiger.specs.Frames.{value};
 ghost use Rattle.nodes.specs.Store.{pairsOf};
 ghost use Rattle.nodes.specs.Edges.{edgeWord};
-ghost use Rattle.simulation.specs.Store.{half, Netlist, Evaluable, HalfEvaluated, GateEvaluated, GatesEvaluated, WordPut, LeavesCleared, SlotsPut, Slotted, Taken, SlotsFilled, Unused, UsedFrom, Firsts, Carried, Net, SlotsOf, Started, Scannable, Advanced, FirstIn, InBlock, hitAt, BitsPut};
+ghost use Rattle.simulation.specs.Store.{
+  half,
+  Netlist,
+  Evaluable,
+  HalfEvaluated,
+  GateEvaluated,
+  GatesEvaluated,
+  WordPut,
+  LeavesCleared,
+  SlotsPut,
+  Slotted,
+  Taken,
+  SlotsFilled,
+  Unused,
+  UsedFrom,
+  Firsts,
+  Carried,
+  Net,
+  SlotsOf,
+  Started,
+  Scannable,
+  Advanced,
+  FirstIn,
+  InBlock,
+  hitAt,
+  BitsPut,
+};
 ghost use Rattle.simulation.specs.Found.{Counted, FoundIs};
 ghost use Rattle.support.specs.Counting.{First};
 
@@ -261,26 +287,31 @@ fn first_in(block: u64, hits: u64, total: u64) -> u64
     total
 }
 
-// The first place below total that hits, or total. The values are those in block `start`, of which `those` says which places hit.
+// A block of 64 places, and which of them hit.
+struct Block {
+    number: u64,
+    hits: u64,
+}
+
+// The first place below total that hits, or total. The values are those in block `from`.
 fn scan(
     work: &mut [u32],
     g: Graph,
     root: u32,
     slots: &[u32],
     firsts: &[u32],
-    start: u64,
-    those: u64,
+    from: Block,
     total: u64,
 ) -> u64
     requires { ⌜ ((count : ℕ) × Scannable (now work) g root (now slots) (now firsts) count × (total ≤ 2 ^ count)) ⌝ }
-    requires { ⌜ (start < 67108864) × (total ≤ 4294967296) ⌝ }
-    requires { ⌜ InBlock (g .free) (pairsOf (now work) g) root start (now work) (g .nodes) ⌝ }
-    requires { ⌜ ((p : ℕ) → p < 64 → bit those p ≡ hitAt (g .free) (pairsOf (now work) g) root (start * 64 + p)) ⌝ }
-    requires { ⌜ ((y : ℕ) → y < 64 * start → T (hitAt (g .free) (pairsOf (now work) g) root y) → ⊥) ⌝ }
+    requires { ⌜ (from .number < 67108864) × (total ≤ 4294967296) ⌝ }
+    requires { ⌜ InBlock (g .free) (pairsOf (now work) g) root (from .number) (now work) (g .nodes) ⌝ }
+    requires { ⌜ ((p : ℕ) → p < 64 → bit (from .hits) p ≡ hitAt (g .free) (pairsOf (now work) g) root (from .number * 64 + p)) ⌝ }
+    requires { ⌜ ((y : ℕ) → y < 64 * from .number → T (hitAt (g .free) (pairsOf (now work) g) root y) → ⊥) ⌝ }
     ensures { λ r. ⌜ First (hitAt (g .free) (pairsOf (now (work .entry)) g) root) total r ⌝ }
 {
-    let mut block = start;
-    let mut hits = those;
+    let mut block = from.number;
+    let mut hits = from.hits;
     while 64 * block + 64 < total {
         if hits != 0 {
             return first_in(block, hits, total);
@@ -397,7 +428,11 @@ fn scan_slots(
     let start = whole_blocks(from);
     fill_firsts(work, g, slots, count, &mut firsts);
     let hits = start_hits(work, g, root, slots, count, start);
-    let y = scan(work, g, root, slots, &firsts, start, hits, total);
+    let block = Block {
+        number: start,
+        hits,
+    };
+    let y = scan(work, g, root, slots, &firsts, block, total);
     if y < total {
         clear_front(work, free);
         put_bits(work, slots, count, y);
@@ -410,7 +445,8 @@ fn scan_slots(
     }
 }
 
-// The first hit of the root among the places of its support, with a budget of d places, none of which hits before place `from`. Where there is
+// The first hit of the root among the places of its support, with a budget of d places, none of which hits before place `from`. Where
+// there is
 // a first hit, its free bits are left at the front of working memory.
 pub fn first_hit(work: &mut [u32], g: Graph, root: Edge, from: u64, d: u64) -> Found
     requires { ⌜ Net (pairsOf (now work) g) (edgeWord root) (now work) g ⌝ }

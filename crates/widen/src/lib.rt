@@ -23,6 +23,12 @@ pub enum WidenAnswer {
     Refused(u32),
 }
 
+// A question about a circuit: where its parts stand, and what is asked.
+struct Instance {
+    layout: Layout,
+    q: Question,
+}
+
 // Whether a byte is a bit.
 fn is_bit(byte: u8) -> bool
     ensures { λ r. ⌜ r ≡ isBit byte ⌝ }
@@ -57,22 +63,24 @@ fn every_hit(
 // than 16. The completions that have the other bit decide. The answer is the number of x.
 fn widen_at(
     m: &[u32],
-    layout: Layout,
     order: &[u32],
-    q: Question,
+    w: Instance,
     i: usize,
     body: &mut [u8],
     values: &mut [u64],
     state: &mut [u64],
 ) -> usize
-    requires { ⌜ Ready (now m) layout (now order) (length (now values)) ⌝ }
-    requires { ⌜ (q .bad < word (now m) 5) × (1024 ≤ length (now state)) × (i < length (now body)) ⌝ }
-    requires { ⌜ Fits (circuitIn (now m)) (q .bad) (q .frames) (q .eithers) (now body) ⌝ }
-    requires { ⌜ T (allPass (shows (circuitIn (now m)) (q .bad)) (now body)) ⌝ }
+    requires { ⌜ Ready (now m) (w .layout) (now order) (length (now values)) ⌝ }
+    requires { ⌜ (w .q .bad < word (now m) 5) × (1024 ≤ length (now state)) × (i < length (now body)) ⌝ }
+    requires { ⌜ Fits (circuitIn (now m)) (w .q .bad) (w .q .frames) (w .q .eithers) (now body) ⌝ }
+    requires { ⌜ T (allPass (shows (circuitIn (now m)) (w .q .bad)) (now body)) ⌝ }
     ensures { λ r. ⌜
-        (now (body .exit) ≡ widenAt (shows (circuitIn (now (m .entry))) (q .bad)) (now (body .entry)) i) × (r ≡ eithers (now (body .exit)))
+        (now (body .exit) ≡ widenAt (shows (circuitIn (now (m .entry))) (w .q .bad)) (now (body .entry)) i)
+        × (r ≡ eithers (now (body .exit)))
         ⌝ }
 {
+    let layout = w.layout;
+    let q = w.q;
     let count = q.eithers;
     if 15 < count {
         return count;
@@ -93,23 +101,25 @@ fn widen_at(
 // Widens a body all of whose completions hit and obey the pins. A held input is passed over.
 fn widen_body(
     m: &[u32],
-    layout: Layout,
     order: &[u32],
-    q: Question,
+    w: Instance,
     own: &[u8],
     body: &mut [u8],
     values: &mut [u64],
     state: &mut [u64],
 )
-    requires { ⌜ Ready (now m) layout (now order) (length (now values)) ⌝ }
-    requires { ⌜ (q .bad < word (now m) 5) × (1024 ≤ length (now state)) ⌝ }
-    requires { ⌜ Fits (circuitIn (now m)) (q .bad) (q .frames) (q .eithers) (now body) ⌝ }
-    requires { ⌜ T (allPass (pinnedShows (circuitIn (now m)) (λ i. getD (now own) i 2) (q .bad)) (now body)) ⌝ }
+    requires { ⌜ Ready (now m) (w .layout) (now order) (length (now values)) ⌝ }
+    requires { ⌜ (w .q .bad < word (now m) 5) × (1024 ≤ length (now state)) ⌝ }
+    requires { ⌜ Fits (circuitIn (now m)) (w .q .bad) (w .q .frames) (w .q .eithers) (now body) ⌝ }
+    requires { ⌜ T (allPass (pinnedShows (circuitIn (now m)) (λ i. getD (now own) i 2) (w .q .bad)) (now body)) ⌝ }
     ensures { λ _. ⌜
         now (body .exit)
-        ≡ widenBelow (pinnedShows (circuitIn (now (m .entry))) (λ i. getD (now (own .entry)) i 2) (q .bad)) (now (body .entry)) (length (now (body .entry)))
+        ≡ widenBelow (pinnedShows (circuitIn (now (m .entry))) (λ i. getD (now (own .entry)) i 2) (w .q .bad)) (now (body .entry))
+        (length (now (body .entry)))
         ⌝ }
 {
+    let layout = w.layout;
+    let q = w.q;
     let bad = q.bad;
     let frames = q.frames;
     let rows = pinned_runs::rows_of(layout, frames);
@@ -123,7 +133,8 @@ fn widen_body(
                 frames,
                 eithers,
             };
-            eithers = widen_at(m, layout, order, next, i, body, values, state);
+            let at = Instance { layout, q: next };
+            eithers = widen_at(m, order, at, i, body, values, state);
         }
     }
 }
@@ -131,19 +142,23 @@ fn widen_body(
 // Widens a body where every completion hits and obeys the pins; else it stays.
 fn widen_hits(
     m: &[u32],
-    layout: Layout,
     order: &[u32],
-    q: Question,
+    w: Instance,
     own: &[u8],
     body: &mut [u8],
     values: &mut [u64],
     state: &mut [u64],
 )
-    requires { ⌜ Ready (now m) layout (now order) (length (now values)) ⌝ }
-    requires { ⌜ (q .bad < word (now m) 5) × (1024 ≤ length (now state)) ⌝ }
-    requires { ⌜ Fits (circuitIn (now m)) (q .bad) (q .frames) (q .eithers) (now body) ⌝ }
-    ensures { λ _. ⌜ now (body .exit) ≡ widened (pinnedShows (circuitIn (now (m .entry))) (λ i. getD (now (own .entry)) i 2) (q .bad)) (now (body .entry)) ⌝ }
+    requires { ⌜ Ready (now m) (w .layout) (now order) (length (now values)) ⌝ }
+    requires { ⌜ (w .q .bad < word (now m) 5) × (1024 ≤ length (now state)) ⌝ }
+    requires { ⌜ Fits (circuitIn (now m)) (w .q .bad) (w .q .frames) (w .q .eithers) (now body) ⌝ }
+    ensures { λ _. ⌜
+        now (body .exit) ≡ widened (pinnedShows (circuitIn (now (m .entry))) (λ i. getD (now (own .entry)) i 2) (w .q .bad))
+        (now (body .entry))
+        ⌝ }
 {
+    let layout = w.layout;
+    let q = w.q;
     let rows = pinned_runs::rows_of(layout, q.frames);
     if !pinned_runs::agree(rows, own, body, false) {
         return;
@@ -151,7 +166,7 @@ fn widen_hits(
     if !every_hit(m, layout, order, q, body, values, state) {
         return;
     }
-    widen_body(m, layout, order, q, own, body, values, state);
+    widen_body(m, order, w, own, body, values, state);
 }
 
 // The same, with memory of its own for the words.
@@ -159,35 +174,41 @@ fn widen_alone(m: &[u32], layout: Layout, order: &[u32], q: Question, own: &[u8]
     requires { ⌜ Ready (now m) layout (now order) 4097 ⌝ }
     requires { ⌜ q .bad < word (now m) 5 ⌝ }
     requires { ⌜ Fits (circuitIn (now m)) (q .bad) (q .frames) (q .eithers) (now body) ⌝ }
-    ensures { λ _. ⌜ now (body .exit) ≡ widened (pinnedShows (circuitIn (now (m .entry))) (λ i. getD (now (own .entry)) i 2) (q .bad)) (now (body .entry)) ⌝ }
+    ensures { λ _. ⌜
+        now (body .exit) ≡ widened (pinnedShows (circuitIn (now (m .entry))) (λ i. getD (now (own .entry)) i 2) (q .bad))
+        (now (body .entry))
+        ⌝ }
 {
     let mut values = [0u64; 4097];
     let mut state = [0u64; 1024];
-    widen_hits(m, layout, order, q, own, body, &mut values, &mut state);
+    let w = Instance { layout, q };
+    widen_hits(m, order, w, own, body, &mut values, &mut state);
 }
 
 // Copies a witness, whose body begins at `start`, to the front of out and widens the copy.
 fn widen_copy(
     m: &[u32],
-    layout: Layout,
     order: &[u32],
-    q: Question,
+    w: Instance,
     start: usize,
     own: &[u8],
     text: &[u8],
     out: &mut [u8],
 )
-    requires { ⌜ Ready (now m) layout (now order) 4097 ⌝ }
-    requires { ⌜ (q .bad < word (now m) 5) × (start ≤ length (now text)) × (length (now text) ≤ length (now out)) ⌝ }
-    requires { ⌜ Fits (circuitIn (now m)) (q .bad) (q .frames) (q .eithers) (drop start (now text)) ⌝ }
+    requires { ⌜ Ready (now m) (w .layout) (now order) 4097 ⌝ }
+    requires { ⌜ (w .q .bad < word (now m) 5) × (start ≤ length (now text)) × (length (now text) ≤ length (now out)) ⌝ }
+    requires { ⌜ Fits (circuitIn (now m)) (w .q .bad) (w .q .frames) (w .q .eithers) (drop start (now text)) ⌝ }
     ensures { λ _. ⌜
         now (out .exit)
         ≡ front
         (take start (now (text .entry))
-        ++ widened (pinnedShows (circuitIn (now (m .entry))) (λ i. getD (now (own .entry)) i 2) (q .bad)) (drop start (now (text .entry))))
+        ++ widened (pinnedShows (circuitIn (now (m .entry))) (λ i. getD (now (own .entry)) i 2) (w .q .bad))
+        (drop start (now (text .entry))))
         (now (out .entry))
         ⌝ }
 {
+    let layout = w.layout;
+    let q = w.q;
     let end = text.len();
     bytes::copy(text, out);
     widen_alone(m, layout, order, q, own, &mut out[start..end]);
@@ -196,7 +217,8 @@ fn widen_copy(
 // Widening under pins: own has a byte for each input, and an input without one is free.
 pub fn widen_under(m: &[u32], own: &[u8], text: &[u8], out: &mut [u8]) -> WidenAnswer
     ensures { λ r. ⌜
-        PinnedWidened (now (m .entry)) (λ i. getD (now (own .entry)) i 2) (now (text .entry)) (now (out .entry)) (answered r) (now (out .exit))
+        PinnedWidened (now (m .entry)) (λ i. getD (now (own .entry)) i 2) (now (text .entry)) (now (out .entry)) (answered r)
+        (now (out .exit))
         ⌝ }
 {
     let mut order = [0u32; 3072];
@@ -209,7 +231,8 @@ pub fn widen_under(m: &[u32], own: &[u8], text: &[u8], out: &mut [u8]) -> WidenA
             if out.len() < text.len() {
                 return WidenAnswer::Refused(13);
             }
-            widen_copy(m, layout, &order, q, start, own, text, out);
+            let w = Instance { layout, q };
+            widen_copy(m, &order, w, start, own, text, out);
             WidenAnswer::Length(text.len())
         }
     }

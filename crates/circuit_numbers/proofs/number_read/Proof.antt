@@ -21,21 +21,19 @@ array-borrow-prefix-waiting : tie.Need-array-borrow-prefix-waiting
 array-borrow-prefix-waiting c = search needs
 
 slice-aggregate-number-gates-2 : tie.Need-slice-aggregate-number-gates-2
-slice-aggregate-number-gates-2 c = let s = c .before .before .before .before .before .before .before .before in sym (part-length (length (s .args .vars .now)) (s .pre .0 .0 .few))
-
-slice-aggregate-number-gates-3 : tie.Need-slice-aggregate-number-gates-3
-slice-aggregate-number-gates-3 c = search needs
+slice-aggregate-number-gates-2 c = let s = c .before .before .before .before .before .before .before .before in sym
+    (part-length (length (s .args .vars .now)) (s .pre .0 .0 .few))
 
 number-gates-requires : tie.Need-number-gates-requires
 number-gates-requires c κs =
-    let s = c .before .before .before .before .before .before .before .before .before in
+    let s = c .before .before .before .before .before .before .before .before in
     let g = s .pre .0 .0 in (
       s .pre .0,
       (
         s .pre .1,
         (
           (omega (arith, g .pairs, g .few, length-replicate {A = ℕ} 10241 0), getD-zeros 10241),
-          (part-length (length (s .args .vars .now)) (g .few), omega (arith, g .few, length-replicate {A = ℕ} 48 0)),
+          part-length (length (s .args .vars .now)) (g .few),
         ),
       ),
     )
@@ -56,7 +54,6 @@ number-read-spec =
     slice-aggregate-number-gates
     array-borrow-prefix-waiting
     slice-aggregate-number-gates-2
-    slice-aggregate-number-gates-3
     number-gates-requires
     same-length
     same-length-2

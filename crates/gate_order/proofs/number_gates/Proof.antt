@@ -10,21 +10,18 @@ low h l = omega arith
 
 link-users-requires : tie.Need-link-users-requires
 link-users-requires c κs =
-    let s = c .before .before .before .before .before .before .before .before in
+    let s = c .before .before .before .before .before .before .before in
     let g = s .pre .0 .0 in
     ((λ j h. low (g .used j h) (s .pre .0 .2), s .pre .1 .1 .0 .0, s .pre .1 .1 .0 .1), omega (arith, g .pairs, g .few))
 
-start-waiting-requires : tie.Need-start-waiting-requires
-start-waiting-requires c κs = search needs
-
 take-gates-requires : tie.Need-take-gates-requires
 take-gates-requires c κs =
-    let s = c .before .before .before .before .before .before .before .before .before .before .before .before .before .before .before .before .before .before .before .before .before .before .before .before in
-    let u = c .before .before .before .before .before .before .before .before .before .before .before .before .before .before .before .link-users in (
+    let s = c .before .before .before .before .before .before .before .before .before .before .before .before .before .before in
+    let u = c .before .before .before .before .before .before .link-users in (
       (s .pre .0 .0, u .ensures, s .pre .0 .1),
       (
         (s .pre .0 .2, omega (arith, s .pre .1 .1 .0 .0, u .kept .1 .0), s .pre .1 .0 .0),
-        (s .pre .1 .0 .1, s .pre .1 .0 .2, c .before .before .before .before .before .before .before .before .before .start-waiting .ensures),
+        (s .pre .1 .0 .1, s .pre .1 .0 .2, s .pre .1 .1 .1),
       ),
     )
 
@@ -40,9 +37,6 @@ same-length-3 c = search needs
 same-length-4 : tie.Need-same-length-4
 same-length-4 c = search needs
 
-same-length-5 : tie.Need-same-length-5
-same-length-5 c = search needs
-
 returns : tie.Need-returns
 returns c = search needs
 
@@ -51,11 +45,9 @@ number-gates-spec =
     tie.close
     (tie.spec
     link-users-requires
-    start-waiting-requires
     take-gates-requires
     same-length
     same-length-2
     same-length-3
     same-length-4
-    same-length-5
     returns)

@@ -35,7 +35,8 @@ literal-word-requires c κs = search needs
 
 returns : tie.Need-returns
 unfolding bit
-returns c = λ q l t. kept (c .before .args .x / 2 ^ c .before .args .p % 2) (bit (c .before .args .x) q) (bit (c .literal-word .result) q) (c .literal-word .ensures q l) t
+returns c = λ q l t. kept (c .before .args .x / 2 ^ c .before .args .p % 2) (bit (c .before .args .x) q) (bit (c .literal-word .result) q)
+    (c .literal-word .ensures q l) t
 
 pub alike-spec : {M : Type 1} → statement M
 alike-spec = tie.close (tie.spec shr-literal-word literal-word-requires returns)

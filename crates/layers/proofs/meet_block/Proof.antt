@@ -1,24 +1,24 @@
 -- `layers::meet_block` meets its contract. Assumes nothing.
 use mathlib.Core.Path.{_≡_, refl, sym, ap, _∙_, subst}
-use mathlib.Core.Bool.{Bool, _&&_}
+use mathlib.Core.Bool.{Bool}
 use mathlib.Core.List.{List, map}
 use mathlib.Core.Option.{Option}
 use Prim.Native.Nat.{ℕ, _+_, _-_, _*_, _^_, _≤_, _<_, min}
 use native.Mathlib.Omega.{arith}
-use lib.ListN.{length, getD}
+use lib.ListN.{length, getD, take}
+use lib.Seq.{length-take-le, getD-take}
 use Rattle.aiger.specs.Bits.{bit}
 use Rattle.aiger.specs.Circuit.{Latch}
 use Rattle.aiger.specs.Frames.{value}
 use Rattle.layout.specs.Words.{word}
-use Rattle.words.proofs.Bits.{bit-all}
-use Rattle.frames.specs.Lanes.{lane, constrainedIn}
+use Rattle.frames.specs.Lanes.{lane}
 use Rattle.frames.proofs.Facts.{right, known, no-cycle, latches-inside, latches-few, latches-are, latch-place, next-below}
 use Rattle.frames.proofs.Places.{inputs-are}
 use Rattle.influence.specs.Part.{partIn}
 use Rattle.transitions.specs.Transitions.{numberOf, nextIn}
-use Rattle.transitions.proofs.Rows.{constrained-is, next-is}
+use Rattle.transitions.proofs.Rows.{constrained-is}
 use Rattle.layers.specs.Rows.{leading, RowsMet}
-use Rattle.layers.proofs.Rows.{rows-named, rows-lost, next-in}
+use Rattle.layers.proofs.Rows.{rows-named, rows-lost, next-in, next-of}
 use borrow.Author.Needs.{needs}
 use Rattle.layers.proofs.meet_block.Statement.{statement}
 use Rattle.layers.proofs.meet_block.Tie as tie
@@ -26,63 +26,150 @@ use Rattle.layers.proofs.meet_block.Tie as tie
 returns : tie.Need-returns
 returns c =
     λ b s closed v.
-    let a = c .before .before .before .before .before .before .before .before .args in
+    let a = c .before .before .before .before .before .before .args in
     let C = partIn (a .m .now) (a .kept .now) in
-    rows-lost (λ p. nextIn C s (a .block * 64 + p)) (a .quota) (a .count) (a .e) (64 * a .block) (min 64 (2 ^ length (C .circuit .inputs))) (a .records .now) (a .heads .now) (c .before .before .before .before .before .before .before .before .pre .1 .0) (omega (arith, c .if1 .taken))
+    rows-lost (λ p. nextIn C s (a .block .block * 64 + p)) (a .block .quota) (a .block .met) (a .block .e) (64 * a .block .block)
+    (min 64 (2 ^ length (C .circuit .inputs))) (a .records .now) (a .heads .now)
+    (c .before .before .before .before .before .before .pre .1 .0) (omega (arith, c .if1 .taken))
 
 lanes-requires : tie.Need-lanes-requires
-lanes-requires c κs = c .before .before .before .before .before .before .before .before .pre .1 .1 .2
+lanes-requires c κs = c .before .before .before .before .before .before .pre .1 .1 .1
 
-constrain-requires : tie.Need-constrain-requires
-constrain-requires c κs = c .before .before .before .before .before .before .before .before .before .pre .0
+mul-first : tie.Need-mul-first
+mul-first c = omega (arith, c .before .before .before .before .before .before .before .before .pre .1 .1 .2)
 
-next-state-requires : tie.Need-next-state-requires
-next-state-requires c κs = ((latches-inside (c .before .before .before .before .before .before .before .before .before .before .before .pre .0), omega (arith, latches-few (c .before .before .before .before .before .before .before .before .before .before .before .pre .0), c .before .before .before .before .before .before .before .before .before .before .before .pre .1 .1 .0)), next-below (c .before .before .before .before .before .before .before .before .before .before .before .pre .0))
+cast-first : tie.Need-cast-first
+cast-first c = omega (arith, c .before .before .before .before .before .before .before .before .pre .1 .1 .2)
 
-mul-meet-rows : tie.Need-mul-meet-rows
-mul-meet-rows c = omega (arith, c .before .before .before .before .before .before .before .before .before .before .before .before .before .before .before .pre .1 .1 .3)
+slice-aggregate-next-kept : tie.Need-slice-aggregate-next-kept
+slice-aggregate-next-kept c = search needs
 
-cast-meet-rows : tie.Need-cast-meet-rows
-cast-meet-rows c = omega (arith, c .before .before .before .before .before .before .before .before .before .before .before .before .before .before .before .pre .1 .1 .3)
+next-kept-requires : tie.Need-next-kept-requires
+next-kept-requires c κs =
+    let R = c .before .before .before .before .before .before .before .before .before .pre .0 .1 in (
+      (
+        latches-inside R,
+        latches-few R,
+        omega (
+          arith,
+          c .before .before .before .before .before .before .before .before .before .pre .1 .1
+              .0,
+        ),
+      ),
+      (
+        next-below R,
+        λ i l. omega (
+          arith,
+          latches-are R,
+          c .before .before .before .before .before .before .before .before .before .pre .1
+              .1 .3 .inside i l,
+        ),
+      ),
+    )
+
+array-share-prefix-state : tie.Need-array-share-prefix-state
+array-share-prefix-state c = omega (
+  arith,
+  c .before .before .before .before .before .before .before .before .before .before .before .pre
+      .1 .1 .0,
+)
+
+slice-aggregate-meet-rows : tie.Need-slice-aggregate-meet-rows
+slice-aggregate-meet-rows c =
+    sym (length-take-le (length (c .before .before .before .before .before .before .before .before .before .before .before .before .args
+    .kept .now)) (c .before .before .next-kept .last .1 .1 .1 .1 .0)
+    (omega (
+      arith,
+      c .before .before .next-kept .kept .1 .1 .1 .1 .0,
+      c .before .before .before .before .before .before .before .before .before .before .before .before .pre .1 .1 .0,
+    )))
 
 meet-rows-requires : tie.Need-meet-rows-requires
-meet-rows-requires c κs = (c .before .before .before .before .before .before .before .before .before .before .before .before .before .before .before .before .before .pre .1 .0, ((λ i l. omega (arith, c .before .before .before .before .before .next-state .kept .1 .1 .1 .0, c .before .before .before .before .before .before .before .before .before .before .before .before .before .before .before .before .before .pre .1 .1 .0, c .before .before .before .before .before .before .before .before .before .before .before .before .before .before .before .before .before .pre .1 .1 .4 .inside i l, latches-are (c .before .before .before .before .before .before .before .before .before .before .before .before .before .before .before .before .before .pre .0), latches-few (c .before .before .before .before .before .before .before .before .before .before .before .before .before .before .before .before .before .pre .0))), c .before .before .before .before .before .before .before .before .before .before .before .before .before .before .before .before .before .pre .1 .1 .1, omega (arith, c .before .before .before .before .before .before .before .before .lanes .ensures), omega (arith, c .before .before .before .before .before .before .before .before .before .before .before .before .before .before .before .before .before .pre .1 .1 .3)))
+meet-rows-requires c κs =
+    let e = length-take-le (length (c .before .before .before .before .before .before .before .before .before .before .before .before
+    .before .before .args .kept .now)) (c .before .before .before .before .next-kept .last .1 .1 .1 .1 .0)
+    (omega (
+      arith,
+      c .before .before .before .before .next-kept .kept .1 .1 .1 .1 .0,
+      c .before .before .before .before .before .before .before .before .before .before .before .before .before .before .pre .1 .1
+          .0,
+    )) in (
+      c .before .before .before .before .before .before .before .before .before .before .before .before .before .before .pre .1 .0,
+      (
+        omega (
+          arith,
+          e,
+          c .before .before .before .before .before .before .before .before .before .before .before .before .before
+              .before .pre .1 .1 .0,
+        ),
+        omega (arith, c .before .before .before .before .before .before .before .lanes .ensures),
+        omega (
+          arith,
+          c .before .before .before .before .before .before .before .before .before .before .before .before .before .before .pre .1
+              .1 .2,
+        ),
+      ),
+    )
 
 same-length : tie.Need-same-length
-same-length c = c .before .before .before .before .before .before .before .before .before .before .next-state .kept .1 .1 .1 .0
+same-length c = c .before .before .before .before .meet-rows .kept .1 .1 .1 .0
 
 same-length-2 : tie.Need-same-length-2
-same-length-2 c = c .before .before .before .before .meet-rows .kept .1 .1 .1 .1 .1 .1 .1 .0
-
-same-length-3 : tie.Need-same-length-3
-same-length-3 c = c .before .before .before .before .meet-rows .kept .1 .1 .1 .1 .1 .1 .1 .1 .0
+same-length-2 c = c .before .before .before .before .meet-rows .kept .1 .1 .1 .1 .0
 
 returns-2 : tie.Need-returns-2
 returns-2 c =
     λ b s closed v.
-    let a = c .before .before .before .before .before .before .before .before .before .before .before .before .before .before .before .before .before .before .before .before .before .before .args in
-    let R = c .before .before .before .before .before .before .before .before .before .before .before .before .before .before .before .before .before .before .before .before .before .before .pre .0 in
+    let a = c .before .before .before .before .before .before .before .before .before .before .before .before .before .before .before
+    .before .before .before .before .args in
+    let B = a .block in
+    let R = c .before .before .before .before .before .before .before .before .before .before .before .before .before .before .before
+    .before .before .before .before .pre .0 .1 in
     let C = partIn (a .m .now) (a .kept .now) in
-    let st = c .before .before .before .before .before .before .before .before .before .before .next-state .last .1 .1 .1 .0 in
-    let r = c .before .before .before .before .meet-rows .last .1 .1 .1 .1 .1 .1 .1 .0 in
-    let h = c .before .before .before .before .meet-rows .last .1 .1 .1 .1 .1 .1 .1 .1 .0 in
-    let left = c .before .before .before .before .before .before .before .before .before .before .before .before .constrain .result in
-    let f : ℕ → Option ℕ = leading left (λ p. numberOf (map (λ j. bit (getD st j 0) p) (a .kept .now))) in
-    let g : ℕ → Option ℕ = λ p. nextIn C s (a .block * 64 + p) in
-    let n = c .before .before .before .before .before .before .before .before .before .before .before .before .before .lanes .result in
-    let e : n ≡ min 64 (2 ^ length (C .circuit .inputs)) = c .before .before .before .before .before .before .before .before .before .before .before .before .before .lanes .ensures ∙ ap (λ (i : ℕ). min 64 (2 ^ i)) (inputs-are (R .held) (R .layout-of)) in
-    subst (λ (k : ℕ). RowsMet g (a .quota) (a .count) (a .e) (64 * a .block) k (a .records .now) (a .heads .now) (c .before .before .before .before .meet-rows .result) r h) e
-    (rows-named f g (a .quota) (a .count) (a .e) (64 * a .block) n (a .records .now) (a .heads .now) (c .before .before .before .before .meet-rows .result) r h
+    let ks = a .kept .now in
+    let whole = c .before .before .before .before .before .before .before .before .before .next-kept .last .1 .1 .1 .1 .0 in
+    let inside : length ks ≤ length whole = omega (
+      arith,
+      c .before .before .before .before .before .before .before .before .before
+          .next-kept .kept .1 .1 .1 .1 .0,
+      c .before .before .before .before .before .before .before .before .before .before .before .before
+          .before .before .before .before .before .before .before .pre .1 .1 .0,
+    ) in
+    let st = take (length ks) whole in
+    let r = c .before .before .before .before .meet-rows .last .1 .1 .1 .0 in
+    let h = c .before .before .before .before .meet-rows .last .1 .1 .1 .1 .0 in
+    let f : ℕ → Option ℕ = leading (B .allowed) (λ p. numberOf (map (λ w. bit w p) st)) in
+    let g : ℕ → Option ℕ = λ p. nextIn C s (B .block * 64 + p) in
+    let n = c .before .before .before .before .before .before .before .before .before .before .before .before .lanes .result in
+    let e : n ≡ min 64 (2 ^ length (C .circuit .inputs)) = c .before .before .before .before .before .before .before .before .before
+    .before .before .before .lanes .ensures ∙ ap (λ (i : ℕ). min 64 (2 ^ i)) (inputs-are (R .held) (R .layout-of)) in
+    subst (λ (k : ℕ). RowsMet g (B .quota) (B .met) (B .e) (64 * B .block) k (a .records .now) (a .heads .now)
+    (c .before .before .before .before .meet-rows .result) r h) e
+    (rows-named f g (B .quota) (B .met) (B .e) (64 * B .block) n (a .records .now) (a .heads .now)
+    (c .before .before .before .before .meet-rows .result) r h
     (λ p l.
-    let k : p < 64 = omega (arith, c .before .before .before .before .before .before .before .before .before .before .before .before .before .lanes .ensures) in
+    let k : p < 64 = omega (
+      arith,
+      c .before .before .before .before .before .before .before .before .before .before .before .before
+          .lanes .ensures,
+    ) in
     let w = lane (a .values .now) p in
-    next-in C s (a .block * 64 + p) (bit left p) (numberOf (map (λ j. bit (getD st j 0) p) (a .kept .now)))
-    (c .before .before .before .before .before .before .before .before .before .before .before .before .constrain .ensures p k ∙ ap (λ (q : Bool). q && constrainedIn (C .circuit) w) (bit-all 64 p k)
-    ∙ constrained-is C (closed .listed) (right (R .held)) (known (R .held)) (no-cycle (R .held)) b closed s (a .block * 64 + p) w (v p k))
-    (next-is C (closed .listed) (right (R .held)) (known (R .held)) (no-cycle (R .held)) b closed s (a .block * 64 + p) (lane (a .values .now) p) (v p k) st p
-    (λ j jl.
-    let jk : j < a .layout .l = omega (arith, latches-are R) in
-    c .before .before .before .before .before .before .before .before .before .before .next-state .ensures j jk p k ∙ ap (λ (x : Latch). value (lane (a .values .now) p) (x .next)) (sym (latch-place R j jk)))))
+    next-in C s (B .block * 64 + p) (bit (B .allowed) p) (numberOf (map (λ x. bit x p) st))
+    (c .before .before .before .before .before .before .before .before .before .before .before .before .before .before .before .before
+    .before .before .before .pre .1 .1 .4 p k ∙ constrained-is C (closed .listed) (right (R .held)) (known (R .held))
+    (no-cycle (R .held)) b closed s (B .block * 64 + p) w (v p k))
+    (next-of C (right (R .held)) (known (R .held)) (no-cycle (R .held)) b closed s (B .block * 64 + p) w (v p k) st p
+    (length-take-le (length ks) whole inside)
+    (λ i il.
+    let jk : getD ks i 0 < a .layout .l = omega (
+      arith,
+      latches-are R,
+      c .before .before .before .before .before .before .before .before .before .before .before .before .before .before .before .before
+          .before .before .before .pre .1 .1 .3 .inside i il,
+    ) in
+    ap (λ (x : ℕ). bit x p) (getD-take (length ks) whole i 0 il) ∙
+    c .before .before .before .before .before .before .before .before .before .next-kept .ensures i il p k
+    ∙ ap (λ (x : Latch). value w (x .next)) (sym (latch-place R (getD ks i 0) jk)))))
     (c .before .before .before .before .meet-rows .ensures))
 
 pub meet-block-spec : {M : Type 1} → statement M
@@ -91,12 +178,13 @@ meet-block-spec =
     (tie.spec
     returns
     lanes-requires
-    constrain-requires
-    next-state-requires
-    mul-meet-rows
-    cast-meet-rows
+    mul-first
+    cast-first
+    slice-aggregate-next-kept
+    next-kept-requires
+    array-share-prefix-state
+    slice-aggregate-meet-rows
     meet-rows-requires
     same-length
     same-length-2
-    same-length-3
     returns-2)

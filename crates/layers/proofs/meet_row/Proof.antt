@@ -3,7 +3,7 @@ use mathlib.Core.Path.{_≡_, refl, sym, ap, _∙_, subst}
 use mathlib.Core.Bool.{Bool, true, false, not, xor, _&&_}
 use mathlib.Core.List.{List, map}
 use mathlib.Core.Logic.{_⊎_, inl, inr, ⊎-elim}
-use Prim.Native.Nat.{ℕ, zero, suc, _/_, _%_, _^_, _<_}
+use Prim.Native.Nat.{ℕ, zero, suc, _+_, _/_, _%_, _^_, _<_}
 use native.Mathlib.Omega.{arith}
 use lib.Bits.{bitAnd}
 use lib.ListN.{length, getD, length-map}
@@ -33,7 +33,8 @@ cases true false e = inl e
 module _ (left same others : ℕ) (f : (q : ℕ) → q < 64 → bit others q ≡ xor true (bit same q)) where
   out : (q : ℕ) → q < 64 → bit (bitAnd left others) q ≡ false → (bit left q ≡ false) ⊎ (bit same q ≡ true)
   out q l e =
-      cases (bit left q) (bit same q) (ap (λ (x : Bool). bit left q && x) (sym (f q l ∙ xor-true (bit same q))) ∙ sym (bit-and left others q) ∙ e)
+      cases (bit left q) (bit same q) (ap (λ (x : Bool). bit left q && x) (sym (f q l ∙ xor-true (bit same q)))
+      ∙ sym (bit-and left others q) ∙ e)
 
 -- the bit of a row that is left
 nonzero-set : (n : ℕ) → (n ≡ 0 → ⊥) → nonzero n ≡ true
@@ -60,13 +61,20 @@ unfolding bit
 returns c = RowStep.skipped (ap nonzero (c .if1 .taken))
 
 pack-requires : tie.Need-pack-requires
-pack-requires c κs = (c .before .before .before .before .before .pre .1 .0, c .before .before .before .before .before .pre .1 .1, c .before .before .before .before .before .pre .1 .2)
+pack-requires c κs = (c .before .before .before .before .pre .1 .0, c .before .before .before .before .pre .1 .1)
 
 same-rows-requires : tie.Need-same-rows-requires
-same-rows-requires c κs = (c .before .before .before .before .before .before .pre .1 .0, c .before .before .before .before .before .before .pre .1 .1, c .before .before .before .before .before .before .pre .1 .2)
+same-rows-requires c κs = c .before .before .before .before .before .pre .1 .1
 
 literal-word-requires : tie.Need-literal-word-requires
 literal-word-requires c κs = tt
+
+add-meet : tie.Need-add-meet
+add-meet c = omega (
+  arith,
+  c .before .before .before .before .before .before .before .before .before .before .pre .1 .1,
+  c .before .before .before .before .before .before .before .before .before .before .pre .1 .2,
+)
 
 meet-requires : tie.Need-meet-requires
 meet-requires c κs = c .before .before .before .before .before .before .before .before .before .before .pre .0
@@ -79,14 +87,23 @@ same-length-2 c = c .before .before .before .before .meet .kept .1 .0
 
 returns-2 : tie.Need-returns-2
 returns-2 c =
-    let a = c .before .before .before .before .before .before .before .before .before .before .before .before .before .before .before .args in
+    let a = c .before .before .before .before .before .before .before .before .before .before .before .before .before .before .before
+    .args in
     let E = c .before .before .before .before .meet in
-    RowStep.taken (left-set (a .pending .left) (a .p) (c .before .before .before .before .before .before .before .before .before .before .if1 .left))
-    (subst (λ (s : ℕ). Meets (a .quota) (a .pending .met) s (a .e) (a .row) (a .records .now) (a .heads .now) (E .result) (E .last .0) (E .last .1 .0)) (c .before .before .before .before .before .before .before .before .before .pack .ensures) (E .ensures))
+    RowStep.taken (left-set (a .pending .left) (a .p) (c .before .before .before .before .before .before .before .before .before .before
+    .before .if1 .left))
+    (subst
+    (λ (s : ℕ).
+    Meets (a .span .quota) (a .pending .met) s (a .span .e) (a .span .first + a .p) (a .records .now) (a .heads .now) (E .result)
+    (E .last .0) (E .last .1 .0))
+    (c .before .before .before .before .before .before .before .before .before .before .pack .ensures) (E .ensures))
     (λ q l g. ⊎-elim (λ h. inl h)
-    (λ h. inr (ap numberOf (map-eq (λ j. bit (getD (a .state .now) j 0) q) (λ j. bit (getD (a .state .now) j 0) (a .p)) (a .kept .now) (c .before .before .before .before .before .before .before .before .same-rows .ensures q l h))))
-    (out (a .pending .left) (c .before .before .before .before .before .before .before .before .same-rows .result) (c .before .before .before .before .before .before .before .literal-word .result) (c .before .before .before .before .before .before .before .literal-word .ensures) q l g))
-    (λ q g. left-in (a .pending .left) (c .before .before .before .before .before .before .before .literal-word .result) q g)
+    (λ h. inr (ap numberOf (map-eq (λ w. bit w q) (λ w. bit w (a .p)) (a .state .now)
+    (c .before .before .before .before .before .before .before .before .before .same-rows .ensures q l h))))
+    (out (a .pending .left) (c .before .before .before .before .before .before .before .before .before .same-rows .result)
+    (c .before .before .before .before .before .before .before .before .literal-word .result)
+    (c .before .before .before .before .before .before .before .before .literal-word .ensures) q l g))
+    (λ q g. left-in (a .pending .left) (c .before .before .before .before .before .before .before .before .literal-word .result) q g)
 
 pub meet-row-spec : {M : Type 1} → statement M
 meet-row-spec =
@@ -97,6 +114,7 @@ meet-row-spec =
     pack-requires
     same-rows-requires
     literal-word-requires
+    add-meet
     meet-requires
     same-length
     same-length-2

@@ -1,4 +1,5 @@
--- `layers::meet_rows` meets its contract. The loop's invariant: the first p rows are met, and a row that is left out since leads where one of
+-- `layers::meet_rows` meets its contract. The loop's invariant: the first p rows are met, and a row that is left out since leads where
+-- one of
 -- them leads.
 -- Assumes nothing.
 use mathlib.Core.Path.{_≡_, refl, sym, ap, _∙_, subst}
@@ -14,47 +15,61 @@ use borrow.Author.Needs.{needs}
 use Rattle.layers.proofs.meet_rows.Statement.{statement}
 use Rattle.layers.proofs.meet_rows.Tie as tie
 
+abbrev numbers : List ℕ → ℕ → ℕ
+numbers state p = numberOf (map (λ w. bit w p) state)
+
 abbrev Inv-loop : tie.InvT-loop
-Inv-loop state kept n first e quota records₀ heads₀ pending₀ p₀ records heads pending p =
+Inv-loop state span records₀ heads₀ n pending₀ p₀ records heads pending p =
     (p ≤ n) × (length records ≡ length records₀) × (length heads ≡ length heads₀)
-    × Treated (pending₀ .left) (λ q. numberOf (map (λ j. bit (getD state j 0) q) kept)) quota (pending₀ .met) e first p records₀ heads₀ (pending .met) (pending .left) records heads
+    × Treated (pending₀ .left) (numbers state) (span .quota) (pending₀ .met) (span .e) (span .first) p records₀ heads₀ (pending .met)
+    (pending .left) records heads
 
 abbrev μ-loop : tie.MeasureT-loop
-μ-loop state kept n first e quota records₀ heads₀ pending₀ p₀ records heads pending p = n - p
-
-abbrev numbers : List ℕ → List ℕ → ℕ → ℕ
-numbers state kept p = numberOf (map (λ j. bit (getD state j 0) p) kept)
+μ-loop state span records₀ heads₀ n pending₀ p₀ records heads pending p = n - p
 
 loop-holds : tie.Need-loop-holds Inv-loop μ-loop
 loop-holds c =
-    let a = c .before .before .before .before .args in (
+    let a = c .before .before .before .args in (
       omega arith,
       refl,
       refl,
-      treated-none (a .start .left) (numbers (a .state .now) (a .kept .now)) (a .quota) (a .start .met) (a .e) (a .first) (a .records .now) (a .heads .now) (c .before .before .before .before .pre .0),
+      treated-none (a .start .left) (numbers (a .state .now)) (a .span .quota) (a .start .met) (a .span .e) (a .span .first)
+          (a .records .now)
+          (a .heads .now) (c .before .before .before .pre .0),
     )
 
-add-meet-row : tie.Need-add-meet-row Inv-loop μ-loop
-add-meet-row c = omega (arith, c .before .before .before .before .before .before .pre .1 .3, c .before .before .before .before .before .before .pre .1 .2)
-
 meet-row-requires : tie.Need-meet-row-requires Inv-loop μ-loop
-meet-row-requires c κs = (c .before .before .before .loop .inv .3 .rows .fits, (c .before .before .before .before .before .before .before .before .pre .1 .0, c .before .before .before .before .before .before .before .before .pre .1 .1, omega (arith, c .before .before .before .before .before .before .before .before .pre .1 .2)))
+meet-row-requires c κs = (
+  c .before .before .before .loop .inv .3 .rows .fits,
+  (
+    c .before .before .before .before .before .before .before .pre .1 .0,
+    omega
+        (arith, c .before .before .before .before .before .before .before .pre .1 .1),
+    c .before .before .before .before .before .before .before .pre .1 .2,
+  ),
+)
 
 add-p : tie.Need-add-p Inv-loop μ-loop
-add-p c = omega (arith, c .before .before .before .before .before .before .before .before .before .before .before .before .before .pre .1 .2)
+add-p c = omega (arith, c .before .before .before .before .before .before .before .before .before .before .before .before .pre .1 .1)
 
 loop-less : tie.Need-loop-less Inv-loop μ-loop
 loop-less c = omega arith
 
 loop-again : tie.Need-loop-again Inv-loop μ-loop
 loop-again c =
-    let a = c .before .before .before .before .before .before .before .before .before .before .before .before .before .args in
+    let a = c .before .before .before .before .before .before .before .before .before .before .before .before .args in
     let L = c .before .before .before .before .before .before .before .before .loop in
     let E = c .before .before .before .before .meet-row in (
       omega arith,
-      E .kept .1 .1 .1 .1 .1 .1 .1 .0 ∙ L .inv .1,
-      E .kept .1 .1 .1 .1 .1 .1 .1 .1 .0 ∙ L .inv .2,
-      treated-more (a .start .left) (numbers (a .state .now) (a .kept .now)) (a .quota) (a .start .met) (a .e) (a .first) (L .p) (a .records .now) (a .heads .now) (omega (arith, c .before .before .before .before .before .before .before .before .before .before .before .before .before .pre .1 .2)) (L .inv .3) (E .ensures),
+      E .kept .1 .1 .1 .1 .0 ∙ L .inv .1,
+      E .kept .1 .1 .1 .1 .1 .0 ∙ L .inv .2,
+      treated-more (a .start .left) (numbers (a .state .now)) (a .span .quota) (a .start .met) (a .span .e) (a .span .first) (L .p)
+          (a .records .now)
+          (a .heads .now) (omega (
+            arith,
+            c .before .before .before .before .before .before .before .before .before .before .before .before
+                .pre .1 .1,
+          )) (L .inv .3) (E .ensures),
     )
 
 same-length : tie.Need-same-length Inv-loop μ-loop
@@ -65,10 +80,14 @@ same-length-2 c = c .before .loop .inv .2
 
 returns : tie.Need-returns Inv-loop μ-loop
 returns c =
-    let a = c .before .before .before .before .before .before .args in
+    let a = c .before .before .before .before .before .args in
     let L = c .before .loop in
-    let e : L .p ≡ a .n = omega arith in
-    subst (λ (n : ℕ). RowsMet (leading (a .start .left) (numbers (a .state .now) (a .kept .now))) (a .quota) (a .start .met) (a .e) (a .first) n (a .records .now) (a .heads .now) (L .pending .met) (L .records) (L .heads)) e (L .inv .3 .rows)
+    let e : L .p ≡ a .span .n = omega arith in
+    subst
+    (λ (n : ℕ).
+    RowsMet (leading (a .start .left) (numbers (a .state .now))) (a .span .quota) (a .start .met) (a .span .e) (a .span .first) n
+    (a .records .now)
+    (a .heads .now) (L .pending .met) (L .records) (L .heads)) e (L .inv .3 .rows)
 
 pub meet-rows-spec : {M : Type 1} → statement M
 meet-rows-spec =
@@ -77,7 +96,6 @@ meet-rows-spec =
     Inv-loop
     μ-loop
     loop-holds
-    add-meet-row
     meet-row-requires
     add-p
     loop-less

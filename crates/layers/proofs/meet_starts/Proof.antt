@@ -10,16 +10,23 @@ use Rattle.layers.proofs.meet_starts.Statement.{statement}
 use Rattle.layers.proofs.meet_starts.Tie as tie
 
 abbrev Inv-loop : tie.InvT-loop
-Inv-loop m layout starts quota records₀ heads₀ kept state₀ met₀ y₀ records heads state met y =
-    (y ≤ starts) × (length records ≡ length records₀) × (length heads ≡ length heads₀) × (length state ≡ length state₀) × Beginning (partIn m kept) quota records₀ heads₀ y met records heads
+Inv-loop m layout records₀ heads₀ kept state₀ count quota met₀ y₀ records heads state met y =
+    (y ≤ count) × (length records ≡ length records₀) × (length heads ≡ length heads₀) × (length state ≡ length state₀)
+    × Beginning (partIn m kept) quota records₀ heads₀ y met records heads
 
 abbrev μ-loop : tie.MeasureT-loop
-μ-loop m layout starts quota records₀ heads₀ kept state₀ met₀ y₀ records heads state met y = starts - y
+μ-loop m layout records₀ heads₀ kept state₀ count quota met₀ y₀ records heads state met y = count - y
 
 loop-holds : tie.Need-loop-holds Inv-loop μ-loop
 loop-holds c =
-    let a = c .before .before .before .before .before .args in
-    (omega arith, refl, refl, refl, beginning-start (partIn (a .m .now) (a .kept .now)) (a .quota) (a .records .now) (a .heads .now) (c .before .before .before .before .before .pre .1 .1 .2))
+    let a = c .before .before .before .before .before .args in (
+      omega arith,
+      refl,
+      refl,
+      refl,
+      beginning-start (partIn (a .m .now) (a .kept .now)) (a .starts .quota) (a .records .now)
+          (a .heads .now) (c .before .before .before .before .before .pre .1 .1 .2),
+    )
 
 same-length : tie.Need-same-length Inv-loop μ-loop
 same-length c = c .before .before .loop .inv .1
@@ -34,33 +41,61 @@ returns : tie.Need-returns Inv-loop μ-loop
 returns c =
     let a = c .before .before .before .before .before .before .before .before .args in
     let L = c .before .before .loop in
-    beginning-lost (partIn (a .m .now) (a .kept .now)) (a .quota) (a .records .now) (a .heads .now) (L .inv .4) (omega (arith, c .if1 .taken)) (a .starts) (L .inv .0) .holds
+    beginning-lost (partIn (a .m .now) (a .kept .now)) (a .starts .quota) (a .records .now) (a .heads .now) (L .inv .4)
+    (omega (arith, c .if1 .taken)) (a .starts .count) (L .inv .0) .holds
 
 start-number-requires : tie.Need-start-number-requires Inv-loop μ-loop
-start-number-requires c κs = (c .before .before .before .before .before .before .before .before .before .pre .0, (c .before .before .before .before .before .before .before .before .before .pre .1 .0, (c .before .before .before .before .before .before .before .before .before .pre .1 .1 .0, omega (arith, c .before .before .before .loop .inv .3, c .before .before .before .before .before .before .before .before .before .pre .1 .1 .3), c .before .before .before .before .before .before .before .before .before .pre .1 .1 .4, c .before .before .before .before .before .before .before .before .before .pre .1 .1 .5)))
+start-number-requires c κs = (
+  c .before .before .before .before .before .before .before .before .before .pre .0,
+  (
+    c .before .before .before .before .before .before .before .before .before .pre .1 .0,
+    (
+      c .before .before .before .before .before .before .before .before .before .pre .1 .1 .0,
+      omega (
+        arith,
+        c .before .before .before .loop .inv .3,
+        c .before .before .before .before .before .before .before .before .before .pre .1 .1
+            .3,
+      ),
+      c .before .before .before .before .before .before .before .before .before .pre .1 .1 .4,
+      c .before .before .before .before .before .before .before .before .before .pre .1 .1 .5,
+    ),
+  ),
+)
 
 cast-meet : tie.Need-cast-meet Inv-loop μ-loop
-cast-meet c = omega (arith, c .before .before .before .before .before .before .before .before .before .before .before .before .before .before .pre .1 .1 .1)
+cast-meet c = omega (
+  arith,
+  c .before .before .before .before .before .before .before .before .before .before .before .before .before
+      .before .pre .1 .1 .1,
+)
 
 meet-requires : tie.Need-meet-requires Inv-loop μ-loop
 meet-requires c κs = c .before .before .before .before .before .before .before .before .loop .inv .4 .fits
 
 add-y : tie.Need-add-y Inv-loop μ-loop
-add-y c = omega (arith, c .before .before .before .before .before .before .before .before .before .before .before .before .before .before .before .before .before .before .before .pre .1 .1 .1)
+add-y c = omega (
+  arith,
+  c .before .before .before .before .before .before .before .before .before .before .before .before .before .before
+      .before .before .before .before .before .pre .1 .1 .1,
+)
 
 loop-less : tie.Need-loop-less Inv-loop μ-loop
 loop-less c = omega arith
 
 loop-again : tie.Need-loop-again Inv-loop μ-loop
 loop-again c =
-    let a = c .before .before .before .before .before .before .before .before .before .before .before .before .before .before .before .before .before .before .before .args in
+    let a = c .before .before .before .before .before .before .before .before .before .before .before .before .before .before .before
+    .before .before .before .before .args in
     let L = c .before .before .before .before .before .before .before .before .before .before .before .before .before .loop in
     let E = c .before .before .before .before .meet in (
       omega arith,
       E .kept .0 ∙ L .inv .1,
       E .kept .1 .0 ∙ L .inv .2,
       c .before .before .before .before .before .before .before .before .before .start-number .kept .1 .1 .1 .1 .0 ∙ L .inv .3,
-      beginning-more (partIn (a .m .now) (a .kept .now)) (a .quota) (a .records .now) (a .heads .now) (L .inv .4) (c .before .before .before .before .before .before .before .before .before .start-number .result) (c .before .before .before .before .before .before .before .before .before .start-number .ensures) (E .ensures),
+      beginning-more (partIn (a .m .now) (a .kept .now)) (a .starts .quota) (a .records .now) (a .heads .now) (L .inv .4)
+          (c .before .before .before .before .before .before .before .before .before .start-number .result)
+          (c .before .before .before .before .before .before .before .before .before .start-number .ensures) (E .ensures),
     )
 
 same-length-4 : tie.Need-same-length-4 Inv-loop μ-loop
@@ -76,8 +111,9 @@ returns-2 : tie.Need-returns-2 Inv-loop μ-loop
 returns-2 c =
     let a = c .before .before .before .before .before .before .before .args in
     let L = c .before .loop in
-    let e : L .y ≡ a .starts = omega arith in
-    subst (λ (n : ℕ). Beginning (partIn (a .m .now) (a .kept .now)) (a .quota) (a .records .now) (a .heads .now) n (L .met) (L .records) (L .heads)) e (L .inv .4) .holds
+    let e : L .y ≡ a .starts .count = omega arith in
+    subst (λ (n : ℕ). Beginning (partIn (a .m .now) (a .kept .now)) (a .starts .quota) (a .records .now) (a .heads .now) n (L .met)
+    (L .records) (L .heads)) e (L .inv .4) .holds
 
 pub meet-starts-spec : {M : Type 1} → statement M
 meet-starts-spec =

@@ -16,47 +16,39 @@ both true b e = (refl, e)
 both false b e = absurd (let z : _≡_ {A = ℕ} 0 1 = cc in omega arith)
 
 abbrev Inv-loop : tie.InvT-loop
-Inv-loop state kept p same₀ count i₀ same i = (i ≤ length kept) × ((q : ℕ) → q < 64 → bit same q ≡ true → (k : ℕ) → k < i → bit (getD state (getD kept k 0) 0) q ≡ bit (getD state (getD kept k 0) 0) p)
+Inv-loop state p same₀ count i₀ same i =
+    (i ≤ length state) × ((q : ℕ) → q < 64 → bit same q ≡ true → (k : ℕ) → k < i → bit (getD state k 0) q ≡ bit (getD state k 0) p)
 
 abbrev μ-loop : tie.MeasureT-loop
-μ-loop state kept p same₀ count i₀ same i = length kept - i
+μ-loop state p same₀ count i₀ same i = length state - i
 
 loop-holds : tie.Need-loop-holds Inv-loop μ-loop
 loop-holds c = (omega arith, λ q l t i h. absurd (omega arith))
 
 mul-alike : tie.Need-mul-alike Inv-loop μ-loop
-mul-alike c = omega (arith, c .before .before .before .before .pre .0 (c .before .loop .i) (omega arith), c .before .before .before .before .pre .1)
+mul-alike c = omega arith
 
 shared-slice-read-alike : tie.Need-shared-slice-read-alike Inv-loop μ-loop
-shared-slice-read-alike c = omega (arith, c .before .before .before .before .before .pre .0 (c .before .before .loop .i) (omega arith), c .before .before .before .before .before .pre .1)
-
-cast-alike : tie.Need-cast-alike Inv-loop μ-loop
-cast-alike c = omega (arith, c .before .before .before .before .before .pre .0 (c .before .before .loop .i) (omega arith), c .before .before .before .before .before .pre .1)
-
-mul-alike-2 : tie.Need-mul-alike-2 Inv-loop μ-loop
-mul-alike-2 c = omega (arith, c .before .before .before .before .before .pre .0 (c .before .before .loop .i) (omega arith), c .before .before .before .before .before .pre .1)
-
-shared-slice-read-alike-2 : tie.Need-shared-slice-read-alike-2 Inv-loop μ-loop
-shared-slice-read-alike-2 c = omega (arith, c .before .before .before .before .before .before .pre .0 (c .before .before .before .loop .i) (omega arith), c .before .before .before .before .before .before .pre .1)
+shared-slice-read-alike c = omega arith
 
 alike-requires : tie.Need-alike-requires Inv-loop μ-loop
-alike-requires c κs = c .before .before .before .before .before .before .pre .2
+alike-requires c κs = c .before .before .before .before .pre
 
 add-i : tie.Need-add-i Inv-loop μ-loop
-add-i c = omega (arith, c .before .before .before .before .before .before .before .pre .0 (c .before .before .before .before .loop .i) (omega arith), c .before .before .before .before .before .before .before .pre .1)
+add-i c = omega arith
 
 loop-less : tie.Need-loop-less Inv-loop μ-loop
 loop-less c = omega arith
 
 loop-again : tie.Need-loop-again Inv-loop μ-loop
 loop-again c =
-    let L = c .before .before .before .before .loop in
-    let s = c .before .before .before .before .before .before .before .args .state .now in
-    let ks = c .before .before .before .before .before .before .before .args .kept .now in (
+    let L = c .before .before .before .loop in
+    let s = c .before .before .before .before .before .args .state .now in (
       omega arith,
       λ q l t.
           let t2 = both (bit (L .same) q) (bit (c .alike .result) q) (sym (bit-and (L .same) (c .alike .result) q) ∙ t) in
-          below-more (λ k. bit (getD s (getD ks k 0) 0) q ≡ bit (getD s (getD ks k 0) 0) (c .before .before .before .before .before .before .before .args .p)) (L .i) (L .inv .1 q l (t2 .0)) (c .alike .ensures q l (t2 .1)),
+          below-more (λ k. bit (getD s k 0) q ≡ bit (getD s k 0) (c .before .before .before .before .before .args .p)) (L .i)
+          (L .inv .1 q l (t2 .0)) (c .alike .ensures q l (t2 .1)),
     )
 
 returns : tie.Need-returns Inv-loop μ-loop
@@ -71,9 +63,6 @@ same-rows-spec =
     loop-holds
     mul-alike
     shared-slice-read-alike
-    cast-alike
-    mul-alike-2
-    shared-slice-read-alike-2
     alike-requires
     add-i
     loop-less

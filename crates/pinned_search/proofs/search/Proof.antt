@@ -48,10 +48,10 @@ search-known-requires c κs = let r = c .before .before .before in
     record { held = h .1; layout-of = h .0; user-of = omega arith; tests = r .refusal .ensures _ (counts-of (h .1) (h .0)) ∙ told-passed (r .refusal .result) (omega arith) }
 
 same-length : tie.Need-same-length
-same-length c = c .before .before .before .before .search-known .kept .1 .1 .1 .1 .1 .1 .1 .0
+same-length c = c .before .before .before .before .search-known .kept .1 .1 .1 .1 .1 .0
 
 same-length-2 : tie.Need-same-length-2
-same-length-2 c = c .before .before .before .before .search-known .kept .1 .1 .1 .1 .1 .1 .1 .1 .0
+same-length-2 c = c .before .before .before .before .search-known .kept .1 .1 .1 .1 .1 .1 .0
 
 returns-4 : tie.Need-returns-4
 returns-4 c = let r = c .before .before .before .before .before .before .before .before in

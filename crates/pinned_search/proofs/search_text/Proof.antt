@@ -35,8 +35,11 @@ same-length-2 : tie.Need-same-length-2
 same-length-2 c = c .before .before .before .before .search .kept .1 .1 .1 .1 .1 .0
 
 returns : tie.Need-returns
-returns c = let s = c .before .before .before .before .before .before .before .before .before .before .before .before .before .before .before .before .before in
-    text-is (s .pre) (pinsOf (s .args .pins .now) (s .args .user)) refl (fits-output (s .pre)) (c .before .before .before .before .before .before .before .before .before .before .pin-circuit .ensures) (c .before .before .before .before .search .ensures)
+returns c = let s = c .before .before .before .before .before .before .before .before .before .before .before .before .before .before
+    .before .before .before in
+    text-is (s .pre) (pinsOf (s .args .pins .now) (s .args .user)) refl (fits-output (s .pre))
+    (c .before .before .before .before .before .before .before .before .before .before .pin-circuit .ensures)
+    (c .before .before .before .before .search .ensures)
 
 pub search-text-spec : {M : Type 1} → statement M
 search-text-spec =

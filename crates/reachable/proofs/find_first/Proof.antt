@@ -14,17 +14,30 @@ slice-aggregate-ask-frames c = search needs
 slice-aggregate-ask-frames-2 : tie.Need-slice-aggregate-ask-frames-2
 slice-aggregate-ask-frames-2 c = search needs
 
-slice-aggregate-ask-frames-3 : tie.Need-slice-aggregate-ask-frames-3
-slice-aggregate-ask-frames-3 c = search needs
-
 ask-frames-requires : tie.Need-ask-frames-requires
-ask-frames-requires c κs = (c .before .before .before .before .before .before .before .before .pre .0, ((c .before .before .before .before .before .before .before .before .pre .1 .0 .0, omega arith, c .before .before .before .before .before .before .before .before .pre .1 .0 .1, c .before .before .before .before .before .before .before .before .pre .1 .0 .2, c .before .before .before .before .before .before .before .before .pre .1 .0 .3), (c .before .before .before .before .before .before .before .before .pre .1 .1 .0, c .before .before .before .before .before .before .before .before .pre .1 .1 .1, omega arith, λ h l. getD-replicate 4096 h 0 0 l)))
+ask-frames-requires c κs = (
+  c .before .before .before .before .before .before .before .pre .0,
+  (
+    (
+      c .before .before .before .before .before .before .before .pre .1 .0 .0,
+      c .before .before .before .before .before .before .before .pre .1 .0 .1,
+      c .before .before .before .before .before .before .before .pre .1 .0 .2,
+      c .before .before .before .before .before .before .before .pre .1 .0 .3,
+    ),
+    (
+      c .before .before .before .before .before .before .before .pre .1 .1 .0,
+      c .before .before .before .before .before .before .before .pre .1 .1 .1,
+      omega arith,
+      λ h l. getD-replicate 4096 h 0 0 l,
+    ),
+  ),
+)
 
 same-length : tie.Need-same-length
-same-length c = c .before .before .before .before .before .ask-frames .kept .1 .1 .1 .1 .1 .0
+same-length c = c .before .before .before .before .ask-frames .kept .1 .1 .1 .0
 
 returns : tie.Need-returns
-returns c = c .before .before .before .before .before .ask-frames .ensures
+returns c = c .before .before .before .before .ask-frames .ensures
 
 pub find-first-spec : {M : Type 1} → statement M
 find-first-spec =
@@ -32,7 +45,6 @@ find-first-spec =
     (tie.spec
     slice-aggregate-ask-frames
     slice-aggregate-ask-frames-2
-    slice-aggregate-ask-frames-3
     ask-frames-requires
     same-length
     returns)

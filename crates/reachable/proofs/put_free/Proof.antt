@@ -16,7 +16,25 @@ slice-aggregate-walk : tie.Need-slice-aggregate-walk
 slice-aggregate-walk c = search needs
 
 walk-requires : tie.Need-walk-requires
-walk-requires c κs = ((c .before .before .before .pre .0 .0, omega arith, omega (arith, c .before .before .before .pre .0 .1, pow-mono {i = c .before .before .before .args .width} {j = 16} (c .before .before .before .pre .0 .3)), c .before .before .before .pre .0 .4), (2 ^ c .before .before .before .args .width, c .before .before .before .pre .1 .0, c .before .before .before .pre .0 .1, c .before .before .before .pre .1 .1))
+walk-requires c κs = (
+  (
+    c .before .before .before .pre .0 .0,
+    omega arith,
+    omega (
+      arith,
+      c .before .before .before .pre .0 .1,
+      pow-mono {i = c .before .before .before .args .width} {j = 16}
+          (c .before .before .before .pre .0 .3),
+    ),
+    c .before .before .before .pre .0 .4,
+  ),
+  (
+    2 ^ c .before .before .before .args .width,
+    c .before .before .before .pre .1 .0,
+    c .before .before .before .pre .0 .1,
+    c .before .before .before .pre .1 .1,
+  ),
+)
 
 slice-aggregate-put-trace : tie.Need-slice-aggregate-put-trace
 slice-aggregate-put-trace c = search needs
@@ -25,19 +43,48 @@ add-put-trace : tie.Need-add-put-trace
 add-put-trace c = omega (arith, c .before .before .before .before .before .before .pre .0 .0)
 
 mul-put-trace : tie.Need-mul-put-trace
-mul-put-trace c = omega (arith, few (c .before .before .before .before .before .before .args .free) (c .before .before .before .before .before .before .args .width) (c .before .before .before .before .before .before .args .t) (c .before .before .before .before .before .before .pre .0 .0), c .before .before .before .before .before .before .pre .0 .3, c .before .before .before .before .before .before .pre .0 .2)
+mul-put-trace c = omega (
+  arith,
+  few (c .before .before .before .before .before .before .args .free)
+      (c .before .before .before .before .before .before .args .width) (c .before .before .before .before .before .before .args .t)
+      (c .before .before .before .before .before .before .pre .0 .0),
+  c .before .before .before .before .before .before .pre .0 .3,
+  c .before .before .before .before .before .before .pre .0 .2,
+)
 
 add-put-trace-2 : tie.Need-add-put-trace-2
-add-put-trace-2 c = omega (arith, few (c .before .before .before .before .before .before .args .free) (c .before .before .before .before .before .before .args .width) (c .before .before .before .before .before .before .args .t) (c .before .before .before .before .before .before .pre .0 .0), c .before .before .before .before .before .before .pre .0 .3, c .before .before .before .before .before .before .pre .0 .2)
+add-put-trace-2 c = omega (
+  arith,
+  few (c .before .before .before .before .before .before .args .free)
+      (c .before .before .before .before .before .before .args .width) (c .before .before .before .before .before .before .args .t)
+      (c .before .before .before .before .before .before .pre .0 .0),
+  c .before .before .before .before .before .before .pre .0 .3,
+  c .before .before .before .before .before .before .pre .0 .2,
+)
 
 put-trace-requires : tie.Need-put-trace-requires
-put-trace-requires c κs = (omega (arith, c .before .before .before .walk .kept .1 .1 .1 .1 .0), c .before .before .before .before .before .before .before .pre .0 .2, c .before .before .before .before .before .before .before .pre .0 .3, few (c .before .before .before .before .before .before .before .args .free) (c .before .before .before .before .before .before .before .args .width) (c .before .before .before .before .before .before .before .args .t) (c .before .before .before .before .before .before .before .pre .0 .0), c .before .before .before .before .before .before .before .pre .0 .5)
+put-trace-requires c κs = (
+  omega (arith, c .before .before .before .walk .kept .1 .1 .1 .1 .0),
+  c .before .before .before .before .before .before .before .pre .0 .2,
+  c .before .before .before .before .before .before .before .pre .0 .3,
+  few
+      (c .before .before .before .before .before .before .before .args .free)
+      (c .before .before .before .before .before .before .before .args .width)
+      (c .before .before .before .before .before .before .before .args .t)
+      (c .before .before .before .before .before .before .before .pre .0 .0),
+  c .before .before .before .before .before .before .before .pre .0 .5,
+)
 
 same-length : tie.Need-same-length
 same-length c = c .before .before .put-trace .kept .1 .1 .1 .1 .0
 
 returns : tie.Need-returns
-returns c = λ y h. c .before .before .put-trace .ensures (c .before .before .before .before .before .before .before .before .before .before .args .t) (y * 2 ^ c .before .before .before .before .before .before .before .before .before .before .args .width + c .before .before .before .before .before .before .before .before .before .before .args .row) (c .before .before .before .before .before .before .walk .ensures (2 ^ c .before .before .before .before .before .before .before .before .before .before .args .width) y h (c .before .before .before .before .before .before .before .before .before .before .pre .0 .1)) refl
+returns c = λ y h. c .before .before .put-trace .ensures (c .before .before .before .before .before .before .before .before .before
+    .before .args .t) (y * 2 ^ c .before .before .before .before .before .before .before .before .before .before .args .width +
+    c .before .before .before .before .before .before .before .before .before .before .args .row)
+    (c .before .before .before .before .before .before .walk .ensures
+    (2 ^ c .before .before .before .before .before .before .before .before .before .before .args .width) y h
+    (c .before .before .before .before .before .before .before .before .before .before .pre .0 .1)) refl
 
 pub put-free-spec : {M : Type 1} → statement M
 put-free-spec =

@@ -20,12 +20,24 @@ kept-latches-requires : tie.Need-kept-latches-requires
 kept-latches-requires c κs = (c .before .before .before .before .pre .0, (c .before .before .before .before .pre .1 .0 .0, omega arith))
 
 array-share-prefix-table : tie.Need-array-share-prefix-table
-array-share-prefix-table c = omega (arith, c .before .before .kept-latches .ensures .0, latches-few (c .before .before .before .before .before .before .before .pre .0 .held) (c .before .before .before .before .before .before .before .pre .0 .layout-of))
+array-share-prefix-table c = omega (
+  arith,
+  c .before .before .kept-latches .ensures .0,
+  latches-few
+      (c .before .before .before .before .before .before .before .pre .0 .held)
+      (c .before .before .before .before .before .before .before .pre .0 .layout-of),
+)
 
 slice-aggregate-search-part : tie.Need-slice-aggregate-search-part
 slice-aggregate-search-part c =
     let w = c .before .before .before .kept-latches in
-    sym (length-take-le (w .result) (w .last .1 .1 .1 .1 .0) (omega (arith, w .kept .1 .1 .1 .1 .0, w .ensures .0, latches-few (c .before .before .before .before .before .before .before .before .pre .0 .held) (c .before .before .before .before .before .before .before .before .pre .0 .layout-of))))
+    sym (length-take-le (w .result) (w .last .1 .1 .1 .1 .0) (omega (
+      arith,
+      w .kept .1 .1 .1 .1 .0,
+      w .ensures .0,
+      latches-few (c .before .before .before .before .before .before .before .before .pre
+          .0 .held) (c .before .before .before .before .before .before .before .before .pre .0 .layout-of),
+    )))
 
 search-part-requires : tie.Need-search-part-requires
 search-part-requires c κs = (
@@ -34,7 +46,11 @@ search-part-requires c κs = (
     (
       c .before .before .before .before .before .before .before .before .pre .1 .0 .0,
       c .before .before .before .before .before .before .before .before .pre .1 .0 .1,
-      subst (λ (ks : List ℕ). Closed (partIn (c .before .before .before .before .before .before .before .before .args .m .now) ks) (c .before .before .before .before .before .before .before .before .args .b)) (sym (c .before .before .before .kept-latches .ensures .1)) (part-closed (circuitIn (c .before .before .before .before .before .before .before .before .args .m .now)) (c .before .before .before .before .before .before .before .before .args .b)),
+      subst (λ (ks : List ℕ). Closed (partIn (c .before .before .before .before .before .before .before .before .args .m .now) ks)
+          (c .before .before .before .before .before .before .before .before .args .b))
+          (sym (c .before .before .before .kept-latches .ensures .1))
+          (part-closed (circuitIn (c .before .before .before .before .before .before .before .before .args .m .now))
+          (c .before .before .before .before .before .before .before .before .args .b)),
     ),
     c .before .before .before .before .before .before .before .before .pre .1 .1,
   ),
@@ -45,7 +61,11 @@ same-length c = c .before .before .search-part .kept .1 .1 .1 .1 .1 .0
 
 returns : tie.Need-returns
 returns c =
-    subst (λ (ks : List ℕ). LayersOf (partIn (c .before .before .before .before .before .before .before .before .before .before .before .args .m .now) ks) (c .before .before .before .before .before .before .before .before .before .before .before .args .b) (c .before .before .before .before .before .before .before .before .before .before .before .args .k) (c .before .before .search-part .last .1 .1 .1 .1 .1 .0) (c .before .before .search-part .result)) (c .before .before .before .before .before .before .kept-latches .ensures .1)
+    subst (λ (ks : List ℕ). LayersOf (partIn (c .before .before .before .before .before .before .before .before .before .before .before
+    .args .m .now) ks) (c .before .before .before .before .before .before .before .before .before .before .before .args .b)
+    (c .before .before .before .before .before .before .before .before .before .before .before .args .k)
+    (c .before .before .search-part .last .1 .1 .1 .1 .1 .0) (c .before .before .search-part .result))
+    (c .before .before .before .before .before .before .kept-latches .ensures .1)
     (c .before .before .search-part .ensures)
 
 pub search-layers-spec : {M : Type 1} → statement M

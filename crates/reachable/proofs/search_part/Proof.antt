@@ -17,24 +17,72 @@ quota-requires c κs = (c .before .before .before .before .pre .0 .held, (c .bef
 
 returns : tie.Need-returns
 unfolding LayersOf
-returns c = rest-none (partIn (c .before .before .before .before .before .before .args .m .now) (c .before .before .before .before .before .before .args .kept .now)) (c .before .before .before .before .before .before .args .b) (c .before .before .before .before .before .before .args .k) (omega (arith, c .before .quota .ensures, c .if1 .taken))
+returns c = rest-none (partIn (c .before .before .before .before .before .before .args .m .now)
+    (c .before .before .before .before .before .before .args .kept .now)) (c .before .before .before .before .before .before .args .b)
+    (c .before .before .before .before .before .before .args .k) (omega (arith, c .before .quota .ensures, c .if1 .taken))
 
 find-first-requires : tie.Need-find-first-requires
-find-first-requires c κs = (c .before .before .before .before .before .before .before .pre .0, ((c .before .before .before .before .before .before .before .pre .1 .0 .0, c .before .before .before .before .before .before .before .pre .1 .0 .1, omega (arith, c .before .before .quota .ensures, c .before .if1 .left), c .before .before .before .before .before .before .before .pre .1 .0 .2), c .before .before .before .before .before .before .before .pre .1 .1))
+find-first-requires c κs = (
+  c .before .before .before .before .before .before .before .pre .0,
+  (
+    (
+      c .before .before .before .before .before .before .before .pre .1 .0 .0,
+      c .before .before .before .before .before .before .before .pre .1 .0 .1,
+      omega
+          (arith, c .before .before .quota .ensures, c .before .if1 .left),
+      c .before .before .before .before .before .before .before .pre .1 .0 .2,
+    ),
+    c .before .before .before .before .before .before .before .pre .1 .1,
+  ),
+)
 
 enum-known-t : tie.Need-enum-known-t
 enum-known-t c = search needs
 
 put-free-requires : tie.Need-put-free-requires
 put-free-requires c κs =
-    let C = partIn (c .before .before .before .before .before .before .before .before .before .before .before .before .before .before .args .m .now) (c .before .before .before .before .before .before .before .before .before .before .before .before .before .before .args .kept .now) in
+    let C = partIn (c .before .before .before .before .before .before .before .before .before .before .before .before .before .before
+    .args .m .now) (c .before .before .before .before .before .before .before .before .before .before .before .before .before .before
+    .args .kept .now) in
     let R = c .before .before .before .before .before .before .before .before .before .before .before .before .before .before .pre .0 in
     let w = c .before .before .before .before .before .before .find-first .last .1 .1 .1 .1 .1 .0 in
-    let P = place-of C (c .before .before .before .before .before .before .before .before .before .before .before .before .before .before .args .b) (c .before .before .before .before .before .before .before .before .before .before .before .before .before .before .args .k) w (c .before .before .before .before .before .before .find-first .result) (c .before .before .before .before .before .before .find-first .ensures) (c .before .before .t .given .1) in
-    let q : 0 < c .before .before .before .before .before .before .before .before .before .quota .result = omega (arith, c .before .before .before .before .before .before .before .before .if1 .left) in (
-      asks C (c .before .before .before .before .before .before .before .before .before .before .before .before .before .before .args .b) (c .before .before .before .before .before .before .before .before .before .before .before .before .before .before .args .k) w (c .before .before .before .before .before .before .find-first .result) (c .before .before .before .before .before .before .find-first .ensures) P (c .before .before .before .before .before .before .before .before .before .before .before .before .before .before .args .layout .i) (c .before .before .before .before .before .before .before .before .before .before .before .before .before .before .args .layout .u) (inputs-are (R .held) (R .layout-of)) (R .layout-of .u-is) (c .before .before .before .before .before .before .before .before .before .before .before .before .before .before .pre .1 .0 .1)
-          (omega (arith, R .layout-of .u-is, quota-small C 0 (omega (arith, q, c .before .before .before .before .before .before .before .before .before .quota .ensures)) .2)) (omega (arith, c .before .before .before .before .before .before .find-first .kept .1 .1 .1 .1 .1 .0, c .before .before .before .before .before .before .before .before .before .before .before .before .before .before .pre .1 .1 .0)),
-      asks-trace C (c .before .before .before .before .before .before .before .before .before .before .before .before .before .before .args .b) (c .before .before .before .before .before .before .before .before .before .before .before .before .before .before .args .k) w (c .before .before .before .before .before .before .find-first .result) (c .before .before .before .before .before .before .find-first .ensures) P (c .before .before .before .before .before .before .before .before .before .before .before .before .before .before .args .layout .i) (c .before .before .before .before .before .before .before .before .before .before .before .before .before .before .args .layout .u) (inputs-are (R .held) (R .layout-of)) (R .layout-of .u-is),
+    let P = place-of C (c .before .before .before .before .before .before .before .before .before .before .before .before .before .before
+    .args .b) (c .before .before .before .before .before .before .before .before .before .before .before .before .before .before .args
+    .k) w (c .before .before .before .before .before .before .find-first .result)
+    (c .before .before .before .before .before .before .find-first .ensures) (c .before .before .t .given .1) in
+    let q : 0 < c .before .before .before .before .before .before .before .before .before .quota .result = omega
+    (arith, c .before .before .before .before .before .before .before .before .if1 .left) in (
+      asks C (c .before .before .before .before .before .before .before .before .before .before .before .before .before .before .args .b)
+          (c .before .before .before .before .before .before .before .before .before .before .before .before .before .before .args .k) w
+          (c .before .before .before .before .before .before .find-first .result)
+          (c .before .before .before .before .before .before .find-first .ensures) P
+          (c .before .before .before .before .before .before .before .before .before .before .before .before .before .before .args .layout
+          .i) (c .before .before .before .before .before .before .before .before .before .before .before .before .before .before .args
+          .layout .u) (inputs-are (R .held) (R .layout-of)) (R .layout-of .u-is)
+          (c .before .before .before .before .before .before .before .before .before .before .before .before .before .before .pre .1 .0
+          .1)
+          (omega (
+            arith,
+            R .layout-of .u-is,
+            quota-small C 0 (omega (
+              arith,
+              q,
+              c .before .before .before .before .before .before .before .before .before .quota .ensures,
+            )) .2,
+          ))
+          (omega (
+            arith,
+            c .before .before .before .before .before .before .find-first .kept .1 .1 .1 .1 .1 .0,
+            c .before .before .before .before .before .before .before .before .before .before .before .before .before .before .pre .1 .1
+                .0,
+          )),
+      asks-trace C (c .before .before .before .before .before .before .before .before .before .before .before .before .before .before
+          .args .b) (c .before .before .before .before .before .before .before .before .before .before .before .before .before .before
+          .args .k) w (c .before .before .before .before .before .before .find-first .result)
+          (c .before .before .before .before .before .before .find-first .ensures) P
+          (c .before .before .before .before .before .before .before .before .before .before .before .before .before .before .args .layout
+          .i) (c .before .before .before .before .before .before .before .before .before .before .before .before .before .before .args
+          .layout .u) (inputs-are (R .held) (R .layout-of)) (R .layout-of .u-is),
     )
 
 enum-told : tie.Need-enum-told
@@ -44,28 +92,56 @@ enum-known-t-2 : tie.Need-enum-known-t-2
 enum-known-t-2 c = search needs
 
 same-length : tie.Need-same-length
-same-length c = c .before .before .put-free .kept .1 .1 .1 .1 .1 .0 ∙ c .before .before .before .before .before .before .before .before .before .find-first .kept .1 .1 .1 .1 .1 .0
+same-length c = c .before .before .put-free .kept .1 .1 .1 .1 .1 .0
+    ∙ c .before .before .before .before .before .before .before .before .before .find-first .kept .1 .1 .1 .1 .1 .0
 
 returns-2 : tie.Need-returns-2
 returns-2 c =
-    let C = partIn (c .before .before .before .before .before .before .before .before .before .before .before .before .before .before .before .before .before .args .m .now) (c .before .before .before .before .before .before .before .before .before .before .before .before .before .before .before .before .before .args .kept .now) in
-    let R = c .before .before .before .before .before .before .before .before .before .before .before .before .before .before .before .before .before .pre .0 in
+    let C = partIn (c .before .before .before .before .before .before .before .before .before .before .before .before .before .before
+    .before .before .before .args .m .now) (c .before .before .before .before .before .before .before .before .before .before .before
+    .before .before .before .before .before .before .args .kept .now) in
+    let R = c .before .before .before .before .before .before .before .before .before .before .before .before .before .before .before
+    .before .before .pre .0 in
     let w = c .before .before .before .before .before .before .before .before .before .find-first .last .1 .1 .1 .1 .1 .0 in
-    let P = place-of C (c .before .before .before .before .before .before .before .before .before .before .before .before .before .before .before .before .before .args .b) (c .before .before .before .before .before .before .before .before .before .before .before .before .before .before .before .before .before .args .k) w (c .before .before .before .before .before .before .before .before .before .find-first .result) (c .before .before .before .before .before .before .before .before .before .find-first .ensures) (c .before .before .before .before .before .t .given .1) in
-    gives-bits C (c .before .before .before .before .before .before .before .before .before .before .before .before .before .before .before .before .before .args .b) (c .before .before .before .before .before .before .before .before .before .before .before .before .before .before .before .before .before .args .k) w (c .before .before .before .before .before .before .before .before .before .find-first .result) (c .before .before .before .before .before .before .before .before .before .find-first .ensures) P (c .before .before .before .before .before .before .before .before .before .before .before .before .before .before .before .before .before .args .layout .i) (c .before .before .before .before .before .before .before .before .before .before .before .before .before .before .before .before .before .args .layout .u) (inputs-are (R .held) (R .layout-of)) (R .layout-of .u-is)
+    let P = place-of C (c .before .before .before .before .before .before .before .before .before .before .before .before .before .before
+    .before .before .before .args .b) (c .before .before .before .before .before .before .before .before .before .before .before
+    .before .before .before .before .before .before .args .k) w
+    (c .before .before .before .before .before .before .before .before .before .find-first .result)
+    (c .before .before .before .before .before .before .before .before .before .find-first .ensures)
+    (c .before .before .before .before .before .t .given .1) in
+    gives-bits C (c .before .before .before .before .before .before .before .before .before .before .before .before .before .before
+    .before .before .before .args .b) (c .before .before .before .before .before .before .before .before .before .before .before
+    .before .before .before .before .before .before .args .k) w
+    (c .before .before .before .before .before .before .before .before .before .find-first .result)
+    (c .before .before .before .before .before .before .before .before .before .find-first .ensures) P
+    (c .before .before .before .before .before .before .before .before .before .before .before .before .before .before .before .before
+    .before .args .layout .i) (c .before .before .before .before .before .before .before .before .before .before .before .before
+    .before .before .before .before .before .args .layout .u) (inputs-are (R .held) (R .layout-of)) (R .layout-of .u-is)
     (c .before .before .put-free .last .1 .1 .1 .1 .1 .0) (c .before .before .put-free .ensures)
 
 same-length-2 : tie.Need-same-length-2
 same-length-2 c = c .before .before .before .before .find-first .kept .1 .1 .1 .1 .1 .0
 
 returns-3 : tie.Need-returns-3
-returns-3 c = none-of (partIn (c .before .before .before .before .before .before .before .before .before .before .before .before .args .m .now) (c .before .before .before .before .before .before .before .before .before .before .before .before .args .kept .now)) (c .before .before .before .before .before .before .before .before .before .before .before .before .args .b) (c .before .before .before .before .before .before .before .before .before .before .before .before .args .k) (c .before .before .before .before .find-first .last .1 .1 .1 .1 .1 .0) (c .before .before .before .before .find-first .result) (c .before .before .before .before .find-first .ensures) (c .enum-told .given .1) (c .before .before .before .before .find-first .last .1 .1 .1 .1 .1 .0)
+returns-3 c = none-of (partIn (c .before .before .before .before .before .before .before .before .before .before .before .before .args .m
+    .now) (c .before .before .before .before .before .before .before .before .before .before .before .before .args .kept .now))
+    (c .before .before .before .before .before .before .before .before .before .before .before .before .args .b)
+    (c .before .before .before .before .before .before .before .before .before .before .before .before .args .k)
+    (c .before .before .before .before .find-first .last .1 .1 .1 .1 .1 .0) (c .before .before .before .before .find-first .result)
+    (c .before .before .before .before .find-first .ensures) (c .enum-told .given .1)
+    (c .before .before .before .before .find-first .last .1 .1 .1 .1 .1 .0)
 
 same-length-3 : tie.Need-same-length-3
 same-length-3 c = c .before .before .before .before .before .find-first .kept .1 .1 .1 .1 .1 .0
 
 returns-4 : tie.Need-returns-4
-returns-4 c = left-of (partIn (c .before .before .before .before .before .before .before .before .before .before .before .before .before .args .m .now) (c .before .before .before .before .before .before .before .before .before .before .before .before .before .args .kept .now)) (c .before .before .before .before .before .before .before .before .before .before .before .before .before .args .b) (c .before .before .before .before .before .before .before .before .before .before .before .before .before .args .k) (c .before .before .before .before .before .find-first .last .1 .1 .1 .1 .1 .0) (c .before .before .before .before .before .find-first .result) (c .before .before .before .before .before .find-first .ensures) (c .before .t2 .given .1) (c .before .before .before .before .before .find-first .last .1 .1 .1 .1 .1 .0)
+returns-4 c = left-of (partIn (c .before .before .before .before .before .before .before .before .before .before .before .before .before
+    .args .m .now) (c .before .before .before .before .before .before .before .before .before .before .before .before .before .args .kept
+    .now)) (c .before .before .before .before .before .before .before .before .before .before .before .before .before .args .b)
+    (c .before .before .before .before .before .before .before .before .before .before .before .before .before .args .k)
+    (c .before .before .before .before .before .find-first .last .1 .1 .1 .1 .1 .0)
+    (c .before .before .before .before .before .find-first .result) (c .before .before .before .before .before .find-first .ensures)
+    (c .before .t2 .given .1) (c .before .before .before .before .before .find-first .last .1 .1 .1 .1 .1 .0)
 
 pub search-part-spec : {M : Type 1} → statement M
 search-part-spec =

@@ -18,33 +18,50 @@ use Rattle.search.proofs.search_frames.Statement.{statement}
 use Rattle.search.proofs.search_frames.Tie as tie
 
 search-layers-requires : tie.Need-search-layers-requires
-search-layers-requires c κs = let p = c .before .before .before .before .before .pre in (p .ready, ((p .bad, p .bound), (p .words, p .units)))
+search-layers-requires c κs = let p = c .before .before .before .before .before .pre in
+    (p .ready, ((p .bad, p .bound), (p .words, p .units)))
 
 enum-known-t : tie.Need-enum-known-t
 enum-known-t c = search needs
 
 cast-write-witness : tie.Need-cast-write-witness
-cast-write-witness c = let p = c .before .before .before .before .before .before .before .before .before .before .before .before .pre in omega (arith, p .bad, limited (p .ready .held) (p .ready .layout-of) .bads, p .ready .layout-of .b-is)
+cast-write-witness c = let p = c .before .before .before .before .before .before .before .before .before .before .before .before .pre in
+    omega (arith, p .bad, limited (p .ready .held) (p .ready .layout-of) .bads, p .ready .layout-of .b-is)
 
 write-witness-requires : tie.Need-write-witness-requires
 write-witness-requires c κs =
     let s = c .before .before .before .before .before .before .before .before .before .before .before .before .before in
     let p = s .pre in
     let C = circuitIn (s .args .m .now) in
-    let h = of-hit C (s .args .b) (s .args .k) (c .before .before .before .before .before .before .before .search-layers .last .1 .1 .1 .1 .1 .0) (c .before .before .before .before .before .before .before .search-layers .result) (c .before .before .before .before .before .before .before .search-layers .ensures) (c .before .before .before .t .given .1) in
+    let h = of-hit C (s .args .q .b) (s .args .q .k) (c .before .before .before .before .before .before .before .search-layers .last .1 .1
+    .1 .1 .1 .0) (c .before .before .before .before .before .before .before .search-layers .result)
+    (c .before .before .before .before .before .before .before .search-layers .ensures) (c .before .before .before .t .given .1) in
     record {
       holds = p .ready .held;
       layout = p .ready .layout-of;
       bad = omega (arith, p .bad, bad-count (s .args .m .now));
       frame = omega (arith, h .within, p .bound);
-      bits = le-trans (bits-within C _ (s .args .k) (h .within)) (omega (arith, p .room, c .before .before .before .before .before .before .before .search-layers .kept .1 .1 .1 .1 .1 .0));
-      room = le-trans (length-within C _ _ (s .args .k) (h .within)) (p .output);
+      bits = le-trans (bits-within C _ (s .args .q .k) (h .within))
+          (omega (arith, p .room, c .before .before .before .before .before .before .before .search-layers .kept .1 .1 .1 .1 .1 .0));
+      room = le-trans (length-within C _ _ (s .args .q .k) (h .within)) (p .output);
     }
 
 cast-t18 : tie.Need-cast-t18
 cast-t18 c =
-    let h = of-hit (circuitIn (c .before .before .before .before .before .before .before .before .before .before .before .before .before .before .before .before .args .m .now)) (c .before .before .before .before .before .before .before .before .before .before .before .before .before .before .before .before .args .b) (c .before .before .before .before .before .before .before .before .before .before .before .before .before .before .before .before .args .k) (c .before .before .before .before .before .before .before .before .before .before .search-layers .last .1 .1 .1 .1 .1 .0) (c .before .before .before .before .before .before .before .before .before .before .search-layers .result) (c .before .before .before .before .before .before .before .before .before .before .search-layers .ensures) (c .before .before .before .before .before .before .t .given .1) in
-    omega (arith, h .within, c .before .before .before .before .before .before .before .before .before .before .before .before .before .before .before .before .pre .bound)
+    let h = of-hit (circuitIn (c .before .before .before .before .before .before .before .before .before .before .before .before .before
+    .before .before .before .args .m .now)) (c .before .before .before .before .before .before .before .before .before .before .before
+    .before .before .before .before .before .args .q .b) (c .before .before .before .before .before .before .before .before .before
+    .before .before .before .before .before .before .before .args .q .k)
+    (c .before .before .before .before .before .before .before .before .before .before .search-layers .last .1 .1 .1 .1 .1 .0)
+    (c .before .before .before .before .before .before .before .before .before .before .search-layers .result)
+    (c .before .before .before .before .before .before .before .before .before .before .search-layers .ensures)
+    (c .before .before .before .before .before .before .t .given .1) in
+    omega (
+      arith,
+      h .within,
+      c .before .before .before .before .before .before .before .before .before .before .before .before .before
+          .before .before .before .pre .bound,
+    )
 
 enum-told : tie.Need-enum-told
 enum-told c = search needs
@@ -60,7 +77,9 @@ search-from-requires c κs =
     let s = c .before .before .before .before .before .before .before .before .before .before .before .before .before in
     let p = s .pre in
     let C = circuitIn (s .args .m .now) in
-    let e = of-left C (s .args .b) (s .args .k) (c .before .before .before .before .before .before .before .search-layers .last .1 .1 .1 .1 .1 .0) (c .before .before .before .before .before .before .before .search-layers .result) (c .before .before .before .before .before .before .before .search-layers .ensures) (c .before .before .before .t2 .given .1) in
+    let e = of-left C (s .args .q .b) (s .args .q .k) (c .before .before .before .before .before .before .before .search-layers .last .1
+    .1 .1 .1 .1 .0) (c .before .before .before .before .before .before .before .search-layers .result)
+    (c .before .before .before .before .before .before .before .search-layers .ensures) (c .before .before .before .t2 .given .1) in
     let z = c .before .before .before .before .before .before .before .search-layers .kept .1 .1 .1 .1 .1 .0 in (
       record {
         ready = p .ready;
@@ -73,7 +92,7 @@ search-from-requires c κs =
         room = omega (arith, p .room, z);
         output = p .output;
       },
-      (left-within C (s .args .b) (s .args .k) (s .args .d) e, chosen-left C (s .args .b) (s .args .k) (s .args .d) e),
+      (left-within C (s .args .q .b) (s .args .q .k) (s .args .q .d) e, chosen-left C (s .args .q .b) (s .args .q .k) (s .args .q .d) e),
     )
 
 same-length : tie.Need-same-length
@@ -84,11 +103,16 @@ same-length-2 c = c .before .before .write-witness .kept .0
 
 returns : tie.Need-returns
 returns c =
-    let s = c .before .before .before .before .before .before .before .before .before .before .before .before .before .before .before .before .args in
+    let s = c .before .before .before .before .before .before .before .before .before .before .before .before .before .before .before
+    .before .args in
     let C = circuitIn (s .m .now) in
-    let h = of-hit C (s .b) (s .k) (c .before .before .before .before .before .before .before .before .before .before .search-layers .last .1 .1 .1 .1 .1 .0) (c .before .before .before .before .before .before .before .before .before .before .search-layers .result) (c .before .before .before .before .before .before .before .before .before .before .search-layers .ensures) (c .before .before .before .before .before .before .t .given .1) in
-    answered C (s .b) (s .k) (s .d) (Outcome.found _) (chosen-found C (s .b) (s .k) (s .d) (h .says))
-    (c .before .before .write-witness .ensures (h .place) (h .bits) ∙ ap (λ (z : List ℕ). front z (s .out .now)) (layers-shown C (s .b) (s .k) (s .d) (h .says)))
+    let h = of-hit C (s .q .b) (s .q .k) (c .before .before .before .before .before .before .before .before .before .before .search-layers
+    .last .1 .1 .1 .1 .1 .0) (c .before .before .before .before .before .before .before .before .before .before .search-layers
+    .result) (c .before .before .before .before .before .before .before .before .before .before .search-layers .ensures)
+    (c .before .before .before .before .before .before .t .given .1) in
+    answered C (s .q .b) (s .q .k) (s .q .d) (Outcome.found _) (chosen-found C (s .q .b) (s .q .k) (s .q .d) (h .says))
+    (c .before .before .write-witness .ensures (h .place) (h .bits)
+    ∙ ap (λ (z : List ℕ). front z (s .out .now)) (layers-shown C (s .q .b) (s .q .k) (s .q .d) (h .says)))
 
 same-length-3 : tie.Need-same-length-3
 same-length-3 c = c .before .before .before .before .search-layers .kept .1 .1 .1 .1 .1 .0
@@ -97,13 +121,19 @@ returns-2 : tie.Need-returns-2
 returns-2 c =
     let s = c .before .before .before .before .before .before .before .before .before .before .args in
     let C = circuitIn (s .m .now) in
-    answered C (s .b) (s .k) (s .d) (Outcome.none (s .k)) (chosen-none C (s .b) (s .k) (s .d) (of-clear C (s .b) (s .k) (c .before .before .before .before .search-layers .last .1 .1 .1 .1 .1 .0) (c .before .before .before .before .search-layers .result) (c .before .before .before .before .search-layers .ensures) (c .enum-told .given .1))) refl
+    answered C (s .q .b) (s .q .k) (s .q .d) (Outcome.none (s .q .k))
+    (chosen-none C (s .q .b) (s .q .k) (s .q .d) (of-clear C (s .q .b) (s .q .k)
+    (c .before .before .before .before .search-layers .last .1 .1 .1 .1 .1 .0)
+    (c .before .before .before .before .search-layers .result) (c .before .before .before .before .search-layers .ensures)
+    (c .enum-told .given .1))) refl
 
 same-length-4 : tie.Need-same-length-4
-same-length-4 c = c .before .before .before .before .search-from .kept .1 .1 .1 .1 .1 .1 .1 .0 ∙ c .before .before .before .before .before .before .before .before .before .before .before .before .search-layers .kept .1 .1 .1 .1 .1 .0
+same-length-4 c = c .before .before .before .before .search-from .kept .1 .1 .1 .1 .1 .0
+    ∙ c .before .before .before .before .before .before .before .before .before .before .before .before .search-layers .kept .1 .1 .1 .1
+    .1 .0
 
 same-length-5 : tie.Need-same-length-5
-same-length-5 c = c .before .before .before .before .search-from .kept .1 .1 .1 .1 .1 .1 .1 .1 .0
+same-length-5 c = c .before .before .before .before .search-from .kept .1 .1 .1 .1 .1 .1 .0
 
 returns-3 : tie.Need-returns-3
 returns-3 c = c .before .before .before .before .search-from .ensures

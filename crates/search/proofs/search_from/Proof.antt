@@ -20,19 +20,20 @@ use Rattle.search.proofs.search_from.Statement.{statement}
 use Rattle.search.proofs.search_from.Tie as tie
 
 abbrev Inv-loop : tie.InvT-loop
-Inv-loop m layout order b start k d work₀ out₀ t₀ work out t =
+Inv-loop m layout order start work₀ out₀ b k d t₀ work out t =
     (t ≤ k + 1) × (length work ≡ length work₀) × (out ≡ out₀) × Left (circuitIn m) b k d t
 
 abbrev μ-loop : tie.MeasureT-loop
-μ-loop m layout order b start k d work₀ out₀ t₀ work out t = k + 1 - t
+μ-loop m layout order start work₀ out₀ b k d t₀ work out t = k + 1 - t
 
 -- the answer on frame t is the variant that the match found
 told : (n : tie.After-decide Inv-loop μ-loop) (r : Frame) → n .decide .result ≡ r
     → let s = n .before .before .before .before .before .before .before .before .args in
-    FrameDecided (circuitIn (s .m .now)) (s .b) (n .before .before .before .loop .t) (s .d) (n .decide .last .1 .1 .1 .1 .1 .1 .0) r
+    FrameDecided (circuitIn (s .m .now)) (s .q .b) (n .before .before .before .loop .t) (s .q .d) (n .decide .last .1 .1 .1 .1 .1 .1 .0) r
 told n r e =
     let s = n .before .before .before .before .before .before .before .before .args in
-    subst (FrameDecided (circuitIn (s .m .now)) (s .b) (n .before .before .before .loop .t) (s .d) (n .decide .last .1 .1 .1 .1 .1 .1 .0)) e
+    subst (FrameDecided (circuitIn (s .m .now)) (s .q .b) (n .before .before .before .loop .t) (s .q .d)
+    (n .decide .last .1 .1 .1 .1 .1 .1 .0)) e
     (n .decide .ensures)
 
 loop-holds : tie.Need-loop-holds Inv-loop μ-loop
@@ -46,7 +47,7 @@ decide-requires c κs =
     let p = s .pre .0 in
     let l = c .before .before .loop in
     let i = c .before .loop-test .taken in
-    let f = size-within (circuitIn (s .args .m .now)) (l .t) (s .args .k) (omega (arith, i)) in
+    let f = size-within (circuitIn (s .args .m .now)) (l .t) (s .args .q .k) (omega (arith, i)) in
     record {
       ready = p .ready;
       bad = p .bad;
@@ -80,12 +81,12 @@ write-witness-requires c κs =
       layout = p .ready .layout-of;
       bad = omega (arith, p .bad, bad-count (s .args .m .now));
       frame = omega (arith, i, p .bound);
-      bits = le-trans (bits-within C _ (s .args .k) (omega (arith, i))) (omega (arith, p .room, kept));
-      room = le-trans (length-within C _ _ (s .args .k) (omega (arith, i))) (omega (arith, p .output, ap length (l .inv .2)));
+      bits = le-trans (bits-within C _ (s .args .q .k) (omega (arith, i))) (omega (arith, p .room, kept));
+      room = le-trans (length-within C _ _ (s .args .q .k) (omega (arith, i))) (omega (arith, p .output, ap length (l .inv .2)));
     }
 
-cast-t18 : tie.Need-cast-t18 Inv-loop μ-loop
-cast-t18 c =
+cast-t19 : tie.Need-cast-t19 Inv-loop μ-loop
+cast-t19 c =
     let n = c .before .before .before .before .before .before .before .before .before in
     let s = n .before .before .before .before .before .before .before .before in
     omega (arith, n .before .before .loop-test .taken, s .pre .0 .bound)
@@ -108,10 +109,10 @@ returns c =
     let C = circuitIn (s .m .now) in
     let f = told n _ (c .before .before .before .before .before .enum-told .given .1) in
     let o = Outcome.found (l .t) in
-    answered C (s .b) (s .k) (s .d) o
-    (left-found C (s .b) (s .k) (s .d) (l .t) (f .0) (omega (arith, n .before .before .loop-test .taken)) (l .inv .3) (f .1))
+    answered C (s .q .b) (s .q .k) (s .q .d) o
+    (left-found C (s .q .b) (s .q .k) (s .q .d) (l .t) (f .0) (omega (arith, n .before .before .loop-test .taken)) (l .inv .3) (f .1))
     (c .before .before .write-witness .ensures (f .0) (f .2)
-    ∙ ap₂ (λ (x y : List _). front x y) (hit-shown C (s .b) (s .k) (s .d) (l .t) (f .0) (f .1)) (l .inv .2))
+    ∙ ap₂ (λ (x y : List _). front x y) (hit-shown C (s .q .b) (s .q .k) (s .q .d) (l .t) (f .0) (f .1)) (l .inv .2))
 
 enum-told-2 : tie.Need-enum-told-2 Inv-loop μ-loop
 enum-told-2 c = search needs
@@ -135,14 +136,14 @@ loop-again c =
       omega (arith, i),
       n .decide .kept .1 .1 .1 .1 .1 .1 .0 ∙ l .inv .1,
       l .inv .2,
-      left-more (circuitIn (s .m .now)) (s .b) (s .k) (s .d) (l .t) (omega (arith, i)) (l .inv .3) e,
+      left-more (circuitIn (s .m .now)) (s .q .b) (s .q .k) (s .q .d) (l .t) (omega (arith, i)) (l .inv .3) e,
     )
 
 enum-told-3 : tie.Need-enum-told-3 Inv-loop μ-loop
 enum-told-3 c = search needs
 
-cast-t21 : tie.Need-cast-t21 Inv-loop μ-loop
-cast-t21 c =
+cast-t22 : tie.Need-cast-t22 Inv-loop μ-loop
+cast-t22 c =
     let n = c .before .before .before .before in
     let s = n .before .before .before .before .before .before .before .before in
     omega (arith, n .before .before .loop-test .taken, s .pre .0 .bound)
@@ -162,11 +163,12 @@ returns-2 c =
     let l = n .before .before .before .loop in
     let C = circuitIn (s .m .now) in
     let e = told n _ (c .enum-told3 .given .1) in
-    answered C (s .b) (s .k) (s .d) (Outcome.spent (l .t))
-    (left-spent C (s .b) (s .k) (s .d) (l .t) (omega (arith, n .before .before .loop-test .taken)) (l .inv .3) (e .decided)) (l .inv .2)
+    answered C (s .q .b) (s .q .k) (s .q .d) (Outcome.spent (l .t))
+    (left-spent C (s .q .b) (s .q .k) (s .q .d) (l .t) (omega (arith, n .before .before .loop-test .taken)) (l .inv .3) (e .decided))
+    (l .inv .2)
 
-cast-t22 : tie.Need-cast-t22 Inv-loop μ-loop
-cast-t22 c = omega (arith, c .before .before .before .before .before .before .pre .0 .bound)
+cast-t23 : tie.Need-cast-t23 Inv-loop μ-loop
+cast-t23 c = omega (arith, c .before .before .before .before .before .before .pre .0 .bound)
 
 same-length-5 : tie.Need-same-length-5 Inv-loop μ-loop
 same-length-5 c = c .before .loop .inv .1
@@ -179,7 +181,8 @@ returns-3 c =
     let s = c .before .before .before .before .before .before .args in
     let l = c .before .loop in
     let C = circuitIn (s .m .now) in
-    answered C (s .b) (s .k) (s .d) (Outcome.none (s .k)) (left-none C (s .b) (s .k) (s .d) (l .t) (omega (arith, c .loop-test .left)) (l .inv .3)) (l .inv .2)
+    answered C (s .q .b) (s .q .k) (s .q .d) (Outcome.none (s .q .k))
+    (left-none C (s .q .b) (s .q .k) (s .q .d) (l .t) (omega (arith, c .loop-test .left)) (l .inv .3)) (l .inv .2)
 
 pub search-from-spec : {M : Type 1} → statement M
 search-from-spec =
@@ -192,7 +195,7 @@ search-from-spec =
     enum-told
     cast-write-witness
     write-witness-requires
-    cast-t18
+    cast-t19
     same-length
     same-length-2
     returns
@@ -201,11 +204,11 @@ search-from-spec =
     loop-less
     loop-again
     enum-told-3
-    cast-t21
+    cast-t22
     same-length-3
     same-length-4
     returns-2
-    cast-t22
+    cast-t23
     same-length-5
     same-length-6
     returns-3)

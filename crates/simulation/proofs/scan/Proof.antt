@@ -19,13 +19,13 @@ use Rattle.simulation.proofs.first_in.Reads as first-in-reads
 use Rattle.simulation.proofs.next_hits.Reads as next-hits-reads
 
 abbrev Inv-loop : tie.InvT-loop
-Inv-loop work₀ g root slots firsts start those total block₀ hits₀ work block hits =
+Inv-loop work₀ g root slots firsts total block₀ hits₀ work block hits =
     (block < 67108864) × (length work ≡ length work₀) × Kept work₀ work × InBlock (g .free) (pairsOf work₀ g) root block work (g .nodes)
     × ((p : ℕ) → p < 64 → bit hits p ≡ hitAt (g .free) (pairsOf work₀ g) root (block * 64 + p))
     × ((y : ℕ) → y < 64 * block → T (hitAt (g .free) (pairsOf work₀ g) root y) → ⊥)
 
 abbrev μ-loop : tie.MeasureT-loop
-μ-loop work₀ g root slots firsts start those total block₀ hits₀ work block hits = total - 64 * block
+μ-loop work₀ g root slots firsts total block₀ hits₀ work block hits = total - 64 * block
 
 loop-holds : tie.Need-loop-holds Inv-loop μ-loop
 loop-holds c =
@@ -49,7 +49,8 @@ returns c =
     let s = c .before .before .before .before .before .before .before in
     let l = c .before .before .before .loop in
     let w = now (s .args .work) in
-    c .first-in .ensures (hitAt (s .args .g .free) (pairsOf w (s .args .g)) (s .args .root)) (l .inv .4) (l .inv .5) (λ e. absurd (omega arith))
+    c .first-in .ensures (hitAt (s .args .g .free) (pairsOf w (s .args .g)) (s .args .root)) (l .inv .4) (l .inv .5)
+    (λ e. absurd (omega arith))
 
 next-hits-requires : tie.Need-next-hits-requires Inv-loop μ-loop
 next-hits-requires c κs =
@@ -78,7 +79,8 @@ loop-again c =
       kept-trans w (l .work) (e .last .0) (l .inv .2) (e .ensures .kept),
       a .0,
       a .1,
-      none-more (hitAt (g .free) (pairsOf w g) (s .args .root)) (l .block) (λ p h. ap (λ (x : ℕ). bit x p) (sym z) ∙ l .inv .4 p h) (l .inv .5),
+      none-more (hitAt (g .free) (pairsOf w g) (s .args .root)) (l .block) (λ p h. ap (λ (x : ℕ). bit x p) (sym z) ∙ l .inv .4 p h)
+          (l .inv .5),
     )
 
 first-in-requires-2 : tie.Need-first-in-requires-2 Inv-loop μ-loop

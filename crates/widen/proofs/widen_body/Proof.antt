@@ -20,28 +20,28 @@ use Rattle.widen.proofs.widen_body.Statement.{statement}
 use Rattle.widen.proofs.widen_body.Tie as tie
 
 abbrev Inv-loop : tie.InvT-loop
-Inv-loop m layout order own body₀ values₀ state₀ bad frames rows eithers₀ i₀ body values state eithers i =
+Inv-loop m order own body₀ values₀ state₀ layout bad frames rows eithers₀ i₀ body values state eithers i =
     (i ≤ length body) × (length body ≡ length body₀) × (length values ≡ length values₀) × (length state ≡ length state₀)
     × (widenBelow (pinnedShows (circuitIn m) (λ j. getD own j 2) bad) body i
     ≡ widenBelow (pinnedShows (circuitIn m) (λ j. getD own j 2) bad) body₀ (length body₀))
     × Fits (circuitIn m) bad frames eithers body × T (allPass (pinnedShows (circuitIn m) (λ j. getD own j 2) bad) body)
 
 abbrev μ-loop : tie.MeasureT-loop
-μ-loop m layout order own body₀ values₀ state₀ bad frames rows eithers₀ i₀ body values state eithers i = i
+μ-loop m order own body₀ values₀ state₀ layout bad frames rows eithers₀ i₀ body values state eithers i = i
 
 -- the entry, from the rows
 abbrev start : tie.After-rows-of Inv-loop μ-loop → tie.Start Inv-loop μ-loop
-start r = r .before .before .before .before .before .before .before
+start r = r .before .before .before .before .before .before .before .before .before
 
 -- the pins, and the test of completions
 abbrev q : tie.After-rows-of Inv-loop μ-loop → ℕ → ℕ
 q r j = getD (start r .args .own .now) j 2
 
 abbrev p : tie.After-rows-of Inv-loop μ-loop → List ℕ → Bool
-p r = pinnedShows (circuitIn (start r .args .m .now)) (q r) (start r .args .q .bad)
+p r = pinnedShows (circuitIn (start r .args .m .now)) (q r) (start r .args .w .q .bad)
 
 rows-of-requires : tie.Need-rows-of-requires Inv-loop μ-loop
-rows-of-requires c κs = let S = c .before .before .before .before .before .before in rows-fit (S .pre .0) (S .pre .1 .1 .0)
+rows-of-requires c κs = let S = c .before .before .before .before .before .before .before .before in rows-fit (S .pre .0) (S .pre .1 .1 .0)
 
 loop-holds : tie.Need-loop-holds Inv-loop μ-loop
 loop-holds c = let S = start c in (omega arith, refl, refl, refl, refl, S .pre .1 .1 .0, S .pre .1 .1 .1)
@@ -66,11 +66,13 @@ module _ (t : tie.Then1 Inv-loop μ-loop) where
   abbrev r : tie.After-rows-of Inv-loop μ-loop
   r = l .before
 
-  free : (let S = start r in let j = l .loop .i - 1 in widenAt (p r) (l .loop .body) j ≡ widenAt (shows (circuitIn (S .args .m .now)) (S .args .q .bad)) (l .loop .body) j)
+  free : (let S = start r in let j = l .loop .i - 1 in widenAt (p r) (l .loop .body) j ≡ widenAt
+      (shows (circuitIn (S .args .m .now)) (S .args .w .q .bad)) (l .loop .body) j)
   free =
       let S = start r in
       let k = t .before .pin-of in
-      at-free (S .pre .0) (l .loop .inv .5) (q r) (r .rows-of .result) (r .rows-of .ensures) (l .loop .inv .6) (l .loop .i - 1) (k .result) (k .ensures) (t .if1 .taken)
+      at-free (S .pre .0) (l .loop .inv .5) (q r) (r .rows-of .result) (r .rows-of .ensures) (l .loop .inv .6) (l .loop .i - 1)
+      (k .result) (k .ensures) (t .if1 .taken)
 
 widen-at-requires : tie.Need-widen-at-requires Inv-loop μ-loop
 widen-at-requires c κs =
@@ -81,7 +83,11 @@ widen-at-requires c κs =
       ready-with (S .pre .0) (omega (arith, L .loop .inv .2, S .pre .0 .room)),
       (
         (S .pre .1 .0 .0, omega (arith, L .loop .inv .3, S .pre .1 .0 .1), omega (arith, N .loop-test .taken, L .loop .inv .0)),
-        (L .loop .inv .5, all-plain (S .pre .0) (L .loop .inv .5) (q (r t)) (r t .rows-of .result) (r t .rows-of .ensures) (L .loop .inv .6)),
+        (
+          L .loop .inv .5,
+          all-plain (S .pre .0) (L .loop .inv .5) (q (r t)) (r t .rows-of .result) (r t .rows-of .ensures)
+              (L .loop .inv .6),
+        ),
       ),
     )
 
@@ -99,15 +105,16 @@ loop-again c =
     let P : List ℕ → Bool = p (r t) in
     let w : List ℕ = L .loop .body in
     let j : ℕ = L .loop .i - 1 in
-    let z : W .last .1 .1 .1 .1 .1 .0 ≡ widenAt P w j = W .ensures .0 ∙ sym (free t) in
-    let F : Fits (circuitIn (a .m .now)) (a .q .bad) (a .q .frames) (eithers (widenAt P w j)) (widenAt P w j) = fits-widen P j (L .loop .inv .5) in (
-      omega (arith, W .kept .1 .1 .1 .1 .1 .0, L .loop .inv .0),
-      W .kept .1 .1 .1 .1 .1 .0 ∙ L .loop .inv .1,
-      W .kept .1 .1 .1 .1 .1 .1 .0 ∙ L .loop .inv .2,
-      W .kept .1 .1 .1 .1 .1 .1 .1 .0 ∙ L .loop .inv .3,
+    let z : W .last .1 .1 .1 .1 .0 ≡ widenAt P w j = W .ensures .0 ∙ sym (free t) in
+    let F : Fits (circuitIn (a .m .now)) (a .w .q .bad) (a .w .q .frames) (eithers (widenAt P w j)) (widenAt P w j) = fits-widen P j
+    (L .loop .inv .5) in (
+      omega (arith, W .kept .1 .1 .1 .1 .0, L .loop .inv .0),
+      W .kept .1 .1 .1 .1 .0 ∙ L .loop .inv .1,
+      W .kept .1 .1 .1 .1 .1 .0 ∙ L .loop .inv .2,
+      W .kept .1 .1 .1 .1 .1 .1 .0 ∙ L .loop .inv .3,
       ap (λ (x : List ℕ). widenBelow P x j) z ∙ below-next P w (L .loop .i) (omega (arith, n t .loop-test .taken)) ∙ L .loop .inv .4,
-      subst (λ (x : ℕ). Fits (circuitIn (a .m .now)) (a .q .bad) (a .q .frames) x (W .last .1 .1 .1 .1 .1 .0)) (sym (W .ensures .1))
-          (subst (λ (x : List ℕ). Fits (circuitIn (a .m .now)) (a .q .bad) (a .q .frames) (eithers x) x) (sym z) F),
+      subst (λ (x : ℕ). Fits (circuitIn (a .m .now)) (a .w .q .bad) (a .w .q .frames) x (W .last .1 .1 .1 .1 .0)) (sym (W .ensures .1))
+          (subst (λ (x : List ℕ). Fits (circuitIn (a .m .now)) (a .w .q .bad) (a .w .q .frames) (eithers x) x) (sym z) F),
       subst (λ (x : List ℕ). T (allPass P x)) (sym z) (step P w j .passes (L .loop .inv .6)),
     )
 
@@ -124,12 +131,14 @@ loop-again-2 c =
     let k = c .before .pin-of in
     let j : ℕ = L .loop .i - 1 in
     let z : widenAt (p R) (L .loop .body) j ≡ L .loop .body =
-    at-held (S .pre .0) (L .loop .inv .5) (q R) (R .rows-of .result) (R .rows-of .ensures) (L .loop .inv .6) j (k .result) (k .ensures) (omega (arith, c .if1 .left)) in (
+    at-held (S .pre .0) (L .loop .inv .5) (q R) (R .rows-of .result) (R .rows-of .ensures) (L .loop .inv .6) j (k .result) (k .ensures)
+    (omega (arith, c .if1 .left)) in (
       omega (arith, L .loop .inv .0),
       L .loop .inv .1,
       L .loop .inv .2,
       L .loop .inv .3,
-      ap (λ (x : List ℕ). widenBelow (p R) x j) (sym z) ∙ below-next (p R) (L .loop .body) (L .loop .i) (omega (arith, N .loop-test .taken)) ∙ L .loop .inv .4,
+      ap (λ (x : List ℕ). widenBelow (p R) x j) (sym z) ∙ below-next (p R) (L .loop .body) (L .loop .i)
+          (omega (arith, N .loop-test .taken)) ∙ L .loop .inv .4,
       L .loop .inv .5,
       L .loop .inv .6,
     )

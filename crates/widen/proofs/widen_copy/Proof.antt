@@ -18,7 +18,7 @@ use Rattle.widen.proofs.widen_copy.Tie as tie
 
 -- after the copy: the entry, the output, and the body in it
 abbrev start : tie.After-copy → tie.Start
-start k = k .before .before .before .before .before .before .before
+start k = k .before .before .before .before .before .before .before .before .before
 
 out-is : (k : tie.After-copy) → (let a = start k .args in k .copy .last .1 .0 ≡ front (a .text .now) (a .out .now))
 out-is k = let a = start k .args in k .copy .ensures .1 ∙ copied (a .text .now) (a .out .now)
@@ -30,7 +30,8 @@ body-is : (k : tie.After-copy)
 body-is k =
     let a = start k .args in
     let text : List ℕ = a .text .now in
-    ap (λ (o : List ℕ). take (length text - a .start) (drop (a .start) o)) (out-is k) ∙ body-of text (a .out .now) (a .start) (start k .pre .1 .0 .1)
+    ap (λ (o : List ℕ). take (length text - a .start) (drop (a .start) o)) (out-is k)
+    ∙ body-of text (a .out .now) (a .start) (start k .pre .1 .0 .1)
 
 copy-requires : tie.Need-copy-requires
 copy-requires c κs = search needs
@@ -49,7 +50,7 @@ widen-alone-requires c κs =
     let k = c .before .before .before in
     let S = start k in
     let a = S .args in
-    let q = a .q in
+    let q = a .w .q in
     (S .pre .0, (S .pre .1 .0 .0, subst (Fits (circuitIn (a .m .now)) (q .bad) (q .frames) (q .eithers)) (sym (body-is k)) (S .pre .1 .1)))
 
 same-length : tie.Need-same-length
@@ -58,13 +59,14 @@ same-length c = search needs
 returns : tie.Need-returns
 returns c =
     let w = c .before .before in
-    let k = w .before .before .before .before in
+    let k = c .before .before .before .before .before .before in
     let a = start k .args in
-    let p : List ℕ → Bool = pinnedShows (circuitIn (a .m .now)) (λ i. getD (a .own .now) i 2) (a .q .bad) in
+    let p : List ℕ → Bool = pinnedShows (circuitIn (a .m .now)) (λ i. getD (a .own .now) i 2) (a .w .q .bad) in
     let text : List ℕ = a .text .now in
     let body : List ℕ = drop (a .start) text in
     ap₂ (putMid (a .start) (length text - a .start)) (out-is k) (w .widen-alone .ensures ∙ ap (widened p) (body-is k))
-    ∙ body-put text (a .out .now) (widened p body) (a .start) (start k .pre .1 .0 .1) (widened-wider p body .size ∙ length-drop (a .start) text)
+    ∙ body-put text (a .out .now) (widened p body) (a .start) (start k .pre .1 .0 .1)
+    (widened-wider p body .size ∙ length-drop (a .start) text)
 
 pub widen-copy-spec : {M : Type 1} → statement M
 widen-copy-spec =

@@ -19,12 +19,12 @@ use Rattle.widen.proofs.widen_hits.Statement.{statement}
 use Rattle.widen.proofs.widen_hits.Tie as tie
 
 rows-of-requires : tie.Need-rows-of-requires
-rows-of-requires c κs = let S = c .before .before .before .before .before .before in rows-fit (S .pre .0) (S .pre .1 .1)
+rows-of-requires c κs = let S = c .before .before .before .before .before .before .before .before in rows-fit (S .pre .0) (S .pre .1 .1)
 
 -- after the rows: the entry, the pins and the test of completions
 module _ (r : tie.After-rows-of) where
   abbrev S : tie.Start
-  S = r .before .before .before .before .before .before .before
+  S = r .before .before .before .before .before .before .before .before .before
 
   abbrev q : ℕ → ℕ
   q i = getD (S .args .own .now) i 2
@@ -33,7 +33,7 @@ module _ (r : tie.After-rows-of) where
   w = S .args .body .now
 
   abbrev p : List ℕ → Bool
-  p = pinnedShows (circuitIn (S .args .m .now)) q (S .args .q .bad)
+  p = pinnedShows (circuitIn (S .args .m .now)) q (S .args .w .q .bad)
 
 agree-requires : tie.Need-agree-requires
 agree-requires c κs =
@@ -51,7 +51,8 @@ returns c =
     (not-true (a .agree .result) (c .if1 .taken))
 
 -- where all bytes agree the plain test is the test under pins
-agreed : (e : tie.Else1) → (let r = e .before .before .before in allPass (p r) (w r) ≡ allPass (shows (circuitIn (S r .args .m .now)) (S r .args .q .bad)) (w r))
+agreed : (e : tie.Else1) → (let r = e .before .before .before in allPass (p r) (w r) ≡ allPass
+    (shows (circuitIn (S r .args .m .now)) (S r .args .w .q .bad)) (w r))
 agreed e =
     let a = e .before in
     let r = a .before .before in
@@ -105,7 +106,9 @@ returns-3 c =
     let e = h .before .before .before .before in
     let r = e .before .before .before in
     let E = h .every-hit in
-    c .before .before .before .before .before .before .widen-body .ensures ∙ sym (widened-steps (p r) (w r) (agreed e ∙ sym (E .ensures) ∙ not-false (E .result) (c .before .before .before .before .before .before .before .before .before .before .if2 .left)))
+    c .before .before .before .before .before .before .widen-body .ensures
+    ∙ sym (widened-steps (p r) (w r) (agreed e ∙ sym (E .ensures)
+    ∙ not-false (E .result) (c .before .before .before .before .before .before .before .before .before .before .if2 .left)))
 
 pub widen-hits-spec : {M : Type 1} → statement M
 widen-hits-spec =

@@ -77,7 +77,8 @@ returns-2 c =
     let k = c .before .before in
     let r = k .before .before in
     let q = k .start .given .0 .1 .0 in
-    too-short (circuitIn (m r)) (holding r .1) (λ i. getD (S r .args .own .now) i 2) (text r) (out r) (q .bad) (drop (k .start .given .0 .0) (text r)) (placed k .reads) (few k) (omega (arith, c .if1 .taken))
+    too-short (circuitIn (m r)) (holding r .1) (λ i. getD (S r .args .own .now) i 2) (text r) (out r) (q .bad)
+    (drop (k .start .given .0 .0) (text r)) (placed k .reads) (few k) (omega (arith, c .if1 .taken))
 
 slice-aggregate-widen-copy : tie.Need-slice-aggregate-widen-copy
 slice-aggregate-widen-copy c = search needs
@@ -103,12 +104,13 @@ same-length c = search needs
 returns-4 : tie.Need-returns-4
 returns-4 c =
     let w = c .before .before in
-    let e = w .before .before .before in
+    let e = c .before .before .before .before .before in
     let k = e .before .before in
     let r = k .before .before in
     let q = k .start .given .0 .1 .0 in
     let start = k .start .given .0 .0 in
-    widens (circuitIn (m r)) (holding r .1) (λ i. getD (S r .args .own .now) i 2) (text r) (out r) (q .bad) (drop start (text r)) (placed k .reads) (few k) (omega (arith, e .if1 .left)) start (placed k .inside)
+    widens (circuitIn (m r)) (holding r .1) (λ i. getD (S r .args .own .now) i 2) (text r) (out r) (q .bad) (drop start (text r))
+    (placed k .reads) (few k) (omega (arith, e .if1 .left)) start (placed k .inside)
     refl (length (text r)) refl _ (w .widen-copy .ensures)
 
 pub widen-under-spec : {M : Type 1} → statement M
