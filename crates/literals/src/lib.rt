@@ -48,16 +48,6 @@ impl Lit {
     }
 }
 
-impl Var {
-    // The place of a variable in a table that has a place for each of them.
-    pub fn index(self) -> usize
-        ensures { λ r. ⌜ r ≡ self .0 ⌝ }
-    {
-        let v = self.0;
-        v as usize
-    }
-}
-
 impl Lit {
     pub fn equals(self, other: Lit) -> bool
         ensures { λ r. ⌜ r ≡ eqb (wordOf self) (wordOf other) ⌝ }
