@@ -1,10 +1,10 @@
 -- Literals and words stand for one another, and a complement's complement is the literal itself. Assumes nothing.
-use mathlib.Core.Path.{_≡_, refl, ap, ap₂, sym, _∙_}
-use mathlib.Core.Bool.{Bool, Bool·beq, true, false, not, cond, _&&_}
+use mathlib.Core.Path.{_≡_, refl, ap, ap₂, _∙_}
+use mathlib.Core.Bool.{Bool, true, false, not, cond}
 use Prim.Native.Nat.{ℕ, zero, suc, _+_, _*_, _/_, _%_, _<_}
 use native.Mathlib.Omega.{arith}
 use lib.Dec.{T, leb, eqb, eqb→eq, leb→le, le→leb}
-use borrow.Author.Tests.{eq-eqb, ne-eqb}
+use borrow.Author.Tests.{eq-eqb}
 use Rattle.aiger.specs.Bits.{odd, nonzero}
 use Rattle.aiger.specs.Circuit as circuit
 use Rattle.aiger.proofs.Tests.{T-true}
@@ -59,19 +59,6 @@ one-test true false f g = absurd (f tt)
 one-test false true f g = absurd (g tt)
 one-test false false f g = refl
 
-same-test : (a b c d : ℕ) → (a ≡ b → c ≡ d) → (c ≡ d → a ≡ b) → eqb a b ≡ eqb c d
-same-test a b c d f g = one-test (eqb a b) (eqb c d) (λ t. T-true (eq-eqb c d (f (eqb→eq a b t)))) (λ t. T-true (eq-eqb a b (g (eqb→eq c d t))))
-
--- literals are the same where sign and variable are
-pub equal-words : (l k : Lit) → (Bool·beq (l .1) (k .1) && eqb (l .0 .0) (k .0 .0)) ≡ eqb (wordOf l) (wordOf k)
-equal-words l k = go (l .0 .0) (k .0 .0) (l .1) (k .1)
-  where
-    go : (v u : ℕ) (b d : Bool) → (Bool·beq b d && eqb v u) ≡ eqb (2 * v + cond b 1 0) (2 * u + cond d 1 0)
-    go v u true true = same-test v u (2 * v + 1) (2 * u + 1) (λ e. omega arith) (λ e. omega arith)
-    go v u true false = sym (ne-eqb (2 * v + 1) (2 * u + 0) (λ e. omega arith))
-    go v u false true = sym (ne-eqb (2 * v + 0) (2 * u + 1) (λ e. omega arith))
-    go v u false false = same-test v u (2 * v + 0) (2 * u + 0) (λ e. omega arith) (λ e. omega arith)
-
 -- literals 0 and 1 are those of variable 0
 pub constant-word : (l : Lit) → eqb (l .0 .0) 0 ≡ leb (wordOf l) 1
 constant-word l = go (l .0 .0) (l .1)
@@ -85,13 +72,6 @@ constant-word l = go (l .0 .0) (l .1)
         one-test (eqb v 0) (leb (2 * v + 0) 1)
         (λ t. let e = eqb→eq v 0 t in le→leb (2 * v + 0) 1 (omega arith))
         (λ t. let h = leb→le (2 * v + 0) 1 t in T-true (eq-eqb v 0 (omega arith)))
-
-pub true-word : (l : Lit) → (l .1 && eqb (l .0 .0) 0) ≡ eqb (wordOf l) 1
-true-word l = go (l .0 .0) (l .1)
-  where
-    go : (v : ℕ) (b : Bool) → (b && eqb v 0) ≡ eqb (2 * v + cond b 1 0) 1
-    go v true = same-test v 0 (2 * v + 1) 1 (λ e. omega arith) (λ e. omega arith)
-    go v false = sym (ne-eqb (2 * v + 0) 1 (λ e. omega arith))
 
 -- the word of a literal that was read from it
 pub word-read : (w : ℕ) {l : Lit} → l ≡ literal w → wordOf l ≡ w

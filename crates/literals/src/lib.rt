@@ -52,7 +52,7 @@ impl Lit {
     pub fn equals(self, other: Lit) -> bool
         ensures { λ r. ⌜ r ≡ eqb (wordOf self) (wordOf other) ⌝ }
     {
-        (self.1 == other.1) & (self.0.0 == other.0.0)
+        self.word() == other.word()
     }
 
     // Whether the literal is constant: 0 or 1.
@@ -67,7 +67,6 @@ impl Lit {
     pub fn is_true(self) -> bool
         ensures { λ r. ⌜ r ≡ eqb (wordOf self) 1 ⌝ }
     {
-        let complement = self.1;
-        complement & (self.0.0 == 0)
+        self.word() == 1
     }
 }
