@@ -47,7 +47,8 @@ finish : (c : tie.After-loop Inv-loop μ-loop) → word (M (c .before)) 2 ≡ c 
 finish c = omega (arith, c .loop-test .left, fit (c .before) .layout .l-is, c .before .loop .inv .within)
 
 loop-holds : tie.Need-loop-holds Inv-loop μ-loop
-loop-holds c = let s = c .before .before .before in begin (s .args .m .now) (s .args .free .now) (s .args .part .now) (s .args .layout .latches) (s .pre .layout .latches-is)
+loop-holds c = let s = c .before .before .before in begin (s .args .m .now) (s .args .free .now) (s .args .part .now)
+    (s .args .layout .latches) (s .pre .layout .latches-is)
 
 mul-from-word : tie.Need-mul-from-word Inv-loop μ-loop
 mul-from-word c = omega (arith, within c)
@@ -77,8 +78,10 @@ start-of-requires c κs =
     λ e.
     omega (
       arith,
-      bit-left (M l) (F l) (P l) (l .loop .part) (l .loop .at) (l .loop .used) (l .loop .j) (l .loop .inv) (more n) (wordOf (c .before .before .from-word .result)) (wordOf (c .from-word2 .result))
-          (word-read (word (M l) (l .loop .at)) (c .before .before .from-word .ensures)) (word-read (word (M l) (l .loop .at + 2)) (c .from-word2 .ensures)) e,
+      bit-left (M l) (F l) (P l) (l .loop .part) (l .loop .at) (l .loop .used) (l .loop .j) (l .loop .inv) (more n)
+          (wordOf (c .before .before .from-word .result)) (wordOf (c .from-word2 .result))
+          (word-read (word (M l) (l .loop .at)) (c .before .before .from-word .ensures))
+          (word-read (word (M l) (l .loop .at + 2)) (c .from-word2 .ensures)) e,
       fit l .bits,
     )
 
@@ -88,10 +91,17 @@ byte-of-requires c κs = search needs
 slice-write-part : tie.Need-slice-write-part Inv-loop μ-loop
 slice-write-part c =
     let n = c .before .before .before .before .before .before in
-    omega (arith, more n, room (c .before .before .before .before .before .before .before), c .before .before .before .before .before .before .before .loop .inv .size)
+    omega (
+      arith,
+      more n,
+      room
+          (c .before .before .before .before .before .before .before),
+      c .before .before .before .before .before .before .before .loop .inv .size,
+    )
 
 add-j : tie.Need-add-j Inv-loop μ-loop
-add-j c = let n = c .before .before .before .before .before .before in omega (arith, more n, room (c .before .before .before .before .before .before .before))
+add-j c = let n = c .before .before .before .before .before .before in omega
+    (arith, more n, room (c .before .before .before .before .before .before .before))
 
 add-at : tie.Need-add-at Inv-loop μ-loop
 add-at c = let n = c .before .before .before .before .before .before in omega (arith, within n)
@@ -106,8 +116,10 @@ loop-again c =
     let a = c .before .before .before .before .from-word in
     let n = c .before .before .before .before .before .before in
     let l = c .before .before .before .before .before .before .before in
-    turn (M l) (F l) (P l) (l .loop .part) (l .loop .at) (l .loop .used) (l .loop .j) (l .loop .inv) (more n) (room l) (wordOf (a .result)) (wordOf (b .result))
-    (word-read (word (M l) (l .loop .at)) (a .ensures)) (word-read (word (M l) (l .loop .at + 2)) (b .ensures)) (s .start-of .result .value) (s .start-of .result .used) (c .byte-of .result)
+    turn (M l) (F l) (P l) (l .loop .part) (l .loop .at) (l .loop .used) (l .loop .j) (l .loop .inv) (more n) (room l)
+    (wordOf (a .result)) (wordOf (b .result))
+    (word-read (word (M l) (l .loop .at)) (a .ensures)) (word-read (word (M l) (l .loop .at + 2)) (b .ensures))
+    (s .start-of .result .value) (s .start-of .result .used) (c .byte-of .result)
     (s .start-of .ensures .0) (s .start-of .ensures .1) (c .byte-of .ensures)
 
 slice-write-part-2 : tie.Need-slice-write-part-2 Inv-loop μ-loop
