@@ -65,7 +65,8 @@ module _ (w : List ℕ) where
         less i k l (no q) = omega arith
 
     -- a definition that is not entered is wrong or repeated
-    pub entered-not : (k : ℕ) → n < k → (Defines (word w 0) (definition w n) → getD t (definition w n / 2) 0 ≡ 0 → ⊥) → Definitions w k → ⊥
+    pub entered-not : (k : ℕ) → n < k → (Defines (word w 0) (definition w n) → getD t (definition w n / 2) 0 ≡ 0 → ⊥) → Definitions w k
+        → ⊥
     entered-not k l f D =
         let filled = f (D .right n l) in
         let q = E .only v (getD t v 0 - 1) (omega arith) in

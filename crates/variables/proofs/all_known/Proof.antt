@@ -23,8 +23,10 @@ abbrev μ-loop : tie.MeasureT-loop
 
 -- the word of the literal that was read
 read : (c : tie.After-from-word Inv-loop μ-loop)
-    → (let S = c .before .before .before .before .before .before in wordOf (c .from-word .result) ≡ at (S .args .w .now) (S .args .c) (c .before .before .before .loop .i))
-read c = let S = c .before .before .before .before .before .before in word-read (at (S .args .w .now) (S .args .c) (c .before .before .before .loop .i)) (c .from-word .ensures)
+    → (let S = c .before .before .before .before .before .before in wordOf (c .from-word .result) ≡ at (S .args .w .now) (S .args .c)
+    (c .before .before .before .loop .i))
+read c = let S = c .before .before .before .before .before .before in word-read
+    (at (S .args .w .now) (S .args .c) (c .before .before .before .loop .i)) (c .from-word .ensures)
 
 loop-holds : tie.Need-loop-holds Inv-loop μ-loop
 loop-holds c = (omega arith, λ k l. absurd (omega arith))
@@ -42,14 +44,16 @@ mul-from-word-2 c =
     let L = c .before in let S = c .before .before .before .before in omega (arith, S .pre .0 (L .loop .i) (c .loop-test .taken))
 
 shared-slice-read-from-word : tie.Need-shared-slice-read-from-word Inv-loop μ-loop
-shared-slice-read-from-word c = let L = c .before .before in c .before .before .before .before .before .pre .0 (L .loop .i) (c .before .loop-test .taken)
+shared-slice-read-from-word c = let L = c .before .before in c .before .before .before .before .before .pre .0 (L .loop .i)
+    (c .before .loop-test .taken)
 
 from-word-requires : tie.Need-from-word-requires Inv-loop μ-loop
 from-word-requires c κs = search needs
 
 known-requires : tie.Need-known-requires Inv-loop μ-loop
 known-requires c κs =
-    let h = c .before .before .before .before .before .before .pre .1 (c .before .before .before .loop .i) (c .before .before .loop-test .taken) in
+    let h = c .before .before .before .before .before .before .pre .1 (c .before .before .before .loop .i)
+    (c .before .before .loop-test .taken) in
     rw (ap (λ (l : Lit). l .0 .0) (c .from-word .ensures)) h
 
 returns : tie.Need-returns Inv-loop μ-loop

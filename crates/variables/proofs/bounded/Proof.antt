@@ -19,7 +19,8 @@ abbrev μ-loop : tie.MeasureT-loop
 
 -- the variable that was read
 read : (c : tie.After-var Inv-loop μ-loop)
-    → (let S = c .before .before .before .before .before .before in c .var .result .0 ≡ getD (S .args .w .now) (S .args .c .at + S .args .c .stride * c .before .before .before .before .loop .i) 0 / 2)
+    → (let S = c .before .before .before .before .before .before in c .var .result .0 ≡ getD (S .args .w .now)
+    (S .args .c .at + S .args .c .stride * c .before .before .before .before .loop .i) 0 / 2)
 read c = ap (λ (v : Var). v .0) (c .var .ensures) ∙ ap (λ (l : Lit). l .0 .0) (c .before .from-word .ensures)
 
 loop-holds : tie.Need-loop-holds Inv-loop μ-loop
@@ -35,7 +36,8 @@ mul-from-word-2 : tie.Need-mul-from-word-2 Inv-loop μ-loop
 mul-from-word-2 c = let L = c .before in omega (arith, c .before .before .before .pre (L .loop .i) (c .loop-test .taken))
 
 shared-slice-read-from-word : tie.Need-shared-slice-read-from-word Inv-loop μ-loop
-shared-slice-read-from-word c = let L = c .before .before in c .before .before .before .before .pre (L .loop .i) (c .before .loop-test .taken)
+shared-slice-read-from-word c = let L = c .before .before in c .before .before .before .before .pre (L .loop .i)
+    (c .before .loop-test .taken)
 
 from-word-requires : tie.Need-from-word-requires Inv-loop μ-loop
 from-word-requires c κs = search needs
@@ -44,7 +46,13 @@ var-requires : tie.Need-var-requires Inv-loop μ-loop
 var-requires c κs = search needs
 
 returns : tie.Need-returns Inv-loop μ-loop
-returns c = λ all. omega (arith, read (c .before .before .before), all (c .before .before .before .before .before .before .before .loop .i) (c .before .before .before .before .before .before .loop-test .taken))
+returns c = λ all. omega (
+  arith,
+  read (c .before .before .before),
+  all
+      (c .before .before .before .before .before .before .before .loop .i)
+      (c .before .before .before .before .before .before .loop-test .taken),
+)
 
 add-i : tie.Need-add-i Inv-loop μ-loop
 add-i c = omega arith
@@ -53,7 +61,11 @@ loop-less : tie.Need-loop-less Inv-loop μ-loop
 loop-less c = omega arith
 
 loop-again : tie.Need-loop-again Inv-loop μ-loop
-loop-again c = (omega arith, below-more _ _ (c .before .before .before .before .before .before .before .loop .inv .1) (omega (arith, read (c .before .before .before))))
+loop-again c = (
+  omega arith,
+  below-more _ _ (c .before .before .before .before .before .before .before .loop .inv .1)
+      (omega (arith, read (c .before .before .before))),
+)
 
 returns-2 : tie.Need-returns-2 Inv-loop μ-loop
 returns-2 c = λ k l. c .before .loop .inv .1 k (omega arith)

@@ -38,7 +38,8 @@ mul-from-word-2 c =
     let L = c .before in let S = c .before .before .before .before in omega (arith, S .pre .inside (L .loop .i) (c .loop-test .taken))
 
 shared-slice-read-from-word : tie.Need-shared-slice-read-from-word Inv-loop μ-loop
-shared-slice-read-from-word c = let L = c .before .before in c .before .before .before .before .before .pre .inside (L .loop .i) (c .before .loop-test .taken)
+shared-slice-read-from-word c = let L = c .before .before in c .before .before .before .before .before .pre .inside (L .loop .i)
+    (c .before .loop-test .taken)
 
 from-word-requires : tie.Need-from-word-requires Inv-loop μ-loop
 from-word-requires c κs = search needs
@@ -59,15 +60,21 @@ enter-requires c κs =
     omega (arith, S .pre .most, L .loop .inv .2 .room)
 
 same-length : tie.Need-same-length Inv-loop μ-loop
-same-length c = let A = c .before .before .before in A .enter .kept .0 ∙ c .before .before .before .before .before .before .before .before .loop .inv .1
+same-length c = let A = c .before .before .before in A .enter .kept .0
+    ∙ c .before .before .before .before .before .before .before .before .loop .inv .1
 
 returns : tie.Need-returns Inv-loop μ-loop
 returns c =
     let A = c .before .before .before in
     let L = c .before .before .before .before .before .before .before .before in
     let S = c .before .before .before .before .before .before .before .before .before .before .before in
-    define-not _ _ _ _ _ (S .pre) (L .loop .i) (c .before .before .before .before .before .before .before .loop-test .taken) _ (L .loop .inv .2) (A .enter .last .0)
-    (rw (not-true (A .enter .result) (c .if1 .taken), word-read (at (S .args .w .now) (S .args .c) (L .loop .i)) (c .before .before .before .before .before .from-word .ensures)) at (A .enter .ensures))
+    define-not _ _ _ _ _ (S .pre) (L .loop .i) (c .before .before .before .before .before .before .before .loop-test .taken) _
+    (L .loop .inv .2) (A .enter .last .0)
+    (rw (
+      not-true (A .enter .result) (c .if1 .taken),
+      word-read (at (S .args .w .now) (S .args .c) (L .loop .i))
+          (c .before .before .before .before .before .from-word .ensures),
+    ) at (A .enter .ensures))
 
 add-i : tie.Need-add-i Inv-loop μ-loop
 add-i c = omega arith
@@ -82,8 +89,13 @@ loop-again c =
     let S = c .before .before .before .before .before .before .before .before .before .before .before in (
       omega arith,
       A .enter .kept .0 ∙ L .loop .inv .1,
-      define-more _ _ _ _ _ (S .pre) (L .loop .i) (c .before .before .before .before .before .before .before .loop-test .taken) _ (L .loop .inv .2) (A .enter .last .0)
-          (rw (not-false (A .enter .result) (c .if1 .left), word-read (at (S .args .w .now) (S .args .c) (L .loop .i)) (c .before .before .before .before .before .from-word .ensures)) at (A .enter .ensures)),
+      define-more _ _ _ _ _ (S .pre) (L .loop .i) (c .before .before .before .before .before .before .before .loop-test .taken) _
+          (L .loop .inv .2) (A .enter .last .0)
+          (rw (
+            not-false (A .enter .result) (c .if1 .left),
+            word-read (at (S .args .w .now) (S .args .c) (L .loop .i))
+                (c .before .before .before .before .before .from-word .ensures),
+          ) at (A .enter .ensures)),
     )
 
 same-length-2 : tie.Need-same-length-2 Inv-loop μ-loop

@@ -35,7 +35,12 @@ define-requires-2 c κs =
     let S = c .before .before .before .before .before .before .before .before .before .before .before .before in
     rw (c .column-of2 .ensures)
     (latches-next (S .args .w .now) (S .pre .0) (A .define .last .1 .0)
-    (rw (not-false (A .define .result) (c .before .before .before .if1 .left), c .before .before .before .before .before .before .before .column-of .ensures) at (A .define .ensures)))
+    (rw (
+      not-false (A .define .result)
+          (c .before .before .before .if1 .left),
+      c .before .before .before .before .before .before .before .column-of .ensures,
+    ) at
+    (A .define .ensures)))
 
 same-length-2 : tie.Need-same-length-2
 same-length-2 c = search needs
@@ -59,7 +64,12 @@ define-requires-3 c κs =
     let S = c .before .before .before .before .before .before .before .before .before .before .before .before .before .before .before .before .before .before .before in
     rw (c .before .column-of3 .ensures)
     (gates-next (S .args .w .now) (S .pre .0) (A .define2 .last .1 .0)
-    (rw (not-false (A .define2 .result) (c .before .before .before .if2 .left), c .before .before .before .before .before .before .before .column-of2 .ensures) at (A .define2 .ensures)))
+    (rw (
+      not-false (A .define2 .result)
+          (c .before .before .before .if2 .left),
+      c .before .before .before .before .before .before .before .column-of2 .ensures,
+    ) at
+    (A .define2 .ensures)))
 
 same-length-3 : tie.Need-same-length-3
 same-length-3 c = search needs

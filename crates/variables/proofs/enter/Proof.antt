@@ -21,7 +21,8 @@ is-complement-requires c κs = search needs
 returns-2 : tie.Need-returns-2
 returns-2 c =
     let A = c .before .before .before .before .before .args in
-    enters-complement (A .m .0) (A .label) (A .l) (A .table .now) (A .table .now) (sym (c .before .is-complement .ensures) ∙ c .if2 .taken)
+    enters-complement (A .m .0) (A .label) (A .l) (A .table .now) (A .table .now)
+    (sym (c .before .is-complement .ensures) ∙ c .if2 .taken)
 
 var-requires : tie.Need-var-requires
 var-requires c κs = search needs
@@ -29,7 +30,8 @@ var-requires c κs = search needs
 returns-3 : tie.Need-returns-3
 returns-3 c =
     let A = c .before .before .before .before .before .before .before .before .before .args in
-    enters-beyond (A .m .0) (A .label) (A .l) (A .table .now) (A .table .now) (omega (arith, ap (λ (v : Var). v .0) (c .before .before .before .var .ensures)))
+    enters-beyond (A .m .0) (A .label) (A .l) (A .table .now) (A .table .now)
+    (omega (arith, ap (λ (v : Var). v .0) (c .before .before .before .var .ensures)))
 
 cast-at : tie.Need-cast-at
 cast-at c = search needs
@@ -38,7 +40,12 @@ mul-if4 : tie.Need-mul-if4
 mul-if4 c = search needs
 
 slice-read-if4 : tie.Need-slice-read-if4
-slice-read-if4 c = omega (arith, ap (λ (v : Var). v .0) (c .before .before .before .before .before .var .ensures), c .before .before .before .before .before .before .before .before .before .before .before .pre)
+slice-read-if4 c = omega (
+  arith,
+  ap (λ (v : Var). v .0)
+      (c .before .before .before .before .before .var .ensures),
+  c .before .before .before .before .before .before .before .before .before .before .before .pre,
+)
 
 returns-4 : tie.Need-returns-4
 returns-4 c =
@@ -50,7 +57,12 @@ mul-table : tie.Need-mul-table
 mul-table c = search needs
 
 slice-write-table : tie.Need-slice-write-table
-slice-write-table c = omega (arith, ap (λ (v : Var). v .0) (c .before .before .before .before .before .before .var .ensures), c .before .before .before .before .before .before .before .before .before .before .before .before .pre)
+slice-write-table c = omega (
+  arith,
+  ap (λ (v : Var). v .0)
+      (c .before .before .before .before .before .before .var .ensures),
+  c .before .before .before .before .before .before .before .before .before .before .before .before .pre,
+)
 
 same-length : tie.Need-same-length
 same-length c = search needs
@@ -58,8 +70,12 @@ same-length c = search needs
 returns-5 : tie.Need-returns-5
 returns-5 c =
     let A = c .before .before .before .before .before .before .before .before .before .before .before .before .args in
-    enters-new (A .m .0) (A .label) (A .l) (A .table .now) (c .before .before .before .before .before .before .var .result .0) (ap (λ (v : Var). v .0) (c .before .before .before .before .before .before .var .ensures))
-    (sym (c .before .before .before .before .before .before .before .before .before .before .is-constant .ensures) ∙ c .before .before .before .before .before .before .before .before .before .if1 .left) (sym (c .before .before .before .before .before .before .before .before .is-complement .ensures) ∙ c .before .before .before .before .before .before .before .if2 .left)
+    enters-new (A .m .0) (A .label) (A .l) (A .table .now) (c .before .before .before .before .before .before .var .result .0)
+    (ap (λ (v : Var). v .0) (c .before .before .before .before .before .before .var .ensures))
+    (sym (c .before .before .before .before .before .before .before .before .before .before .is-constant .ensures)
+    ∙ c .before .before .before .before .before .before .before .before .before .if1 .left)
+    (sym (c .before .before .before .before .before .before .before .before .is-complement .ensures)
+    ∙ c .before .before .before .before .before .before .before .if2 .left)
     (omega (arith, ap (λ (v : Var). v .0) (c .before .before .before .before .before .before .var .ensures))) (c .if4 .left)
 
 pub enter-spec : {M : Type 1} → statement M

@@ -12,7 +12,8 @@ is-constant-requires : tie.Need-is-constant-requires
 is-constant-requires c κs = search needs
 
 returns : tie.Need-returns
-returns c = known-constant (c .before .before .before .args .table .now) (c .before .before .before .args .l) (sym (c .before .is-constant .ensures) ∙ c .if1 .taken)
+returns c = known-constant (c .before .before .before .args .table .now) (c .before .before .before .args .l)
+    (sym (c .before .is-constant .ensures) ∙ c .if1 .taken)
 
 var-requires : tie.Need-var-requires
 var-requires c κs = search needs
@@ -24,16 +25,25 @@ mul-if2 : tie.Need-mul-if2
 mul-if2 c = search needs
 
 shared-slice-read-if2 : tie.Need-shared-slice-read-if2
-shared-slice-read-if2 c = omega (arith, ap (λ (v : Var). v .0) (c .before .before .var .ensures), c .before .before .before .before .before .before .pre)
+shared-slice-read-if2 c = omega (
+  arith,
+  ap (λ (v : Var). v .0)
+      (c .before .before .var .ensures),
+  c .before .before .before .before .before .before .pre,
+)
 
 returns-2 : tie.Need-returns-2
 returns-2 c =
-    known-not (c .before .before .before .before .before .before .before .args .table .now) (c .before .before .before .before .before .before .before .args .l) (c .before .before .before .var .result .0) (ap (λ (v : Var). v .0) (c .before .before .before .var .ensures))
+    known-not (c .before .before .before .before .before .before .before .args .table .now)
+    (c .before .before .before .before .before .before .before .args .l) (c .before .before .before .var .result .0)
+    (ap (λ (v : Var). v .0) (c .before .before .before .var .ensures))
     (sym (c .before .before .before .before .before .is-constant .ensures) ∙ c .before .before .before .before .if1 .left) (c .if2 .taken)
 
 returns-3 : tie.Need-returns-3
 returns-3 c =
-    known-there (c .before .before .before .before .before .before .before .args .table .now) (c .before .before .before .before .before .before .before .args .l) (c .before .before .before .var .result .0) (ap (λ (v : Var). v .0) (c .before .before .before .var .ensures))
+    known-there (c .before .before .before .before .before .before .before .args .table .now)
+    (c .before .before .before .before .before .before .before .args .l) (c .before .before .before .var .result .0)
+    (ap (λ (v : Var). v .0) (c .before .before .before .var .ensures))
     (c .if2 .left)
 
 pub known-spec : {M : Type 1} → statement M

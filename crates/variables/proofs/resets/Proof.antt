@@ -29,7 +29,8 @@ tested c =
     let m = c .before .before .before .before .before .before .before .before .before .args .w .now in
     let at = c .before .before .before .before .before .before .before .layout-of .result .latches + 3 * c .before .before .before .before .before .before .loop .j in
     c .is-reset .ensures
-    ∙ ap₂ (λ (r l : ℕ). leb r 1 || eqb r l) (word-read (getD m (at + 2) 0) (c .before .from-word2 .ensures)) (word-read (getD m at 0) (c .before .before .before .from-word .ensures))
+    ∙ ap₂ (λ (r l : ℕ). leb r 1 || eqb r l) (word-read (getD m (at + 2) 0) (c .before .from-word2 .ensures))
+    (word-read (getD m at 0) (c .before .before .before .from-word .ensures))
 
 layout-of-requires : tie.Need-layout-of-requires Inv-loop μ-loop
 layout-of-requires c κs = search needs

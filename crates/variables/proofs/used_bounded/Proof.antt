@@ -76,11 +76,14 @@ returns-4 c =
     let Z = c .before .before .before .before .before .before .before .before .before in
     let S = c .before .before .before .before .before .before .before .before .before .before .before .before .before in
     columns-hold (S .args .w .now) (fits (S .args .w .now)) (c .before .column-of4 .ensures) (c .bounded4 .result) (c .bounded4 .ensures)
-    (column-holds (S .args .w .now) (fits (S .args .w .now)) (c .before .before .before .before .before .before .before .before .before .before .column-of .ensures) (Z .bounded .result)
+    (column-holds (S .args .w .now) (fits (S .args .w .now))
+    (c .before .before .before .before .before .before .before .before .before .before .column-of .ensures) (Z .bounded .result)
     (c .before .before .before .before .before .before .before .before .if1 .left) (Z .bounded .ensures))
-    (column-holds (S .args .w .now) (fits (S .args .w .now)) (c .before .before .before .before .before .before .before .column-of2 .ensures) (Y .bounded2 .result)
+    (column-holds (S .args .w .now) (fits (S .args .w .now))
+    (c .before .before .before .before .before .before .before .column-of2 .ensures) (Y .bounded2 .result)
     (c .before .before .before .before .before .if2 .left) (Y .bounded2 .ensures))
-    (column-holds (S .args .w .now) (fits (S .args .w .now)) (c .before .before .before .before .column-of3 .ensures) (X .bounded3 .result)
+    (column-holds (S .args .w .now) (fits (S .args .w .now)) (c .before .before .before .before .column-of3 .ensures)
+    (X .bounded3 .result)
     (c .before .before .if3 .left) (X .bounded3 .ensures))
 
 pub used-bounded-spec : {M : Type 1} → statement M
