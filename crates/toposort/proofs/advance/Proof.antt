@@ -71,7 +71,8 @@ returns c =
       search-push _ _ _ _ _ _ _ (S .pre .1 .0) _ (n .0 .0 .0) (n .0 .1) _ _ (A .push .ensures .0) (A .push .ensures .1)
           (top-edge _ _ _ _ _ _ _ (S .pre .1 .0) (S .pre .1 .1) _ (n .0 .0)),
       λ left right o.
-          search-deeper left right _ _ _ _ _ _ _ (S .pre .1 .0) (S .pre .1 .1) _ (n .0 .0 .0) (n .0 .1) _ (A .push .ensures .1) (n .1 left right o),
+          search-deeper left right _ _ _ _ _ _ _ (S .pre .1 .0) (S .pre .1 .1) _ (n .0 .0 .0) (n .0 .1) _ (A .push .ensures .1)
+          (n .1 left right o),
     )
 
 same-length-3 : tie.Need-same-length-3

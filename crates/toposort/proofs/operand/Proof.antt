@@ -10,10 +10,15 @@ use Rattle.literals.specs.declared.Lit.{Lit}
 use borrow.Author.Needs.{needs}
 use Rattle.toposort.proofs.operand.Statement.{statement}
 use Rattle.toposort.proofs.operand.Tie as tie
+
 -- the variables that were read
-left-read : (c : tie.After-var) → (let S = c .before .before .before .before .before .before in c .var .result .0 ≡ getD (S .args .lits .now) (3 * S .args .g + 1) 0 / 2)
+left-read : (c : tie.After-var) → (let S = c .before .before .before .before .before .before in c .var .result .0 ≡ getD
+    (S .args .lits .now) (3 * S .args .g + 1) 0 / 2)
 left-read c = ap (λ (v : Var). v .0) (c .var .ensures) ∙ ap (λ (l : Lit). l .0 .0) (c .before .from-word .ensures)
-right-read : (c : tie.After-var2) → (let S = c .before .before .before .before .before .before .before .before .before in c .var2 .result .0 ≡ getD (S .args .lits .now) (3 * S .args .g + 2) 0 / 2)
+
+right-read : (c : tie.After-var2) →
+    (let S = c .before .before .before .before .before .before .before .before .before in c .var2 .result .0 ≡ getD (S .args .lits .now)
+    (3 * S .args .g + 2) 0 / 2)
 right-read c = ap (λ (v : Var). v .0) (c .var2 .ensures) ∙ ap (λ (l : Lit). l .0 .0) (c .before .from-word2 .ensures)
 
 mul-from-word : tie.Need-mul-from-word
@@ -76,7 +81,8 @@ returns : tie.Need-returns
 returns c =
     let K = c .before .before .before in
     let S = c .before .before .before .before .before .before .before .before .before .before .before .before .before in
-    let looked = rw (c .before .h .given .1, left-read (c .before .before .before .before .before .before .before)) at (K .look .ensures) in (
+    let looked = rw (c .before .h .given .1, left-read (c .before .before .before .before .before .before .before)) at
+    (K .look .ensures) in (
       first-fresh (S .args .lits .now) (S .args .base) _ (S .args .table .now) (S .args .pos .now) _ (S .pre .0) _ looked,
       next-left (S .args .lits .now) (S .args .base) _ (S .args .table .now) (S .args .pos .now) _ (S .pre .1 .1) (S .pre .0) _ looked,
     )
@@ -95,8 +101,10 @@ returns-3 c =
     let K = c .before .before .before in
     let S = c .before .before .before .before .before .before .before .before .before .before .before .before .before in
     let looked2 = rw (right-read (c .before .before .before .before)) at (c .look2 .ensures) in
-    let looked = rw (c .before .enum-told2 .given .1, left-read (c .before .before .before .before .before .before .before)) at (K .look .ensures) in (
-      second (S .args .lits .now) (S .args .base) _ (S .args .table .now) (S .args .pos .now) _ (S .pre .0) looked (c .look2 .result) looked2,
+    let looked = rw (c .before .enum-told2 .given .1, left-read (c .before .before .before .before .before .before .before)) at
+    (K .look .ensures) in (
+      second (S .args .lits .now) (S .args .base) _ (S .args .table .now) (S .args .pos .now) _ (S .pre .0) looked
+          (c .look2 .result) looked2,
       next-right (S .args .lits .now) (S .args .base) _ (S .args .table .now) (S .args .pos .now) _ (S .pre .1 .1) (S .pre .0) looked
           (c .look2 .result) looked2,
     )

@@ -9,10 +9,12 @@ use Rattle.layout.specs.Order.{placedFrom}
 use borrow.Author.Needs.{needs}
 use Rattle.toposort.proofs.sort.Statement.{statement}
 use Rattle.toposort.proofs.sort.Tie as tie
+
 abbrev Inv-loop : tie.InvT-loop
 Inv-loop lits table base m pos₀ order₀ stack₀ s₀ sp₀ done₀ pos order stack s sp done =
     Run lits m pos order stack s sp done × (length pos ≡ length pos₀) × (length order ≡ length order₀) × (length stack ≡ length stack₀)
     × Planned lits base m table order stack s sp done
+
 abbrev μ-loop : tie.MeasureT-loop
 μ-loop lits table base m pos₀ order₀ stack₀ s₀ sp₀ done₀ pos order stack s sp done = 3 * m - (2 * done + sp + s)
 
@@ -29,8 +31,10 @@ loop-holds c =
 
 advance-requires : tie.Need-advance-requires Inv-loop μ-loop
 advance-requires c κs =
-    let L = c .before .before .before .before .before in
-    (c .before .before .before .before .before .before .before .before .before .before .before .pre .0, (L .loop .inv .0 .search, c .before .before .before .if1 .taken))
+    let L = c .before .before .before .before .before in (
+      c .before .before .before .before .before .before .before .before .before .before .before .pre .0,
+      (L .loop .inv .0 .search, c .before .before .before .if1 .taken),
+    )
 
 enum-told : tie.Need-enum-told Inv-loop μ-loop
 enum-told c = search needs
@@ -39,14 +43,24 @@ add-sp : tie.Need-add-sp Inv-loop μ-loop
 add-sp c =
     let A = c .before .before .before .before .before .before .before .before in
     let L = c .before .before .before .before .before .before .before .before .before .before .before .before .before .before in
-    omega (arith, counts _ _ _ _ _ _ _ (L .loop .inv .0 .search), c .before .before .before .before .before .before .before .before .before .before .before .before .before .before .before .before .before .before .before .before .pre .0 .small)
+    omega (
+      arith,
+      counts _ _ _ _ _ _ _
+          (L .loop .inv .0 .search),
+      c .before .before .before .before .before .before .before .before .before .before .before .before .before .before .before .before .before .before .before .before .pre .0 .small,
+    )
 
 loop-less : tie.Need-loop-less Inv-loop μ-loop
 loop-less c =
     let A = c .before .before .before .before .before .before .before .before in
     let L = c .before .before .before .before .before .before .before .before .before .before .before .before .before .before in
     let n = rw (c .enum-told .given .1) at (A .advance .ensures) in
-    omega (arith, counts _ _ _ _ _ _ _ (n .0 .0), c .before .before .before .before .before .before .before .before .before .before .before .before .before .loop-test .taken)
+    omega (
+      arith,
+      counts _ _ _ _ _ _ _
+          (n .0 .0),
+      c .before .before .before .before .before .before .before .before .before .before .before .before .before .loop-test .taken,
+    )
 
 loop-again : tie.Need-loop-again Inv-loop μ-loop
 loop-again c =
@@ -54,11 +68,14 @@ loop-again c =
     let L = c .before .before .before .before .before .before .before .before .before .before .before .before .before .before in
     let S = c .before .before .before .before .before .before .before .before .before .before .before .before .before .before .before .before .before .before .before .before in
     let n = rw (c .enum-told .given .1) at (A .advance .ensures) in (
-      run-step _ _ _ _ _ _ _ _ (L .loop .inv .0) _ _ _ _ _ (c .before .before .before .before .before .before .before .before .before .before .before .before .before .loop-test .taken) (n .0),
+      run-step _ _ _ _ _ _ _ _ (L .loop .inv .0) _ _ _ _ _
+          (c .before .before .before .before .before .before .before .before .before .before .before .before .before .loop-test .taken)
+          (n .0),
       A .advance .kept .1 .1 .1 .0 ∙ L .loop .inv .1,
       A .advance .kept .1 .1 .1 .1 .0 ∙ L .loop .inv .2,
       A .advance .kept .1 .1 .1 .1 .1 .0 ∙ L .loop .inv .3,
-      λ left right o. ap (placedFrom left right (S .args .m) (L .loop .s) (S .args .m - L .loop .s)) (n .1 left right o) ∙ L .loop .inv .4 left right o,
+      λ left right o. ap (placedFrom left right (S .args .m) (L .loop .s) (S .args .m - L .loop .s)) (n .1 left right o)
+          ∙ L .loop .inv .4 left right o,
     )
 
 enum-told-2 : tie.Need-enum-told-2 Inv-loop μ-loop
@@ -71,14 +88,25 @@ add-done : tie.Need-add-done Inv-loop μ-loop
 add-done c =
     let A = c .before .before .before .before .before .before .before .before in
     let L = c .before .before .before .before .before .before .before .before .before .before .before .before .before .before in
-    omega (arith, counts _ _ _ _ _ _ _ (L .loop .inv .0 .search), c .before .before .before .before .before .before .before .before .before .before .before .before .before .before .before .before .before .before .before .before .pre .0 .small)
+    omega (
+      arith,
+      counts _ _ _ _ _ _ _
+          (L .loop .inv .0 .search),
+      c .before .before .before .before .before .before .before .before .before .before .before .before .before .before .before .before .before .before .before .before .pre .0 .small,
+    )
 
 loop-less-2 : tie.Need-loop-less-2 Inv-loop μ-loop
 loop-less-2 c =
     let A = c .before .before .before .before .before .before .before .before in
     let L = c .before .before .before .before .before .before .before .before .before .before .before .before .before .before in
     let I = c .before .before .before .before .before .before .before .before .before .before .before .before in
-    omega (arith, counts _ _ _ _ _ _ _ (L .loop .inv .0 .search), I .if1 .taken, c .before .before .before .before .before .before .before .before .before .before .before .before .before .loop-test .taken)
+    omega (
+      arith,
+      counts _ _ _ _ _ _ _
+          (L .loop .inv .0 .search),
+      I .if1 .taken,
+      c .before .before .before .before .before .before .before .before .before .before .before .before .before .loop-test .taken,
+    )
 
 loop-again-2 : tie.Need-loop-again-2 Inv-loop μ-loop
 loop-again-2 c =
@@ -86,11 +114,14 @@ loop-again-2 c =
     let L = c .before .before .before .before .before .before .before .before .before .before .before .before .before .before in
     let S = c .before .before .before .before .before .before .before .before .before .before .before .before .before .before .before .before .before .before .before .before in
     let n = rw (c .enum-told2 .given .1) at (A .advance .ensures) in (
-      run-step _ _ _ _ _ _ _ _ (L .loop .inv .0) _ _ _ _ _ (c .before .before .before .before .before .before .before .before .before .before .before .before .before .loop-test .taken) (n .0),
+      run-step _ _ _ _ _ _ _ _ (L .loop .inv .0) _ _ _ _ _
+          (c .before .before .before .before .before .before .before .before .before .before .before .before .before .loop-test .taken)
+          (n .0),
       A .advance .kept .1 .1 .1 .0 ∙ L .loop .inv .1,
       A .advance .kept .1 .1 .1 .1 .0 ∙ L .loop .inv .2,
       A .advance .kept .1 .1 .1 .1 .1 .0 ∙ L .loop .inv .3,
-      λ left right o. ap (placedFrom left right (S .args .m) (L .loop .s) (S .args .m - L .loop .s)) (n .1 left right o) ∙ L .loop .inv .4 left right o,
+      λ left right o. ap (placedFrom left right (S .args .m) (L .loop .s) (S .args .m - L .loop .s)) (n .1 left right o)
+          ∙ L .loop .inv .4 left right o,
     )
 
 enum-told-3 : tie.Need-enum-told-3 Inv-loop μ-loop
@@ -143,7 +174,13 @@ loop-less-3 : tie.Need-loop-less-3 Inv-loop μ-loop
 loop-less-3 c =
     let L = c .before .before .before .before .before .before .before .before .before .before .before in
     let I = c .before .before .before .before .before .before .before .before .before in
-    omega (arith, counts _ _ _ _ _ _ _ (L .loop .inv .0 .search), I .if1 .left, c .before .before .before .before .before .before .before .before .before .before .loop-test .taken)
+    omega (
+      arith,
+      counts _ _ _ _ _ _ _
+          (L .loop .inv .0 .search),
+      I .if1 .left,
+      c .before .before .before .before .before .before .before .before .before .before .loop-test .taken,
+    )
 
 loop-again-3 : tie.Need-loop-again-3 Inv-loop μ-loop
 loop-again-3 c =
