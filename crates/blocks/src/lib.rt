@@ -12,6 +12,7 @@ ghost use Rattle.aiger.specs.Bits.{bit};
 ghost use Rattle.aiger.specs.Frames.{Run, hits};
 ghost use Rattle.aiger.specs.Witness.{agrees};
 ghost use Rattle.completions.specs.Either.{isEither, eithers, completion, allPass};
+ghost use Rattle.literals.specs.Literal.{wordOf};
 ghost use Rattle.layout.specs.Words.{word, circuitIn};
 ghost use Rattle.completions.specs.Forms.{completed};
 ghost use Rattle.frames.specs.Lanes.{lane, Ready};
@@ -87,16 +88,18 @@ fn put_line(
 }
 
 // In which completions the start value of a latch, whose word is given, agrees with its reset.
-fn agree_one(lit: u32, reset: u32, word: u64) -> u64
-    ensures { λ r. ⌜ ((p : ℕ) → p < 64 → bit r p ≡ (eqb reset lit || eqb reset (cond (bit word p) 1 0))) ⌝ }
+fn agree_one(lit: Lit, reset: Lit, word: u64) -> u64
+    ensures { λ r. ⌜
+        ((p : ℕ) → p < 64 → bit r p ≡ (eqb (wordOf reset) (wordOf lit) || eqb (wordOf reset) (cond (bit word p) 1 0)))
+        ⌝ }
 {
-    if reset == lit {
+    if reset.equals(lit) {
         return 0xffff_ffff_ffff_ffff;
     }
-    if reset == 1 {
+    if reset.is_true() {
         return word;
     }
-    if reset == 0 { !word } else { 0 }
+    if reset.is_constant() { !word } else { 0 }
 }
 
 // In which completions every start value agrees with its reset, where the latches have their words.
@@ -112,9 +115,10 @@ fn agree_word(m: &[u32], layout: Layout, order: &[u32], values: &[u64]) -> u64
     let mut agree: u64 = 0xffff_ffff_ffff_ffff;
     let mut j = 0;
     while j < count {
-        let lit = m[latches + 3 * j];
-        let place = Lit::from_word(lit).var().0 as usize;
-        agree = agree & agree_one(lit, m[latches + 3 * j + 2], values[place]);
+        let lit = Lit::from_word(m[latches + 3 * j]);
+        let reset = Lit::from_word(m[latches + 3 * j + 2]);
+        let place = lit.var().0 as usize;
+        agree = agree & agree_one(lit, reset, values[place]);
         j += 1;
     }
     agree

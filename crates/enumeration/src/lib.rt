@@ -1,5 +1,6 @@
 // The first hit of one frame: its sequences are tried in counting order, 64 at a time.
 use layout::Layout;
+use literals::Lit;
 ghost use mathlib.Core.Path.{_≡_};
 ghost use mathlib.Core.Bool.{cond};
 ghost use Prim.Native.Nat.{ℕ, _+_, _*_, _^_, _≤_, _<_, min};
@@ -10,6 +11,7 @@ ghost use Rattle.aiger.specs.Circuit.{var};
 ghost use Rattle.aiger.specs.Frames.{freeBits, freeStarts, freeBit};
 ghost use Rattle.aiger.specs.Search.{reaches};
 ghost use Rattle.aiger.specs.Memory.{Holds};
+ghost use Rattle.literals.specs.Literal.{wordOf};
 ghost use Rattle.layout.specs.Words.{word, circuitIn};
 ghost use Rattle.layout.specs.Layout.{LayoutOf};
 ghost use Rattle.meaning.specs.Frame.{inputAt, latchAt};
@@ -25,14 +27,34 @@ pub enum Frame {
     Spent,
 }
 
+// What is asked: whether bad line b is hit at frame t, in sequences of n free bits, the first `free` of which are latches' starts.
+struct Question {
+    b: usize,
+    t: usize,
+    n: usize,
+    free: usize,
+}
+
+// 64 sequences, block after block, and how many of their free bits are left for the inputs from a frame on.
+struct Block {
+    number: u64,
+    top: usize,
+}
+
 // The start values of a latch in a block of 64 sequences. Where its start is free it has bit k of each sequence.
-fn start_word(lit: u32, reset: u32, k: usize, block: u64) -> u64
-    ensures { λ r. ⌜ ((p : ℕ) → p < 64 → bit r p ≡ cond (eqb reset lit) (bit (block * 64 + p) k) (eqb reset 1)) ⌝ }
+fn start_word(lit: Lit, reset: Lit, k: usize, block: u64) -> u64
+    ensures { λ r. ⌜
+        ((p : ℕ) → p < 64 → bit r p ≡ cond (eqb (wordOf reset) (wordOf lit)) (bit (block * 64 + p) k) (eqb (wordOf reset) 1))
+        ⌝ }
 {
-    if reset == lit {
+    if reset.equals(lit) {
         return words::counting_word(k, block);
     }
-    if reset == 1 { 0xffff_ffff_ffff_ffff } else { 0 }
+    if reset.is_true() {
+        0xffff_ffff_ffff_ffff
+    } else {
+        0
+    }
 }
 
 // Gives each latch its start values. The free bits of a sequence are its bits from n - 1 down.
@@ -47,11 +69,12 @@ fn put_starts(m: &[u32], layout: Layout, n: usize, block: u64, values: &mut [u64
     let mut left = n;
     let mut j = 0;
     while j < count {
-        let lit = m[latches + 3 * j];
-        let reset = m[latches + 3 * j + 2];
+        let lit = Lit::from_word(m[latches + 3 * j]);
+        let reset = Lit::from_word(m[latches + 3 * j + 2]);
         left -= layout::free_start(lit, reset);
-        let v = (lit / 2) as usize;
-        values[v] = start_word(lit, reset, left, block);
+        let v = lit.var();
+        let place = v.0 as usize;
+        values[place] = start_word(lit, reset, left, block);
         j += 1;
     }
 }
@@ -66,8 +89,9 @@ pub fn put_inputs(m: &[u32], layout: Layout, top: usize, block: u64, values: &mu
     let count = layout.i;
     let mut i = 0;
     while i < count {
-        let v = (m[7 + i] / 2) as usize;
-        values[v] = words::counting_word(top - (i + 1), block);
+        let v = Lit::from_word(m[7 + i]).var();
+        let place = v.0 as usize;
+        values[place] = words::counting_word(top - (i + 1), block);
         i += 1;
     }
 }
@@ -94,59 +118,64 @@ fn first_frame(
     frames::constrain(m, layout, order, 0xffff_ffff_ffff_ffff, values)
 }
 
-// The values of the next frame, and in which of the sequences `from` its constraints hold. top free bits are left for the inputs.
+// The values of the next frame, and in which of the sequences `from` its constraints hold.
 fn next_frame(
     m: &[u32],
     layout: Layout,
     order: &[u32],
-    top: usize,
-    block: u64,
+    block: Block,
     from: u64,
     values: &mut [u64],
     state: &mut [u64],
 ) -> u64
     requires { ⌜ Ready (now m) layout (now order) (length (now values)) ⌝ }
-    requires { ⌜ (layout .i ≤ top) × (1024 ≤ length (now state)) ⌝ }
-    ensures { λ r. ⌜ NextFrame (circuitIn (now (m .entry))) top block from (now (values .entry)) (now (values .exit)) r ⌝ }
+    requires { ⌜ (layout .i ≤ block .top) × (1024 ≤ length (now state)) ⌝ }
+    ensures { λ r. ⌜ NextFrame (circuitIn (now (m .entry))) (block .top) (block .number) from (now (values .entry)) (now (values .exit)) r ⌝ }
 {
     frames::advance(m, layout, order, values, state);
-    put_inputs(m, layout, top, block, values);
+    put_inputs(m, layout, block.top, block.number, values);
     frames::eval_gates(m, layout, order, values);
     frames::constrain(m, layout, order, from, values)
 }
 
-// Which of the 64 sequences of a block hit b at frame t. n is the number of free bits, free that of the latches. The frames after one by
-// which every sequence of the block has broken a constraint are not evaluated.
+// Which of the 64 sequences of a block hit. The frames after one by which every sequence of the block has broken a constraint are not
+// evaluated.
 fn block_hits(
     m: &[u32],
     layout: Layout,
     order: &[u32],
-    b: usize,
-    t: usize,
-    n: usize,
-    free: usize,
+    q: Question,
     block: u64,
     values: &mut [u64],
     state: &mut [u64],
 ) -> u64
     requires { ⌜ Ready (now m) layout (now order) (length (now values)) ⌝ }
-    requires { ⌜ (b < word (now m) 5) × (1024 ≤ length (now state)) ⌝ }
-    requires { ⌜ (n ≡ freeBits (circuitIn (now m)) t) × (free ≡ freeStarts (circuitIn (now m))) ⌝ }
-    ensures { λ r. ⌜ ((p : ℕ) → p < 64 → bit r p ≡ reaches (circuitIn (now (m .entry))) b t (block * 64 + p)) ⌝ }
+    requires { ⌜ (q .b < word (now m) 5) × (1024 ≤ length (now state)) ⌝ }
+    requires { ⌜ (q .n ≡ freeBits (circuitIn (now m)) (q .t)) × (q .free ≡ freeStarts (circuitIn (now m))) ⌝ }
+    ensures { λ r. ⌜ ((p : ℕ) → p < 64 → bit r p ≡ reaches (circuitIn (now (m .entry))) (q .b) (q .t) (block * 64 + p)) ⌝ }
 {
     let inputs = layout.i;
-    let mut top = n - free;
-    let mut left = first_frame(m, layout, order, n, top, block, values);
+    let t = q.t;
+    let mut top = q.n - q.free;
+    let mut left = first_frame(m, layout, order, q.n, top, block, values);
     let mut u = 0;
     while u < t {
         if left == 0 {
             return 0;
         }
         top -= inputs;
-        left = next_frame(m, layout, order, top, block, left, values, state);
+        left = next_frame(
+            m,
+            layout,
+            order,
+            Block { number: block, top },
+            left,
+            values,
+            state,
+        );
         u += 1;
     }
-    left & frames::bad_word(m, layout, order, b, values)
+    left & frames::bad_word(m, layout, order, q.b, values)
 }
 
 // The smaller of 2 to the power n and d.
@@ -200,22 +229,19 @@ fn scan_blocks(
     m: &[u32],
     layout: Layout,
     order: &[u32],
-    b: usize,
-    t: usize,
-    n: usize,
-    free: usize,
+    q: Question,
     total: u64,
     values: &mut [u64],
     state: &mut [u64],
 ) -> u64
     requires { ⌜ Ready (now m) layout (now order) (length (now values)) ⌝ }
-    requires { ⌜ (b < word (now m) 5) × (1024 ≤ length (now state)) × (total ≤ 4294967296) ⌝ }
-    requires { ⌜ (n ≡ freeBits (circuitIn (now m)) t) × (free ≡ freeStarts (circuitIn (now m))) ⌝ }
-    ensures { λ r. ⌜ First (reaches (circuitIn (now (m .entry))) b t) total r ⌝ }
+    requires { ⌜ (q .b < word (now m) 5) × (1024 ≤ length (now state)) × (total ≤ 4294967296) ⌝ }
+    requires { ⌜ (q .n ≡ freeBits (circuitIn (now m)) (q .t)) × (q .free ≡ freeStarts (circuitIn (now m))) ⌝ }
+    ensures { λ r. ⌜ First (reaches (circuitIn (now (m .entry))) (q .b) (q .t)) total r ⌝ }
 {
     let mut block = 0;
     while 64 * block < total {
-        let hits = block_hits(m, layout, order, b, t, n, free, block, values, state);
+        let hits = block_hits(m, layout, order, q, block, values, state);
         let p = words::first_difference(hits, 0) as u64;
         if p < 64 {
             let x = 64 * block + p;
@@ -230,35 +256,15 @@ fn scan_blocks(
 }
 
 // The first sequence below total that hits, or total.
-fn first_below(
-    m: &[u32],
-    layout: Layout,
-    order: &[u32],
-    b: usize,
-    t: usize,
-    n: usize,
-    free: usize,
-    total: u64,
-) -> u64
+fn first_below(m: &[u32], layout: Layout, order: &[u32], q: Question, total: u64) -> u64
     requires { ⌜ Ready (now m) layout (now order) 4097 ⌝ }
-    requires { ⌜ (b < word (now m) 5) × (total ≤ 4294967296) ⌝ }
-    requires { ⌜ (n ≡ freeBits (circuitIn (now m)) t) × (free ≡ freeStarts (circuitIn (now m))) ⌝ }
-    ensures { λ r. ⌜ First (reaches (circuitIn (now (m .entry))) b t) total r ⌝ }
+    requires { ⌜ (q .b < word (now m) 5) × (total ≤ 4294967296) ⌝ }
+    requires { ⌜ (q .n ≡ freeBits (circuitIn (now m)) (q .t)) × (q .free ≡ freeStarts (circuitIn (now m))) ⌝ }
+    ensures { λ r. ⌜ First (reaches (circuitIn (now (m .entry))) (q .b) (q .t)) total r ⌝ }
 {
     let mut values = [0u64; 4097];
     let mut state = [0u64; 1024];
-    scan_blocks(
-        m,
-        layout,
-        order,
-        b,
-        t,
-        n,
-        free,
-        total,
-        &mut values,
-        &mut state,
-    )
+    scan_blocks(m, layout, order, q, total, &mut values, &mut state)
 }
 
 // The first hit of b at frame t. Where there is one its free bits are left at the front of working memory.
@@ -279,7 +285,7 @@ pub fn first_hit(
     let free = layout.u;
     let n = free + layout.i * (t + 1);
     let total = tries(n, d);
-    let x = first_below(m, layout, order, b, t, n, free, total);
+    let x = first_below(m, layout, order, Question { b, t, n, free }, total);
     if x < total {
         put_free(x, n, work);
         return Frame::Hit;

@@ -1,5 +1,6 @@
 // The values of a frame, for 64 runs at a time: the word of a variable has its value in run p as bit p.
 use layout::Layout;
+use literals::Lit;
 ghost use mathlib.Core.Path.{_≡_};
 ghost use mathlib.Core.Bool.{_&&_};
 ghost use Prim.Native.Nat.{ℕ, _+_, _*_, _/_, _≤_, _<_};
@@ -7,16 +8,17 @@ ghost use lib.ListN.{length, getD};
 ghost use Rattle.aiger.specs.Bits.{bit};
 ghost use Rattle.aiger.specs.Circuit.{var};
 ghost use Rattle.aiger.specs.Frames.{value};
+ghost use Rattle.literals.specs.Literal.{wordOf};
 ghost use Rattle.layout.specs.Words.{word, gateIn, circuitIn};
 ghost use Rattle.frames.specs.Lanes.{lane, Ready, Evaluated, Advanced, constrainedIn, badIn, GateRoom, Gated, Apart, Stored};
 
 // The word of literal l.
-fn literal_value(values: &[u64], l: u32) -> u64
-    requires { ⌜ l / 2 < length (now values) ⌝ }
-    ensures { λ r. ⌜ ((p : ℕ) → p < 64 → bit r p ≡ value (lane (now (values .entry)) p) l) ⌝ }
+fn literal_value(values: &[u64], l: Lit) -> u64
+    requires { ⌜ l .0 .0 < length (now values) ⌝ }
+    ensures { λ r. ⌜ ((p : ℕ) → p < 64 → bit r p ≡ value (lane (now (values .entry)) p) (wordOf l)) ⌝ }
 {
-    let v = (l / 2) as usize;
-    let s = (l % 2) as u64;
+    let v = l.0.0 as usize;
+    let s = l.1 as u64;
     values[v] ^ (s * 0xffff_ffff_ffff_ffff)
 }
 
@@ -25,10 +27,11 @@ fn eval_gate(m: &[u32], at: usize, values: &mut [u64])
     requires { ⌜ GateRoom (now m) at (length (now values)) ⌝ }
     ensures { λ _. ⌜ Gated (gateIn (now (m .entry)) at) (now (values .entry)) (now (values .exit)) ⌝ }
 {
-    let x = literal_value(values, m[at + 1]);
-    let y = literal_value(values, m[at + 2]);
-    let v = (m[at] / 2) as usize;
-    values[v] = x & y;
+    let x = literal_value(values, Lit::from_word(m[at + 1]));
+    let y = literal_value(values, Lit::from_word(m[at + 2]));
+    let v = Lit::from_word(m[at]).var();
+    let place = v.0 as usize;
+    values[place] = x & y;
 }
 
 // Evaluates all gates, where the constant, the inputs and the latches have their words.
@@ -56,7 +59,7 @@ pub fn constrain(m: &[u32], layout: Layout, order: &[u32], from: u64, values: &[
     let mut left = from;
     let mut k = 0;
     while k < count {
-        left = left & literal_value(values, m[constraints + k]);
+        left = left & literal_value(values, Lit::from_word(m[constraints + k]));
         k += 1;
     }
     left
@@ -69,7 +72,7 @@ pub fn bad_word(m: &[u32], layout: Layout, order: &[u32], b: usize, values: &[u6
     ensures { λ r. ⌜ ((p : ℕ) → p < 64 → bit r p ≡ badIn (circuitIn (now (m .entry))) b (lane (now (values .entry)) p)) ⌝ }
 {
     let bads = layout.bads;
-    literal_value(values, m[bads + b])
+    literal_value(values, Lit::from_word(m[bads + b]))
 }
 
 // The words of the next literals.
@@ -82,7 +85,7 @@ pub fn next_state(m: &[u32], layout: Layout, values: &[u64], state: &mut [u64])
     let latches = layout.latches;
     let mut j = 0;
     while j < count {
-        state[j] = literal_value(values, m[latches + 3 * j + 1]);
+        state[j] = literal_value(values, Lit::from_word(m[latches + 3 * j + 1]));
         j += 1;
     }
 }
@@ -97,8 +100,9 @@ fn put_state(m: &[u32], layout: Layout, state: &[u64], values: &mut [u64])
     let latches = layout.latches;
     let mut j = 0;
     while j < count {
-        let v = (m[latches + 3 * j] / 2) as usize;
-        values[v] = state[j];
+        let v = Lit::from_word(m[latches + 3 * j]).var();
+        let place = v.0 as usize;
+        values[place] = state[j];
         j += 1;
     }
 }

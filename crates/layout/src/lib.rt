@@ -1,10 +1,12 @@
 // Where the parts of a circuit stand in circuit memory.
+use literals::Lit;
 ghost use mathlib.Core.Path.{_≡_};
 ghost use mathlib.Core.Bool.{cond};
 ghost use Prim.Native.Nat.{_≤_, _<_, _^_};
 ghost use lib.Dec.{eqb};
 ghost use lib.ListN.{length};
 ghost use Rattle.aiger.specs.Frames.{freeStarts};
+ghost use Rattle.literals.specs.Literal.{wordOf};
 ghost use Rattle.layout.specs.Words.{word, circuitIn};
 ghost use Rattle.layout.specs.Layout.{LayoutOf, PlacesOf, Counted};
 
@@ -70,10 +72,10 @@ pub fn layout_of(m: &[u32]) -> Layout
 }
 
 // 1 for a latch with a free start, else 0.
-pub fn free_start(lit: u32, reset: u32) -> usize
-    ensures { λ r. ⌜ r ≡ cond (eqb reset lit) 1 0 ⌝ }
+pub fn free_start(lit: Lit, reset: Lit) -> usize
+    ensures { λ r. ⌜ r ≡ cond (eqb (wordOf reset) (wordOf lit)) 1 0 ⌝ }
 {
-    if reset == lit { 1 } else { 0 }
+    if reset.equals(lit) { 1 } else { 0 }
 }
 
 // The number of latches with a free start.
@@ -86,7 +88,9 @@ fn free_starts(m: &[u32], p: Layout) -> usize
     let mut free = 0;
     let mut j = 0;
     while j < l {
-        free += free_start(m[latches + 3 * j], m[latches + 3 * j + 2]);
+        let lit = Lit::from_word(m[latches + 3 * j]);
+        let reset = Lit::from_word(m[latches + 3 * j + 2]);
+        free += free_start(lit, reset);
         j += 1;
     }
     free

@@ -1,6 +1,7 @@
 // Variables, literals and nodes as types of their own, so that none is taken for another.
 // Clause 11.6: variables, literals and nodes are types of their own.
 ghost use mathlib.Core.Path.{_≡_};
+ghost use lib.Dec.{eqb, leb};
 ghost use Rattle.literals.specs.Literal.{literal, wordOf, complemented};
 
 // A variable number. Variable 0 is the constant.
@@ -44,5 +45,28 @@ impl Lit {
     {
         let v = self.0;
         Lit(v, !self.1)
+    }
+}
+
+impl Lit {
+    pub fn equals(self, other: Lit) -> bool
+        ensures { λ r. ⌜ r ≡ eqb (wordOf self) (wordOf other) ⌝ }
+    {
+        self.word() == other.word()
+    }
+
+    // Whether the literal is constant: 0 or 1.
+    pub fn is_constant(self) -> bool
+        ensures { λ r. ⌜ r ≡ leb (wordOf self) 1 ⌝ }
+    {
+        let v = self.0.0;
+        v == 0
+    }
+
+    // Whether it is 1, the constant true.
+    pub fn is_true(self) -> bool
+        ensures { λ r. ⌜ r ≡ eqb (wordOf self) 1 ⌝ }
+    {
+        self.word() == 1
     }
 }

@@ -1,6 +1,8 @@
 // Cause 8: the gates in an order with operands before users, or a cycle. A depth-first search with its stack in memory.
 // With m gates, pos has for each gate 0 before the search meets it; then m + 1 plus its place on the stack; then 1 plus its place in the
 // order.
+use literals::Lit;
+use literals::Var;
 ghost use mathlib.Core.Path.{_≡_};
 ghost use mathlib.Core.Option.{Option};
 ghost use Prim.Native.Nat.{ℕ, _+_, _<_, _≤_};
@@ -28,14 +30,27 @@ enum Step {
     Cycle,
 }
 
+// The gates of a circuit: how many definitions come before the first, and how many gates there are.
+struct Gates {
+    base: usize,
+    m: usize,
+}
+
+// How many gates are on the stack, and how many in the order.
+struct Progress {
+    sp: usize,
+    done: usize,
+}
+
 // How far the search is with the gate that defines variable v.
-fn look(table: &[u32], pos: &[u32], base: usize, m: usize, v: usize) -> Visit
-    requires { ⌜ v < length (now table) ⌝ }
+fn look(table: &[u32], pos: &[u32], base: usize, m: usize, v: Var) -> Visit
+    requires { ⌜ v .0 < length (now table) ⌝ }
     requires { ⌜ m ≤ length (now pos) ⌝ }
     requires { ⌜ ((u : ℕ) → getD (now table) u 0 ≤ base + m) ⌝ }
-    ensures { λ r. ⌜ Looked base m (now (table .entry)) (now (pos .entry)) v r ⌝ }
+    ensures { λ r. ⌜ Looked base m (now (table .entry)) (now (pos .entry)) (v .0) r ⌝ }
 {
-    let a = table[v] as usize;
+    let at = v.0 as usize;
+    let a = table[at] as usize;
     if a <= base {
         return Visit::Done;
     }
@@ -57,12 +72,12 @@ fn operand(lits: &[u32], table: &[u32], pos: &[u32], base: usize, m: usize, g: u
     requires { ⌜ g < m ⌝ }
     ensures { λ r. ⌜ OperandOf (now (lits .entry)) m (now (pos .entry)) g r × ((left right : ℕ → Option ℕ) → Operands (now (lits .entry)) base m (now (table .entry)) left right → Next m (now (pos .entry)) (left g) (right g) r) ⌝ }
 {
-    let v = (lits[3 * g + 1] / 2) as usize;
-    let u = (lits[3 * g + 2] / 2) as usize;
-    match look(table, pos, base, m, v) {
+    let left = Lit::from_word(lits[3 * g + 1]).var();
+    let right = Lit::from_word(lits[3 * g + 2]).var();
+    match look(table, pos, base, m, left) {
         Visit::Fresh(h) => Visit::Fresh(h),
         Visit::Open => Visit::Open,
-        Visit::Done => look(table, pos, base, m, u),
+        Visit::Done => look(table, pos, base, m, right),
     }
 }
 
@@ -88,19 +103,26 @@ fn place(pos: &mut [u32], order: &mut [u32], m: usize, done: usize, g: usize)
 fn advance(
     lits: &[u32],
     table: &[u32],
-    base: usize,
-    m: usize,
+    gates: Gates,
     pos: &mut [u32],
     order: &mut [u32],
     stack: &mut [u32],
-    sp: usize,
-    done: usize,
+    at: Progress,
 ) -> Step
-    requires { ⌜ Linked (now lits) base m (now table) ⌝ }
-    requires { ⌜ Search (now lits) m (now pos) (now order) (now stack) sp done ⌝ }
-    requires { ⌜ 0 < sp ⌝ }
-    ensures { λ r. ⌜ Stepped (now (lits .entry)) m (now (pos .entry)) (now (pos .exit)) (now (order .exit)) (now (stack .exit)) sp done r × ((left right : ℕ → Option ℕ) → Operands (now (lits .entry)) base m (now (table .entry)) left right → Continues left right m (now (order .entry)) (now (stack .entry)) (now (order .exit)) (now (stack .exit)) sp done r) ⌝ }
+    requires { ⌜ Linked (now lits) (gates .base) (gates .m) (now table) ⌝ }
+    requires { ⌜ Search (now lits) (gates .m) (now pos) (now order) (now stack) (at .sp) (at .done) ⌝ }
+    requires { ⌜ 0 < at .sp ⌝ }
+    ensures { λ r. ⌜
+        Stepped (now (lits .entry)) (gates .m) (now (pos .entry)) (now (pos .exit)) (now (order .exit)) (now (stack .exit)) (at .sp) (at .done) r
+        × ((left right : ℕ → Option ℕ)
+        → Operands (now (lits .entry)) (gates .base) (gates .m) (now (table .entry)) left right
+        → Continues left right (gates .m) (now (order .entry)) (now (stack .entry)) (now (order .exit)) (now (stack .exit)) (at .sp) (at .done) r)
+        ⌝ }
 {
+    let base = gates.base;
+    let m = gates.m;
+    let sp = at.sp;
+    let done = at.done;
     let g = stack[sp - 1] as usize;
     match operand(lits, table, pos, base, m, g) {
         Visit::Fresh(h) => {
@@ -135,7 +157,15 @@ fn sort(
     let mut done = 0;
     while s < m {
         if 0 < sp {
-            match advance(lits, table, base, m, pos, order, stack, sp, done) {
+            match advance(
+                lits,
+                table,
+                Gates { base, m },
+                pos,
+                order,
+                stack,
+                Progress { sp, done },
+            ) {
                 Step::Deeper => sp += 1,
                 Step::Placed => {
                     sp -= 1;

@@ -1,5 +1,6 @@
 // The states of a circuit as numbers, the latches that are kept as bits, and where they lead.
 use layout::Layout;
+use literals::Lit;
 ghost use mathlib.Core.Path.{_≡_};
 ghost use mathlib.Core.Bool.{cond};
 ghost use mathlib.Core.List.{map};
@@ -10,6 +11,7 @@ ghost use Rattle.aiger.specs.Bits.{bit};
 ghost use Rattle.aiger.specs.Circuit.{var};
 ghost use Rattle.aiger.specs.Frames.{freeStarts};
 ghost use Rattle.aiger.specs.Memory.{Holds};
+ghost use Rattle.literals.specs.Literal.{wordOf};
 ghost use Rattle.layout.specs.Words.{word, circuitIn};
 ghost use Rattle.layout.specs.Layout.{LayoutOf};
 ghost use Rattle.meaning.specs.Frame.{latchAt};
@@ -31,8 +33,9 @@ fn put_latches(m: &[u32], layout: Layout, s: u32, values: &mut [u64], kept: &[u3
     let mut i = 0;
     while i < count {
         let j = kept[i] as usize;
-        let v = (m[latches + 3 * j] / 2) as usize;
-        values[v] = words::counting_word(i + 6, s as u64);
+        let v = Lit::from_word(m[latches + 3 * j]).var();
+        let place = v.0 as usize;
+        values[place] = words::counting_word(i + 6, s as u64);
         i += 1;
     }
 }
@@ -73,14 +76,14 @@ pub fn pack(state: &[u64], kept: &[u32], p: u32) -> u32
 }
 
 // The start value of a latch: bit k of y where its start is free.
-fn start_bit(lit: u32, reset: u32, y: u64, k: u32) -> u64
+fn start_bit(lit: Lit, reset: Lit, y: u64, k: u32) -> u64
     requires { ⌜ k < 64 ⌝ }
-    ensures { λ r. ⌜ r ≡ cond (cond (eqb reset lit) (bit y k) (eqb reset 1)) 1 0 ⌝ }
+    ensures { λ r. ⌜ r ≡ cond (cond (eqb (wordOf reset) (wordOf lit)) (bit y k) (eqb (wordOf reset) 1)) 1 0 ⌝ }
 {
-    if reset == lit {
+    if reset.equals(lit) {
         return (y >> k) % 2;
     }
-    if reset == 1 { 1 } else { 0 }
+    if reset.is_true() { 1 } else { 0 }
 }
 
 // The start values of all latches at start place y: word j is 1 where latch j is.
@@ -95,8 +98,8 @@ fn start_words(m: &[u32], layout: Layout, y: u64, state: &mut [u64])
     let mut j = layout.l;
     while 0 < j {
         j -= 1;
-        let lit = m[latches + 3 * j];
-        let reset = m[latches + 3 * j + 2];
+        let lit = Lit::from_word(m[latches + 3 * j]);
+        let reset = Lit::from_word(m[latches + 3 * j + 2]);
         state[j] = start_bit(lit, reset, y, left);
         left += layout::free_start(lit, reset) as u32;
     }

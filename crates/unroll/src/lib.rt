@@ -11,9 +11,9 @@ ghost use mathlib.Core.Path.{_≡_};
 ghost use mathlib.Core.List.{[]};
 ghost use Prim.Native.Nat.{ℕ, _+_, _^_, _≤_, _<_};
 ghost use lib.ListN.{length, getD, set};
-ghost use Rattle.literals.specs.Literal.{wordOf};
 ghost use Rattle.nodes.specs.Store.{pairsOf};
 ghost use Rattle.nodes.specs.Edges.{edgeWord};
+ghost use Rattle.literals.specs.Literal.{wordOf};
 ghost use Rattle.layout.specs.Words.{word, gateIn, circuitIn};
 ghost use Rattle.frames.specs.Lanes.{Ready, GateRoom};
 ghost use Rattle.unroll.specs.Map.{literalEdge, freeEdge, startEdge, Prepared, Written, latchVar, inputVar, startWord, nextWord, inputWord};
@@ -52,15 +52,14 @@ fn free_edge(j: usize) -> Edge
 }
 
 // The edge of a latch's start: constant, or the free bit that is next.
-fn start_edge(l: Lit, reset: Lit, next: usize) -> Edge
+fn start_edge(lit: Lit, reset: Lit, next: usize) -> Edge
     requires { ⌜ next < 65536 ⌝ }
-    ensures { λ r. ⌜ r ≡ startEdge (wordOf l) (wordOf reset) next ⌝ }
+    ensures { λ r. ⌜ r ≡ startEdge (wordOf lit) (wordOf reset) next ⌝ }
 {
-    let word = reset.word();
-    if word == l.word() {
+    if reset.equals(lit) {
         return free_edge(next);
     }
-    Edge(Node(0), word == 1)
+    Edge(Node(0), reset.is_true())
 }
 
 // Gives each latch the edge of its start.
@@ -73,11 +72,9 @@ fn put_starts(m: &[u32], layout: Layout, map: &mut [u32])
     let mut next = 0;
     let mut j = 0;
     while j < count {
-        let lit = m[latches + 3 * j];
-        let reset = m[latches + 3 * j + 2];
-        let l = Lit::from_word(lit);
-        let start = Lit::from_word(reset);
-        put_edge(map, l.var(), start_edge(l, start, next));
+        let lit = Lit::from_word(m[latches + 3 * j]);
+        let reset = Lit::from_word(m[latches + 3 * j + 2]);
+        put_edge(map, lit.var(), start_edge(lit, reset, next));
         next += layout::free_start(lit, reset);
         j += 1;
     }

@@ -1,18 +1,23 @@
 -- Laws of the table of definitions: it starts empty, takes one definition at a time, and refuses what is wrong or repeated.
 -- Assumes nothing.
 use mathlib.Core.Path.{_≡_, sym, ap, _∙_}
-use mathlib.Core.Bool.{true, false}
+use mathlib.Core.Bool.{Bool, true, false, cond}
 use mathlib.Core.List.{List}
 use mathlib.Core.Logic.{⊎-elim}
-use Prim.Native.Nat.{ℕ, _+_, _-_, _/_, _<_}
+use Prim.Native.Nat.{ℕ, _+_, _*_, _-_, _/_, _<_, _≤_}
 use native.Mathlib.Decide.{ℕ-discrete}
 use native.Mathlib.Omega.{arith}
+use lib.Dec.{leb}
 use lib.ListN.{length, getD, set, length-set}
+use borrow.Author.Tests.{leb-true, leb-false}
 use Rattle.meaning.proofs.Lists.{getD-set}
+use Rattle.literals.specs.declared.Lit.{Lit}
+use Rattle.literals.specs.Literal.{wordOf}
+use Rattle.literals.proofs.Words.{word-var}
 use Rattle.layout.specs.Words.{word}
 use Rattle.columns.specs.declared.Column.{Column}
 use Rattle.columns.specs.Columns.{at, total, definition}
-use Rattle.variables.specs.Table.{Defines, Definitions, Entered, Enters, Defining}
+use Rattle.variables.specs.Table.{Defines, Definitions, Entered, Enters, Defining, Known}
 
 module _ (w : List ℕ) where
   pub entered-none : (t : List ℕ) → word w 0 < length t → ((v : ℕ) → getD t v 0 ≡ 0) → Entered w 0 t
@@ -60,7 +65,8 @@ module _ (w : List ℕ) where
         less i k l (no q) = omega arith
 
     -- a definition that is not entered is wrong or repeated
-    pub entered-not : (k : ℕ) → n < k → (Defines (word w 0) (definition w n) → getD t (definition w n / 2) 0 ≡ 0 → ⊥) → Definitions w k → ⊥
+    pub entered-not : (k : ℕ) → n < k → (Defines (word w 0) (definition w n) → getD t (definition w n / 2) 0 ≡ 0 → ⊥) → Definitions w k
+        → ⊥
     entered-not k l f D =
         let filled = f (D .right n l) in
         let q = E .only v (getD t v 0 - 1) (omega arith) in
@@ -85,3 +91,45 @@ module _ (w : List ℕ) (c : Column) (m base : ℕ) (t₀ : List ℕ) (D : Defin
 
   pub define-not : (u : List ℕ) → Enters m (at w c i) (base + i + 1) t u false → Definitions w (total w) → ⊥
   define-not u e = entered-not w (base + i) t E (total w) (omega (arith, D .within)) (rw (D .part i h, D .most) at e)
+
+-- ---- what the tests of a literal say of its word
+
+signed-word : (l : Lit) {b : Bool} → l .1 ≡ b → wordOf l ≡ 2 * l .0 .0 + cond b 1 0
+signed-word l e = ap (λ (b : Bool). 2 * l .0 .0 + cond b 1 0) e
+
+module _ (m label : ℕ) (l : Lit) (t u : List ℕ) where
+  pub enters-constant : leb (wordOf l) 1 ≡ true → Enters m (wordOf l) label t u false
+  enters-constant e = λ d z. omega (arith, leb-true (wordOf l) 1 e, d .some)
+
+  pub enters-complement : l .1 ≡ true → Enters m (wordOf l) label t u false
+  enters-complement e = λ d z. omega (arith, signed-word l e, d .even)
+
+  pub enters-beyond : m < l .0 .0 → Enters m (wordOf l) label t u false
+  enters-beyond h = λ d z. omega (arith, word-var l, d .bound)
+
+  pub enters-again : (getD t (l .0 .0) 0 ≡ 0 → ⊥) → Enters m (wordOf l) label t u false
+  enters-again n = λ d z. n (ap (λ (v : ℕ). getD t v 0) (sym (word-var l)) ∙ z)
+
+pub enters-new : (m label : ℕ) (l : Lit) (t : List ℕ) (at : ℕ) → at ≡ l .0 .0 → leb (wordOf l) 1 ≡ false → l .1 ≡ false → l .0 .0 ≤ m
+    → getD t at 0 ≡ 0 → Enters m (wordOf l) label t (set t at label) true
+enters-new m label l t at q a e h z =
+    let v : at ≡ wordOf l / 2 = q ∙ sym (word-var l) in (
+      record {
+        some = omega (arith, leb-false (wordOf l) 1 a);
+        bound = omega (arith, word-var l);
+        even = omega (arith, signed-word l e);
+      },
+      ap (λ (x : ℕ). getD t x 0) (sym v) ∙ z,
+      ap (λ (x : ℕ). set t x label) v,
+    )
+
+pub known-constant : (t : List ℕ) (l : Lit) → leb (wordOf l) 1 ≡ true → Known t (wordOf l)
+known-constant t l e = λ z. omega (arith, leb-true (wordOf l) 1 e)
+
+pub known-not : (t : List ℕ) (l : Lit) (at : ℕ) → at ≡ l .0 .0 → leb (wordOf l) 1 ≡ false → getD t at 0 ≡ 0 → Known t (wordOf l) → ⊥
+known-not t l at q e z k =
+    let v : at ≡ wordOf l / 2 = q ∙ sym (word-var l) in
+    omega (arith, leb-false (wordOf l) 1 e, k (ap (λ (x : ℕ). getD t x 0) (sym v) ∙ z))
+
+pub known-there : (t : List ℕ) (l : Lit) (at : ℕ) → at ≡ l .0 .0 → (getD t at 0 ≡ 0 → ⊥) → Known t (wordOf l)
+known-there t l at q n = λ z. absurd (n (ap (λ (x : ℕ). getD t x 0) (q ∙ sym (word-var l)) ∙ z))

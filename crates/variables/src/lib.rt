@@ -3,42 +3,46 @@
 use columns::Column;
 use columns::Role;
 use columns::column_of;
+use literals::Lit;
+use literals::Var;
 ghost use mathlib.Core.Path.{_≡_};
 ghost use mathlib.Core.Bool.{_||_};
 ghost use Prim.Native.Nat.{ℕ, _+_, _/_, _<_, _≤_};
 ghost use lib.Dec.{leb, eqb};
 ghost use lib.ListN.{length, getD};
+ghost use Rattle.literals.specs.Literal.{wordOf};
 ghost use Rattle.layout.specs.Words.{word};
 ghost use Rattle.layout.specs.Layout.{Counted};
 ghost use Rattle.columns.specs.Columns.{Inside, Each, Used, total};
 ghost use Rattle.variables.specs.Table.{Says, Known, Defining, Enters, Defined, Resets, Literals};
 
-// Enters the variable of a literal under a label. False where the literal cannot define one, or where the table has it already.
-fn enter(table: &mut [u32], m: u32, l: u32, label: u32) -> bool
-    requires { ⌜ m < length (now table) ⌝ }
-    ensures { λ r. ⌜ Enters m l label (now (table .entry)) (now (table .exit)) r ⌝ }
+// Enters the variable of a literal under a label; m is the greatest variable. False where the literal cannot define one, or where the
+// table has it already.
+fn enter(table: &mut [u32], m: Var, l: Lit, label: u32) -> bool
+    requires { ⌜ m .0 < length (now table) ⌝ }
+    ensures { λ r. ⌜ Enters (m .0) (wordOf l) label (now (table .entry)) (now (table .exit)) r ⌝ }
 {
-    let half = l / 2;
-    if half == 0 {
+    if l.is_constant() {
         return false;
     }
-    if half > m {
+    if l.is_complement() {
         return false;
     }
-    if l % 2 != 0 {
+    let v = l.var();
+    if v.0 > m.0 {
         return false;
     }
-    let v = half as usize;
-    if table[v] != 0 {
+    let at = v.0 as usize;
+    if table[at] != 0 {
         return false;
     }
-    table[v] = label;
+    table[at] = label;
     true
 }
 
 // Enters the literals of a column; base definitions come before them. False where one is wrong or repeated.
-fn define(w: &[u32], table: &mut [u32], c: Column, m: u32, base: u32) -> bool
-    requires { ⌜ Defining (now w) c m base (now table) ⌝ }
+fn define(w: &[u32], table: &mut [u32], c: Column, m: Var, base: u32) -> bool
+    requires { ⌜ Defining (now w) c (m .0) base (now table) ⌝ }
     ensures { λ r. ⌜ Defined (now (w .entry)) (base + c .n) (now (table .exit)) r ⌝ }
 {
     let at = c.at;
@@ -46,7 +50,7 @@ fn define(w: &[u32], table: &mut [u32], c: Column, m: u32, base: u32) -> bool
     let n = c.n;
     let mut i = 0;
     while i < n {
-        let l = w[at + stride * i];
+        let l = Lit::from_word(w[at + stride * i]);
         if !enter(table, m, l, base + i as u32 + 1) {
             return false;
         }
@@ -62,7 +66,7 @@ fn define_all(w: &[u32], table: &mut [u32]) -> bool
     requires { ⌜ ((v : ℕ) → getD (now table) v 0 ≡ 0) ⌝ }
     ensures { λ r. ⌜ Defined (now (w .entry)) (total (now (w .entry))) (now (table .exit)) r ⌝ }
 {
-    let m = w[0];
+    let m = Var(w[0]);
     if !define(w, table, column_of(w, Role::Input), m, 0) {
         return false;
     }
@@ -74,16 +78,17 @@ fn define_all(w: &[u32], table: &mut [u32]) -> bool
 }
 
 // Whether each literal of a column is at most 2m + 1.
-fn bounded(w: &[u32], c: Column, m: u32) -> bool
+fn bounded(w: &[u32], c: Column, m: Var) -> bool
     requires { ⌜ Inside (now w) c ⌝ }
-    ensures { λ r. ⌜ Says r (Each (now (w .entry)) c (λ l. l / 2 ≤ m)) ⌝ }
+    ensures { λ r. ⌜ Says r (Each (now (w .entry)) c (λ l. l / 2 ≤ m .0)) ⌝ }
 {
     let at = c.at;
     let stride = c.stride;
     let n = c.n;
     let mut i = 0;
     while i < n {
-        if w[at + stride * i] / 2 > m {
+        let v = Lit::from_word(w[at + stride * i]).var();
+        if v.0 > m.0 {
             return false;
         }
         i += 1;
@@ -96,7 +101,7 @@ fn used_bounded(w: &[u32]) -> bool
     requires { ⌜ Counted (now w) ⌝ }
     ensures { λ r. ⌜ Says r (Used (now (w .entry)) (λ l. l / 2 ≤ word (now (w .entry)) 0)) ⌝ }
 {
-    let m = w[0];
+    let m = Var(w[0]);
     if !bounded(w, column_of(w, Role::Next), m) {
         return false;
     }
@@ -110,10 +115,10 @@ fn used_bounded(w: &[u32]) -> bool
 }
 
 // Whether r is a reset of the latch l.
-fn is_reset(l: u32, r: u32) -> bool
-    ensures { λ a. ⌜ a ≡ (leb r 1 || eqb r l) ⌝ }
+fn is_reset(l: Lit, r: Lit) -> bool
+    ensures { λ a. ⌜ a ≡ (leb (wordOf r) 1 || eqb (wordOf r) (wordOf l)) ⌝ }
 {
-    (r <= 1) | (r == l)
+    r.is_constant() | r.equals(l)
 }
 
 // Whether each latch has a right reset.
@@ -126,7 +131,9 @@ fn resets(w: &[u32]) -> bool
     let n = p.l;
     let mut j = 0;
     while j < n {
-        if !is_reset(w[at + 3 * j], w[at + 3 * j + 2]) {
+        let lit = Lit::from_word(w[at + 3 * j]);
+        let reset = Lit::from_word(w[at + 3 * j + 2]);
+        if !is_reset(lit, reset) {
             return false;
         }
         j += 1;
@@ -151,16 +158,15 @@ pub fn literals_right(w: &[u32], table: &mut [u32]) -> bool
 }
 
 // Whether the variable of a literal is 0 or in the table.
-fn known(table: &[u32], l: u32) -> bool
-    requires { ⌜ l / 2 < length (now table) ⌝ }
-    ensures { λ r. ⌜ Says r (Known (now (table .entry)) l) ⌝ }
+fn known(table: &[u32], l: Lit) -> bool
+    requires { ⌜ l .0 .0 < length (now table) ⌝ }
+    ensures { λ r. ⌜ Says r (Known (now (table .entry)) (wordOf l)) ⌝ }
 {
-    let half = l / 2;
-    if half == 0 {
+    if l.is_constant() {
         return true;
     }
-    let v = half as usize;
-    if table[v] == 0 {
+    let at = l.var().0 as usize;
+    if table[at] == 0 {
         return false;
     }
     true
@@ -177,7 +183,7 @@ fn all_known(w: &[u32], c: Column, table: &[u32]) -> bool
     let n = c.n;
     let mut i = 0;
     while i < n {
-        if !known(table, w[at + stride * i]) {
+        if !known(table, Lit::from_word(w[at + stride * i])) {
             return false;
         }
         i += 1;

@@ -9,11 +9,13 @@ ghost use Rattle.aiger.specs.Text.{bytes};
 ghost use Rattle.aiger.specs.Frames.{freeStarts, starts, run};
 ghost use Rattle.aiger.specs.Witness.{bitLine, witness};
 ghost use Rattle.aiger.specs.Operations.{front};
+ghost use Rattle.literals.specs.Literal.{wordOf};
 ghost use Rattle.layout.specs.Words.{circuitIn};
 ghost use Rattle.witness.specs.Writing.{freeAt, rowOf, headingText, SequenceIn, StartsFit, WitnessFits};
 ghost use Rattle.witness.specs.Line.{LineAt};
 ghost use Rattle.witness.specs.Heading.{HeadingAt};
 use layout::Layout;
+use literals::Lit;
 use numbers::Number;
 use numbers::Put;
 
@@ -63,13 +65,14 @@ fn write_row(part: &mut [u8], free: &[u32], from: usize, count: usize)
 }
 
 // The start value of a latch with this literal and reset, where the first `used` free bits are used.
-fn start_of(lit: usize, reset: usize, free: &[u32], used: usize) -> Start
-    requires { ⌜ (eqb reset lit ≡ true → used < length (now free)) ⌝ }
+fn start_of(lit: Lit, reset: Lit, free: &[u32], used: usize) -> Start
+    requires { ⌜ (eqb (wordOf reset) (wordOf lit) ≡ true → used < length (now free)) ⌝ }
     ensures { λ r. ⌜
-        (r .value ≡ cond (eqb reset lit) (freeAt (now (free .entry)) used) (eqb reset 1)) × (r .used ≡ cond (eqb reset lit) (used + 1) used)
+        (r .value ≡ cond (eqb (wordOf reset) (wordOf lit)) (freeAt (now (free .entry)) used) (eqb (wordOf reset) 1))
+        × (r .used ≡ cond (eqb (wordOf reset) (wordOf lit)) (used + 1) used)
         ⌝ }
 {
-    if reset == lit {
+    if reset.equals(lit) {
         let value = bit_at(free, used);
         return Start {
             value,
@@ -77,7 +80,7 @@ fn start_of(lit: usize, reset: usize, free: &[u32], used: usize) -> Start
         };
     }
     Start {
-        value: reset == 1,
+        value: reset.is_true(),
         used,
     }
 }
@@ -97,12 +100,9 @@ fn write_starts(part: &mut [u8], m: &[u32], layout: Layout, free: &[u32]) -> usi
     let mut used: usize = 0;
     let mut j: usize = 0;
     while j < latches {
-        let start = start_of(
-            layout::count_at(m, at),
-            layout::count_at(m, at + 2),
-            free,
-            used,
-        );
+        let lit = Lit::from_word(m[at]);
+        let reset = Lit::from_word(m[at + 2]);
+        let start = start_of(lit, reset, free, used);
         part[j] = byte_of(start.value);
         used = start.used;
         j += 1;

@@ -12,12 +12,12 @@ use Rattle.enumeration.proofs.scan_blocks.Statement.{statement}
 use Rattle.enumeration.proofs.scan_blocks.Tie as tie
 
 abbrev Inv-loop : tie.InvT-loop
-Inv-loop m layout order b t n free total values₀ state₀ block₀ values state block =
+Inv-loop m layout order q total values₀ state₀ block₀ values state block =
     (64 * block ≤ total + 63) × (length values ≡ length values₀) × (length state ≡ length state₀)
-    × ((y : ℕ) → y < 64 * block → T (reaches (circuitIn m) b t y) → ⊥)
+    × ((y : ℕ) → y < 64 * block → T (reaches (circuitIn m) (q .b) (q .t) y) → ⊥)
 
 abbrev μ-loop : tie.MeasureT-loop
-μ-loop m layout order b t n free total values₀ state₀ block₀ values state block = total - 64 * block
+μ-loop m layout order q total values₀ state₀ block₀ values state block = total - 64 * block
 
 loop-holds : tie.Need-loop-holds Inv-loop μ-loop
 loop-holds c = (omega arith, refl, refl, λ y l e. omega arith)
@@ -50,10 +50,10 @@ add-x c =
     omega (arith, c .if1 .taken, c .before .before .before .before .before .before .before .before .before .loop-test .taken, S .pre .1 .0)
 
 same-length : tie.Need-same-length Inv-loop μ-loop
-same-length c = c .before .before .before .before .before .before .before .block-hits .kept .1 .1 .1 .1 .1 .1 .1 .1 .0 ∙ c .before .before .before .before .before .before .before .before .before .before .before .loop .inv .1
+same-length c = c .before .before .before .before .before .before .before .block-hits .kept .1 .1 .1 .1 .1 .0 ∙ c .before .before .before .before .before .before .before .before .before .before .before .loop .inv .1
 
 same-length-2 : tie.Need-same-length-2 Inv-loop μ-loop
-same-length-2 c = c .before .before .before .before .before .before .before .block-hits .kept .1 .1 .1 .1 .1 .1 .1 .1 .1 .0 ∙ c .before .before .before .before .before .before .before .before .before .before .before .loop .inv .2
+same-length-2 c = c .before .before .before .before .before .before .before .block-hits .kept .1 .1 .1 .1 .1 .1 .0 ∙ c .before .before .before .before .before .before .before .before .before .before .before .loop .inv .2
 
 returns : tie.Need-returns Inv-loop μ-loop
 returns c =
@@ -63,15 +63,15 @@ returns c =
     let F = c .before .before .first-difference in
     record {
       within = omega (arith, c .if2 .taken);
-      before = block-before (reaches (circuitIn (S .args .m .now)) (S .args .b) (S .args .t)) (L .block) (H .result) (F .result) (L .inv .3) (H .ensures) (F .ensures);
-      here = λ l. block-here (reaches (circuitIn (S .args .m .now)) (S .args .b) (S .args .t)) (L .block) (H .result) (F .result) (L .inv .3) (H .ensures) (F .ensures) (omega (arith, c .before .if1 .taken));
+      before = block-before (reaches (circuitIn (S .args .m .now)) (S .args .q .b) (S .args .q .t)) (L .block) (H .result) (F .result) (L .inv .3) (H .ensures) (F .ensures);
+      here = λ l. block-here (reaches (circuitIn (S .args .m .now)) (S .args .q .b) (S .args .q .t)) (L .block) (H .result) (F .result) (L .inv .3) (H .ensures) (F .ensures) (omega (arith, c .before .if1 .taken));
     }
 
 same-length-3 : tie.Need-same-length-3 Inv-loop μ-loop
-same-length-3 c = c .before .before .before .before .before .before .before .block-hits .kept .1 .1 .1 .1 .1 .1 .1 .1 .0 ∙ c .before .before .before .before .before .before .before .before .before .before .before .loop .inv .1
+same-length-3 c = c .before .before .before .before .before .before .before .block-hits .kept .1 .1 .1 .1 .1 .0 ∙ c .before .before .before .before .before .before .before .before .before .before .before .loop .inv .1
 
 same-length-4 : tie.Need-same-length-4 Inv-loop μ-loop
-same-length-4 c = c .before .before .before .before .before .before .before .block-hits .kept .1 .1 .1 .1 .1 .1 .1 .1 .1 .0 ∙ c .before .before .before .before .before .before .before .before .before .before .before .loop .inv .2
+same-length-4 c = c .before .before .before .before .before .before .before .block-hits .kept .1 .1 .1 .1 .1 .1 .0 ∙ c .before .before .before .before .before .before .before .before .before .before .before .loop .inv .2
 
 returns-2 : tie.Need-returns-2 Inv-loop μ-loop
 returns-2 c =
@@ -81,7 +81,7 @@ returns-2 c =
     let F = c .before .before .first-difference in
     record {
       within = omega arith;
-      before = λ y l. block-before (reaches (circuitIn (S .args .m .now)) (S .args .b) (S .args .t)) (L .block) (H .result) (F .result) (L .inv .3) (H .ensures) (F .ensures) y (omega (arith, c .if2 .left));
+      before = λ y l. block-before (reaches (circuitIn (S .args .m .now)) (S .args .q .b) (S .args .q .t)) (L .block) (H .result) (F .result) (L .inv .3) (H .ensures) (F .ensures) y (omega (arith, c .if2 .left));
       here = λ l. absurd (omega arith);
     }
 
@@ -100,9 +100,9 @@ loop-again c =
     let H = c .before .before .before .before .before .before .block-hits in
     let F = c .before .first-difference in (
       omega (arith, c .before .before .before .before .before .before .before .before .before .loop-test .taken),
-      H .kept .1 .1 .1 .1 .1 .1 .1 .1 .0 ∙ L .inv .1,
-      H .kept .1 .1 .1 .1 .1 .1 .1 .1 .1 .0 ∙ L .inv .2,
-      λ y l. block-before (reaches (circuitIn (S .args .m .now)) (S .args .b) (S .args .t)) (L .block) (H .result) (F .result) (L .inv .3) (H .ensures) (F .ensures) y (omega (arith, c .if1 .left)),
+      H .kept .1 .1 .1 .1 .1 .0 ∙ L .inv .1,
+      H .kept .1 .1 .1 .1 .1 .1 .0 ∙ L .inv .2,
+      λ y l. block-before (reaches (circuitIn (S .args .m .now)) (S .args .q .b) (S .args .q .t)) (L .block) (H .result) (F .result) (L .inv .3) (H .ensures) (F .ensures) y (omega (arith, c .if1 .left)),
     )
 
 same-length-5 : tie.Need-same-length-5 Inv-loop μ-loop

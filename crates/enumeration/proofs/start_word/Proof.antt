@@ -1,22 +1,37 @@
 -- `enumeration::start_word` meets its contract. Assumes nothing.
-use native.Mathlib.Omega.{arith}
-use borrow.Author.Tests.{eq-eqb, ne-eqb}
+use mathlib.Core.Path.{sym, _∙_}
 use Rattle.words.proofs.Bits.{bit-all, bit-none}
 use borrow.Author.Needs.{needs}
 use Rattle.enumeration.proofs.start_word.Statement.{statement}
 use Rattle.enumeration.proofs.start_word.Tie as tie
 
+equals-requires : tie.Need-equals-requires
+equals-requires c κs = tt
+
 counting-word-requires : tie.Need-counting-word-requires
 counting-word-requires c κs = search needs
 
 returns : tie.Need-returns
-returns c = λ p h. rw (eq-eqb (c .before .before .args .reset) (c .before .before .args .lit) (omega arith)) (c .counting-word .ensures p h)
+returns c = λ p h. rw (sym (c .before .before .equals .ensures) ∙ c .before .if1 .taken) (c .counting-word .ensures p h)
+
+is-true-requires : tie.Need-is-true-requires
+is-true-requires c κs = tt
 
 returns-2 : tie.Need-returns-2
-returns-2 c = λ p h. rw (ne-eqb (c .before .before .args .reset) (c .before .before .args .lit) (λ e. omega arith), eq-eqb (c .before .before .args .reset) 1 (omega arith)) (bit-all 64 p h)
+returns-2 c =
+    λ p h. rw (sym (c .before .before .before .equals .ensures) ∙ c .before .before .if1 .left, sym (c .before .is-true .ensures) ∙ c .if2 .taken) (bit-all 64 p h)
 
 returns-3 : tie.Need-returns-3
-returns-3 c = λ p h. rw (ne-eqb (c .before .before .args .reset) (c .before .before .args .lit) (λ e. omega arith), ne-eqb (c .before .before .args .reset) 1 (λ e. omega arith)) (bit-none p)
+returns-3 c =
+    λ p h. rw (sym (c .before .before .before .equals .ensures) ∙ c .before .before .if1 .left, sym (c .before .is-true .ensures) ∙ c .if2 .left) (bit-none p)
 
 pub start-word-spec : {M : Type 1} → statement M
-start-word-spec = tie.close (tie.spec counting-word-requires returns returns-2 returns-3)
+start-word-spec =
+    tie.close
+    (tie.spec
+    equals-requires
+    counting-word-requires
+    returns
+    is-true-requires
+    returns-2
+    returns-3)

@@ -1,34 +1,49 @@
 -- `frames::bad_word` meets its contract. Assumes nothing.
-use mathlib.Core.Path.{_∙_}
+use mathlib.Core.Path.{ap, _∙_}
+use Prim.Native.Nat.{_+_}
 use native.Mathlib.Omega.{arith}
 use borrow.Author.Needs.{needs}
+use Rattle.aiger.specs.Frames.{value}
+use Rattle.literals.specs.declared.Lit.{Lit}
+use Rattle.literals.proofs.Words.{word-read}
+use Rattle.layout.specs.Words.{word}
 use Rattle.frames.specs.Lanes.{lane}
 use Rattle.frames.proofs.Facts.{bad-inside, bad-below}
 use Rattle.frames.proofs.Hits.{bad-end}
 use Rattle.frames.proofs.bad_word.Statement.{statement}
 use Rattle.frames.proofs.bad_word.Tie as tie
 
-add-literal-value : tie.Need-add-literal-value
-add-literal-value c = search needs
+add-from-word : tie.Need-add-from-word
+add-from-word c = search needs
 
-mul-literal-value : tie.Need-mul-literal-value
-mul-literal-value c = let S = c .before .before .before in omega (arith, bad-inside (S .pre .0) (S .args .b) (S .pre .1))
+mul-from-word : tie.Need-mul-from-word
+mul-from-word c = let S = c .before .before .before in omega (arith, bad-inside (S .pre .0) (S .args .b) (S .pre .1))
 
-shared-slice-read-literal-value : tie.Need-shared-slice-read-literal-value
-shared-slice-read-literal-value c = let S = c .before .before .before .before in omega (arith, bad-inside (S .pre .0) (S .args .b) (S .pre .1))
+shared-slice-read-from-word : tie.Need-shared-slice-read-from-word
+shared-slice-read-from-word c = let S = c .before .before .before .before in omega (arith, bad-inside (S .pre .0) (S .args .b) (S .pre .1))
+
+from-word-requires : tie.Need-from-word-requires
+from-word-requires c κs = search needs
 
 literal-value-requires : tie.Need-literal-value-requires
-literal-value-requires c κs = let S = c .before .before .before .before in bad-below (S .pre .0) _ (omega (arith, S .pre .1))
+literal-value-requires c κs =
+    let S = c .before .before .before .before .before in rw (ap (λ (l : Lit). l .0 .0) (c .from-word .ensures)) (bad-below (S .pre .0) (S .args .b) (S .pre .1))
 
 returns : tie.Need-returns
-returns c = let S = c .before .before .before .before .before in λ p l. c .literal-value .ensures p l ∙ bad-end (S .pre .0) (S .args .b) (S .pre .1) (lane (S .args .values .now) p)
+returns c =
+    let S = c .before .before .before .before .before .before in
+    λ p l.
+    c .literal-value .ensures p l
+    ∙ ap (value (lane (S .args .values .now) p)) (word-read (word (S .args .m .now) (S .args .layout .bads + S .args .b)) (c .before .from-word .ensures))
+    ∙ bad-end (S .pre .0) (S .args .b) (S .pre .1) (lane (S .args .values .now) p)
 
 pub bad-word-spec : {M : Type 1} → statement M
 bad-word-spec =
     tie.close
     (tie.spec
-    add-literal-value
-    mul-literal-value
-    shared-slice-read-literal-value
+    add-from-word
+    mul-from-word
+    shared-slice-read-from-word
+    from-word-requires
     literal-value-requires
     returns)

@@ -6,10 +6,13 @@ use native.Mathlib.Omega.{arith}
 use Rattle.aiger.specs.Bits.{bit}
 use Rattle.aiger.specs.Lists.{everyBelow}
 use Rattle.aiger.specs.Frames.{value}
+use Rattle.literals.specs.declared.Lit.{Lit}
+use Rattle.literals.proofs.Words.{word-read}
 use Rattle.layout.specs.Words.{word}
 use Rattle.frames.specs.Lanes.{lane}
 use Rattle.frames.proofs.Facts.{constraint-inside, constraint-below}
 use Rattle.frames.proofs.Hits.{constrained-start, constrained-more, constrained-end}
+use borrow.Author.Needs.{needs}
 use Rattle.frames.proofs.constrain.Statement.{statement}
 use Rattle.frames.proofs.constrain.Tie as tie
 
@@ -23,17 +26,21 @@ abbrev μ-loop : tie.MeasureT-loop
 loop-holds : tie.Need-loop-holds Inv-loop μ-loop
 loop-holds c = (omega arith, λ p l. constrained-start (c .before .before .before .args .from) p)
 
-add-literal-value : tie.Need-add-literal-value Inv-loop μ-loop
-add-literal-value c = omega (arith, constraint-inside (c .before .before .before .before .before .pre) (c .before .loop .k) (omega arith))
+add-from-word : tie.Need-add-from-word Inv-loop μ-loop
+add-from-word c = omega (arith, constraint-inside (c .before .before .before .before .before .pre) (c .before .loop .k) (omega arith))
 
-mul-literal-value : tie.Need-mul-literal-value Inv-loop μ-loop
-mul-literal-value c = omega (arith, constraint-inside (c .before .before .before .before .before .pre) (c .before .loop .k) (omega arith))
+mul-from-word : tie.Need-mul-from-word Inv-loop μ-loop
+mul-from-word c = omega (arith, constraint-inside (c .before .before .before .before .before .pre) (c .before .loop .k) (omega arith))
 
-shared-slice-read-literal-value : tie.Need-shared-slice-read-literal-value Inv-loop μ-loop
-shared-slice-read-literal-value c = omega (arith, constraint-inside (c .before .before .before .before .before .before .pre) (c .before .before .loop .k) (omega arith))
+shared-slice-read-from-word : tie.Need-shared-slice-read-from-word Inv-loop μ-loop
+shared-slice-read-from-word c = omega (arith, constraint-inside (c .before .before .before .before .before .before .pre) (c .before .before .loop .k) (omega arith))
+
+from-word-requires : tie.Need-from-word-requires Inv-loop μ-loop
+from-word-requires c κs = search needs
 
 literal-value-requires : tie.Need-literal-value-requires Inv-loop μ-loop
-literal-value-requires c κs = constraint-below (c .before .before .before .before .before .before .pre) _ (omega arith)
+literal-value-requires c κs =
+    rw (ap (λ (l : Lit). l .0 .0) (c .from-word .ensures)) (constraint-below (c .before .before .before .before .before .before .before .pre) (c .before .before .before .loop .k) (omega arith))
 
 add-k : tie.Need-add-k Inv-loop μ-loop
 add-k c = omega arith
@@ -43,9 +50,11 @@ loop-less c = omega arith
 
 loop-again : tie.Need-loop-again Inv-loop μ-loop
 loop-again c =
-    let L = c .before .before .before .loop in (
+    let L = c .before .before .before .before .loop in
+    let S = c .before .before .before .before .before .before .before .before in (
       omega arith,
-      λ p l. constrained-more (L .left) (c .literal-value .result) p (L .k) _ _ (L .inv .1 p l) (c .literal-value .ensures p l),
+      λ p l. constrained-more (L .left) (c .literal-value .result) p (L .k) _ _ (L .inv .1 p l)
+          (c .literal-value .ensures p l ∙ ap (value (lane (S .args .values .now) p)) (word-read (word (S .args .m .now) (S .args .layout .constraints + L .k)) (c .before .from-word .ensures))),
     )
 
 returns : tie.Need-returns Inv-loop μ-loop
@@ -66,9 +75,10 @@ constrain-spec =
     Inv-loop
     μ-loop
     loop-holds
-    add-literal-value
-    mul-literal-value
-    shared-slice-read-literal-value
+    add-from-word
+    mul-from-word
+    shared-slice-read-from-word
+    from-word-requires
     literal-value-requires
     add-k
     loop-less

@@ -1,8 +1,6 @@
 -- `frames::literal_value` meets its contract. Assumes nothing.
-use Prim.Native.Nat.{_/_, _%_}
 use native.Mathlib.Omega.{arith}
-use lib.ListN.{getD}
-use Rattle.frames.proofs.Bits.{sign-bit}
+use Rattle.frames.proofs.Bits.{bit-fits, literal-bit}
 use borrow.Author.Needs.{needs}
 use Rattle.frames.proofs.literal_value.Statement.{statement}
 use Rattle.frames.proofs.literal_value.Tie as tie
@@ -20,11 +18,18 @@ shared-slice-read-result : tie.Need-shared-slice-read-result
 shared-slice-read-result c = search needs
 
 mul-result-2 : tie.Need-mul-result-2
-mul-result-2 c = search needs
+mul-result-2 c = omega (arith, bit-fits (c .before .before .before .args .l .1))
 
 returns : tie.Need-returns
-returns c = λ p h. sign-bit (getD (c .before .args .values .now) (c .before .args .l / 2) 0) (c .before .args .l % 2) p (omega arith) h
+returns c = λ p h. literal-bit (c .before .before .before .args .values .now) (c .before .before .before .args .l) p h
 
 pub literal-value-spec : {M : Type 1} → statement M
 literal-value-spec =
-    tie.close (tie.spec cast-v cast-s mul-result shared-slice-read-result mul-result-2 returns)
+    tie.close
+    (tie.spec
+    cast-v
+    cast-s
+    mul-result
+    shared-slice-read-result
+    mul-result-2
+    returns)

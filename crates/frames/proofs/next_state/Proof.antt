@@ -1,13 +1,16 @@
 -- `frames::next_state` meets its contract. Assumes nothing.
-use mathlib.Core.Path.{_≡_, refl, _∙_}
+use mathlib.Core.Path.{_≡_, refl, ap, _∙_}
 use Prim.Native.Nat.{ℕ, _+_, _-_, _*_, _≤_, _<_}
 use native.Mathlib.Omega.{arith}
 use lib.ListN.{length, getD, length-set}
 use Rattle.aiger.specs.Bits.{bit}
 use Rattle.aiger.specs.Frames.{value}
+use Rattle.literals.specs.declared.Lit.{Lit}
+use Rattle.literals.proofs.Words.{word-read}
 use Rattle.layout.specs.Words.{word}
 use Rattle.frames.specs.Lanes.{lane}
 use Rattle.frames.proofs.Stores.{next-more}
+use borrow.Author.Needs.{needs}
 use Rattle.frames.proofs.next_state.Statement.{statement}
 use Rattle.frames.proofs.next_state.Tie as tie
 
@@ -22,23 +25,27 @@ abbrev μ-loop : tie.MeasureT-loop
 loop-holds : tie.Need-loop-holds Inv-loop μ-loop
 loop-holds c = (omega arith, refl, λ i l. absurd (omega arith))
 
-mul-literal-value : tie.Need-mul-literal-value Inv-loop μ-loop
-mul-literal-value c = omega arith
+mul-from-word : tie.Need-mul-from-word Inv-loop μ-loop
+mul-from-word c = omega arith
 
-add-literal-value : tie.Need-add-literal-value Inv-loop μ-loop
-add-literal-value c = omega arith
+add-from-word : tie.Need-add-from-word Inv-loop μ-loop
+add-from-word c = omega arith
 
-add-literal-value-2 : tie.Need-add-literal-value-2 Inv-loop μ-loop
-add-literal-value-2 c = omega arith
+add-from-word-2 : tie.Need-add-from-word-2 Inv-loop μ-loop
+add-from-word-2 c = omega arith
 
-mul-literal-value-2 : tie.Need-mul-literal-value-2 Inv-loop μ-loop
-mul-literal-value-2 c = omega arith
+mul-from-word-2 : tie.Need-mul-from-word-2 Inv-loop μ-loop
+mul-from-word-2 c = omega arith
 
-shared-slice-read-literal-value : tie.Need-shared-slice-read-literal-value Inv-loop μ-loop
-shared-slice-read-literal-value c = omega arith
+shared-slice-read-from-word : tie.Need-shared-slice-read-from-word Inv-loop μ-loop
+shared-slice-read-from-word c = omega arith
+
+from-word-requires : tie.Need-from-word-requires Inv-loop μ-loop
+from-word-requires c κs = search needs
 
 literal-value-requires : tie.Need-literal-value-requires Inv-loop μ-loop
-literal-value-requires c κs = c .before .before .before .before .before .before .pre .1 (c .before .before .loop .j) (c .before .loop-test .taken)
+literal-value-requires c κs =
+    rw (ap (λ (l : Lit). l .0 .0) (c .from-word .ensures)) (c .before .before .before .before .before .before .before .pre .1 (c .before .before .before .loop .j) (c .before .before .loop-test .taken))
 
 mul-state : tie.Need-mul-state Inv-loop μ-loop
 mul-state c = omega arith
@@ -54,13 +61,14 @@ loop-less c = omega arith
 
 loop-again : tie.Need-loop-again Inv-loop μ-loop
 loop-again c =
-    let L = c .before .before .before .loop in
-    let S = c .before .before .before .before .before .before .before in (
+    let L = c .before .before .before .before .loop in
+    let S = c .before .before .before .before .before .before .before .before in (
       omega arith,
       length-set (L .state) _ _ ∙ L .inv .1,
       next-more
           (λ i x. (p : ℕ) → p < 64 → bit x p ≡ value (lane (S .args .values .now) p) (word (S .args .m .now) (S .args .layout .latches + 3 * i + 1)))
-          (L .state) (L .j) (c .literal-value .result) (omega (arith, L .inv .1)) (L .inv .2) (c .literal-value .ensures),
+          (L .state) (L .j) (c .literal-value .result) (omega (arith, L .inv .1)) (L .inv .2)
+          (λ p h. c .literal-value .ensures p h ∙ ap (value (lane (S .args .values .now) p)) (word-read (word (S .args .m .now) (S .args .layout .latches + 3 * L .j + 1)) (c .before .from-word .ensures))),
     )
 
 same-length : tie.Need-same-length Inv-loop μ-loop
@@ -76,11 +84,12 @@ next-state-spec =
     Inv-loop
     μ-loop
     loop-holds
-    mul-literal-value
-    add-literal-value
-    add-literal-value-2
-    mul-literal-value-2
-    shared-slice-read-literal-value
+    mul-from-word
+    add-from-word
+    add-from-word-2
+    mul-from-word-2
+    shared-slice-read-from-word
+    from-word-requires
     literal-value-requires
     mul-state
     slice-write-state

@@ -1,12 +1,15 @@
 -- `frames::put_state` meets its contract. Assumes nothing.
-use mathlib.Core.Path.{_≡_, refl, _∙_, subst}
+use mathlib.Core.Path.{_≡_, refl, ap, _∙_, subst}
 use Prim.Native.Nat.{ℕ, _+_, _-_, _*_, _≤_}
 use native.Mathlib.Omega.{arith}
 use lib.ListN.{length, getD, length-set}
 use Rattle.aiger.specs.Circuit.{var}
+use Rattle.literals.specs.declared.Lit.{Lit}
+use Rattle.literals.specs.declared.Var.{Var}
 use Rattle.layout.specs.Words.{word}
 use Rattle.frames.specs.Lanes.{Stored}
 use Rattle.frames.proofs.Stores.{stored-start, stored-more}
+use borrow.Author.Needs.{needs}
 use Rattle.frames.proofs.put_state.Statement.{statement}
 use Rattle.frames.proofs.put_state.Tie as tie
 
@@ -17,23 +20,34 @@ Inv-loop m state values₀ count latches j₀ values j =
 abbrev μ-loop : tie.MeasureT-loop
 μ-loop m state values₀ count latches j₀ values j = count - j
 
+-- the variable that was read
+read : (c : tie.After-var Inv-loop μ-loop)
+    → (let S = c .before .before .before .before .before .before .before .before in c .var .result .0 ≡ var (word (S .args .m .now) (S .args .layout .latches + 3 * c .before .before .before .before .loop .j)))
+read c = ap (λ (v : Var). v .0) (c .var .ensures) ∙ ap (λ (l : Lit). l .0 .0) (c .before .from-word .ensures)
+
 loop-holds : tie.Need-loop-holds Inv-loop μ-loop
 loop-holds c = (omega arith, refl, stored-start _ _ _)
 
-mul-v : tie.Need-mul-v Inv-loop μ-loop
-mul-v c = omega arith
+mul-from-word : tie.Need-mul-from-word Inv-loop μ-loop
+mul-from-word c = omega arith
 
-add-v : tie.Need-add-v Inv-loop μ-loop
-add-v c = omega arith
+add-from-word : tie.Need-add-from-word Inv-loop μ-loop
+add-from-word c = omega arith
 
-mul-v-2 : tie.Need-mul-v-2 Inv-loop μ-loop
-mul-v-2 c = omega arith
+mul-from-word-2 : tie.Need-mul-from-word-2 Inv-loop μ-loop
+mul-from-word-2 c = omega arith
 
-shared-slice-read-v : tie.Need-shared-slice-read-v Inv-loop μ-loop
-shared-slice-read-v c = omega arith
+shared-slice-read-from-word : tie.Need-shared-slice-read-from-word Inv-loop μ-loop
+shared-slice-read-from-word c = omega arith
 
-cast-v : tie.Need-cast-v Inv-loop μ-loop
-cast-v c = omega (arith, c .before .before .before .pre .1 .below (c .before .before .loop .j) (omega arith))
+from-word-requires : tie.Need-from-word-requires Inv-loop μ-loop
+from-word-requires c κs = search needs
+
+var-requires : tie.Need-var-requires Inv-loop μ-loop
+var-requires c κs = search needs
+
+cast-place : tie.Need-cast-place Inv-loop μ-loop
+cast-place c = omega (arith, read (c .before), c .before .before .before .before .before .before .before .before .before .pre .1 .below (c .before .before .before .before .before .loop .j) (omega arith))
 
 mul-values : tie.Need-mul-values Inv-loop μ-loop
 mul-values c = omega arith
@@ -42,10 +56,10 @@ shared-slice-read-values : tie.Need-shared-slice-read-values Inv-loop μ-loop
 shared-slice-read-values c = omega arith
 
 mul-values-2 : tie.Need-mul-values-2 Inv-loop μ-loop
-mul-values-2 c = omega (arith, c .before .before .before .before .pre .1 .below (c .before .before .before .loop .j) (omega arith))
+mul-values-2 c = omega (arith, read (c .before .before), c .before .before .before .before .before .before .before .before .before .before .pre .1 .below (c .before .before .before .before .before .before .loop .j) (omega arith))
 
 slice-write-values : tie.Need-slice-write-values Inv-loop μ-loop
-slice-write-values c = omega (arith, c .before .before .before .before .pre .1 .below (c .before .before .before .loop .j) (omega arith))
+slice-write-values c = omega (arith, read (c .before .before), c .before .before .before .before .before .before .before .before .before .before .pre .1 .below (c .before .before .before .before .before .before .loop .j) (omega arith))
 
 add-j : tie.Need-add-j Inv-loop μ-loop
 add-j c = omega arith
@@ -55,12 +69,12 @@ loop-less c = omega arith
 
 loop-again : tie.Need-loop-again Inv-loop μ-loop
 loop-again c =
-    let L = c .before .before .before .loop in
-    let S = c .before .before .before .before in (
+    let L = c .before .before .before .before .before .before .loop in
+    let S = c .before .before .before .before .before .before .before .before .before .before in (
       omega arith,
       length-set (L .values) _ _ ∙ L .inv .1,
-      stored-more (λ i. var (word (S .args .m .now) (S .args .layout .latches + 3 * i))) (λ i. getD (S .args .state .now) i 0) (L .j)
-          (S .args .values .now) (L .values) (S .pre .1) (L .inv .1) (omega arith) (L .inv .2),
+      rw (read (c .before .before)) (stored-more (λ i. var (word (S .args .m .now) (S .args .layout .latches + 3 * i))) (λ i. getD (S .args .state .now) i 0) (L .j)
+          (S .args .values .now) (L .values) (S .pre .1) (L .inv .1) (omega arith) (L .inv .2)),
     )
 
 same-length : tie.Need-same-length Inv-loop μ-loop
@@ -69,7 +83,7 @@ same-length c = c .before .loop .inv .1
 returns : tie.Need-returns Inv-loop μ-loop
 returns c =
     let L = c .before .loop in
-    let S = c .before .before in
+    let S = c .before .before .before .before .before in
     let e : L .j ≡ S .args .layout .l = omega arith in
     subst
     (λ (n : ℕ).
@@ -83,11 +97,13 @@ put-state-spec =
     Inv-loop
     μ-loop
     loop-holds
-    mul-v
-    add-v
-    mul-v-2
-    shared-slice-read-v
-    cast-v
+    mul-from-word
+    add-from-word
+    mul-from-word-2
+    shared-slice-read-from-word
+    from-word-requires
+    var-requires
+    cast-place
     mul-values
     shared-slice-read-values
     mul-values-2

@@ -1,14 +1,22 @@
 -- `layout::free_start` meets its contract. Assumes nothing.
-use native.Mathlib.Omega.{arith}
-use borrow.Author.Tests.{eq-eqb, ne-eqb}
+use mathlib.Core.Path.{sym, _∙_}
+use borrow.Author.Needs.{needs}
 use Rattle.layout.proofs.free_start.Statement.{statement}
 use Rattle.layout.proofs.free_start.Tie as tie
 
+equals-requires : tie.Need-equals-requires
+equals-requires c κs = search needs
+
 returns : tie.Need-returns
-returns c = rw (eq-eqb (c .before .args .reset) (c .before .args .lit) (omega arith))
+returns c = rw (sym (c .before .equals .ensures) ∙ c .if1 .taken)
 
 returns-2 : tie.Need-returns-2
-returns-2 c = rw (ne-eqb (c .before .args .reset) (c .before .args .lit) (λ e. omega arith))
+returns-2 c = rw (sym (c .before .equals .ensures) ∙ c .if1 .left)
 
 pub free-start-spec : {M : Type 1} → statement M
-free-start-spec = tie.close (tie.spec returns returns-2)
+free-start-spec =
+    tie.close
+    (tie.spec
+    equals-requires
+    returns
+    returns-2)

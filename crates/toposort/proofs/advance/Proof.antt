@@ -31,7 +31,7 @@ enum-known-h c = search needs
 push-requires : tie.Need-push-requires
 push-requires c κs =
     let K = c .before .before .before .before .before in
-    let S = K .before .before .before .before .before .before .before .before in
+    let S = c .before .before .before .before .before .before .before .before .before .before .before .before .before in
     let n = rw (c .before .before .before .h .given .1) at (K .operand .ensures) in (
       omega (arith, S .pre .0 .small),
       n .0 .0 .0,
@@ -65,13 +65,14 @@ same-length-2 c = search needs
 returns : tie.Need-returns
 returns c =
     let A = c .before .before .before .before in
-    let K = A .before .before .before .before .before .before in
-    let S = K .before .before .before .before .before .before .before .before in
-    let n = rw (A .before .before .before .before .h .given .1) at (K .operand .ensures) in (
+    let K = c .before .before .before .before .before .before .before .before .before .before in
+    let S = c .before .before .before .before .before .before .before .before .before .before .before .before .before .before .before .before .before .before in
+    let n = rw (c .before .before .before .before .before .before .before .before .h .given .1) at (K .operand .ensures) in (
       search-push _ _ _ _ _ _ _ (S .pre .1 .0) _ (n .0 .0 .0) (n .0 .1) _ _ (A .push .ensures .0) (A .push .ensures .1)
           (top-edge _ _ _ _ _ _ _ (S .pre .1 .0) (S .pre .1 .1) _ (n .0 .0)),
       λ left right o.
-          search-deeper left right _ _ _ _ _ _ _ (S .pre .1 .0) (S .pre .1 .1) _ (n .0 .0 .0) (n .0 .1) _ (A .push .ensures .1) (n .1 left right o),
+          search-deeper left right _ _ _ _ _ _ _ (S .pre .1 .0) (S .pre .1 .1) _ (n .0 .0 .0) (n .0 .1) _ (A .push .ensures .1)
+          (n .1 left right o),
     )
 
 same-length-3 : tie.Need-same-length-3
@@ -80,7 +81,7 @@ same-length-3 c = search needs
 returns-2 : tie.Need-returns-2
 returns-2 c =
     let K = c .before .before in
-    let S = K .before .before .before .before .before .before .before .before in
+    let S = c .before .before .before .before .before .before .before .before .before .before in
     let n = rw (c .enum-told .given .1) at (K .operand .ensures) in
     (search-cycle _ _ _ _ _ _ _ (S .pre .1 .0) (S .pre .1 .1) (n .0 .0) (n .0 .1) (n .0 .2), λ left right o. tt)
 
@@ -93,9 +94,9 @@ same-length-5 c = search needs
 returns-3 : tie.Need-returns-3
 returns-3 c =
     let A = c .before .before .before .before in
-    let K = A .before .before .before .before .before in
-    let S = K .before .before .before .before .before .before .before .before in
-    let n = rw (A .before .before .before .enum-told2 .given .1) at (K .operand .ensures) in (
+    let K = c .before .before .before .before .before .before .before .before .before in
+    let S = c .before .before .before .before .before .before .before .before .before .before .before .before .before .before .before .before .before in
+    let n = rw (c .before .before .before .before .before .before .before .enum-told2 .given .1) at (K .operand .ensures) in (
       search-place _ _ _ _ _ _ _ (S .pre .1 .0) (S .pre .1 .1) _ _ (A .place .ensures .0) (A .place .ensures .1) (n .0),
       λ left right o. search-placed left right _ _ _ _ _ _ _ (S .pre .1 .0) (S .pre .1 .1) _ (A .place .ensures .1) (n .1 left right o),
     )

@@ -31,8 +31,10 @@ loop-holds c =
 
 advance-requires : tie.Need-advance-requires Inv-loop μ-loop
 advance-requires c κs =
-    let L = c .before .before .before .before .before in
-    (L .before .before .before .before .before .before .pre .0, (L .loop .inv .0 .search, c .before .before .before .if1 .taken))
+    let L = c .before .before .before .before .before in (
+      c .before .before .before .before .before .before .before .before .before .before .before .pre .0,
+      (L .loop .inv .0 .search, c .before .before .before .if1 .taken),
+    )
 
 enum-told : tie.Need-enum-told Inv-loop μ-loop
 enum-told c = search needs
@@ -40,27 +42,40 @@ enum-told c = search needs
 add-sp : tie.Need-add-sp Inv-loop μ-loop
 add-sp c =
     let A = c .before .before .before .before .before .before .before .before in
-    let L = A .before .before .before .before .before .before in
-    omega (arith, counts _ _ _ _ _ _ _ (L .loop .inv .0 .search), L .before .before .before .before .before .before .pre .0 .small)
+    let L = c .before .before .before .before .before .before .before .before .before .before .before .before .before .before in
+    omega (
+      arith,
+      counts _ _ _ _ _ _ _
+          (L .loop .inv .0 .search),
+      c .before .before .before .before .before .before .before .before .before .before .before .before .before .before .before .before .before .before .before .before .pre .0 .small,
+    )
 
 loop-less : tie.Need-loop-less Inv-loop μ-loop
 loop-less c =
     let A = c .before .before .before .before .before .before .before .before in
-    let L = A .before .before .before .before .before .before in
+    let L = c .before .before .before .before .before .before .before .before .before .before .before .before .before .before in
     let n = rw (c .enum-told .given .1) at (A .advance .ensures) in
-    omega (arith, counts _ _ _ _ _ _ _ (n .0 .0), A .before .before .before .before .before .loop-test .taken)
+    omega (
+      arith,
+      counts _ _ _ _ _ _ _
+          (n .0 .0),
+      c .before .before .before .before .before .before .before .before .before .before .before .before .before .loop-test .taken,
+    )
 
 loop-again : tie.Need-loop-again Inv-loop μ-loop
 loop-again c =
     let A = c .before .before .before .before .before .before .before .before in
-    let L = A .before .before .before .before .before .before in
-    let S = L .before .before .before .before .before .before in
+    let L = c .before .before .before .before .before .before .before .before .before .before .before .before .before .before in
+    let S = c .before .before .before .before .before .before .before .before .before .before .before .before .before .before .before .before .before .before .before .before in
     let n = rw (c .enum-told .given .1) at (A .advance .ensures) in (
-      run-step _ _ _ _ _ _ _ _ (L .loop .inv .0) _ _ _ _ _ (A .before .before .before .before .before .loop-test .taken) (n .0),
-      A .advance .kept .1 .1 .1 .1 .0 ∙ L .loop .inv .1,
-      A .advance .kept .1 .1 .1 .1 .1 .0 ∙ L .loop .inv .2,
-      A .advance .kept .1 .1 .1 .1 .1 .1 .0 ∙ L .loop .inv .3,
-      λ left right o. ap (placedFrom left right (S .args .m) (L .loop .s) (S .args .m - L .loop .s)) (n .1 left right o) ∙ L .loop .inv .4 left right o,
+      run-step _ _ _ _ _ _ _ _ (L .loop .inv .0) _ _ _ _ _
+          (c .before .before .before .before .before .before .before .before .before .before .before .before .before .loop-test .taken)
+          (n .0),
+      A .advance .kept .1 .1 .1 .0 ∙ L .loop .inv .1,
+      A .advance .kept .1 .1 .1 .1 .0 ∙ L .loop .inv .2,
+      A .advance .kept .1 .1 .1 .1 .1 .0 ∙ L .loop .inv .3,
+      λ left right o. ap (placedFrom left right (S .args .m) (L .loop .s) (S .args .m - L .loop .s)) (n .1 left right o)
+          ∙ L .loop .inv .4 left right o,
     )
 
 enum-told-2 : tie.Need-enum-told-2 Inv-loop μ-loop
@@ -72,27 +87,41 @@ sub-sp c = omega arith
 add-done : tie.Need-add-done Inv-loop μ-loop
 add-done c =
     let A = c .before .before .before .before .before .before .before .before in
-    let L = A .before .before .before .before .before .before in
-    omega (arith, counts _ _ _ _ _ _ _ (L .loop .inv .0 .search), L .before .before .before .before .before .before .pre .0 .small)
+    let L = c .before .before .before .before .before .before .before .before .before .before .before .before .before .before in
+    omega (
+      arith,
+      counts _ _ _ _ _ _ _
+          (L .loop .inv .0 .search),
+      c .before .before .before .before .before .before .before .before .before .before .before .before .before .before .before .before .before .before .before .before .pre .0 .small,
+    )
 
 loop-less-2 : tie.Need-loop-less-2 Inv-loop μ-loop
 loop-less-2 c =
     let A = c .before .before .before .before .before .before .before .before in
-    let L = A .before .before .before .before .before .before in
-    let I = A .before .before .before .before in
-    omega (arith, counts _ _ _ _ _ _ _ (L .loop .inv .0 .search), I .if1 .taken, I .before .loop-test .taken)
+    let L = c .before .before .before .before .before .before .before .before .before .before .before .before .before .before in
+    let I = c .before .before .before .before .before .before .before .before .before .before .before .before in
+    omega (
+      arith,
+      counts _ _ _ _ _ _ _
+          (L .loop .inv .0 .search),
+      I .if1 .taken,
+      c .before .before .before .before .before .before .before .before .before .before .before .before .before .loop-test .taken,
+    )
 
 loop-again-2 : tie.Need-loop-again-2 Inv-loop μ-loop
 loop-again-2 c =
     let A = c .before .before .before .before .before .before .before .before in
-    let L = A .before .before .before .before .before .before in
-    let S = L .before .before .before .before .before .before in
+    let L = c .before .before .before .before .before .before .before .before .before .before .before .before .before .before in
+    let S = c .before .before .before .before .before .before .before .before .before .before .before .before .before .before .before .before .before .before .before .before in
     let n = rw (c .enum-told2 .given .1) at (A .advance .ensures) in (
-      run-step _ _ _ _ _ _ _ _ (L .loop .inv .0) _ _ _ _ _ (A .before .before .before .before .before .loop-test .taken) (n .0),
-      A .advance .kept .1 .1 .1 .1 .0 ∙ L .loop .inv .1,
-      A .advance .kept .1 .1 .1 .1 .1 .0 ∙ L .loop .inv .2,
-      A .advance .kept .1 .1 .1 .1 .1 .1 .0 ∙ L .loop .inv .3,
-      λ left right o. ap (placedFrom left right (S .args .m) (L .loop .s) (S .args .m - L .loop .s)) (n .1 left right o) ∙ L .loop .inv .4 left right o,
+      run-step _ _ _ _ _ _ _ _ (L .loop .inv .0) _ _ _ _ _
+          (c .before .before .before .before .before .before .before .before .before .before .before .before .before .loop-test .taken)
+          (n .0),
+      A .advance .kept .1 .1 .1 .0 ∙ L .loop .inv .1,
+      A .advance .kept .1 .1 .1 .1 .0 ∙ L .loop .inv .2,
+      A .advance .kept .1 .1 .1 .1 .1 .0 ∙ L .loop .inv .3,
+      λ left right o. ap (placedFrom left right (S .args .m) (L .loop .s) (S .args .m - L .loop .s)) (n .1 left right o)
+          ∙ L .loop .inv .4 left right o,
     )
 
 enum-told-3 : tie.Need-enum-told-3 Inv-loop μ-loop
@@ -101,20 +130,20 @@ enum-told-3 c = search needs
 same-length : tie.Need-same-length Inv-loop μ-loop
 same-length c =
     let A = c .before .before .before .before .before .before .before .before in
-    let L = A .before .before .before .before .before .before in
-    A .advance .kept .1 .1 .1 .1 .0 ∙ L .loop .inv .1
+    let L = c .before .before .before .before .before .before .before .before .before .before .before .before .before .before in
+    A .advance .kept .1 .1 .1 .0 ∙ L .loop .inv .1
 
 same-length-2 : tie.Need-same-length-2 Inv-loop μ-loop
 same-length-2 c =
     let A = c .before .before .before .before .before .before .before .before in
-    let L = A .before .before .before .before .before .before in
-    A .advance .kept .1 .1 .1 .1 .1 .0 ∙ L .loop .inv .2
+    let L = c .before .before .before .before .before .before .before .before .before .before .before .before .before .before in
+    A .advance .kept .1 .1 .1 .1 .0 ∙ L .loop .inv .2
 
 same-length-3 : tie.Need-same-length-3 Inv-loop μ-loop
 same-length-3 c =
     let A = c .before .before .before .before .before .before .before .before in
-    let L = A .before .before .before .before .before .before in
-    A .advance .kept .1 .1 .1 .1 .1 .1 .0 ∙ L .loop .inv .3
+    let L = c .before .before .before .before .before .before .before .before .before .before .before .before .before .before in
+    A .advance .kept .1 .1 .1 .1 .1 .0 ∙ L .loop .inv .3
 
 returns : tie.Need-returns Inv-loop μ-loop
 returns c =
@@ -130,7 +159,7 @@ slice-read-if2 c = omega (arith, c .before .before .before .loop .inv .0 .search
 push-requires : tie.Need-push-requires Inv-loop μ-loop
 push-requires c κs =
     let L = c .before .before .before .before .before .before in
-    let S = L .before .before .before .before .before .before in (
+    let S = c .before .before .before .before .before .before .before .before .before .before .before .before in (
       omega (arith, S .pre .0 .small),
       c .before .before .before .before .before .loop-test .taken,
       omega (arith, c .before .before .before .before .if1 .left, c .before .before .before .before .before .loop-test .taken),
@@ -145,15 +174,21 @@ loop-less-3 : tie.Need-loop-less-3 Inv-loop μ-loop
 loop-less-3 c =
     let L = c .before .before .before .before .before .before .before .before .before .before .before in
     let I = c .before .before .before .before .before .before .before .before .before in
-    omega (arith, counts _ _ _ _ _ _ _ (L .loop .inv .0 .search), I .if1 .left, I .before .loop-test .taken)
+    omega (
+      arith,
+      counts _ _ _ _ _ _ _
+          (L .loop .inv .0 .search),
+      I .if1 .left,
+      c .before .before .before .before .before .before .before .before .before .before .loop-test .taken,
+    )
 
 loop-again-3 : tie.Need-loop-again-3 Inv-loop μ-loop
 loop-again-3 c =
     let A = c .before .before .before .before in
-    let L = A .before .before .before .before .before .before .before in
-    let sm = A .before .before .before .before .before .before .loop-test .taken in
-    let empty = A .before .before .before .before .before .if1 .left in
-    let new = A .before .before .before .if2 .taken in
+    let L = c .before .before .before .before .before .before .before .before .before .before .before in
+    let sm = c .before .before .before .before .before .before .before .before .before .before .loop-test .taken in
+    let empty = c .before .before .before .before .before .before .before .before .before .if1 .left in
+    let new = c .before .before .before .before .before .before .before .if2 .taken in
     let pushed =
     search-push _ _ _ _ _ _ _ (L .loop .inv .0 .search) _ sm new _ _ (A .push .ensures .0) (A .push .ensures .1)
     (λ k e. absurd (omega arith))

@@ -5,6 +5,8 @@ use native.Mathlib.Omega.{arith}
 use lib.ListN.{length, getD, length-set}
 use Rattle.aiger.specs.Bits.{bit}
 use Rattle.aiger.specs.Circuit.{var}
+use Rattle.literals.specs.declared.Lit.{Lit}
+use Rattle.literals.specs.declared.Var.{Var}
 use Rattle.layout.specs.Words.{word, circuitIn}
 use Rattle.words.proofs.Bits.{join-high}
 use Rattle.meaning.proofs.Defined.{latchAt}
@@ -27,6 +29,11 @@ Inv-loop m s values₀ kept latches count i₀ values i =
 abbrev μ-loop : tie.MeasureT-loop
 μ-loop m s values₀ kept latches count i₀ values i = count - i
 
+-- the variable that was read
+read : (c : tie.After-var Inv-loop μ-loop)
+    → (let S = c .before .before .before .before .before .before .before .before .before in c .var .result .0 ≡ var (word (S .args .m .now) (S .args .layout .latches + 3 * getD (S .args .kept .now) (c .before .before .before .before .before .loop .i) 0)))
+read c = ap (λ (v : Var). v .0) (c .var .ensures) ∙ ap (λ (l : Lit). l .0 .0) (c .before .from-word .ensures)
+
 loop-holds : tie.Need-loop-holds Inv-loop μ-loop
 loop-holds c = (omega arith, refl, given-start _ _ _)
 
@@ -39,54 +46,60 @@ shared-slice-read-j c = omega arith
 cast-j : tie.Need-cast-j Inv-loop μ-loop
 cast-j c = omega (arith, (c .before .before .before .before .before .before .pre .1 .1 .1 .inside (c .before .before .loop .i) (omega arith)), latches-are (c .before .before .before .before .before .before .pre .0) (c .before .before .before .before .before .before .pre .1 .0), latches-few (c .before .before .before .before .before .before .pre .0) (c .before .before .before .before .before .before .pre .1 .0))
 
-mul-v : tie.Need-mul-v Inv-loop μ-loop
-mul-v c = omega (arith, latches-inside (c .before .before .before .before .before .before .pre .0) (c .before .before .before .before .before .before .pre .1 .0), latches-few (c .before .before .before .before .before .before .pre .0) (c .before .before .before .before .before .before .pre .1 .0), latches-are (c .before .before .before .before .before .before .pre .0) (c .before .before .before .before .before .before .pre .1 .0), (c .before .before .before .before .before .before .pre .1 .1 .1 .inside (c .before .before .loop .i) (omega arith)), latch-small (c .before .before .before .before .before .before .pre .0) (c .before .before .before .before .before .before .pre .1 .0) (getD (c .before .before .before .before .before .before .args .kept .now) (c .before .before .loop .i) 0) (omega (arith, latches-are (c .before .before .before .before .before .before .pre .0) (c .before .before .before .before .before .before .pre .1 .0), (c .before .before .before .before .before .before .pre .1 .1 .1 .inside (c .before .before .loop .i) (omega arith)))), c .before .before .before .before .before .before .pre .1 .1 .0, c .before .before .before .before .before .before .pre .1 .1 .2, c .before .before .loop .inv .1)
+mul-from-word : tie.Need-mul-from-word Inv-loop μ-loop
+mul-from-word c = omega (arith, latches-inside (c .before .before .before .before .before .before .pre .0) (c .before .before .before .before .before .before .pre .1 .0), latches-few (c .before .before .before .before .before .before .pre .0) (c .before .before .before .before .before .before .pre .1 .0), latches-are (c .before .before .before .before .before .before .pre .0) (c .before .before .before .before .before .before .pre .1 .0), (c .before .before .before .before .before .before .pre .1 .1 .1 .inside (c .before .before .loop .i) (omega arith)), latch-small (c .before .before .before .before .before .before .pre .0) (c .before .before .before .before .before .before .pre .1 .0) (getD (c .before .before .before .before .before .before .args .kept .now) (c .before .before .loop .i) 0) (omega (arith, latches-are (c .before .before .before .before .before .before .pre .0) (c .before .before .before .before .before .before .pre .1 .0), (c .before .before .before .before .before .before .pre .1 .1 .1 .inside (c .before .before .loop .i) (omega arith)))), c .before .before .before .before .before .before .pre .1 .1 .0, c .before .before .before .before .before .before .pre .1 .1 .2, c .before .before .loop .inv .1)
 
-add-v : tie.Need-add-v Inv-loop μ-loop
-add-v c = omega (arith, latches-inside (c .before .before .before .before .before .before .pre .0) (c .before .before .before .before .before .before .pre .1 .0), latches-few (c .before .before .before .before .before .before .pre .0) (c .before .before .before .before .before .before .pre .1 .0), latches-are (c .before .before .before .before .before .before .pre .0) (c .before .before .before .before .before .before .pre .1 .0), (c .before .before .before .before .before .before .pre .1 .1 .1 .inside (c .before .before .loop .i) (omega arith)), latch-small (c .before .before .before .before .before .before .pre .0) (c .before .before .before .before .before .before .pre .1 .0) (getD (c .before .before .before .before .before .before .args .kept .now) (c .before .before .loop .i) 0) (omega (arith, latches-are (c .before .before .before .before .before .before .pre .0) (c .before .before .before .before .before .before .pre .1 .0), (c .before .before .before .before .before .before .pre .1 .1 .1 .inside (c .before .before .loop .i) (omega arith)))), c .before .before .before .before .before .before .pre .1 .1 .0, c .before .before .before .before .before .before .pre .1 .1 .2, c .before .before .loop .inv .1)
+add-from-word : tie.Need-add-from-word Inv-loop μ-loop
+add-from-word c = omega (arith, latches-inside (c .before .before .before .before .before .before .pre .0) (c .before .before .before .before .before .before .pre .1 .0), latches-few (c .before .before .before .before .before .before .pre .0) (c .before .before .before .before .before .before .pre .1 .0), latches-are (c .before .before .before .before .before .before .pre .0) (c .before .before .before .before .before .before .pre .1 .0), (c .before .before .before .before .before .before .pre .1 .1 .1 .inside (c .before .before .loop .i) (omega arith)), latch-small (c .before .before .before .before .before .before .pre .0) (c .before .before .before .before .before .before .pre .1 .0) (getD (c .before .before .before .before .before .before .args .kept .now) (c .before .before .loop .i) 0) (omega (arith, latches-are (c .before .before .before .before .before .before .pre .0) (c .before .before .before .before .before .before .pre .1 .0), (c .before .before .before .before .before .before .pre .1 .1 .1 .inside (c .before .before .loop .i) (omega arith)))), c .before .before .before .before .before .before .pre .1 .1 .0, c .before .before .before .before .before .before .pre .1 .1 .2, c .before .before .loop .inv .1)
 
-mul-v-2 : tie.Need-mul-v-2 Inv-loop μ-loop
-mul-v-2 c = omega (arith, latches-inside (c .before .before .before .before .before .before .pre .0) (c .before .before .before .before .before .before .pre .1 .0), latches-few (c .before .before .before .before .before .before .pre .0) (c .before .before .before .before .before .before .pre .1 .0), latches-are (c .before .before .before .before .before .before .pre .0) (c .before .before .before .before .before .before .pre .1 .0), (c .before .before .before .before .before .before .pre .1 .1 .1 .inside (c .before .before .loop .i) (omega arith)), latch-small (c .before .before .before .before .before .before .pre .0) (c .before .before .before .before .before .before .pre .1 .0) (getD (c .before .before .before .before .before .before .args .kept .now) (c .before .before .loop .i) 0) (omega (arith, latches-are (c .before .before .before .before .before .before .pre .0) (c .before .before .before .before .before .before .pre .1 .0), (c .before .before .before .before .before .before .pre .1 .1 .1 .inside (c .before .before .loop .i) (omega arith)))), c .before .before .before .before .before .before .pre .1 .1 .0, c .before .before .before .before .before .before .pre .1 .1 .2, c .before .before .loop .inv .1)
+mul-from-word-2 : tie.Need-mul-from-word-2 Inv-loop μ-loop
+mul-from-word-2 c = omega (arith, latches-inside (c .before .before .before .before .before .before .pre .0) (c .before .before .before .before .before .before .pre .1 .0), latches-few (c .before .before .before .before .before .before .pre .0) (c .before .before .before .before .before .before .pre .1 .0), latches-are (c .before .before .before .before .before .before .pre .0) (c .before .before .before .before .before .before .pre .1 .0), (c .before .before .before .before .before .before .pre .1 .1 .1 .inside (c .before .before .loop .i) (omega arith)), latch-small (c .before .before .before .before .before .before .pre .0) (c .before .before .before .before .before .before .pre .1 .0) (getD (c .before .before .before .before .before .before .args .kept .now) (c .before .before .loop .i) 0) (omega (arith, latches-are (c .before .before .before .before .before .before .pre .0) (c .before .before .before .before .before .before .pre .1 .0), (c .before .before .before .before .before .before .pre .1 .1 .1 .inside (c .before .before .loop .i) (omega arith)))), c .before .before .before .before .before .before .pre .1 .1 .0, c .before .before .before .before .before .before .pre .1 .1 .2, c .before .before .loop .inv .1)
 
-shared-slice-read-v : tie.Need-shared-slice-read-v Inv-loop μ-loop
-shared-slice-read-v c = omega (arith, latches-inside (c .before .before .before .before .before .before .before .pre .0) (c .before .before .before .before .before .before .before .pre .1 .0), latches-few (c .before .before .before .before .before .before .before .pre .0) (c .before .before .before .before .before .before .before .pre .1 .0), latches-are (c .before .before .before .before .before .before .before .pre .0) (c .before .before .before .before .before .before .before .pre .1 .0), (c .before .before .before .before .before .before .before .pre .1 .1 .1 .inside (c .before .before .before .loop .i) (omega arith)), latch-small (c .before .before .before .before .before .before .before .pre .0) (c .before .before .before .before .before .before .before .pre .1 .0) (getD (c .before .before .before .before .before .before .before .args .kept .now) (c .before .before .before .loop .i) 0) (omega (arith, latches-are (c .before .before .before .before .before .before .before .pre .0) (c .before .before .before .before .before .before .before .pre .1 .0), (c .before .before .before .before .before .before .before .pre .1 .1 .1 .inside (c .before .before .before .loop .i) (omega arith)))), c .before .before .before .before .before .before .before .pre .1 .1 .0, c .before .before .before .before .before .before .before .pre .1 .1 .2, c .before .before .before .loop .inv .1)
+shared-slice-read-from-word : tie.Need-shared-slice-read-from-word Inv-loop μ-loop
+shared-slice-read-from-word c = omega (arith, latches-inside (c .before .before .before .before .before .before .before .pre .0) (c .before .before .before .before .before .before .before .pre .1 .0), latches-few (c .before .before .before .before .before .before .before .pre .0) (c .before .before .before .before .before .before .before .pre .1 .0), latches-are (c .before .before .before .before .before .before .before .pre .0) (c .before .before .before .before .before .before .before .pre .1 .0), (c .before .before .before .before .before .before .before .pre .1 .1 .1 .inside (c .before .before .before .loop .i) (omega arith)), latch-small (c .before .before .before .before .before .before .before .pre .0) (c .before .before .before .before .before .before .before .pre .1 .0) (getD (c .before .before .before .before .before .before .before .args .kept .now) (c .before .before .before .loop .i) 0) (omega (arith, latches-are (c .before .before .before .before .before .before .before .pre .0) (c .before .before .before .before .before .before .before .pre .1 .0), (c .before .before .before .before .before .before .before .pre .1 .1 .1 .inside (c .before .before .before .loop .i) (omega arith)))), c .before .before .before .before .before .before .before .pre .1 .1 .0, c .before .before .before .before .before .before .before .pre .1 .1 .2, c .before .before .before .loop .inv .1)
 
-cast-v : tie.Need-cast-v Inv-loop μ-loop
-cast-v c = omega (arith, latches-inside (c .before .before .before .before .before .before .before .pre .0) (c .before .before .before .before .before .before .before .pre .1 .0), latches-few (c .before .before .before .before .before .before .before .pre .0) (c .before .before .before .before .before .before .before .pre .1 .0), latches-are (c .before .before .before .before .before .before .before .pre .0) (c .before .before .before .before .before .before .before .pre .1 .0), (c .before .before .before .before .before .before .before .pre .1 .1 .1 .inside (c .before .before .before .loop .i) (omega arith)), latch-small (c .before .before .before .before .before .before .before .pre .0) (c .before .before .before .before .before .before .before .pre .1 .0) (getD (c .before .before .before .before .before .before .before .args .kept .now) (c .before .before .before .loop .i) 0) (omega (arith, latches-are (c .before .before .before .before .before .before .before .pre .0) (c .before .before .before .before .before .before .before .pre .1 .0), (c .before .before .before .before .before .before .before .pre .1 .1 .1 .inside (c .before .before .before .loop .i) (omega arith)))), c .before .before .before .before .before .before .before .pre .1 .1 .0, c .before .before .before .before .before .before .before .pre .1 .1 .2, c .before .before .before .loop .inv .1)
+from-word-requires : tie.Need-from-word-requires Inv-loop μ-loop
+from-word-requires c κs = tt
+
+var-requires : tie.Need-var-requires Inv-loop μ-loop
+var-requires c κs = tt
+
+cast-place : tie.Need-cast-place Inv-loop μ-loop
+cast-place c = omega (arith, read (c .before), latches-inside (c .before .before .before .before .before .before .before .before .before .before .pre .0) (c .before .before .before .before .before .before .before .before .before .before .pre .1 .0), latches-few (c .before .before .before .before .before .before .before .before .before .before .pre .0) (c .before .before .before .before .before .before .before .before .before .before .pre .1 .0), latches-are (c .before .before .before .before .before .before .before .before .before .before .pre .0) (c .before .before .before .before .before .before .before .before .before .before .pre .1 .0), (c .before .before .before .before .before .before .before .before .before .before .pre .1 .1 .1 .inside (c .before .before .before .before .before .before .loop .i) (omega arith)), latch-small (c .before .before .before .before .before .before .before .before .before .before .pre .0) (c .before .before .before .before .before .before .before .before .before .before .pre .1 .0) (getD (c .before .before .before .before .before .before .before .before .before .before .args .kept .now) (c .before .before .before .before .before .before .loop .i) 0) (omega (arith, latches-are (c .before .before .before .before .before .before .before .before .before .before .pre .0) (c .before .before .before .before .before .before .before .before .before .before .pre .1 .0), (c .before .before .before .before .before .before .before .before .before .before .pre .1 .1 .1 .inside (c .before .before .before .before .before .before .loop .i) (omega arith)))), c .before .before .before .before .before .before .before .before .before .before .pre .1 .1 .0, c .before .before .before .before .before .before .before .before .before .before .pre .1 .1 .2, c .before .before .before .before .before .before .loop .inv .1)
 
 add-counting-word : tie.Need-add-counting-word Inv-loop μ-loop
-add-counting-word c = omega (arith, latches-inside (c .before .before .before .before .before .before .before .pre .0) (c .before .before .before .before .before .before .before .pre .1 .0), latches-few (c .before .before .before .before .before .before .before .pre .0) (c .before .before .before .before .before .before .before .pre .1 .0), latches-are (c .before .before .before .before .before .before .before .pre .0) (c .before .before .before .before .before .before .before .pre .1 .0), (c .before .before .before .before .before .before .before .pre .1 .1 .1 .inside (c .before .before .before .loop .i) (omega arith)), latch-small (c .before .before .before .before .before .before .before .pre .0) (c .before .before .before .before .before .before .before .pre .1 .0) (getD (c .before .before .before .before .before .before .before .args .kept .now) (c .before .before .before .loop .i) 0) (omega (arith, latches-are (c .before .before .before .before .before .before .before .pre .0) (c .before .before .before .before .before .before .before .pre .1 .0), (c .before .before .before .before .before .before .before .pre .1 .1 .1 .inside (c .before .before .before .loop .i) (omega arith)))), c .before .before .before .before .before .before .before .pre .1 .1 .0, c .before .before .before .before .before .before .before .pre .1 .1 .2, c .before .before .before .loop .inv .1)
+add-counting-word c = omega (arith, latches-inside (c .before .before .before .before .before .before .before .before .before .before .pre .0) (c .before .before .before .before .before .before .before .before .before .before .pre .1 .0), latches-few (c .before .before .before .before .before .before .before .before .before .before .pre .0) (c .before .before .before .before .before .before .before .before .before .before .pre .1 .0), latches-are (c .before .before .before .before .before .before .before .before .before .before .pre .0) (c .before .before .before .before .before .before .before .before .before .before .pre .1 .0), (c .before .before .before .before .before .before .before .before .before .before .pre .1 .1 .1 .inside (c .before .before .before .before .before .before .loop .i) (omega arith)), latch-small (c .before .before .before .before .before .before .before .before .before .before .pre .0) (c .before .before .before .before .before .before .before .before .before .before .pre .1 .0) (getD (c .before .before .before .before .before .before .before .before .before .before .args .kept .now) (c .before .before .before .before .before .before .loop .i) 0) (omega (arith, latches-are (c .before .before .before .before .before .before .before .before .before .before .pre .0) (c .before .before .before .before .before .before .before .before .before .before .pre .1 .0), (c .before .before .before .before .before .before .before .before .before .before .pre .1 .1 .1 .inside (c .before .before .before .before .before .before .loop .i) (omega arith)))), c .before .before .before .before .before .before .before .before .before .before .pre .1 .1 .0, c .before .before .before .before .before .before .before .before .before .before .pre .1 .1 .2, c .before .before .before .before .before .before .loop .inv .1)
 
 counting-word-requires : tie.Need-counting-word-requires Inv-loop μ-loop
 counting-word-requires c κs = tt
 
 mul-values : tie.Need-mul-values Inv-loop μ-loop
-mul-values c = omega (arith, latches-inside (c .before .before .before .before .before .before .before .before .pre .0) (c .before .before .before .before .before .before .before .before .pre .1 .0), latches-few (c .before .before .before .before .before .before .before .before .pre .0) (c .before .before .before .before .before .before .before .before .pre .1 .0), latches-are (c .before .before .before .before .before .before .before .before .pre .0) (c .before .before .before .before .before .before .before .before .pre .1 .0), (c .before .before .before .before .before .before .before .before .pre .1 .1 .1 .inside (c .before .before .before .before .loop .i) (omega arith)), latch-small (c .before .before .before .before .before .before .before .before .pre .0) (c .before .before .before .before .before .before .before .before .pre .1 .0) (getD (c .before .before .before .before .before .before .before .before .args .kept .now) (c .before .before .before .before .loop .i) 0) (omega (arith, latches-are (c .before .before .before .before .before .before .before .before .pre .0) (c .before .before .before .before .before .before .before .before .pre .1 .0), (c .before .before .before .before .before .before .before .before .pre .1 .1 .1 .inside (c .before .before .before .before .loop .i) (omega arith)))), c .before .before .before .before .before .before .before .before .pre .1 .1 .0, c .before .before .before .before .before .before .before .before .pre .1 .1 .2, c .before .before .before .before .loop .inv .1)
+mul-values c = omega (arith, read (c .before .before), latches-inside (c .before .before .before .before .before .before .before .before .before .before .before .pre .0) (c .before .before .before .before .before .before .before .before .before .before .before .pre .1 .0), latches-few (c .before .before .before .before .before .before .before .before .before .before .before .pre .0) (c .before .before .before .before .before .before .before .before .before .before .before .pre .1 .0), latches-are (c .before .before .before .before .before .before .before .before .before .before .before .pre .0) (c .before .before .before .before .before .before .before .before .before .before .before .pre .1 .0), (c .before .before .before .before .before .before .before .before .before .before .before .pre .1 .1 .1 .inside (c .before .before .before .before .before .before .before .loop .i) (omega arith)), latch-small (c .before .before .before .before .before .before .before .before .before .before .before .pre .0) (c .before .before .before .before .before .before .before .before .before .before .before .pre .1 .0) (getD (c .before .before .before .before .before .before .before .before .before .before .before .args .kept .now) (c .before .before .before .before .before .before .before .loop .i) 0) (omega (arith, latches-are (c .before .before .before .before .before .before .before .before .before .before .before .pre .0) (c .before .before .before .before .before .before .before .before .before .before .before .pre .1 .0), (c .before .before .before .before .before .before .before .before .before .before .before .pre .1 .1 .1 .inside (c .before .before .before .before .before .before .before .loop .i) (omega arith)))), c .before .before .before .before .before .before .before .before .before .before .before .pre .1 .1 .0, c .before .before .before .before .before .before .before .before .before .before .before .pre .1 .1 .2, c .before .before .before .before .before .before .before .loop .inv .1)
 
 slice-write-values : tie.Need-slice-write-values Inv-loop μ-loop
-slice-write-values c = omega (arith, latches-inside (c .before .before .before .before .before .before .before .before .pre .0) (c .before .before .before .before .before .before .before .before .pre .1 .0), latches-few (c .before .before .before .before .before .before .before .before .pre .0) (c .before .before .before .before .before .before .before .before .pre .1 .0), latches-are (c .before .before .before .before .before .before .before .before .pre .0) (c .before .before .before .before .before .before .before .before .pre .1 .0), (c .before .before .before .before .before .before .before .before .pre .1 .1 .1 .inside (c .before .before .before .before .loop .i) (omega arith)), latch-small (c .before .before .before .before .before .before .before .before .pre .0) (c .before .before .before .before .before .before .before .before .pre .1 .0) (getD (c .before .before .before .before .before .before .before .before .args .kept .now) (c .before .before .before .before .loop .i) 0) (omega (arith, latches-are (c .before .before .before .before .before .before .before .before .pre .0) (c .before .before .before .before .before .before .before .before .pre .1 .0), (c .before .before .before .before .before .before .before .before .pre .1 .1 .1 .inside (c .before .before .before .before .loop .i) (omega arith)))), c .before .before .before .before .before .before .before .before .pre .1 .1 .0, c .before .before .before .before .before .before .before .before .pre .1 .1 .2, c .before .before .before .before .loop .inv .1)
+slice-write-values c = omega (arith, read (c .before .before), latches-inside (c .before .before .before .before .before .before .before .before .before .before .before .pre .0) (c .before .before .before .before .before .before .before .before .before .before .before .pre .1 .0), latches-few (c .before .before .before .before .before .before .before .before .before .before .before .pre .0) (c .before .before .before .before .before .before .before .before .before .before .before .pre .1 .0), latches-are (c .before .before .before .before .before .before .before .before .before .before .before .pre .0) (c .before .before .before .before .before .before .before .before .before .before .before .pre .1 .0), (c .before .before .before .before .before .before .before .before .before .before .before .pre .1 .1 .1 .inside (c .before .before .before .before .before .before .before .loop .i) (omega arith)), latch-small (c .before .before .before .before .before .before .before .before .before .before .before .pre .0) (c .before .before .before .before .before .before .before .before .before .before .before .pre .1 .0) (getD (c .before .before .before .before .before .before .before .before .before .before .before .args .kept .now) (c .before .before .before .before .before .before .before .loop .i) 0) (omega (arith, latches-are (c .before .before .before .before .before .before .before .before .before .before .before .pre .0) (c .before .before .before .before .before .before .before .before .before .before .before .pre .1 .0), (c .before .before .before .before .before .before .before .before .before .before .before .pre .1 .1 .1 .inside (c .before .before .before .before .before .before .before .loop .i) (omega arith)))), c .before .before .before .before .before .before .before .before .before .before .before .pre .1 .1 .0, c .before .before .before .before .before .before .before .before .before .before .before .pre .1 .1 .2, c .before .before .before .before .before .before .before .loop .inv .1)
 
 add-i : tie.Need-add-i Inv-loop μ-loop
-add-i c = omega (arith, latches-inside (c .before .before .before .before .before .before .before .before .pre .0) (c .before .before .before .before .before .before .before .before .pre .1 .0), latches-few (c .before .before .before .before .before .before .before .before .pre .0) (c .before .before .before .before .before .before .before .before .pre .1 .0), latches-are (c .before .before .before .before .before .before .before .before .pre .0) (c .before .before .before .before .before .before .before .before .pre .1 .0), (c .before .before .before .before .before .before .before .before .pre .1 .1 .1 .inside (c .before .before .before .before .loop .i) (omega arith)), latch-small (c .before .before .before .before .before .before .before .before .pre .0) (c .before .before .before .before .before .before .before .before .pre .1 .0) (getD (c .before .before .before .before .before .before .before .before .args .kept .now) (c .before .before .before .before .loop .i) 0) (omega (arith, latches-are (c .before .before .before .before .before .before .before .before .pre .0) (c .before .before .before .before .before .before .before .before .pre .1 .0), (c .before .before .before .before .before .before .before .before .pre .1 .1 .1 .inside (c .before .before .before .before .loop .i) (omega arith)))), c .before .before .before .before .before .before .before .before .pre .1 .1 .0, c .before .before .before .before .before .before .before .before .pre .1 .1 .2, c .before .before .before .before .loop .inv .1)
+add-i c = omega (arith, latches-inside (c .before .before .before .before .before .before .before .before .before .before .before .pre .0) (c .before .before .before .before .before .before .before .before .before .before .before .pre .1 .0), latches-few (c .before .before .before .before .before .before .before .before .before .before .before .pre .0) (c .before .before .before .before .before .before .before .before .before .before .before .pre .1 .0), latches-are (c .before .before .before .before .before .before .before .before .before .before .before .pre .0) (c .before .before .before .before .before .before .before .before .before .before .before .pre .1 .0), (c .before .before .before .before .before .before .before .before .before .before .before .pre .1 .1 .1 .inside (c .before .before .before .before .before .before .before .loop .i) (omega arith)), latch-small (c .before .before .before .before .before .before .before .before .before .before .before .pre .0) (c .before .before .before .before .before .before .before .before .before .before .before .pre .1 .0) (getD (c .before .before .before .before .before .before .before .before .before .before .before .args .kept .now) (c .before .before .before .before .before .before .before .loop .i) 0) (omega (arith, latches-are (c .before .before .before .before .before .before .before .before .before .before .before .pre .0) (c .before .before .before .before .before .before .before .before .before .before .before .pre .1 .0), (c .before .before .before .before .before .before .before .before .before .before .before .pre .1 .1 .1 .inside (c .before .before .before .before .before .before .before .loop .i) (omega arith)))), c .before .before .before .before .before .before .before .before .before .before .before .pre .1 .1 .0, c .before .before .before .before .before .before .before .before .before .before .before .pre .1 .1 .2, c .before .before .before .before .before .before .before .loop .inv .1)
 
 loop-less : tie.Need-loop-less Inv-loop μ-loop
 loop-less c = omega arith
 
 loop-again : tie.Need-loop-again Inv-loop μ-loop
 loop-again c =
-    let L = c .before .before .before .before .loop in
-    let a = c .before .before .before .before .before .before .before .before .args in
-    let H = c .before .before .before .before .before .before .before .before .pre .0 in
-    let A = c .before .before .before .before .before .before .before .before .pre .1 .0 in
-    let ls = c .before .before .before .before .before .before .before .before .pre .1 .1 .1 in
+    let L = c .before .before .before .before .before .before .before .loop in
+    let a = c .before .before .before .before .before .before .before .before .before .before .before .args in
+    let H = c .before .before .before .before .before .before .before .before .before .before .before .pre .0 in
+    let A = c .before .before .before .before .before .before .before .before .before .before .before .pre .1 .0 in
+    let ls = c .before .before .before .before .before .before .before .before .before .before .before .pre .1 .1 .1 in
     let k = getD (a .kept .now) (L .i) 0 in
     let kl : k < a .layout .l = omega (arith, latches-are H A, ls .inside (L .i) (omega arith)) in (
       omega arith,
       length-set (L .values) _ _ ∙ L .inv .1,
-      given-more (λ n. var (latchAt (circuitIn (a .m .now)) (getD (a .kept .now) n 0) .lit)) (λ n p. bit (a .s) n) (L .i) (a .values .now) (L .values)
-          (var (word (a .m .now) (a .layout .latches + 3 * k))) (c .counting-word .result) (latch-var H A k kl) (omega (arith, latch-small H A k kl, L .inv .1, c .before .before .before .before .before .before .before .before .pre .1 .1 .0))
+      rw (read (c .before .before)) (given-more (λ n. var (latchAt (circuitIn (a .m .now)) (getD (a .kept .now) n 0) .lit)) (λ n p. bit (a .s) n) (L .i) (a .values .now) (L .values)
+          (var (word (a .m .now) (a .layout .latches + 3 * k))) (c .counting-word .result) (latch-var H A k kl) (omega (arith, latch-small H A k kl, L .inv .1, c .before .before .before .before .before .before .before .before .before .before .before .pre .1 .1 .0))
           (λ n l e. latches-differ H A (getD (a .kept .now) n 0) k (ls .rising n (L .i) l (omega arith)) kl e)
-          (λ p hp. c .counting-word .ensures p hp ∙ bit-up (a .s) p (L .i) hp) (L .inv .2),
+          (λ p hp. c .counting-word .ensures p hp ∙ bit-up (a .s) p (L .i) hp) (L .inv .2)),
     )
 
 same-length : tie.Need-same-length Inv-loop μ-loop
@@ -108,11 +121,13 @@ put-latches-spec =
     mul-j
     shared-slice-read-j
     cast-j
-    mul-v
-    add-v
-    mul-v-2
-    shared-slice-read-v
-    cast-v
+    mul-from-word
+    add-from-word
+    mul-from-word-2
+    shared-slice-read-from-word
+    from-word-requires
+    var-requires
+    cast-place
     add-counting-word
     counting-word-requires
     mul-values

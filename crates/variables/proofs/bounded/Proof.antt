@@ -1,36 +1,58 @@
 -- `bounded` meets its contract. The loop's invariant: each literal passed is at most 2m + 1.
 -- Assumes nothing.
 use borrow.Author.Count.{below-more}
+use mathlib.Core.Path.{_≡_, ap, _∙_}
 use lib.ListN.{getD}
+use Rattle.literals.specs.declared.Var.{Var}
+use Rattle.literals.specs.declared.Lit.{Lit}
 use native.Mathlib.Omega.{arith}
 use Prim.Native.Nat.{ℕ, _+_, _*_, _-_, _/_, _<_, _≤_}
+use borrow.Author.Needs.{needs}
 use Rattle.variables.proofs.bounded.Statement.{statement}
 use Rattle.variables.proofs.bounded.Tie as tie
 
 abbrev Inv-loop : tie.InvT-loop
-Inv-loop w m at stride n i₀ i = (i ≤ n) × ((k : ℕ) → k < i → getD w (at + stride * k) 0 / 2 ≤ m)
+Inv-loop w m at stride n i₀ i = (i ≤ n) × ((k : ℕ) → k < i → getD w (at + stride * k) 0 / 2 ≤ m .0)
 
 abbrev μ-loop : tie.MeasureT-loop
 μ-loop w m at stride n i₀ i = n - i
 
+-- the variable that was read
+read : (c : tie.After-var Inv-loop μ-loop)
+    → (let S = c .before .before .before .before .before .before in c .var .result .0 ≡ getD (S .args .w .now)
+    (S .args .c .at + S .args .c .stride * c .before .before .before .before .loop .i) 0 / 2)
+read c = ap (λ (v : Var). v .0) (c .var .ensures) ∙ ap (λ (l : Lit). l .0 .0) (c .before .from-word .ensures)
+
 loop-holds : tie.Need-loop-holds Inv-loop μ-loop
 loop-holds c = (omega arith, λ k l. absurd (omega arith))
 
-mul-if1 : tie.Need-mul-if1 Inv-loop μ-loop
-mul-if1 c = let L = c .before in omega (arith, L .before .pre (L .loop .i) (c .loop-test .taken))
+mul-from-word : tie.Need-mul-from-word Inv-loop μ-loop
+mul-from-word c = let L = c .before in omega (arith, c .before .before .before .pre (L .loop .i) (c .loop-test .taken))
 
-add-if1 : tie.Need-add-if1 Inv-loop μ-loop
-add-if1 c = let L = c .before in omega (arith, L .before .pre (L .loop .i) (c .loop-test .taken))
+add-from-word : tie.Need-add-from-word Inv-loop μ-loop
+add-from-word c = let L = c .before in omega (arith, c .before .before .before .pre (L .loop .i) (c .loop-test .taken))
 
-mul-if1-2 : tie.Need-mul-if1-2 Inv-loop μ-loop
-mul-if1-2 c = let L = c .before in omega (arith, L .before .pre (L .loop .i) (c .loop-test .taken))
+mul-from-word-2 : tie.Need-mul-from-word-2 Inv-loop μ-loop
+mul-from-word-2 c = let L = c .before in omega (arith, c .before .before .before .pre (L .loop .i) (c .loop-test .taken))
 
-shared-slice-read-if1 : tie.Need-shared-slice-read-if1 Inv-loop μ-loop
-shared-slice-read-if1 c = let L = c .before .before in L .before .pre (L .loop .i) (c .before .loop-test .taken)
+shared-slice-read-from-word : tie.Need-shared-slice-read-from-word Inv-loop μ-loop
+shared-slice-read-from-word c = let L = c .before .before in c .before .before .before .before .pre (L .loop .i)
+    (c .before .loop-test .taken)
+
+from-word-requires : tie.Need-from-word-requires Inv-loop μ-loop
+from-word-requires c κs = search needs
+
+var-requires : tie.Need-var-requires Inv-loop μ-loop
+var-requires c κs = search needs
 
 returns : tie.Need-returns Inv-loop μ-loop
-returns c =
-    λ all. let L = c .before .before .before in omega (arith, c .if1 .taken, all (L .loop .i) (c .before .before .loop-test .taken))
+returns c = λ all. omega (
+  arith,
+  read (c .before .before .before),
+  all
+      (c .before .before .before .before .before .before .before .loop .i)
+      (c .before .before .before .before .before .before .loop-test .taken),
+)
 
 add-i : tie.Need-add-i Inv-loop μ-loop
 add-i c = omega arith
@@ -39,7 +61,11 @@ loop-less : tie.Need-loop-less Inv-loop μ-loop
 loop-less c = omega arith
 
 loop-again : tie.Need-loop-again Inv-loop μ-loop
-loop-again c = (omega arith, below-more _ _ (c .before .before .before .loop .inv .1) (c .if1 .left))
+loop-again c = (
+  omega arith,
+  below-more _ _ (c .before .before .before .before .before .before .before .loop .inv .1)
+      (omega (arith, read (c .before .before .before))),
+)
 
 returns-2 : tie.Need-returns-2 Inv-loop μ-loop
 returns-2 c = λ k l. c .before .loop .inv .1 k (omega arith)
@@ -51,10 +77,12 @@ bounded-spec =
     Inv-loop
     μ-loop
     loop-holds
-    mul-if1
-    add-if1
-    mul-if1-2
-    shared-slice-read-if1
+    mul-from-word
+    add-from-word
+    mul-from-word-2
+    shared-slice-read-from-word
+    from-word-requires
+    var-requires
     returns
     add-i
     loop-less

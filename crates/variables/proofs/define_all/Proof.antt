@@ -6,8 +6,8 @@ use borrow.Author.Needs.{needs}
 use Rattle.variables.proofs.define_all.Statement.{statement}
 use Rattle.variables.proofs.define_all.Tie as tie
 
-shared-slice-read-m : tie.Need-shared-slice-read-m
-shared-slice-read-m c = search needs
+shared-slice-read-base : tie.Need-shared-slice-read-base
+shared-slice-read-base c = search needs
 
 column-of-requires : tie.Need-column-of-requires
 column-of-requires c κs = search needs
@@ -23,8 +23,8 @@ same-length c = search needs
 returns : tie.Need-returns
 returns c = let A = c .before .before .before in rw (not-true (A .define .result) (c .if1 .taken)) at (A .define .ensures)
 
-shared-slice-read-base : tie.Need-shared-slice-read-base
-shared-slice-read-base c = search needs
+shared-slice-read-base-2 : tie.Need-shared-slice-read-base-2
+shared-slice-read-base-2 c = search needs
 
 column-of-requires-2 : tie.Need-column-of-requires-2
 column-of-requires-2 c κs = search needs
@@ -32,10 +32,15 @@ column-of-requires-2 c κs = search needs
 define-requires-2 : tie.Need-define-requires-2
 define-requires-2 c κs =
     let A = c .before .before .before .before .before .before in
-    let S = A .before .before .before .before .before .before in
+    let S = c .before .before .before .before .before .before .before .before .before .before .before .before in
     rw (c .column-of2 .ensures)
     (latches-next (S .args .w .now) (S .pre .0) (A .define .last .1 .0)
-    (rw (not-false (A .define .result) (c .before .before .before .if1 .left), A .before .column-of .ensures) at (A .define .ensures)))
+    (rw (
+      not-false (A .define .result)
+          (c .before .before .before .if1 .left),
+      c .before .before .before .before .before .before .before .column-of .ensures,
+    ) at
+    (A .define .ensures)))
 
 same-length-2 : tie.Need-same-length-2
 same-length-2 c = search needs
@@ -56,27 +61,32 @@ add-define c = search needs
 define-requires-3 : tie.Need-define-requires-3
 define-requires-3 c κs =
     let A = c .before .before .before .before .before .before in
-    let S = A .before .before .before .before .before .before .before .before .before .before .before .before .before in
+    let S = c .before .before .before .before .before .before .before .before .before .before .before .before .before .before .before .before .before .before .before in
     rw (c .before .column-of3 .ensures)
     (gates-next (S .args .w .now) (S .pre .0) (A .define2 .last .1 .0)
-    (rw (not-false (A .define2 .result) (c .before .before .before .if2 .left), A .before .column-of2 .ensures) at (A .define2 .ensures)))
+    (rw (
+      not-false (A .define2 .result)
+          (c .before .before .before .if2 .left),
+      c .before .before .before .before .before .before .before .column-of2 .ensures,
+    ) at
+    (A .define2 .ensures)))
 
 same-length-3 : tie.Need-same-length-3
 same-length-3 c = search needs
 
 returns-3 : tie.Need-returns-3
-returns-3 c = let A = c .before .before in rw (A .before .before .column-of3 .ensures) at (A .define3 .ensures)
+returns-3 c = let A = c .before .before in rw (c .before .before .before .before .column-of3 .ensures) at (A .define3 .ensures)
 
 pub define-all-spec : {M : Type 1} → statement M
 define-all-spec =
     tie.close
     (tie.spec
-    shared-slice-read-m
+    shared-slice-read-base
     column-of-requires
     define-requires
     same-length
     returns
-    shared-slice-read-base
+    shared-slice-read-base-2
     column-of-requires-2
     define-requires-2
     same-length-2

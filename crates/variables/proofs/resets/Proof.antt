@@ -1,6 +1,7 @@
 -- `resets` meets its contract. The loop's invariant: each latch passed has a right reset.
 -- Assumes nothing.
-use mathlib.Core.Path.{sym, _∙_, subst}
+use mathlib.Core.Path.{_≡_, sym, ap₂, _∙_, subst}
+use Rattle.literals.proofs.Words.{word-read}
 use Rattle.aiger.proofs.Tests.{T-true}
 use lib.Dec.{T, leb, eqb}
 use mathlib.Core.Bool.{_||_}
@@ -20,48 +21,64 @@ Inv-loop w at n j₀ j =
 abbrev μ-loop : tie.MeasureT-loop
 μ-loop w at n j₀ j = n - j
 
+-- the test, in terms of the latch's words
+tested : (c : tie.After-is-reset Inv-loop μ-loop)
+    → (let S = c .before .before .before .before .before .before .before .before .before in let m = S .args .w .now in let at = c .before .before .before .before .before .before .before .layout-of .result .latches + 3 * c .before .before .before .before .before .before .loop .j in
+    c .is-reset .result ≡ (leb (getD m (at + 2) 0) 1 || eqb (getD m (at + 2) 0) (getD m at 0)))
+tested c =
+    let m = c .before .before .before .before .before .before .before .before .before .args .w .now in
+    let at = c .before .before .before .before .before .before .before .layout-of .result .latches + 3 * c .before .before .before .before .before .before .loop .j in
+    c .is-reset .ensures
+    ∙ ap₂ (λ (r l : ℕ). leb r 1 || eqb r l) (word-read (getD m (at + 2) 0) (c .before .from-word2 .ensures))
+    (word-read (getD m at 0) (c .before .before .before .from-word .ensures))
+
 layout-of-requires : tie.Need-layout-of-requires Inv-loop μ-loop
 layout-of-requires c κs = search needs
 
 loop-holds : tie.Need-loop-holds Inv-loop μ-loop
 loop-holds c = (omega arith, λ k l. absurd (omega arith))
 
-mul-is-reset : tie.Need-mul-is-reset Inv-loop μ-loop
-mul-is-reset c = omega arith
+mul-from-word : tie.Need-mul-from-word Inv-loop μ-loop
+mul-from-word c = omega arith
 
-add-is-reset : tie.Need-add-is-reset Inv-loop μ-loop
-add-is-reset c = omega arith
+add-from-word : tie.Need-add-from-word Inv-loop μ-loop
+add-from-word c = omega arith
 
-mul-is-reset-2 : tie.Need-mul-is-reset-2 Inv-loop μ-loop
-mul-is-reset-2 c = omega arith
+mul-from-word-2 : tie.Need-mul-from-word-2 Inv-loop μ-loop
+mul-from-word-2 c = omega arith
 
-shared-slice-read-is-reset : tie.Need-shared-slice-read-is-reset Inv-loop μ-loop
-shared-slice-read-is-reset c = omega arith
+shared-slice-read-from-word : tie.Need-shared-slice-read-from-word Inv-loop μ-loop
+shared-slice-read-from-word c = omega arith
 
-mul-is-reset-3 : tie.Need-mul-is-reset-3 Inv-loop μ-loop
-mul-is-reset-3 c = omega arith
+from-word-requires : tie.Need-from-word-requires Inv-loop μ-loop
+from-word-requires c κs = search needs
 
-add-is-reset-2 : tie.Need-add-is-reset-2 Inv-loop μ-loop
-add-is-reset-2 c = omega arith
+mul-from-word-3 : tie.Need-mul-from-word-3 Inv-loop μ-loop
+mul-from-word-3 c = omega arith
 
-add-is-reset-3 : tie.Need-add-is-reset-3 Inv-loop μ-loop
-add-is-reset-3 c = omega arith
+add-from-word-2 : tie.Need-add-from-word-2 Inv-loop μ-loop
+add-from-word-2 c = omega arith
 
-mul-is-reset-4 : tie.Need-mul-is-reset-4 Inv-loop μ-loop
-mul-is-reset-4 c = omega arith
+add-from-word-3 : tie.Need-add-from-word-3 Inv-loop μ-loop
+add-from-word-3 c = omega arith
 
-shared-slice-read-is-reset-2 : tie.Need-shared-slice-read-is-reset-2 Inv-loop μ-loop
-shared-slice-read-is-reset-2 c = omega arith
+mul-from-word-4 : tie.Need-mul-from-word-4 Inv-loop μ-loop
+mul-from-word-4 c = omega arith
+
+shared-slice-read-from-word-2 : tie.Need-shared-slice-read-from-word-2 Inv-loop μ-loop
+shared-slice-read-from-word-2 c = omega arith
+
+from-word-requires-2 : tie.Need-from-word-requires-2 Inv-loop μ-loop
+from-word-requires-2 c κs = search needs
 
 is-reset-requires : tie.Need-is-reset-requires Inv-loop μ-loop
 is-reset-requires c κs = search needs
 
 returns : tie.Need-returns Inv-loop μ-loop
 returns c =
-    let A = c .before in
-    let L = A .before .before .before .before in
-    let at = L .before .layout-of .ensures .0 .latches-is in
-    λ all. subst T (sym (A .is-reset .ensures) ∙ not-true _ (c .if1 .taken)) (rw (sym at) at (all (L .loop .j) (omega arith)))
+    let L = c .before .before .before .before .before .before .before in
+    let at = c .before .before .before .before .before .before .before .before .layout-of .ensures .0 .latches-is in
+    λ all. subst T (sym (tested (c .before)) ∙ not-true _ (c .if1 .taken)) (rw (sym at) at (all (L .loop .j) (omega arith)))
 
 add-j : tie.Need-add-j Inv-loop μ-loop
 add-j c = omega arith
@@ -72,14 +89,14 @@ loop-less c = omega arith
 loop-again : tie.Need-loop-again Inv-loop μ-loop
 loop-again c = (
   omega arith,
-  below-more _ _ (c .before .before .before .before .before .loop .inv .1)
-      (T-true (sym (c .before .is-reset .ensures) ∙ not-false _ (c .if1 .left))),
+  below-more _ _ (c .before .before .before .before .before .before .before .loop .inv .1)
+      (T-true (sym (tested (c .before)) ∙ not-false _ (c .if1 .left))),
 )
 
 returns-2 : tie.Need-returns-2 Inv-loop μ-loop
 returns-2 c =
     let L = c .before in
-    let at = L .before .layout-of .ensures .0 .latches-is in
+    let at = c .before .before .layout-of .ensures .0 .latches-is in
     λ k l. rw (sym at) (L .loop .inv .1 k (omega arith))
 
 pub resets-spec : {M : Type 1} → statement M
@@ -90,15 +107,17 @@ resets-spec =
     μ-loop
     layout-of-requires
     loop-holds
-    mul-is-reset
-    add-is-reset
-    mul-is-reset-2
-    shared-slice-read-is-reset
-    mul-is-reset-3
-    add-is-reset-2
-    add-is-reset-3
-    mul-is-reset-4
-    shared-slice-read-is-reset-2
+    mul-from-word
+    add-from-word
+    mul-from-word-2
+    shared-slice-read-from-word
+    from-word-requires
+    mul-from-word-3
+    add-from-word-2
+    add-from-word-3
+    mul-from-word-4
+    shared-slice-read-from-word-2
+    from-word-requires-2
     is-reset-requires
     returns
     add-j

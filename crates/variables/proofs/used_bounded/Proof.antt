@@ -13,8 +13,8 @@ use Rattle.variables.proofs.used_bounded.Tie as tie
 abbrev fits : List ℕ → ℕ → Type 0
 fits w l = l / 2 ≤ word w 0
 
-shared-slice-read-m : tie.Need-shared-slice-read-m
-shared-slice-read-m c = search needs
+shared-slice-read-t4 : tie.Need-shared-slice-read-t4
+shared-slice-read-t4 c = search needs
 
 column-of-requires : tie.Need-column-of-requires
 column-of-requires c κs = search needs
@@ -28,7 +28,7 @@ returns : tie.Need-returns
 returns c =
     let A = c .before in
     let S = c .before .before .before .before .before in
-    column-fails (S .args .w .now) (fits (S .args .w .now)) (A .before .column-of .ensures) (λ u. u .nexts)
+    column-fails (S .args .w .now) (fits (S .args .w .now)) (c .before .before .column-of .ensures) (λ u. u .nexts)
     (A .bounded .result) (c .if1 .taken) (A .bounded .ensures)
 
 column-of-requires-2 : tie.Need-column-of-requires-2
@@ -43,7 +43,7 @@ returns-2 : tie.Need-returns-2
 returns-2 c =
     let A = c .before in
     let S = c .before .before .before .before .before .before .before .before in
-    column-fails (S .args .w .now) (fits (S .args .w .now)) (A .before .column-of2 .ensures) (λ u. u .roots)
+    column-fails (S .args .w .now) (fits (S .args .w .now)) (c .before .before .column-of2 .ensures) (λ u. u .roots)
     (A .bounded2 .result) (c .if2 .taken) (A .bounded2 .ensures)
 
 column-of-requires-3 : tie.Need-column-of-requires-3
@@ -58,7 +58,7 @@ returns-3 : tie.Need-returns-3
 returns-3 c =
     let A = c .before in
     let S = c .before .before .before .before .before .before .before .before .before .before .before in
-    column-fails (S .args .w .now) (fits (S .args .w .now)) (A .before .column-of3 .ensures) (λ u. u .lefts)
+    column-fails (S .args .w .now) (fits (S .args .w .now)) (c .before .before .column-of3 .ensures) (λ u. u .lefts)
     (A .bounded3 .result) (c .if3 .taken) (A .bounded3 .ensures)
 
 column-of-requires-4 : tie.Need-column-of-requires-4
@@ -72,22 +72,25 @@ bounded-requires-4 c κs =
 returns-4 : tie.Need-returns-4
 returns-4 c =
     let X = c .before .before .before in
-    let Y = X .before .before .before in
-    let Z = Y .before .before .before in
-    let S = Z .before .before .before .before in
+    let Y = c .before .before .before .before .before .before in
+    let Z = c .before .before .before .before .before .before .before .before .before in
+    let S = c .before .before .before .before .before .before .before .before .before .before .before .before .before in
     columns-hold (S .args .w .now) (fits (S .args .w .now)) (c .before .column-of4 .ensures) (c .bounded4 .result) (c .bounded4 .ensures)
-    (column-holds (S .args .w .now) (fits (S .args .w .now)) (Z .before .column-of .ensures) (Z .bounded .result)
-    (Y .before .before .if1 .left) (Z .bounded .ensures))
-    (column-holds (S .args .w .now) (fits (S .args .w .now)) (Y .before .column-of2 .ensures) (Y .bounded2 .result)
-    (X .before .before .if2 .left) (Y .bounded2 .ensures))
-    (column-holds (S .args .w .now) (fits (S .args .w .now)) (X .before .column-of3 .ensures) (X .bounded3 .result)
+    (column-holds (S .args .w .now) (fits (S .args .w .now))
+    (c .before .before .before .before .before .before .before .before .before .before .column-of .ensures) (Z .bounded .result)
+    (c .before .before .before .before .before .before .before .before .if1 .left) (Z .bounded .ensures))
+    (column-holds (S .args .w .now) (fits (S .args .w .now))
+    (c .before .before .before .before .before .before .before .column-of2 .ensures) (Y .bounded2 .result)
+    (c .before .before .before .before .before .if2 .left) (Y .bounded2 .ensures))
+    (column-holds (S .args .w .now) (fits (S .args .w .now)) (c .before .before .before .before .column-of3 .ensures)
+    (X .bounded3 .result)
     (c .before .before .if3 .left) (X .bounded3 .ensures))
 
 pub used-bounded-spec : {M : Type 1} → statement M
 used-bounded-spec =
     tie.close
     (tie.spec
-    shared-slice-read-m
+    shared-slice-read-t4
     column-of-requires
     bounded-requires
     returns

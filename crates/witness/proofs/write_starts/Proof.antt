@@ -5,6 +5,8 @@ use Prim.Native.Nat.{ℕ, _+_, _-_, _<_}
 use native.Mathlib.Omega.{arith}
 use borrow.Author.Needs.{needs}
 use lib.ListN.{length, length-set}
+use Rattle.literals.specs.Literal.{wordOf}
+use Rattle.literals.proofs.Words.{word-read}
 use Rattle.layout.specs.Words.{word}
 use Rattle.witness.specs.Writing.{StartsFit}
 use Rattle.witness.proofs.Starts.{Turn, begin, inside, bit-left, turn, done, latch-count}
@@ -41,27 +43,45 @@ within c =
     let l = c .before in
     inside (M l) (F l) (P l) (l .loop .part) (l .loop .at) (l .loop .used) (l .loop .j) (l .loop .inv) (fit l .holds) (more c)
 
+finish : (c : tie.After-loop Inv-loop μ-loop) → word (M (c .before)) 2 ≡ c .before .loop .j
+finish c = omega (arith, c .loop-test .left, fit (c .before) .layout .l-is, c .before .loop .inv .within)
+
 loop-holds : tie.Need-loop-holds Inv-loop μ-loop
-loop-holds c = let s = c .before .before .before in begin (s .args .m .now) (s .args .free .now) (s .args .part .now) (s .args .layout .latches) (s .pre .layout .latches-is)
+loop-holds c = let s = c .before .before .before in begin (s .args .m .now) (s .args .free .now) (s .args .part .now)
+    (s .args .layout .latches) (s .pre .layout .latches-is)
 
-count-at-requires : tie.Need-count-at-requires Inv-loop μ-loop
-count-at-requires c κs = omega (arith, within c)
+mul-from-word : tie.Need-mul-from-word Inv-loop μ-loop
+mul-from-word c = omega (arith, within c)
 
-add-count-at : tie.Need-add-count-at Inv-loop μ-loop
-add-count-at c = omega (arith, within (c .before))
+shared-slice-read-from-word : tie.Need-shared-slice-read-from-word Inv-loop μ-loop
+shared-slice-read-from-word c = omega (arith, within (c .before))
 
-count-at-requires-2 : tie.Need-count-at-requires-2 Inv-loop μ-loop
-count-at-requires-2 c κs = omega (arith, within (c .before))
+from-word-requires : tie.Need-from-word-requires Inv-loop μ-loop
+from-word-requires c κs = search needs
+
+add-from-word : tie.Need-add-from-word Inv-loop μ-loop
+add-from-word c = omega (arith, within (c .before .before))
+
+mul-from-word-2 : tie.Need-mul-from-word-2 Inv-loop μ-loop
+mul-from-word-2 c = omega (arith, within (c .before .before))
+
+shared-slice-read-from-word-2 : tie.Need-shared-slice-read-from-word-2 Inv-loop μ-loop
+shared-slice-read-from-word-2 c = omega (arith, within (c .before .before .before))
+
+from-word-requires-2 : tie.Need-from-word-requires-2 Inv-loop μ-loop
+from-word-requires-2 c κs = search needs
 
 start-of-requires : tie.Need-start-of-requires Inv-loop μ-loop
 start-of-requires c κs =
-    let n = c .before .before in
-    let l = n .before in
+    let n = c .before .before .before .before in
+    let l = c .before .before .before .before .before in
     λ e.
     omega (
       arith,
-      bit-left (M l) (F l) (P l) (l .loop .part) (l .loop .at) (l .loop .used) (l .loop .j) (l .loop .inv) (more n) (c .before .count-at .result) (c .count-at2 .result)
-          (c .before .count-at .ensures .0) (c .count-at2 .ensures .0) e,
+      bit-left (M l) (F l) (P l) (l .loop .part) (l .loop .at) (l .loop .used) (l .loop .j) (l .loop .inv) (more n)
+          (wordOf (c .before .before .from-word .result)) (wordOf (c .from-word2 .result))
+          (word-read (word (M l) (l .loop .at)) (c .before .before .from-word .ensures))
+          (word-read (word (M l) (l .loop .at + 2)) (c .from-word2 .ensures)) e,
       fit l .bits,
     )
 
@@ -70,31 +90,37 @@ byte-of-requires c κs = search needs
 
 slice-write-part : tie.Need-slice-write-part Inv-loop μ-loop
 slice-write-part c =
-    let n = c .before .before .before .before in
-    omega (arith, more n, room (n .before), n .before .loop .inv .size)
+    let n = c .before .before .before .before .before .before in
+    omega (
+      arith,
+      more n,
+      room
+          (c .before .before .before .before .before .before .before),
+      c .before .before .before .before .before .before .before .loop .inv .size,
+    )
 
 add-j : tie.Need-add-j Inv-loop μ-loop
-add-j c = let n = c .before .before .before .before in omega (arith, more n, room (n .before))
+add-j c = let n = c .before .before .before .before .before .before in omega
+    (arith, more n, room (c .before .before .before .before .before .before .before))
 
 add-at : tie.Need-add-at Inv-loop μ-loop
-add-at c = let n = c .before .before .before .before in omega (arith, within n)
+add-at c = let n = c .before .before .before .before .before .before in omega (arith, within n)
 
 loop-less : tie.Need-loop-less Inv-loop μ-loop
-loop-less c = omega (arith, c .before .before .before .before .loop-test .taken)
+loop-less c = omega (arith, c .before .before .before .before .before .before .loop-test .taken)
 
 loop-again : tie.Need-loop-again Inv-loop μ-loop
 loop-again c =
     let s = c .before in
-    let b = s .before in
-    let a = b .before in
-    let n = a .before in
-    let l = n .before in
-    turn (M l) (F l) (P l) (l .loop .part) (l .loop .at) (l .loop .used) (l .loop .j) (l .loop .inv) (more n) (room l) (a .count-at .result) (b .count-at2 .result)
-    (a .count-at .ensures .0) (b .count-at2 .ensures .0) (s .start-of .result .value) (s .start-of .result .used) (c .byte-of .result)
+    let b = c .before .before .from-word2 in
+    let a = c .before .before .before .before .from-word in
+    let n = c .before .before .before .before .before .before in
+    let l = c .before .before .before .before .before .before .before in
+    turn (M l) (F l) (P l) (l .loop .part) (l .loop .at) (l .loop .used) (l .loop .j) (l .loop .inv) (more n) (room l)
+    (wordOf (a .result)) (wordOf (b .result))
+    (word-read (word (M l) (l .loop .at)) (a .ensures)) (word-read (word (M l) (l .loop .at + 2)) (b .ensures))
+    (s .start-of .result .value) (s .start-of .result .used) (c .byte-of .result)
     (s .start-of .ensures .0) (s .start-of .ensures .1) (c .byte-of .ensures)
-
-finish : (c : tie.After-loop Inv-loop μ-loop) → word (M (c .before)) 2 ≡ c .before .loop .j
-finish c = omega (arith, c .loop-test .left, fit (c .before) .layout .l-is, c .before .loop .inv .within)
 
 slice-write-part-2 : tie.Need-slice-write-part-2 Inv-loop μ-loop
 slice-write-part-2 c = let l = c .before in omega (arith, room l, fit l .layout .l-is, l .loop .inv .size)
@@ -116,9 +142,13 @@ write-starts-spec =
     Inv-loop
     μ-loop
     loop-holds
-    count-at-requires
-    add-count-at
-    count-at-requires-2
+    mul-from-word
+    shared-slice-read-from-word
+    from-word-requires
+    add-from-word
+    mul-from-word-2
+    shared-slice-read-from-word-2
+    from-word-requires-2
     start-of-requires
     byte-of-requires
     slice-write-part

@@ -1,0 +1,21 @@
+-- `is_reset` meets its contract. Assumes nothing.
+use borrow.Author.Needs.{needs}
+use Rattle.variables.proofs.is_reset.Statement.{statement}
+use Rattle.variables.proofs.is_reset.Tie as tie
+
+is-constant-requires : tie.Need-is-constant-requires
+is-constant-requires c κs = search needs
+
+equals-requires : tie.Need-equals-requires
+equals-requires c κs = search needs
+
+returns : tie.Need-returns
+returns c = rw (c .before .is-constant .ensures, c .equals .ensures)
+
+pub is-reset-spec : {M : Type 1} → statement M
+is-reset-spec =
+    tie.close
+    (tie.spec
+    is-constant-requires
+    equals-requires
+    returns)
