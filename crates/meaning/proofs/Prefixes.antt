@@ -106,10 +106,11 @@ prefix-of w x = (div-add-mod' x (2 ^ w), mod-lt x (pow-pos w))
 
 -- ---- the space of a circuit
 
-starts-local : (ls : List Latch) (f g : ℕ → Bool) (k : ℕ) → ((j : ℕ) → j < k + tally isFree ls → f j ≡ g j) → starts f k ls ≡ starts g k ls
+-- start values depend on the free bits of the start alone
+pub starts-same : (f g : ℕ → Bool) (k : ℕ) (ls : List Latch) → ((j : ℕ) → j < k + tally isFree ls → f j ≡ g j) → starts f k ls ≡ starts g k ls
 unfolding starts
-starts-local [] f g k h = refl
-starts-local (l ∷ ls) f g k h = go (isFree l) h (starts-local ls f g (k + 1)) (starts-local ls f g k)
+starts-same f g k [] h = refl
+starts-same f g k (l ∷ ls) h = go (isFree l) h (starts-same f g (k + 1) ls) (starts-same f g k ls)
   where
     go : (b : Bool) → ((j : ℕ) → j < k + (cond b 1 0 + tally isFree ls) → f j ≡ g j)
         → (((j : ℕ) → j < k + 1 + tally isFree ls → f j ≡ g j) → starts f (k + 1) ls ≡ starts g (k + 1) ls)
@@ -122,6 +123,6 @@ pub space-local : (c : Circuit) → Local (space c)
 unfolding freeStarts
 space-local c =
     record {
-      start = λ f g h. starts-local (c .latches) f g 0 (λ j l. h j (omega arith));
+      start = λ f g h. starts-same f g 0 (c .latches) (λ j l. h j (omega arith));
       row = λ f g h. map-upto-eq f g (length (c .inputs)) h;
     }

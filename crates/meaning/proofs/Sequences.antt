@@ -22,7 +22,7 @@ use Rattle.meaning.proofs.Bits.{sequence-same, sequence-of}
 
 -- ---- the start
 
-length-starts : (free : ℕ → Bool) (k : ℕ) (ls : List Latch) → length (starts free k ls) ≡ length ls
+pub length-starts : (free : ℕ → Bool) (k : ℕ) (ls : List Latch) → length (starts free k ls) ≡ length ls
 unfolding starts
 length-starts free k [] = refl
 length-starts free k (l ∷ ls) = go (isFree l) (length-starts free (k + 1) ls) (length-starts free k ls)

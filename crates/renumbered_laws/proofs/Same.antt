@@ -31,7 +31,7 @@ use Rattle.aiger.specs.Frames.{
 use Rattle.aiger.specs.Search.{Question, Outcome, firstAt, permittedOf, reachesIn, reaches, question, permitted, firstWitness}
 use Rattle.aiger.specs.Witness.{witness}
 use Rattle.aiger.proofs.Tests.{T-true, or-cases, all-at}
-use Rattle.meaning.proofs.Lists.{every-at}
+use Rattle.meaning.proofs.Lists.{every-at, every-under}
 use Rattle.meaning.proofs.Defined.{
   Known,
   noLatch,
@@ -114,11 +114,6 @@ module _ (σ : ℕ → ℕ) (z : σ 0 ≡ 0) where
           → xs ≡ cond b (f j ∷ starts f (j + 1) ls) (eqb (l .reset) 1 ∷ starts f j ls)
       go true r p q e = e ∙ ap (λ (ys : List Bool). f j ∷ ys) p
       go false r p q e = e ∙ ap₂ (λ (x : Bool) (ys : List Bool). x ∷ ys) (r refl) q
-
-every-under : (p q : ℕ → Bool) (f : ℕ → ℕ) (xs : List ℕ) → ((i : ℕ) → i < length xs → p (f (getD xs i 0)) ≡ q (getD xs i 0)) → every p
-    (map f xs) ≡ every q xs
-every-under p q f [] h = refl
-every-under p q f (x ∷ xs) h = ap₂ (λ (a b : Bool). a && b) (h 0 (omega arith)) (every-under p q f xs (λ i l. h (suc i) (omega arith)))
 
 module _ {room : ℕ} {c : Circuit} (valid : Valid room c) where
   abbrev σ : ℕ → ℕ
