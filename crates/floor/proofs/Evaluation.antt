@@ -32,10 +32,6 @@ stored-pos : (w : List ℕ) (nodes v x : ℕ) → 14 * nodes ≤ length w → v 
 unfolding stored field
 stored-pos w nodes v x long l = rw (lt-leb nodes v l) (getD-set-same w (place v 3) x 0 (omega arith))
 
-num-zero : (b : Bool) → num b ≡ 0 → b ≡ false
-num-zero true e = absurd (omega arith)
-num-zero false e = refl
-
 num-one : (b : Bool) → num b ≡ 1 → T b
 num-one true e = tt
 num-one false e = absurd (omega arith)

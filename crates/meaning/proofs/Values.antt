@@ -206,11 +206,6 @@ module _ (c : Circuit) where
       unfolding valueAt
       zero-value = values .constant
 
-      -- literal 1 is true
-      pub one-value : valueAt c r t 1 ≡ true
-      unfolding valueAt
-      one-value = ap not (values .constant)
-
       -- the i-th input has the i-th bit of the frame's row
       pub input-value : (i : ℕ) → i < length (c .inputs) → valueAt c r t (inputAt c i) ≡ getD (getD (r .rows) t []) i false
       input-value i h = even-value (inputAt c i) (input-in c i h) ∙ values .input i h
@@ -223,12 +218,6 @@ module _ (c : Circuit) where
       pub gate-value : (i : ℕ) → i < length (c .gates) → valueAt c r t (gateAt c i .lit) ≡ (valueAt c r t (gateAt c i .left) && valueAt c r t (gateAt c i .right))
       unfolding valueAt
       gate-value i h = even-value (gateAt c i .lit) (gate-in c i h) ∙ values .gate i h
-
-      -- the same of a gate in the list
-      pub gate-mem-value : (g : Gate) → List·Memᴰ g (c .gates) → valueAt c r t (g .lit) ≡ (valueAt c r t (g .left) && valueAt c r t (g .right))
-      gate-mem-value g m =
-          let p = mem-at noGate m in
-          subst (λ (x : Gate). valueAt c r t (x .lit) ≡ (valueAt c r t (x .left) && valueAt c r t (x .right))) (p .2) (gate-value (p .0) (p .1))
 
   -- in frame 0 the latches have the run's start values
   pub state-start : (r : Run) → state c r 0 ≡ r .start

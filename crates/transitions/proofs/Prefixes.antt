@@ -16,10 +16,9 @@ use Rattle.aiger.specs.Frames.{Run, value, frame, state, valueAt, constrained, 
 use Rattle.aiger.proofs.Tests.{T-true}
 use Rattle.meaning.proofs.Lists.{length-map-upto, getD-map-upto}
 use Rattle.meaning.proofs.Defined.{latchAt}
-use Rattle.meaning.proofs.Sequences.{Shaped, run-shaped, run-input, run-reset, run-free, latch-number, input-number}
+use Rattle.meaning.proofs.Sequences.{starts-same, Shaped, run-shaped, run-input, run-reset, run-free, latch-number, input-number}
 use Rattle.transitions.specs.Transitions.{rowOf}
 use Rattle.transitions.proofs.Numbers.{bit-over, bit-rest}
-use Rattle.meaning.proofs.Prefixes.{starts-same}
 
 module _ (c : Circuit) where
   abbrev W : ℕ
