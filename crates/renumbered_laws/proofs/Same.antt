@@ -47,7 +47,7 @@ use Rattle.meaning.proofs.Defined.{
 use Rattle.meaning.proofs.Embedding.{Embeds, SameOperands, embedded-value}
 use Rattle.roundtrip.proofs.LoadWrite.{Valid}
 use Rattle.joined.specs.Joined.{literalUnder, latchUnder, gateUnder}
-use Rattle.parting.proofs.Starts.{Numbered}
+use Rattle.parting.proofs.Starts.{Numbered, start-under}
 use Rattle.renumbered.specs.Renumbered.{numbering, newNumber, sorted, renumbered}
 use Rattle.renumbered_laws.proofs.Numbers.{number-zero, number-latch, order-has, order-length}
 use Rattle.renumbered_laws.proofs.Accepted.{
@@ -63,29 +63,6 @@ use Rattle.renumbered_laws.proofs.Accepted.{
 
 -- ---- start values
 
--- a latch under other numbers has a free start where the latch has one, and else the same reset
-start-under : (σ : ℕ → ℕ) → σ 0 ≡ 0 → (l : Latch) → Numbered σ l
-    → (isFree (latchUnder σ l) ≡ isFree l) × (isFree l ≡ false → eqb (latchUnder σ l .reset) 1 ≡ eqb (l .reset) 1)
-start-under σ z l n =
-    ⊎-elim
-    (λ h.
-    let k = leb→le (l .reset) 1 h in
-    let v : var (l .reset) ≡ 0 = omega arith in
-    let w : σ (var (l .reset)) ≡ 0 = ap σ v ∙ z in
-    let e : literalUnder σ (l .reset) ≡ l .reset = omega arith in
-    let new : literalUnder σ (l .reset) ≡ literalUnder σ (l .lit) → ⊥ = λ q. omega (arith, n .number) in
-    let old : l .reset ≡ l .lit → ⊥ = λ q. omega (arith, n .own) in (
-      ne-eqb (literalUnder σ (l .reset)) (literalUnder σ (l .lit)) new ∙ sym (ne-eqb (l .reset) (l .lit) old),
-      λ _. ap
-          (λ (x : ℕ). eqb x 1) e,
-    ))
-    (λ h.
-    let q = eqb→eq (l .reset) (l .lit) h in (
-      eq-eqb (literalUnder σ (l .reset)) (literalUnder σ (l .lit)) (ap (literalUnder σ) q) ∙ sym (eq-eqb (l .reset) (l .lit) q),
-      λ f. absurd (subst T f h),
-    ))
-    (or-cases (leb (l .reset) 1) (eqb (l .reset) (l .lit)) (n .reset))
-
 module _ (σ : ℕ → ℕ) (z : σ 0 ≡ 0) where
   tally-under : (ls : List Latch) → ((j : ℕ) → j < length ls → Numbered σ (getD ls j noLatch)) → tally isFree
       (map (latchUnder σ) ls) ≡ tally isFree ls
@@ -100,7 +77,7 @@ module _ (σ : ℕ → ℕ) (z : σ 0 ≡ 0) where
   starts-under f j [] g = refl
   starts-under f j (l ∷ ls) g =
       let s = start-under σ z l (g 0 (omega arith)) in
-      go (isFree l) (s .1) (starts-under f (j + 1) ls (λ i h. g (suc i) (omega arith)))
+      go (isFree l) (λ e. ap (λ (x : ℕ). eqb x 1) (s .1 e)) (starts-under f (j + 1) ls (λ i h. g (suc i) (omega arith)))
       (starts-under f j ls (λ i h. g (suc i) (omega arith)))
       (ap
       (λ (b : Bool). cond b (f j ∷ starts f (j + 1) (map (latchUnder σ) ls))
