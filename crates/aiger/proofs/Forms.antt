@@ -1,6 +1,6 @@
 -- The two forms of a file: load of a file in text form is what it is where there is no binary form. Clause 12.1. Assumes nothing.
 use mathlib.Core.Path.{_≡_, refl, sym, ap, _∙_}
-use mathlib.Core.Bool.{Bool, true, false, _&&_, _||_}
+use mathlib.Core.Bool.{Bool, true, false, _&&_, _||_, and-true, or-false}
 use mathlib.Core.List.{List, [], _∷_}
 use Prim.Native.Nat.{ℕ}
 use lib.Dec.{T, leb, eqb, eqb→eq}
@@ -9,16 +9,8 @@ use Rattle.aiger.specs.Lists.{same}
 use Rattle.aiger.specs.Text.{bytes}
 use Rattle.aiger.specs.Circuit.{Circuit, literalsRight, usedDefined, acyclic}
 use Rattle.aiger.specs.File.{Header, isText, isBinary, heading, header, textHeader, countsFit, countsRight, body}
-use Rattle.aiger.proofs.Tests.{and-left, and-right}
+use Rattle.aiger.proofs.Tests.{and-left, and-right, same-eq}
 use Rattle.aiger.specs.Load.{Answer, test, read, sections, load, loadText, needed, gives, _>>=_, _>>_}
-
-or-false : (a : Bool) → (a || false) ≡ a
-or-false true = refl
-or-false false = refl
-
-and-true : (a : Bool) → (a && true) ≡ a
-and-true true = refl
-and-true false = refl
 
 -- in text form number 3 asks for no more than that the counts fit
 pub counts-text : (h : Header) → countsRight false h ≡ countsFit h
@@ -29,14 +21,6 @@ counts-text h = and-true (countsFit h)
 pub load-text : (room : ℕ) (f : List ℕ) → isBinary f ≡ false → load room f ≡ loadText room f
 unfolding load loadText header textHeader sections
 load-text room f e = rw e (simp (or-false, counts-text))
-
-same-eq : (xs ys : List ℕ) → T (same xs ys) → xs ≡ ys
-same-eq [] [] t = refl
-same-eq [] (y ∷ ys) t = absurd t
-same-eq (x ∷ xs) [] t = absurd t
-same-eq (x ∷ xs) (y ∷ ys) t =
-    let e : x ≡ y = eqb→eq x y (and-left (eqb x y) (same xs ys) t) in
-    rw (e, same-eq xs ys (and-right (eqb x y) (same xs ys) t))
 
 -- a file whose first word is `aag` has not that of the binary form
 pub text-word : (f : List ℕ) → T (isText f) → isBinary f ≡ false

@@ -30,7 +30,7 @@ bit-of n x u c e = go (x / 2 ^ (n - (u + 1)) % 2) c (omega arith) e
     go (suc zero) false h e = absurd (subst T e tt)
     go (suc (suc d)) c h e = absurd (omega arith)
 
-prefix-mod : (b : ℕ → ℕ) (u : ℕ) → b (suc u) < 2 → prefix b (suc u) % 2 ≡ b (suc u)
+pub prefix-mod : (b : ℕ → ℕ) (u : ℕ) → b (suc u) < 2 → prefix b (suc u) % 2 ≡ b (suc u)
 unfolding prefix
 prefix-mod b u h = omega arith
 

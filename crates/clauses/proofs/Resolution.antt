@@ -1,16 +1,17 @@
 -- The law of resolution, and that a gate's clauses hold. Assumes nothing.
 use mathlib.Core.Path.{_≡_, refl, sym, ap, _∙_, subst}
-use mathlib.Core.Bool.{Bool, true, false, not, cond, _&&_}
+use mathlib.Core.Bool.{Bool, true, false, not, cond, _&&_, Bool·not-not}
 use mathlib.Core.Logic.{_⊎_, inl, inr, ⊎-elim}
 use Prim.Native.Nat.{ℕ, _+_, _-_, _*_, _/_, _%_, _≤_, _<_}
 use native.Mathlib.Decide.{ℕ-discrete}
 use native.Mathlib.Omega.{arith}
 use borrow.Author.Tests.{eq-eqb, ne-eqb}
-use lib.Dec.{T, eqb}
+use lib.Dec.{T, eqb, T-not}
 use Rattle.aiger.specs.Bits.{nonzero, odd}
 use Rattle.aiger.specs.Frames.{value}
 use Rattle.memory.specs.Record.{opposite}
 use Rattle.clauses.specs.Clause.{Among, Holds, Valid, Always, Covers, GateOf}
+use Rattle.aiger.proofs.Tests.{T-true}
 
 -- a literal and its complement
 
@@ -25,10 +26,6 @@ value-node a v = let d : 2 * v / 2 ≡ v = omega arith in even-value a (2 * v) (
 
 pub value-not : (a : ℕ → Bool) (v : ℕ) → value a (2 * v + 1) ≡ not (a v)
 value-not a v = let d : (2 * v + 1) / 2 ≡ v = omega arith in odd-value a (2 * v + 1) (omega arith) ∙ ap (λ (u : ℕ). not (a u)) d
-
-not-not : (b : Bool) → not (not b) ≡ b
-not-not true = refl
-not-not false = refl
 
 pub opposite-even : (l : ℕ) → l % 2 ≡ 0 → opposite l ≡ l + 1
 unfolding opposite
@@ -56,14 +53,10 @@ value-opposite a l =
     let d = ap a (opposite-node l) in
     parity l
     (λ e. odd-value a (opposite l) (omega arith) ∙ ap not d ∙ ap not (sym (even-value a l e)))
-    (λ e. even-value a (opposite l) (omega arith) ∙ d ∙ sym (not-not (a (l / 2))) ∙ ap not (sym (odd-value a l e)))
-
-clash : (b : Bool) → T (not b) → T b → ⊥
-clash true s t = s
-clash false s t = t
+    (λ e. even-value a (opposite l) (omega arith) ∙ d ∙ sym (Bool·not-not (a (l / 2))) ∙ ap not (sym (odd-value a l e)))
 
 pub not-both : (a : ℕ → Bool) (l : ℕ) → T (value a (opposite l)) → T (value a l) → ⊥
-not-both a l s t = clash (value a l) (subst T (value-opposite a l) s) t
+not-both a l s t = T-not (value a l) (subst T (value-opposite a l) s) t
 
 module _ (hit : (ℕ → Bool) → Type 0) where
   -- a clause whose literals are all in e, but for those false in every hit
@@ -99,30 +92,27 @@ module _ (hit : (ℕ → Bool) → Type 0) where
 -- ---- the clauses of a gate: it is false or an operand is true; it is true or an operand is false
 
 module _ (a : ℕ → Bool) (v l r : ℕ) (gate : GateOf a v l r) where
-  yes-T : {b : Bool} → b ≡ true → T b
-  yes-T e = rw e tt
-
   negative : a v ≡ false → T (value a (2 * v + 1))
-  negative e = yes-T (value-not a v ∙ ap not e)
+  negative e = T-true (value-not a v ∙ ap not e)
 
   positive : a v ≡ true → T (value a (2 * v))
-  positive e = yes-T (value-node a v ∙ e)
+  positive e = T-true (value-node a v ∙ e)
 
   turned : (k : ℕ) → value a k ≡ false → T (value a (opposite k))
-  turned k e = yes-T (value-opposite a k ∙ ap not e)
+  turned k e = T-true (value-opposite a k ∙ ap not e)
 
   pub left-holds : (c : ℕ → Type 0) → c (2 * v + 1) → c l → Holds a c
   left-holds c p q = go (value a l) (value a r) refl refl
     where
       go : (x y : Bool) → value a l ≡ x → value a r ≡ y → Holds a c
-      go true y e f = (l, q, yes-T e)
+      go true y e f = (l, q, T-true e)
       go false y e f = (2 * v + 1, p, negative (gate ∙ ap (λ (b : Bool). b && value a r) e))
 
   pub right-holds : (c : ℕ → Type 0) → c (2 * v + 1) → c r → Holds a c
   right-holds c p q = go (value a l) (value a r) refl refl
     where
       go : (x y : Bool) → value a l ≡ x → value a r ≡ y → Holds a c
-      go x true e f = (r, q, yes-T f)
+      go x true e f = (r, q, T-true f)
       go true false e f = (2 * v + 1, p, negative (gate ∙ (cc)))
       go false false e f = (2 * v + 1, p, negative (gate ∙ (cc)))
 

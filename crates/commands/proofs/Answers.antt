@@ -24,7 +24,6 @@ use Rattle.replies.specs.declared.Report.{Report}
 use Rattle.replies.proofs.Putting.{fronts-none, refused-leaves}
 use Rattle.commands.specs.Texts.{
   written,
-  writeReply,
   textOf,
   verdictText,
   replayAnswer,
@@ -84,11 +83,6 @@ fold-shown h f line e =
 
 -- a file that is not loaded, and one that is
 module _ (m f : List ℕ) (room : length m ≡ 33032) where
-  pub write-refusal : {line : List ℕ} (out : List ℕ) {r : Report} {line′ : List ℕ} {n : ℕ} → load (length m) f ≡ refused n
-      → Fronts (refusalText n) line (r .line) line′ → r .out ≡ 0 → Leaves (writeReply f) line out r line′ out
-  unfolding writeReply
-  write-refusal out {n = n} e p q = rw (rw room at e) (refused-leaves n out p q)
-
   pub replay-refusal : (text : List ℕ) {n : ℕ} → load (length m) f ≡ refused n → refusalText n ≡ replayText f text
   unfolding replayText
   replay-refusal text e = rw (rw room at e)
@@ -101,10 +95,6 @@ module _ (m f : List ℕ) (room : length m ≡ 33032) where
   module _ {m′ : List ℕ} (s : Stored m f m′) where
     same : circuitIn m′ ≡ s .circuit
     same = held (s .holds)
-
-    pub write-text : written (circuitIn m′) ≡ writeReply f
-    unfolding writeReply
-    write-text = rw (rw room at (s .accepted)) (ap written same)
 
     pub replay-text : (text : List ℕ) → textOf verdictText (replayAnswer (circuitIn m′) text) ≡ replayText f text
     unfolding replayText

@@ -16,14 +16,9 @@ use Rattle.aiger.specs.Frames.{size}
 use Rattle.aiger.specs.Operations.{Test, need, judge, badTest, foldTests}
 use Rattle.aiger.proofs.Tests.{T-true, and, and-left, all-at}
 use Rattle.roundtrip.proofs.LoadValid.{right-fit}
-use Rattle.numbering.proofs.Reading.{sections-causes}
+use Rattle.numbering.proofs.Reading.{sections-causes, refused-read}
 use Rattle.replies.proofs.Loading.{past, given}
 use Rattle.limits.proofs.Refusals.{judge-past, judge-passed, judge-last}
-
-past-read : {A B : Type 0} (n m : ℕ) (o : Option A) (f : A → Answer B) → (n ≡ m → ⊥) → (read n o >>= f) ≡ refused m
-    → (x : A) × (f x ≡ refused m)
-past-read n m none f h e = let z : n ≡ m = cc in absurd (h z)
-past-read n m (some x) f h e = (x, e)
 
 -- load, from number 6 on, and from number 3 on
 abbrev judged : Circuit → Answer Circuit
@@ -71,7 +66,7 @@ pub memory-suffices : (f : List ℕ) → load 33032 f ≡ refused 4 → ⊥
 unfolding load
 memory-suffices f e =
     let x1 = past 1 4 (leb 1 (length f) && leb (length f) 65536) (read 2 (header f) >>= rest (isBinary f)) (λ q. omega arith) e in
-    let x2 = past-read 2 4 (header f) (rest (isBinary f)) (λ q. omega arith) (x1 .1) in
+    let x2 = refused-read 2 4 (header f) (rest (isBinary f)) (λ q. omega arith) (x1 .1) in
     rest-not-four (isBinary f) (x2 .0) (x2 .1)
 
 module _ (c : Circuit) (b t : ℕ) where

@@ -1,4 +1,5 @@
--- What the programs write, replay and fold print. Circuit memory has 33,032 words, those that a file with M 4,096 needs. Assumes nothing.
+-- What is printed of a loaded circuit, and by the programs replay and fold. Circuit memory has 33,032 words, those that a file with M 4,096
+-- needs. Assumes nothing.
 use mathlib.Core.List.{List, []}
 use Prim.Native.Nat.{ℕ}
 use Rattle.aiger.specs.Text.{bytes}
@@ -15,9 +16,6 @@ use Rattle.replies.specs.Reply.{Reply, replyOf}
 -- write: the text of the loaded circuit
 abbrev pub written : Circuit → Reply
 written c = record { line = []; out = write c }
-
-unfoldable pub writeReply : List ℕ → Reply
-writeReply file = replyOf written (load 33032 file)
 
 abbrev pub verdictText : Verdict → List ℕ
 verdictText Verdict.all = bytes "all\n"

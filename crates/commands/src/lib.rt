@@ -1,5 +1,5 @@
-// The work of the programs write, replay and fold: from the bytes of files to what is printed. Each leaves what is to be printed at the
-// fronts of line and, save replay, out.
+// Writing of a loaded circuit, and the work of the programs replay and fold, from the bytes of files to what is printed. Each leaves what is
+// to be printed at the fronts of line and, save replay, out.
 use fold::FoldAnswer;
 use load::LoadAnswer;
 use replay::ReplayAnswer;
@@ -15,7 +15,6 @@ ghost use Rattle.replies.specs.Reply.{Fronts, Leaves};
 ghost use Rattle.replies.specs.Loading.{loadedWords};
 ghost use Rattle.commands.specs.Texts.{
   written,
-  writeReply,
   textOf,
   verdictText,
   replayAnswer,
@@ -34,20 +33,6 @@ pub fn write_loaded(m: &[u32], out: &mut [u8], line: &mut [u8]) -> Report
     match write::write(m, out) {
         WriteAnswer::Length(n) => Report { line: 0, out: n },
         WriteAnswer::Refused(n) => replies::refuse(line, n),
-    }
-}
-
-// Loads a file and writes its circuit.
-pub fn write(file: &[u8], m: &mut [u32], out: &mut [u8], line: &mut [u8]) -> Report
-    requires { ⌜ (length (now m) ≡ 33032) × (65536 ≤ length (now out)) × (128 ≤ length (now line)) ⌝ }
-    ensures leaves { λ r. ⌜
-        Leaves (writeReply (now (file .entry))) (now (line .entry)) (now (out .entry)) r (now (line .exit)) (now (out .exit))
-        ⌝ }
-    ensures memory { λ _. ⌜ now (m .exit) ≡ loadedWords (now (m .entry)) (now (file .entry)) ⌝ }
-{
-    match load::load(file, m) {
-        LoadAnswer::Refused(n) => replies::refuse(line, n),
-        LoadAnswer::Loaded(_) => write_loaded(m, out, line),
     }
 }
 

@@ -1,6 +1,6 @@
 -- Completions and texts of the same form, where one byte changes. Assumes nothing.
 use mathlib.Core.Path.{_≡_, refl, sym, ap, _∙_, subst}
-use mathlib.Core.Bool.{Bool, true, false, cond, _||_}
+use mathlib.Core.Bool.{Bool, true, false, cond, _||_, or-true}
 use mathlib.Core.List.{List, [], _∷_}
 use mathlib.Core.Logic.{_⊎_, inl, inr, ⊎-elim}
 use Prim.Native.Nat.{ℕ, zero, suc, _+_, _-_, _≤_, _<_}
@@ -9,7 +9,7 @@ use native.Mathlib.Decide.{decLt, ℕ-discrete}
 use native.Mathlib.Omega.{arith}
 use borrow.Author.Tests.{eq-eqb, ne-eqb, eqb-true, eqb-false}
 use lib.Dec.{eqb}
-use lib.ListN.{length, getD, set, length-set}
+use lib.ListN.{length, getD, set, length-set, List·getD-eq-default}
 use lib.Seq.{getD-set-same, getD-set-other, set-getD}
 use Rattle.completions.specs.Either.{isEither, eithers, isBit}
 use Rattle.completions.specs.Forms.{Bit, Symbol, isSymbol, Completed, Completes, Formed, SameForm}
@@ -31,10 +31,6 @@ test-bit c e = go (eqb c 48) refl (eqb c 49) refl
     go true p b q = inl (eqb-true c 48 p)
     go false p true q = inr (eqb-true c 49 q)
     go false p false q = let z : _≡_ {A = Bool} false true = (rw (p, q) at e) in let y : _≡_ {A = ℕ} 0 1 = cc in absurd (omega arith)
-
-or-true : (b : Bool) → (b || true) ≡ true
-or-true true = refl
-or-true false = refl
 
 pub symbol-test : (c : ℕ) → isSymbol c ≡ true → Symbol c
 symbol-test c e = go (isBit c) refl (isEither c) refl
@@ -71,17 +67,12 @@ two-bits c d (inr e) (inl q) = inr (omega arith)
 two-bits c d (inr e) (inr q) = inl (omega arith)
 
 -- what is not 0 stands within a text
-getD-past : (w : List ℕ) (i : ℕ) → length w ≤ i → getD w i 0 ≡ 0
-getD-past [] i h = refl
-getD-past (x ∷ w) zero h = absurd (not-suc-le-zero h)
-getD-past (x ∷ w) (suc i) h = getD-past w i (le-of-suc-le-suc h)
-
 pub bit-inside : (w : List ℕ) (i : ℕ) → Bit (getD w i 0) → i < length w
 bit-inside w i b =
     elim (decLt i (length w)) [
       | yes l ↦ l
       | no n ↦
-          let z : getD w i 0 ≡ 0 = getD-past w i (omega arith) in
+          let z : getD w i 0 ≡ 0 = List·getD-eq-default w 0 {n = i} (omega arith) in
           absurd (⊎-elim (λ e. omega arith) (λ e. omega arith) b)
     ]
 

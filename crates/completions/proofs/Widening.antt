@@ -16,12 +16,7 @@ use Rattle.aiger.proofs.Tests.{and-left, and-right, and, true-T, T-true}
 use Rattle.completions.specs.Forms.{Bit, Completed, Completes}
 use Rattle.completions.proofs.Completions.{all-at, all-from}
 use Rattle.completions.proofs.Forms.{bit-other, bit-test, test-bit, other-bit, bit-inside, completes-either, either-bit, eithers-set}
-
--- tests that follow from one another are equal
-pub both-ways : (a b : Bool) → (T a → T b) → (T b → T a) → a ≡ b
-both-ways true b f g = sym (true-T b (f tt))
-both-ways false true f g = absurd (g tt)
-both-ways false false f g = refl
+pub use Rattle.aiger.proofs.Tests.{both-ways}
 
 -- y is w, but for `x` in place of some bits
 pub record Wider (w y : List ℕ) : Type 0 where

@@ -25,10 +25,7 @@ use Rattle.resume.specs.Resume.{before, marked, placeOf, Spread}
 use Rattle.resume.proofs.Places.{before-same, before-most, before-less, before-more}
 use Rattle.decision.specs.Reach.{endOf}
 use Rattle.decision.specs.Decided.{Scannable, Resumable, Stopped}
-
-word-bit : (b : Bool) → nonzero (cond b 1 0) ≡ b
-word-bit true = refl
-word-bit false = refl
+use Rattle.aiger.proofs.Tests.{nonzero-bit}
 
 spread-same : (s t : ℕ → Bool) → ((i : ℕ) → s i ≡ t i) → (n y : ℕ) → spread s n y ≡ spread t n y
 unfolding spread
@@ -83,7 +80,7 @@ module _ (n : ℕ) (gs : List Pair) (root D x : ℕ) where
 
 module _ {work : List ℕ} {g : Graph} {root : ℕ} (net : Net (pairsOf work g) root work g) where
   mark-is : (v : ℕ) → v ≤ g .free → marked work v ≡ inCone (g .free) (pairsOf work g) root v
-  mark-is v h = ap nonzero (net .marks v (omega (arith, net .sized .leaves))) ∙ word-bit (inCone (g .free) (pairsOf work g) root v)
+  mark-is v h = ap nonzero (net .marks v (omega (arith, net .sized .leaves))) ∙ nonzero-bit (inCone (g .free) (pairsOf work g) root v)
 
   pub place-is : (x : ℕ) (bits : List ℕ) → FreeBits (g .free) x bits
       → placeOf work bits (g .free) ≡ before (inCone (g .free) (pairsOf work g) root) (freeBit (g .free) x) (g .free)

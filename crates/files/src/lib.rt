@@ -10,6 +10,15 @@ pub fn say(text: &[u8]) {
     }
 }
 
+// Writes the first n bytes of a text, or all of it where it has fewer.
+pub fn say_front(text: &[u8], n: usize) {
+    if n < text.len() {
+        say(&text[..n]);
+    } else {
+        say(text);
+    }
+}
+
 // Writes a number to standard output.
 pub fn say_number(n: u64) {
     io::print_decimal(STDOUT_FILENO, n);
@@ -60,6 +69,34 @@ pub fn read_argument(i: usize, buf: &mut [u8]) -> Got
         return nothing(buf);
     }
     read_named(&name[..length], buf)
+}
+
+// How much was read of two files, and whether one of them was not read.
+pub struct Two {
+    pub first: usize,
+    pub second: usize,
+    pub failed: bool,
+}
+
+// Reads the files that arguments i and j name.
+pub fn read_two(i: usize, j: usize, first: &mut [u8], second: &mut [u8]) -> Two
+    ensures { λ r. ⌜ Counts (r .first) (now (first .exit)) × Counts (r .second) (now (second .exit)) ⌝ }
+{
+    let one = read_argument(i, first);
+    if one.failed {
+        let none = nothing(second);
+        return Two {
+            first: one.count,
+            second: none.count,
+            failed: true,
+        };
+    }
+    let other = read_argument(j, second);
+    Two {
+        first: one.count,
+        second: other.count,
+        failed: other.failed,
+    }
 }
 
 // Prints argument i and what is to stand after it.

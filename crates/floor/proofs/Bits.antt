@@ -16,7 +16,7 @@ use Rattle.memory.specs.declared.Arena.{Arena}
 use Rattle.clauses.specs.Floor.{prefix}
 use Rattle.reasons.specs.Claims.{Alike}
 use Rattle.reasons.proofs.Valid.{alike-refl}
-use Rattle.reasons.proofs.Frame.{length-stored, stored-after, stored-field}
+use Rattle.reasons.proofs.Frame.{length-stored, stored-after, stored-field, stored-none}
 use Rattle.floor.specs.Place.{bitOf, floorBit, cleared, lifted}
 
 -- ---- the number that bits make
@@ -90,11 +90,6 @@ module _ (w : List ℕ) (nodes : ℕ) (room : 14 * nodes ≤ length w) where
     where
       four : bitAt (field w nodes v 2 + 4) ≡ 1
       four = omega (arith, e)
-
--- there is no such node
-stored-none : (w : List ℕ) (nodes v f x : ℕ) → nodes ≤ v → stored w nodes v f x ≡ w
-unfolding stored
-stored-none w nodes v f x l = rw (le-leb nodes v l)
 
 -- ---- what is fixed stays
 

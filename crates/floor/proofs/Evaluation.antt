@@ -16,7 +16,7 @@ use Rattle.memory.specs.declared.Netlist.{Netlist}
 use Rattle.memory.specs.declared.Arena.{Arena}
 use Rattle.clauses.specs.Clause.{GateOf}
 use Rattle.clauses.specs.Floor.{Free, prefix}
-use Rattle.clauses.proofs.Raise.{prefix-at}
+use Rattle.clauses.proofs.Raise.{prefix-at, prefix-mod}
 use Rattle.reasons.specs.Claims.{Same}
 use Rattle.reasons.proofs.Valid.{same-refl, same-trans}
 use Rattle.reasons.proofs.Frame.{length-stored, stored-field, stored-same}
@@ -31,10 +31,6 @@ num b = cond b 1 0
 stored-pos : (w : List ℕ) (nodes v x : ℕ) → 14 * nodes ≤ length w → v < nodes → field (stored w nodes v 3 x) nodes v 3 ≡ x
 unfolding stored field
 stored-pos w nodes v x long l = rw (lt-leb nodes v l) (getD-set-same w (place v 3) x 0 (omega arith))
-
-num-zero : (b : Bool) → num b ≡ 0 → b ≡ false
-num-zero true e = absurd (omega arith)
-num-zero false e = refl
 
 num-one : (b : Bool) → num b ≡ 1 → T b
 num-one true e = tt
@@ -131,10 +127,6 @@ evaluate-same net arena w room v (suc k) =
 
 -- ---- the bits of the floor are the free bits of its place
 
-last-bit : (b : ℕ → ℕ) (u : ℕ) → b (suc u) < 2 → prefix b (suc u) % 2 ≡ b (suc u)
-unfolding prefix
-last-bit b u h = omega arith
-
 as-num : (d : ℕ) → d < 2 → d ≡ num (nonzero d)
 as-num zero h = refl
 as-num (suc zero) h = refl
@@ -146,7 +138,7 @@ place-bit w nodes n j l =
     let b = bits w nodes in
     let s : suc j ≡ j + 1 = omega arith in
     let e : prefix b n / 2 ^ (n - (j + 1)) ≡ prefix b (j + 1) = prefix-at n b (digits w nodes) (j + 1) (n - (j + 1)) (omega arith) in
-    let f : prefix b (j + 1) % 2 ≡ b (j + 1) = subst (λ (k : ℕ). prefix b k % 2 ≡ b k) s (last-bit b j (digits w nodes (suc j))) in
+    let f : prefix b (j + 1) % 2 ≡ b (j + 1) = subst (λ (k : ℕ). prefix b k % 2 ≡ b k) s (prefix-mod b j (digits w nodes (suc j))) in
     as-num (b (j + 1)) (digits w nodes (j + 1)) ∙ ap (λ (k : ℕ). num (nonzero k)) (sym (ap (λ (k : ℕ). k % 2) e ∙ f))
 
 -- where the values at each place obey the gates, and evaluation at the floor says true, the floor's place is a hit

@@ -1,6 +1,7 @@
 // The program fold: a frame of a circuit as one circuit over its free bits.
 use arguments::Argument;
 use files::say;
+use files::say_front;
 ghost use mathlib.Core.Path.{_≡_};
 ghost use lib.ListN.{length};
 
@@ -38,10 +39,8 @@ fn fold_with(b: u64, t: u64, work: &mut [u32], out: &mut [u8])
     }
     let n = got.count;
     let report = commands::fold(&file[..n], b, t, &mut m, work, out, &mut line);
-    let said = report.line;
-    let written = report.out;
-    say(&line[..said]);
-    say(&out[..written]);
+    say_front(&line, report.line);
+    say_front(out, report.out);
 }
 
 // Lends the memories for the greatest size, 65,536.

@@ -87,9 +87,6 @@ module _ {vars ops table waiting marks : List ℕ} (w : Waiting vars ops table w
   table-other : (u : ℕ) → (u ≡ v → ⊥) → getD table′ u 0 ≡ getD table u 0
   table-other u d = ⊎-elim (λ p. absurd (d (p .0))) (λ p. p .1) (getD-set table v x u (gs .known r h))
 
-  lacks-other : (u : ℕ) → (u ≡ v → ⊥) → lacks table′ u ≡ lacks table u
-  lacks-other u d = rw (table-other u d)
-
   waits-other : (i : ℕ) → i < length vars → (i ≡ r → ⊥) → (getD ops (2 * i) 0 ≡ v → ⊥) → (getD ops (2 * i + 1) 0 ≡ v → ⊥)
       → waits vars ops table′ i ≡ waits vars ops table i
   unfolding waits
@@ -173,9 +170,6 @@ start vars ops k table order waiting marks g w =
 
 module _ {vars ops : List ℕ} {k : ℕ} {table₀ order₀ table order waiting marks : List ℕ} {n next : ℕ}
     (g : Taking vars ops k table₀ order₀ table order waiting marks n next) where
-  order-length : length order ≡ length order₀ → n ≤ length order
-  order-length e = omega (arith, ap length (g .stored) ∙ length-append (g .done) (drop n order₀), g .size)
-
   taken-more : (m i : ℕ) → leastBelow (length vars) (isReady vars ops table) ≡ some i
       → taken (suc m) vars ops next table
       ≡ (i ∷ taken m vars ops (next + 1) (set table (getD vars i 0) next) .0, taken m vars ops (next + 1) (set table (getD vars i 0) next) .1)

@@ -8,8 +8,8 @@ use Prim.Native.Nat.{ℕ, zero, suc, _+_, _*_, _≤_, _<_}
 use native.Mathlib.Decide.{ℕ-discrete, decLt}
 use native.Mathlib.Omega.{arith}
 use lib.Dec.{T, ltb, ltb→lt}
-use lib.ListN.{length, getD, set, take, drop, replicate, length-set, length-take}
-use lib.Seq.{getD-take, getD-drop, getD-set-same, getD-set-other}
+use lib.ListN.{length, getD, set, take, drop, replicate, length-set, length-take, List·getD-eq-default}
+use lib.Seq.{getD-take, getD-drop, getD-set-same, getD-set-other, set-out}
 use Rattle.aiger.specs.Circuit.{Circuit}
 use Rattle.aiger.specs.Load.{Answer, refused, gives, load, _>>=_}
 use Rattle.aiger.specs.Memory.{Holds, image}
@@ -41,11 +41,7 @@ use Rattle.user_calls.specs.Calls.{Replaced, UserLoaded, PinSet, PinEffect, pin
 use Rattle.search.specs.Chosen as Search
 use Rattle.fold.specs.Chosen as Fold
 use Rattle.history.specs.History.{State, Call, Reply, Step, Same, userOf, isAccepted}
-
-past : (l : List ℕ) (i d : ℕ) → length l ≤ i → getD l i d ≡ d
-past [] i d h = refl
-past (x ∷ xs) zero d h = absurd (omega arith)
-past (x ∷ xs) (suc i) d h = past xs i d (omega arith)
+use Rattle.parting.proofs.Contract.{join-determined}
 
 few : (n : ℕ) (l : List ℕ) → length (take n l) ≤ n
 few zero l = omega arith
@@ -62,29 +58,11 @@ own-pins u p p′ h = λ j i. one i j
         elim (decLt i 256) [
           | yes l ↦ getD-take 256 (drop (256 * u) p) i 2 l ∙ getD-drop (256 * u) p i 2 ∙ h i l ∙ sym (getD-drop (256 * u) p′ i 2)
               ∙ sym (getD-take 256 (drop (256 * u) p′) i 2 l)
-          | no l ↦ past (take 256 (drop (256 * u) p)) i 2 (omega (arith, few 256 (drop (256 * u) p)))
-              ∙ sym (past (take 256 (drop (256 * u) p′)) i 2 (omega (arith, few 256 (drop (256 * u) p′))))
+          | no l ↦ List·getD-eq-default (take 256 (drop (256 * u) p)) 2 {n = i} (omega (arith, few 256 (drop (256 * u) p)))
+              ∙ sym (List·getD-eq-default (take 256 (drop (256 * u) p′)) 2 {n = i} (omega (arith, few 256 (drop (256 * u) p′))))
         ]
 
 -- ---- a join
-
-joined-same : {first second m m₁ m₂ : List ℕ} {x y : Answer (List ℕ)} → JoinedInto first second m x m₁ → JoinedInto first second m y m₂ → (x ≡ y) × (m₁ ≡ m₂)
-joined-same (JoinedInto.noCircuit f) (JoinedInto.noCircuit g) = (refl, refl)
-joined-same (JoinedInto.noCircuit f) (JoinedInto.refuses c d h k j) = absurd (⊎-elim (λ n. n c h) (λ n. n d k) f)
-joined-same (JoinedInto.noCircuit f) (JoinedInto.stores c d h k j) = absurd (⊎-elim (λ n. n c h) (λ n. n d k) f)
-joined-same (JoinedInto.refuses c d h k j) (JoinedInto.noCircuit f) = absurd (⊎-elim (λ n. n c h) (λ n. n d k) f)
-joined-same (JoinedInto.stores c d h k j) (JoinedInto.noCircuit f) = absurd (⊎-elim (λ n. n c h) (λ n. n d k) f)
-joined-same {m = m} (JoinedInto.refuses c d {n = n} h k j) (JoinedInto.refuses c′ d′ {n = i} h′ k′ j′) =
-    let z : n ≡ i = (let q = sym j ∙ ap₂ (λ (x y : Circuit). judge (joinTests x y (length m))) (one-circuit h h′) (one-circuit k k′) ∙ j′ in cc) in (ap refused z, refl)
-joined-same {m = m} (JoinedInto.refuses c d h k j) (JoinedInto.stores c′ d′ h′ k′ j′) =
-    let q = sym j ∙ ap₂ (λ (x y : Circuit). judge (joinTests x y (length m))) (one-circuit h h′) (one-circuit k k′) ∙ j′ in
-    let z : _≡_ {A = ℕ} 0 1 = cc in absurd (omega arith)
-joined-same {m = m} (JoinedInto.stores c d h k j) (JoinedInto.refuses c′ d′ h′ k′ j′) =
-    let q = sym j ∙ ap₂ (λ (x y : Circuit). judge (joinTests x y (length m))) (one-circuit h h′) (one-circuit k k′) ∙ j′ in
-    let z : _≡_ {A = ℕ} 0 1 = cc in absurd (omega arith)
-joined-same {m = m} (JoinedInto.stores c d h k j) (JoinedInto.stores c′ d′ h′ k′ j′) =
-    let z : joined c d ≡ joined c′ d′ = ap₂ joined (one-circuit h h′) (one-circuit k k′) in
-    (ap (λ (x : Circuit). gives (x .maxVar ∷ countRow x)) z, ap (λ (x : Circuit). front (image x) m) z)
 
 -- ---- an operation under pins
 
@@ -160,11 +138,6 @@ pin-within {c = c} user input len h j =
     let b = ltb→lt (256 * user + input) len (and-right (ltb input (length (c .inputs))) (ltb (256 * user + input) len) t) in
     (omega (arith, a, counts-fit c (held-valid h .fit) .inputs), b)
 
-set-past : (l : List ℕ) (i v : ℕ) → length l ≤ i → set l i v ≡ l
-set-past [] i v h = refl
-set-past (x ∷ xs) zero v h = absurd (omega arith)
-set-past (x ∷ xs) (suc i) v h = ap (λ (z : List ℕ). x ∷ z) (set-past xs i v (omega arith))
-
 -- two pin memories that are the same to user u
 abbrev pub Agree : ℕ → List ℕ → List ℕ → Type 0
 Agree u p p′ = (length p ≡ length p′) × ((i : ℕ) → i < 256 → getD p (256 * u + i) 2 ≡ getD p′ (256 * u + i) 2)
@@ -173,7 +146,7 @@ pub set-agree : (u a v : ℕ) (p p′ : List ℕ) → Agree u p p′ → Agree u
 set-agree u a v p p′ h =
     elim (decLt a (length p)) [
       | yes l ↦ (length-set p a v ∙ h .0 ∙ sym (length-set p′ a v), set-own u a v p p′ (h .0) l (h .1))
-      | no l ↦ rw (set-past p a v (omega arith), set-past p′ a v (omega (arith, h .0))) h
+      | no l ↦ rw (set-out p a v (omega arith), set-out p′ a v (omega (arith, h .0))) h
     ]
 
 pub pin-same : {m m′ p p′ p₁ p₂ : List ℕ} {user input value : ℕ} {x y : Answer (Unit {0})} → m ≡ m′ → Agree user p p′ → PinSet m user input value p x p₁
@@ -265,7 +238,7 @@ join-same : (u : ℕ) {s t : State} {first second m₁ m₂ p₁ p₂ : List ℕ
     → UserJoined first second (s .memory) (s .pins) user x m₁ p₁ → UserJoined first second (t .memory) (t .pins) user y m₂ p₂
     → (x ≡ y) × Same u (record { memory = m₁; work = s .work; pins = p₁ }) (record { memory = m₂; work = t .work; pins = p₂ })
 join-same u {first = first} {second = second} a x y =
-    replaced-same u a (λ x y m₁ m₂ l r. joined-same l (subst (λ (m : List ℕ). JoinedInto first second m y m₂) (sym (a .memory)) r)) x y
+    replaced-same u a (λ x y m₁ m₂ l r. join-determined l (subst (λ (m : List ℕ). JoinedInto first second m y m₂) (sym (a .memory)) r)) x y
 
 -- ---- one call
 

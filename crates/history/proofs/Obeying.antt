@@ -14,6 +14,7 @@ use Rattle.aiger.proofs.Tests.{and}
 use Rattle.pins.specs.Pins.{isHeld, fill, pinnedSpace}
 use Rattle.pinned_runs.specs.Obeys.{obeysPin, obeysRow, obeys}
 use Rattle.pinned_runs.proofs.Pinned.{free-obeys}
+use Rattle.roundtrip.proofs.Lists.{every-made}
 
 -- the pin's value obeys
 held-obeys : (p : ℕ) → isHeld p ≡ true → T (obeysPin p (eqb p 1))
@@ -31,14 +32,10 @@ fill-obeys q f (suc n) i j = go (isHeld (q i)) refl (fill-obeys q f n (suc i) j)
     go true e h k = and (obeysPin (q i) (eqb (q i) 1)) (obeysRow q (suc i) (fill q f (suc i) j n)) (held-obeys (q i) e) h
     go false e h k = and (obeysPin (q i) (f j)) (obeysRow q (suc i) (fill q f (suc i) (suc j) n)) (free-obeys (q i) (f j) e) k
 
-every-of : {A B : Type 0} (p : B → Bool) (f : A → B) → ((x : A) → T (p (f x))) → (xs : List A) → T (every p (map f xs))
-every-of p f h [] = tt
-every-of p f h (x ∷ xs) = and (p (f x)) (every p (map f xs)) (h x) (every-of p f h xs)
-
 pub sequence-obeys : (c : Circuit) (q : ℕ → ℕ) (t x : ℕ) → T (obeys q (runIn (pinnedSpace c q) t x))
 unfolding obeys
 sequence-obeys c q t x =
     let s = pinnedSpace c q in
     let f = freeBit (bitsIn s t) x in
-    every-of (obeysRow q 0) (λ u. fill q (λ i. f (s .free + s .width * u + i)) 0 0 (length (c .inputs)))
+    every-made (obeysRow q 0) (λ u. fill q (λ i. f (s .free + s .width * u + i)) 0 0 (length (c .inputs)))
     (λ u. fill-obeys q (λ i. f (s .free + s .width * u + i)) (length (c .inputs)) 0 0) (upto (t + 1))

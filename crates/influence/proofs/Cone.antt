@@ -16,12 +16,11 @@ use Rattle.aiger.proofs.Tests.{T-true, and-left, and-right, below-at, or-cases,
 use Rattle.meaning.specs.Frame.{latchAt, gateAt}
 use Rattle.meaning.proofs.Lists.{mem-at, or-left, or-right}
 use Rattle.meaning.proofs.Defined.{Known, next-known, bad-known, constraint-known}
-use Rattle.meaning.proofs.Values.{frame-valuation}
+use Rattle.meaning.proofs.Values.{frame-valuation, depends}
 use Rattle.frames.specs.Lanes.{constrainedIn, badIn}
 use Rattle.influence.specs.Part.{Part, keptAt, Agree, Same, Closed}
 use Rattle.influence.specs.Cone.{marked, asGate, closedAt, closed, marks, settled, keptBelow, keptLatches, partOf}
 use Rattle.influence.proofs.Kept.{Chosen, chosen}
-use Rattle.influence.proofs.Depends.{depends}
 
 -- a marked gate of closed marks
 closed-gate : (ms : List ℕ) (g : Gate) → T (closedAt ms g) → T (marked ms (g .lit)) → T (marked ms (g .left)) × T (marked ms (g .right))

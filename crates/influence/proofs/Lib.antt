@@ -1,5 +1,4 @@
 pub mod Kept
-pub mod Depends
 pub mod Cone
 pub mod Marks
 pub mod Rooms

@@ -1,6 +1,6 @@
 -- Marks, step by step. Assumes nothing.
 use mathlib.Core.Path.{_≡_, refl, sym, ap, ap₂, _∙_, subst}
-use mathlib.Core.Bool.{Bool, true, false, cond, _&&_}
+use mathlib.Core.Bool.{Bool, true, false, cond, _&&_, and-false}
 use mathlib.Core.List.{List}
 use Prim.Native.Nat.{ℕ, zero, suc, _+_, _-_, _≤_, _<_}
 use native.Mathlib.Numerals.{add-one}
@@ -11,15 +11,7 @@ use Rattle.aiger.specs.Lists.{everyBelow}
 use Rattle.aiger.specs.Bits.{nonzero}
 use Rattle.aiger.specs.Circuit.{Circuit, Gate, var}
 use Rattle.influence.specs.Cone.{marked, mark, markBelow, reach, reachDown, closedAt, closed, spread, settle}
-
--- a word that is 0 is no mark, any other is one
-pub no-mark : (n : ℕ) → n ≡ 0 → nonzero n ≡ false
-no-mark zero e = refl
-no-mark (suc n) e = absurd (omega arith)
-
-pub a-mark : (n : ℕ) → (n ≡ 0 → ⊥) → nonzero n ≡ true
-a-mark zero h = absurd (h refl)
-a-mark (suc n) h = refl
+pub use Rattle.aiger.proofs.Tests.{nonzero-true as a-mark, nonzero-false as no-mark, below-same}
 
 -- one literal more
 pub mark-more : (f : ℕ → ℕ) (n : ℕ) (ms now : List ℕ) → now ≡ markBelow f n ms → mark (f n) now ≡ markBelow f (n + 1) ms
@@ -89,20 +81,12 @@ closed-both ms g h e f =
 pub below-more : (p : ℕ → Bool) (n : ℕ) → everyBelow n p ≡ true → p n ≡ true → everyBelow (n + 1) p ≡ true
 below-more p n e f = ap (λ (k : ℕ). everyBelow k p) (add-one n) ∙ ap₂ (λ (a b : Bool). a && b) e f
 
-and-none : (a : Bool) → (a && false) ≡ false
-and-none true = refl
-and-none false = refl
-
 pub below-fails : (p : ℕ → Bool) (n i : ℕ) → i < n → p i ≡ false → false ≡ everyBelow n p
 below-fails p zero i l e = absurd (omega arith)
 below-fails p (suc n) i l e = elim (ℕ-discrete i n) [
-  | yes q ↦ sym (ap (λ (b : Bool). everyBelow n p && b) (ap p (sym q) ∙ e) ∙ and-none (everyBelow n p))
+  | yes q ↦ sym (ap (λ (b : Bool). everyBelow n p && b) (ap p (sym q) ∙ e) ∙ and-false (everyBelow n p))
   | no q ↦ sym (ap (λ (b : Bool). b && p n) (sym (below-fails p n i (omega arith) e)))
 ]
-
-pub below-same : (n : ℕ) (p q : ℕ → Bool) → ((i : ℕ) → i < n → p i ≡ q i) → everyBelow n p ≡ everyBelow n q
-below-same zero p q h = refl
-below-same (suc n) p q h = ap₂ (λ (x y : Bool). x && y) (below-same n p q (λ i l. h i (omega arith))) (h n (omega arith))
 
 -- ---- rounds
 module _ (c : Circuit) (b : ℕ) where

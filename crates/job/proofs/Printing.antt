@@ -19,10 +19,7 @@ use Rattle.job.specs.Query.{requestOf}
 use Rattle.search.specs.Chosen.{chosen}
 use Rattle.job.specs.Replies.{Refuses, Printed, Replies}
 use Rattle.job.proofs.Replying.{alone}
-
--- the rest of the input, as a part up to its end
-pub whole-rest : (input : List ℕ) (at : ℕ) → take (length input - at) (drop at input) ≡ drop at input
-whole-rest input at = take-all (length input - at) (drop at input) (omega (arith, length-drop at input))
+pub use Rattle.roundtrip.proofs.Lists.{take-rest as whole-rest}
 
 -- an answer of load, taken apart
 pub not-loaded : {m f m′ : List ℕ} {a : Answer (List ℕ)} {n : ℕ} → Loaded m f a m′ → a ≡ refused n → load (length m) f ≡ refused n

@@ -1,5 +1,6 @@
 // The program join: two circuits joined into one, as text.
 use files::say;
+use files::say_front;
 ghost use mathlib.Core.Path.{_≡_};
 ghost use lib.ListN.{length};
 
@@ -29,16 +30,12 @@ fn join_with(first: &mut [u32], second: &mut [u32])
     let mut third = [0u32; 33032];
     let mut out = [0u8; 65536];
     let mut line = [0u8; 128];
-    let from = files::read_argument(1, &mut old);
-    if from.failed {
+    let got = files::read_two(1, 2, &mut old, &mut new);
+    if got.failed {
         return;
     }
-    let to = files::read_argument(2, &mut new);
-    if to.failed {
-        return;
-    }
-    let n = from.count;
-    let k = to.count;
+    let n = got.first;
+    let k = got.second;
     let report = join_command::join(
         &old[..n],
         &new[..k],
@@ -48,10 +45,8 @@ fn join_with(first: &mut [u32], second: &mut [u32])
         &mut out,
         &mut line,
     );
-    let said = report.line;
-    let written = report.out;
-    say(&line[..said]);
-    say(&out[..written]);
+    say_front(&line, report.line);
+    say_front(&out, report.out);
 }
 
 fn join_files() {

@@ -20,22 +20,12 @@ use Rattle.clauses.proofs.Resolution.{single}
 use Rattle.reasons.specs.Reason.{keptLength, keptLiteral}
 use Rattle.reasons.specs.Claims.{Same, Sound}
 use Rattle.reasons.proofs.Valid.{same-refl, same-trans, sound-same}
-use Rattle.reasons.proofs.Frame.{field-other, length-stored, stored-after, stored-field, stored-same, headed-same}
+use Rattle.reasons.proofs.Frame.{field-other, length-stored, stored-after, stored-field, stored-same, headed-same, stored-at, stored-none}
 use Rattle.resolve.specs.Draft.{draftAt, taken}
 use Rattle.resolve.proofs.Sound.{InDraft, Drafting}
 use Rattle.kept.specs.Kept.{Arenaed, arenaOf, arenaed, fixedWord, fixed, settled, lengthWord, withHead, kept, watch, attached, detached}
 
 -- ---- fixed literals
-
--- the word that was stored
-stored-at : (w : List ℕ) (nodes v f x : ℕ) → 14 * nodes ≤ length w → f < 14 → v < nodes → field (stored w nodes v f x) nodes v f ≡ x
-unfolding stored field
-stored-at w nodes v f x long small l = rw (lt-leb nodes v l) (getD-set-same w (place v f) x 0 (omega arith))
-
--- there is no such node
-stored-none : (w : List ℕ) (nodes v f x : ℕ) → nodes ≤ v → stored w nodes v f x ≡ w
-unfolding stored
-stored-none w nodes v f x l = rw (le-leb nodes v l)
 
 module _ {hit : (ℕ → Bool) → Type 0} {net : Netlist} {arena : Arena} {w : List ℕ} (sound : Sound hit net arena w) where
   -- the literal that is fixed, or one that was

@@ -122,10 +122,6 @@ module _ (binary : Bool) (k : Counts) (g : List ℕ) (c : Circuit) (b : sections
       ∷ sym (n .constraints) t ∷ []
 
   module _ (w r : List ℕ) (e : w ≡ content c ++ r) where
-    pub numbers-stored : numbers k ≡ take 7 w
-    unfolding content
-    numbers-stored = same-counts ∙ sym (ap (take 7) e)
-
     same-circuit : circuitIn w ≡ c
     same-circuit = ap circuitIn e ∙ circuit-in c r
 
@@ -136,10 +132,6 @@ module _ (binary : Bool) (k : Counts) (g : List ℕ) (c : Circuit) (b : sections
         ∙ ap countsFit (same-header (headerMeant k) c (sections-counted binary (headerMeant k) g c b) f) ∙ f in
         let end : contentEnd w ≡ length (content c) = sym (content-length w) ∙ ap (λ (d : Circuit). length (content d)) same-circuit in
         counted w fit (omega (arith, ap length e, length-append (content c) r))
-
-    pub top-stored : word w 0 ≡ k .m
-    unfolding content
-    top-stored = ap (λ (x : List ℕ). word x 0) e ∙ sections-counted binary (headerMeant k) g c b .maxVar
 
     -- load of the lines accepts what the words say
     pub body-accepts : accepts (circuitIn w) ≡ loadBody binary (headerMeant k) g

@@ -5,10 +5,11 @@ use mathlib.Core.List.{List}
 use mathlib.Core.Option.{Option, none, some}
 use mathlib.Core.Logic.{⊎-elim}
 use Prim.Native.Nat.{ℕ, zero, suc, _+_, _-_, _*_, _/_, _%_, _≤_, _<_}
-use native.Mathlib.Nat.{mod-lt, mul-le-mul-right, div-lt-iff-lt-mul, add-mul-div-right, add-mul-mod-self-right, div-eq-of-lt, mod-eq-of-lt, div-add-mod'}
+use native.Mathlib.Nat.{mod-lt, mul-le-mul-right, div-lt-iff-lt-mul, div-add-mod'}
 use native.Mathlib.Decide.{decLt, ℕ-discrete}
 use native.Mathlib.Omega.{arith}
 use lib.Dec.{T}
+use lib.Arith.{digits-lt, digits-div, digits-mod}
 use lib.ListN.{length, getD}
 use Rattle.machine.specs.Machine.{Machine, prefixes, stepped, stateAfter}
 use Rattle.machine.specs.Layers.{Entry, noEntry, stateOf, placeOf, meet, slotEntry, slotPlace, slotStep, slotHit, expanded, layerSlots}
@@ -26,20 +27,23 @@ pub record Fair (m : Machine) : Type 0 where
 
 -- n times w and r more, for r below w
 pub over : (n r w : ℕ) → r < w → (n * w + r) / w ≡ n
-over n r w l =
-    ap (λ (k : ℕ). k / w) {x = n * w + r} {y = r + n * w} (omega arith) ∙ add-mul-div-right r n (omega arith) ∙ omega (arith, div-eq-of-lt l)
+over n r w l = digits-div n l
 
 pub rest : (n r w : ℕ) → r < w → (n * w + r) % w ≡ r
-rest n r w l = ap (λ (k : ℕ). k % w) {x = n * w + r} {y = r + n * w} (omega arith) ∙ add-mul-mod-self-right r n w ∙ mod-eq-of-lt l
+rest n r w l = digits-mod n l
 
 -- n times w and r more are below k times w
 pub under : (n r k w : ℕ) → n < k → r < w → n * w + r < k * w
-under n r k w l h = let q : (n + 1) * w ≤ k * w = mul-le-mul-right w (omega arith) in omega arith
+under n r k w l h = digits-lt l h
 
 pub quotient-below : (z k w : ℕ) → z < k * w → z / w < k
 quotient-below z zero w l = absurd (omega arith)
 quotient-below z (suc k) zero l = absurd (omega arith)
 quotient-below z (suc k) (suc w) l = div-lt-iff-lt-mul {k = suc w} {x = z} {y = suc k} (omega arith) .1 l
+
+pub prefix-fits : (m : Machine) (t x : ℕ) → x < prefixes m (suc t) → x / m .rows < prefixes m t
+unfolding prefixes
+prefix-fits m t x l = quotient-below x (prefixes m t) (m .rows) l
 
 -- what the state after a prefix of one frame more comes from
 pub came : (m : Machine) (t y s : ℕ) → stateAfter m (suc t) y ≡ some s
@@ -226,14 +230,10 @@ module _ (m : Machine) (f : Fair m) (t : ℕ) (es : List Entry) (lo : ℕ) (laye
         (whole .covered (slotOf i r) s (slot-below i r (omega arith) l w) (ap₂ (λ (x : ℕ) (y : ℕ). m .step (stateOf es x) y) a b ∙ e))
   ]
 
-  prefix-fits : (y : ℕ) → y < prefixes m (suc t) → y / m .rows < prefixes m t
-  unfolding prefixes
-  prefix-fits y l = quotient-below y (prefixes m t) (m .rows) l
-
   next-reached : (y s : ℕ) → y < prefixes m (suc t) → stateAfter m (suc t) y ≡ some s → Known all (length es) s y
   next-reached y s l e =
       let x = came m t y s e in
-      let k = layer .reached (y / m .rows) (x .0) (prefix-fits y l) (x .1) in
+      let k = layer .reached (y / m .rows) (x .0) (prefix-fits m t y l) (x .1) in
       let r = y % m .rows in
       let i = k .index in
       let d : y / m .rows * m .rows + r ≡ y = div-add-mod' y (m .rows) in

@@ -14,7 +14,7 @@ use Rattle.machine.proofs.First.{First, first}
 use Rattle.machine.specs.Machine.{Machine, prefixes, stepped, stateAfter, hitFrom, hitsAt}
 use Rattle.machine.specs.Layers.{Entry, stateOf, placeOf, started, slotPlace, slotHit, expanded, layerSlots, firstBelow, Layered, hit, clear, gaveUp, layersFrom, layered}
 use Rattle.machine.proofs.Starts.{Known, Layer, layer-start}
-use Rattle.machine.proofs.Expand.{Fair, came, over, rest, under, quotient-below, Silent, all-quiet, layer-next}
+use Rattle.machine.proofs.Expand.{Fair, came, over, rest, under, quotient-below, Silent, all-quiet, layer-next, prefix-fits}
 
 -- no sequence of frame t is a hit
 abbrev pub Quiet : Machine → ℕ → Type 0
@@ -39,10 +39,6 @@ from-state m t x h = go (stateAfter m t (x / m .rows)) refl h
         → (s : ℕ) × (stateAfter m t (x / m .rows) ≡ some s) × T (m .hit s (x % m .rows))
     go none q k = absurd k
     go (some s) q k = (s, q, k)
-
-prefix-fits : (m : Machine) (t x : ℕ) → x < prefixes m (suc t) → x / m .rows < prefixes m t
-unfolding prefixes
-prefix-fits m t x l = quotient-below x (prefixes m t) (m .rows) l
 
 module _ (m : Machine) (f : Fair m) where
   module _ (t : ℕ) (es : List Entry) (lo : ℕ) (layer : Layer m t es lo) where

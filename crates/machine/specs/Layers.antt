@@ -7,6 +7,7 @@ use Prim.Native.Nat.{ℕ, zero, suc, _+_, _-_, _*_, _/_, _%_}
 use lib.Dec.{eqb, leb}
 use lib.ListN.{length, getD}
 use Rattle.machine.specs.Machine.{Machine}
+pub use Rattle.aiger.specs.Search.{leastBelow as firstBelow}
 
 -- a state that was met, and the first prefix that led to it
 pub record Entry : Type 0 where
@@ -58,11 +59,6 @@ expanded m es lo (suc z) = meet (slotStep m es lo z) (slotPlace m es lo z) (expa
 -- the number of slots of the layer that begins at entry lo
 abbrev pub layerSlots : Machine → List Entry → ℕ → ℕ
 layerSlots m es lo = (length es - lo) * m .slots
-
--- the first number below n that passes
-unfoldable pub firstBelow : ℕ → (ℕ → Bool) → Option ℕ
-firstBelow zero p = none
-firstBelow (suc n) p = elim (firstBelow n p) [ some x ↦ some x | none ↦ cond (p n) (some n) none ]
 
 -- what the layers say: frame t is the first with a hit, and its first one is x; no frame that was asked has a hit; or the search was given
 -- up, where no frame before t has a hit

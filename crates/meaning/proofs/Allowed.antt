@@ -1,6 +1,6 @@
 -- Sequences that break no constraint: frame by frame, up to a frame, and where there is no constraint. Clauses 2.5 and 12.4. Assumes nothing.
 use mathlib.Core.Path.{_≡_, refl, sym, ap, ap₂, _∙_, subst}
-use mathlib.Core.Bool.{Bool, true, false, _&&_}
+use mathlib.Core.Bool.{Bool, true, false, _&&_, true-and}
 use mathlib.Core.List.{List, [], List·Memᴰ}
 use Prim.Native.Nat.{ℕ, zero, suc, _≤_, _<_}
 use native.Mathlib.Omega.{arith}
@@ -9,15 +9,8 @@ use lib.ListN.{getD}
 use Rattle.aiger.specs.Lists.{every, everyBelow}
 use Rattle.aiger.specs.Circuit.{Circuit}
 use Rattle.aiger.specs.Frames.{Run, valueAt, constrained, allowed, hits}
-use Rattle.aiger.proofs.Tests.{and-left, true-T, T-true, below-at, below-all}
+use Rattle.aiger.proofs.Tests.{and-left, true-T, T-true, below-at, below-all, false-of, below-same}
 use Rattle.meaning.proofs.Lists.{every-mem}
-
-false-of : (a : Bool) → (T a → ⊥) → a ≡ false
-false-of true h = absurd (h tt)
-false-of false h = refl
-
-true-and : (a : Bool) → (true && a) ≡ a
-true-and a = refl
 
 module _ (c : Circuit) (r : Run) where
   -- frame 0, and one frame more
@@ -52,10 +45,6 @@ module _ (c : Circuit) (r : Run) where
   unconstrained e t =
       true-T (allowed c r t)
       (below-all (suc t) (constrained c r) (λ u l. T-true (ap (λ (ls : List ℕ). every (valueAt c r u) ls) e)))
-
-below-same : (n : ℕ) (p q : ℕ → Bool) → ((u : ℕ) → u < n → p u ≡ q u) → everyBelow n p ≡ everyBelow n q
-below-same zero p q h = refl
-below-same (suc n) p q h = ap₂ (λ (x y : Bool). x && y) (below-same n p q (λ u l. h u (omega arith))) (h n (omega arith))
 
 and-four : (a b x y : Bool) → ((a && b) && (x && y)) ≡ ((a && x) && (b && y))
 and-four true true x y = refl

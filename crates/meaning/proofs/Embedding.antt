@@ -1,6 +1,6 @@
 -- One circuit inside another under other names: its values there are those that it has alone. Assumes nothing.
 use mathlib.Core.Path.{_≡_, refl, sym, ap, ap₂, _∙_, subst}
-use mathlib.Core.Bool.{Bool, true, false, not, cond, _&&_}
+use mathlib.Core.Bool.{Bool, true, false, not, cond, _&&_, and-comm}
 use mathlib.Core.List.{List, []}
 use mathlib.Core.Logic.{_⊎_, inl, inr}
 use Prim.Native.Nat.{ℕ, zero, suc, _+_, _*_, _/_, _%_, _<_}
@@ -24,12 +24,6 @@ value-renamed σ w l =
     let v : renamed σ l / 2 ≡ σ (var l) = omega arith in
     let s : renamed σ l % 2 ≡ l % 2 = omega arith in
     ap₂ (λ (m x : ℕ). cond (nonzero m) (not (w x)) (w x)) s v
-
-and-swap : (a b : Bool) → (a && b) ≡ (b && a)
-and-swap true true = refl
-and-swap true false = refl
-and-swap false true = refl
-and-swap false false = refl
 
 -- gate h is gate g with renamed operands, in either order
 abbrev pub SameOperands : (ℕ → ℕ) → Gate → Gate → Type 0
@@ -56,7 +50,7 @@ module _ (c d : Circuit) (σ inputOf latchOf : ℕ → ℕ) (e : Embeds c d σ i
       ap₂ (λ (x y : Bool). x && y) (ap (value w) (p .0) ∙ value-renamed σ w (g .left)) (ap (value w) (p .1) ∙ value-renamed σ w (g .right))
   operands-renamed w g h (inr p) =
       ap₂ (λ (x y : Bool). x && y) (ap (value w) (p .0) ∙ value-renamed σ w (g .right)) (ap (value w) (p .1) ∙ value-renamed σ w (g .left))
-      ∙ and-swap (value (λ v. w (σ v)) (g .right)) (value (λ v. w (σ v)) (g .left))
+      ∙ and-comm (value (λ v. w (σ v)) (g .right)) (value (λ v. w (σ v)) (g .left))
 
   -- values that satisfy d's equations satisfy c's under the names
   pub embedded-valuation : {row st row′ st′ : List Bool} {w : ℕ → Bool} → Picked inputOf (length (c .inputs)) row row′

@@ -1,7 +1,7 @@
 -- Functions of the free bits that need no gate: the constants, the free bits and their complements. In a circuit with the shape of a fold
 -- they are the values of the literals that no gate defines, and a fold that is reduced has no gate for them. Assumes nothing.
 use mathlib.Core.Path.{_≡_, refl, sym, ap, _∙_, subst}
-use mathlib.Core.Bool.{Bool, true, false, not, _&&_, _||_, Bool·beq}
+use mathlib.Core.Bool.{Bool, true, false, not, _&&_, _||_, Bool·beq, Bool·not-not}
 use mathlib.Core.List.{List, [], _∷_, map, List·Memᴰ, List·Memᴰ·head, List·Memᴰ·tail, Memᴰ·cast}
 use mathlib.Core.Logic.{⊎-elim}
 use Prim.Native.Nat.{ℕ, zero, suc, _+_, _-_, _*_, _/_, _%_, _≤_, _<_, _^_}
@@ -13,7 +13,7 @@ use Rattle.aiger.specs.Lists.{every, any, pairwise, everyBelow, member, upto}
 use Rattle.aiger.specs.Circuit.{Circuit, Gate, var}
 use Rattle.aiger.specs.Frames.{Run, valueAt, freeBit}
 use Rattle.aiger.specs.Fold.{valueOn, output, leads, twins, reduced}
-use Rattle.aiger.proofs.Tests.{and-left, and-right, or-cases, not-both, below-all}
+use Rattle.aiger.proofs.Tests.{and-left, and-right, or-cases, not-both, below-all, beq-same}
 use Rattle.meaning.proofs.Lists.{mem-getD, mem-at, getD-map-upto, every-mem, every-at, any-mem, or-left, or-right}
 use Rattle.meaning.proofs.Defined.{noGate, inputAt, gateAt}
 use Rattle.meaning.proofs.Values.{zero-value, input-value, complement-value}
@@ -24,14 +24,6 @@ pub data Leaf (n : ℕ) (f : ℕ → Bool) : Type 0 where
   constant : (v : Bool) → ((x : ℕ) → x < 2 ^ n → f x ≡ v) → Leaf n f
   equal : (j : ℕ) → j < n → ((x : ℕ) → x < 2 ^ n → f x ≡ freeBit n x j) → Leaf n f
   opposite : (j : ℕ) → j < n → ((x : ℕ) → x < 2 ^ n → f x ≡ not (freeBit n x j)) → Leaf n f
-
-not-not : (a : Bool) → not (not a) ≡ a
-not-not true = refl
-not-not false = refl
-
-beq-same : (a : Bool) → T (Bool·beq a a)
-beq-same true = tt
-beq-same false = tt
 
 beq-not : (a : Bool) → T (not (Bool·beq a (not a)))
 beq-not true = tt
@@ -48,7 +40,7 @@ module _ {n : ℕ} {f g : ℕ → Bool} where
   leaf-opposite : ((x : ℕ) → x < 2 ^ n → g x ≡ not (f x)) → Leaf n f → Leaf n g
   leaf-opposite e (constant v h) = constant (not v) (λ x l. e x l ∙ ap not (h x l))
   leaf-opposite e (equal j k h) = opposite j k (λ x l. e x l ∙ ap not (h x l))
-  leaf-opposite e (opposite j k h) = equal j k (λ x l. e x l ∙ ap not (h x l) ∙ not-not (freeBit n x j))
+  leaf-opposite e (opposite j k h) = equal j k (λ x l. e x l ∙ ap not (h x l) ∙ Bool·not-not (freeBit n x j))
 
 module _ {n : ℕ} {d : Circuit} (s : FoldShape n d) where
   -- ---- the literals that no gate defines
@@ -166,7 +158,7 @@ module _ {n : ℕ} {d : Circuit} (s : FoldShape n d) where
         | yes z ↦ (let q : 2 * v ≡ output d = omega arith in leaf-equal (λ x k. ap (valueOn d n x) q) f)
         | no z ↦
             (let q : 2 * v + 1 ≡ output d = omega arith in
-            leaf-opposite (λ x k. sym (not-not (valueOn d n x (2 * v))) ∙ ap not (sym (value-complement x v) ∙ ap (valueOn d n x) q)) f)
+            leaf-opposite (λ x k. sym (Bool·not-not (valueOn d n x (2 * v))) ∙ ap not (sym (value-complement x v) ∙ ap (valueOn d n x) q)) f)
       ]
 
   -- where every gate leads to the output and the circuit is reduced, an output that is a leaf has no gate

@@ -7,7 +7,6 @@ pub mod Decisions
 pub mod Outcomes
 pub mod Bits
 pub mod Sequences
-pub mod Prefixes
 pub mod Shape
 pub mod Leaves
 pub mod Embedding

@@ -13,6 +13,7 @@ use lib.ListN.{length, getD, set, replicate, length-map}
 use lib.Seq.{getD-set-same, getD-set-other}
 use Rattle.aiger.specs.Lists.{every, any, pairwise, member, same, lastBelow, from, upto}
 use Rattle.aiger.proofs.Tests.{and, and-left, and-right, or-cases}
+pub use Rattle.aiger.proofs.Tests.{equal-of-beq, same-eq, every-in, every-in as every-all, pairwise-in, pairwise-in as pairwise-all}
 
 -- a list's element at a position is in the list
 pub mem-getD : {A : Type 0} (xs : List A) (i : ℕ) (d : A) → i < length xs → List·Memᴰ (getD xs i d) xs
@@ -92,11 +93,20 @@ getD-set l i v j h = go (ℕ-discrete j i)
     go (yes e) = inl (e, rw e (getD-set-same l i v 0 h))
     go (no e) = inr (e, getD-set-other l i j v 0 e)
 
--- an array of zeros reads 0 at every position
+-- an array of one value reads that value at every position
+pub getD-same : {A : Type 0} (n : ℕ) (x : A) (i : ℕ) → getD (replicate n x) i x ≡ x
+getD-same zero x i = refl
+getD-same (suc n) x zero = refl
+getD-same (suc n) x (suc i) = getD-same n x i
+
 pub getD-zeros : (n i : ℕ) → getD {A = ℕ} (replicate n 0) i 0 ≡ 0
-getD-zeros zero i = refl
-getD-zeros (suc n) zero = refl
-getD-zeros (suc n) (suc i) = getD-zeros n i
+getD-zeros n i = getD-same n 0 i
+
+-- an element that is there, whatever the default
+pub getD-any : (l : List ℕ) (i d e : ℕ) → i < length l → getD l i d ≡ getD l i e
+getD-any [] i d e h = absurd (not-suc-le-zero h)
+getD-any (x ∷ l) zero d e h = refl
+getD-any (x ∷ l) (suc i) d e h = getD-any l i d e (le-of-suc-le-suc h)
 
 -- ---- tests
 
@@ -107,10 +117,6 @@ every-mem p (List·Memᴰ·tail {x = y} {xs = ys} m) t = every-mem p m (and-righ
 pub every-at : {A : Type 0} (p : A → Bool) (xs : List A) (i : ℕ) (d : A) → i < length xs → T (every p xs) → T (p (getD xs i d))
 every-at p xs i d h t = every-mem p (mem-getD xs i d h) t
 
-pub every-in : {A : Type 0} (p : A → Bool) (xs : List A) (d : A) → ((i : ℕ) → i < length xs → T (p (getD xs i d))) → T (every p xs)
-every-in p [] d h = tt
-every-in p (x ∷ xs) d h = and (p x) (every p xs) (h 0 (omega arith)) (every-in p xs d (λ i l. h (suc i) (omega arith)))
-
 pub or-left : (a b : Bool) → T a → T (a || b)
 or-left true b t = tt
 or-left false b t = absurd t
@@ -118,13 +124,6 @@ or-left false b t = absurd t
 pub or-right : (a b : Bool) → T b → T (a || b)
 or-right true b t = tt
 or-right false b t = t
-
--- truth values that the test says are equal
-pub equal-of-beq : (a b : Bool) → T (Bool·beq a b) → a ≡ b
-equal-of-beq true true t = refl
-equal-of-beq true false t = absurd t
-equal-of-beq false true t = absurd t
-equal-of-beq false false t = refl
 
 -- a test holds if it holds where it does not hold
 pub by-contradiction : (b : Bool) → ((T b → ⊥) → T b) → T b
@@ -149,13 +148,6 @@ pairwise-at p (x ∷ xs) zero (suc j) d h l t = every-at (p x) xs j d (le-of-suc
 pairwise-at p (x ∷ xs) (suc i) (suc j) d h l t =
     pairwise-at p xs i j d (le-of-suc-le-suc h) (le-of-suc-le-suc l) (and-right (every (p x) xs) (pairwise p xs) t)
 
-pub pairwise-in : {A : Type 0} (p : A → A → Bool) (xs : List A) (d : A)
-    → ((i j : ℕ) → i < j → j < length xs → T (p (getD xs i d) (getD xs j d))) → T (pairwise p xs)
-pairwise-in p [] d h = tt
-pairwise-in p (x ∷ xs) d h =
-    and (every (p x) xs) (pairwise p xs) (every-in (p x) xs d (λ j l. h 0 (suc j) (omega arith) (omega arith)))
-    (pairwise-in p xs d (λ i j a l. h (suc i) (suc j) (omega arith) (omega arith)))
-
 pub member-mem : (x : ℕ) (xs : List ℕ) → T (member x xs) → List·Memᴰ x xs
 member-mem x [] t = absurd t
 member-mem x (y ∷ ys) t =
@@ -165,17 +157,6 @@ member-mem x (y ∷ ys) t =
 
 pub eqb-of : {a b : ℕ} → a ≡ b → T (eqb a b)
 eqb-of {a} e = subst (λ (x : ℕ). T (eqb a x)) e (eqb-refl a)
-
-pub every-all : {A : Type 0} (p : A → Bool) (xs : List A) (d : A) → ((i : ℕ) → i < length xs → T (p (getD xs i d))) → T (every p xs)
-every-all p [] d h = tt
-every-all p (x ∷ xs) d h = and (p x) (every p xs) (h 0 (omega arith)) (every-all p xs d (λ i l. h (suc i) (omega arith)))
-
-pub pairwise-all : {A : Type 0} (p : A → A → Bool) (xs : List A) (d : A) → ((i j : ℕ) → i < j → j < length xs → T (p (getD xs i d) (getD xs j d)))
-    → T (pairwise p xs)
-pairwise-all p [] d h = tt
-pairwise-all p (x ∷ xs) d h =
-    and (every (p x) xs) (pairwise p xs) (every-all (p x) xs d (λ j l. h 0 (suc j) (omega arith) (omega arith)))
-    (pairwise-all p xs d (λ i j k l. h (suc i) (suc j) (omega arith) (omega arith)))
 
 pub any-at : {A : Type 0} (p : A → Bool) (xs : List A) (i : ℕ) (d : A) → i < length xs → T (p (getD xs i d)) → T (any p xs)
 any-at p [] i d h t = absurd (not-suc-le-zero h)
@@ -198,15 +179,15 @@ every-mapped p f [] t = tt
 every-mapped p f (x ∷ xs) t =
     and (p (f x)) (every p (map f xs)) (and-left (p (f x)) (every (λ y. p (f y)) xs) t) (every-mapped p f xs (and-right (p (f x)) (every (λ y. p (f y)) xs) t))
 
+-- two lists of tests, one mapped
+pub every-under : (p q : ℕ → Bool) (f : ℕ → ℕ) (xs : List ℕ) → ((i : ℕ) → i < length xs → p (f (getD xs i 0)) ≡ q (getD xs i 0))
+    → every p (map f xs) ≡ every q xs
+every-under p q f [] h = refl
+every-under p q f (x ∷ xs) h = ap₂ (λ (a b : Bool). a && b) (h 0 (omega arith)) (every-under p q f xs (λ i l. h (suc i) (omega arith)))
+
 same-refl : (xs : List ℕ) → T (same xs xs)
 same-refl [] = tt
 same-refl (x ∷ xs) = and (eqb x x) (same xs xs) (eqb-refl x) (same-refl xs)
-
-pub same-eq : (xs ys : List ℕ) → T (same xs ys) → xs ≡ ys
-same-eq [] [] t = refl
-same-eq [] (y ∷ ys) t = absurd t
-same-eq (x ∷ xs) [] t = absurd t
-same-eq (x ∷ xs) (y ∷ ys) t = ap₂ _∷_ (eqb→eq x y (and-left (eqb x y) (same xs ys) t)) (same-eq xs ys (and-right (eqb x y) (same xs ys) t))
 
 pub same-of : {xs ys : List ℕ} → xs ≡ ys → T (same xs ys)
 same-of {xs} e = subst (λ (l : List ℕ). T (same xs l)) e (same-refl xs)

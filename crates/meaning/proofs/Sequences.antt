@@ -22,7 +22,20 @@ use Rattle.meaning.proofs.Bits.{sequence-same, sequence-of}
 
 -- ---- the start
 
-length-starts : (free : ℕ → Bool) (k : ℕ) (ls : List Latch) → length (starts free k ls) ≡ length ls
+-- start values depend on the free bits of the start alone
+pub starts-same : (f g : ℕ → Bool) (k : ℕ) (ls : List Latch) → ((j : ℕ) → j < k + tally isFree ls → f j ≡ g j) → starts f k ls ≡ starts g k ls
+unfolding starts
+starts-same f g k [] h = refl
+starts-same f g k (l ∷ ls) h = go (isFree l) h (starts-same f g (k + 1) ls) (starts-same f g k ls)
+  where
+    go : (b : Bool) → ((j : ℕ) → j < k + (cond b 1 0 + tally isFree ls) → f j ≡ g j)
+        → (((j : ℕ) → j < k + 1 + tally isFree ls → f j ≡ g j) → starts f (k + 1) ls ≡ starts g (k + 1) ls)
+        → (((j : ℕ) → j < k + tally isFree ls → f j ≡ g j) → starts f k ls ≡ starts g k ls)
+        → cond b (f k ∷ starts f (k + 1) ls) (eqb (l .reset) 1 ∷ starts f k ls) ≡ cond b (g k ∷ starts g (k + 1) ls) (eqb (l .reset) 1 ∷ starts g k ls)
+    go true q p r = ap₂ _∷_ (q k (omega arith)) (p (λ j i. q j (omega arith)))
+    go false q p r = ap (λ (z : List Bool). eqb (l .reset) 1 ∷ z) (r (λ j i. q j (omega arith)))
+
+pub length-starts : (free : ℕ → Bool) (k : ℕ) (ls : List Latch) → length (starts free k ls) ≡ length ls
 unfolding starts
 length-starts free k [] = refl
 length-starts free k (l ∷ ls) = go (isFree l) (length-starts free (k + 1) ls) (length-starts free k ls)

@@ -16,7 +16,7 @@ use Rattle.aiger.specs.Circuit.{Circuit, Latch, Gate, var, defined, used, liter
 use Rattle.aiger.specs.Frames.{Run, valueAt, isFree, freeStarts, freeBits, freeBit, starts, run}
 use Rattle.aiger.specs.Fold.{valueOn, output, shaped}
 use Rattle.aiger.proofs.Tests.{and, and-left, and-right, T-true}
-use Rattle.meaning.proofs.Lists.{mem-getD, map-upto-eq, length-map-upto, getD-map-upto, every-at, eqb-of, every-all, pairwise-all, every-both, every-mapped, same-eq, same-of, mem-member}
+use Rattle.meaning.proofs.Lists.{mem-getD, map-upto-eq, length-map-upto, getD-map-upto, every-at, eqb-of, every-in, pairwise-in, every-both, every-mapped, same-eq, same-of, mem-member}
 use Rattle.meaning.proofs.Defined.{noLatch, noGate, gateAt}
 use Rattle.meaning.proofs.Cycles.{ranked}
 
@@ -76,7 +76,7 @@ module _ (n : ℕ) (d : Circuit) where
       (eqb-of (ap length (s .constraints))))
       (le→leb (output d) (2 * d .maxVar + 1) (s .output-bound)))
       (same-of (s .lits)))
-      (every-all earlier (d .gates) noGate
+      (every-in earlier (d .gates) noGate
       (λ i h.
       let g = gateAt d i in
       let o = s .operands i h in
@@ -117,7 +117,7 @@ module _ (n : ℕ) (d : Circuit) where
       empty : {A : Type 0} (z : A) (xs : List A) → T (eqb (length xs) 0) → xs ≡ []
       empty z xs t = let e = eqb→eq (length xs) 0 t in ext-getD z xs [] e (λ i h. absurd (omega arith))
 
-not-odd : (v : ℕ) → T (not (odd (2 * v)))
+pub not-odd : (v : ℕ) → T (not (odd (2 * v)))
 not-odd v = let e : 2 * v % 2 ≡ 0 = omega arith in subst (λ (x : ℕ). T (not (nonzero x))) (sym e) tt
 
 module _ {n : ℕ} {d : Circuit} (s : FoldShape n d) where
@@ -161,14 +161,14 @@ module _ {n : ℕ} {d : Circuit} (s : FoldShape n d) where
   -- a test that the literals 2, 4, .. pass is one that the definitions pass
   defined-all : (p : ℕ → Bool) → ((j : ℕ) → j < d .maxVar → T (p (2 * (j + 1)))) → T (every p (defined d))
   defined-all p h =
-      every-all p (defined d) 0
+      every-in p (defined d) 0
       (λ j l.
       let u : j < d .maxVar = omega (arith, defined-length) in
       subst (λ (x : ℕ). T (p x)) (sym (defined-at j u)) (h j u))
 
   defined-once : T (distinct (defined d))
   defined-once =
-      pairwise-all (λ x y. not (eqb x y)) (defined d) 0
+      pairwise-in (λ x y. not (eqb x y)) (defined d) 0
       (λ i j h l.
       let x = getD (defined d) i 0 in
       let y = getD (defined d) j 0 in
@@ -196,8 +196,8 @@ module _ {n : ℕ} {d : Circuit} (s : FoldShape n d) where
       rw used-are
       (every-both p ((output d ∷ []) ++ lefts) rights
       (and (p (output d)) (every p lefts) (h (output d) (s .output-bound))
-      (every-mapped p (λ g. g .left) (d .gates) (every-all (λ g. p (g .left)) (d .gates) noGate (λ i l. operands i l .0))))
-      (every-mapped p (λ g. g .right) (d .gates) (every-all (λ g. p (g .right)) (d .gates) noGate (λ i l. operands i l .1))))
+      (every-mapped p (λ g. g .left) (d .gates) (every-in (λ g. p (g .left)) (d .gates) noGate (λ i l. operands i l .0))))
+      (every-mapped p (λ g. g .right) (d .gates) (every-in (λ g. p (g .right)) (d .gates) noGate (λ i l. operands i l .1))))
 
   -- ---- the causes 6, 7 and 8
 

@@ -134,34 +134,48 @@ module _ (c : Circuit) where
 
   -- ---- the equations determine the values
 
+  -- those of a closed set of variables depend on the latches of that set alone
+  module _ (need : ℕ → Bool) where
+    -- what a needed gate reads is needed
+    abbrev pub Reads : Type 0
+    Reads = (i : ℕ) → i < length (c .gates) → T (need (var (gateAt c i .lit))) → T (need (var (gateAt c i .left))) × T (need (var (gateAt c i .right)))
+
+    module _ (right : T (literalsRight c)) (known : T (usedDefined c)) (a : T (acyclic c)) (reads : Reads) where
+      module _ {row st st′ : List Bool} {w u : ℕ → Bool} (p : Valuation c row st w) (q : Valuation c row st′ u)
+          (agree : (j : ℕ) → j < length (c .latches) → T (need (var (latchAt c j .lit))) → getD st j false ≡ getD st′ j false) where
+        by-gate : (v : ℕ) → T (need v) → Known c v → ((i : ℕ) → i < length (c .gates) → var (gateAt c i .lit) ≡ v → w v ≡ u v) → w v ≡ u v
+        by-gate v n (constant e) k = ap w e ∙ p .constant ∙ sym (q .constant) ∙ ap u (sym e)
+        by-gate v n (input i h e) k = ap w (sym e) ∙ p .input i h ∙ sym (q .input i h) ∙ ap u e
+        by-gate v n (latch j h e) k =
+            ap w (sym e) ∙ p .latch j h ∙ agree j h (subst (λ (x : ℕ). T (need x)) (sym e) n) ∙ sym (q .latch j h) ∙ ap u e
+        by-gate v n (gate i h e) k = k i h e
+
+        gate-at : (v i : ℕ) → i < length (c .gates) → var (gateAt c i .lit) ≡ v → gateOf (c .gates) v ≡ some (gateAt c i)
+        gate-at v i h e = ap (gateOf (c .gates)) (sym e) ∙ gateOf-at (c .gates) (apart-gates c right) i h
+
+        settled-only : (n v : ℕ) → T (settles (c .gates) n v) → T (need v) → Known c v → w v ≡ u v
+        unfolding settles
+        settled-only zero v t m k = by-gate v m k (λ i h e. absurd (operands-at (gateOf (c .gates) v) (λ _. false) (gateAt c i) (gate-at v i h e) t _ (inl refl)))
+        settled-only (suc n) v t m k =
+            by-gate v m k
+            (λ i h e.
+            let b = operands-at (gateOf (c .gates) v) (settles (c .gates) n) (gateAt c i) (gate-at v i h e) t in
+            let r = reads i h (subst (λ (x : ℕ). T (need x)) (sym e) m) in
+            ap w (sym e) ∙ p .gate i h
+            ∙ ap₂ (λ (x y : Bool). x && y)
+            (value-eq w u (gateAt c i .left) (settled-only n _ (b _ (inl refl)) (r .0) (left-known c known i)))
+            (value-eq w u (gateAt c i .right) (settled-only n _ (b _ (inr refl)) (r .1) (right-known c known i)))
+            ∙ sym (q .gate i h) ∙ ap u e)
+
+        -- values agree on every literal of the set
+        pub depends : (l : ℕ) → T (need (var l)) → Known c (var l) → value w l ≡ value u l
+        depends l n k = value-eq w u l (settled-only (length (c .gates)) (var l) (all-settle c a (var l)) n k)
+
   module _ (right : T (literalsRight c)) (known : T (usedDefined c)) (a : T (acyclic c)) where
-    module _ {row st : List Bool} {w u : ℕ → Bool} (p : Valuation c row st w) (q : Valuation c row st u) where
-      -- two valuations agree where they agree on gates
-      by-gate : (v : ℕ) → Known c v → ((i : ℕ) → i < length (c .gates) → var (gateAt c i .lit) ≡ v → w v ≡ u v) → w v ≡ u v
-      by-gate v (constant e) k = ap w e ∙ p .constant ∙ sym (q .constant) ∙ ap u (sym e)
-      by-gate v (input i h e) k = ap w (sym e) ∙ p .input i h ∙ sym (q .input i h) ∙ ap u e
-      by-gate v (latch j h e) k = ap w (sym e) ∙ p .latch j h ∙ sym (q .latch j h) ∙ ap u e
-      by-gate v (gate i h e) k = k i h e
-
-      gate-at : (v i : ℕ) → i < length (c .gates) → var (gateAt c i .lit) ≡ v → gateOf (c .gates) v ≡ some (gateAt c i)
-      gate-at v i h e = ap (gateOf (c .gates)) (sym e) ∙ gateOf-at (c .gates) (apart-gates c right) i h
-
-      settled-only : (n v : ℕ) → T (settles (c .gates) n v) → Known c v → w v ≡ u v
-      unfolding settles
-      settled-only zero v t k = by-gate v k (λ i h e. absurd (operands-at (gateOf (c .gates) v) (λ _. false) (gateAt c i) (gate-at v i h e) t _ (inl refl)))
-      settled-only (suc n) v t k =
-          by-gate v k
-          (λ i h e.
-          let b = operands-at (gateOf (c .gates) v) (settles (c .gates) n) (gateAt c i) (gate-at v i h e) t in
-          ap w (sym e) ∙ p .gate i h
-          ∙ ap₂ (λ (x y : Bool). x && y)
-          (value-eq w u (gateAt c i .left) (settled-only n _ (b _ (inl refl)) (left-known c known i)))
-          (value-eq w u (gateAt c i .right) (settled-only n _ (b _ (inr refl)) (right-known c known i)))
-          ∙ sym (q .gate i h) ∙ ap u e)
-
-      -- two valuations agree on every variable that is 0 or defined
-      pub only : (v : ℕ) → Known c v → w v ≡ u v
-      only v k = settled-only (length (c .gates)) v (all-settle c a v) k
+    -- two valuations agree on every variable that is 0 or defined
+    pub only : {row st : List Bool} {w u : ℕ → Bool} → Valuation c row st w → Valuation c row st u → (v : ℕ) → Known c v → w v ≡ u v
+    only p q v k =
+        settled-only (λ _. true) right known a (λ i h t. (tt, tt)) p q (λ j h t. refl) (length (c .gates)) v (all-settle c a v) tt k
 
     -- values that satisfy the equations are those of the frame
     pub valuation-frame : {row st : List Bool} {w : ℕ → Bool} → Valuation c row st w → (v : ℕ) → Known c v → w v ≡ frame c st row v
@@ -206,11 +220,6 @@ module _ (c : Circuit) where
       unfolding valueAt
       zero-value = values .constant
 
-      -- literal 1 is true
-      pub one-value : valueAt c r t 1 ≡ true
-      unfolding valueAt
-      one-value = ap not (values .constant)
-
       -- the i-th input has the i-th bit of the frame's row
       pub input-value : (i : ℕ) → i < length (c .inputs) → valueAt c r t (inputAt c i) ≡ getD (getD (r .rows) t []) i false
       input-value i h = even-value (inputAt c i) (input-in c i h) ∙ values .input i h
@@ -223,12 +232,6 @@ module _ (c : Circuit) where
       pub gate-value : (i : ℕ) → i < length (c .gates) → valueAt c r t (gateAt c i .lit) ≡ (valueAt c r t (gateAt c i .left) && valueAt c r t (gateAt c i .right))
       unfolding valueAt
       gate-value i h = even-value (gateAt c i .lit) (gate-in c i h) ∙ values .gate i h
-
-      -- the same of a gate in the list
-      pub gate-mem-value : (g : Gate) → List·Memᴰ g (c .gates) → valueAt c r t (g .lit) ≡ (valueAt c r t (g .left) && valueAt c r t (g .right))
-      gate-mem-value g m =
-          let p = mem-at noGate m in
-          subst (λ (x : Gate). valueAt c r t (x .lit) ≡ (valueAt c r t (x .left) && valueAt c r t (x .right))) (p .2) (gate-value (p .0) (p .1))
 
   -- in frame 0 the latches have the run's start values
   pub state-start : (r : Run) → state c r 0 ≡ r .start

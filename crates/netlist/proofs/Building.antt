@@ -47,10 +47,6 @@ module _ (work : List ℕ) (g : Graph) (root : ℕ) (k : Marked work g root) whe
   pub leaves-marks : Marks (pairsOf work g) (leavesSet work (g .free + 1)) g root
   leaves-marks v h = leaves-are .stay v 10 (omega arith) (λ p q. omega arith) ∙ k .marks v h
 
-  pub leaves-sized : Sized g (length (leavesSet work (g .free + 1)))
-  leaves-sized =
-      record { leaves = k .sized .leaves; nodes = k .sized .nodes; room = k .sized .room; held = omega (arith, k .sized .held, leaves-are .size) }
-
 -- ---- the words with the numbers of all nodes
 
 module _ (work mid : List ℕ) (g : Graph) (root kept : ℕ) (k : Marked work g root) (same : length mid ≡ length (leavesSet work (g .free + 1)))

@@ -8,14 +8,9 @@ use borrow.Author.Tests.{le-leb, lt-leb}
 use lib.ListN.{length}
 use lib.Seq.{getD-set-same}
 use Rattle.memory.specs.Record.{field, place, stored}
-use Rattle.reasons.proofs.Frame.{length-stored, stored-field}
+use Rattle.reasons.proofs.Frame.{length-stored, stored-field, stored-at}
 use Rattle.records.specs.Steps.{edgeTo, linkedTo, linked, allLinked}
 use Rattle.records.proofs.Words.{down-keeps}
-
--- the word that was stored
-stored-here : (w : List ℕ) (nodes v f x : ℕ) → 14 * nodes ≤ length w → f < 14 → v < nodes → field (stored w nodes v f x) nodes v f ≡ x
-unfolding stored field
-stored-here w nodes v f x long small l = rw (lt-leb nodes v l) (getD-set-same w (place v f) x 0 (omega arith))
 
 -- a node that is not in the netlist
 pub field-none : (w : List ℕ) (nodes v f : ℕ) → nodes ≤ v → field w nodes v f ≡ 0
@@ -46,7 +41,7 @@ module _ (w : List ℕ) (nodes : ℕ) (long : 14 * nodes ≤ length w) where
               | yes e ↦
                   elim (decLt x nodes) [
                     | yes i ↦
-                        let q : field (stored y nodes x 2 word) nodes x 2 ≡ word = stored-here y nodes x 2 word (omega (arith, size, l .size)) (omega arith) i in
+                        let q : field (stored y nodes x 2 word) nodes x 2 ≡ word = stored-at y nodes x 2 word (omega (arith, size, l .size)) (omega arith) i in
                         let r : word % 16 ≡ fact % 16 = omega arith in
                         subst (λ (z : ℕ). field (stored y nodes x 2 word) nodes z 2 % 16 ≡ field w nodes z 2 % 16) (sym e)
                         (ap (λ (z : ℕ). z % 16) q ∙ r ∙ l .known x)

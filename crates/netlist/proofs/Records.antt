@@ -30,6 +30,7 @@ use Rattle.clauses.specs.Floor.{Free}
 use Rattle.floor.specs.Place.{bitOf}
 use Rattle.netlist.specs.Netlist.{netNodes, leafWord, gateWord, recordWord, plainWord, plain, netWords}
 use Rattle.netlist.proofs.Links.{field-none, Linked, all-linked}
+use Rattle.clauses.proofs.Resolution.{value-node}
 
 module _ (n : ℕ) (gs : List Pair) (root words : ℕ) (room : 14 * netNodes n gs root ≤ words) where
   abbrev N : ℕ
@@ -192,12 +193,6 @@ module _ (n : ℕ) (gs : List Pair) (root words : ℕ) (room : 14 * netNodes n g
     and-same true = refl
     and-same false = refl
 
-    even-value : (a : ℕ → Bool) (v : ℕ) → value a (2 * v) ≡ a v
-    even-value a v =
-        let e : 2 * v % 2 ≡ 0 = omega arith in
-        let d : 2 * v / 2 ≡ v = omega arith in
-        ap₂ (λ (s k : ℕ). cond (nonzero s) (not (a k)) (a k)) e d
-
     gate-there : (x p : ℕ) → n + 1 + p < netNodes n gs root
         → GateOf (val x) (n + 1 + p) (field (netWords n gs root words) (netNodes n gs root) (n + 1 + p) 0) (field (netWords n gs root words) (netNodes n gs root) (n + 1 + p) 1)
     gate-there x p l =
@@ -217,7 +212,7 @@ module _ (n : ℕ) (gs : List Pair) (root words : ℕ) (room : 14 * netNodes n g
               (gate-there x (v - (n + 1)) (omega arith))
           | no l ↦
               and-same (val x v)
-              ∙ ap₂ (λ (b c : Bool). b && c) (sym (even-value (val x) v)) (sym (even-value (val x) v))
+              ∙ ap₂ (λ (b c : Bool). b && c) (sym (value-node (val x) v)) (sym (value-node (val x) v))
               ∙ ap₂ (λ (d e : ℕ). value (val x) d && value (val x) e) (sym (leaf-operand v 0 (omega arith) (omega arith))) (sym (leaf-operand v 1 (omega arith) (omega arith)))
         ]
 

@@ -14,6 +14,7 @@ use Rattle.aiger.proofs.Tests.{and-left, and-right, every-right, every-imp, all
 use Rattle.meaning.proofs.Lists.{mem-getD, mem-at, every-at, mem-member}
 use Rattle.meaning.proofs.Defined.{noGate, gateAt, gate-in}
 use Rattle.meaning.proofs.Cycles.{ranked}
+pub use Rattle.roundtrip.proofs.LoadValid.{implied-length}
 
 -- the second operand is not above the first, and the first is below the gate
 abbrev pub descends : Gate → Bool
@@ -25,11 +26,6 @@ pub record InOrder (d : Circuit) : Type 0 where
   pub gates : T (every descends (d .gates))
 
 -- ---- implied literals by position
-
-pub implied-length : (v n : ℕ) → length (implied v n) ≡ n
-unfolding implied
-implied-length v zero = refl
-implied-length v (suc n) = ap suc (implied-length (suc v) n)
 
 pub implied-at : (v n j : ℕ) → j < n → getD (implied v n) j 0 ≡ 2 * (v + j)
 unfolding implied

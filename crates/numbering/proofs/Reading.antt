@@ -16,10 +16,7 @@ use Rattle.aiger.specs.Load.{Answer, refused, gives, test, read, binaryBody, se
 use Rattle.aiger.proofs.Tests.{and, and-left, and-right, T-true, true-T}
 use Rattle.roundtrip.proofs.LoadValid.{some-bind, some-same, rows-length, BinaryParts, binary-parts}
 use Rattle.numbering.proofs.InOrder.{descends, InOrder, implied-append, order-defined, order-acyclic}
-
-when-true : (b : Bool) (u : Unit {0}) → when b ≡ some u → b ≡ true
-when-true true u h = refl
-when-true false u h = let z : _≡_ {A = ℕ} 0 1 = cc in absurd (omega arith)
+use Rattle.roundtrip.proofs.WitnessRead.{when-true}
 
 -- a gate by its differences
 gate-by : (l : ℕ) (f : List ℕ) (r : Gate × List ℕ) → gateBy l f ≡ some r → (r .0 .lit ≡ l) × T (descends (r .0))
@@ -98,7 +95,7 @@ judged-order d o n l k e = go (literalsRight d) refl e
         let z : _≡_ {A = ℕ} 0 1 = cc in
         omega arith
 
-refused-read : {A B : Type 0} (m n : ℕ) (o : Option A) (k : A → Answer B) → (m ≡ n → ⊥) → (read m o >>= k) ≡ refused n → (x : A) × (k x ≡ refused n)
+pub refused-read : {A B : Type 0} (m n : ℕ) (o : Option A) (k : A → Answer B) → (m ≡ n → ⊥) → (read m o >>= k) ≡ refused n → (x : A) × (k x ≡ refused n)
 refused-read m n none k h e = let z : m ≡ n = cc in absurd (h z)
 refused-read m n (some x) k h e = (x, e)
 

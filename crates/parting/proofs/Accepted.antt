@@ -12,11 +12,12 @@ use lib.ListN.{length, getD, length-map, length-append}
 use Rattle.aiger.specs.Lists.{every, upto, member, distinct, pairwise}
 use Rattle.aiger.specs.Bits.{nonzero, odd}
 use Rattle.aiger.specs.Circuit.{Circuit, Latch, Gate, var, defined, used, literalTests, literalsRight, usedDefined}
-use Rattle.aiger.proofs.Tests.{and, and-left, and-right, not-T, every-imp, all-at, or-cases}
+use Rattle.aiger.proofs.Tests.{and, and-left, and-right, not-T, every-imp, all-at, or-cases, every-true}
 use Rattle.meaning.proofs.Lists.{getD-map-upto, length-map-upto, every-in, every-both, every-mapped, pairwise-in, member-in, getD-map, or-left, or-right, eqb-of}
 use Rattle.joined.specs.Joined.{placeFrom, numberOf, literalUnder, latchUnder, gateUnder, complement, pairGates, pairsGates, firstNumber, secondNumber, pairsFrom, joined}
 use Rattle.parting.proofs.Numbers.{number-zero}
 use Rattle.parting.proofs.Shape.{evens, evens-at, evens-length, joined-defined}
+use Rattle.meaning.proofs.Shape.{not-odd}
 
 -- ---- numbers are at most M
 
@@ -35,10 +36,6 @@ number-most c p q b v h k l =
     place-most (c .inputs) 1 v _ b (omega arith)
     (place-most (map (λ l. l .lit) (c .latches)) p v _ b (simp length-map (omega arith))
     (place-most (map (λ g. g .lit) (c .gates)) q v 0 b (simp length-map (omega arith)) (omega arith)))
-
-every-true : {A : Type 0} (p : A → Bool) (xs : List A) → ((x : A) → T (p x)) → T (every p xs)
-every-true p [] h = tt
-every-true p (x ∷ xs) h = and (p x) (every p xs) (h x) (every-true p xs h)
 
 -- the variable of literal l is at most M
 abbrev small : ℕ → ℕ → Bool
@@ -66,8 +63,18 @@ pairs-small M v (p ∷ ps) (q ∷ qs) h s t =
       and (small M (complement q)) _ (complement-small M q sq) (and (small M q) _ sq (and (small M (2 * (v + 1) + 1)) _ second (r .1))),
     )
 
-even-not : (v : ℕ) → T (not (odd (2 * v)))
-even-not v = let e : 2 * v % 2 ≡ 0 = omega arith in subst (λ (x : ℕ). T (not (nonzero x))) (sym e) tt
+-- a reset stays right under new numbers
+pub reset-right : (f : ℕ → ℕ) → f 0 ≡ 0 → (l : Latch) → T (leb (l .reset) 1 || eqb (l .reset) (l .lit))
+    → T (leb (latchUnder f l .reset) 1 || eqb (latchUnder f l .reset) (latchUnder f l .lit))
+reset-right f z l t =
+    ⊎-elim
+    (λ h.
+    let k = leb→le (l .reset) 1 h in
+    let v : var (l .reset) ≡ 0 = omega arith in
+    let w : f (var (l .reset)) ≡ 0 = ap f v ∙ z in
+    or-left (leb (literalUnder f (l .reset)) 1) _ (le→leb (literalUnder f (l .reset)) 1 (omega arith)))
+    (λ h. or-right (leb (literalUnder f (l .reset)) 1) _ (eqb-of (ap (literalUnder f) (eqb→eq (l .reset) (l .lit) h))))
+    (or-cases (leb (l .reset) 1) (eqb (l .reset) (l .lit)) t)
 
 module _ (c d : Circuit) (inputs : length (c .inputs) ≡ length (d .inputs)) (outputs : length (c .outputs) ≡ length (d .outputs)) where
   abbrev M : ℕ
@@ -178,19 +185,6 @@ module _ (c d : Circuit) (inputs : length (c .inputs) ≡ length (d .inputs)) (o
         place zero h = refl
         place (suc v) h = getD-map var (evens 1 M) v 0 0 (omega (arith, evens-length 1 M)) ∙ ap var (evens-at 1 M v (omega arith)) ∙ omega arith
 
-    -- a reset stays right under new numbers
-    reset-right : (f : ℕ → ℕ) → f 0 ≡ 0 → (l : Latch) → T (leb (l .reset) 1 || eqb (l .reset) (l .lit))
-        → T (leb (latchUnder f l .reset) 1 || eqb (latchUnder f l .reset) (latchUnder f l .lit))
-    reset-right f z l t =
-        ⊎-elim
-        (λ h.
-        let k = leb→le (l .reset) 1 h in
-        let v : var (l .reset) ≡ 0 = omega arith in
-        let w : f (var (l .reset)) ≡ 0 = ap f v ∙ z in
-        or-left (leb (literalUnder f (l .reset)) 1) _ (le→leb (literalUnder f (l .reset)) 1 (omega arith)))
-        (λ h. or-right (leb (literalUnder f (l .reset)) 1) _ (eqb-of (ap (literalUnder f) (eqb→eq (l .reset) (l .lit) h))))
-        (or-cases (leb (l .reset) 1) (eqb (l .reset) (l .lit)) t)
-
     resets-right : (e : Circuit) → T (literalsRight e) → (f : ℕ → ℕ) → f 0 ≡ 0
         → T (every (λ l. leb (l .reset) 1 || eqb (l .reset) (l .lit)) (map (latchUnder f) (e .latches)))
     unfolding literalsRight
@@ -231,7 +225,7 @@ module _ (c d : Circuit) (inputs : length (c .inputs) ≡ length (d .inputs)) (o
         (every-imp (small M) (λ l. leb l (2 * J .maxVar + 1)) (λ l t. le→leb l (2 * J .maxVar + 1) (omega (arith, max-is, leb→le (var l) M t))) (used J) used-small) in
         let even : T t1 =
         every-defined (λ l. leb 2 l && not (odd l))
-        (λ v h k. and (leb 2 (2 * v)) (not (odd (2 * v))) (le→leb 2 (2 * v) (omega arith)) (even-not v)) in
+        (λ v h k. and (leb 2 (2 * v)) (not (odd (2 * v))) (le→leb 2 (2 * v) (omega arith)) (not-odd v)) in
         and t0 (t1 && (t2 && (t3 && true))) low (and t1 (t2 && (t3 && true)) even (and t2 (t3 && true) apart (and t3 true latches-right tt)))
 
     -- number 7 is no cause

@@ -46,7 +46,7 @@ pairs-all P v (p ∷ ps) (q ∷ qs) h =
     let e : v + 3 * suc j ≡ v + 3 + 3 * j = omega arith in
     subst (λ (x : ℕ). P (getD (pairGates x (getD ps j 0) (getD qs j 0)) i noGate)) e (h (suc j) (omega arith) i m)))
 
-under-var : (σ : ℕ → ℕ) (l : ℕ) → var (literalUnder σ l) ≡ σ (var l)
+pub under-var : (σ : ℕ → ℕ) (l : ℕ) → var (literalUnder σ l) ≡ σ (var l)
 under-var σ l = omega arith
 
 complement-var : (l : ℕ) → var (complement l) ≡ var l

@@ -1,7 +1,7 @@
 -- A run of a joined circuit is a run of both circuits on the same inputs; a bad line is true where the outputs of its pair differ.
 -- Assumes nothing.
 use mathlib.Core.Path.{_≡_, refl, sym, ap, ap₂, _∙_, subst}
-use mathlib.Core.Bool.{Bool, true, false, not, cond, _&&_, Bool·beq}
+use mathlib.Core.Bool.{Bool, true, false, not, cond, _&&_, Bool·beq, Bool·not-not}
 use mathlib.Core.List.{List, [], _∷_, _++_, map}
 use mathlib.Core.Logic.{inl, inr}
 use Prim.Native.Nat.{ℕ, zero, suc, _+_, _*_, _/_, _%_, _-_, _≤_, _<_}
@@ -21,7 +21,7 @@ use Rattle.joined.specs.Joined.{numberOf, literalUnder, latchUnder, gateUnder, 
 use Rattle.parting.proofs.Numbers.{number-input, number-latch, number-gate, number-zero}
 use Rattle.parting.proofs.Shape.{pairs-length}
 use Rattle.parting.proofs.Accepted.{joined-right, joined-known}
-use Rattle.parting.proofs.Acyclic.{joined-acyclic}
+use Rattle.parting.proofs.Acyclic.{under-var, joined-acyclic}
 
 -- gate i of pair j
 pub pairs-at : (v : ℕ) (ps qs : List ℕ) (j i : ℕ) → length ps ≡ length qs → j < length ps → i < 3
@@ -48,10 +48,6 @@ differ true false = refl
 differ false true = refl
 differ false false = refl
 
-not-not : (b : Bool) → b ≡ not (not b)
-not-not true = refl
-not-not false = refl
-
 -- the complement of a literal has the other value
 pub complement-not : (c : Circuit) (r : Run) (t l : ℕ) → valueAt c r t (complement l) ≡ not (valueAt c r t l)
 complement-not c r t l = go (l % 2) refl (mod-lt l (omega arith))
@@ -64,7 +60,7 @@ complement-not c r t l = go (l % 2) refl (mod-lt l (omega arith))
     go (suc zero) e h =
         let x : complement l ≡ 2 * var l = omega arith in
         let y : l ≡ 2 * var l + 1 = omega arith in
-        ap (valueAt c r t) x ∙ not-not (valueAt c r t (2 * var l)) ∙ ap not (sym (complement-value c r t (var l))) ∙ ap (λ (k : ℕ). not (valueAt c r t k)) (sym y)
+        ap (valueAt c r t) x ∙ sym (Bool·not-not (valueAt c r t (2 * var l))) ∙ ap not (sym (complement-value c r t (var l))) ∙ ap (λ (k : ℕ). not (valueAt c r t k)) (sym y)
     go (suc (suc m)) e h = absurd (omega arith)
 
 -- the runs of the two circuits that a run of the joined one is, on the same inputs: the first circuit's latches come first
@@ -176,9 +172,6 @@ module _ (c d : Circuit) (right : T (literalsRight c)) (known : T (usedDefined c
       ∙ pairs-at (pairsFrom c d) ps qs j i same (omega arith) k
       ∙ ap₂ (λ (p q : ℕ). getD (pairGates (pairsFrom c d + 3 * j) p q) i noGate) (getD-map (literalUnder σ) (c .outputs) j 0 0 h)
       (getD-map (literalUnder τ) (d .outputs) j 0 0 (omega arith))
-
-  under-var : (f : ℕ → ℕ) (l : ℕ) → var (literalUnder f l) ≡ f (var l)
-  under-var f l = omega arith
 
   bad-at : (j : ℕ) → j < length (c .outputs) → getD (J .bads) j 0 ≡ 2 * (pairsFrom c d + 3 * j + 2) + 1
   unfolding joined

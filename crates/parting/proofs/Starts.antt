@@ -1,5 +1,5 @@
 -- Start values that agree with the resets: of renumbered latches, of two lists of latches, and where no start is free. Assumes nothing.
-use mathlib.Core.Path.{_≡_, refl, sym, ap, ap₂, _∙_}
+use mathlib.Core.Path.{_≡_, refl, sym, ap, ap₂, _∙_, subst}
 use mathlib.Core.Bool.{Bool, true, false, cond, _&&_, _||_, and-assoc}
 use mathlib.Core.List.{List, [], _∷_, _++_, map}
 use mathlib.Core.Logic.{⊎-elim}
@@ -22,10 +22,10 @@ pub record Numbered (σ : ℕ → ℕ) (l : Latch) : Type 0 where
   pub number : 1 ≤ σ (var (l .lit))
   pub reset : T (leb (l .reset) 1 || eqb (l .reset) (l .lit))
 
--- a bit is a start of the renumbered latch where it is one of the latch
-start-under : (σ : ℕ → ℕ) → σ 0 ≡ 0 → (l : Latch) → Numbered σ l → (b : Bool)
-    → (isFree (latchUnder σ l) || eqb (latchUnder σ l .reset) (cond b 1 0)) ≡ (isFree l || eqb (l .reset) (cond b 1 0))
-start-under σ z l n b =
+-- a latch under other numbers has a free start where the latch has one, and else the same reset
+pub start-under : (σ : ℕ → ℕ) → σ 0 ≡ 0 → (l : Latch) → Numbered σ l
+    → (isFree (latchUnder σ l) ≡ isFree l) × (isFree l ≡ false → latchUnder σ l .reset ≡ l .reset)
+start-under σ z l n =
     ⊎-elim
     (λ h.
     let k = leb→le (l .reset) 1 h in
@@ -34,13 +34,22 @@ start-under σ z l n b =
     let e : literalUnder σ (l .reset) ≡ l .reset = omega arith in
     let new : literalUnder σ (l .reset) ≡ literalUnder σ (l .lit) → ⊥ = λ q. omega (arith, n .number) in
     let old : l .reset ≡ l .lit → ⊥ = λ q. omega (arith, n .own) in
-    ap₂ (λ (x y : Bool). x || y) (ne-eqb (literalUnder σ (l .reset)) (literalUnder σ (l .lit)) new ∙ sym (ne-eqb (l .reset) (l .lit) old))
-    (ap (λ (x : ℕ). eqb x (cond b 1 0)) e))
+    (ne-eqb (literalUnder σ (l .reset)) (literalUnder σ (l .lit)) new ∙ sym (ne-eqb (l .reset) (l .lit) old), λ _. e))
     (λ h.
     let q = eqb→eq (l .reset) (l .lit) h in
-    ap (λ (x : Bool). x || eqb (literalUnder σ (l .reset)) (cond b 1 0)) (eq-eqb (literalUnder σ (l .reset)) (literalUnder σ (l .lit)) (ap (literalUnder σ) q))
-    ∙ sym (ap (λ (x : Bool). x || eqb (l .reset) (cond b 1 0)) (eq-eqb (l .reset) (l .lit) q)))
+    (eq-eqb (literalUnder σ (l .reset)) (literalUnder σ (l .lit)) (ap (literalUnder σ) q) ∙ sym (eq-eqb (l .reset) (l .lit) q), λ f. absurd (subst T f h)))
     (or-cases (leb (l .reset) 1) (eqb (l .reset) (l .lit)) (n .reset))
+
+-- a bit is a start of the renumbered latch where it is one of the latch
+bit-under : (σ : ℕ → ℕ) → σ 0 ≡ 0 → (l : Latch) → Numbered σ l → (b : Bool)
+    → (isFree (latchUnder σ l) || eqb (latchUnder σ l .reset) (cond b 1 0)) ≡ (isFree l || eqb (l .reset) (cond b 1 0))
+bit-under σ z l n b = go (isFree l) refl
+  where
+    go : (f : Bool) → isFree l ≡ f → (isFree (latchUnder σ l) || eqb (latchUnder σ l .reset) (cond b 1 0)) ≡ (isFree l || eqb (l .reset) (cond b 1 0))
+    go true e =
+        ap (λ (x : Bool). x || eqb (latchUnder σ l .reset) (cond b 1 0)) (start-under σ z l n .0 ∙ e)
+        ∙ sym (ap (λ (x : Bool). x || eqb (l .reset) (cond b 1 0)) e)
+    go false e = ap₂ (λ (x : Bool) (r : ℕ). x || eqb r (cond b 1 0)) (start-under σ z l n .0) (start-under σ z l n .1 e)
 
 -- starts of renumbered latches are starts of the latches
 pub agrees-under : (σ : ℕ → ℕ) → σ 0 ≡ 0 → (ls : List Latch) → ((j : ℕ) → j < length ls → Numbered σ (getD ls j noLatch)) → (bs : List Bool)
@@ -49,7 +58,7 @@ unfolding agrees
 agrees-under σ z [] g bs = refl
 agrees-under σ z (l ∷ ls) g [] = refl
 agrees-under σ z (l ∷ ls) g (b ∷ bs) =
-    ap₂ (λ (x y : Bool). x && y) (start-under σ z l (g 0 (omega arith)) b) (agrees-under σ z ls (λ j h. g (suc j) (omega arith)) bs)
+    ap₂ (λ (x y : Bool). x && y) (bit-under σ z l (g 0 (omega arith)) b) (agrees-under σ z ls (λ j h. g (suc j) (omega arith)) bs)
 
 -- starts of two lists of latches
 pub agrees-both : (xs ys : List Latch) (bs : List Bool) → agrees (xs ++ ys) bs ≡ (agrees xs (take (length xs) bs) && agrees ys (drop (length xs) bs))

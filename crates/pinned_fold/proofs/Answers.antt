@@ -18,11 +18,7 @@ use Rattle.users.specs.Users.{ForUser, PinnedFolded, PinnedFoldEffect}
 use Rattle.users.proofs.Tests.{acts-only, fold-pinned}
 use Rattle.fold.specs.Chosen.{chosen}
 use Rattle.pinned_fold.specs.Steps.{FoldFits, FoldIs}
-
-getD-same : (n x i : ℕ) → getD (replicate n x) i x ≡ x
-getD-same zero x i = refl
-getD-same (suc n) x zero = refl
-getD-same (suc n) x (suc i) = getD-same n x i
+use Rattle.meaning.proofs.Lists.{getD-same}
 
 module _ {m : List ℕ} {p : Layout} {user b t room len : ℕ} (f : FoldFits m p user b t room len) where
   pub fits-pins : (n w : ℕ) → 4097 ≤ n → 33032 ≤ w → PinFits m p user (replicate n 2) (replicate w 0)

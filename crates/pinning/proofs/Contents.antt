@@ -116,10 +116,6 @@ module _ (m : List ℕ) where
   unfolding circuitIn
   inputs-in = refl
 
-  heads-in : circuitIn m .maxVar ∷ countRow (circuitIn m) ≡ heads m (word m 1)
-  unfolding circuitIn
-  heads-in = simp upto-length
-
   pub tail-in : column m (latchesAt m) 1 (contentEnd m - latchesAt m) ≡ tailOf (circuitIn m)
   tail-in =
       let c = circuitIn m in

@@ -9,22 +9,16 @@ use native.Mathlib.Numerals.{add-one}
 use native.Mathlib.Omega.{arith}
 use borrow.Author.Tests.{eq-eqb, ne-eqb, lt-ltb, le-ltb}
 use lib.Dec.{eqb}
-use lib.ListN.{length, getD, set, take, drop}
+use lib.ListN.{length, getD, set, take, drop, List·getD-eq-default}
 use lib.Seq.{getD-set-same, getD-set-other, getD-drop, getD-take}
 use Rattle.layout.specs.Words.{word, column}
 use Rattle.roundtrip.proofs.Content.{wordsAt, column-words}
 use Rattle.pins.specs.Pins.{isHeld, pinsOf, pinOf, constantOf}
+pub use Rattle.meaning.proofs.Lists.{getD-any}
 
--- what stands in a list, and what past its end
-pub getD-any : (l : List ℕ) (i d e : ℕ) → i < length l → getD l i d ≡ getD l i e
-getD-any [] i d e h = absurd (not-suc-le-zero h)
-getD-any (x ∷ xs) zero d e h = refl
-getD-any (x ∷ xs) (suc i) d e h = getD-any xs i d e (le-of-suc-le-suc h)
-
+-- what stands past the end of a list
 pub getD-past : (l : List ℕ) (i d : ℕ) → length l ≤ i → getD l i d ≡ d
-getD-past [] i d h = refl
-getD-past (x ∷ xs) zero d h = absurd (not-suc-le-zero h)
-getD-past (x ∷ xs) (suc i) d h = getD-past xs i d (le-of-suc-le-suc h)
+getD-past l i d h = List·getD-eq-default l d {n = i} h
 
 -- a pin by its place
 pub pin-is : (pins : List ℕ) (user i : ℕ) → i < 256 → pinsOf pins user i ≡ getD pins (256 * user + i) 2

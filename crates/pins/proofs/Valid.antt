@@ -15,7 +15,7 @@ use Rattle.aiger.specs.Circuit.{Circuit, Latch, Gate, var, defined, used, liter
 use Rattle.aiger.specs.File.{countsFit, headerOf}
 use Rattle.aiger.specs.Load.{needed}
 use Rattle.aiger.proofs.Tests.{and, and-left, and-right, T-true, true-T, every-left, every-right, every-imp, all-at, all-hold}
-use Rattle.meaning.proofs.Lists.{every-mapped, every-both, every-all, member-mem, mem-member}
+use Rattle.meaning.proofs.Lists.{every-mapped, every-both, every-in, member-mem, mem-member}
 use Rattle.meaning.proofs.Defined.{noGate, gateAt, definition, gate-in, gateOf-none}
 use Rattle.meaning.proofs.Cycles.{all-settle}
 use Rattle.roundtrip.proofs.LoadWrite.{Valid, Counts, counts-fit}
@@ -188,7 +188,7 @@ module _ (c : Circuit) (q : ℕ → ℕ) where
     unfolding acyclic pinned
     pinned-acyclic a =
         let gs = map (tiedGate q (c .inputs)) (c .gates) in
-        every-all (λ g. settles gs (length gs) (var (g .lit))) gs noGate
+        every-in (λ g. settles gs (length gs) (var (g .lit))) gs noGate
         (λ i l. subst (λ (n : ℕ). T (settles gs n (var (getD gs i noGate .lit)))) (sym (length-map (c .gates) (tiedGate q (c .inputs))))
         (settles-tied (length (c .gates)) (var (getD gs i noGate .lit)) (all-settle c a (var (getD gs i noGate .lit)))))
 

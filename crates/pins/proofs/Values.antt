@@ -10,18 +10,13 @@ use Rattle.aiger.specs.Lists.{every}
 use Rattle.aiger.specs.Circuit.{Circuit, var, literalsRight, usedDefined, acyclic}
 use Rattle.aiger.specs.Frames.{Run, value, state, valueAt, constrained, allowed, hits}
 use Rattle.meaning.proofs.Allowed.{allowed-same}
-use Rattle.meaning.proofs.Lists.{getD-map}
+use Rattle.meaning.proofs.Lists.{getD-map, every-under}
 use Rattle.meaning.proofs.Defined.{Known, noLatch, noGate, inputAt, latchAt, gateAt, bad-known, constraint-known}
 use Rattle.meaning.proofs.Values.{frameAt}
 use Rattle.meaning.proofs.Runs.{Satisfies, run-determined, run-satisfies}
 use Rattle.pins.specs.Pins.{fill, kept, tied, tiedLatch, tiedGate, pinned}
 use Rattle.pins.proofs.Inputs.{Agrees, filled-agrees, filled-given, given-at, tied-value}
 use Rattle.pins.proofs.Valid.{pinned-right, pinned-known, pinned-acyclic, pinned-counts}
-
--- two lists of tests, one mapped
-every-same : (p q : ℕ → Bool) (f : ℕ → ℕ) (xs : List ℕ) → ((i : ℕ) → i < length xs → p (f (getD xs i 0)) ≡ q (getD xs i 0)) → every p (map f xs) ≡ every q xs
-every-same p q f [] h = refl
-every-same p q f (x ∷ xs) h = ap₂ (λ (a b : Bool). a && b) (h 0 (omega arith)) (every-same p q f xs (λ i l. h (suc i) (omega arith)))
 
 -- row is the row of the free inputs in full: r has the pins' values where it has none, up to frame t
 pub record Fills (c : Circuit) (q : ℕ → ℕ) (t : ℕ) (r s : Run) : Type 0 where
@@ -95,7 +90,7 @@ module _ (c : Circuit) (q : ℕ → ℕ) (right : T (literalsRight c)) (known : 
   -- the constraints of a frame
   pub pinned-constraints : (u : ℕ) → u ≤ t → every (valueAt (pinned c q) r u) (pinned c q .constraints) ≡ every (valueAt c s u) (c .constraints)
   unfolding pinned
-  pinned-constraints u h = every-same (valueAt (pinned c q) r u) (valueAt c s u) (tied q (c .inputs)) (c .constraints) (constraint-value u h)
+  pinned-constraints u h = every-under (valueAt (pinned c q) r u) (valueAt c s u) (tied q (c .inputs)) (c .constraints) (constraint-value u h)
 
   pub pinned-allowed : allowed (pinned c q) r t ≡ allowed c s t
   unfolding constrained

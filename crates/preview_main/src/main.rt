@@ -1,5 +1,6 @@
 // The program preview: what a load of a file would answer, and the words of circuit memory that it needs.
 use files::say;
+use files::say_front;
 
 fn say_help() {
     say(b"preview FILE\n\n");
@@ -35,10 +36,8 @@ fn preview_file() {
     }
     let n = got.count;
     let report = preview_command::preview(&file[..n], &m, &mut out, &mut line);
-    let said = report.line;
-    let written = report.out;
-    say(&line[..said]);
-    say(&out[..written]);
+    say_front(&line, report.line);
+    say_front(&out, report.out);
 }
 
 fn main() {

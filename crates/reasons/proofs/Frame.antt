@@ -5,7 +5,7 @@ use mathlib.Core.Bool.{Bool, true, false, cond}
 use mathlib.Core.List.{List}
 use Prim.Native.Nat.{ℕ, _+_, _-_, _*_, _/_, _%_, _≤_, _<_}
 use native.Mathlib.Omega.{arith}
-use borrow.Author.Tests.{leb-true, leb-false}
+use borrow.Author.Tests.{le-leb, lt-leb, leb-true, leb-false}
 use lib.Dec.{leb}
 use lib.ListN.{length, getD, set, length-set}
 use lib.Seq.{getD-set-same, getD-set-other}
@@ -31,6 +31,16 @@ length-stored w nodes v f x = go (leb nodes v)
     go : (b : Bool) → length (cond b w (set w (place v f) x)) ≡ length w
     go true = refl
     go false = length-set w (place v f) x
+
+-- the word that was stored
+pub stored-at : (w : List ℕ) (nodes v f x : ℕ) → 14 * nodes ≤ length w → f < 14 → v < nodes → field (stored w nodes v f x) nodes v f ≡ x
+unfolding stored field
+stored-at w nodes v f x long small l = rw (lt-leb nodes v l) (getD-set-same w (place v f) x 0 (omega arith))
+
+-- there is no such node
+pub stored-none : (w : List ℕ) (nodes v f x : ℕ) → nodes ≤ v → stored w nodes v f x ≡ w
+unfolding stored
+stored-none w nodes v f x l = rw (le-leb nodes v l)
 
 -- a word that is in no record
 pub stored-after : (w : List ℕ) (nodes v f x i : ℕ) → f < 14 → 14 * nodes ≤ i → getD (stored w nodes v f x) i 0 ≡ getD w i 0

@@ -20,6 +20,7 @@ use Rattle.frames.proofs.Facts.{top-is, latch-count, gate-count, latch-word, ga
 use Rattle.joined.specs.Joined.{numberOf}
 use Rattle.renumber.specs.Names.{Named}
 use Rattle.parting.proofs.Numbers.{number-input, number-latch, number-gate, number-zero}
+pub use Rattle.frames.proofs.Places.{input-count, input-word}
 
 -- a variable among those of the definitions
 pub member-known : (c : Circuit) (v : ℕ) → T (member v (0 ∷ map var (defined c))) → Known c v
@@ -28,15 +29,6 @@ member-known c v t = go (member-mem v (0 ∷ map var (defined c)) t)
     go : List·Memᴰ v (0 ∷ map var (defined c)) → Known c v
     go m =
         ⊎-elim constant (λ k. let o = Memᴰ·of-map var (defined c) k in subst (Known c) (o .2) (defined-known c (o .0) (o .1))) (List·Memᴰ·cases-cons m)
-
-module _ (m : List ℕ) where
-  pub input-count : length (circuitIn m .inputs) ≡ word m 1
-  unfolding circuitIn
-  input-count = upto-length (λ k. word m (7 + 1 * k)) (word m 1)
-
-  pub input-word : (i : ℕ) → i < word m 1 → inputAt (circuitIn m) i ≡ word m (7 + i)
-  unfolding circuitIn
-  input-word i h = upto-get (λ k. word m (7 + 1 * k)) (word m 1) i 0 h ∙ ap (word m) (omega arith)
 
 module _ {m : List ℕ} (h : Holds m (circuitIn m)) where
   abbrev c : Circuit

@@ -15,8 +15,10 @@ use Rattle.aiger.specs.Circuit.{Circuit, Latch, Gate, var, defined, used, liter
 use Rattle.aiger.specs.File.{countTests, countsFit, headerOf}
 use Rattle.aiger.specs.Load.{needed}
 use Rattle.aiger.specs.Binary.{implied}
-use Rattle.aiger.proofs.Tests.{T-true, true-T, and, not-T, every-imp, all-at, all-hold, or-cases}
+use Rattle.aiger.proofs.Tests.{T-true, true-T, and, not-T, every-imp, all-at, all-hold, or-cases, every-true}
 use Rattle.meaning.proofs.Lists.{getD-map, every-in, every-both, every-mapped, pairwise-in, or-left, or-right, eqb-of}
+use Rattle.meaning.proofs.Shape.{not-odd}
+use Rattle.parting.proofs.Accepted.{reset-right}
 use Rattle.meaning.proofs.Defined.{noLatch, noGate, inputAt, latchAt, gateAt, definition, input-in, latch-in, gate-in}
 use Rattle.roundtrip.proofs.LoadWrite.{Valid, Counts, counts-fit}
 use Rattle.numbering.proofs.InOrder.{descends, InOrder, implied-length, implied-at, implied-append, order-defined, order-acyclic}
@@ -89,12 +91,9 @@ order-right {d} o u r =
     every-both (λ l. leb l (2 * M + 1)) (defined d) (used d)
     (each (λ l. leb l (2 * M + 1)) (λ v h k. le→leb (2 * v) (2 * M + 1) (omega arith))) u in
     let even : T t1 =
-    each (λ l. leb 2 l && not (odd l)) (λ v h k. and (leb 2 (2 * v)) (not (odd (2 * v))) (le→leb 2 (2 * v) (omega arith)) (even-not v)) in
+    each (λ l. leb 2 l && not (odd l)) (λ v h k. and (leb 2 (2 * v)) (not (odd (2 * v))) (le→leb 2 (2 * v) (omega arith)) (not-odd v)) in
     and t0 (t1 && (t2 && (t3 && true))) low (and t1 (t2 && (t3 && true)) even (and t2 (t3 && true) apart (and t3 true r tt)))
   where
-    even-not : (v : ℕ) → T (not (odd (2 * v)))
-    even-not v = let e : 2 * v % 2 ≡ 0 = omega arith in subst (λ (x : ℕ). T (not (nonzero x))) (sym e) tt
-
     each : (p : ℕ → Bool) → ((v : ℕ) → 1 ≤ v → v ≤ d .maxVar → T (p (2 * v))) → T (every p (defined d))
     each p h =
         subst (λ (l : List ℕ). T (every p l)) (sym (o .definitions))
@@ -113,23 +112,6 @@ order-right {d} o u r =
         let a = implied-at 1 (d .maxVar) i (omega arith) in
         let b = implied-at 1 (d .maxVar) j n in
         not-T (eqb (getD ls i 0) (getD ls j 0)) (λ t. let e = eqb→eq (getD ls i 0) (getD ls j 0) t in omega arith)))
-
--- a reset stays right under new numbers
-reset-under : (σ : ℕ → ℕ) → σ 0 ≡ 0 → (l : Latch) → T (leb (l .reset) 1 || eqb (l .reset) (l .lit))
-    → T (leb (latchUnder σ l .reset) 1 || eqb (latchUnder σ l .reset) (latchUnder σ l .lit))
-reset-under σ z l t =
-    ⊎-elim
-    (λ h.
-    let k = leb→le (l .reset) 1 h in
-    let v : var (l .reset) ≡ 0 = omega arith in
-    let w : σ (var (l .reset)) ≡ 0 = ap σ v ∙ z in
-    or-left (leb (literalUnder σ (l .reset)) 1) _ (le→leb (literalUnder σ (l .reset)) 1 (omega arith)))
-    (λ h. or-right (leb (literalUnder σ (l .reset)) 1) _ (eqb-of (ap (literalUnder σ) (eqb→eq (l .reset) (l .lit) h))))
-    (or-cases (leb (l .reset) 1) (eqb (l .reset) (l .lit)) t)
-
-every-true : {A : Type 0} (p : A → Bool) (xs : List A) → ((x : A) → T (p x)) → T (every p xs)
-every-true p [] h = tt
-every-true p (x ∷ xs) h = and (p x) (every p xs) (h x) (every-true p xs h)
 
 -- where each part of a circuit stands in order
 pub record Placed (d : Circuit) : Type 0 where
@@ -323,7 +305,7 @@ module _ {room : ℕ} {c : Circuit} (valid : Valid room c) where
       every-mapped (λ (l : Latch). leb (l .reset) 1 || eqb (l .reset) (l .lit)) (latchUnder σ) (c .latches)
       (every-imp (λ (l : Latch). leb (l .reset) 1 || eqb (l .reset) (l .lit))
       (λ (l : Latch). leb (latchUnder σ l .reset) 1 || eqb (latchUnder σ l .reset) (latchUnder σ l .lit))
-      (λ l. reset-under σ (number-zero valid) l) (c .latches)
+      (λ l. reset-right σ (number-zero valid) l) (c .latches)
       (all-at (literalTests c) right 3))
 
   pub renumbered-right : T (literalsRight (renumbered c))

@@ -32,18 +32,14 @@ use Rattle.aiger.proofs.Tests.{
   all-at,
   or-cases,
 }
-use Rattle.roundtrip.proofs.LoadWrite.{Valid, Counts, counts-fit}
-use Rattle.roundtrip.proofs.Text.{below, rowFits, row-line, rows-lines, every-below, line-short, lines-short}
+use Rattle.roundtrip.proofs.LoadWrite.{Valid, low, first-map, reset-row, rows-map, map-short, counts, heads-low, all-low, reset-low, fits}
+use Rattle.roundtrip.proofs.Text.{rowFits, row-line, every-below, line-short}
 use Rattle.numbering.proofs.InOrder.{descends}
 use Rattle.differences.proofs.Writing.{one, another, difference-back}
 use Rattle.renumbered.specs.Renumbered.{latchTail, gatesText, binaryText}
 use Rattle.renumbered_laws.proofs.Accepted.{Placed}
 
 -- ---- differences are short
-
--- counts and literals are below 10,000
-abbrev low : ℕ → Bool
-low = below (10 ^ 4)
 
 difference-short : (n : ℕ) → n < 10 ^ 4 → length (differenceText n) ≤ 2
 difference-short n h =
@@ -107,46 +103,20 @@ gates-back v (g ∷ gs) f e t l =
 
 -- ---- latches read back
 
-reset-back : (r : ℕ) → getD (cond (eqb r 0) [] (r ∷ [])) 0 0 ≡ r
-reset-back zero = refl
-reset-back (suc r) = simp (eqb·suc-zero r)
-
 latches-back : (v : ℕ) (ls : List Latch) → map (λ l. l .lit) ls ≡ implied v (length ls) → latchesFrom v (map latchTail ls) ≡ ls
 unfolding latchesFrom latchTail implied
 latches-back v [] e = refl
 latches-back v (l ∷ ls) e =
     let own : 2 * v ≡ l .lit = cc in
     let rest : map (λ (x : Latch). x .lit) ls ≡ implied (suc v) (length ls) = cc in
-    ap₂ (λ (x : Latch) (xs : List Latch). x ∷ xs) (λ i. record { lit = own i; next = l .next; reset = reset-back (l .reset) i })
+    ap₂ (λ (x : Latch) (xs : List Latch). x ∷ xs) (λ i. record { lit = own i; next = l .next; reset = reset-row (l .reset) i })
     (latches-back (suc v) ls rest)
-
-first-back : (ls : List ℕ) → map first (map literalRow ls) ≡ ls
-first-back [] = refl
-first-back (l ∷ ls) = ap (λ (k : List ℕ). l ∷ k) (first-back ls)
 
 -- ---- lines read back
 
 latch-fits : (a r : ℕ) → T (low a) → T (low r) → T (rowFits (10 ^ 4) 1 2 (a ∷ cond (eqb r 0) [] (r ∷ [])))
 latch-fits a zero h k = and (low a) true h tt
 latch-fits a (suc r) h k = simp (eqb·suc-zero r) (and (low a) (low (suc r) && true) h (and (low (suc r)) true k tt))
-
-ones-fit : (ls : List ℕ) → T (every low ls) → T (every (rowFits (10 ^ 4) 1 1) (map literalRow ls))
-ones-fit ls h = every-map low low low (rowFits (10 ^ 4) 1 1) literalRow (λ l a b c. and (low l) true a tt) ls h h h
-
-module _ {A : Type 0} (least most : ℕ) (h : A → List ℕ) (xs : List A) (t : T (every (rowFits (10 ^ 4) least most) (map h xs))) where
-  rows-back : (f : List ℕ) → rows least most (length xs) (linesOf (map h xs) ++ f) ≡ some (map h xs, f)
-  rows-back f = rw (← length-map xs h) (rows-lines (10 ^ 4) least most (lit≤ tt) (map h xs) t f)
-
-  rows-short : length (linesOf (map h xs)) ≤ 5 * most * length xs
-  rows-short = rw (← length-map xs h) (lines-short 3 least most (map h xs) t)
-
--- the lines of the sections are such as are read
-record Fits (d : Circuit) : Type 0 where
-  latches : T (every (rowFits (10 ^ 4) 1 2) (map latchTail (d .latches)))
-  outputs : T (every (rowFits (10 ^ 4) 1 1) (map literalRow (d .outputs)))
-  bads : T (every (rowFits (10 ^ 4) 1 1) (map literalRow (d .bads)))
-  constraints : T (every (rowFits (10 ^ 4) 1 1) (map literalRow (d .constraints)))
-  gates : T (every (λ g. low (g .lit)) (d .gates))
 
 -- what follows the header
 abbrev sectionsText : Circuit → List ℕ
@@ -165,42 +135,10 @@ unfolding binaryText
 some-byte d = omega arith
 
 module _ {room : ℕ} {d : Circuit} (v : Valid room d) (p : Placed d) where
-  counts : Counts d
-  counts = counts-fit d (v .fit)
-
-  heads-low : T (every low (d .maxVar ∷ countRow d))
-  heads-low =
-      and (low (d .maxVar)) _ (at (d .maxVar) (omega (arith, counts)))
-      (and (low (length (d .inputs))) _ (at (length (d .inputs)) (omega (arith, counts)))
-      (and (low (length (d .latches))) _ (at (length (d .latches)) (omega (arith, counts)))
-      (and (low (length (d .outputs))) _ (at (length (d .outputs)) (omega (arith, counts)))
-      (and (low (length (d .gates))) _ (at (length (d .gates)) (omega (arith, counts)))
-      (and (low (length (d .bads))) _ (at (length (d .bads)) (omega (arith, counts)))
-      (and (low (length (d .constraints))) true (at (length (d .constraints)) (omega (arith, counts))) tt))))))
-    where
-      at : (n : ℕ) → n < 10 ^ 4 → T (low n)
-      at n h = lt→ltb n (10 ^ 4) h
-
-  all-low : T (every low (defined d ++ used d))
-  unfolding literalsRight
-  all-low =
-      every-imp (λ l. leb l (2 * d .maxVar + 1)) low (λ l h. lt→ltb l (10 ^ 4) (low-of l (leb→le l (2 * d .maxVar + 1) h)))
-      (defined d ++ used d)
-      (all-at (literalTests d) (T-true (v .literals)) 0)
-    where
-      low-of : (l : ℕ) → l ≤ 2 * d .maxVar + 1 → l < 10 ^ 4
-      low-of l h = omega (arith, counts .maxVar)
-
-  reset-low : (l : Latch) → T (low (l .lit)) → T (leb (l .reset) 1 || eqb (l .reset) (l .lit)) → T (low (l .reset))
-  reset-low l h t =
-      let a = l .lit in
-      let r = l .reset in
-      lt→ltb r (10 ^ 4)
-      (⊎-elim (λ x. omega (arith, leb→le r 1 x)) (λ y. omega (arith, eqb→eq r a y, ltb→lt a (10 ^ 4) h)) (or-cases (leb r 1) (eqb r a) t))
-
-  fits : Fits d
+  -- the lines of latches and the literals of gates are such as are read
+  latches-fit : T (every (rowFits (10 ^ 4) 1 2) (map latchTail (d .latches)))
   unfolding defined used latchTail literalsRight
-  fits =
+  latches-fit =
       let i = d .inputs in
       let l = map (λ (x : Latch). x .lit) (d .latches) in
       let g = map (λ (x : Gate). x .lit) (d .gates) in
@@ -210,25 +148,22 @@ module _ {room : ℕ} {d : Circuit} (v : Valid room d) (p : Placed d) where
       let k = d .constraints in
       let x = map (λ (x : Gate). x .left) (d .gates) in
       let y = map (λ (x : Gate). x .right) (d .gates) in
-      let u = every-right low (i ++ l ++ g) (n ++ o ++ b ++ k ++ x ++ y) all-low in
+      let u = every-right low (i ++ l ++ g) (n ++ o ++ b ++ k ++ x ++ y) (all-low v) in
       let u3 = every-left low (n ++ o ++ b ++ k) x (every-left low (n ++ o ++ b ++ k ++ x) y u) in
-      let u2 = every-left low (n ++ o ++ b) k u3 in
-      let u1 = every-left low (n ++ o) b u2 in
-      let dg = every-left low (i ++ l ++ g) (n ++ o ++ b ++ k ++ x ++ y) all-low in
-      let dl = every-left low (i ++ l) g dg in
+      let u1 = every-left low (n ++ o) b (every-left low (n ++ o ++ b) k u3) in
+      let dl = every-left low (i ++ l) g (every-left low (i ++ l ++ g) (n ++ o ++ b ++ k ++ x ++ y) (all-low v)) in
       let lits = every-unmap low (λ (x : Latch). x .lit) (d .latches) (every-right low i l dl) in
       let nexts = every-unmap low (λ (x : Latch). x .next) (d .latches) (every-left low n o u1) in
-      record {
-        latches =
-            every-map (λ x. low (x .lit)) (λ x. low (x .next)) (λ x. leb (x .reset) 1 || eqb (x .reset) (x .lit))
-            (rowFits (10 ^ 4) 1 2) latchTail
-            (λ x s t r. latch-fits (x .next) (x .reset) t (reset-low x s r)) (d .latches) lits nexts
-            (all-at (literalTests d) (T-true (v .literals)) 3);
-        outputs = ones-fit o (every-right low n o u1);
-        bads = ones-fit b (every-right low (n ++ o) b u2);
-        constraints = ones-fit k (every-right low (n ++ o ++ b) k u3);
-        gates = every-unmap low (λ (x : Gate). x .lit) (d .gates) (every-right low (i ++ l) g dg);
-      }
+      every-map (λ x. low (x .lit)) (λ x. low (x .next)) (λ x. leb (x .reset) 1 || eqb (x .reset) (x .lit)) (rowFits (10 ^ 4) 1 2) latchTail
+      (λ x s t r. latch-fits (x .next) (x .reset) t (reset-low v x s r)) (d .latches) lits nexts
+      (all-at (literalTests d) (T-true (v .literals)) 3)
+
+  gates-low : T (every (λ g. low (g .lit)) (d .gates))
+  unfolding defined
+  gates-low =
+      let f = d .inputs ++ map (λ (x : Latch). x .lit) (d .latches) in
+      let g = map (λ (x : Gate). x .lit) (d .gates) in
+      every-unmap low (λ (x : Gate). x .lit) (d .gates) (every-right low f g (every-left low (f ++ g) (used d) (all-low v)))
 
   head-back : header (binaryText d) ≡ some (headerOf d, sectionsText d)
   unfolding isText isBinary header binaryText
@@ -236,7 +171,7 @@ module _ {room : ℕ} {d : Circuit} (v : Valid room d) (p : Placed d) where
       simp (
         append-assoc,
         append-nil,
-        row-line 9 (d .maxVar) (countRow d) (lit< tt) (every-below (10 ^ 4) (10 ^ 10) (lit≤ tt) (d .maxVar ∷ countRow d) heads-low),
+        row-line 9 (d .maxVar) (countRow d) (lit< tt) (every-below (10 ^ 4) (10 ^ 10) (lit≤ tt) (d .maxVar ∷ countRow d) (heads-low v)),
       )
 
   -- the text has at most 24,576 bytes
@@ -246,25 +181,25 @@ module _ {room : ℕ} {d : Circuit} (v : Valid room d) (p : Placed d) where
       simp length-append
       (omega (
         arith,
-        counts,
-        line-short 3 (d .maxVar) (countRow d) heads-low,
-        rows-short 1 2 latchTail (d .latches) (fits .latches),
-        rows-short 1 1 literalRow (d .outputs) (fits .outputs),
-        rows-short 1 1 literalRow (d .bads) (fits .bads),
-        rows-short 1 1 literalRow (d .constraints) (fits .constraints),
-        gates-short (d .gates) (fits .gates) (p .descend),
+        counts v,
+        line-short 3 (d .maxVar) (countRow d) (heads-low v),
+        map-short 1 2 latchTail (d .latches) latches-fit,
+        map-short 1 1 literalRow (d .outputs) (fits v .outputs),
+        map-short 1 1 literalRow (d .bads) (fits v .bads),
+        map-short 1 1 literalRow (d .constraints) (fits v .constraints),
+        gates-short (d .gates) gates-low (p .descend),
       ))
 
   body-back : binaryBody (headerOf d) (sectionsText d) ≡ gives d
   unfolding binaryBody isTail
   body-back =
       simp (
-        rows-back 1 2 latchTail (d .latches) (fits .latches),
-        rows-back 1 1 literalRow (d .outputs) (fits .outputs),
-        rows-back 1 1 literalRow (d .bads) (fits .bads),
-        rows-back 1 1 literalRow (d .constraints) (fits .constraints),
-        gates-back (length (d .inputs) + length (d .latches) + 1) (d .gates) [] (p .gates) (p .descend) (omega (arith, counts)),
-        first-back,
+        rows-map 1 2 latchTail (d .latches) latches-fit,
+        rows-map 1 1 literalRow (d .outputs) (fits v .outputs),
+        rows-map 1 1 literalRow (d .bads) (fits v .bads),
+        rows-map 1 1 literalRow (d .constraints) (fits v .constraints),
+        gates-back (length (d .inputs) + length (d .latches) + 1) (d .gates) [] (p .gates) (p .descend) (omega (arith, counts v)),
+        first-map,
         latches-back (length (d .inputs) + 1) (d .latches) (p .latches),
         sym (p .inputs),
       )

@@ -31,7 +31,7 @@ use Rattle.aiger.specs.Frames.{
 use Rattle.aiger.specs.Search.{Question, Outcome, firstAt, permittedOf, reachesIn, reaches, question, permitted, firstWitness}
 use Rattle.aiger.specs.Witness.{witness}
 use Rattle.aiger.proofs.Tests.{T-true, or-cases, all-at}
-use Rattle.meaning.proofs.Lists.{every-at}
+use Rattle.meaning.proofs.Lists.{every-at, every-under}
 use Rattle.meaning.proofs.Defined.{
   Known,
   noLatch,
@@ -47,7 +47,7 @@ use Rattle.meaning.proofs.Defined.{
 use Rattle.meaning.proofs.Embedding.{Embeds, SameOperands, embedded-value}
 use Rattle.roundtrip.proofs.LoadWrite.{Valid}
 use Rattle.joined.specs.Joined.{literalUnder, latchUnder, gateUnder}
-use Rattle.parting.proofs.Starts.{Numbered}
+use Rattle.parting.proofs.Starts.{Numbered, start-under}
 use Rattle.renumbered.specs.Renumbered.{numbering, newNumber, sorted, renumbered}
 use Rattle.renumbered_laws.proofs.Numbers.{number-zero, number-latch, order-has, order-length}
 use Rattle.renumbered_laws.proofs.Accepted.{
@@ -63,29 +63,6 @@ use Rattle.renumbered_laws.proofs.Accepted.{
 
 -- ---- start values
 
--- a latch under other numbers has a free start where the latch has one, and else the same reset
-start-under : (σ : ℕ → ℕ) → σ 0 ≡ 0 → (l : Latch) → Numbered σ l
-    → (isFree (latchUnder σ l) ≡ isFree l) × (isFree l ≡ false → eqb (latchUnder σ l .reset) 1 ≡ eqb (l .reset) 1)
-start-under σ z l n =
-    ⊎-elim
-    (λ h.
-    let k = leb→le (l .reset) 1 h in
-    let v : var (l .reset) ≡ 0 = omega arith in
-    let w : σ (var (l .reset)) ≡ 0 = ap σ v ∙ z in
-    let e : literalUnder σ (l .reset) ≡ l .reset = omega arith in
-    let new : literalUnder σ (l .reset) ≡ literalUnder σ (l .lit) → ⊥ = λ q. omega (arith, n .number) in
-    let old : l .reset ≡ l .lit → ⊥ = λ q. omega (arith, n .own) in (
-      ne-eqb (literalUnder σ (l .reset)) (literalUnder σ (l .lit)) new ∙ sym (ne-eqb (l .reset) (l .lit) old),
-      λ _. ap
-          (λ (x : ℕ). eqb x 1) e,
-    ))
-    (λ h.
-    let q = eqb→eq (l .reset) (l .lit) h in (
-      eq-eqb (literalUnder σ (l .reset)) (literalUnder σ (l .lit)) (ap (literalUnder σ) q) ∙ sym (eq-eqb (l .reset) (l .lit) q),
-      λ f. absurd (subst T f h),
-    ))
-    (or-cases (leb (l .reset) 1) (eqb (l .reset) (l .lit)) (n .reset))
-
 module _ (σ : ℕ → ℕ) (z : σ 0 ≡ 0) where
   tally-under : (ls : List Latch) → ((j : ℕ) → j < length ls → Numbered σ (getD ls j noLatch)) → tally isFree
       (map (latchUnder σ) ls) ≡ tally isFree ls
@@ -100,7 +77,7 @@ module _ (σ : ℕ → ℕ) (z : σ 0 ≡ 0) where
   starts-under f j [] g = refl
   starts-under f j (l ∷ ls) g =
       let s = start-under σ z l (g 0 (omega arith)) in
-      go (isFree l) (s .1) (starts-under f (j + 1) ls (λ i h. g (suc i) (omega arith)))
+      go (isFree l) (λ e. ap (λ (x : ℕ). eqb x 1) (s .1 e)) (starts-under f (j + 1) ls (λ i h. g (suc i) (omega arith)))
       (starts-under f j ls (λ i h. g (suc i) (omega arith)))
       (ap
       (λ (b : Bool). cond b (f j ∷ starts f (j + 1) (map (latchUnder σ) ls))
@@ -114,11 +91,6 @@ module _ (σ : ℕ → ℕ) (z : σ 0 ≡ 0) where
           → xs ≡ cond b (f j ∷ starts f (j + 1) ls) (eqb (l .reset) 1 ∷ starts f j ls)
       go true r p q e = e ∙ ap (λ (ys : List Bool). f j ∷ ys) p
       go false r p q e = e ∙ ap₂ (λ (x : Bool) (ys : List Bool). x ∷ ys) (r refl) q
-
-every-under : (p q : ℕ → Bool) (f : ℕ → ℕ) (xs : List ℕ) → ((i : ℕ) → i < length xs → p (f (getD xs i 0)) ≡ q (getD xs i 0)) → every p
-    (map f xs) ≡ every q xs
-every-under p q f [] h = refl
-every-under p q f (x ∷ xs) h = ap₂ (λ (a b : Bool). a && b) (h 0 (omega arith)) (every-under p q f xs (λ i l. h (suc i) (omega arith)))
 
 module _ {room : ℕ} {c : Circuit} (valid : Valid room c) where
   abbrev σ : ℕ → ℕ

@@ -31,6 +31,7 @@ use Rattle.blocks.specs.Runs.{RunAt, BodyRead, Fits}
 use Rattle.replay.specs.Texts.{CountsOf, RowsAt, Counted, malformed, wellFormed, Framed}
 use Rattle.replay.specs.declared.Rows.{Rows}
 use Rattle.replay.specs.declared.Rows.the-variants.{Read, Malformed}
+pub use Rattle.roundtrip.proofs.Lists.{take-rest as rest-is}
 
 -- ---- what is read after line `b`
 
@@ -206,10 +207,6 @@ module _ (p : List ℕ → Bool) (w : List ℕ) where
   pub none-is : nonePasses p w ≡ allPass (λ u. not (p u)) w
   unfolding nonePasses allPass
   none-is = refl
-
--- the part of a text from a position on
-pub rest-is : (text : List ℕ) (start : ℕ) → take (length text - start) (drop start text) ≡ drop start text
-rest-is text start = take-all (length text - start) (drop start text) (omega (arith, length-drop start text))
 
 -- ---- a circuit that is held
 

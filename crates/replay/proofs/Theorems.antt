@@ -9,7 +9,7 @@ use native.Mathlib.Nat.{not-suc-le-zero, le-of-suc-le-suc}
 use native.Mathlib.Decide.{decLt}
 use native.Mathlib.Omega.{arith}
 use lib.Dec.{T}
-use lib.ListN.{length, getD}
+use lib.ListN.{length, getD, List·getD-eq-default}
 use Rattle.aiger.specs.Circuit.{Circuit}
 use Rattle.aiger.specs.Load.{Answer, gives}
 use Rattle.aiger.specs.Frames.{Run, freeBits, run, hits, allowed, valueAt}
@@ -60,13 +60,8 @@ all-is-yes {says = says} c h r s =
 
 -- ---- all to every hit
 
--- a bad line that is not there is never hit
-getD-past : (xs : List ℕ) (i : ℕ) → length xs ≤ i → getD xs i 0 ≡ 0
-getD-past [] i h = refl
-getD-past (x ∷ xs) zero h = absurd (not-suc-le-zero h)
-getD-past (x ∷ xs) (suc i) h = getD-past xs i (le-of-suc-le-suc h)
-
 module _ {m : List ℕ} (c : Circuit) (h : Holds m c) where
+  -- a bad line that is not there is never hit
   bad-below : (b : ℕ) (r : Run) (t : ℕ) → T (hits c b r t) → b < length (c .bads)
   unfolding hits
   bad-below b r t p =
@@ -74,7 +69,7 @@ module _ {m : List ℕ} (c : Circuit) (h : Holds m c) where
       elim (decLt b (length (c .bads))) [
         | yes l ↦ l
         | no n ↦
-            let e : getD (c .bads) b 0 ≡ 0 = getD-past (c .bads) b (omega arith) in
+            let e : getD (c .bads) b 0 ≡ 0 = List·getD-eq-default (c .bads) 0 {n = b} (omega arith) in
             absurd
             (subst T (ap (valueAt c r t) e ∙ zero-value c r t (T-true (v .literals)) (T-true (v .order)))
             (and-right (allowed c r t) (valueAt c r t (getD (c .bads) b 0)) p))

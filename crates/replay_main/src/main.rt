@@ -1,5 +1,6 @@
 // The program replay: whether the completions of a witness are hits.
 use files::say;
+use files::say_front;
 
 fn say_help() {
     say(b"replay FILE WITNESS\n\n");
@@ -30,18 +31,14 @@ fn replay_files() {
     let mut text = [0u8; 66826];
     let mut m = [0u32; 33032];
     let mut line = [0u8; 128];
-    let circuit = files::read_argument(1, &mut file);
-    if circuit.failed {
+    let got = files::read_two(1, 2, &mut file, &mut text);
+    if got.failed {
         return;
     }
-    let witness = files::read_argument(2, &mut text);
-    if witness.failed {
-        return;
-    }
-    let n = circuit.count;
-    let k = witness.count;
+    let n = got.first;
+    let k = got.second;
     let said = commands::replay(&file[..n], &text[..k], &mut m, &mut line);
-    say(&line[..said]);
+    say_front(&line, said);
 }
 
 fn main() {

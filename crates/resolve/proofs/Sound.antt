@@ -22,6 +22,7 @@ use Rattle.reasons.specs.Claims.{Same, Sound}
 use Rattle.reasons.proofs.Valid.{same-refl, same-trans, sound-same, reason-length, reason-literal, false-always, reason-valid}
 use Rattle.reasons.proofs.Frame.{stored-same, written-same, stored-after}
 use Rattle.resolve.specs.Draft.{Drafted, draftOf, drafted, draftAt, posOf, isMember, taken, appended, included, removed, excluded, joined, gathered, started, resolved}
+use Rattle.aiger.proofs.Tests.{T-true}
 
 -- the literals of a working clause
 abbrev pub InDraft : Netlist → Arena → List ℕ → Draft → ℕ → Type 0
@@ -47,9 +48,6 @@ put net arena w p x = stored (written w (net .nodes) (arena .used) p x) (net .no
 
 never : false ≡ true → ⊥
 never e = subst T (sym e) tt
-
-T-of : {b : Bool} → b ≡ true → T b
-T-of e = subst T (sym e) tt
 
 module _ (net : Netlist) (arena : Arena) where
   still : (w : List ℕ) (d : Draft) → taken net arena d ≤ net .words → Grows net arena w d (drafted w d)
@@ -167,7 +165,7 @@ module _ (net : Netlist) (arena : Arena) where
 
         go : (a : Bool) → isFalse w (net .nodes) l ≡ a → (b c : Bool) → leb (d .length) p ≡ b → eqb (draftAt w net arena p) l ≡ c
             → Grows net arena w d (to a b c) × (to a b c .draft .whole ≡ true → Taken (to a b c .words) (to a b c .draft) l)
-        go true e b c f g = (still w d fits, λ z. inr (false-always sound l (T-of e)))
+        go true e b c f g = (still w d fits, λ z. inr (false-always sound l (T-true e)))
         go false e false true f g = (still w d fits, λ z. inl (p, leb-false (d .length) p f, eqb-true (draftAt w net arena p) l g))
         go false e false false f g = let r = append-grows w d (sound .within) fits l in (r .0, λ z. inl (r .1 z))
         go false e true c f g = let r = append-grows w d (sound .within) fits l in (r .0, λ z. inl (r .1 z))
@@ -243,13 +241,13 @@ module _ (hit : (ℕ → Bool) → Type 0) (net : Netlist) (arena : Arena) where
       go false e = lost w 0 sound fits
       go true e =
           let n = R.lengthOf w net r in
-          let g = gather-grows net arena hit r 0 (T-of e) w (draftOf 0 true) sound fits n (omega arith) in
+          let g = gather-grows net arena hit r 0 (T-true e) w (draftOf 0 true) sound fits n (omega arith) in
           let t = gathered w net arena (draftOf 0 true) r 0 n in
           record {
             sound = sound-same (g .0 .same) sound;
             fits = g .0 .fits;
             valid = λ z.
-                L.covered hit (Among n (literalOf w net r)) (InDraft net arena (t .words) (t .draft)) 0 (sound .zero) (reason-valid sound r (T-of e))
+                L.covered hit (Among n (literalOf w net r)) (InDraft net arena (t .words) (t .draft)) 0 (sound .zero) (reason-valid sound r (T-true e))
                 (λ l i m.
                 subst (λ (k : ℕ). InDraft net arena (t .words) (t .draft) k ⊎ Always hit (opposite k)) (i .2)
                 (g .1 z (i .0) (i .1) (λ q. m (sym (i .2) ∙ q))));
@@ -275,7 +273,7 @@ module _ (hit : (ℕ → Bool) → Type 0) (net : Netlist) (arena : Arena) where
           let k = exclude-kept net arena w d (given .sound .within) (given .fits) x' in
           let sound = sound-same (k .same) (given .sound) in
           let n = R.lengthOf (s .words) net r in
-          let g = gather-grows net arena hit r x (T-of e) (s .words) (s .draft) sound (k .fits) n (omega arith) in
+          let g = gather-grows net arena hit r x (T-true e) (s .words) (s .draft) sound (k .fits) n (omega arith) in
           let t = gathered (s .words) net arena (s .draft) r x n in
           record {
             sound = sound-same (g .0 .same) sound;
@@ -283,7 +281,7 @@ module _ (hit : (ℕ → Bool) → Type 0) (net : Netlist) (arena : Arena) where
             valid = λ z.
                 let y = g .0 .whole z in
                 L.resolved hit (InDraft net arena w d) (Among n (literalOf (s .words) net r)) (InDraft net arena (t .words) (t .draft)) x
-                (given .valid (k .whole y)) (reason-valid sound r (T-of e)) (λ l i m. inl (g .0 .rest l (k .rest y l i m)))
+                (given .valid (k .whole y)) (reason-valid sound r (T-true e)) (λ l i m. inl (g .0 .rest l (k .rest y l i m)))
                 (λ l i m.
                 subst (λ (j : ℕ). InDraft net arena (t .words) (t .draft) j ⊎ Always hit (opposite j)) (i .2)
                 (g .1 z (i .0) (i .1) (λ q. m (sym (i .2) ∙ q))));

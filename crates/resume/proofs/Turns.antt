@@ -12,13 +12,7 @@ use Rattle.aiger.specs.Frames.{freeBit}
 use Rattle.support.specs.Counting.{rank, spread}
 use Rattle.support.proofs.Counting.{rank-zero, rank-more, spread-bit}
 use Rattle.resume.specs.Resume.{before, marked, placeOf, Spread}
-
-pub is-none : (m : ℕ) → m ≡ 0 → nonzero m ≡ false
-is-none m e = rw e
-
-pub is-some : (m : ℕ) → (m ≡ 0 → ⊥) → nonzero m ≡ true
-is-some zero e = absurd (e refl)
-is-some (suc m) e = refl
+pub use Rattle.aiger.proofs.Tests.{nonzero-true as is-some, nonzero-false as is-none}
 
 -- ---- copies
 

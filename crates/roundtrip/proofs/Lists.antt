@@ -8,15 +8,10 @@ use native.Mathlib.Numerals.{add-one}
 use native.Mathlib.Omega.{arith}
 use lib.Dec.{T}
 use lib.ListN.{length, getD, take, drop, replicate, length-map, length-drop, length-replicate, getD-replicate}
-use lib.Seq.{drop-drop, drop-append-seam, take-add, length-take-le, getD-take, getD-drop, getD-append-add, ext-getD}
+use lib.Seq.{take-all, drop-drop, drop-append-seam, take-add, length-take-le, getD-take, getD-drop, getD-append-add, ext-getD}
 use Rattle.aiger.specs.Lists.{every, from, upto}
 use Rattle.aiger.proofs.Tests.{and, and-left, and-right}
-
--- two lists that pass are one that passes
-pub every-append : {A : Type 0} (p : A → Bool) (xs ys : List A) → T (every p xs) → T (every p ys) → T (every p (xs ++ ys))
-every-append p [] ys h k = k
-every-append p (x ∷ xs) ys h k =
-    and (p x) (every p (xs ++ ys)) (and-left (p x) (every p xs) h) (every-append p xs ys (and-right (p x) (every p xs) h) k)
+pub use Rattle.meaning.proofs.Lists.{every-both as every-append, length-from as from-length, length-map-upto as upto-length, getD-map-upto as upto-get}
 
 -- what f makes of anything passes
 pub every-made : {A B : Type 0} (p : B → Bool) (f : A → B) → ((x : A) → T (p (f x))) → (xs : List A) → T (every p (map f xs))
@@ -28,23 +23,9 @@ pub cond-length : {A : Type 0} (b : Bool) (u v : List A) (n : ℕ) → length u 
 cond-length true u v n e f = e
 cond-length false u v n e f = f
 
--- n numbers
-pub from-length : (s n : ℕ) → length (from s n) ≡ n
-from-length s zero = refl
-from-length s (suc n) = ap suc (from-length (suc s) n)
-
--- as many values as numbers
-pub upto-length : {A : Type 0} (f : ℕ → A) (n : ℕ) → length (map f (upto n)) ≡ n
-upto-length f n = length-map (upto n) f ∙ from-length 0 n
-
--- element i of the values of f at 0 to n - 1
-pub upto-get : {A : Type 0} (f : ℕ → A) (n i : ℕ) (d : A) → i < n → getD (map f (upto n)) i d ≡ f i
-upto-get f n i d h = go n i 0 h ∙ ap f (zero-add i)
-  where
-    go : (n i s : ℕ) → i < n → getD (map f (from s n)) i d ≡ f (s + i)
-    go zero i s h = absurd (omega arith)
-    go (suc n) zero s h = ap f (omega arith)
-    go (suc n) (suc i) s h = go n i (suc s) (omega arith) ∙ ap f (omega arith)
+-- the part of a list from a position up to its end
+pub take-rest : {A : Type 0} (l : List A) (i : ℕ) → take (length l - i) (drop i l) ≡ drop i l
+take-rest l i = take-all (length l - i) (drop i l) (omega (arith, length-drop i l))
 
 -- the place past a list that stands at p
 pub drop-past : {A : Type 0} (m : List A) (p : ℕ) (xs r : List A) → drop p m ≡ xs ++ r → drop (p + length xs) m ≡ r

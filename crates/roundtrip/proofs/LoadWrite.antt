@@ -28,10 +28,10 @@ pub record Valid (room : ℕ) (c : Circuit) : Type 0 where
   pub order : acyclic c ≡ true
 
 -- every count and literal is below 10,000
-abbrev low : ℕ → Bool
+abbrev pub low : ℕ → Bool
 low = below (10 ^ 4)
 
-first-map : (ls : List ℕ) → map first (map literalRow ls) ≡ ls
+pub first-map : (ls : List ℕ) → map first (map literalRow ls) ≡ ls
 first-map [] = refl
 first-map (l ∷ ls) = ap (λ (k : List ℕ). l ∷ k) (first-map ls)
 
@@ -39,7 +39,7 @@ gate-map : (gs : List Gate) → map gate (map gateRow gs) ≡ gs
 gate-map [] = refl
 gate-map (g ∷ gs) = ap (λ (k : List Gate). g ∷ k) (gate-map gs)
 
-reset-row : (r : ℕ) → getD (cond (eqb r 0) [] (r ∷ [])) 0 0 ≡ r
+pub reset-row : (r : ℕ) → getD (cond (eqb r 0) [] (r ∷ [])) 0 0 ≡ r
 reset-row zero = refl
 reset-row (suc r) = simp (eqb·suc-zero r)
 
@@ -53,10 +53,10 @@ latch-map (l ∷ ls) = ap₂ (λ (x : Latch) (k : List Latch). x ∷ k) (latch-r
 
 -- the lines of one part of the file: read back, and their length
 module _ {A : Type 0} (least most : ℕ) (h : A → List ℕ) (xs : List A) (t : T (every (rowFits (10 ^ 4) least most) (map h xs))) where
-  rows-map : (f : List ℕ) → rows least most (length xs) (linesOf (map h xs) ++ f) ≡ some (map h xs, f)
+  pub rows-map : (f : List ℕ) → rows least most (length xs) (linesOf (map h xs) ++ f) ≡ some (map h xs, f)
   rows-map f = rw (← length-map xs h) (rows-lines (10 ^ 4) least most (lit≤ tt) (map h xs) t f)
 
-  map-short : length (linesOf (map h xs)) ≤ 5 * most * length xs
+  pub map-short : length (linesOf (map h xs)) ≤ 5 * most * length xs
   map-short = rw (← length-map xs h) (lines-short 3 least most (map h xs) t)
 
 -- the rows of one literal, of a gate, of a latch
@@ -71,17 +71,17 @@ latch-fits : (a b r : ℕ) → T (low a) → T (low b) → T (low r) → T (rowF
 latch-fits a b zero ha hb hr = and (low a) (low b && true) ha (and (low b) true hb tt)
 latch-fits a b (suc r) ha hb hr = simp (eqb·suc-zero r) (three-fits 2 a b (suc r) (lit≤ tt) ha hb hr)
 
-ones-fit : (ls : List ℕ) → T (every low ls) → T (every (rowFits (10 ^ 4) 1 1) (map literalRow ls))
+pub ones-fit : (ls : List ℕ) → T (every low ls) → T (every (rowFits (10 ^ 4) 1 1) (map literalRow ls))
 ones-fit ls h = every-map low low low (rowFits (10 ^ 4) 1 1) literalRow (λ l a b c. one-fits l a) ls h h h
 
 -- the lines of the six parts are such as are read
-record Fits (c : Circuit) : Type 0 where
-  inputs : T (every (rowFits (10 ^ 4) 1 1) (map literalRow (c .inputs)))
-  latches : T (every (rowFits (10 ^ 4) 2 3) (map latchRow (c .latches)))
-  outputs : T (every (rowFits (10 ^ 4) 1 1) (map literalRow (c .outputs)))
-  bads : T (every (rowFits (10 ^ 4) 1 1) (map literalRow (c .bads)))
-  constraints : T (every (rowFits (10 ^ 4) 1 1) (map literalRow (c .constraints)))
-  gates : T (every (rowFits (10 ^ 4) 3 3) (map gateRow (c .gates)))
+pub record Fits (c : Circuit) : Type 0 where
+  pub inputs : T (every (rowFits (10 ^ 4) 1 1) (map literalRow (c .inputs)))
+  pub latches : T (every (rowFits (10 ^ 4) 2 3) (map latchRow (c .latches)))
+  pub outputs : T (every (rowFits (10 ^ 4) 1 1) (map literalRow (c .outputs)))
+  pub bads : T (every (rowFits (10 ^ 4) 1 1) (map literalRow (c .bads)))
+  pub constraints : T (every (rowFits (10 ^ 4) 1 1) (map literalRow (c .constraints)))
+  pub gates : T (every (rowFits (10 ^ 4) 3 3) (map gateRow (c .gates)))
 
 -- the lines of the body
 abbrev pub bodyText : Circuit → List ℕ
@@ -149,7 +149,7 @@ counts-fit c e =
     }
 
 module _ {room : ℕ} {c : Circuit} (v : Valid room c) where
-  counts : Counts c
+  pub counts : Counts c
   counts = counts-fit c (v .fit)
 
   -- the tests of the literals, by place
@@ -157,7 +157,7 @@ module _ {room : ℕ} {c : Circuit} (v : Valid room c) where
   unfolding literalsRight
   rights = all-at (literalTests c) (T-true (v .literals))
 
-  heads-low : T (every low (c .maxVar ∷ countRow c))
+  pub heads-low : T (every low (c .maxVar ∷ countRow c))
   heads-low =
       and (low (c .maxVar)) _ (at (c .maxVar) (omega (arith, counts)))
       (and (low (length (c .inputs))) _ (at (length (c .inputs)) (omega (arith, counts)))
@@ -170,20 +170,20 @@ module _ {room : ℕ} {c : Circuit} (v : Valid room c) where
       at : (n : ℕ) → n < 10 ^ 4 → T (low n)
       at n h = lt→ltb n (10 ^ 4) h
 
-  all-low : T (every low (defined c ++ used c))
+  pub all-low : T (every low (defined c ++ used c))
   all-low = every-imp (λ l. leb l (2 * c .maxVar + 1)) low (λ l h. lt→ltb l (10 ^ 4) (low-of l (leb→le l (2 * c .maxVar + 1) h))) (defined c ++ used c) (rights 0)
     where
       low-of : (l : ℕ) → l ≤ 2 * c .maxVar + 1 → l < 10 ^ 4
       low-of l h = omega (arith, counts .maxVar)
 
-  reset-low : (l : Latch) → T (low (l .lit)) → T (leb (l .reset) 1 || eqb (l .reset) (l .lit)) → T (low (l .reset))
+  pub reset-low : (l : Latch) → T (low (l .lit)) → T (leb (l .reset) 1 || eqb (l .reset) (l .lit)) → T (low (l .reset))
   reset-low l h t =
       let a = l .lit in
       let r = l .reset in
       lt→ltb r (10 ^ 4)
       (⊎-elim (λ x. omega (arith, leb→le r 1 x)) (λ y. omega (arith, eqb→eq r a y, ltb→lt a (10 ^ 4) h)) (or-cases (leb r 1) (eqb r a) t))
 
-  fits : Fits c
+  pub fits : Fits c
   unfolding defined used latchRow
   fits =
       let i = c .inputs in

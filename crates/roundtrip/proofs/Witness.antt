@@ -17,6 +17,7 @@ use Rattle.aiger.specs.Witness.{bitLine, bitLines, witness, witnessLength, bits
 use Rattle.aiger.proofs.Tests.{and-left, and-right, T-true}
 use Rattle.roundtrip.proofs.Lists.{upto-length, every-made, cond-length}
 use Rattle.numbers.proofs.ReadBack.{digits-ended}
+use Rattle.meaning.proofs.Sequences.{length-starts}
 
 -- a row of n values
 abbrev pub wide : ℕ → List Bool → Bool
@@ -102,20 +103,13 @@ module _ (c : Circuit) (b t : ℕ) (r : Run) (s : Shaped c t r) where
         ap (λ (n : ℕ). n * (length (c .inputs) + 1)) (s .frames),
       ))
 
-starts-length : (free : ℕ → Bool) (j : ℕ) (ls : List Latch) → length (starts free j ls) ≡ length ls
-unfolding starts
-starts-length free j [] = refl
-starts-length free j (l ∷ ls) =
-    cond-length (isFree l) (free j ∷ starts free (j + 1) ls) (eqb (l .reset) 1 ∷ starts free j ls) (suc (length ls))
-    (ap suc (starts-length free (j + 1) ls)) (ap suc (starts-length free j ls))
-
 -- the run of a sequence is a run of the circuit
 pub run-shaped : (c : Circuit) (t x : ℕ) → Shaped c t (run c t x)
 unfolding run
 run-shaped c t x =
     let I = length (c .inputs) in
     record {
-      start = starts-length _ 0 (c .latches);
+      start = length-starts _ 0 (c .latches);
       frames = upto-length _ (t + 1);
       inputs = every-made (wide I) _ (λ u. T-true (eq-eqb _ I (upto-length _ I))) (upto (t + 1));
     }

@@ -132,7 +132,7 @@ span-append (c ∷ f) = go (isDigit c) (span-append f)
     go true e = ap (λ (l : List ℕ). c ∷ l) e
     go false e = refl
 
-ended-exact : (n m : ℕ) (s r : List ℕ) → endedBy n s ≡ ended m r → (n ≡ m) × (s ≡ 10 ∷ r)
+pub ended-exact : (n m : ℕ) (s r : List ℕ) → endedBy n s ≡ ended m r → (n ≡ m) × (s ≡ 10 ∷ r)
 unfolding endedBy
 ended-exact n m [] r e = let z : _≡_ {A = ℕ} 0 1 = cc in absurd (omega arith)
 ended-exact n m (c ∷ f) r e = go (eqb c 32) (eqb c 10) refl e
@@ -169,7 +169,7 @@ bit-byte c e =
           (⊎-elim (λ k. eqb→eq c 48 k) (λ k. absurd (z (eqb→eq c 49 k))) (or-cases (eqb c 48) (eqb c 49) (T-true e)))
     ]
 
-when-true : (b : Bool) (u : Unit {0}) → when b ≡ some u → b ≡ true
+pub when-true : (b : Bool) (u : Unit {0}) → when b ≡ some u → b ≡ true
 when-true true u e = refl
 when-true false u e = let z : _≡_ {A = ℕ} 0 1 = cc in absurd (omega arith)
 

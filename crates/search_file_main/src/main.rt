@@ -1,6 +1,7 @@
 // The program of the command search: whether a bad line of a circuit can be true within a bound.
 use arguments::Argument;
 use files::say;
+use files::say_front;
 use search_command::Terms;
 ghost use mathlib.Core.Path.{_≡_};
 ghost use lib.ListN.{length};
@@ -45,10 +46,8 @@ fn search_with(q: Terms, work: &mut [u32])
     }
     let n = got.count;
     let report = search_command::search(&file[..n], q, &mut m, work, &mut out, &mut line);
-    let said = report.line;
-    let witness = report.out;
-    say(&line[..said]);
-    say(&out[..witness]);
+    say_front(&line, report.line);
+    say_front(&out, report.out);
 }
 
 // Lends the working memory of the greatest size, 65,536.

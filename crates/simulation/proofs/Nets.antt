@@ -98,9 +98,6 @@ module _ {gs : List Pair} {root : ℕ} {work : List ℕ} {g : Graph} (net : Net 
   pub net-marked : (k : ℕ) → k < g .nodes → T (inCone (g .free) gs root k) → T (nonzero (field work k 10))
   net-marked k h t = T-true (ap nonzero (net .marks k h) ∙ mark-one (inCone (g .free) gs root k) t)
 
-  pub net-inCone : (k : ℕ) → k < g .nodes → T (nonzero (field work k 10)) → T (inCone (g .free) gs root k)
-  net-inCone k h t = mark-in (inCone (g .free) gs root k) (subst (λ (m : ℕ). T (nonzero m)) (net .marks k h) t)
-
   pub net-mark-is : (k : ℕ) → k < g .nodes → nonzero (field work k 10) ≡ inCone (g .free) gs root k
   net-mark-is k h = ap nonzero (net .marks k h) ∙ go (inCone (g .free) gs root k)
     where

@@ -11,7 +11,7 @@ use lib.Dec.{T}
 use lib.ListN.{length, getD, set}
 use lib.Seq.{getD-set-same, getD-set-other}
 use Rattle.aiger.specs.Bits.{nonzero, bit}
-use Rattle.aiger.proofs.Tests.{T-true}
+use Rattle.aiger.proofs.Tests.{T-true, bit-most, nonzero-true}
 use Rattle.nodes.specs.Graph.{Pair}
 use Rattle.nodes.specs.Store.{field}
 use Rattle.nodes.specs.declared.Graph.{Graph}
@@ -71,10 +71,6 @@ put-more work mid last slots from k block word h differ a b e =
 
 -- ---- taking slots
 
-nonzero-true : (m : ℕ) → (m ≡ 0 → ⊥) → nonzero m ≡ true
-nonzero-true zero h = absurd (h refl)
-nonzero-true (suc m) h = refl
-
 pub taken-none : (slots : List ℕ) (r v mark : ℕ) → mark ≡ 0 → Taken slots slots r v mark r
 taken-none slots r v mark z =
     let e : r ≡ r + 0 = omega arith in
@@ -100,12 +96,8 @@ taken-over slots r v mark z h =
       others = λ k n. refl;
     }
 
-cond-bound : (b : Bool) → cond b 1 0 ≤ 1
-cond-bound true = omega arith
-cond-bound false = omega arith
-
 pub taken-bound : {slots last : List ℕ} {r v mark next : ℕ} → Taken slots last r v mark next → next ≤ r + 1
-taken-bound {slots} {last} {r} {v} {mark} t = omega (arith, t .next-is, cond-bound (nonzero mark))
+taken-bound {slots} {last} {r} {v} {mark} t = omega (arith, t .next-is, bit-most (nonzero mark))
 
 -- the same, with the free bits of an equal number
 pub as-taken : {slots last : List ℕ} {next after : ℕ} (i : ℕ) (g : Graph) (work : List ℕ) (free : ℕ) → g .free ≡ free

@@ -16,6 +16,7 @@ use Rattle.aiger.specs.Frames.{value}
 use Rattle.words.proofs.Bits.{bit-xor, bit-and, bit-all, bit-none, join-low}
 use Rattle.nodes.specs.Store.{field}
 use Rattle.simulation.specs.Store.{half, Kept, Evaluable, HalfEvaluated, GateEvaluated, WordPut}
+pub use Rattle.cone.proofs.Marking.{first-word}
 
 xor-with : (b : Bool) (d : Bool) → xor b d ≡ cond d (not b) b
 unfolding xor
@@ -29,9 +30,6 @@ pub sign-half : (x s q : ℕ) → s < 2 → q < 32 → bit (bitXor x (s * 0xffff
 sign-half x zero q h l = bit-xor x 0 q ∙ ap (xor (bit x q)) (bit-none q) ∙ xor-with (bit x q) false
 sign-half x (suc zero) q h l = bit-xor x 0xffff_ffff q ∙ ap (xor (bit x q)) (bit-all 32 q l) ∙ xor-with (bit x q) true
 sign-half x (suc (suc s)) q h l = absurd (omega arith)
-
-pub first-word : (work : List ℕ) (k : ℕ) → getD work (16 * k) 0 ≡ field work k 0
-first-word work k = let e : 16 * k ≡ 16 * k + 0 = omega arith in ap (λ (i : ℕ). getD work i 0) e
 
 -- ---- one gate
 

@@ -17,6 +17,7 @@ use Rattle.floor.specs.Place.{bitOf, floorBit}
 use Rattle.floor.proofs.Rise.{bits, digits}
 use Rattle.floor.proofs.Evaluation.{place-bit}
 use Rattle.solver.specs.Solved.{bitsPut}
+use Rattle.aiger.proofs.Tests.{nonzero-bit}
 
 -- ---- one turn
 
@@ -62,14 +63,10 @@ module _ (w : List ℕ) (nodes n : ℕ) (small : n < nodes) (long : 14 * nodes �
   putting-all u j zero e p = let q : j ≡ n = omega arith in subst (Putting u) q p
   putting-all u j (suc k) e p = putting-all (set u j (floorBit u nodes (j + 1))) (j + 1) k (omega arith) (putting-more u j (omega arith) p)
 
-  word-bit : (b : Bool) → nonzero (cond b 1 0) ≡ b
-  word-bit true = refl
-  word-bit false = refl
-
   pub put-free : (j : ℕ) → j < n → nonzero (getD (bitsPut w nodes 0 n) j 0) ≡ freeBit n (prefix (bits w nodes) n) j
   put-free j l =
       let p = putting-all w 0 n (omega arith) (record { size = refl; done = λ i h. absurd (omega arith); rest = λ i h. refl }) in
-      ap nonzero (p .done j l ∙ place-bit w nodes n j l) ∙ word-bit (freeBit n (prefix (bits w nodes) n) j)
+      ap nonzero (p .done j l ∙ place-bit w nodes n j l) ∙ nonzero-bit (freeBit n (prefix (bits w nodes) n) j)
 
 -- the floor is a place
 pub prefix-place : (w : List ℕ) (nodes v : ℕ) → prefix (bits w nodes) v < 2 ^ v

@@ -318,18 +318,3 @@ holds-next u l h =
       lost = h .lost;
       buckets = h .buckets;
     }
-
--- a table holds what it held where the quota is larger
-pub holds-quota : {rows t lo quota count : ℕ} {r hd : List ℕ} {es : List Entry} (q : ℕ) → quota ≤ q → 4 * q ≤ length r → q < 4294967295 → count ≤ quota
-    → Holds rows t lo quota count r hd es → Holds rows t lo q count r hd es
-holds-quota q a b d l h =
-    record {
-      quota-room = b;
-      quota-small = d;
-      count-small = omega arith;
-      counted = λ _. h .counted l;
-      stored = λ _. h .stored l;
-      placed = λ _. h .placed l;
-      lost = λ k. absurd (omega arith);
-      buckets = h .buckets;
-    }

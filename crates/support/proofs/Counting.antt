@@ -11,6 +11,7 @@ use lib.Dec.{T, leb}
 use Rattle.aiger.specs.Bits.{nonzero, odd, bit}
 use Rattle.words.proofs.Bits.{bit-zero, bit-suc, bit-none}
 use Rattle.support.specs.Counting.{after, rank, spread, passed}
+use Rattle.aiger.proofs.Tests.{bit-most}
 
 -- ---- ranks
 
@@ -42,14 +43,10 @@ rank-lt s i j t h =
     one true t = refl
     one false t = absurd t
 
-cond-bound : (b : Bool) → cond b 1 0 ≤ 1
-cond-bound true = omega arith
-cond-bound false = omega arith
-
 pub rank-bound : (s : ℕ → Bool) (i : ℕ) → rank s i ≤ i
 unfolding rank
 rank-bound s zero = omega arith
-rank-bound s (suc i) = omega (arith, rank-bound (after s) i, cond-bound (s 0))
+rank-bound s (suc i) = omega (arith, rank-bound (after s) i, bit-most (s 0))
 
 -- ---- bits of what is spread
 

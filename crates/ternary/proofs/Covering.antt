@@ -1,6 +1,6 @@
 -- Entries that are stored keep what is claimed of them, where each is justified. Assumes nothing.
 use mathlib.Core.Path.{_≡_, refl, sym, ap, _∙_, subst}
-use mathlib.Core.Bool.{Bool, true, false, not, cond, _&&_}
+use mathlib.Core.Bool.{Bool, true, false, not, cond, _&&_, Bool·not-not}
 use mathlib.Core.List.{List}
 use Prim.Native.Nat.{ℕ, _+_, _-_, _*_, _/_, _%_, _≤_, _<_}
 use native.Mathlib.Decide.{ℕ-discrete}
@@ -57,16 +57,12 @@ opposite-even l r h e =
     let y : r ≡ 2 * v + 1 = omega arith in
     record { same-var = omega arith; flips = λ w. value-odd w r v y ∙ ap not (sym (value-even w l v x)) }
 
-not-not : (b : Bool) → b ≡ not (not b)
-not-not true = refl
-not-not false = refl
-
 pub opposite-odd : (l r : ℕ) → (l % 2 ≡ 0 → ⊥) → r ≡ l - 1 → Opposite l r
 opposite-odd l r h e =
     let v : ℕ = l / 2 in
     let x : l ≡ 2 * v + 1 = omega arith in
     let y : r ≡ 2 * v = omega arith in
-    record { same-var = omega arith; flips = λ w. value-even w r v y ∙ not-not (w v) ∙ ap not (sym (value-odd w l v x)) }
+    record { same-var = omega arith; flips = λ w. value-even w r v y ∙ sym (Bool·not-not (w v)) ∙ ap not (sym (value-odd w l v x)) }
 
 both-true : (a b : Bool) → T (a && b) → T a × T b
 both-true true true t = (tt, tt)

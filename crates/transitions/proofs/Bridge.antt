@@ -17,7 +17,7 @@ use Rattle.aiger.specs.Lists.{everyBelow}
 use Rattle.aiger.specs.Circuit.{Circuit}
 use Rattle.aiger.specs.Frames.{Run, value, frame, state, valueAt, constrained, allowed, hits, freeStarts, freeBits, freeBit, run, space}
 use Rattle.aiger.specs.Search.{reaches, reachesIn}
-use Rattle.aiger.proofs.Tests.{T-true, and-left}
+use Rattle.aiger.proofs.Tests.{T-true, and-left, true-T}
 use Rattle.meaning.proofs.Lists.{getD-map}
 use Rattle.meaning.proofs.Defined.{noLatch, latchAt}
 use Rattle.meaning.proofs.Values.{length-state}
@@ -54,13 +54,9 @@ module _ (part : Part) (b : ℕ) where
         some-row = pow-pos W;
         slotted = slots-enough;
         step-row = λ s r x e. go r (nextIn part s r) x (ltb r (2 ^ W)) refl e;
-        hit-row = λ s r h. ltb-true r (2 ^ W) (is-true (ltb r (2 ^ W)) (and-left (ltb r (2 ^ W)) (hitIn c b (valuesIn part s r)) h));
+        hit-row = λ s r h. ltb-true r (2 ^ W) (true-T (ltb r (2 ^ W)) (and-left (ltb r (2 ^ W)) (hitIn c b (valuesIn part s r)) h));
       }
     where
-      is-true : (q : Bool) → T q → q ≡ true
-      is-true true h = refl
-      is-true false h = absurd h
-
       go : (r : ℕ) (n : Option ℕ) (x : ℕ) (q : Bool) → ltb r (2 ^ W) ≡ q → cond q n none ≡ some x → r < 2 ^ W
       go r n x true e h = ltb-true r (2 ^ W) e
       go r n x false e h = absurd (let z : _≡_ {A = ℕ} 0 1 = cc in omega arith)

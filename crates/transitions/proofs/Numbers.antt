@@ -15,6 +15,7 @@ use Rattle.words.proofs.Bits.{bit-zero, bit-suc, bit-none, join-low, join-high}
 use Rattle.meaning.proofs.Lists.{length-map-upto, getD-map-upto, getD-map}
 use Rattle.influence.specs.Part.{Part, keptAt, Agree, Listed}
 use Rattle.transitions.specs.Transitions.{numberOf, rankIn, latchesOf, packed}
+use Rattle.aiger.proofs.Tests.{nonzero-bit}
 
 -- ---- bits of quotients and rests
 pub bit-over : (x w j : ℕ) → bit (x / 2 ^ w) j ≡ bit x (w + j)
@@ -30,15 +31,11 @@ unit : (b : Bool) (n : ℕ) → ((cond b 1 0 + 2 * n) / 2 ≡ n) × ((cond b 1 0
 unit true n = (omega arith, omega arith)
 unit false n = (omega arith, omega arith)
 
-odd-unit : (b : Bool) → nonzero (cond b 1 0) ≡ b
-odd-unit true = refl
-odd-unit false = refl
-
 -- bit j is latch j
 pub bit-number : (bs : List Bool) (j : ℕ) → bit (numberOf bs) j ≡ getD bs j false
 unfolding numberOf
 bit-number [] j = bit-none j
-bit-number (b ∷ bs) zero = bit-zero (cond b 1 0 + 2 * numberOf bs) ∙ ap nonzero (unit b (numberOf bs) .1) ∙ odd-unit b
+bit-number (b ∷ bs) zero = bit-zero (cond b 1 0 + 2 * numberOf bs) ∙ ap nonzero (unit b (numberOf bs) .1) ∙ nonzero-bit b
 bit-number (b ∷ bs) (suc j) =
     bit-suc (cond b 1 0 + 2 * numberOf bs) j ∙ ap (λ (n : ℕ). bit n j) (unit b (numberOf bs) .0) ∙ bit-number bs j
 

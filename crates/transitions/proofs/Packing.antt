@@ -21,6 +21,7 @@ use Rattle.frames.proofs.Starts.{free-more, free-part}
 use Rattle.transitions.specs.Transitions.{numberOf, startNumber}
 use Rattle.transitions.proofs.Numbers.{bit-over, number-small, map-at}
 use Rattle.transitions.proofs.Prefixes.{first-start}
+pub use Rattle.aiger.proofs.Tests.{bit-most as bit-few}
 
 -- a bit as a number
 pub bit-value : (x p : ℕ) → x / 2 ^ p % 2 ≡ cond (bit x p) 1 0
@@ -31,10 +32,6 @@ bit-value x p = go (x / 2 ^ p % 2) (omega arith)
     go zero l = refl
     go (suc zero) l = refl
     go (suc (suc r)) l = absurd (omega arith)
-
-pub bit-few : (b : Bool) → cond b 1 0 ≤ 1
-bit-few true = omega arith
-bit-few false = omega arith
 
 module _ (f : ℕ → Bool) (count : ℕ) where
   -- the number of the latches from j on

@@ -16,22 +16,9 @@ use Rattle.aiger.specs.Frames.{Run, value, frame, state, valueAt, constrained, 
 use Rattle.aiger.proofs.Tests.{T-true}
 use Rattle.meaning.proofs.Lists.{length-map-upto, getD-map-upto}
 use Rattle.meaning.proofs.Defined.{latchAt}
-use Rattle.meaning.proofs.Sequences.{Shaped, run-shaped, run-input, run-reset, run-free, latch-number, input-number}
+use Rattle.meaning.proofs.Sequences.{starts-same, Shaped, run-shaped, run-input, run-reset, run-free, latch-number, input-number}
 use Rattle.transitions.specs.Transitions.{rowOf}
 use Rattle.transitions.proofs.Numbers.{bit-over, bit-rest}
-
--- the start values depend on the free bits of the start alone
-starts-same : (f g : ℕ → Bool) (k : ℕ) (ls : List Latch) → ((j : ℕ) → j < k + tally isFree ls → f j ≡ g j) → starts f k ls ≡ starts g k ls
-unfolding starts
-starts-same f g k [] h = refl
-starts-same f g k (l ∷ ls) h = go (isFree l) h (starts-same f g (k + 1) ls) (starts-same f g k ls)
-  where
-    go : (q : Bool) → ((j : ℕ) → j < k + (cond q 1 0 + tally isFree ls) → f j ≡ g j)
-        → (((j : ℕ) → j < k + 1 + tally isFree ls → f j ≡ g j) → starts f (k + 1) ls ≡ starts g (k + 1) ls)
-        → (((j : ℕ) → j < k + tally isFree ls → f j ≡ g j) → starts f k ls ≡ starts g k ls)
-        → cond q (f k ∷ starts f (k + 1) ls) (eqb (l .reset) 1 ∷ starts f k ls) ≡ cond q (g k ∷ starts g (k + 1) ls) (eqb (l .reset) 1 ∷ starts g k ls)
-    go true e a b = ap₂ _∷_ (e k (omega arith)) (a (λ j l. e j (omega arith)))
-    go false e a b = ap (λ (r : List Bool). eqb (l .reset) 1 ∷ r) (b (λ j l. e j (omega arith)))
 
 module _ (c : Circuit) where
   abbrev W : ℕ

@@ -4,27 +4,23 @@ use mathlib.Core.Bool.{Bool, true, false}
 use lib.Dec.{T}
 use Rattle.aiger.specs.Circuit.{Circuit, literalsRight, usedDefined, acyclic}
 use Rattle.aiger.specs.Load.{refused, gives}
-use Rattle.aiger.proofs.Tests.{true-T}
+use Rattle.aiger.proofs.Tests.{true-T, false-of}
 use Rattle.validity.specs.Validity.{judged}
-
-false-T : (b : Bool) → (T b → ⊥) → b ≡ false
-false-T true h = absurd (h tt)
-false-T false h = refl
 
 module _ (c : Circuit) where
   pub judged-six : (T (literalsRight c) → ⊥) → judged c ≡ refused 6
   unfolding judged
-  judged-six a = rw (false-T (literalsRight c) a)
+  judged-six a = rw (false-of (literalsRight c) a)
 
   module _ (a : T (literalsRight c)) where
     pub judged-seven : (T (usedDefined c) → ⊥) → judged c ≡ refused 7
     unfolding judged
-    judged-seven b = rw (true-T (literalsRight c) a, false-T (usedDefined c) b)
+    judged-seven b = rw (true-T (literalsRight c) a, false-of (usedDefined c) b)
 
     module _ (b : T (usedDefined c)) where
       pub judged-eight : (T (acyclic c) → ⊥) → judged c ≡ refused 8
       unfolding judged
-      judged-eight d = rw (true-T (literalsRight c) a, true-T (usedDefined c) b, false-T (acyclic c) d)
+      judged-eight d = rw (true-T (literalsRight c) a, true-T (usedDefined c) b, false-of (acyclic c) d)
 
       pub judged-right : T (acyclic c) → judged c ≡ gives tt
       unfolding judged

@@ -21,7 +21,7 @@ use Rattle.completions.specs.Either.{isEither, eithers, completion}
 use Rattle.completions.specs.Forms.{completed}
 use Rattle.completions.proofs.Completions.{completion-at, eithers-more}
 use Rattle.meaning.proofs.Defined.{noLatch, inputAt, latchAt, input-in, latch-in, definition}
-use Rattle.meaning.proofs.Values.{frameAt}
+use Rattle.meaning.proofs.Values.{frameAt, value-even}
 use Rattle.meaning.proofs.Runs.{run-satisfies}
 use Rattle.vcd.specs.Text.{Level}
 use Rattle.vcd.specs.Wires.{literals, literalAt}
@@ -68,9 +68,6 @@ module _ (body : List ℕ) (at : ℕ) (e : getD body at 0 ≡ 120) where
 
 -- ---- the values of inputs, and of latches in the first frame
 
-even-value : (w : ℕ → Bool) (l : ℕ) → l % 2 ≡ 0 → value w l ≡ w (var l)
-even-value w l e = ap (λ (d : ℕ). cond (nonzero d) (not (w (var l))) (w (var l))) e
-
 input-literal : (c : Circuit) (i : ℕ) → i < length (c .inputs) → literalAt c i ≡ inputAt c i
 unfolding literals
 input-literal c i h = List·getD-append (c .inputs) (map (λ (l : Latch). l .lit) (c .latches) ++
@@ -89,7 +86,7 @@ module _ (c : Circuit) (right : T (literalsRight c)) (known : T (usedDefined c))
   input-value : (r : Run) (t i : ℕ) → i < length (c .inputs) → valueAt c r t (literalAt c i) ≡ getD (getD (r .rows) t []) i false
   unfolding valueAt
   input-value r t i h =
-      ap (value (frameAt c r t)) (input-literal c i h) ∙ even-value (frameAt c r t) (inputAt c i)
+      ap (value (frameAt c r t)) (input-literal c i h) ∙ value-even (frameAt c r t) (inputAt c i)
       (definition c right (inputAt c i) (input-in c i h) .1)
       ∙ run-satisfies c right known a r t .input t (omega arith) i h
 
@@ -97,7 +94,7 @@ module _ (c : Circuit) (right : T (literalsRight c)) (known : T (usedDefined c))
       → valueAt c r 0 (literalAt c (length (c .inputs) + j)) ≡ getD (r .start) j false
   unfolding valueAt
   latch-value r j h =
-      ap (value (frameAt c r 0)) (latch-literal c j h) ∙ even-value (frameAt c r 0) (latchAt c j .lit)
+      ap (value (frameAt c r 0)) (latch-literal c j h) ∙ value-even (frameAt c r 0) (latchAt c j .lit)
       (definition c right (latchAt c j .lit) (latch-in c j h) .1)
       ∙ run-satisfies c right known a r 0 .start j h
 

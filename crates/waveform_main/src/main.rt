@@ -1,5 +1,6 @@
 // The program waveform: the run of a witness as a value change dump.
 use files::say;
+use files::say_front;
 ghost use mathlib.Core.Path.{_≡_};
 ghost use lib.ListN.{length};
 
@@ -34,21 +35,15 @@ fn show_with(only: bool, out: &mut [u8])
     let mut text = [0u8; 66826];
     let mut m = [0u32; 33032];
     let mut line = [0u8; 128];
-    let circuit = files::read_argument(1, &mut file);
-    if circuit.failed {
+    let got = files::read_two(1, 2, &mut file, &mut text);
+    if got.failed {
         return;
     }
-    let witness = files::read_argument(2, &mut text);
-    if witness.failed {
-        return;
-    }
-    let n = circuit.count;
-    let k = witness.count;
+    let n = got.first;
+    let k = got.second;
     let report = waveform_command::waveform(&file[..n], &text[..k], only, &mut m, out, &mut line);
-    let said = report.line;
-    let written = report.out;
-    say(&line[..said]);
-    say(&out[..written]);
+    say_front(&line, report.line);
+    say_front(out, report.out);
 }
 
 // Lends an output that is never too short.

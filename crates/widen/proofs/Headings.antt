@@ -13,6 +13,7 @@ use Rattle.aiger.specs.Text.{bytes, isDigit, isNumber, decimal, span, Token, sp
 use Rattle.aiger.proofs.Tests.{T-true}
 use Rattle.meaning.proofs.Lists.{same-eq}
 use Rattle.completions.specs.Either.{heading}
+use Rattle.roundtrip.proofs.WitnessRead.{ended-exact}
 
 -- digits that a line feed ends are the same digits whatever follows it
 fed : (f r : List ℕ) → (span f) .1 ≡ 10 ∷ r → (f ≡ (span f) .0 ++ 10 ∷ r) × ((g : List ℕ) → span ((span f) .0 ++ 10 ∷ g) ≡ ((span f) .0, 10 ∷ g))
@@ -25,20 +26,6 @@ fed (c ∷ f) r e = go (isDigit c) refl e (fed f r)
         → (let s = cond {A = List ℕ × List ℕ} b (c ∷ (span f) .0, (span f) .1) ([], c ∷ f) in (c ∷ f ≡ s .0 ++ 10 ∷ r) × ((g : List ℕ) → span (s .0 ++ 10 ∷ g) ≡ (s .0, 10 ∷ g)))
     go true q k h = (ap (λ (x : List ℕ). c ∷ x) (h k .0), λ g. rw (q, h k .1 g))
     go false q k h = (k, λ g. refl)
-
--- what ends a number that ends its line
-ended-by : (n : ℕ) (s : List ℕ) (k : ℕ) (f : List ℕ) → endedBy n s ≡ ended k f → (n ≡ k) × (s ≡ 10 ∷ f)
-unfolding endedBy
-ended-by n [] k f e = let z : _≡_ {A = ℕ} 0 1 = cc in absurd (omega arith)
-ended-by n (c ∷ s) k f e = go (eqb c 32) (eqb c 10) refl e
-  where
-    go : (a b : Bool) → eqb c 10 ≡ b → cond a (spaced n s) (cond b (ended n s) malformed) ≡ ended k f → (n ≡ k) × (c ∷ s ≡ 10 ∷ f)
-    go true b p q = let z : _≡_ {A = ℕ} 0 1 = cc in absurd (omega arith)
-    go false false p q = let z : _≡_ {A = ℕ} 0 1 = cc in absurd (omega arith)
-    go false true p q =
-        let x : n ≡ k = cc in
-        let y : s ≡ f = cc in
-        (x, ap₂ (λ (d : ℕ) (t : List ℕ). d ∷ t) (eqb-true c 10 p) y)
 
 feed : (j : ℕ) (g : List ℕ) → endedBy j (10 ∷ g) ≡ ended j g
 unfolding endedBy
@@ -57,7 +44,7 @@ numbered f n r e = go (isNumber ((span f) .0)) refl e
     go : (b : Bool) → isNumber ((span f) .0) ≡ b → cond b (endedBy (decimal 0 ((span f) .0)) ((span f) .1)) malformed ≡ ended n r → Numbered f n r
     go false q k = let z : _≡_ {A = ℕ} 0 1 = cc in absurd (omega arith)
     go true q k =
-        let x = ended-by (decimal 0 ((span f) .0)) ((span f) .1) n r k in
+        let x = ended-exact (decimal 0 ((span f) .0)) n ((span f) .1) r k in
         let y = fed f r (x .1) in
         record {
           digits = (span f) .0;

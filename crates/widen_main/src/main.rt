@@ -1,5 +1,6 @@
 // The program widen: `x` in a witness wherever every completion still hits.
 use files::say;
+use files::say_front;
 
 fn say_help() {
     say(b"widen FILE WITNESS\n\n");
@@ -28,21 +29,15 @@ fn widen_files() {
     let mut m = [0u32; 33032];
     let mut out = [0u8; 66826];
     let mut line = [0u8; 128];
-    let circuit = files::read_argument(1, &mut file);
-    if circuit.failed {
+    let got = files::read_two(1, 2, &mut file, &mut text);
+    if got.failed {
         return;
     }
-    let witness = files::read_argument(2, &mut text);
-    if witness.failed {
-        return;
-    }
-    let n = circuit.count;
-    let k = witness.count;
+    let n = got.first;
+    let k = got.second;
     let report = widen_command::widen(&file[..n], &text[..k], &mut m, &mut out, &mut line);
-    let said = report.line;
-    let written = report.out;
-    say(&line[..said]);
-    say(&out[..written]);
+    say_front(&line, report.line);
+    say_front(&out, report.out);
 }
 
 fn main() {

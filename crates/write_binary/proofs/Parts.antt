@@ -44,6 +44,7 @@ use Rattle.write.proofs.Output.{Rest, rest-start, rest-room, rest-more, rest-en
 use Rattle.write.proofs.Rows.{row-line}
 use Rattle.write_binary.specs.Texts.{headText, Small, Ready}
 use Rattle.write_binary.proofs.Sections.{latches-part, lines-part, gates-part}
+use Rattle.pairing.proofs.Images.{output-count}
 
 module _ {m : List ℕ} {p : Layout} {names order : List ℕ} (g : Ready m p names order) where
   abbrev c : Circuit
@@ -52,17 +53,13 @@ module _ {m : List ℕ} {p : Layout} {names order : List ℕ} (g : Ready m p nam
   abbrev a : LayoutOf m p
   a = g .layout-of
 
-  output-count : length (circuitIn m .outputs) ≡ word m 3
-  unfolding circuitIn
-  output-count = upto-length (λ k. word m (outputsAt m + 1 * k)) (word m 3)
-
   pub small : Small p
   small =
       let n = counts (g .held) in
       record {
         definitions =
             omega (arith, n .definitions, n .maxVar, a .i-is, a .l-is, a .a-is, input-count m, latch-count m, gate-count m);
-        outputs = omega (arith, n .outputs, a .o-is, output-count);
+        outputs = omega (arith, n .outputs, a .o-is, output-count m);
         bads = omega (arith, n .bads, a .b-is, bad-count m);
         constraints = omega (arith, n .constraints, a .c-is, constraint-count m);
       }
@@ -87,7 +84,7 @@ module _ {m : List ℕ} {p : Layout} {names order : List ℕ} (g : Ready m p nam
       let i′ = inputs-length v ∙ i in
       let l′ = latches-length v ∙ l in
       let n′ = gates-length v ∙ n in
-      let o = length-map (c .outputs) (literalUnder (newNumber c)) ∙ output-count ∙ sym (a .o-is) in
+      let o = length-map (c .outputs) (literalUnder (newNumber c)) ∙ output-count m ∙ sym (a .o-is) in
       let b = length-map (c .bads) (literalUnder (newNumber c)) ∙ bad-count m ∙ sym (a .b-is) in
       let k = length-map (c .constraints) (literalUnder (newNumber c)) ∙ constraint-count m ∙ sym (a .c-is) in
       λ x. bytes "aig " ++ lineOf (i x + l x + n x) (i′ x ∷ l′ x ∷ o x ∷ n′ x ∷ b x ∷ k x ∷ [])

@@ -1,17 +1,23 @@
-// The program write: the circuit of a file as text.
+// The program write: the circuit of a file as text, or in binary form.
 use files::say;
+use files::say_front;
 
 fn say_help() {
     say(b"write FILE [--binary]\n\n");
     say(
         b"Loads the AIGER 1.9 file FILE and prints its circuit: a header of seven numbers, the definitions in\n",
     );
+    say(b"their order, a reset only where it is not 0, and no tail.\n\n");
     say(
-        b"their order, a reset only where it is not 0, and no tail. With --binary it prints the binary form, with new numbers.\n\n",
+        b"With --binary it prints the binary form: differences of gates in the fewest groups. Variables get new numbers: inputs,\n",
+    );
+    say(
+        b"latches, then gates, each time the earliest listed gate whose operands have numbers.\n\n",
     );
     say(b"A file that is not accepted is refused with a number and its cause:\n");
     help::say_refusals(1, 3);
     help::say_refusals(5, 8);
+    help::say_refusals(15, 15);
     say(b"\nExample: ./yunverok write crates/write_main/data/s.aag\n");
 }
 
@@ -21,8 +27,14 @@ fn is_help_asked() -> bool {
     help::is_help(&word[..length])
 }
 
+fn is_binary_asked() -> bool {
+    let mut word = io::buffer();
+    let length = os::arg(2, &mut word);
+    check::same(&word[..length], b"--binary")
+}
+
 // Writes the circuit of the file that argument 1 names.
-fn write_file() {
+fn write_file(binary: bool) {
     let mut file = [0u8; 65537];
     let mut m = [0u32; 33032];
     let mut out = [0u8; 65536];
@@ -32,21 +44,29 @@ fn write_file() {
         return;
     }
     let n = got.count;
-    let report = commands::write(&file[..n], &mut m, &mut out, &mut line);
-    let said = report.line;
-    let written = report.out;
-    say(&line[..said]);
-    say(&out[..written]);
+    let report = write_command::write(binary, &file[..n], &mut m, &mut out, &mut line);
+    say_front(&line, report.line);
+    say_front(&out, report.out);
 }
 
+// One argument: text, unless help is asked. Two: the binary form.
 fn main() {
-    if os::arg_count() != 2 {
+    let count = os::arg_count();
+    if count == 2 {
+        if is_help_asked() {
+            say_help();
+            return;
+        }
+        write_file(false);
+        return;
+    }
+    if count != 3 {
         say_help();
         return;
     }
-    if is_help_asked() {
-        say_help();
+    if is_binary_asked() {
+        write_file(true);
         return;
     }
-    write_file();
+    say_help();
 }

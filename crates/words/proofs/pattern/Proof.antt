@@ -10,7 +10,7 @@ use lib.Dec.{T}
 use lib.ListN.{getD}
 use Rattle.aiger.specs.Bits.{bit}
 use Rattle.aiger.specs.Lists.{everyBelow}
-use Rattle.aiger.proofs.Tests.{below-at}
+use Rattle.aiger.proofs.Tests.{below-at, equal-of-beq}
 use Rattle.words.proofs.Bits.{bit-beyond, bit-none}
 use Rattle.words.proofs.pattern.Statement.{statement}
 use Rattle.words.proofs.pattern.Tie as tie
@@ -20,12 +20,6 @@ use Rattle.words.proofs.pattern.Lts as lts
 -- entry j has bit p set where bit j of p is
 abbrev right : List ℕ → ℕ → ℕ → Bool
 right xs j p = Bool·beq (bit (getD xs j 0) p) (bit p j)
-
-equal-of-beq : (a b : Bool) → T (Bool·beq a b) → a ≡ b
-equal-of-beq true true t = refl
-equal-of-beq true false t = absurd t
-equal-of-beq false true t = absurd t
-equal-of-beq false false t = refl
 
 module _ (c : lts.Start reads.Pre reads.Post) where
   -- the code's own table, its local 4

@@ -1,12 +1,12 @@
--- `binary_command::write` meets its contract. Assumes nothing.
+-- `write_command::write` meets its contract. Assumes nothing.
 use mathlib.Core.Path.{ap}
 use Rattle.load.specs.Answers.{answered}
 use Rattle.job.proofs.Printing.{not-loaded, stored, stored-in}
 use Rattle.replies.proofs.Loading.{loaded-words}
-use Rattle.binary_command.proofs.Answers.{write-refusal, write-text}
+use Rattle.write_command.proofs.Answers.{write-refusal, write-text}
 use borrow.Author.Needs.{needs}
-use Rattle.binary_command.proofs.write.Statement.{statement}
-use Rattle.binary_command.proofs.write.Tie as tie
+use Rattle.write_command.proofs.write.Statement.{statement}
+use Rattle.write_command.proofs.write.Tie as tie
 
 load-requires : tie.Need-load-requires
 load-requires c κs = search needs
@@ -41,7 +41,7 @@ returns c =
     let s = l .before .before .before .before .before .before in
     let a = s .args in
     let e = not-loaded (l .load .ensures) (ap answered (n .n .given .1)) in
-    (write-refusal (a .m .now) (a .file .now) (s .pre .0) (a .out .now) e (f .0) (f .1), loaded-words (l .load .ensures))
+    (write-refusal (a .binary) (a .m .now) (a .file .now) (s .pre .0) (a .out .now) e (f .0) (f .1), loaded-words (l .load .ensures))
 
 same-length-3 : tie.Need-same-length-3
 same-length-3 c = search needs
@@ -59,7 +59,7 @@ returns-2 c =
     let l = n .before .before .before .before in
     let s = l .before .before .before .before .before .before in
     let e = stored (l .load .ensures) (ap answered (n .enum-told .given .1)) in
-    (rw (write-text (s .args .m .now) (s .args .file .now) (s .pre .0) e) at g, loaded-words (l .load .ensures))
+    (rw (write-text (s .args .binary) (s .args .m .now) (s .args .file .now) (s .pre .0) e) at g, loaded-words (l .load .ensures))
 
 pub write-spec : {M : Type 1} → statement M
 write-spec =

@@ -1,10 +1,10 @@
--- `binary_command::write_loaded` meets its contract. Assumes nothing.
+-- `write_command::write_binary_loaded` meets its contract. Assumes nothing.
 use mathlib.Core.Path.{ap}
 use Rattle.write.specs.Answer.{answered}
-use Rattle.binary_command.proofs.Answers.{write-shown, write-never}
+use Rattle.write_command.proofs.Answers.{write-shown, write-never}
 use borrow.Author.Needs.{needs}
-use Rattle.binary_command.proofs.write_loaded.Statement.{statement}
-use Rattle.binary_command.proofs.write_loaded.Tie as tie
+use Rattle.write_command.proofs.write_binary_loaded.Statement.{statement}
+use Rattle.write_command.proofs.write_binary_loaded.Tie as tie
 
 write-binary-requires : tie.Need-write-binary-requires
 write-binary-requires c κs = search needs
@@ -39,8 +39,8 @@ returns-2 c =
     let s = w .before .before .before .before .before in
     absurd (write-never (s .pre .0) (s .pre .1) (w .write-binary .ensures) (ap answered (c .before .before .before .before .before .n2 .given .1)))
 
-pub write-loaded-spec : {M : Type 1} → statement M
-write-loaded-spec =
+pub write-binary-loaded-spec : {M : Type 1} → statement M
+write-binary-loaded-spec =
     tie.close
     (tie.spec
     write-binary-requires

@@ -1,5 +1,6 @@
 -- From what load and write_binary answer to what is printed. Assumes nothing.
 use mathlib.Core.Path.{_≡_, refl, sym, ap, _∙_}
+use mathlib.Core.Bool.{Bool, true}
 use mathlib.Core.List.{List}
 use Prim.Native.Nat.{ℕ, _≤_}
 use native.Mathlib.Omega.{arith}
@@ -18,14 +19,14 @@ use Rattle.replies.specs.Refusal.{refusalText}
 use Rattle.replies.specs.Reply.{Fronts, Leaves}
 use Rattle.replies.specs.declared.Report.{Report}
 use Rattle.replies.proofs.Putting.{fronts-none, refused-leaves}
-use Rattle.binary_command.specs.Texts.{written, writeReply}
+use Rattle.write_command.specs.Texts.{written, writeReply}
 
 -- on a loaded circuit
-module _ {m out out′ : List ℕ} {a : Answer ℕ} (h : Holds m (circuitIn m)) (room : 24576 ≤ length out) (w : WrittenBinary m out a out′) where
+module _ {m out out′ : List ℕ} {a : Answer ℕ} (h : Holds m (circuitIn m)) (room : 65536 ≤ length out) (w : WrittenBinary m out a out′) where
   fits : WrittenBinary m out (gives (length (writeBinary (circuitIn m)))) (front (writeBinary (circuitIn m)) out)
   fits = written-in (circuitIn m) h (omega (arith, text-short h))
 
-  pub write-shown : (line : List ℕ) {n : ℕ} → a ≡ gives n → Leaves (written (circuitIn m)) line out (record { line = 0; out = n }) line out′
+  pub write-shown : (line : List ℕ) {n : ℕ} → a ≡ gives n → Leaves (written true (circuitIn m)) line out (record { line = 0; out = n }) line out′
   write-shown line e =
       let s = written-same w fits in
       record { line-is = fronts-none line; out-is = record { long = sym (gives-same (sym (s .0) ∙ e)); contents = s .1 } }
@@ -37,12 +38,12 @@ module _ {m out out′ : List ℕ} {a : Answer ℕ} (h : Holds m (circuitIn m)) 
       omega arith
 
 -- a file that is not loaded, and one that is
-module _ (m f : List ℕ) (room : length m ≡ 33032) where
+module _ (binary : Bool) (m f : List ℕ) (room : length m ≡ 33032) where
   pub write-refusal : {line : List ℕ} (out : List ℕ) {r : Report} {line′ : List ℕ} {n : ℕ} → load (length m) f ≡ refused n
-      → Fronts (refusalText n) line (r .line) line′ → r .out ≡ 0 → Leaves (writeReply f) line out r line′ out
+      → Fronts (refusalText n) line (r .line) line′ → r .out ≡ 0 → Leaves (writeReply binary f) line out r line′ out
   unfolding writeReply
   write-refusal out {n = n} e p q = rw (rw room at e) (refused-leaves n out p q)
 
-  pub write-text : {m′ : List ℕ} → Stored m f m′ → written (circuitIn m′) ≡ writeReply f
+  pub write-text : {m′ : List ℕ} → Stored m f m′ → written binary (circuitIn m′) ≡ writeReply binary f
   unfolding writeReply
-  write-text s = rw (rw room at (s .accepted)) (ap written (held (s .holds)))
+  write-text s = rw (rw room at (s .accepted)) (ap (written binary) (held (s .holds)))
