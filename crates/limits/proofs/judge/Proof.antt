@@ -12,7 +12,10 @@ use Rattle.limits.proofs.judge.Tie as tie
 returns : tie.Need-returns
 returns c =
     let a = c .before .args in
-    record { tests = λ x e. bad-refused x (a .b) (a .k) (a .budget) (a .room) (omega (arith, e .bads)); within = λ z. absurd (not-accepted 10 z) }
+    record {
+      tests = λ x e. bad-refused x (a .b) (a .k) (a .budget) (a .room) (omega (arith, e .bads));
+      within = λ z. absurd (not-accepted 10 z);
+    }
 
 returns-2 : tie.Need-returns-2
 returns-2 c =
