@@ -21,11 +21,13 @@ use Rattle.fold.specs.Answer.{FoldFits, FoldShown}
 
 module _ {m : List ℕ} (held : Holds m (circuitIn m)) {b t : ℕ} {work out : List ℕ} where
   -- the number of a test that fails is the answer
-  pub refused-with : {n : ℕ} → judge (foldTests (circuitIn m) b t (length work) (length out)) ≡ refused n → Folded chosen m b t work out (refused n) work out
+  pub refused-with : {n : ℕ} → judge (foldTests (circuitIn m) b t (length work) (length out)) ≡ refused n
+      → Folded chosen m b t work out (refused n) work out
   refused-with e = Operated.refuses (circuitIn m) held e
 
   -- where all tests pass, the frame can be folded
-  pub fits : {p : Layout} {order : List ℕ} {starts : ℕ} → LayoutOf m p → Ordered (circuitIn m) order → 3072 ≤ length order → starts ≡ freeStarts (circuitIn m) 
+  pub fits : {p : Layout} {order : List ℕ} {starts : ℕ} → LayoutOf m p → Ordered (circuitIn m) order → 3072 ≤ length order
+      → starts ≡ freeStarts (circuitIn m)
       → judge (foldTests (circuitIn m) b t (length work) (length out)) ≡ gives tt → FoldFits m p order b t starts work out
   fits a o l s e =
       let N = 24 * size (circuitIn m) t + 64 in

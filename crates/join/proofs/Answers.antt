@@ -148,7 +148,11 @@ module _ (p q : Layout) (room : ℕ) where
   says-17 n = record { tests = λ c d e f. fails-17 _ _ (pair-test e f ∙ n); passes = λ z. absurd (not-accepted 17 z) }
 
   pub says-3 : pairs ≡ true → countsFit (headerMeant (countsOf p q)) ≡ false → RulingIs p q room (Refused 3)
-  says-3 t n = record { tests = λ c d e f. fails-3 _ (pair-test e f ∙ t) (fit-is e f (same-outputs t) ∙ n); passes = λ z. absurd (not-accepted 3 z) }
+  says-3 t n =
+      record {
+        tests = λ c d e f. fails-3 _ (pair-test e f ∙ t) (fit-is e f (same-outputs t) ∙ n);
+        passes = λ z. absurd (not-accepted 3 z);
+      }
 
   module _ (t : (leb 1 (p .o) && leb (p .o) 16 && eqb (p .i) (q .i) && eqb (p .o) (q .o)) ≡ true) (u : countsFit (headerMeant (countsOf p q)) ≡ true) where
     pub says-4 : room < needed (variables p q) → RulingIs p q room (Refused 4)
@@ -180,9 +184,11 @@ module _ (p q : Layout) (room : ℕ) where
 
 -- ---- the answers
 
-module _ {m₁ m₂ m : List ℕ} {p q : Layout} (h : Holds m₁ (circuitIn m₁)) (a : LayoutOf m₁ p) (h′ : Holds m₂ (circuitIn m₂)) (a′ : LayoutOf m₂ q) where
+module _ {m₁ m₂ m : List ℕ} {p q : Layout} (h : Holds m₁ (circuitIn m₁)) (a : LayoutOf m₁ p) (h′ : Holds m₂ (circuitIn m₂))
+    (a′ : LayoutOf m₂ q) where
   pub refuses-in : {n : ℕ} → RulingIs p q (length m) (Refused n) → JoinedInto m₁ m₂ m (refused n) m
-  refuses-in t = JoinedInto.refuses (circuitIn m₁) (circuitIn m₂) h h′ (t .tests (circuitIn m₁) (circuitIn m₂) (counts-are a) (counts-are a′))
+  refuses-in t =
+      JoinedInto.refuses (circuitIn m₁) (circuitIn m₂) h h′ (t .tests (circuitIn m₁) (circuitIn m₂) (counts-are a) (counts-are a′))
 
   pub stores-in : RulingIs p q (length m) Accepted → {after : List ℕ} {k : load.Counts}
       → after ≡ front (image (joined (circuitIn m₁) (circuitIn m₂))) m → k ≡ countsOf p q → JoinedInto m₁ m₂ m (answered (Loaded k)) after

@@ -61,5 +61,6 @@ module _ {m : List ℕ} (pins : List ℕ) {user : ℕ} (h : Holds m (circuitIn m
           Operated m (λ d. foldTests d b t (length w) (length out)) (w, out) (PinnedFoldEffect chosen (pinsOf pins user) b t out) y (w′, out′))
           (sym e) g
 
-  pub refused-with : {n : ℕ} → judge (foldTests (circuitIn m) b t (length w) (length out)) ≡ refused n → PinnedFolded chosen m pins user b t w out (refused n) w out
+  pub refused-with : {n : ℕ} → judge (foldTests (circuitIn m) b t (length w) (length out)) ≡ refused n
+      → PinnedFolded chosen m pins user b t w out (refused n) w out
   refused-with e = ForUser.known u (Operated.refuses (circuitIn m) h e)

@@ -30,7 +30,8 @@ enum-told : tie.Need-enum-told
 enum-told c = search needs
 
 size-requires : tie.Need-size-requires
-size-requires c κs = (c .before .before .before .pre, omega (arith, c .before .before .judge .ensures .within (c .enum-told .given .1) .bound))
+size-requires c κs =
+    (c .before .before .before .pre, omega (arith, c .before .before .judge .ensures .within (c .enum-told .given .1) .bound))
 
 mul-if1 : tie.Need-mul-if1
 mul-if1 c = omega (arith, c .before .before .before .judge .ensures .within (c .before .enum-told .given .1) .small, c .size .ensures)
@@ -43,7 +44,8 @@ returns-2 c =
     let a = c .before .before .before .before .before .args in
     λ x e.
     let u = c .before .size .ensures ∙ size-is e (a .t) in
-    length-refused (boundTests x (a .b) (a .t) true (a .room)) (rw (c .before .before .enum-told .given .1) at (c .before .before .before .before .judge .ensures .tests x e))
+    length-refused (boundTests x (a .b) (a .t) true (a .room))
+    (rw (c .before .before .enum-told .given .1) at (c .before .before .before .before .judge .ensures .tests x e))
     (24 * size x (a .t) + 64) (a .len) (omega (arith, c .if1 .taken))
 
 returns-3 : tie.Need-returns-3
@@ -51,7 +53,8 @@ returns-3 c =
     let a = c .before .before .before .before .before .args in
     λ x e.
     let u = c .before .size .ensures ∙ size-is e (a .t) in
-    length-passes (boundTests x (a .b) (a .t) true (a .room)) (rw (c .before .before .enum-told .given .1) at (c .before .before .before .before .judge .ensures .tests x e))
+    length-passes (boundTests x (a .b) (a .t) true (a .room))
+    (rw (c .before .before .enum-told .given .1) at (c .before .before .before .before .judge .ensures .tests x e))
     (24 * size x (a .t) + 64) (a .len) (omega (arith, c .if1 .left))
 
 pub judge-spec : {M : Type 1} → statement M

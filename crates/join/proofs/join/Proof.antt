@@ -83,7 +83,8 @@ returns-4 c =
     let p = q .before .before .before .before in
     let t = rw (p .p .given .1) at (p .before .before .test .ensures) in
     let u = rw (q .q .given .1) at (q .before .before .test2 .ensures) in
-    stores-in (t .1) (t .0) (u .1) (u .0) (rw (e .enum-told3 .given .1) at (r .judge .ensures)) (k .join-held .ensures) (c .joined-counts .ensures)
+    stores-in (t .1) (t .0) (u .1) (u .0) (rw (e .enum-told3 .given .1) at (r .judge .ensures))
+    (k .join-held .ensures) (c .joined-counts .ensures)
 
 pub join-spec : {M : Type 1} → statement M
 join-spec =
