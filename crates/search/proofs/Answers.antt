@@ -23,11 +23,12 @@ use Rattle.search.proofs.Choice.{chosen-permitted}
 
 module _ {m : List ℕ} (held : Holds m (circuitIn m)) {b k D : ℕ} {work out : List ℕ} where
   -- the number of a test that fails is the answer
-  pub refused-with : {n : ℕ} → judge (searchTests (circuitIn m) b k D (length work) (length out)) ≡ refused n → Searched chosen m b k D work out (refused n) work out
+  pub refused-with : {n : ℕ} → judge (searchTests (circuitIn m) b k D (length work) (length out)) ≡ refused n
+      → Searched chosen m b k D work out (refused n) work out
   refused-with e = Operated.refuses (circuitIn m) held e
 
   -- where all tests pass, the frames can be searched
-  pub fits : {p : Layout} {order : List ℕ} → LayoutOf m p → Ordered (circuitIn m) order → 3072 ≤ length order 
+  pub fits : {p : Layout} {order : List ℕ} → LayoutOf m p → Ordered (circuitIn m) order → 3072 ≤ length order
       → judge (searchTests (circuitIn m) b k D (length work) (length out)) ≡ gives tt → SearchFits m p order b k D work out
   fits a o l e =
       let W = witnessLength (circuitIn m) b k in
@@ -46,7 +47,8 @@ module _ {m : List ℕ} (held : Holds m (circuitIn m)) {b k D : ℕ} {work out :
       }
 
   -- what the search of the frames answers is the answer
-  pub answered-with : judge (searchTests (circuitIn m) b k D (length work) (length out)) ≡ gives tt → {a : Answer Outcome} {work′ out′ : List ℕ}
+  pub answered-with : judge (searchTests (circuitIn m) b k D (length work) (length out)) ≡ gives tt
+      → {a : Answer Outcome} {work′ out′ : List ℕ}
       → Answered (circuitIn m) b k D out a out′ → Searched chosen m b k D work out a work′ out′
   answered-with e {a} {work′} {out′} w =
       subst (λ (r : Answer Outcome). Searched chosen m b k D work out r work′ out′) (sym (w .says))

@@ -37,7 +37,8 @@ returns c =
     let n = c .before .before .before in
     let a = n .before .before .args in
     λ x e.
-    judge-refused (boundTests x (a .b) (a .k) (budgetRight (a .d)) (a .room)) (need 13 (leb (witnessLength x (a .b) (a .k)) (a .len)) ∷ []) _
+    judge-refused (boundTests x (a .b) (a .k) (budgetRight (a .d)) (a .room))
+    (need 13 (leb (witnessLength x (a .b) (a .k)) (a .len)) ∷ []) _
     (rw (c .before .n .given .1) at (bounded n x e))
 
 enum-told : tie.Need-enum-told
