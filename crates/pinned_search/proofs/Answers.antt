@@ -205,5 +205,6 @@ module _ {m : List ℕ} (pins : List ℕ) {user : ℕ} (h : Holds m (circuitIn m
           Operated m (λ d. searchTests d b k D (length w) (length out)) (w, out) (PinnedSearchEffect chosen (pinsOf pins user) b k D out) y (w′, out′))
           (sym e) g
 
-  pub refused-with : {n : ℕ} → judge (searchTests (circuitIn m) b k D (length w) (length out)) ≡ refused n → PinnedSearched chosen m pins user b k D w out (refused n) w out
+  pub refused-with : {n : ℕ} → judge (searchTests (circuitIn m) b k D (length w) (length out)) ≡ refused n
+      → PinnedSearched chosen m pins user b k D w out (refused n) w out
   refused-with e = ForUser.known u (Operated.refuses (circuitIn m) h e)

@@ -70,7 +70,8 @@ returns-4 c =
     let l = r .before .before in
     let a = l .before .before .before .before .before .before .before .before .args in
     let h = rw (l .layout .given .1) at (l .before .before .test .ensures) in
-    answered (a .pins .now) (h .1) (omega arith) (rw (t .enum-told2 .given .1) at (r .judge .ensures _ (counts-of (h .1) (h .0)))) (k .search-known .ensures)
+    answered (a .pins .now) (h .1) (omega arith) (rw (t .enum-told2 .given .1) at (r .judge .ensures _ (counts-of (h .1) (h .0))))
+    (k .search-known .ensures)
 
 pub search-spec : {M : Type 1} → statement M
 search-spec =
