@@ -3,6 +3,7 @@ use mathlib.Core.Path.{_≡_, refl, sym, ap, ap₂, _∙_}
 use mathlib.Core.Bool.{Bool, true, false, not, cond, _||_}
 use mathlib.Core.List.{List}
 use Prim.Native.Nat.{ℕ, zero, suc, _+_, _-_, _*_, _%_, _^_, _≤_, _<_}
+use native.Mathlib.Decide.{decLt}
 use native.Mathlib.Omega.{arith}
 use borrow.Author.Tests.{eq-eqb, ne-eqb}
 use lib.Pow.{pow-mono, pow-add}
@@ -53,15 +54,22 @@ other-bit byte b n k = rw (ne-eqb byte 120 n, ne-eqb byte 49 k)
 
 -- ---- blocks that cover the completions
 
-pub one-block : (n : ℕ) → n < 7 → 2 ^ n ≤ 1 * 64
-one-block n h = pow-mono {i = n} {j = 6} (omega arith)
+pub one-block : (n : ℕ) → n < 7 → 1 ≡ 2 ^ (n - 6)
+one-block n h = let e : 0 ≡ n - 6 = omega arith in ap (λ (k : ℕ). 2 ^ k) e
 
-pub more-blocks : (n : ℕ) → 7 ≤ n → n ≤ 16 → 2 ^ n ≤ (1 * 2 ^ (n - 6)) % 18446744073709551616 * 64
-more-blocks n h few =
-    let e : n - 6 + 6 ≡ n = omega arith in
-    let q : 2 ^ n ≡ 2 ^ (n - 6) * 2 ^ 6 = ap (λ (k : ℕ). 2 ^ k) (sym e) ∙ pow-add 2 (n - 6) 6 in
-    let l : 2 ^ (n - 6) ≤ 2 ^ 10 = pow-mono {i = n - 6} {j = 10} (omega arith) in
-    omega arith
+pub more-blocks : (n : ℕ) → n ≤ 16 → (1 * 2 ^ (n - 6)) % 18446744073709551616 ≡ 2 ^ (n - 6)
+more-blocks n few = let l : 2 ^ (n - 6) ≤ 2 ^ 10 = pow-mono {i = n - 6} {j = 10} (omega arith) in omega arith
+
+-- all completions of n `x`
+pub blocks-enough : (n : ℕ) → 2 ^ n ≤ 2 ^ (n - 6) * 64
+blocks-enough n =
+    elim (decLt n 7) [
+      | yes h ↦ let l : 2 ^ n ≤ 2 ^ 6 = pow-mono {i = n} {j = 6} (omega arith) in omega (arith, one-block n h)
+      | no h ↦
+          let e : n - 6 + 6 ≡ n = omega arith in
+          let q : 2 ^ n ≡ 2 ^ (n - 6) * 2 ^ 6 = ap (λ (k : ℕ). 2 ^ k) (sym e) ∙ pow-add 2 (n - 6) 6 in
+          omega arith
+    ]
 
 -- ---- a line of bits, one after the other
 

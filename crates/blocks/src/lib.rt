@@ -224,10 +224,10 @@ fn all_bits(b: bool) -> u64
     if b { 0xffff_ffff_ffff_ffff } else { 0 }
 }
 
-// How many blocks the completions of n `x` make.
+// How many blocks the completions of n `x` make: one where there are no more than 64.
 pub fn block_count(n: usize) -> u64
     requires { ⌜ n ≤ 16 ⌝ }
-    ensures { λ r. ⌜ 2 ^ n ≤ r * 64 ⌝ }
+    ensures { λ r. ⌜ r ≡ 2 ^ (n - 6) ⌝ }
 {
     if n < 7 { 1 } else { 1u64 << (n - 6) }
 }

@@ -15,23 +15,23 @@ use Rattle.layout.specs.Layout.{LayoutOf}
 use Rattle.layout.specs.Order.{Ordered}
 use Rattle.layout.specs.declared.Layout.{Layout}
 use Rattle.frames.proofs.Facts.{counts, top-is, bad-count}
-use Rattle.limits.specs.Limits.{told}
-use Rattle.limits.proofs.Refusals.{told-refused, told-passed, passed, length-enough}
+use Rattle.limits.proofs.Refusals.{passed, length-enough}
 use Rattle.fold.specs.Chosen.{chosen}
 use Rattle.fold.specs.Answer.{FoldFits, FoldShown}
 
 module _ {m : List ℕ} (held : Holds m (circuitIn m)) {b t : ℕ} {work out : List ℕ} where
-  -- a number other than 0 is the answer
-  pub refused-with : (n : ℕ) → judge (foldTests (circuitIn m) b t (length work) (length out)) ≡ told n → (n ≡ 0 → ⊥)
+  -- the number of a test that fails is the answer
+  pub refused-with : {n : ℕ} → judge (foldTests (circuitIn m) b t (length work) (length out)) ≡ refused n
       → Folded chosen m b t work out (refused n) work out
-  refused-with n e h = Operated.refuses (circuitIn m) held (e ∙ told-refused n h)
+  refused-with e = Operated.refuses (circuitIn m) held e
 
   -- where all tests pass, the frame can be folded
-  pub fits : {p : Layout} {order : List ℕ} {starts : ℕ} → LayoutOf m p → Ordered (circuitIn m) order → 3072 ≤ length order → starts ≡ freeStarts (circuitIn m) → {n : ℕ}
-      → judge (foldTests (circuitIn m) b t (length work) (length out)) ≡ told n → n ≡ 0 → FoldFits m p order b t starts work out
-  fits a o l s {n} e z =
+  pub fits : {p : Layout} {order : List ℕ} {starts : ℕ} → LayoutOf m p → Ordered (circuitIn m) order → 3072 ≤ length order
+      → starts ≡ freeStarts (circuitIn m)
+      → judge (foldTests (circuitIn m) b t (length work) (length out)) ≡ gives tt → FoldFits m p order b t starts work out
+  fits a o l s e =
       let N = 24 * size (circuitIn m) t + 64 in
-      let both = passed (circuitIn m) b t true (length work) (need 13 (leb N (length out)) ∷ []) (e ∙ told-passed n z) in
+      let both = passed (circuitIn m) b t true (length work) (need 13 (leb N (length out)) ∷ []) e in
       let q = both .0 in
       record {
         ready = record { held = held; layout-of = a; ordered = o; ranks = l; room = omega (arith, counts held .maxVar, top-is m) };
@@ -44,8 +44,8 @@ module _ {m : List ℕ} (held : Holds m (circuitIn m)) {b t : ℕ} {work out : L
       }
 
   -- the text that is written is the answer
-  pub written-with : {n : ℕ} → judge (foldTests (circuitIn m) b t (length work) (length out)) ≡ told n → n ≡ 0 → {r : ℕ} {work′ out′ : List ℕ}
+  pub written-with : judge (foldTests (circuitIn m) b t (length work) (length out)) ≡ gives tt → {r : ℕ} {work′ out′ : List ℕ}
       → FoldShown (circuitIn m) b t out r out′ → Folded chosen m b t work out (gives r) work′ out′
-  written-with {n} e z {r} {work′} {out′} f =
-      Operated.acts (circuitIn m) held (e ∙ told-passed n z)
+  written-with e {r} {work′} {out′} f =
+      Operated.acts (circuitIn m) held e
       (record { permitted = f .permitted; short = f .short; count = f .shown .count; shows = f .shown .contents })

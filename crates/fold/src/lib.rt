@@ -1,6 +1,7 @@
 // The operation fold: the hit of a bad line at a frame as a circuit without latches.
 use circuit::Held;
 use layout::Layout;
+use limits::Ruling;
 use literals::Lit;
 use literals::Var;
 use nodes::Edge;
@@ -121,20 +122,19 @@ fn write_folded(work: &[u32], g: Graph, root: Edge, kept: usize, out: &mut [u8])
     write_gates(work, g, out, gates)
 }
 
-// The number of the first of the tests 10 to 13 that fails, or 0. room is the words of working memory and len the bytes of output.
-pub fn refusal(layout: Layout, b: u64, t: u64, room: usize, len: usize) -> u32
+// The first of the tests 10 to 13 that fails. room is the words of working memory and len the bytes of output.
+pub fn judge(layout: Layout, b: u64, t: u64, room: usize, len: usize) -> Ruling
     requires { ⌜ Limited layout ⌝ }
     ensures { λ r. ⌜ ((c : Circuit) → CountsOf c layout → judge (foldTests c b t room len) ≡ told r) ⌝ }
 {
-    let number = limits::refusal(layout, b, t, true, room);
-    if number != 0 {
-        return number;
+    if let Ruling::Refused(n) = limits::judge(layout, b, t, true, room) {
+        return Ruling::Refused(n);
     }
     let units = limits::size(layout, t as usize);
     if len < 24 * units + 64 {
-        return 13;
+        return Ruling::Refused(13);
     }
-    0
+    Ruling::Accepted
 }
 
 // Folds frame t of a circuit that is ready. starts is the number of latches with a free start.
@@ -168,9 +168,8 @@ pub fn fold(m: &[u32], b: u64, t: u64, work: &mut [u32], out: &mut [u8]) -> Fold
     let Held::Circuit(layout) = circuit::held_in(m, &mut order) else {
         return FoldAnswer::Refused(9);
     };
-    let number = refusal(layout, b, t, work.len(), out.len());
-    if number != 0 {
-        return FoldAnswer::Refused(number);
+    if let Ruling::Refused(n) = judge(layout, b, t, work.len(), out.len()) {
+        return FoldAnswer::Refused(n);
     }
     let length = fold_frame(
         m,

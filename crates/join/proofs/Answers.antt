@@ -23,17 +23,17 @@ use Rattle.meaning.proofs.Lists.{length-map-upto}
 use Rattle.roundtrip.proofs.LoadWrite.{Counts, counts-fit}
 use Rattle.frames.proofs.Facts.{top-is, latch-count, gate-count, constraint-count, counts}
 use Rattle.load.specs.declared.Counts as load
-use Rattle.load.specs.declared.LoadAnswer.the-variants.{Loaded, Refused}
+use Rattle.load.specs.declared.LoadAnswer.the-variants.{Loaded}
 use Rattle.load.specs.Answers.{answered, numbers}
 use Rattle.load.specs.Steps.{headerMeant}
-use Rattle.limits.specs.Limits.{told}
-use Rattle.limits.proofs.Refusals.{told-refused, told-passed}
+use Rattle.limits.specs.declared.Ruling.the-variants.{Accepted, Refused}
+use Rattle.limits.proofs.Refusals.{not-accepted}
 use Rattle.joined.specs.Joined.{literalUnder, latchUnder, gateUnder, pairsGates, firstNumber, secondNumber, pairsFrom, joined, canPair, joinTests, JoinedInto}
 use Rattle.parting.proofs.Shape.{pairs-length}
 use Rattle.renumber.proofs.Naming.{input-count}
 use Rattle.pairing.specs.Words.{Small, Joins, variables}
 use Rattle.pairing.proofs.Images.{output-count}
-use Rattle.join.specs.Answers.{CountsAre, countsOf, RefusalIs}
+use Rattle.join.specs.Answers.{CountsAre, countsOf, RulingIs}
 
 -- ---- counts
 
@@ -112,19 +112,19 @@ header-top : (h : Header) → countsFit h ≡ true → T (leb (h .M) 4096)
 unfolding countsFit
 header-top h e = all-at (countTests h) (T-true e) 0
 
-pub fails-17 : {x : Bool} (y z : Bool) → x ≡ false → judge (need 17 x ∷ need 3 y ∷ need 4 z ∷ []) ≡ told 17
+pub fails-17 : {x : Bool} (y z : Bool) → x ≡ false → judge (need 17 x ∷ need 3 y ∷ need 4 z ∷ []) ≡ refused 17
 unfolding judge
 fails-17 y z e = ap (λ (x : Bool). judge (need 17 x ∷ need 3 y ∷ need 4 z ∷ [])) e
 
-pub fails-3 : {x y : Bool} (z : Bool) → x ≡ true → y ≡ false → judge (need 17 x ∷ need 3 y ∷ need 4 z ∷ []) ≡ told 3
+pub fails-3 : {x y : Bool} (z : Bool) → x ≡ true → y ≡ false → judge (need 17 x ∷ need 3 y ∷ need 4 z ∷ []) ≡ refused 3
 unfolding judge
 fails-3 z e f = ap₂ (λ (x y : Bool). judge (need 17 x ∷ need 3 y ∷ need 4 z ∷ [])) e f
 
-pub fails-4 : {x y z : Bool} → x ≡ true → y ≡ true → z ≡ false → judge (need 17 x ∷ need 3 y ∷ need 4 z ∷ []) ≡ told 4
+pub fails-4 : {x y z : Bool} → x ≡ true → y ≡ true → z ≡ false → judge (need 17 x ∷ need 3 y ∷ need 4 z ∷ []) ≡ refused 4
 unfolding judge
 fails-4 {z = z} e f g = ap₂ (λ (x y : Bool). judge (need 17 x ∷ need 3 y ∷ need 4 z ∷ [])) e f ∙ ap (λ (z : Bool). judge (need 4 z ∷ [])) g
 
-pub fails-none : {x y z : Bool} → x ≡ true → y ≡ true → z ≡ true → judge (need 17 x ∷ need 3 y ∷ need 4 z ∷ []) ≡ told 0
+pub fails-none : {x y z : Bool} → x ≡ true → y ≡ true → z ≡ true → judge (need 17 x ∷ need 3 y ∷ need 4 z ∷ []) ≡ gives tt
 unfolding judge
 fails-none {z = z} e f g = ap₂ (λ (x y : Bool). judge (need 17 x ∷ need 3 y ∷ need 4 z ∷ [])) e f ∙ ap (λ (z : Bool). judge (need 4 z ∷ [])) g
 
@@ -144,21 +144,25 @@ module _ (p q : Layout) (room : ℕ) where
   room-is : {c d : Circuit} → CountsAre c p → CountsAre d q → leb (needed (joined c d .maxVar)) room ≡ leb (needed (variables p q)) room
   room-is e f = ap (λ (n : ℕ). leb (needed n) room) (top-is-variables e f)
 
-  pub says-17 : pairs ≡ false → RefusalIs p q room 17
-  says-17 n = record { tests = λ c d e f. fails-17 _ _ (pair-test e f ∙ n); passes = λ z. absurd (omega arith) }
+  pub says-17 : pairs ≡ false → RulingIs p q room (Refused 17)
+  says-17 n = record { tests = λ c d e f. fails-17 _ _ (pair-test e f ∙ n); passes = λ z. absurd (not-accepted 17 z) }
 
-  pub says-3 : pairs ≡ true → countsFit (headerMeant (countsOf p q)) ≡ false → RefusalIs p q room 3
-  says-3 t n = record { tests = λ c d e f. fails-3 _ (pair-test e f ∙ t) (fit-is e f (same-outputs t) ∙ n); passes = λ z. absurd (omega arith) }
+  pub says-3 : pairs ≡ true → countsFit (headerMeant (countsOf p q)) ≡ false → RulingIs p q room (Refused 3)
+  says-3 t n =
+      record {
+        tests = λ c d e f. fails-3 _ (pair-test e f ∙ t) (fit-is e f (same-outputs t) ∙ n);
+        passes = λ z. absurd (not-accepted 3 z);
+      }
 
   module _ (t : (leb 1 (p .o) && leb (p .o) 16 && eqb (p .i) (q .i) && eqb (p .o) (q .o)) ≡ true) (u : countsFit (headerMeant (countsOf p q)) ≡ true) where
-    pub says-4 : room < needed (variables p q) → RefusalIs p q room 4
+    pub says-4 : room < needed (variables p q) → RulingIs p q room (Refused 4)
     says-4 l =
         record {
           tests = λ c d e f. fails-4 (pair-test e f ∙ t) (fit-is e f (same-outputs t) ∙ u) (room-is e f ∙ lt-leb (needed (variables p q)) room l);
-          passes = λ z. absurd (omega arith);
+          passes = λ z. absurd (not-accepted 4 z);
         }
 
-    pub says-none : Small p → Small q → needed (variables p q) ≤ room → RefusalIs p q room 0
+    pub says-none : Small p → Small q → needed (variables p q) ≤ room → RulingIs p q room Accepted
     says-none s s′ l =
         record {
           tests = λ c d e f. fails-none (pair-test e f ∙ t) (fit-is e f (same-outputs t) ∙ u) (room-is e f ∙ le-leb (needed (variables p q)) room l);
@@ -180,16 +184,18 @@ module _ (p q : Layout) (room : ℕ) where
 
 -- ---- the answers
 
-module _ {m₁ m₂ m : List ℕ} {p q : Layout} (h : Holds m₁ (circuitIn m₁)) (a : LayoutOf m₁ p) (h′ : Holds m₂ (circuitIn m₂)) (a′ : LayoutOf m₂ q) {r : ℕ} (t : RefusalIs p q (length m) r) where
-  pub refuses-in : (r ≡ 0 → ⊥) → JoinedInto m₁ m₂ m (refused r) m
-  refuses-in n = JoinedInto.refuses (circuitIn m₁) (circuitIn m₂) h h′ (t .tests (circuitIn m₁) (circuitIn m₂) (counts-are a) (counts-are a′) ∙ told-refused r n)
+module _ {m₁ m₂ m : List ℕ} {p q : Layout} (h : Holds m₁ (circuitIn m₁)) (a : LayoutOf m₁ p) (h′ : Holds m₂ (circuitIn m₂))
+    (a′ : LayoutOf m₂ q) where
+  pub refuses-in : {n : ℕ} → RulingIs p q (length m) (Refused n) → JoinedInto m₁ m₂ m (refused n) m
+  refuses-in t =
+      JoinedInto.refuses (circuitIn m₁) (circuitIn m₂) h h′ (t .tests (circuitIn m₁) (circuitIn m₂) (counts-are a) (counts-are a′))
 
-  pub stores-in : r ≡ 0 → {after : List ℕ} {k : load.Counts} → after ≡ front (image (joined (circuitIn m₁) (circuitIn m₂))) m → k ≡ countsOf p q
-      → JoinedInto m₁ m₂ m (answered (Loaded k)) after
-  stores-in z {after} {k} e f =
+  pub stores-in : RulingIs p q (length m) Accepted → {after : List ℕ} {k : load.Counts}
+      → after ≡ front (image (joined (circuitIn m₁) (circuitIn m₂))) m → k ≡ countsOf p q → JoinedInto m₁ m₂ m (answered (Loaded k)) after
+  stores-in t {after} {k} e f =
       let J = joined (circuitIn m₁) (circuitIn m₂) in
-      let passed = t .passes z in
+      let passed = t .passes refl in
       let hd = header-is (counts-are a) (counts-are a′) (passed .0 .outputs) in
       let row : numbers k ≡ J .maxVar ∷ countRow J = ap numbers f ∙ sym (ap (λ (x : Header). x .M ∷ x .I ∷ x .L ∷ x .O ∷ x .A ∷ x .B ∷ x .C ∷ []) hd) in
       subst₂ (λ (x : List ℕ) (y : List ℕ). JoinedInto m₁ m₂ m (gives x) y) (sym row) (sym e)
-      (JoinedInto.stores (circuitIn m₁) (circuitIn m₂) h h′ (t .tests (circuitIn m₁) (circuitIn m₂) (counts-are a) (counts-are a′) ∙ told-passed r z))
+      (JoinedInto.stores (circuitIn m₁) (circuitIn m₂) h h′ (t .tests (circuitIn m₁) (circuitIn m₂) (counts-are a) (counts-are a′)))

@@ -8,6 +8,8 @@ use Rattle.aiger.specs.Operations.{judge}
 use Rattle.layout.specs.declared.Layout.{Layout}
 use Rattle.load.specs.declared.Counts.{Counts}
 use Rattle.limits.specs.Limits.{told}
+use Rattle.limits.specs.declared.Ruling.{Ruling}
+use Rattle.limits.specs.declared.Ruling.the-variants.{Accepted}
 use Rattle.joined.specs.Joined.{joinTests}
 use Rattle.pairing.specs.Words.{variables, Joins}
 
@@ -32,7 +34,7 @@ countsOf p q =
       c = p .c + q .c;
     }
 
--- the number of the first of the tests 17, 3 and 4 that fails, of any circuits with these counts; what holds where all pass
-pub record RefusalIs (p q : Layout) (room r : ℕ) : Type 0 where
+-- the first of the tests 17, 3 and 4 that fails, of any circuits with these counts; what holds where all pass
+pub record RulingIs (p q : Layout) (room : ℕ) (r : Ruling) : Type 0 where
   pub tests : (c d : Circuit) → CountsAre c p → CountsAre d q → judge (joinTests c d room) ≡ told r
-  pub passes : r ≡ 0 → Joins p q × (needed (variables p q) ≤ room)
+  pub passes : r ≡ Accepted → Joins p q × (needed (variables p q) ≤ room)

@@ -1,6 +1,7 @@
 // Join: two circuits with the same inputs into one, whose bad lines are true where the outputs of a pair differ.
 use circuit::Held;
 use layout::Layout;
+use limits::Ruling;
 use load::Counts;
 use load::LoadAnswer;
 ghost use mathlib.Core.Path.{_≡_};
@@ -18,7 +19,7 @@ ghost use Rattle.load.specs.Answers.{answered};
 ghost use Rattle.load.specs.Steps.{headerMeant};
 ghost use Rattle.joined.specs.Joined.{joined, JoinedInto};
 ghost use Rattle.pairing.specs.Words.{Small, variables, Joins};
-ghost use Rattle.join.specs.Answers.{countsOf, RefusalIs};
+ghost use Rattle.join.specs.Answers.{countsOf, RulingIs};
 
 // The counts of the joined circuit.
 fn joined_counts(p: Layout, q: Layout) -> Counts
@@ -64,22 +65,22 @@ fn can_pair(p: Layout, q: Layout) -> bool
     (1 <= p.o) & (p.o <= 16) & (p.i == q.i) & (p.o == q.o)
 }
 
-// The number of the first of the tests 17, 3 and 4 that fails, or 0. room is the words of the third memory.
-fn refusal(p: Layout, q: Layout, room: usize) -> u32
+// The first of the tests 17, 3 and 4 that fails. room is the words of the third memory.
+fn judge(p: Layout, q: Layout, room: usize) -> Ruling
     requires { ⌜ Small p × Small q ⌝ }
-    ensures { λ r. ⌜ RefusalIs p q room r ⌝ }
+    ensures { λ r. ⌜ RulingIs p q room r ⌝ }
 {
     if !can_pair(p, q) {
-        return 17;
+        return Ruling::Refused(17);
     }
     let k = joined_counts(p, q);
     if !are_small(k) {
-        return 3;
+        return Ruling::Refused(3);
     }
     if room < 8 * (k.m as usize + 1) + 256 {
-        return 4;
+        return Ruling::Refused(4);
     }
-    0
+    Ruling::Accepted
 }
 
 // Joins the circuits in a and b, which can be joined, into m.
@@ -107,9 +108,8 @@ pub fn join(first: &[u32], second: &[u32], third: &mut [u32]) -> LoadAnswer
     let Held::Circuit(q) = circuit::test(second) else {
         return LoadAnswer::Refused(9);
     };
-    let number = refusal(p, q, third.len());
-    if number != 0 {
-        return LoadAnswer::Refused(number);
+    if let Ruling::Refused(n) = judge(p, q, third.len()) {
+        return LoadAnswer::Refused(n);
     }
     join_held(first, p, second, q, third);
     LoadAnswer::Loaded(joined_counts(p, q))

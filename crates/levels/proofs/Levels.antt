@@ -11,7 +11,7 @@ use Rattle.aiger.specs.Lists.{everyBelow}
 use Rattle.aiger.proofs.Tests.{and-left, and-right, and, true-T, T-true, not-both, below-at, below-all}
 use Rattle.words.proofs.Bits.{bit-none, bit-all, bits-equal}
 use Rattle.vcd.specs.Text.{Level, levelByte}
-use Rattle.levels.specs.Levels.{levelOver, joined, after, Joined}
+use Rattle.levels.specs.Levels.{levelOver, joined, after, afterByte}
 
 -- ---- two tests that hold of the same things are one
 
@@ -166,26 +166,18 @@ bytes-joined Level.either Level.high = refl
 bytes-joined Level.either Level.either = refl
 
 module _ (block old new : ℕ) where
-  pub joined-first : block ≡ 0 → Joined block old new new
-  joined-first e = record { joins = λ f g o n. rw (eq-eqb block 0 e) n; some = λ g n. record { level = g; is = n } }
+  pub first-byte : block ≡ 0 → new ≡ afterByte block old new
+  first-byte e = rw (eq-eqb block 0 e)
 
-  module _ (h : block ≡ 0 → ⊥) where
-    seen : (f g : Level) → (0 < block → old ≡ levelByte f) → new ≡ levelByte g → cond (eqb old new) new 120 ≡ levelByte (after block f g)
-    seen f g o n =
-        ap₂ (λ (x y : ℕ). cond (eqb x y) y 120) (o (omega (arith, h))) n ∙ bytes-joined f g
-        ∙ sym (ap (λ (b : Bool). levelByte (cond b g (joined f g))) (ne-eqb block 0 h))
+  pub same-byte : (block ≡ 0 → ⊥) → old ≡ new → new ≡ afterByte block old new
+  same-byte h e = rw (ne-eqb block 0 h, eq-eqb old new e)
 
-    pub joined-same : old ≡ new → Joined block old new new
-    joined-same e =
-        record {
-          joins = λ f g o n. sym (ap (λ (b : Bool). cond b new 120) (eq-eqb old new e)) ∙ seen f g o n;
-          some = λ g n. record { level = g; is = n };
-        }
+  pub other-byte : (block ≡ 0 → ⊥) → (old ≡ new → ⊥) → 120 ≡ afterByte block old new
+  other-byte h e = rw (ne-eqb block 0 h, ne-eqb old new e)
 
-    pub joined-other : (old ≡ new → ⊥) → Joined block old new 120
-    unfolding levelByte
-    joined-other e =
-        record {
-          joins = λ f g o n. sym (ap (λ (b : Bool). cond b new 120) (ne-eqb old new e)) ∙ seen f g o n;
-          some = λ g n. record { level = Level.either; is = refl };
-        }
+-- characters of levels give the character of the level over both
+pub after-byte : (block : ℕ) {old new : ℕ} (f g : Level) → (0 < block → old ≡ levelByte f) → new ≡ levelByte g
+    → afterByte block old new ≡ levelByte (after block f g)
+after-byte zero f g o n = n
+after-byte (suc block) f g o n =
+    rw (ne-eqb (suc block) 0 (λ e. omega arith)) (ap₂ (λ (x y : ℕ). cond (eqb x y) y 120) (o (omega arith)) n ∙ bytes-joined f g)

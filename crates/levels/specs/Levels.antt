@@ -1,10 +1,9 @@
 -- Clause 13.3: the level of a wire over many runs. Assumes nothing.
-use mathlib.Core.Path.{_≡_}
 use mathlib.Core.Bool.{Bool, not, cond}
-use Prim.Native.Nat.{ℕ, _<_}
+use Prim.Native.Nat.{ℕ}
 use lib.Dec.{eqb}
 use Rattle.aiger.specs.Lists.{everyBelow}
-use Rattle.vcd.specs.Text.{Level, levelByte}
+use Rattle.vcd.specs.Text.{Level}
 
 -- the level of a wire whose value is p v in run v, over the runs below n: 1 in all of them, 0 in all of them, or neither
 unfoldable pub levelOver : ℕ → (ℕ → Bool) → Level
@@ -24,12 +23,6 @@ joined Level.either v = Level.either
 abbrev pub after : ℕ → Level → Level → Level
 after block old new = cond (eqb block 0) new (joined old new)
 
--- b is the character of a level
-pub record IsLevel (b : ℕ) : Type 0 where
-  pub level : Level
-  pub is : b ≡ levelByte level
-
--- b is the character after a block of which `new` is the character, where `old` is that of the blocks before it
-pub record Joined (block old new b : ℕ) : Type 0 where
-  pub joins : (f g : Level) → (0 < block → old ≡ levelByte f) → new ≡ levelByte g → b ≡ levelByte (after block f g)
-  pub some : (g : Level) → new ≡ levelByte g → IsLevel b
+-- the same of characters: that of both where they are equal, else `x`
+abbrev pub afterByte : ℕ → ℕ → ℕ → ℕ
+afterByte block old new = cond (eqb block 0) new (cond (eqb old new) new 120)

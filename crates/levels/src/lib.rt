@@ -10,7 +10,7 @@ ghost use Rattle.layout.specs.Words.{circuitIn};
 ghost use Rattle.layout.specs.Layout.{LayoutOf};
 ghost use Rattle.vcd.specs.Text.{levelByte};
 ghost use Rattle.vcd.specs.Wires.{literals, literalAt};
-ghost use Rattle.levels.specs.Levels.{levelOver, Joined};
+ghost use Rattle.levels.specs.Levels.{levelOver, afterByte};
 
 // Of a latch's words the one with its own literal; its next literal and its reset stand after it.
 const OWN: usize = 0;
@@ -48,7 +48,7 @@ pub fn level_of(word: u64, l: u32) -> u8
 
 // The character after a block whose own is `new`, where `old` is that of the blocks before it.
 pub fn joined(block: u64, old: u8, new: u8) -> u8
-    ensures { λ r. ⌜ Joined block old new r ⌝ }
+    ensures { λ r. ⌜ r ≡ afterByte block old new ⌝ }
 {
     if block == 0 {
         return new;

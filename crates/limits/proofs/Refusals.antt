@@ -12,16 +12,13 @@ use Rattle.aiger.specs.Load.{Answer, refused, gives}
 use Rattle.aiger.specs.Frames.{size}
 use Rattle.aiger.specs.Operations.{Test, need, judge, boundTests}
 use Rattle.aiger.proofs.Tests.{and-left, and-right}
-use Rattle.limits.specs.Limits.{told}
+use Rattle.limits.specs.declared.Ruling.the-variants.{Accepted, Refused}
 
 -- ---- any tests
 
--- a number other than 0 refuses, and 0 does not
-pub told-refused : (n : ℕ) → (n ≡ 0 → ⊥) → told n ≡ refused n
-told-refused n h = rw (ne-eqb n 0 h)
-
-pub told-passed : (n : ℕ) → n ≡ 0 → told n ≡ gives tt
-told-passed n h = rw (eq-eqb n 0 h)
+-- what is refused is not accepted
+pub not-accepted : (n : ℕ) → Refused n ≡ Accepted → ⊥
+not-accepted n e = let z : _≡_ {A = ℕ} 0 1 = cc in omega arith
 
 -- where the first tests refuse, so do all
 pub judge-refused : (xs ys : List Test) (n : ℕ) → judge xs ≡ refused n → judge (xs ++ ys) ≡ refused n
@@ -78,22 +75,18 @@ unfolding judge
 judge-last n m true t e = let z : _≡_ {A = ℕ} 0 1 = cc in omega arith
 judge-last n m false t e = t
 
--- what a number says of tests and of those that follow them
-pub told-more : (xs ys : List Test) (n : ℕ) → judge xs ≡ told n → (n ≡ 0 → ⊥) → judge (xs ++ ys) ≡ told n
-told-more xs ys n e h = judge-refused xs ys n (e ∙ told-refused n h) ∙ sym (told-refused n h)
-
 -- the last test, of an output of len bytes that needs n, where the others pass
-module _ (xs : List Test) (k : ℕ) (e : judge xs ≡ told k) (z : k ≡ 0) (n len : ℕ) where
+module _ (xs : List Test) (e : judge xs ≡ gives tt) (n len : ℕ) where
   abbrev lengthTest : List Test
   lengthTest = need 13 (leb n len) ∷ []
 
-  pub length-refused : len < n → judge (xs ++ lengthTest) ≡ told 13
+  pub length-refused : len < n → judge (xs ++ lengthTest) ≡ refused 13
   unfolding judge
-  length-refused l = judge-rest xs lengthTest (e ∙ told-passed k z) ∙ rw (lt-leb n len l)
+  length-refused l = judge-rest xs lengthTest e ∙ rw (lt-leb n len l)
 
-  pub length-passes : n ≤ len → judge (xs ++ lengthTest) ≡ told 0
+  pub length-passes : n ≤ len → judge (xs ++ lengthTest) ≡ gives tt
   unfolding judge
-  length-passes l = judge-rest xs lengthTest (e ∙ told-passed k z) ∙ rw (le-leb n len l)
+  length-passes l = judge-rest xs lengthTest e ∙ rw (le-leb n len l)
 
 pub length-enough : (n len : ℕ) → judge (need 13 (leb n len) ∷ []) ≡ gives tt → n ≤ len
 length-enough n len e = leb→le n len (judge-first (need 13 (leb n len)) [] e .0)

@@ -1,8 +1,8 @@
 -- Counts within their limits, the size and the length of a witness by the counts, and what the tests 10 to 12 answer. Assumes nothing.
 use mathlib.Core.Path.{_≡_}
-use mathlib.Core.Bool.{Bool, cond}
+use mathlib.Core.Bool.{Bool}
 use Prim.Native.Nat.{ℕ, _+_, _*_, _≤_, _<_}
-use lib.Dec.{T, eqb}
+use lib.Dec.{T}
 use lib.ListN.{length}
 use Rattle.aiger.specs.Text.{digits}
 use Rattle.aiger.specs.Circuit.{Circuit}
@@ -10,6 +10,8 @@ use Rattle.aiger.specs.Load.{Answer, refused, gives}
 use Rattle.aiger.specs.Frames.{freeStarts}
 use Rattle.aiger.specs.Operations.{judge, boundTests}
 use Rattle.layout.specs.declared.Layout.{Layout}
+use Rattle.limits.specs.declared.Ruling.{Ruling}
+use Rattle.limits.specs.declared.Ruling.the-variants.{Accepted, Refused}
 
 -- counts within document 01's limits
 pub record Limited (p : Layout) : Type 0 where
@@ -37,9 +39,10 @@ sizeOf p k = (k + 1) * (p .i + p .a + p .c + 1) + p .u + 1
 abbrev pub lengthOf : Layout → ℕ → ℕ → ℕ
 lengthOf p b k = 3 + length (digits b) + 1 + (p .l + 1) + (k + 1) * (p .i + 1) + 2
 
--- a number as the answer of tests: 0 where all pass
-abbrev pub told : ℕ → Answer (Unit {0})
-told n = cond (eqb n 0) (gives tt) (refused n)
+-- what is said of the tests
+abbrev pub told : Ruling → Answer (Unit {0})
+told Accepted = gives tt
+told (Refused n) = refused n
 
 -- what the tests 10 to 12 leave to be used, where all pass
 pub record Within (p : Layout) (b k : ℕ) (budget : Bool) (room : ℕ) : Type 0 where
@@ -49,7 +52,7 @@ pub record Within (p : Layout) (b k : ℕ) (budget : Bool) (room : ℕ) : Type 0
   pub small : sizeOf p k ≤ 65536
   pub words : 16 * sizeOf p k ≤ room
 
--- the number of the first of the tests 10 to 12 that fails, of any circuit with these counts
-pub record RefusalIs (p : Layout) (b k : ℕ) (budget : Bool) (room r : ℕ) : Type 0 where
+-- the first of the tests 10 to 12 that fails, of any circuit with these counts
+pub record RulingIs (p : Layout) (b k : ℕ) (budget : Bool) (room : ℕ) (r : Ruling) : Type 0 where
   pub tests : (c : Circuit) → CountsOf c p → judge (boundTests c b k budget room) ≡ told r
-  pub within : r ≡ 0 → Within p b k budget room
+  pub within : r ≡ Accepted → Within p b k budget room

@@ -2,7 +2,13 @@
 use layout::Layout;
 ghost use mathlib.Core.Path.{_≡_};
 ghost use Prim.Native.Nat.{_≤_};
-ghost use Rattle.limits.specs.Limits.{Limited, sizeOf, lengthOf, RefusalIs};
+ghost use Rattle.limits.specs.Limits.{Limited, sizeOf, lengthOf, RulingIs};
+
+// What the tests of a request say: all pass, or the number of the first that fails.
+pub enum Ruling {
+    Accepted,
+    Refused(u32),
+}
 
 // (k+1) × (I+A+C+1) + U + 1.
 pub fn size(layout: Layout, k: usize) -> usize
@@ -21,27 +27,26 @@ pub fn witness_length(layout: Layout, b: u32, k: usize) -> usize
     3 + number + 1 + (layout.l + 1) + (k + 1) * (layout.i + 1) + 2
 }
 
-// The number of the first of the tests 10, 11 and 12 that fails, or 0. budget is whether the budget is right, and room the words of
-// working memory.
-pub fn refusal(layout: Layout, b: u64, k: u64, budget: bool, room: usize) -> u32
+// The first of the tests 10, 11 and 12 that fails. budget is whether the budget is right, and room the words of working memory.
+pub fn judge(layout: Layout, b: u64, k: u64, budget: bool, room: usize) -> Ruling
     requires { ⌜ Limited layout ⌝ }
-    ensures { λ r. ⌜ RefusalIs layout b k budget room r ⌝ }
+    ensures { λ r. ⌜ RulingIs layout b k budget room r ⌝ }
 {
     if layout.b as u64 <= b {
-        return 10;
+        return Ruling::Refused(10);
     }
     if 255 < k {
-        return 11;
+        return Ruling::Refused(11);
     }
     if !budget {
-        return 11;
+        return Ruling::Refused(11);
     }
     let units = size(layout, k as usize);
     if 65536 < units {
-        return 12;
+        return Ruling::Refused(12);
     }
     if room < 16 * units {
-        return 12;
+        return Ruling::Refused(12);
     }
-    0
+    Ruling::Accepted
 }

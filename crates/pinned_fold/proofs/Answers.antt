@@ -10,8 +10,6 @@ use Rattle.aiger.specs.Memory.{Holds}
 use Rattle.aiger.specs.Operations.{judge, Operated, foldTests, Folded}
 use Rattle.layout.specs.Words.{circuitIn}
 use Rattle.layout.specs.declared.Layout.{Layout}
-use Rattle.limits.proofs.Refusals.{told-refused}
-use Rattle.limits.specs.Limits.{told}
 use Rattle.pins.specs.Pins.{pinsOf, pinned}
 use Rattle.pinning.specs.Steps.{PinFits}
 use Rattle.users.specs.Users.{ForUser, PinnedFolded, PinnedFoldEffect}
@@ -59,6 +57,6 @@ module _ {m : List ℕ} (pins : List ℕ) {user : ℕ} (h : Holds m (circuitIn m
           Operated m (λ d. foldTests d b t (length w) (length out)) (w, out) (PinnedFoldEffect chosen (pinsOf pins user) b t out) y (w′, out′))
           (sym e) g
 
-  pub refused-with : (n : ℕ) → judge (foldTests (circuitIn m) b t (length w) (length out)) ≡ told n → (n ≡ 0 → ⊥)
+  pub refused-with : {n : ℕ} → judge (foldTests (circuitIn m) b t (length w) (length out)) ≡ refused n
       → PinnedFolded chosen m pins user b t w out (refused n) w out
-  refused-with n e z = ForUser.known u (Operated.refuses (circuitIn m) h (e ∙ told-refused n z))
+  refused-with e = ForUser.known u (Operated.refuses (circuitIn m) h e)

@@ -2,6 +2,7 @@
 use circuit::Held;
 use fold::FoldAnswer;
 use layout::Layout;
+use limits::Ruling;
 ghost use mathlib.Core.Path.{_≡_};
 ghost use lib.ListN.{length};
 ghost use Rattle.layout.specs.Words.{circuitIn};
@@ -61,9 +62,8 @@ pub fn fold(
     let Held::Circuit(layout) = circuit::test(m) else {
         return FoldAnswer::Refused(9);
     };
-    let number = fold::refusal(layout, b, t, work.len(), out.len());
-    if number != 0 {
-        return FoldAnswer::Refused(number);
+    if let Ruling::Refused(n) = fold::judge(layout, b, t, work.len(), out.len()) {
+        return FoldAnswer::Refused(n);
     }
     fold_known(m, layout, pins, user as usize, Frame { b, t }, work, out)
 }

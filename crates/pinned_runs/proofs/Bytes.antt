@@ -8,8 +8,8 @@ use native.Mathlib.Decide.{decLt, ℕ-discrete}
 use native.Mathlib.Omega.{arith}
 use borrow.Author.Tests.{le-leb, lt-leb, lt-ltb, le-ltb, eq-eqb, ne-eqb}
 use lib.Dec.{T, leb, ltb, eqb}
-use lib.ListN.{length, getD, set, take, length-set}
-use lib.Seq.{getD-set-same, getD-set-other, getD-take, length-take-le}
+use lib.ListN.{length, getD, set, take, drop, length-set}
+use lib.Seq.{getD-set-same, getD-set-other, getD-take, length-take-le, drop-set-lt}
 use Rattle.aiger.specs.Lists.{everyBelow}
 use Rattle.aiger.proofs.Tests.{below-at, below-all, T-true, true-T}
 use Rattle.completions.specs.Either.{isEither}
@@ -100,13 +100,14 @@ below-true f n k h l = sym (true-T (everyBelow n f) (below-all n f (λ j i. h j 
 pub below-false : (f : ℕ → Bool) (n k : ℕ) → k < n → f k ≡ false → false ≡ everyBelow n f
 below-false f n k l e = sym (both-ways (everyBelow n f) false (λ t. subst T e (below-at n f t k l)) (λ t. absurd t))
 
--- the first k bytes are those of w, settled
+-- the first k bytes are those of w, settled, and the others are as they were
 pub record Begun (P : ℕ → ℕ) (w copy left : List ℕ) (k : ℕ) : Type 0 where
   pub size : length left ≡ length copy
   pub done : (j : ℕ) → j < k → getD left j 0 ≡ settledByte (P j) (getD w j 0)
+  pub rest : (n : ℕ) → k ≤ n → drop n left ≡ drop n copy
 
 pub begun-none : (P : ℕ → ℕ) (w copy : List ℕ) → Begun P w copy copy 0
-begun-none P w copy = record { size = refl; done = λ j l. absurd (omega arith) }
+begun-none P w copy = record { size = refl; done = λ j l. absurd (omega arith); rest = λ n l. refl }
 
 pub begun-more : (P : ℕ → ℕ) (w copy left : List ℕ) (k x : ℕ) → Begun P w copy left k → k < length copy → x ≡ settledByte (P k) (getD w k 0)
     → Begun P w copy (set left k x) (k + 1)
@@ -120,6 +121,7 @@ begun-more P w copy left k x b l e =
                 ∙ sym (ap (λ (i : ℕ). settledByte (P i) (getD w i 0)) z)
             | no n ↦ getD-set-other left k j x 0 n ∙ b .done j (omega arith)
           ];
+      rest = λ n h. drop-set-lt n left k x (omega arith) ∙ b .rest n (omega arith);
     }
 
 pub begun-all : (P : ℕ → ℕ) (w copy left : List ℕ) (k : ℕ) → Begun P w copy left k → length w ≤ k → length w ≤ length copy → Settled P w (take (length w) left)

@@ -4,7 +4,9 @@ use mathlib.Core.Bool.{Bool, true, false, _||_}
 use mathlib.Core.List.{List, [], _∷_}
 use mathlib.Core.Option.{none, some}
 use Prim.Native.Nat.{ℕ, zero, suc, _+_, _-_, _*_, _≤_, _<_}
+use native.Mathlib.Decide.{decLt}
 use native.Mathlib.Omega.{arith}
+use borrow.Author.Tests.{le-leb, lt-leb}
 use lib.Dec.{eqb, ltb, leb}
 use lib.ListN.{length, getD, take, drop, length-drop}
 use lib.Seq.{take-all}
@@ -21,7 +23,7 @@ use Rattle.completions.proofs.Completions.{completes}
 use Rattle.completions.proofs.Forms.{completes-form}
 use Rattle.blocks.specs.Runs.{BodyRead, Fits}
 use Rattle.pins.specs.Pins.{pinsOf}
-use Rattle.pinned_runs.specs.Places.{OwnAt}
+use Rattle.pinned_runs.specs.Places.{ownOf}
 use Rattle.pinned_runs.specs.declared.Own.{Own}
 
 bits-size : (n : ℕ) (w : List ℕ) (r : List Bool × List ℕ) → bits n w ≡ some r → length w ≡ n + 1 + length (r .1)
@@ -113,6 +115,12 @@ fits-size {c} {b} {frames} {w = w} F =
 
 -- ---- the bytes of one user
 
+-- the bytes of a user among `len` bytes of pins
+pub record OwnAt (len user : ℕ) (r : Own) : Type 0 where
+  pub ordered : r .from ≤ r .to
+  pub inside : r .to ≤ len
+  pub bytes : (pins : List ℕ) → length pins ≡ len → take (r .to - r .from) (drop (r .from) pins) ≡ take 256 (drop (256 * user) pins)
+
 module _ (len user : ℕ) where
   drop-past : (n : ℕ) (l : List ℕ) → length l ≤ n → drop n l ≡ []
   drop-past zero [] h = refl
@@ -120,8 +128,8 @@ module _ (len user : ℕ) where
   drop-past (suc n) [] h = refl
   drop-past (suc n) (x ∷ xs) h = drop-past n xs (omega arith)
 
-  pub own-none : len ≤ 256 * user → OwnAt len user (record { from = len; to = len })
-  own-none h =
+  at-none : len ≤ 256 * user → OwnAt len user (record { from = len; to = len })
+  at-none h =
       record {
         ordered = omega arith;
         inside = omega arith;
@@ -130,8 +138,8 @@ module _ (len user : ℕ) where
             ap (λ (n : ℕ). take n (drop len pins)) z ∙ sym (ap (take 256) (drop-past (256 * user) pins (omega arith)));
       }
 
-  pub own-some : 256 * user < len → len - 256 * user ≤ 256 → OwnAt len user (record { from = 256 * user; to = len })
-  own-some h l =
+  at-some : 256 * user < len → len - 256 * user ≤ 256 → OwnAt len user (record { from = 256 * user; to = len })
+  at-some h l =
       record {
         ordered = omega arith;
         inside = omega arith;
@@ -140,13 +148,37 @@ module _ (len user : ℕ) where
             take-all (len - 256 * user) (drop (256 * user) pins) (omega arith) ∙ sym (take-all 256 (drop (256 * user) pins) (omega arith));
       }
 
-  pub own-all : 256 * user < len → 256 < len - 256 * user → OwnAt len user (record { from = 256 * user; to = 256 * user + 256 })
-  own-all h l =
+  at-all : 256 * user < len → 256 < len - 256 * user → OwnAt len user (record { from = 256 * user; to = 256 * user + 256 })
+  at-all h l =
       record {
         ordered = omega arith;
         inside = omega arith;
         bytes = λ pins e. let z : 256 * user + 256 - 256 * user ≡ 256 = omega arith in ap (λ (n : ℕ). take n (drop (256 * user) pins)) z;
       }
+
+  -- where they stand, by how many bytes there are
+  pub own-none : len ≤ 256 * user → record { from = len; to = len } ≡ ownOf len user
+  own-none h = rw (le-leb len (256 * user) h, le-leb len (256 * user + 256) (omega arith))
+
+  pub own-some : 256 * user < len → len - 256 * user ≤ 256 → record { from = 256 * user; to = len } ≡ ownOf len user
+  own-some h l = rw (lt-leb len (256 * user) h, le-leb len (256 * user + 256) (omega arith))
+
+  pub own-all : 256 * user < len → 256 < len - 256 * user → record { from = 256 * user; to = 256 * user + 256 } ≡ ownOf len user
+  own-all h l = rw (lt-leb len (256 * user) h, lt-leb len (256 * user + 256) (omega arith))
+
+  own-of : OwnAt len user (ownOf len user)
+  own-of =
+      elim (decLt (256 * user) len) [
+        | yes h ↦
+            elim (decLt 256 (len - 256 * user)) [
+              | yes l ↦ subst (OwnAt len user) (own-all h l) (at-all h l)
+              | no l ↦ subst (OwnAt len user) (own-some h (omega arith)) (at-some h (omega arith))
+            ]
+        | no h ↦ subst (OwnAt len user) (own-none (omega arith)) (at-none (omega arith))
+      ]
+
+  pub own-at : {r : Own} → r ≡ ownOf len user → OwnAt len user r
+  own-at e = subst (OwnAt len user) (sym e) own-of
 
 -- the pins of the user, as those bytes give them
 pub own-are : (pins : List ℕ) (len user : ℕ) (r : Own) → length pins ≡ len → OwnAt len user r → (λ i. getD (take (r .to - r .from) (drop (r .from) pins)) i 2) ≡ pinsOf pins user

@@ -41,8 +41,10 @@ demoted Verdict.all = Verdict.mixed
 demoted Verdict.no = Verdict.no
 demoted Verdict.mixed = Verdict.mixed
 
+-- the smaller of two numbers
+abbrev pub least : ℕ → ℕ → ℕ
+least a b = cond (leb a b) a b
+
 -- the bytes of a user among `len` bytes of pins
-pub record OwnAt (len user : ℕ) (r : Own) : Type 0 where
-  pub ordered : r .from ≤ r .to
-  pub inside : r .to ≤ len
-  pub bytes : (pins : List ℕ) → length pins ≡ len → take (r .to - r .from) (drop (r .from) pins) ≡ take 256 (drop (256 * user) pins)
+abbrev pub ownOf : ℕ → ℕ → Own
+ownOf len user = record { from = least len (256 * user); to = least len (256 * user + 256) }

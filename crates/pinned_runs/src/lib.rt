@@ -3,9 +3,9 @@
 use layout::Layout;
 ghost use mathlib.Core.Path.{_≡_};
 ghost use Prim.Native.Nat.{_+_, _*_, _≤_};
-ghost use lib.ListN.{length, getD, take};
+ghost use lib.ListN.{length, getD, take, drop};
 ghost use Rattle.aiger.specs.Lists.{everyBelow};
-ghost use Rattle.pinned_runs.specs.Places.{placePin, agreesAt, settledByte, Settled, OwnAt};
+ghost use Rattle.pinned_runs.specs.Places.{placePin, agreesAt, settledByte, Settled, ownOf};
 
 // Where the rows of a body stand: from first to end, each with a byte for each input and one that ends it.
 pub struct Rows {
@@ -23,7 +23,7 @@ pub struct Own {
 // The bytes of a user among `len` bytes of pins: 256 for each user, where there are so many.
 pub fn own_bytes(len: usize, user: u32) -> Own
     requires { ⌜ user ≤ 1 ⌝ }
-    ensures { λ r. ⌜ OwnAt len user r ⌝ }
+    ensures { λ r. ⌜ r ≡ ownOf len user ⌝ }
 {
     let start = 256 * user as usize;
     if len <= start {
@@ -125,12 +125,13 @@ fn settle(pin: u8, byte: u8) -> u8
     byte
 }
 
-// Copies a body, with the pin's bit for each `x` that is held.
+// Copies a body to the front of `copy`, with the pin's bit for each `x` that is held.
 pub fn copy_settled(rows: Rows, own: &[u8], body: &[u8], copy: &mut [u8])
     requires { ⌜ (rows .inputs ≤ 256) × (length (now body) ≤ length (now copy)) ⌝ }
     ensures { λ _. ⌜
         Settled (placePin (λ i. getD (now (own .entry)) i 2) (rows .first) (rows .inputs) (rows .end)) (now (body .entry))
         (take (length (now (body .entry))) (now (copy .exit)))
+        × (drop (length (now (body .entry))) (now (copy .exit)) ≡ drop (length (now (body .entry))) (now (copy .entry)))
         ⌝ }
 {
     let mut k = 0;

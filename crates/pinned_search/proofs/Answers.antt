@@ -22,9 +22,8 @@ use Rattle.meaning.proofs.Outcomes.{found-out}
 use Rattle.numbers.proofs.Digits.{digits-short}
 use Rattle.roundtrip.proofs.LoadWrite.{counts-fit}
 use Rattle.roundtrip.proofs.Holding.{held-valid}
-use Rattle.limits.proofs.Refusals.{passed, passes, judge-rest, judge-passed, length-enough, told-refused}
+use Rattle.limits.proofs.Refusals.{passed, passes, judge-rest, judge-passed, length-enough}
 use Rattle.limits.proofs.Sizes.{counts-of, length-within}
-use Rattle.limits.specs.Limits.{told}
 use Rattle.pins.specs.Pins.{pinsOf, pinned, pinnedWitness}
 use Rattle.pins.proofs.Questions.{pinned-permitted}
 use Rattle.pinning.specs.Steps.{PinFits}
@@ -206,6 +205,6 @@ module _ {m : List ℕ} (pins : List ℕ) {user : ℕ} (h : Holds m (circuitIn m
           Operated m (λ d. searchTests d b k D (length w) (length out)) (w, out) (PinnedSearchEffect chosen (pinsOf pins user) b k D out) y (w′, out′))
           (sym e) g
 
-  pub refused-with : (n : ℕ) → judge (searchTests (circuitIn m) b k D (length w) (length out)) ≡ told n → (n ≡ 0 → ⊥)
+  pub refused-with : {n : ℕ} → judge (searchTests (circuitIn m) b k D (length w) (length out)) ≡ refused n
       → PinnedSearched chosen m pins user b k D w out (refused n) w out
-  refused-with n e z = ForUser.known u (Operated.refuses (circuitIn m) h (e ∙ told-refused n z))
+  refused-with e = ForUser.known u (Operated.refuses (circuitIn m) h e)

@@ -1,6 +1,7 @@
 // The search for a user: among the sequences that obey the user's pins.
 use circuit::Held;
 use layout::Layout;
+use limits::Ruling;
 use search::SearchAnswer;
 use search::Terms;
 ghost use mathlib.Core.Path.{_≡_};
@@ -97,9 +98,8 @@ pub fn search(
     let Held::Circuit(layout) = circuit::test(m) else {
         return SearchAnswer::Refused(9);
     };
-    let number = search::refusal(layout, b, k, d, work.len(), out.len());
-    if number != 0 {
-        return SearchAnswer::Refused(number);
+    if let Ruling::Refused(n) = search::judge(layout, b, k, d, work.len(), out.len()) {
+        return SearchAnswer::Refused(n);
     }
     search_known(m, layout, pins, user as usize, Terms { b, k, d }, work, out)
 }

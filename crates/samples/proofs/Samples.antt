@@ -2,16 +2,18 @@
 -- nothing.
 use mathlib.Core.Path.{_≡_, refl, sym, ap, _∙_, subst}
 use mathlib.Core.Bool.{Bool, false}
-use mathlib.Core.List.{List, [], _∷_, _++_}
+use mathlib.Core.List.{List, [], _∷_, _++_, map}
 use Prim.Native.Nat.{ℕ, zero, suc, _+_, _-_, _*_, _≤_, _<_}
 use native.Mathlib.Numerals.{add-one}
 use native.Mathlib.Omega.{arith}
 use lib.ListN.{length, getD, length-append}
+use Rattle.aiger.specs.Lists.{upto}
 use Rattle.aiger.specs.Circuit.{Circuit, var}
 use Rattle.aiger.specs.Frames.{Run, state, value, valueAt}
 use Rattle.layout.specs.Words.{circuitIn}
 use Rattle.layout.specs.declared.Layout.{Layout}
 use Rattle.meaning.specs.Frame.{latchAt}
+use Rattle.meaning.proofs.Lists.{length-map-upto, getD-map-upto}
 use Rattle.meaning.proofs.Values.{Valuation, valuation-value, state-start}
 use Rattle.frames.specs.Lanes.{lane, Ready, Advanced}
 use Rattle.frames.proofs.Facts.{right, known, no-cycle}
@@ -19,6 +21,7 @@ use Rattle.frames.proofs.Laws.{next-constant, next-latch}
 use Rattle.completions.specs.Either.{completion}
 use Rattle.blocks.specs.Runs.{RunAt, Started, FrameGiven}
 use Rattle.blocks.proofs.Runs.{row-at}
+use Rattle.witness.specs.Line.{values}
 use Rattle.write.specs.Output.{Room, Placed}
 use Rattle.write.proofs.Output.{Rest, rest-start, rest-room, rest-more}
 use Rattle.vcd.specs.Text.{Level, timeMark, sample, samples}
@@ -30,6 +33,21 @@ use Rattle.levels.proofs.Levels.{over-same}
 use Rattle.levels.proofs.Wires.{wire-known}
 use Rattle.samples.specs.Passes.{levelIn, levelOf, low, Stands, Rewritten, RunsOf}
 use Rattle.samples.proofs.Standing.{stands-next, stands-first}
+
+-- ---- every body has runs
+
+pub anyRun : Circuit → List ℕ → ℕ → Run
+anyRun c body frames =
+    let l = length (c .latches) in
+    let n = length (c .inputs) in
+    record { start = values body 0 l; rows = map (λ u. values body (l + 1 + u * (n + 1)) n) (upto frames) }
+
+pub any-run : (c : Circuit) (body : List ℕ) (frames : ℕ) → RunAt c body frames (anyRun c body frames)
+unfolding anyRun
+any-run c body frames =
+    let n = length (c .inputs) in
+    let row : ℕ → List Bool = λ u. values body (length (c .latches) + 1 + u * (n + 1)) n in
+    record { start-is = refl; row-is = λ u l. getD-map-upto row frames u [] l; frames-are = length-map-upto row frames }
 
 -- ---- lengths do not depend on the values
 

@@ -1,16 +1,21 @@
 -- The levels of a sample written one after the other, over those that stood there. Assumes nothing.
-use mathlib.Core.Path.{_≡_, sym, _∙_}
+use mathlib.Core.Path.{_≡_, sym, _∙_, subst}
 use mathlib.Core.List.{List, _∷_, _++_}
 use Prim.Native.Nat.{ℕ, _+_, _-_, _*_, _≤_, _<_}
 use native.Mathlib.Omega.{arith}
 use lib.ListN.{length, getD}
 use Rattle.write.specs.Output.{Room, Placed}
 use Rattle.write.proofs.Output.{Rest, rest-start, rest-room, rest-more, rest-end}
-use Rattle.vcd.specs.Text.{Level, levelByte, identifier, valueLine, valueLines}
-use Rattle.vcd.proofs.Parts.{values-more, values-none, values-length, value-length}
+use Rattle.vcd.specs.Text.{Level, levelByte, identifier, valueWith, valueLine, valueLines}
+use Rattle.vcd.proofs.Parts.{values-more, values-none, values-length, value-length, with-level}
 use Rattle.levels.specs.Levels.{after}
 use Rattle.samples.specs.Passes.{Stands}
 use Rattle.samples.proofs.Standing.{stands-next, stands-first, stands-byte}
+
+-- a line whose character is that of a level
+pub placed-level : {out out′ : List ℕ} {at end : ℕ} (k : ℕ) {d : ℕ} (v : Level) → d ≡ levelByte v → Placed out at (valueWith k d) end out′
+    → Placed out at (valueLine k v) end out′
+placed-level {out} {out′} {at} {end} k v e p = subst (λ (u : List ℕ). Placed out at u end out′) (with-level k v e) p
 
 module _ (out₀ : List ℕ) (at n block : ℕ) (new old : ℕ → Level) where
   abbrev mixed : ℕ → Level

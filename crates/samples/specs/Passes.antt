@@ -58,6 +58,11 @@ pub record PassFits (m body : List ℕ) (pass : Pass) (out : List ℕ) : Type 0 
   pub inside : length (circuitIn m .latches) + 1 + pass .frames * (length (circuitIn m .inputs) + 1) ≤ length body
   pub room : Room out (pass .at) (samples (λ t. low) (pass .wires) 0 (pass .frames))
 
+-- before a block after the first, samples of some levels stand in the output
+pub record Sampled (block at wires frames : ℕ) (out : List ℕ) : Type 0 where
+  pub level : ℕ → ℕ → Level
+  pub stands : 0 < block → Stands out at (samples level wires 0 frames)
+
 -- r p is the run of completion p of a block
 abbrev pub RunsOf : Circuit → List ℕ → ℕ → ℕ → (ℕ → Run) → Type 0
 RunsOf c body block frames r = (p : ℕ) → p < 64 → RunAt c (completion (block * 64 + p) body) frames (r p)

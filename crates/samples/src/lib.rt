@@ -8,7 +8,7 @@ ghost use Rattle.layout.specs.Words.{circuitIn};
 ghost use Rattle.frames.specs.Lanes.{Ready};
 ghost use Rattle.write.specs.Output.{Room};
 ghost use Rattle.vcd.specs.Text.{valueLines, sample};
-ghost use Rattle.samples.specs.Passes.{levelIn, low, Rewritten, Wired, PassFits, SamplesLeft};
+ghost use Rattle.samples.specs.Passes.{levelIn, low, Rewritten, Wired, PassFits, Sampled, SamplesLeft};
 
 // One pass over the samples: how many wires are shown, how many frames there are, the block, and where the samples begin.
 pub struct Pass {
@@ -68,7 +68,8 @@ fn write_sample(
     write_values(m, layout, values, pass.wires, pass.block, out, next)
 }
 
-// Writes a sample for each frame, and the time mark that ends the last. values and state are scratch.
+// Writes a sample for each frame, and the time mark that ends the last. values and state are scratch: what they hold afterwards is left
+// open.
 pub fn write_samples(
     m: &[u32],
     layout: Layout,
@@ -80,7 +81,7 @@ pub fn write_samples(
     state: &mut [u64],
 ) -> usize
     requires { ⌜ Ready (now m) layout (now order) (length (now values)) × (1024 ≤ length (now state)) ⌝ }
-    requires { ⌜ PassFits (now m) (now body) pass (now out) ⌝ }
+    requires { ⌜ PassFits (now m) (now body) pass (now out) × Sampled (pass .block) (pass .at) (pass .wires) (pass .frames) (now out) ⌝ }
     ensures { λ x. ⌜ SamplesLeft (circuitIn (now (m .entry))) (now (body .entry)) pass (now (out .entry)) x (now (out .exit)) ⌝ }
 {
     let width = layout.i + 1;

@@ -16,24 +16,23 @@ use Rattle.layout.specs.Layout.{LayoutOf}
 use Rattle.layout.specs.Order.{Ordered}
 use Rattle.layout.specs.declared.Layout.{Layout}
 use Rattle.frames.proofs.Facts.{counts, top-is, bad-count}
-use Rattle.limits.specs.Limits.{told}
-use Rattle.limits.proofs.Refusals.{passed, length-enough, told-refused, told-passed}
+use Rattle.limits.proofs.Refusals.{passed, length-enough}
 use Rattle.search.specs.Chosen.{chosen}
 use Rattle.search.specs.Steps.{SearchFits, Answered}
 use Rattle.search.proofs.Choice.{chosen-permitted}
 
 module _ {m : List ℕ} (held : Holds m (circuitIn m)) {b k D : ℕ} {work out : List ℕ} where
-  -- a number other than 0 is the answer
-  pub refused-with : (n : ℕ) → judge (searchTests (circuitIn m) b k D (length work) (length out)) ≡ told n → (n ≡ 0 → ⊥)
+  -- the number of a test that fails is the answer
+  pub refused-with : {n : ℕ} → judge (searchTests (circuitIn m) b k D (length work) (length out)) ≡ refused n
       → Searched chosen m b k D work out (refused n) work out
-  refused-with n e h = Operated.refuses (circuitIn m) held (e ∙ told-refused n h)
+  refused-with e = Operated.refuses (circuitIn m) held e
 
   -- where all tests pass, the frames can be searched
-  pub fits : {p : Layout} {order : List ℕ} → LayoutOf m p → Ordered (circuitIn m) order → 3072 ≤ length order → {n : ℕ}
-      → judge (searchTests (circuitIn m) b k D (length work) (length out)) ≡ told n → n ≡ 0 → SearchFits m p order b k D work out
-  fits a o l {n} e z =
+  pub fits : {p : Layout} {order : List ℕ} → LayoutOf m p → Ordered (circuitIn m) order → 3072 ≤ length order
+      → judge (searchTests (circuitIn m) b k D (length work) (length out)) ≡ gives tt → SearchFits m p order b k D work out
+  fits a o l e =
       let W = witnessLength (circuitIn m) b k in
-      let both = passed (circuitIn m) b k (budgetRight D) (length work) (need 13 (leb W (length out)) ∷ []) (e ∙ told-passed n z) in
+      let both = passed (circuitIn m) b k (budgetRight D) (length work) (need 13 (leb W (length out)) ∷ []) e in
       let q = both .0 in
       record {
         ready = record { held = held; layout-of = a; ordered = o; ranks = l; room = omega (arith, counts held .maxVar, top-is m) };
@@ -48,10 +47,10 @@ module _ {m : List ℕ} (held : Holds m (circuitIn m)) {b k D : ℕ} {work out :
       }
 
   -- what the search of the frames answers is the answer
-  pub answered-with : {n : ℕ} → judge (searchTests (circuitIn m) b k D (length work) (length out)) ≡ told n → n ≡ 0
+  pub answered-with : judge (searchTests (circuitIn m) b k D (length work) (length out)) ≡ gives tt
       → {a : Answer Outcome} {work′ out′ : List ℕ}
       → Answered (circuitIn m) b k D out a out′ → Searched chosen m b k D work out a work′ out′
-  answered-with {n} e z {a} {work′} {out′} w =
+  answered-with e {a} {work′} {out′} w =
       subst (λ (r : Answer Outcome). Searched chosen m b k D work out r work′ out′) (sym (w .says))
-      (Operated.acts (circuitIn m) held (e ∙ told-passed n z)
+      (Operated.acts (circuitIn m) held e
       (record { chose = refl; allowed = chosen-permitted (circuitIn m) b k D; shows = w .shows }))

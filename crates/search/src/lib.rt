@@ -3,6 +3,7 @@
 use circuit::Held;
 use enumeration::Frame;
 use layout::Layout;
+use limits::Ruling;
 use reachable::Layers;
 ghost use mathlib.Core.Path.{_≡_};
 ghost use Prim.Native.Nat.{_+_, _-_, _≤_};
@@ -37,20 +38,19 @@ fn is_budget(d: u64) -> bool
     (1 <= d) & (d <= 4294967296)
 }
 
-// The number of the first of the tests 10 to 13 that fails, or 0. room is the words of working memory and len the bytes of output.
-pub fn refusal(layout: Layout, b: u64, k: u64, d: u64, room: usize, len: usize) -> u32
+// The first of the tests 10 to 13 that fails. room is the words of working memory and len the bytes of output.
+pub fn judge(layout: Layout, b: u64, k: u64, d: u64, room: usize, len: usize) -> Ruling
     requires { ⌜ Limited layout ⌝ }
     ensures { λ r. ⌜ ((c : Circuit) → CountsOf c layout → judge (searchTests c b k d room len) ≡ told r) ⌝ }
 {
     let budget = is_budget(d);
-    let number = limits::refusal(layout, b, k, budget, room);
-    if number != 0 {
-        return number;
+    if let Ruling::Refused(n) = limits::judge(layout, b, k, budget, room) {
+        return Ruling::Refused(n);
     }
     if len < limits::witness_length(layout, b as u32, k as usize) {
-        return 13;
+        return Ruling::Refused(13);
     }
-    0
+    Ruling::Accepted
 }
 
 // The search of the frames from `start` on of a circuit that is ready, frame after frame.
@@ -126,9 +126,8 @@ pub fn search(m: &[u32], b: u64, k: u64, d: u64, work: &mut [u32], out: &mut [u8
     let Held::Circuit(layout) = circuit::held_in(m, &mut order) else {
         return SearchAnswer::Refused(9);
     };
-    let number = refusal(layout, b, k, d, work.len(), out.len());
-    if number != 0 {
-        return SearchAnswer::Refused(number);
+    if let Ruling::Refused(n) = judge(layout, b, k, d, work.len(), out.len()) {
+        return SearchAnswer::Refused(n);
     }
     search_frames(m, layout, &order, Terms { b, k, d }, work, out)
 }

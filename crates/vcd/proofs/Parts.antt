@@ -8,7 +8,8 @@ use lib.ListN.{length, length-append}
 use Rattle.aiger.specs.Text.{bytes, digits}
 use Rattle.numbers.proofs.Digits.{digits-most}
 use Rattle.vcd.specs.declared.Name.{Name}
-use Rattle.vcd.specs.Text.{Level, levelByte, identifier, declaration, declarations, opening, closing, header, timeMark, valueLine, valueLines, sample, samples, dump}
+use Rattle.vcd.specs.Text.{Level, levelByte, identifier, declaration, declarations, opening, closing, header}
+use Rattle.vcd.specs.Text.{timeMark, valueWith, valueLine, valueLines, sample, samples, dump}
 
 -- ---- declarations
 
@@ -50,6 +51,15 @@ module _ (name : ℕ → Name) where
 pub value-length : (k : ℕ) (v : Level) → length (valueLine k v) ≡ 4
 unfolding valueLine identifier
 value-length k v = refl
+
+pub with-length : (k d : ℕ) → length (valueWith k d) ≡ 4
+unfolding identifier
+with-length k d = refl
+
+-- a character that is one of a level
+pub with-level : (k : ℕ) {d : ℕ} (v : Level) → d ≡ levelByte v → valueWith k d ≡ valueLine k v
+unfolding valueLine
+with-level k v e = ap (λ (d : ℕ). valueWith k d) e
 
 module _ (level : ℕ → Level) where
   pub values-more : (k n : ℕ) → 0 < n → valueLines level k n ≡ valueLine k (level k) ++ valueLines level (k + 1) (n - 1)

@@ -48,9 +48,13 @@ header name n = opening ++ (declarations name 0 n ++ closing)
 unfoldable pub timeMark : ℕ → List ℕ
 timeMark t = (35 ∷ []) ++ (digits t ++ (10 ∷ []))
 
+-- the line of wire k with character d for its value
+abbrev pub valueWith : ℕ → ℕ → List ℕ
+valueWith k d = (d ∷ []) ++ (identifier k ++ (10 ∷ []))
+
 -- the value of wire k
 unfoldable pub valueLine : ℕ → Level → List ℕ
-valueLine k v = (levelByte v ∷ []) ++ (identifier k ++ (10 ∷ []))
+valueLine k v = valueWith k (levelByte v)
 
 -- the values of n wires, from wire k on
 unfoldable pub valueLines : (ℕ → Level) → ℕ → ℕ → List ℕ

@@ -4,7 +4,7 @@ ghost use mathlib.Core.Path.{_≡_};
 ghost use Prim.Native.Nat.{ℕ, _+_, _*_, _≤_, _<_};
 ghost use lib.ListN.{length};
 ghost use Rattle.write.specs.Output.{Room, Placed};
-ghost use Rattle.vcd.specs.Text.{Level, levelByte, declaration, declarations, header, timeMark, valueLine, samples, dump};
+ghost use Rattle.vcd.specs.Text.{Level, declaration, declarations, header, timeMark, valueWith, samples, dump};
 ghost use Rattle.vcd.specs.Wires.{nameIn, wiresIn, FewWires};
 
 // The name of a wire: a letter for its kind, and its number among those of its kind.
@@ -146,10 +146,10 @@ pub fn write_time(out: &mut [u8], at: usize, t: u32) -> usize
     write::write_ended(out, number, t, 0)
 }
 
-// Writes the value of wire k.
+// Writes the line of wire k with character `value` for its value.
 pub fn write_value(out: &mut [u8], at: usize, k: usize, value: u8) -> usize
     requires { ⌜ (k < 1376) × (at + 4 ≤ length (now out)) ⌝ }
-    ensures { λ r. ⌜ ((v : Level) → value ≡ levelByte v → Placed (now (out .entry)) at (valueLine k v) r (now (out .exit))) ⌝ }
+    ensures { λ r. ⌜ Placed (now (out .entry)) at (valueWith k value) r (now (out .exit)) ⌝ }
 {
     let high = b'!' + (k / 94) as u8;
     let low = b'!' + (k % 94) as u8;

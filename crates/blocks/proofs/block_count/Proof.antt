@@ -15,7 +15,7 @@ returns : tie.Need-returns
 returns c = one-block (c .before .args .n) (omega arith)
 
 returns-2 : tie.Need-returns-2
-returns-2 c = more-blocks (c .before .args .n) (omega arith) (omega arith)
+returns-2 c = more-blocks (c .before .args .n) (omega arith)
 
 pub block-count-spec : {M : Type 1} → statement M
 block-count-spec = tie.close (tie.spec sub-result shl-result returns returns-2)

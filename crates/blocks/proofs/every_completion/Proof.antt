@@ -9,6 +9,7 @@ use Rattle.completions.specs.Either.{completion}
 use Rattle.layout.specs.Words.{word, circuitIn}
 use Rattle.frames.proofs.Facts.{ready-with}
 use Rattle.blocks.specs.Runs.{wanted}
+use Rattle.blocks.proofs.Words.{blocks-enough}
 use Rattle.blocks.proofs.Judging.{before-more, refuted, before-all}
 use Rattle.blocks.proofs.every_completion.Statement.{statement}
 use Rattle.blocks.proofs.every_completion.Tie as tie
@@ -102,7 +103,7 @@ returns-2 c =
     let S = start l in
     let a = S .args in
     before-all (circuitIn (a .m .now)) (a .q .bad) (a .q .frames) (a .q .eithers) (a .body .now) (S .pre .1 .1) (a .want) (l .loop .block)
-    (omega (arith, l .before .before .block-count .ensures, c .loop-test .left)) (l .loop .inv .3)
+    (omega (arith, blocks-enough (a .q .eithers), l .before .before .block-count .ensures, c .loop-test .left)) (l .loop .inv .3)
 
 pub every-completion-spec : {M : Type 1} → statement M
 every-completion-spec =

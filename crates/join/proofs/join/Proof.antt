@@ -31,36 +31,60 @@ enum-told-2 c = search needs
 returns-2 : tie.Need-returns-2
 returns-2 c = JoinedInto.noCircuit (inr (rw (c .enum-told2 .given .1) at (c .before .before .test2 .ensures)))
 
-refusal-requires : tie.Need-refusal-requires
-refusal-requires c κs =
-    let t = rw (c .before .before .before .before .before .p .given .1) at (c .before .before .before .before .before .before .before .test .ensures) in
-    let u = rw (c .before .q .given .1) at (c .before .before .before .test2 .ensures) in (small (t .0) (t .1), small (u .0) (u .1))
+judge-requires : tie.Need-judge-requires
+judge-requires c κs =
+    let q = c .before in
+    let p = q .before .before .before .before in
+    let t = rw (p .p .given .1) at (p .before .before .test .ensures) in
+    let u = rw (q .q .given .1) at (q .before .before .test2 .ensures) in (small (t .0) (t .1), small (u .0) (u .1))
+
+enum-known-n : tie.Need-enum-known-n
+enum-known-n c = search needs
 
 returns-3 : tie.Need-returns-3
 returns-3 c =
-    let t = rw (c .before .before .before .before .before .before .before .p .given .1) at (c .before .before .before .before .before .before .before .before .before .test .ensures) in
-    let u = rw (c .before .before .before .q .given .1) at (c .before .before .before .before .before .test2 .ensures) in
-    refuses-in (t .1) (t .0) (u .1) (u .0) (c .before .refusal .ensures) (c .if1 .taken)
+    let r = c .before .before .before in
+    let q = r .before .before in
+    let p = q .before .before .before .before in
+    let t = rw (p .p .given .1) at (p .before .before .test .ensures) in
+    let u = rw (q .q .given .1) at (q .before .before .test2 .ensures) in
+    refuses-in (t .1) (t .0) (u .1) (u .0) (rw (c .before .n .given .1) at (r .judge .ensures))
+
+enum-told-3 : tie.Need-enum-told-3
+enum-told-3 c = search needs
 
 join-held-requires : tie.Need-join-held-requires
 join-held-requires c κs =
-    let t = rw (c .before .before .before .before .before .before .before .before .p .given .1) at (c .before .before .before .before .before .before .before .before .before .before .test .ensures) in
-    let u = rw (c .before .before .before .before .q .given .1) at (c .before .before .before .before .before .before .test2 .ensures) in
-    ((t .1, t .0, u .1, u .0), c .before .before .refusal .ensures .passes (c .before .if1 .left))
+    let e = c .before in
+    let r = e .before .before in
+    let q = r .before .before in
+    let p = q .before .before .before .before in
+    let t = rw (p .p .given .1) at (p .before .before .test .ensures) in
+    let u = rw (q .q .given .1) at (q .before .before .test2 .ensures) in
+    ((t .1, t .0, u .1, u .0), r .judge .ensures .passes (e .enum-told3 .given .1))
 
 joined-counts-requires : tie.Need-joined-counts-requires
 joined-counts-requires c κs =
-    let t = rw (c .before .before .before .before .before .before .before .before .before .before .before .p .given .1) at (c .before .before .before .before .before .before .before .before .before .before .before .before .before .test .ensures) in
-    let u = rw (c .before .before .before .before .before .before .before .q .given .1) at (c .before .before .before .before .before .before .before .before .before .test2 .ensures) in (small (t .0) (t .1), small (u .0) (u .1))
+    let r = c .before .before .before .before .before .before in
+    let q = r .before .before in
+    let p = q .before .before .before .before in
+    let t = rw (p .p .given .1) at (p .before .before .test .ensures) in
+    let u = rw (q .q .given .1) at (q .before .before .test2 .ensures) in (small (t .0) (t .1), small (u .0) (u .1))
 
 same-length : tie.Need-same-length
 same-length c = c .before .before .before .join-held .kept .1 .1 .1 .1 .0
 
 returns-4 : tie.Need-returns-4
 returns-4 c =
-    let t = rw (c .before .before .before .before .before .before .before .before .before .before .before .before .p .given .1) at (c .before .before .before .before .before .before .before .before .before .before .before .before .before .before .test .ensures) in
-    let u = rw (c .before .before .before .before .before .before .before .before .q .given .1) at (c .before .before .before .before .before .before .before .before .before .before .test2 .ensures) in
-    stores-in (t .1) (t .0) (u .1) (u .0) (c .before .before .before .before .before .before .refusal .ensures) (c .before .before .before .before .before .if1 .left) (c .before .before .before .join-held .ensures) (c .joined-counts .ensures)
+    let k = c .before .before .before in
+    let e = k .before .before in
+    let r = e .before .before in
+    let q = r .before .before in
+    let p = q .before .before .before .before in
+    let t = rw (p .p .given .1) at (p .before .before .test .ensures) in
+    let u = rw (q .q .given .1) at (q .before .before .test2 .ensures) in
+    stores-in (t .1) (t .0) (u .1) (u .0) (rw (e .enum-told3 .given .1) at (r .judge .ensures))
+    (k .join-held .ensures) (c .joined-counts .ensures)
 
 pub join-spec : {M : Type 1} → statement M
 join-spec =
@@ -74,8 +98,10 @@ join-spec =
     enum-known-q
     enum-told-2
     returns-2
-    refusal-requires
+    judge-requires
+    enum-known-n
     returns-3
+    enum-told-3
     join-held-requires
     joined-counts-requires
     same-length

@@ -69,8 +69,11 @@ returns : tie.Need-returns Inv-loop μ-loop
 returns c =
     let l = c .before in
     let s = l .before .before .before .before in
-    let a = s .args in
-    begun-all (pinsOn (a .rows) (a .own .now)) (a .body .now) (a .copy .now) (l .loop .copy) (l .loop .k) (l .loop .inv .1) (omega arith) (s .pre .1)
+    let a = s .args in (
+      begun-all (pinsOn (a .rows) (a .own .now)) (a .body .now) (a .copy .now) (l .loop .copy) (l .loop .k)
+          (l .loop .inv .1) (omega arith) (s .pre .1),
+      l .loop .inv .1 .rest (length (a .body .now)) (l .loop .inv .0),
+    )
 
 pub copy-settled-spec : {M : Type 1} → statement M
 copy-settled-spec =

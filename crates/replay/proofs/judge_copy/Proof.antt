@@ -40,7 +40,8 @@ module _ (k : tie.After-copy-settled) where
   settled : Settled (pinAt (circuitIn (S .args .m .now)) q (S .args .q .frames)) body copied
   settled =
       let r = k .before .before in
-      subst (λ (P : ℕ → ℕ). Settled P body copied) (pins-are (S .pre .0) (S .pre .1 .1) q (r .rows-of .result) (r .rows-of .ensures)) (k .copy-settled .ensures)
+      subst (λ (P : ℕ → ℕ). Settled P body copied)
+      (pins-are (S .pre .0) (S .pre .1 .1) q (r .rows-of .result) (r .rows-of .ensures)) (k .copy-settled .ensures .0)
 
   long : length body ≤ length (k .copy-settled .last .1 .1 .1 .0)
   long = omega (arith, k .copy-settled .kept .1 .1 .1 .0, S .pre .1 .0 .1)

@@ -48,7 +48,7 @@ module _ (S : tie.Start Inv-loop μ-loop) where
   R = S .pre .0 .0
 
   abbrev F : PassFits (S .args .m .now) (S .args .body .now) (S .args .pass) (S .args .out .now)
-  F = S .pre .1
+  F = S .pre .1 .0
 
   within : S .args .layout .l + 1 + S .args .pass .frames * (S .args .layout .i + 1) ≤ length (S .args .body .now)
   within = rw (latches-are R, inputs-are (R .held) (R .layout-of)) (F .inside)

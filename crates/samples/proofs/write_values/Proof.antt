@@ -11,11 +11,12 @@ use Rattle.aiger.specs.Circuit.{var}
 use Rattle.aiger.specs.Frames.{value}
 use Rattle.frames.specs.Lanes.{lane}
 use Rattle.vcd.specs.Text.{Level, levelByte, valueLines}
-use Rattle.vcd.proofs.Parts.{values-length, value-length}
+use Rattle.vcd.proofs.Parts.{values-length, with-length}
 use Rattle.levels.specs.Levels.{levelOver, after}
+use Rattle.levels.proofs.Levels.{after-byte}
 use Rattle.levels.proofs.Wires.{wires-are, wires-few, wire-small}
 use Rattle.samples.specs.Passes.{levelIn, low, Stands, Wired}
-use Rattle.samples.proofs.Values.{Turn, turn-start, turn-byte, turn-next, turn-end}
+use Rattle.samples.proofs.Values.{placed-level, Turn, turn-start, turn-byte, turn-next, turn-end}
 use Rattle.samples.proofs.write_values.Statement.{statement}
 use Rattle.samples.proofs.write_values.Tie as tie
 
@@ -106,17 +107,18 @@ loop-again c =
     let new = levelIn (a .m .now) (a .values .now) in
     let e : v .level-of .result ≡ levelByte (new (L .k)) =
     v .level-of .ensures
-    ∙ ap (λ (l : ℕ). levelByte (levelOver 64 (λ p. value (lane (a .values .now) p) l))) (i .literal-at .ensures) in
-    let some = j .joined .ensures .some (new (L .k)) e in (
+    ∙ ap (λ (l : ℕ). levelByte (levelOver 64 (λ p. value (lane (a .values .now) p) l))) (i .literal-at .ensures) in (
       omega (arith, L .inv .0, n .loop-test .taken),
-      omega (arith, L .inv .1, w .write-value .ensures (some .level) (some .is) .past, value-length (L .k) (some .level)),
+      omega (arith, L .inv .1, w .write-value .ensures .past, with-length (L .k) (j .joined .result)),
       w .write-value .kept .0 ∙ L .inv .2,
       λ old s.
           let t = L .inv .3 old s in
           turn-next (a .out .now) (a .at) (a .n) (a .block) new old t (n .loop-test .taken) (S n .pre .1)
-          (w .write-value .ensures (after (a .block) (old (L .k)) (new (L .k)))
-          (j .joined .ensures .joins (old (L .k)) (new (L .k))
-          (turn-byte (a .out .now) (a .at) (a .n) (a .block) new old t (n .loop-test .taken)) e)),
+          (placed-level (L .k) (after (a .block) (old (L .k)) (new (L .k)))
+          (j .joined .ensures
+          ∙ after-byte (a .block) (old (L .k)) (new (L .k))
+          (turn-byte (a .out .now) (a .at) (a .n) (a .block) new old t (n .loop-test .taken)) e)
+          (w .write-value .ensures)),
     )
 
 same-length : tie.Need-same-length Inv-loop μ-loop

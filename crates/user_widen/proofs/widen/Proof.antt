@@ -4,9 +4,9 @@ use mathlib.Core.List.{List}
 use Prim.Native.Nat.{ℕ}
 use native.Mathlib.Omega.{arith}
 use borrow.Author.Needs.{needs}
-use lib.ListN.{getD}
+use lib.ListN.{length, getD}
 use Rattle.pinned_runs.specs.Obeys.{PinnedWidened}
-use Rattle.pinned_runs.proofs.Lengths.{own-are}
+use Rattle.pinned_runs.proofs.Lengths.{own-at, own-are}
 use Rattle.widen.specs.Answer.{answered}
 use Rattle.users.specs.Users.{ForUser}
 use Rattle.user_widen.proofs.widen.Statement.{statement}
@@ -19,13 +19,13 @@ own-bytes-requires : tie.Need-own-bytes-requires
 own-bytes-requires c κs = omega arith
 
 sub-widen-under : tie.Need-sub-widen-under
-sub-widen-under c = c .own-bytes .ensures .ordered
+sub-widen-under c = let a = c .before .before .before .before .before .before .args in own-at (length (a .pins .now)) (a .user) (c .own-bytes .ensures) .ordered
 
 part-widen-under-start : tie.Need-part-widen-under-start
-part-widen-under-start c = c .own-bytes .ensures .ordered
+part-widen-under-start c = let a = c .before .before .before .before .before .before .args in own-at (length (a .pins .now)) (a .user) (c .own-bytes .ensures) .ordered
 
 part-widen-under-end : tie.Need-part-widen-under-end
-part-widen-under-end c = c .own-bytes .ensures .inside
+part-widen-under-end c = let a = c .before .before .before .before .before .before .args in own-at (length (a .pins .now)) (a .user) (c .own-bytes .ensures) .inside
 
 widen-under-requires : tie.Need-widen-under-requires
 widen-under-requires c κs = tt
@@ -40,7 +40,8 @@ returns-2 c =
     let a = o .before .before .before .before .before .before .args in
     ForUser.known (omega arith)
     (subst (λ (q : ℕ → ℕ). PinnedWidened (a .m .now) q (a .text .now) (a .out .now) (answered (w .widen-under .result)) (w .widen-under .last .1 .1 .1 .0))
-    (own-are (a .pins .now) _ (a .user) (o .own-bytes .result) refl (o .own-bytes .ensures)) (w .widen-under .ensures))
+    (own-are (a .pins .now) _ (a .user) (o .own-bytes .result) refl
+    (own-at (length (a .pins .now)) (a .user) (o .own-bytes .ensures))) (w .widen-under .ensures))
 
 pub widen-spec : {M : Type 1} → statement M
 widen-spec =

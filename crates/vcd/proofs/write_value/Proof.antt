@@ -1,13 +1,9 @@
 -- `vcd::write_value` meets its contract. Assumes nothing.
-use mathlib.Core.Path.{sym}
 use native.Mathlib.Omega.{arith}
-use Rattle.vcd.specs.Text.{Level, levelByte, identifier, valueLine}
+use Rattle.vcd.specs.Text.{identifier}
 use borrow.Author.Needs.{needs}
 use Rattle.vcd.proofs.write_value.Statement.{statement}
 use Rattle.vcd.proofs.write_value.Tie as tie
-use Rattle.vcd.proofs.write_value.Reads as reads
-use Rattle.vcd.proofs.write_value.Lts as lts
-use Rattle.replies.proofs.put.Reads as put-reads
 
 cast-high : tie.Need-cast-high
 cast-high c = search needs
@@ -25,16 +21,14 @@ slice-aggregate-put : tie.Need-slice-aggregate-put
 slice-aggregate-put c = search needs
 
 put-requires : tie.Need-put-requires
-put-requires c κs =
-    omega (arith, c .before .before .before .pre .1)
+put-requires c κs = omega (arith, c .before .before .before .pre .1)
 
 same-length : tie.Need-same-length
 same-length c = search needs
 
 returns : tie.Need-returns
-unfolding valueLine identifier
-returns c =
-    λ v e. rw (sym e) (c .before .before .put .ensures)
+unfolding identifier
+returns c = c .before .before .put .ensures
 
 pub write-value-spec : {M : Type 1} → statement M
 write-value-spec =

@@ -12,6 +12,7 @@ use Rattle.completions.specs.Either.{eithers, completion}
 use Rattle.layout.specs.Words.{circuitIn}
 use Rattle.frames.specs.Lanes.{Ready}
 use Rattle.blocks.specs.Runs.{Fits}
+use Rattle.blocks.proofs.Words.{blocks-enough}
 use Rattle.replay.proofs.Shapes.{run-shaped-read}
 use Rattle.write.specs.Output.{putText}
 use Rattle.vcd.specs.Text.{Level, samples, dump}
@@ -128,7 +129,7 @@ returns-2 k =
     let blocks = g .block-count .result in
     let B = bodies (F S) in
     let all : 2 ^ eithers (body S) ≤ blocks * 64 =
-    omega (arith, ap (λ (x : ℕ). 2 ^ x) (F S .eithers-are), g .block-count .ensures) in
+    omega (arith, ap (λ (x : ℕ). 2 ^ x) (F S .eithers-are), blocks-enough (S .args .q .eithers), g .block-count .ensures) in
     let same : samples (levelBelow (c S) b (body S) blocks) (n (d e)) 0 frames ≡ samples (level S) (n (d e)) 0 frames =
     samples-same (levelBelow (c S) b (body S) blocks) (level S) (n (d e)) 0 frames
     (λ t j _. level-all (c S) b frames (body S) B t j blocks all) in

@@ -7,8 +7,10 @@ use borrow.Author.Needs.{needs}
 use lib.ListN.{length}
 use Rattle.layout.specs.Words.{word, circuitIn}
 use Rattle.frames.proofs.Facts.{ready-with}
+use Rattle.samples.specs.Passes.{Sampled}
+use Rattle.samples.specs.declared.Pass.{Pass}
 use Rattle.waveform.specs.Blocks.{levelBelow, Bodies}
-use Rattle.waveform.proofs.Passes.{Passed, passed-none, passed-more}
+use Rattle.waveform.proofs.Passes.{Passed, passed-none, passed-more, sampled-none, sampled-more}
 use Rattle.waveform.proofs.write_blocks.Statement.{statement}
 use Rattle.waveform.proofs.write_blocks.Tie as tie
 
@@ -17,6 +19,7 @@ Inv-loop m layout order body all out₀ values₀ state₀ block₀ out values s
     (block ≤ all .block) × (length out ≡ length out₀) × (length values ≡ length values₀) × (length state ≡ length state₀)
     × ((b : ℕ) → Bodies (circuitIn m) b (all .frames) body
     → Passed (circuitIn m) b body out₀ (all .at) (all .wires) (all .frames) block out)
+    × Sampled block (all .at) (all .wires) (all .frames) out
 
 abbrev μ-loop : tie.MeasureT-loop
 μ-loop m layout order body all out₀ values₀ state₀ block₀ out values state block = all .block - block
@@ -33,6 +36,7 @@ loop-holds c =
       refl,
       refl,
       λ b B. passed-none (circuitIn (a .m .now)) b (a .body .now) (a .out .now) (a .all .at) (a .all .wires) (a .all .frames),
+      sampled-none (a .all .at) (a .all .wires) (a .all .frames) (a .out .now),
     )
 
 write-samples-requires : tie.Need-write-samples-requires Inv-loop μ-loop
@@ -41,7 +45,7 @@ write-samples-requires c κs =
     let S = start l in
     let F = S .pre .1 in (
       (ready-with (S .pre .0 .0) (omega (arith, l .loop .inv .2, S .pre .0 .0 .room)), omega (arith, l .loop .inv .3, S .pre .0 .1)),
-      record { wires = F .wires; few = F .few; inside = F .inside; room = omega (arith, l .loop .inv .1, F .room) },
+      (record { wires = F .wires; few = F .few; inside = F .inside; room = omega (arith, l .loop .inv .1, F .room) }, l .loop .inv .5),
     )
 
 -- the turn's test, and the end of the turn
@@ -63,15 +67,17 @@ loop-again c =
     let w = c .before .before .before .before .before .before in
     let l = head w in
     let S = start l in
-    let a = S .args in (
+    let a = S .args in
+    let pass : Pass = record { wires = a .all .wires; frames = a .all .frames; block = l .loop .block; at = a .all .at } in (
       omega (arith, test w .if1 .taken),
       w .write-samples .kept .1 .1 .1 .1 .1 .0 ∙ l .loop .inv .1,
       w .write-samples .kept .1 .1 .1 .1 .1 .1 .0 ∙ l .loop .inv .2,
       w .write-samples .kept .1 .1 .1 .1 .1 .1 .1 .0 ∙ l .loop .inv .3,
       λ b B.
-          passed-more (circuitIn (a .m .now)) b (a .body .now) (a .out .now)
-          (record { wires = a .all .wires; frames = a .all .frames; block = l .loop .block; at = a .all .at }) B
-          (l .loop .inv .4 b B) (omega (arith, l .loop .inv .1, S .pre .1 .room)) (w .write-samples .ensures),
+          passed-more (circuitIn (a .m .now)) b (a .body .now) (a .out .now) pass B (l .loop .inv .4 b B)
+          (omega (arith, l .loop .inv .1, S .pre .1 .room)) (w .write-samples .ensures),
+      sampled-more (circuitIn (a .m .now)) (a .body .now) pass (l .loop .inv .5) (omega (arith, l .loop .inv .1, S .pre .1 .room))
+          (w .write-samples .ensures),
     )
 
 same-length : tie.Need-same-length Inv-loop μ-loop

@@ -1,25 +1,28 @@
--- `limits::refusal` meets its contract: each number by the first test that fails. Assumes nothing.
+-- `limits::judge` meets its contract: each number by the first test that fails. Assumes nothing.
 use mathlib.Core.Path.{_∙_}
 use native.Mathlib.Omega.{arith}
 use borrow.Author.Needs.{needs}
 use borrow.Author.Tests.{not-true, not-false}
 use Rattle.aiger.proofs.Tests.{T-true}
 use Rattle.limits.proofs.Sizes.{size-is}
-use Rattle.limits.proofs.Refusals.{bad-refused, bound-refused, budget-refused, size-refused, room-refused, passes}
-use Rattle.limits.proofs.refusal.Statement.{statement}
-use Rattle.limits.proofs.refusal.Tie as tie
+use Rattle.limits.proofs.Refusals.{not-accepted, bad-refused, bound-refused, budget-refused, size-refused, room-refused, passes}
+use Rattle.limits.proofs.judge.Statement.{statement}
+use Rattle.limits.proofs.judge.Tie as tie
 
 returns : tie.Need-returns
 returns c =
     let a = c .before .args in
-    record { tests = λ x e. bad-refused x (a .b) (a .k) (a .budget) (a .room) (omega (arith, e .bads)); within = λ z. absurd (omega arith) }
+    record {
+      tests = λ x e. bad-refused x (a .b) (a .k) (a .budget) (a .room) (omega (arith, e .bads));
+      within = λ z. absurd (not-accepted 10 z);
+    }
 
 returns-2 : tie.Need-returns-2
 returns-2 c =
     let a = c .before .before .args in
     record {
       tests = λ x e. bound-refused x (a .b) (a .k) (a .budget) (a .room) (omega (arith, e .bads)) (omega arith);
-      within = λ z. absurd (omega arith);
+      within = λ z. absurd (not-accepted 11 z);
     }
 
 returns-3 : tie.Need-returns-3
@@ -28,7 +31,7 @@ returns-3 c =
     record {
       tests = λ x e.
           budget-refused x (a .b) (a .k) (a .budget) (a .room) (omega (arith, e .bads)) (omega arith) (not-true (a .budget) (c .if3 .taken));
-      within = λ z. absurd (omega arith);
+      within = λ z. absurd (not-accepted 11 z);
     }
 
 size-requires : tie.Need-size-requires
@@ -42,7 +45,7 @@ returns-4 c =
       tests = λ x e.
           let u = c .before .size .ensures ∙ size-is e (a .k) in
           size-refused x (a .b) (a .k) (a .budget) (a .room) (omega (arith, e .bads)) (omega arith) right (omega arith);
-      within = λ z. absurd (omega arith);
+      within = λ z. absurd (not-accepted 12 z);
     }
 
 mul-if5 : tie.Need-mul-if5
@@ -56,7 +59,7 @@ returns-5 c =
       tests = λ x e.
           let u = c .before .before .size .ensures ∙ size-is e (a .k) in
           room-refused x (a .b) (a .k) (a .budget) (a .room) (omega (arith, e .bads)) (omega arith) right (omega arith) (omega arith);
-      within = λ z. absurd (omega arith);
+      within = λ z. absurd (not-accepted 12 z);
     }
 
 returns-6 : tie.Need-returns-6
@@ -71,7 +74,7 @@ returns-6 c =
       within = λ z. record { bad = omega arith; bound = omega arith; right = T-true right; small = omega arith; words = omega arith };
     }
 
-pub refusal-spec : {M : Type 1} → statement M
-refusal-spec =
+pub judge-spec : {M : Type 1} → statement M
+judge-spec =
     tie.close
     (tie.spec returns returns-2 returns-3 size-requires returns-4 mul-if5 returns-5 returns-6)

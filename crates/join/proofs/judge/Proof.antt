@@ -1,4 +1,4 @@
--- `join::refusal` meets its contract: each number by the test that fails. Assumes nothing.
+-- `join::judge` meets its contract: each number by the test that fails. Assumes nothing.
 use mathlib.Core.Path.{_≡_, sym, ap, _∙_}
 use native.Mathlib.Omega.{arith}
 use borrow.Author.Needs.{needs}
@@ -8,8 +8,8 @@ use Rattle.load.specs.Steps.{headerMeant}
 use Rattle.join.specs.Answers.{countsOf}
 use borrow.Author.Tests.{not-true, not-false}
 use Rattle.join.proofs.Answers.{says-17, says-3, says-4, says-none}
-use Rattle.join.proofs.refusal.Statement.{statement}
-use Rattle.join.proofs.refusal.Tie as tie
+use Rattle.join.proofs.judge.Statement.{statement}
+use Rattle.join.proofs.judge.Tie as tie
 
 can-pair-requires : tie.Need-can-pair-requires
 can-pair-requires c κs = search needs
@@ -59,8 +59,8 @@ returns-4 c =
     (sym k ∙ sym (c .before .before .before .are-small .ensures) ∙ not-false _ (c .before .before .if2 .left)) (s .pre .0) (s .pre .1)
     (omega (arith, ap (λ (x : Counts). x .m) (c .before .before .before .before .joined-counts .ensures)))
 
-pub refusal-spec : {M : Type 1} → statement M
-refusal-spec =
+pub judge-spec : {M : Type 1} → statement M
+judge-spec =
     tie.close
     (tie.spec
     can-pair-requires

@@ -1,0 +1,91 @@
+-- `search::judge` meets its contract: the tests 10 to 12, then the length of the output. Assumes nothing.
+use mathlib.Core.Path.{_≡_, _∙_, subst}
+use mathlib.Core.Bool.{Bool}
+use mathlib.Core.List.{_∷_, []}
+use native.Mathlib.Omega.{arith}
+use borrow.Author.Needs.{needs}
+use lib.Dec.{leb}
+use Rattle.aiger.specs.Circuit.{Circuit}
+use Rattle.aiger.specs.Witness.{witnessLength}
+use Rattle.aiger.specs.Operations.{Test, need, judge, budgetRight, boundTests}
+use Rattle.limits.specs.Limits.{CountsOf, told}
+use Rattle.limits.proofs.Sizes.{length-is}
+use Rattle.limits.proofs.Refusals.{judge-refused, length-refused, length-passes}
+use Rattle.search.proofs.judge.Statement.{statement}
+use Rattle.search.proofs.judge.Tie as tie
+
+is-budget-requires : tie.Need-is-budget-requires
+is-budget-requires c κs = search needs
+
+judge-requires : tie.Need-judge-requires
+judge-requires c κs = search needs
+
+-- the tests 10 to 12 of a circuit with these counts
+bounded : (n : tie.After-judge) (x : Circuit)
+    → (let a = n .before .before .args in
+    CountsOf x (a .layout) → judge (boundTests x (a .b) (a .k) (budgetRight (a .d)) (a .room)) ≡ told (n .judge .result))
+bounded n x e =
+    let a = n .before .before .args in
+    subst (λ (p : Bool). judge (boundTests x (a .b) (a .k) p (a .room)) ≡ told (n .judge .result)) (n .before .is-budget .ensures)
+    (n .judge .ensures .tests x e)
+
+enum-known-n : tie.Need-enum-known-n
+enum-known-n c = search needs
+
+returns : tie.Need-returns
+returns c =
+    let n = c .before .before .before in
+    let a = n .before .before .args in
+    λ x e.
+    judge-refused (boundTests x (a .b) (a .k) (budgetRight (a .d)) (a .room))
+    (need 13 (leb (witnessLength x (a .b) (a .k)) (a .len)) ∷ []) _
+    (rw (c .before .n .given .1) at (bounded n x e))
+
+enum-told : tie.Need-enum-told
+enum-told c = search needs
+
+cast-witness-length : tie.Need-cast-witness-length
+cast-witness-length c =
+    let n = c .before .before in
+    omega (arith, n .judge .ensures .within (c .enum-told .given .1) .bad, n .before .before .pre .bads)
+
+witness-length-requires : tie.Need-witness-length-requires
+witness-length-requires c κs =
+    let n = c .before .before in
+    (n .before .before .pre, omega (arith, n .judge .ensures .within (c .enum-told .given .1) .bound))
+
+returns-2 : tie.Need-returns-2
+returns-2 c =
+    let w = c .before in
+    let t = w .before in
+    let n = t .before .before in
+    let a = n .before .before .args in
+    λ x e.
+    let l = w .witness-length .ensures ∙ length-is e (a .b) (a .k) in
+    length-refused (boundTests x (a .b) (a .k) (budgetRight (a .d)) (a .room)) (rw (t .enum-told .given .1) at (bounded n x e))
+    (witnessLength x (a .b) (a .k)) (a .len) (omega (arith, c .if1 .taken))
+
+returns-3 : tie.Need-returns-3
+returns-3 c =
+    let w = c .before in
+    let t = w .before in
+    let n = t .before .before in
+    let a = n .before .before .args in
+    λ x e.
+    let l = w .witness-length .ensures ∙ length-is e (a .b) (a .k) in
+    length-passes (boundTests x (a .b) (a .k) (budgetRight (a .d)) (a .room)) (rw (t .enum-told .given .1) at (bounded n x e))
+    (witnessLength x (a .b) (a .k)) (a .len) (omega (arith, c .if1 .left))
+
+pub judge-spec : {M : Type 1} → statement M
+judge-spec =
+    tie.close
+    (tie.spec
+    is-budget-requires
+    judge-requires
+    enum-known-n
+    returns
+    enum-told
+    cast-witness-length
+    witness-length-requires
+    returns-2
+    returns-3)
