@@ -19,8 +19,8 @@ use Rattle.frames.proofs.Laws.{next-constant, next-latch}
 use Rattle.completions.specs.Either.{completion}
 use Rattle.blocks.specs.Runs.{RunAt, Started, FrameGiven}
 use Rattle.blocks.proofs.Runs.{row-at}
-use Rattle.write.specs.Output.{Room, Placed}
-use Rattle.write.proofs.Output.{Rest, rest-start, rest-room, rest-more}
+use Rattle.output.specs.Output.{Room, Placed}
+use Rattle.output.proofs.Output.{Rest, rest-start, rest-room, rest-more}
 use Rattle.vcd.specs.Text.{Level, timeMark, sample, samples}
 use Rattle.vcd.specs.Wires.{literalAt}
 use Rattle.vcd.proofs.Parts.{sample-same, sample-length, samples-more, samples-none}

@@ -20,8 +20,8 @@ use Rattle.layout.specs.declared.Layout.{Layout}
 use Rattle.frames.proofs.Places.{inputs-are, latches-are}
 use Rattle.limits.proofs.Refusals.{judge-refused, judge-rest}
 use Rattle.replay.proofs.Answers.{passed}
-use Rattle.write.specs.Output.{putText, Room, Placed}
-use Rattle.write.proofs.Output.{Rest, rest-start, rest-room, rest-more, put-front}
+use Rattle.output.specs.Output.{putText, Room, Placed}
+use Rattle.output.proofs.Output.{Rest, rest-start, rest-room, rest-more, put-front}
 use Rattle.vcd.specs.declared.Name.{Name}
 use Rattle.vcd.specs.Text.{Level, header, samples, dump}
 use Rattle.vcd.specs.Wires.{literals, nameAt, nameIn, wiresIn, FewWires}

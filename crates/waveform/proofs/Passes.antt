@@ -5,7 +5,7 @@ use Prim.Native.Nat.{ℕ, _+_, _<_}
 use native.Mathlib.Omega.{arith}
 use lib.ListN.{length}
 use Rattle.aiger.specs.Circuit.{Circuit}
-use Rattle.write.specs.Output.{putText, Room, Placed}
+use Rattle.output.specs.Output.{putText, Room, Placed}
 use Rattle.vcd.specs.Text.{Level, samples}
 use Rattle.levels.specs.Levels.{after}
 use Rattle.samples.specs.Passes.{levelOf, low, Stands, SamplesLeft}

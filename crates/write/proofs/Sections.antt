@@ -16,10 +16,11 @@ use Rattle.roundtrip.proofs.Content.{content-length}
 use Rattle.roundtrip.proofs.Holding.{held-valid, content-fits, header-in}
 use Rattle.layout.specs.Layout.{LayoutOf}
 use Rattle.layout.specs.declared.Layout.{Layout}
-use Rattle.write.specs.Rows.{rowText, rowsText, memoryText, RowsIn}
-use Rattle.write.specs.Output.{putText, Room, Placed}
+use Rattle.output.specs.Row.{rowText}
+use Rattle.output.specs.Output.{putText, Room, Placed}
+use Rattle.write.specs.Rows.{rowsText, memoryText, RowsIn}
 use Rattle.write.proofs.Rows.{memory-text}
-use Rattle.write.proofs.Output.{Rest, rest-start, rest-room, rest-more, rest-end, put-front}
+use Rattle.output.proofs.Output.{Rest, rest-start, rest-room, rest-more, rest-end, put-front}
 
 -- the header's words and the rows of each section stand in the memory
 pub record Sections (m : List ℕ) (p : Layout) : Type 0 where

@@ -4,21 +4,9 @@ use mathlib.Core.List.{List, [], _∷_, _++_}
 use Prim.Native.Nat.{ℕ, zero, suc, _+_, _-_, _*_, _≤_, _<_}
 use lib.Dec.{eqb}
 use lib.ListN.{length}
-use Rattle.aiger.specs.Text.{bytes, digits}
+use Rattle.aiger.specs.Text.{bytes}
+use Rattle.output.specs.Row.{rowText}
 use Rattle.layout.specs.Words.{word, latchesAt, outputsAt, badsAt, constraintsAt, gatesAt}
-
--- the byte after a number that so many follow in its line: a line feed after the last, a space after each other
-abbrev pub ending : ℕ → ℕ
-ending left = cond (eqb left 0) 10 32
-
--- a number and the byte after it
-abbrev pub numberText : ℕ → ℕ → List ℕ
-numberText n left = digits n ++ ending left ∷ []
-
--- the line of n words from position p on
-unfoldable pub rowText : List ℕ → ℕ → ℕ → List ℕ
-rowText m p zero = []
-rowText m p (suc n) = numberText (word m p) n ++ rowText m (suc p) n
 
 -- how many of the `most` words at p their line has: `least` where the last is 0
 abbrev pub rowCount : ℕ → ℕ → List ℕ → ℕ → ℕ

@@ -1,7 +1,6 @@
 // The text of the circuit that a circuit memory holds: its length, and the text at the front of an output.
 use circuit::Held;
 use layout::Layout;
-use numbers::Put;
 ghost use mathlib.Core.Path.{_≡_};
 ghost use Prim.Native.Nat.{_+_, _≤_, _<_};
 ghost use lib.ListN.{length};
@@ -10,24 +9,15 @@ ghost use Rattle.aiger.specs.Memory.{Holds};
 ghost use Rattle.aiger.specs.Operations.{front, Written};
 ghost use Rattle.layout.specs.Words.{circuitIn};
 ghost use Rattle.layout.specs.Layout.{LayoutOf};
-ghost use Rattle.write.specs.Rows.{ending, numberText, rowText, rowCount, rowsText, RowsIn};
-ghost use Rattle.write.specs.Output.{Room, Placed};
+ghost use Rattle.output.specs.Output.{Room, Placed};
+ghost use Rattle.output.specs.Row.{rowText};
+ghost use Rattle.write.specs.Rows.{rowCount, rowsText, RowsIn};
 ghost use Rattle.write.specs.Answer.{answered};
 
 // The length of the text, or the number of the refusal.
 pub enum WriteAnswer {
     Length(usize),
     Refused(u32),
-}
-
-// The byte after a number that `left` more follow in its line.
-fn ending_byte(left: usize) -> u8
-    ensures { λ r. ⌜ r ≡ ending left ⌝ }
-{
-    if left == 0 {
-        return b'\n';
-    }
-    b' '
 }
 
 // How many of the `most` words at p their line has: `least` where the last is 0.
@@ -88,34 +78,6 @@ fn text_length(m: &[u32], layout: Layout) -> usize
     4 + head + inputs + latches + outputs + bads + constraints + gates
 }
 
-// Writes n and the byte after it, in a line in which `left` numbers follow.
-pub fn write_ended(out: &mut [u8], at: usize, n: u32, left: usize) -> usize
-    requires { ⌜ Room (now out) at (numberText n left) ⌝ }
-    ensures { λ r. ⌜ Placed (now (out .entry)) at (numberText n left) r (now (out .exit)) ⌝ }
-{
-    let Put::At(end) = numbers::write_number(out, at, n) else {
-        return at;
-    };
-    out[end] = ending_byte(left);
-    end + 1
-}
-
-// Writes the line of n words from `first` on.
-pub fn write_row(m: &[u32], first: usize, n: usize, out: &mut [u8], at: usize) -> usize
-    requires { ⌜ (first + n ≤ length (now m)) × Room (now out) at (rowText (now m) first n) ⌝ }
-    ensures { λ r. ⌜ Placed (now (out .entry)) at (rowText (now (m .entry)) first n) r (now (out .exit)) ⌝ }
-{
-    let mut end = at;
-    let mut p = first;
-    let mut left = n;
-    while 0 < left {
-        left -= 1;
-        end = write_ended(out, end, m[p], left);
-        p += 1;
-    }
-    end
-}
-
 // Writes n lines of `least` to `most` numbers, `most` words each, from `first` on.
 fn write_rows(
     m: &[u32],
@@ -134,7 +96,7 @@ fn write_rows(
     let mut left = n;
     while 0 < left {
         let count = row_count(m, p, least, most);
-        end = write_row(m, p, count, out, end);
+        end = output::put_row(m, p, count, out, end);
         p += most;
         left -= 1;
     }
@@ -150,7 +112,7 @@ fn write_text(m: &[u32], layout: Layout, out: &mut [u8])
     out[1] = b'a';
     out[2] = b'g';
     out[3] = b' ';
-    let inputs = write_row(m, 0, 7, out, 4);
+    let inputs = output::put_row(m, 0, 7, out, 4);
     let latches = write_rows(m, 7, layout.i, 1, 1, out, inputs);
     let outputs = write_rows(m, layout.latches, layout.l, 2, 3, out, latches);
     let bads = write_rows(m, layout.outputs, layout.o, 1, 1, out, outputs);

@@ -7,7 +7,7 @@ use Rattle.vcd.proofs.write_value.Statement.{statement}
 use Rattle.vcd.proofs.write_value.Tie as tie
 use Rattle.vcd.proofs.write_value.Reads as reads
 use Rattle.vcd.proofs.write_value.Lts as lts
-use Rattle.replies.proofs.put.Reads as put-reads
+use Rattle.output.proofs.put.Reads as put-reads
 
 cast-high : tie.Need-cast-high
 cast-high c = search needs

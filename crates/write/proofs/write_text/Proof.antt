@@ -8,33 +8,33 @@ use Rattle.write.proofs.write_text.Statement.{statement}
 use Rattle.write.proofs.write_text.Tie as tie
 use Rattle.write.proofs.write_text.Reads as reads
 use Rattle.write.proofs.write_text.Lts as lts
-use Rattle.write.proofs.write_row.Reads as write-row-reads
+use Rattle.output.proofs.put_row.Reads as put-row-reads
 use Rattle.write.proofs.write_rows.Reads as write-rows-reads
 
 -- the places after the calls, and the function's entry from each; Wrote k is the place after the call that wrote section k
 abbrev Entry : Type 0
-Entry = lts.Start (write-row-reads.Asked, write-row-reads.Learnt, write-rows-reads.Asked, write-rows-reads.Learnt) reads.Pre reads.Post
+Entry = lts.Start (put-row-reads.Asked, put-row-reads.Learnt, write-rows-reads.Asked, write-rows-reads.Learnt) reads.Pre reads.Post
 
 abbrev Wrote-1 : Type 0
-Wrote-1 = lts.After-write-row (write-row-reads.Asked, write-row-reads.Learnt, write-rows-reads.Asked, write-rows-reads.Learnt) reads.Pre reads.Post
+Wrote-1 = lts.After-put-row (put-row-reads.Asked, put-row-reads.Learnt, write-rows-reads.Asked, write-rows-reads.Learnt) reads.Pre reads.Post
 
 abbrev Wrote-2 : Type 0
-Wrote-2 = lts.After-write-rows (write-row-reads.Asked, write-row-reads.Learnt, write-rows-reads.Asked, write-rows-reads.Learnt) reads.Pre reads.Post
+Wrote-2 = lts.After-write-rows (put-row-reads.Asked, put-row-reads.Learnt, write-rows-reads.Asked, write-rows-reads.Learnt) reads.Pre reads.Post
 
 abbrev Wrote-3 : Type 0
-Wrote-3 = lts.After-write-rows2 (write-row-reads.Asked, write-row-reads.Learnt, write-rows-reads.Asked, write-rows-reads.Learnt) reads.Pre reads.Post
+Wrote-3 = lts.After-write-rows2 (put-row-reads.Asked, put-row-reads.Learnt, write-rows-reads.Asked, write-rows-reads.Learnt) reads.Pre reads.Post
 
 abbrev Wrote-4 : Type 0
-Wrote-4 = lts.After-write-rows3 (write-row-reads.Asked, write-row-reads.Learnt, write-rows-reads.Asked, write-rows-reads.Learnt) reads.Pre reads.Post
+Wrote-4 = lts.After-write-rows3 (put-row-reads.Asked, put-row-reads.Learnt, write-rows-reads.Asked, write-rows-reads.Learnt) reads.Pre reads.Post
 
 abbrev Wrote-5 : Type 0
-Wrote-5 = lts.After-write-rows4 (write-row-reads.Asked, write-row-reads.Learnt, write-rows-reads.Asked, write-rows-reads.Learnt) reads.Pre reads.Post
+Wrote-5 = lts.After-write-rows4 (put-row-reads.Asked, put-row-reads.Learnt, write-rows-reads.Asked, write-rows-reads.Learnt) reads.Pre reads.Post
 
 abbrev Wrote-6 : Type 0
-Wrote-6 = lts.After-write-rows5 (write-row-reads.Asked, write-row-reads.Learnt, write-rows-reads.Asked, write-rows-reads.Learnt) reads.Pre reads.Post
+Wrote-6 = lts.After-write-rows5 (put-row-reads.Asked, put-row-reads.Learnt, write-rows-reads.Asked, write-rows-reads.Learnt) reads.Pre reads.Post
 
 abbrev Wrote-7 : Type 0
-Wrote-7 = lts.After-write-rows6 (write-row-reads.Asked, write-row-reads.Learnt, write-rows-reads.Asked, write-rows-reads.Learnt) reads.Pre reads.Post
+Wrote-7 = lts.After-write-rows6 (put-row-reads.Asked, put-row-reads.Learnt, write-rows-reads.Asked, write-rows-reads.Learnt) reads.Pre reads.Post
 
 abbrev entry-1 : Wrote-1 → Entry
 entry-1 c = c .before .before .before .before
@@ -61,8 +61,8 @@ entry-7 c = entry-6 (c .before .before .before .before)
 abbrev Leaves : Entry → List ℕ → ℕ → ℕ → Type 0
 Leaves s out end k = Left (s .args .m .now) (s .args .layout) (s .args .out .now) out end k
 
-left-1 : (c : Wrote-1) → Leaves (entry-1 c) (c .write-row .last .1 .1 .1 .0) (c .write-row .result) 2
-left-1 c = let s = entry-1 c in left-next (s .args .out .now) (s .pre) 1 (omega arith) (left-head (s .args .out .now) (s .pre)) (c .write-row .ensures)
+left-1 : (c : Wrote-1) → Leaves (entry-1 c) (c .put-row .last .1 .1 .1 .0) (c .put-row .result) 2
+left-1 c = let s = entry-1 c in left-next (s .args .out .now) (s .pre) 1 (omega arith) (left-head (s .args .out .now) (s .pre)) (c .put-row .ensures)
 
 left-2 : (c : Wrote-2) → Leaves (entry-2 c) (c .write-rows .last .1 .1 .1 .1 .1 .0) (c .write-rows .result) 3
 left-2 c = let s = entry-2 c in left-next (s .args .out .now) (s .pre) 2 (omega arith) (left-1 (c .before .before .before .before)) (c .write-rows .ensures)
@@ -102,8 +102,8 @@ slice-write-out-4 c =
     let s = c .before .before in
     simp length-set (omega (arith, text-size (s .pre .0) (s .pre .1), s .pre .2))
 
-write-row-requires : tie.Need-write-row-requires
-write-row-requires c κs =
+put-row-requires : tie.Need-put-row-requires
+put-row-requires c κs =
     let s = c .before .before .before in
     let o = s .args .out .now in
     (omega (arith, sections (s .pre .0) (s .pre .1) .head), left-room o (s .pre) 1 (omega arith) (left-head o (s .pre)))
@@ -161,7 +161,7 @@ write-text-spec =
     slice-write-out-2
     slice-write-out-3
     slice-write-out-4
-    write-row-requires
+    put-row-requires
     write-rows-requires
     write-rows-requires-2
     write-rows-requires-3
