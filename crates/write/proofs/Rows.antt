@@ -1,30 +1,30 @@
--- The text of the rows in a circuit memory is what write gives for the circuit that the memory's words say. Assumes nothing.
+-- The text of rows in a circuit memory: one row more, its length, and that rows are the lines of literals, latches and gates. Assumes
+-- nothing.
 use mathlib.Core.Path.{_≡_, refl, sym, ap, _∙_}
 use mathlib.Core.Bool.{cond}
 use mathlib.Core.List.{List, [], _∷_, _++_, map, append-nil}
 use Prim.Native.Nat.{ℕ, zero, suc, _+_, _-_, _*_, _≤_, _<_}
-use native.Mathlib.Nat.{mul-suc}
+use native.Mathlib.Nat.{suc-mul}
 use native.Mathlib.Numerals.{add-one}
 use native.Mathlib.Omega.{arith}
 use lib.Dec.{eqb, eqb·suc-zero}
 use lib.ListN.{length, length-append}
 use Rattle.aiger.specs.Lists.{upto}
-use Rattle.aiger.specs.Write.{lineOf, linesOf, literalRow, latchRow, gateRow, write}
-use Rattle.layout.specs.Words.{word, column, latchIn, gateIn, circuitIn, latchesAt, outputsAt, badsAt, constraintsAt, gatesAt}
-use Rattle.roundtrip.proofs.Lists.{upto-length}
+use Rattle.aiger.specs.Write.{lineOf, linesOf, literalRow, latchRow, gateRow}
+use Rattle.layout.specs.Words.{word, column, latchIn, gateIn}
 use Rattle.roundtrip.proofs.Content.{wordsAt, triplesAt, makeLatch, makeGate, column-words, map-triples}
 use Rattle.output.specs.Row.{rowText}
 use Rattle.output.proofs.Row.{row-most, row-line}
-use Rattle.write.specs.Rows.{rowCount, rowsText, memoryText, RowsIn}
+use Rattle.write.specs.Rows.{rowCount, rowsText, RowsIn}
 
 -- a row of one length only
 either : (w n : ℕ) → cond (eqb w 0) n n ≡ n
 either zero n = refl
 either (suc w) n = simp (eqb·suc-zero w)
 
-first-and-others : (most n : ℕ) → 0 < n → most * n ≡ most + most * (n - 1)
+first-and-others : (most n : ℕ) → 0 < n → n * most ≡ most + (n - 1) * most
 first-and-others most zero h = absurd (omega arith)
-first-and-others most (suc n) h = let e : suc n - 1 ≡ n = omega arith in rw e (omega (arith, mul-suc most n))
+first-and-others most (suc n) h = let e : suc n - 1 ≡ n = omega arith in rw e (omega (arith, suc-mul n most))
 
 module _ (m : List ℕ) where
   -- one row more
@@ -125,18 +125,3 @@ module _ (m : List ℕ) where
 
   pub rows-gates : (p n : ℕ) → rowsText 3 3 m p n ≡ linesOf (map gateRow (map (λ j. gateIn m (p + 3 * j)) (upto n)))
   rows-gates p n = triple-rows 3 makeGate gateRow gate-row p n ∙ ap (λ w. linesOf (map gateRow w)) (sym (map-triples makeGate m p n))
-
-  -- the text of a memory is what write gives for the circuit that its words say
-  pub memory-text : memoryText m ≡ write (circuitIn m)
-  unfolding memoryText write circuitIn
-  memory-text =
-      simp (
-        upto-length,
-        row-line m 0 6,
-        rows-literals 7 (word m 1),
-        rows-latches (latchesAt m) (word m 2),
-        rows-literals (outputsAt m) (word m 3),
-        rows-literals (badsAt m) (word m 5),
-        rows-literals (constraintsAt m) (word m 6),
-        rows-gates (gatesAt m) (word m 4),
-      )

@@ -68,14 +68,14 @@ fn text_length(m: &[u32], layout: Layout) -> usize
     requires { ⌜ Holds (now m) (circuitIn (now m)) × LayoutOf (now m) layout ⌝ }
     ensures { λ r. ⌜ r ≡ length (write (circuitIn (now (m .entry)))) ⌝ }
 {
-    let head = row_length(m, 0, 7);
-    let inputs = rows_length(m, 7, layout.i, 1, 1);
-    let latches = rows_length(m, layout.latches, layout.l, 2, 3);
-    let outputs = rows_length(m, layout.outputs, layout.o, 1, 1);
-    let bads = rows_length(m, layout.bads, layout.b, 1, 1);
-    let constraints = rows_length(m, layout.constraints, layout.c, 1, 1);
-    let gates = rows_length(m, layout.gates, layout.a, 3, 3);
-    4 + head + inputs + latches + outputs + bads + constraints + gates
+    let mut total = 4 + row_length(m, 0, 7);
+    let mut k: usize = 0;
+    while k < 6 {
+        let t = layout::section_at(layout, k);
+        total += rows_length(m, t.at, t.rows, t.least, t.most);
+        k += 1;
+    }
+    total
 }
 
 // Writes n lines of `least` to `most` numbers, `most` words each, from `first` on.
@@ -108,17 +108,14 @@ fn write_text(m: &[u32], layout: Layout, out: &mut [u8])
     requires { ⌜ Holds (now m) (circuitIn (now m)) × LayoutOf (now m) layout × (length (write (circuitIn (now m))) ≤ length (now out)) ⌝ }
     ensures { λ _. ⌜ now (out .exit) ≡ front (write (circuitIn (now (m .entry)))) (now (out .entry)) ⌝ }
 {
-    out[0] = b'a';
-    out[1] = b'a';
-    out[2] = b'g';
-    out[3] = b' ';
-    let inputs = output::put_row(m, 0, 7, out, 4);
-    let latches = write_rows(m, 7, layout.i, 1, 1, out, inputs);
-    let outputs = write_rows(m, layout.latches, layout.l, 2, 3, out, latches);
-    let bads = write_rows(m, layout.outputs, layout.o, 1, 1, out, outputs);
-    let constraints = write_rows(m, layout.bads, layout.b, 1, 1, out, bads);
-    let gates = write_rows(m, layout.constraints, layout.c, 1, 1, out, constraints);
-    write_rows(m, layout.gates, layout.a, 3, 3, out, gates);
+    let head = output::put(out, 0, b"aag ");
+    let mut end = output::put_row(m, 0, 7, out, head);
+    let mut k: usize = 0;
+    while k < 6 {
+        let t = layout::section_at(layout, k);
+        end = write_rows(m, t.at, t.rows, t.least, t.most, out, end);
+        k += 1;
+    }
 }
 
 // The operation write: puts the text of the circuit that m holds at the front of out.
