@@ -1,38 +1,21 @@
--- Parts of a text written one after the other, and the sections of a file in binary form, one entry more. Assumes nothing.
+-- The sections of a file in binary form, one entry more. Assumes nothing.
 use mathlib.Core.Path.{_≡_, refl, sym, ap, _∙_, subst}
 use mathlib.Core.List.{List, [], _∷_, _++_}
 use Prim.Native.Nat.{ℕ, zero, suc, _+_, _-_, _*_, _≤_, _<_}
 use native.Mathlib.Omega.{arith}
 use borrow.Author.Tests.{eq-eqb, ne-eqb}
-use lib.ListN.{length, length-append}
+use lib.ListN.{length}
 use Rattle.aiger.specs.Circuit.{var}
 use Rattle.aiger.specs.Write.{lineOf}
 use Rattle.layout.specs.Words.{word}
 use Rattle.differences.specs.Groups.{Placed-in}
 use Rattle.renumber.specs.Names.{Within, under}
 use Rattle.renumbered.specs.Renumbered.{sorted, gateText}
-use Rattle.write.specs.Rows.{numberText}
-use Rattle.write.specs.Output.{putText, Room, Placed}
-use Rattle.write.proofs.Output.{put-length, put-put}
+use Rattle.output.specs.Row.{numberText}
+use Rattle.output.specs.Output.{putText, Placed}
 use Rattle.binary_text.specs.Lines.{latchLine, latchLines, literalLines, gateUnderAt, gateBytes, Listed}
 
--- ---- two parts
-
-module _ (out : List ℕ) (at : ℕ) (u v : List ℕ) (room : Room out at (u ++ v)) where
-  pub room-first : Room out at u
-  room-first = omega (arith, length-append u v)
-
-  module _ {end : ℕ} {out′ : List ℕ} (p : Placed out at u end out′) where
-    pub room-second : Room out′ end v
-    room-second = omega (arith, length-append u v, p .past, ap length (p .contents) ∙ put-length out at u room-first)
-
-    pub placed-two : {end′ : ℕ} {out″ : List ℕ} → Placed out′ end v end′ out″ → Placed out at (u ++ v) end′ out″
-    placed-two q =
-        record {
-          past = omega (arith, length-append u v, p .past, q .past);
-          contents = q .contents ∙ rw (p .contents, p .past) (put-put out at u room-first v);
-        }
-
+-- what the writer of a difference leaves
 pub placed-in : {out : List ℕ} {at : ℕ} {text : List ℕ} {end : ℕ} {out′ : List ℕ} → Placed-in out at text end out′
     → Placed out at text end out′
 unfolding putText

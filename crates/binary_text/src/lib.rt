@@ -4,7 +4,7 @@ ghost use Prim.Native.Nat.{_+_, _*_, _≤_, _<_};
 ghost use lib.ListN.{length};
 ghost use Rattle.renumber.specs.Names.{Within};
 ghost use Rattle.renumbered.specs.Renumbered.{sorted, gateText};
-ghost use Rattle.write.specs.Output.{Room, Placed};
+ghost use Rattle.output.specs.Output.{Room, Placed};
 ghost use Rattle.binary_text.specs.Lines.{latchLine, latchLines, literalLines, gateBytes, Listed};
 
 // Writes the line of a latch: the reset where it is not 0.
@@ -13,10 +13,10 @@ fn write_latch(next: u32, reset: u32, out: &mut [u8], at: usize) -> usize
     ensures { λ r. ⌜ Placed (now (out .entry)) at (latchLine next reset) r (now (out .exit)) ⌝ }
 {
     if reset == 0 {
-        return write::write_ended(out, at, next, 0);
+        return output::put_ended(out, at, next, 0);
     }
-    let end = write::write_ended(out, at, next, 1);
-    write::write_ended(out, end, reset, 0)
+    let end = output::put_ended(out, at, next, 1);
+    output::put_ended(out, end, reset, 0)
 }
 
 // Writes the lines of n latches, three words each from `first` on.
@@ -64,7 +64,7 @@ pub fn write_literals(
     let mut p = first;
     let mut left = n;
     while 0 < left {
-        end = write::write_ended(out, end, renumber::rename(names, m[p]), 0);
+        end = output::put_ended(out, end, renumber::rename(names, m[p]), 0);
         p += 1;
         left -= 1;
     }

@@ -44,9 +44,9 @@ fn replay_loaded(m: &[u32], witness: &[u8], line: &mut [u8]) -> usize
         ⌝ }
 {
     match replay::replay(m, witness) {
-        ReplayAnswer::All => replies::put(line, 0, b"all\n"),
-        ReplayAnswer::No => replies::put(line, 0, b"no\n"),
-        ReplayAnswer::Mixed => replies::put(line, 0, b"mixed\n"),
+        ReplayAnswer::All => output::put(line, 0, b"all\n"),
+        ReplayAnswer::No => output::put(line, 0, b"no\n"),
+        ReplayAnswer::Mixed => output::put(line, 0, b"mixed\n"),
         ReplayAnswer::Refused(n) => replies::write_refusal(line, n),
     }
 }

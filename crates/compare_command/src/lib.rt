@@ -28,11 +28,11 @@ fn write_output(line: &mut [u8], j: u32, word: &[u8], n: u32) -> usize
     requires { ⌜ (128 ≤ length (now line)) × (length (now word) ≤ 20) ⌝ }
     ensures { λ r. ⌜ Fronts (outputLine j (now (word .entry)) n) (now (line .entry)) r (now (line .exit)) ⌝ }
 {
-    let number = replies::put(line, 0, b"output ");
-    let words = replies::put_number(line, number, j);
-    let at = replies::put(line, words, word);
-    let end = replies::put_number(line, at, n);
-    replies::put(line, end, b"\n")
+    let number = output::put(line, 0, b"output ");
+    let words = output::put_number(line, number, j);
+    let at = output::put(line, words, word);
+    let end = output::put_number(line, at, n);
+    output::put(line, end, b"\n")
 }
 
 // Writes what a search of pair j says.

@@ -26,11 +26,10 @@ use Rattle.nodes.proofs.Laws.{length-pairsOf, nodes-pairsOf, pairAt-pairsOf, ed
 use Rattle.cone.specs.Cone.{inCone, keptBefore, number, Numbered, renumbered, keptGate, keptGates, folded}
 use Rattle.cone.proofs.Cone.{root-kept, number-gate, number-bound, before-bound}
 use Rattle.cone.proofs.Gates.{length-gates, operand-numbered}
-use Rattle.write.specs.Rows.{ending, rowText, numberText}
-use Rattle.write.proofs.Rows.{row-line}
-use Rattle.write.proofs.Output.{Rest, rest-start}
-use Rattle.write.specs.Output.{putText, Room, Placed}
-use Rattle.fold.proofs.Parts.{placed-both}
+use Rattle.output.specs.Row.{ending, rowText, numberText}
+use Rattle.output.proofs.Row.{row-line}
+use Rattle.output.proofs.Output.{Rest, rest-start, placed-more}
+use Rattle.output.specs.Output.{putText, Room, Placed}
 use Rattle.numbers.proofs.Digits.{digits-short}
 use Rattle.fold.specs.Text.{literalOf, literalWord, gateText, gatesText, inputsText, headText, NodeFits, GateFits, GatesFit, foldedIn, Writable}
 
@@ -84,7 +83,7 @@ unfolding putText
 head-placed out n kept h p =
     let l = lineOf (n + kept) (n ∷ 0 ∷ 1 ∷ kept ∷ 0 ∷ 0 ∷ []) in
     let room : Room out 0 (bytes "aag ") = omega (arith, length-append (bytes "aag ") l) in
-    placed-both {u = bytes "aag "} l room (record { past = refl; contents = sets-eq (bytes "aag ") out 0 room }) (rw (line-seven (n + kept) n 0 1 kept 0 0) at p)
+    placed-more {u = bytes "aag "} room (record { past = refl; contents = sets-eq (bytes "aag ") out 0 room }) (rw (line-seven (n + kept) n 0 1 kept 0 0) at p)
 
 -- ---- inputs
 

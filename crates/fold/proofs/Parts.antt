@@ -1,35 +1,15 @@
 -- Laws of a loop that writes a text part after part. Assumes nothing.
-use mathlib.Core.Path.{_≡_, sym, ap, _∙_}
-use mathlib.Core.List.{List, [], _++_}
+use mathlib.Core.Path.{_≡_, ap, _∙_}
+use mathlib.Core.List.{List, _++_}
 use Prim.Native.Nat.{ℕ, zero, suc, _+_, _-_, _≤_, _<_}
 use native.Mathlib.Numerals.{add-one}
 use native.Mathlib.Omega.{arith}
 use lib.ListN.{length, length-append}
-use Rattle.write.specs.Output.{Room, Placed}
-use Rattle.write.proofs.Output.{Rest, put-nil, put-put, put-length, put-front}
+use Rattle.output.specs.Output.{Room, Placed}
+use Rattle.output.proofs.Output.{Rest, put-front, placed-length, placed-more}
 use Rattle.fold.specs.Text.{Shown}
 
--- nothing is written
-pub placed-none : (out : List ℕ) (at : ℕ) → Placed out at [] at out
-placed-none out at = record { past = omega arith; contents = sym (put-nil out at) }
-
--- an output keeps its length
-pub placed-length : {out : List ℕ} {at : ℕ} {u : List ℕ} {end : ℕ} {last : List ℕ} → Room out at u → Placed out at u end last → length last ≡ length out
-placed-length {out} {at} {u} h p = ap length (p .contents) ∙ put-length out at u h
-
--- one text behind another
-pub placed-both : {out : List ℕ} {at : ℕ} {u : List ℕ} {end : ℕ} {mid : List ℕ} (v : List ℕ) {end′ : ℕ} {last : List ℕ} → Room out at u → Placed out at u end mid
-    → Placed mid end v end′ last → Placed out at (u ++ v) end′ last
-placed-both {out} {at} {u} {end} {mid} v h p q =
-    record {
-      past = omega (arith, p .past, q .past, length-append u v);
-      contents = q .contents ∙ rw (p .contents, p .past) (put-put out at u h v);
-    }
-
 -- the last part
-pub last-room : {out : List ℕ} {text mid : List ℕ} {end : ℕ} {rest : List ℕ} → Room out 0 text → Rest out 0 text mid end rest → Room mid end rest
-last-room h r = omega (arith, r .ends, r .kept)
-
 pub shown : {out : List ℕ} {text mid : List ℕ} {end : ℕ} {rest : List ℕ} {end′ : ℕ} {last : List ℕ} → Room out 0 text → Rest out 0 text mid end rest
     → Placed mid end rest end′ last → Shown text out end′ last
 shown {out} {text} {mid} {end} {rest} h r p =
@@ -59,4 +39,4 @@ module _ (text part : ℕ → List ℕ) (grows : (j : ℕ) → text (suc j) ≡ 
     -- the next part is written
     pub part-more : {end end′ : ℕ} {mid last : List ℕ} (j : ℕ) → j < n → Placed out at (text j) end mid → Placed mid end (part j) end′ last
         → Placed out at (text (j + 1)) end′ last
-    part-more j l p q = rw (add-one j, grows j) (placed-both (part j) (text-room j (omega arith)) p q)
+    part-more j l p q = rw (add-one j, grows j) (placed-more (text-room j (omega arith)) p q)

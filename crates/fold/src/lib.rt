@@ -18,7 +18,7 @@ ghost use Rattle.layout.specs.Words.{circuitIn};
 ghost use Rattle.limits.specs.Limits.{Limited, CountsOf, told};
 ghost use Rattle.nodes.specs.Graph.{nodeOf};
 ghost use Rattle.nodes.specs.Edges.{edgeWord};
-ghost use Rattle.write.specs.Output.{Room, Placed};
+ghost use Rattle.output.specs.Output.{Room, Placed};
 ghost use Rattle.fold.specs.Text.{literalOf, literalWord, gateText, gatesText, inputsText, headText, NodeFits, GateFits, GatesFit, foldedIn, Writable, Shown};
 ghost use Rattle.fold.specs.Chosen.{chosen};
 ghost use Rattle.fold.specs.Answer.{answered, FoldFits, FoldShown};
@@ -42,7 +42,7 @@ fn write_head(out: &mut [u8], free: usize, kept: usize) -> usize
     out[1] = b'a';
     out[2] = b'g';
     out[3] = b' ';
-    write::write_row(&row, 0, 7, out, 4)
+    output::put_row(&row, 0, 7, out, 4)
 }
 
 // Writes a line for each input: 2, 4 and so on.
@@ -53,7 +53,7 @@ fn write_inputs(out: &mut [u8], at: usize, free: usize) -> usize
     let mut end = at;
     let mut j: usize = 0;
     while j < free {
-        end = write::write_ended(out, end, 2 * (j as u32 + 1), 0);
+        end = output::put_ended(out, end, 2 * (j as u32 + 1), 0);
         j += 1;
     }
     end
@@ -89,7 +89,7 @@ fn write_gate(work: &[u32], k: usize, out: &mut [u8], at: usize) -> usize
     let left = literal_word(work, work[16 * k]);
     let right = literal_word(work, work[16 * k + RIGHT]);
     let row = [own, left, right];
-    write::write_row(&row, 0, 3, out, at)
+    output::put_row(&row, 0, 3, out, at)
 }
 
 // Writes the lines of the gates that have numbers.
@@ -118,7 +118,7 @@ fn write_folded(work: &[u32], g: Graph, root: Edge, kept: usize, out: &mut [u8])
     let output = literal(work, root).word() as u32;
     let inputs = write_head(out, free, kept);
     let line = write_inputs(out, inputs, free);
-    let gates = write::write_ended(out, line, output, 0);
+    let gates = output::put_ended(out, line, output, 0);
     write_gates(work, g, out, gates)
 }
 

@@ -1,7 +1,6 @@
 // The work of the search program: from what standard input holds to what is printed.
 use lines::Row;
 use load::LoadAnswer;
-use numbers::Put;
 use search::SearchAnswer;
 ghost use mathlib.Core.Path.{_≡_};
 ghost use mathlib.Core.List.{_++_};
@@ -79,12 +78,8 @@ fn write_line(line: &mut [u8], word: &[u8], n: u32) -> usize
     requires { ⌜ length (now word) + 11 ≤ length (now line) ⌝ }
     ensures { λ r. ⌜ Shows (now (line .exit)) r (now (word .entry) ++ digits n ++ bytes "\n") ⌝ }
 {
-    let at = bytes::copy(word, line);
-    let Put::At(end) = numbers::write_number(line, at, n) else {
-        return 0;
-    };
-    line[end] = b'\n';
-    end + 1
+    let number = output::put(line, 0, word);
+    output::put_ended(line, number, n, 0)
 }
 
 // Writes what a search says to the front of line.

@@ -9,6 +9,7 @@ ghost use Rattle.aiger.specs.Frames.{freeStarts};
 ghost use Rattle.literals.specs.Literal.{wordOf};
 ghost use Rattle.layout.specs.Words.{word, circuitIn};
 ghost use Rattle.layout.specs.Layout.{LayoutOf, PlacesOf, Counted};
+ghost use Rattle.layout.specs.Table.{sectionAt};
 
 // A circuit's counts, M I L O A B C, the positions where its latches, outputs, bad lines, constraints and gates begin and where the
 // last gate ends, and U, the number of latches with a free start. The inputs begin at 7.
@@ -27,6 +28,60 @@ pub struct Layout {
     pub gates: usize,
     pub end: usize,
     pub u: usize,
+}
+
+// A section of a circuit: where it begins in circuit memory, how many rows it has, how many numbers a line of it has at least, and how
+// many words a row has, which is how many numbers a line has at most.
+pub struct Section {
+    pub at: usize,
+    pub rows: usize,
+    pub least: usize,
+    pub most: usize,
+}
+
+// Section k of the six, in the order of file and memory: inputs, latches, outputs, bad lines, constraints, gates.
+pub fn section_at(p: Layout, k: usize) -> Section
+    requires { ⌜ k < 6 ⌝ }
+    ensures { λ r. ⌜ r ≡ sectionAt p k ⌝ }
+{
+    match k {
+        0 => Section {
+            at: 7,
+            rows: p.i,
+            least: 1,
+            most: 1,
+        },
+        1 => Section {
+            at: p.latches,
+            rows: p.l,
+            least: 2,
+            most: 3,
+        },
+        2 => Section {
+            at: p.outputs,
+            rows: p.o,
+            least: 1,
+            most: 1,
+        },
+        3 => Section {
+            at: p.bads,
+            rows: p.b,
+            least: 1,
+            most: 1,
+        },
+        4 => Section {
+            at: p.constraints,
+            rows: p.c,
+            least: 1,
+            most: 1,
+        },
+        _ => Section {
+            at: p.gates,
+            rows: p.a,
+            least: 3,
+            most: 3,
+        },
+    }
 }
 
 // Word i, as a count.

@@ -10,7 +10,7 @@ use borrow.Author.Tests.{lt-ltb, le-ltb}
 use lib.ListN.{length, drop, set, length-append, length-set}
 use lib.Seq.{drop-cons, getD-set-same, drop-set-lt, append-snoc}
 use Rattle.aiger.specs.Text.{digitsUpTo, digits}
-use Rattle.numbers.specs.Put.{lastDigits}
+use Rattle.numbers.specs.Last.{lastDigits}
 
 -- how many there are
 pub digits-least : (k n : ℕ) → 1 ≤ length (digitsUpTo k n)

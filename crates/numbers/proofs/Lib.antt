@@ -4,4 +4,3 @@ pub mod ReadBack
 pub mod Run
 pub mod Gather
 pub mod Reading
-pub mod Writing

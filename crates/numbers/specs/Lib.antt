@@ -1,3 +1,3 @@
 -- What the contracts of `numbers` cite. Assumes nothing.
 pub mod Number
-pub mod Put
+pub mod Last

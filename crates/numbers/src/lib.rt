@@ -5,7 +5,7 @@ ghost use mathlib.Core.Path.{_≡_};
 ghost use lib.ListN.{length};
 ghost use Rattle.aiger.specs.Text.{isNumber, digits};
 ghost use Rattle.numbers.specs.Number.{NumberAt, Digits, part};
-ghost use Rattle.numbers.specs.Put.{lastDigits, putAt};
+ghost use Rattle.numbers.specs.Last.{lastDigits};
 
 // What stands at a position of a text: the value, and the position past the byte that ended it.
 pub enum Number {
@@ -14,12 +14,6 @@ pub enum Number {
     // A line feed ended it.
     Ended(u64, usize),
     Malformed,
-}
-
-// Where writing ended, or that there is no room.
-pub enum Put {
-    At(usize),
-    Short,
 }
 
 fn wide(x: u8) -> u64
@@ -94,7 +88,7 @@ pub fn digit_count(n: u32) -> usize
 }
 
 // Fills out with the last digits of n, zeros before a shorter n.
-fn fill(out: &mut [u8], n: u32)
+pub fn fill(out: &mut [u8], n: u32)
     ensures { λ _. ⌜ now (out .exit) ≡ lastDigits (length (now (out .entry))) n ⌝ }
 {
     let mut k = out.len();
@@ -104,19 +98,4 @@ fn fill(out: &mut [u8], n: u32)
         out[k] = b'0' + (rest % 10) as u8;
         rest /= 10;
     }
-}
-
-pub fn write_number(out: &mut [u8], at: usize, n: u32) -> Put
-    ensures { λ r. ⌜ (r, now (out .exit)) ≡ putAt (now (out .entry)) at (digits n) ⌝ }
-{
-    let count = digit_count(n);
-    if out.len() < at {
-        return Put::Short;
-    }
-    if out.len() - at < count {
-        return Put::Short;
-    }
-    let end = at + count;
-    fill(&mut out[at..end], n);
-    Put::At(end)
 }

@@ -76,7 +76,7 @@ fn pin(user: u32, input: u64, value: u64, m: &[u32], pins: &mut [u8], line: &mut
     match user_calls::set_pin(user, input, value as u32, m, pins) {
         PinAnswer::Refused(n) => replies::refuse(line, n),
         PinAnswer::Set => {
-            let said = replies::put(line, 0, b"set\n");
+            let said = output::put(line, 0, b"set\n");
             Report { line: said, out: 0 }
         }
     }

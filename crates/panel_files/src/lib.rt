@@ -21,9 +21,9 @@ fn write_verdict(line: &mut [u8], answer: ReplayAnswer) -> usize
     ensures { λ r. ⌜ Fronts (verdictWords (answered answer)) (now (line .entry)) r (now (line .exit)) ⌝ }
 {
     match answer {
-        ReplayAnswer::All => replies::put(line, 0, b"all\n"),
-        ReplayAnswer::No => replies::put(line, 0, b"no\n"),
-        ReplayAnswer::Mixed => replies::put(line, 0, b"mixed\n"),
+        ReplayAnswer::All => output::put(line, 0, b"all\n"),
+        ReplayAnswer::No => output::put(line, 0, b"no\n"),
+        ReplayAnswer::Mixed => output::put(line, 0, b"mixed\n"),
         ReplayAnswer::Refused(n) => replies::write_refusal(line, n),
     }
 }

@@ -16,9 +16,9 @@ use Rattle.load.specs.declared.Counts.{Counts}
 use Rattle.load.specs.declared.LoadAnswer.{LoadAnswer}
 use Rattle.load.specs.declared.LoadAnswer.the-variants.{Loaded, Refused}
 use Rattle.load.specs.declared.Judgement.{Judgement}
-use Rattle.write.specs.Rows.{rowText}
-use Rattle.write.specs.Output.{Room}
-use Rattle.write.proofs.Rows.{row-most, row-line}
+use Rattle.output.specs.Row.{rowText}
+use Rattle.output.specs.Output.{Room}
+use Rattle.output.proofs.Row.{row-most, row-line}
 use Rattle.replies.specs.Reply.{Fronts, Leaves}
 use Rattle.replies.specs.declared.Report.{Report}
 use Rattle.replies.proofs.Putting.{fronts-none}

@@ -14,8 +14,8 @@ fn write_counts(line: &mut [u8], k: Counts) -> usize
     ensures { λ r. ⌜ Fronts (countsLine k) (now (line .entry)) r (now (line .exit)) ⌝ }
 {
     let row = [k.m, k.i, k.l, k.o, k.a, k.b, k.c];
-    let at = replies::put(line, 0, b"loads ");
-    write::write_row(&row, 0, 7, line, at)
+    let at = output::put(line, 0, b"loads ");
+    output::put_row(&row, 0, 7, line, at)
 }
 
 // Writes what load answers. The answer is the length of the line.

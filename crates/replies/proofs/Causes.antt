@@ -8,8 +8,8 @@ use lib.Dec.{T, leb, leb→le}
 use lib.ListN.{length, getD, take, drop}
 use Rattle.aiger.specs.Lists.{every}
 use Rattle.aiger.proofs.Tests.{and-left, and-right}
-use Rattle.write.specs.Output.{Placed}
-use Rattle.write.proofs.Output.{put-nil}
+use Rattle.output.specs.Output.{Placed}
+use Rattle.output.proofs.Output.{put-nil}
 use Rattle.replies.specs.Refusal.{causes, cause}
 
 short : (xs : List (List ℕ)) (n : ℕ) → T (every (λ w. leb (length w) 80) xs) → length (getD xs n []) ≤ 80

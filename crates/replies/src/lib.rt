@@ -1,11 +1,10 @@
 // What a command leaves to be printed, and the line of a refusal: its number, and the cause in words.
-use numbers::Put;
 ghost use mathlib.Core.Path.{_≡_};
 ghost use mathlib.Core.List.{_++_};
 ghost use Prim.Native.Nat.{_+_, _≤_};
 ghost use lib.ListN.{length};
 ghost use Rattle.aiger.specs.Text.{bytes, digits};
-ghost use Rattle.write.specs.Output.{Room, Placed};
+ghost use Rattle.output.specs.Output.{Placed};
 ghost use Rattle.replies.specs.Refusal.{cause, refusalText};
 ghost use Rattle.replies.specs.Reply.{Fronts};
 
@@ -39,35 +38,14 @@ const STARTS: [usize; 20] = [
     724,
 ];
 
-// Puts a text at a position of line. The answer is the position past it.
-pub fn put(line: &mut [u8], at: usize, text: &[u8]) -> usize
-    requires { ⌜ Room (now line) at (now text) ⌝ }
-    ensures { λ r. ⌜ Placed (now (line .entry)) at (now (text .entry)) r (now (line .exit)) ⌝ }
-{
-    let end = at + text.len();
-    bytes::copy(text, &mut line[at..end]);
-    end
-}
-
-// Puts the digits of n at a position of line. The answer is the position past them.
-pub fn put_number(line: &mut [u8], at: usize, n: u32) -> usize
-    requires { ⌜ Room (now line) at (digits n) ⌝ }
-    ensures { λ r. ⌜ Placed (now (line .entry)) at (digits n) r (now (line .exit)) ⌝ }
-{
-    let Put::At(end) = numbers::write_number(line, at, n) else {
-        return at;
-    };
-    end
-}
-
 // Writes a word, n and a line feed to the front of line. The answer is their length.
 pub fn write_line(line: &mut [u8], word: &[u8], n: u32) -> usize
     requires { ⌜ length (now word) + 11 ≤ length (now line) ⌝ }
     ensures { λ r. ⌜ Fronts (now (word .entry) ++ digits n ++ bytes "\n") (now (line .entry)) r (now (line .exit)) ⌝ }
 {
-    let number = put(line, 0, word);
-    let end = put_number(line, number, n);
-    put(line, end, b"\n")
+    let number = output::put(line, 0, word);
+    let end = output::put_number(line, number, n);
+    output::put(line, end, b"\n")
 }
 
 // Puts the words of cause n.
@@ -100,7 +78,7 @@ fn put_cause(line: &mut [u8], at: usize, n: u32) -> usize
     let i = n as usize;
     let from = STARTS[i];
     let to = STARTS[i + 1];
-    put(line, at, &words[from..to])
+    output::put(line, at, &words[from..to])
 }
 
 // Writes the line of refusal n to the front of line. The answer is its length.
@@ -108,11 +86,11 @@ pub fn write_refusal(line: &mut [u8], n: u32) -> usize
     requires { ⌜ 128 ≤ length (now line) ⌝ }
     ensures { λ r. ⌜ Fronts (refusalText n) (now (line .entry)) r (now (line .exit)) ⌝ }
 {
-    let number = put(line, 0, b"refused ");
-    let colon = put_number(line, number, n);
-    let words = put(line, colon, b": ");
+    let number = output::put(line, 0, b"refused ");
+    let colon = output::put_number(line, number, n);
+    let words = output::put(line, colon, b": ");
     let end = put_cause(line, words, n);
-    put(line, end, b"\n")
+    output::put(line, end, b"\n")
 }
 
 // The line of a refusal alone.

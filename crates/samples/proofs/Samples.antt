@@ -22,12 +22,11 @@ use Rattle.completions.specs.Either.{completion}
 use Rattle.blocks.specs.Runs.{RunAt, Started, FrameGiven}
 use Rattle.blocks.proofs.Runs.{row-at}
 use Rattle.witness.specs.Line.{values}
-use Rattle.write.specs.Output.{Room, Placed}
-use Rattle.write.proofs.Output.{Rest, rest-start, rest-room, rest-more}
+use Rattle.output.specs.Output.{Room, Placed}
+use Rattle.output.proofs.Output.{Rest, rest-start, rest-room, rest-more, last-room, last-placed}
 use Rattle.vcd.specs.Text.{Level, timeMark, sample, samples}
 use Rattle.vcd.specs.Wires.{literalAt}
 use Rattle.vcd.proofs.Parts.{sample-same, sample-length, samples-more, samples-none}
-use Rattle.vcd.proofs.Putting.{last-room, last-placed}
 use Rattle.levels.specs.Levels.{levelOver, after}
 use Rattle.levels.proofs.Levels.{over-same}
 use Rattle.levels.proofs.Wires.{wire-known}

@@ -6,7 +6,7 @@ use native.Mathlib.Omega.{arith}
 use lib.ListN.{length, getD, take, drop, length-append}
 use lib.Seq.{length-take-le, take-at, drop-append-seam}
 use Rattle.roundtrip.proofs.Lists.{drop-past, getD-front}
-use Rattle.write.specs.Output.{putText, Room, Placed}
+use Rattle.output.specs.Output.{putText, Room, Placed}
 use Rattle.samples.specs.Passes.{Stands}
 
 -- what stands at the end of a text that was written

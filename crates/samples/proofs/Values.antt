@@ -4,8 +4,8 @@ use mathlib.Core.List.{List, _∷_, _++_}
 use Prim.Native.Nat.{ℕ, _+_, _-_, _*_, _≤_, _<_}
 use native.Mathlib.Omega.{arith}
 use lib.ListN.{length, getD}
-use Rattle.write.specs.Output.{Room, Placed}
-use Rattle.write.proofs.Output.{Rest, rest-start, rest-room, rest-more, rest-end}
+use Rattle.output.specs.Output.{Room, Placed}
+use Rattle.output.proofs.Output.{Rest, rest-start, rest-room, rest-more, rest-end}
 use Rattle.vcd.specs.Text.{Level, levelByte, identifier, valueWith, valueLine, valueLines}
 use Rattle.vcd.proofs.Parts.{values-more, values-none, values-length, value-length, with-level}
 use Rattle.levels.specs.Levels.{after}

@@ -13,7 +13,7 @@ use Rattle.layout.specs.Layout.{LayoutOf}
 use Rattle.layout.specs.declared.Layout.{Layout}
 use Rattle.frames.specs.Lanes.{lane}
 use Rattle.blocks.specs.Runs.{RunAt}
-use Rattle.write.specs.Output.{Room, Placed}
+use Rattle.output.specs.Output.{Room, Placed}
 use Rattle.vcd.specs.Text.{Level, samples}
 use Rattle.vcd.specs.Wires.{literals, literalAt}
 use Rattle.levels.specs.Levels.{levelOver, after}

@@ -6,7 +6,7 @@ ghost use Prim.Native.Nat.{ℕ, _+_, _*_, _≤_, _<_};
 ghost use lib.ListN.{length};
 ghost use Rattle.layout.specs.Words.{circuitIn};
 ghost use Rattle.frames.specs.Lanes.{Ready};
-ghost use Rattle.write.specs.Output.{Room};
+ghost use Rattle.output.specs.Output.{Room};
 ghost use Rattle.vcd.specs.Text.{valueLines, sample};
 ghost use Rattle.samples.specs.Passes.{levelIn, low, Rewritten, Wired, PassFits, Sampled, SamplesLeft};
 

@@ -32,7 +32,7 @@ use Rattle.binary.proofs.Differences as gates
 use Rattle.sections.specs.Sections.{headerAt}
 use Rattle.sections.proofs.Literals.{literals-within}
 use Rattle.sections.proofs.Lines.{Begins, short, rows-short, lines-length, run-fits, run-begins, flat-ones}
-use Rattle.sections.proofs.Parts.{Placed, headerIn, layout-header, unlike, not-so, moved}
+use Rattle.sections.proofs.Parts.{headerIn, layout-header, unlike, not-so, two, moved}
 
 -- ---- one run of lines for two
 
@@ -173,9 +173,6 @@ latches-fit limit v (r ∷ ls) s t =
     and (within limit r) (every (within limit) ls) line
     (latches-fit limit (suc v) ls (and-right (short 2 r) (every (short 2) ls) s) (and-right (leb b limit) w t2))
 
-two : (f g : Bool) → (f && g) ≡ true → (f ≡ true) × (g ≡ true)
-two f g e = (true-T f (and-left f g (T-true e)), true-T g (and-right f g (T-true e)))
-
 -- ---- the sections
 
 module _ (s : List ℕ) (at : ℕ) (p : Layout) (limit : ℕ) (w : List ℕ) (q : PlacesOf w p) where
@@ -254,24 +251,24 @@ module _ (s : List ℕ) (at : ℕ) (p : Layout) (limit : ℕ) (w : List ℕ) (q 
         regroup a o b c g = simp append-assoc
 
         -- the words that were stored are its content
-        pub stored : {len : ℕ} → Placed p len → 7 ≤ length w → (f2 && f3) ≡ true → w4 ≡ content made ++ drop (p .end) w4
+        pub stored : 7 ≤ length w → (f2 && f3) ≡ true → w4 ≡ content made ++ drop (p .end) w4
         unfolding content
-        stored d h e =
+        stored h e =
             let t = two f2 f3 e in
             let heading = made .maxVar ∷ countRow made in
             let ls = latchWords (made .latches) in
             let gs = gateWords (made .gates) in
             let b0 : Begins w 7 heading = record { size = refl; words = heads h } in
             let b1 : Begins w1 (p .latches) (heading ++ made .inputs) =
-            moved (omega (arith, d .latches)) (put-begins (made .inputs) (drop (7 + p .i) w) (p .i) b0 r1 (implied-length 1 (p .i))) in
+            moved (omega (arith, q)) (put-begins (made .inputs) (drop (7 + p .i) w) (p .i) b0 r1 (implied-length 1 (p .i))) in
             let b2 : Begins w2 (p .outputs) (heading ++ made .inputs ++ ls) =
-            moved (omega (arith, d .outputs))
+            moved (omega (arith, q))
             (put-begins ls (drop (p .latches + p .l * 3) w1) (p .l * 3) b1 (r2 .contents (t .0))
             (omega (arith, latches.words-length (p .i + 1) (r2 .lines), latches-length (p .i + 1) (r2 .lines), many-latches))) in
             let b3 : Begins w3 (p .gates) (heading ++ made .inputs ++ ls ++ flat 1 (r3 .lines)) =
-            moved (omega (arith, d .bads, d .constraints, d .gates)) (run-begins r3 (t .1) b2) in
+            moved (omega (arith, q)) (run-begins r3 (t .1) b2) in
             let b4 : Begins w4 (p .end) (heading ++ made .inputs ++ ls ++ flat 1 (r3 .lines) ++ gs) =
-            moved (omega (arith, d .end))
+            moved (omega (arith, q))
             (put-begins gs (drop (p .gates + p .a * 3) w3) (p .a * 3) b3 (r4 .contents) (omega (arith, gates.words-length (r4 .gates), many-gates))) in
             let whole : take (p .end) w4 ≡ content made =
             b4 .words

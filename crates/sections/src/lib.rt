@@ -20,7 +20,7 @@ pub enum Body {
     Damaged,
 }
 
-// Reads the lines after a header in text form, and stores their numbers after the counts, which words has.
+// Reads the lines after a header in text form, section after section, and stores their numbers after the counts, which words has.
 fn read_text(s: &[u8], at: usize, p: Layout, limit: u32, words: &mut [u32]) -> Body
     requires { ⌜ at ≤ length (now s) ⌝ }
     requires { ⌜ PlacesOf (now words) p ⌝ }
@@ -28,29 +28,26 @@ fn read_text(s: &[u8], at: usize, p: Layout, limit: u32, words: &mut [u32]) -> B
     requires { ⌜ limit ≡ 2 * word (now words) 0 + 1 ⌝ }
     ensures { λ r. ⌜ BodyAt false (headerAt (now (words .entry))) (drop at (now (s .entry))) (now (words .exit)) r ⌝ }
 {
-    let Rows::Read(at, inputs) = read_rows(s, at, 1, 1, p.i, limit, words, 7) else {
-        return Body::Malformed;
-    };
-    let Rows::Read(at, latches) = read_rows(s, at, 2, 3, p.l, limit, words, p.latches) else {
-        return Body::Malformed;
-    };
-    let Rows::Read(at, outputs) = read_rows(s, at, 1, 1, p.o, limit, words, p.outputs) else {
-        return Body::Malformed;
-    };
-    let Rows::Read(at, bads) = read_rows(s, at, 1, 1, p.b, limit, words, p.bads) else {
-        return Body::Malformed;
-    };
-    let Rows::Read(at, constraints) = read_rows(s, at, 1, 1, p.c, limit, words, p.constraints)
-    else {
-        return Body::Malformed;
-    };
-    let Rows::Read(at, gates) = read_rows(s, at, 3, 3, p.a, limit, words, p.gates) else {
-        return Body::Malformed;
-    };
-    if !lines::is_tail(s, at) {
+    let mut next = at;
+    let mut fit = true;
+    let mut k: usize = 0;
+    while k < 6 {
+        let t = layout::section_at(p, k);
+        match read_rows(s, next, t.least, t.most, t.rows, limit, words, t.at) {
+            Rows::Read(after, ok) => {
+                next = after;
+                fit = fit & ok;
+                k += 1;
+            }
+            Rows::Malformed => {
+                return Body::Malformed;
+            }
+        }
+    }
+    if !lines::is_tail(s, next) {
         return Body::Malformed;
     }
-    if inputs & latches & outputs & bads & constraints & gates {
+    if fit {
         return Body::Read;
     }
     Body::Large

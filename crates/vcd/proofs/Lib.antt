@@ -1,3 +1,2 @@
 pub mod Names
-pub mod Putting
 pub mod Parts

@@ -3,7 +3,7 @@ use layout::Layout;
 ghost use mathlib.Core.Path.{_≡_};
 ghost use Prim.Native.Nat.{ℕ, _+_, _*_, _≤_, _<_};
 ghost use lib.ListN.{length};
-ghost use Rattle.write.specs.Output.{Room, Placed};
+ghost use Rattle.output.specs.Output.{Room, Placed};
 ghost use Rattle.vcd.specs.Text.{Level, declaration, declarations, header, timeMark, valueWith, samples, dump};
 ghost use Rattle.vcd.specs.Wires.{nameIn, wiresIn, FewWires};
 
@@ -100,10 +100,10 @@ fn write_declaration(out: &mut [u8], at: usize, k: usize, name: Name) -> usize
     let kind = name.kind;
     let first = b'!' + (k / 94) as u8;
     let second = b'!' + (k % 94) as u8;
-    let identifier = replies::put(out, at, b"$var wire 1 ");
-    let number = replies::put(out, identifier, &[first, second, b' ', kind]);
-    let end = write::write_ended(out, number, name.index, 1);
-    replies::put(out, end, b"$end\n")
+    let identifier = output::put(out, at, b"$var wire 1 ");
+    let number = output::put(out, identifier, &[first, second, b' ', kind]);
+    let end = output::put_ended(out, number, name.index, 1);
+    output::put(out, end, b"$end\n")
 }
 
 // Writes the lines that declare the first n wires.
@@ -128,13 +128,13 @@ pub fn write_header(layout: Layout, n: usize, out: &mut [u8], at: usize) -> usiz
     requires { ⌜ FewWires layout n × Room (now out) at (header (nameIn layout) n) ⌝ }
     ensures { λ r. ⌜ Placed (now (out .entry)) at (header (nameIn layout) n) r (now (out .exit)) ⌝ }
 {
-    let wires = replies::put(
+    let wires = output::put(
         out,
         at,
         b"$timescale 1 ns $end\n$scope module trigger $end\n",
     );
     let end = write_declarations(layout, n, out, wires);
-    replies::put(out, end, b"$upscope $end\n$enddefinitions $end\n")
+    output::put(out, end, b"$upscope $end\n$enddefinitions $end\n")
 }
 
 // Writes time mark t.
@@ -142,8 +142,8 @@ pub fn write_time(out: &mut [u8], at: usize, t: u32) -> usize
     requires { ⌜ Room (now out) at (timeMark t) ⌝ }
     ensures { λ r. ⌜ Placed (now (out .entry)) at (timeMark t) r (now (out .exit)) ⌝ }
 {
-    let number = replies::put(out, at, b"#");
-    write::write_ended(out, number, t, 0)
+    let number = output::put(out, at, b"#");
+    output::put_ended(out, number, t, 0)
 }
 
 // Writes the line of wire k with character `value` for its value.
@@ -153,5 +153,5 @@ pub fn write_value(out: &mut [u8], at: usize, k: usize, value: u8) -> usize
 {
     let high = b'!' + (k / 94) as u8;
     let low = b'!' + (k % 94) as u8;
-    replies::put(out, at, &[value, high, low, b'\n'])
+    output::put(out, at, &[value, high, low, b'\n'])
 }

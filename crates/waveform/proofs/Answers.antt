@@ -20,12 +20,11 @@ use Rattle.layout.specs.declared.Layout.{Layout}
 use Rattle.frames.proofs.Places.{inputs-are, latches-are}
 use Rattle.limits.proofs.Refusals.{judge-refused, judge-rest}
 use Rattle.replay.proofs.Answers.{passed}
-use Rattle.write.specs.Output.{putText, Room, Placed}
-use Rattle.write.proofs.Output.{Rest, rest-start, rest-room, rest-more, put-front}
+use Rattle.output.specs.Output.{putText, Room, Placed}
+use Rattle.output.proofs.Output.{Rest, rest-start, rest-room, rest-more, put-front, last-room, last-placed}
 use Rattle.vcd.specs.declared.Name.{Name}
 use Rattle.vcd.specs.Text.{Level, header, samples, dump}
 use Rattle.vcd.specs.Wires.{literals, nameAt, nameIn, wiresIn, FewWires}
-use Rattle.vcd.proofs.Putting.{last-room, last-placed}
 use Rattle.levels.proofs.Wires.{outputs-are, bads-are, constraints-are, wires-are, wires-few}
 use Rattle.samples.specs.Passes.{low}
 use Rattle.samples.proofs.Samples.{samples-size}

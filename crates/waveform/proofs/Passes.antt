@@ -7,7 +7,7 @@ use lib.ListN.{length}
 use Rattle.aiger.specs.Circuit.{Circuit}
 use Rattle.aiger.specs.Frames.{Run}
 use Rattle.completions.specs.Either.{completion}
-use Rattle.write.specs.Output.{putText, Room, Placed}
+use Rattle.output.specs.Output.{putText, Room, Placed}
 use Rattle.vcd.specs.Text.{Level, samples}
 use Rattle.levels.specs.Levels.{after}
 use Rattle.samples.specs.Passes.{levelOf, low, Stands, Sampled, SamplesLeft}

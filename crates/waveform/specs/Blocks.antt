@@ -8,7 +8,7 @@ use Rattle.aiger.specs.Circuit.{Circuit}
 use Rattle.aiger.specs.Operations.{front}
 use Rattle.completions.specs.Either.{completion}
 use Rattle.blocks.specs.Runs.{BodyRead}
-use Rattle.write.specs.Output.{putText}
+use Rattle.output.specs.Output.{putText}
 use Rattle.vcd.specs.Text.{Level, samples}
 use Rattle.levels.specs.Levels.{levelOver}
 use Rattle.samples.specs.declared.Pass.{Pass}

@@ -5,7 +5,7 @@ use mathlib.Core.List.{List, [], _∷_, _++_, map, append-assoc}
 use Prim.Native.Nat.{ℕ, zero, suc, _+_, _-_, _*_, _≤_, _<_}
 use native.Mathlib.Omega.{arith}
 use lib.Dec.{eqb}
-use lib.ListN.{length, set, length-append, length-set}
+use lib.ListN.{length, length-append}
 use Rattle.aiger.specs.Lists.{from, upto, tally}
 use Rattle.aiger.specs.Text.{bytes, digits}
 use Rattle.aiger.specs.Circuit.{Circuit, Latch}
@@ -14,52 +14,15 @@ use Rattle.aiger.specs.Witness.{bitLine, bitLines, witness, witnessLength}
 use Rattle.aiger.specs.Operations.{front}
 use Rattle.layout.specs.Words.{circuitIn}
 use Rattle.layout.specs.declared.Layout.{Layout}
-use Rattle.numbers.proofs.Writing.{Written}
 use Rattle.meaning.proofs.Sequences.{input-number}
 use Rattle.witness.specs.Writing.{freeAt, rowOf, headingText, SequenceIn, WitnessFits}
-use Rattle.witness.proofs.Put.{put, put-is, put-byte, put-cons, put-append, put-after, put-length, front-append}
+use Rattle.witness.proofs.Put.{put, front-append}
 use Rattle.witness.proofs.Rows.{rowsFrom}
 use Rattle.witness.proofs.Starts.{latch-count, input-count}
 
 pub heading-length : (b : ℕ) → length (headingText b) ≡ 4 + length (digits b)
 unfolding headingText
 heading-length b = simp length-append (omega arith)
-
--- ---- the first two lines
-
-heading-put : (out : List ℕ) → 3 ≤ length out → put out 0 (bytes "1\nb") ≡ set (set (set out 0 49) 1 10) 2 98
-heading-put out h =
-    put-cons out 0 49 (10 ∷ 98 ∷ []) (omega arith)
-    ∙ put-cons (set out 0 49) 1 10 (98 ∷ []) (simp length-set (omega arith))
-    ∙ put-byte (set (set out 0 49) 1 10) 2 98 (simp length-set (omega arith))
-
-heading-end : (b : ℕ) (out left : List ℕ) (next : ℕ) → length (bytes "1\nb" ++ digits b) ≤ length out → length (bytes "1\nb" ++ digits b) ≡ next
-    → left ≡ put out 0 (bytes "1\nb" ++ digits b) → put left next (10 ∷ []) ≡ front (headingText b) out
-unfolding headingText
-heading-end b out left next h e q = put-after out left (bytes "1\nb" ++ digits b) (10 ∷ []) next h e q
-
--- what storing three bytes, writing a number and storing a line feed leave
-pub record Headed (b : ℕ) (out left : List ℕ) (next : ℕ) : Type 0 where
-  pub inside : next < length left
-  pub past : next + 1 ≡ length (headingText b)
-  pub text : set left next 10 ≡ front (headingText b) out
-
-pub headed : (b : ℕ) (out left : List ℕ) (next : ℕ) → length (headingText b) ≤ length out → Written (set (set (set out 0 49) 1 10) 2 98) 3 (digits b) next left → Headed b out left next
-headed b out left next h w =
-    let one : List ℕ = set (set (set out 0 49) 1 10) 2 98 in
-    let size : length one ≡ length out = simp length-set in
-    let room : length (digits b) + 4 ≤ length out = omega (arith, heading-length b) in
-    let e : next ≡ 3 + length (digits b) = w .past in
-    let second : left ≡ put out 0 (bytes "1\nb" ++ digits b) =
-    w .contents ∙ rw e (put-is one 3 (digits b) ∙ rw (← heading-put out (omega arith)) (put-append out 0 (bytes "1\nb") (digits b) (omega arith))) in
-    let long : length (bytes "1\nb" ++ digits b) ≡ next = omega (arith, length-append (bytes "1\nb") (digits b)) in
-    let inside : next < length left = omega (arith, ap length second, put-length out 0 (bytes "1\nb" ++ digits b) (omega arith)) in
-    let after-heading : put left next (10 ∷ []) ≡ front (headingText b) out = heading-end b out left next (omega arith) long second in
-    record {
-      inside = inside;
-      past = omega (arith, heading-length b);
-      text = sym (put-byte left next 10 inside) ∙ after-heading;
-    }
 
 joined : (a d n s r e : List ℕ) → (a ++ d ++ n) ++ (s ++ (r ++ e)) ≡ a ++ d ++ n ++ s ++ r ++ e
 joined a d n s r e = simp append-assoc

@@ -74,10 +74,6 @@ front-append out v w h =
 pub front-length : (out w : List ℕ) → length w ≤ length out → length (front w out) ≡ length out
 front-length out w h = rw (← put-front out w) (put-length out 0 w (omega arith))
 
--- bytes after those at the front, where the position is their length
-pub put-after : (out left v w : List ℕ) (at : ℕ) → length v ≤ length out → length v ≡ at → left ≡ put out 0 v → put left at w ≡ front (v ++ w) out
-put-after out left v w at h e q = rw (q, put-front out v, ← e) (front-append out v w h)
-
 -- a part that starts at `at`, up to the end, and comes back with bytes written to its front
 pub part-put : (out part w : List ℕ) (at : ℕ) → at + length w ≤ length out → part ≡ front w (take (length out - at) (drop at out))
     → putMid at (length out - at) out part ≡ put out at w

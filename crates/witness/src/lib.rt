@@ -17,7 +17,6 @@ ghost use Rattle.witness.specs.Heading.{HeadingAt};
 use layout::Layout;
 use literals::Lit;
 use numbers::Number;
-use numbers::Put;
 
 // A latch's start value, and how many free bits are used after it.
 struct Start {
@@ -117,14 +116,8 @@ fn write_heading(out: &mut [u8], b: u32) -> usize
     requires { ⌜ length (headingText b) ≤ length (now out) ⌝ }
     ensures { λ r. ⌜ (r ≡ length (headingText b)) × (now (out .exit) ≡ front (headingText b) (now (out .entry))) ⌝ }
 {
-    out[0] = b'1';
-    out[1] = b'\n';
-    out[2] = b'b';
-    let Put::At(next) = numbers::write_number(out, 3, b) else {
-        return 0;
-    };
-    out[next] = b'\n';
-    next + 1
+    let number = output::put(out, 0, b"1\nb");
+    output::put_ended(out, number, b, 0)
 }
 
 // Writes the witness of bad line b for the sequence of frame t whose free bits stand in free to the front of out.

@@ -1,4 +1,3 @@
-pub mod Output
 pub mod Rows
 pub mod Sections
 pub mod RoundTrip

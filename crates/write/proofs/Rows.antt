@@ -1,38 +1,32 @@
--- The text of the rows in a circuit memory is what write gives for the circuit that the memory's words say. Assumes nothing.
+-- The text of rows in a circuit memory: one row more, its length, and that rows are the lines of literals, latches and gates. Assumes
+-- nothing.
 use mathlib.Core.Path.{_≡_, refl, sym, ap, _∙_}
 use mathlib.Core.Bool.{cond}
 use mathlib.Core.List.{List, [], _∷_, _++_, map, append-nil}
 use Prim.Native.Nat.{ℕ, zero, suc, _+_, _-_, _*_, _≤_, _<_}
-use native.Mathlib.Nat.{mul-suc}
+use native.Mathlib.Nat.{suc-mul}
 use native.Mathlib.Numerals.{add-one}
 use native.Mathlib.Omega.{arith}
 use lib.Dec.{eqb, eqb·suc-zero}
 use lib.ListN.{length, length-append}
 use Rattle.aiger.specs.Lists.{upto}
-use Rattle.aiger.specs.Text.{digits}
-use Rattle.aiger.specs.Write.{lineOf, linesOf, literalRow, latchRow, gateRow, write}
-use Rattle.layout.specs.Words.{word, column, latchIn, gateIn, circuitIn, latchesAt, outputsAt, badsAt, constraintsAt, gatesAt}
-use Rattle.roundtrip.proofs.Lists.{upto-length}
+use Rattle.aiger.specs.Write.{lineOf, linesOf, literalRow, latchRow, gateRow}
+use Rattle.layout.specs.Words.{word, column, latchIn, gateIn}
 use Rattle.roundtrip.proofs.Content.{wordsAt, triplesAt, makeLatch, makeGate, column-words, map-triples}
-use Rattle.numbers.proofs.Digits.{digits-most}
-use Rattle.write.specs.Rows.{ending, numberText, rowText, rowCount, rowsText, memoryText, RowsIn}
+use Rattle.output.specs.Row.{rowText}
+use Rattle.output.proofs.Row.{row-most, row-line}
+use Rattle.write.specs.Rows.{rowCount, rowsText, RowsIn}
 
 -- a row of one length only
 either : (w n : ℕ) → cond (eqb w 0) n n ≡ n
 either zero n = refl
 either (suc w) n = simp (eqb·suc-zero w)
 
-first-and-others : (most n : ℕ) → 0 < n → most * n ≡ most + most * (n - 1)
+first-and-others : (most n : ℕ) → 0 < n → n * most ≡ most + (n - 1) * most
 first-and-others most zero h = absurd (omega arith)
-first-and-others most (suc n) h = let e : suc n - 1 ≡ n = omega arith in rw e (omega (arith, mul-suc most n))
+first-and-others most (suc n) h = let e : suc n - 1 ≡ n = omega arith in rw e (omega (arith, suc-mul n most))
 
 module _ (m : List ℕ) where
-  -- one number more
-  pub row-more : (p n : ℕ) → 0 < n → rowText m p n ≡ numberText (word m p) (n - 1) ++ rowText m (p + 1) (n - 1)
-  unfolding rowText
-  row-more p zero h = absurd (omega arith)
-  row-more p (suc n) h = let e : suc n - 1 ≡ n = omega arith in rw (e, add-one p)
-
   -- one row more
   pub rows-more : (least most p n : ℕ) → 0 < n
       → rowsText least most m p n ≡ rowText m p (rowCount least most m p) ++ rowsText least most m (p + most) (n - 1)
@@ -40,45 +34,19 @@ module _ (m : List ℕ) where
   rows-more least most p zero h = absurd (omega arith)
   rows-more least most p (suc n) h = let e : suc n - 1 ≡ n = omega arith in rw e
 
-  -- the length of one number more and of one row more
-  pub row-longer : (p n : ℕ) → 0 < n → length (rowText m p n) ≡ length (digits (word m p)) + 1 + length (rowText m (p + 1) (n - 1))
-  row-longer p n h =
-      ap length (row-more p n h)
-      ∙ omega (
-        arith,
-        length-append (numberText (word m p) (n - 1)) (rowText m (p + 1) (n - 1)),
-        length-append (digits (word m p)) (ending (n - 1) ∷ []),
-      )
-
+  -- the length of one row more
   pub rows-longer : (least most p n : ℕ) → 0 < n
       → length (rowsText least most m p n) ≡ length (rowText m p (rowCount least most m p)) + length (rowsText least most m (p + most) (n - 1))
   rows-longer least most p n h =
       ap length (rows-more least most p n h) ∙ length-append (rowText m p (rowCount least most m p)) (rowsText least most m (p + most) (n - 1))
 
   -- none
-  pub row-none : (p n : ℕ) → n ≤ 0 → rowText m p n ≡ []
-  unfolding rowText
-  row-none p zero h = refl
-  row-none p (suc n) h = absurd (omega arith)
-
   pub rows-none : (least most p n : ℕ) → n ≤ 0 → rowsText least most m p n ≡ []
   unfolding rowsText
   rows-none least most p zero h = refl
   rows-none least most p (suc n) h = absurd (omega arith)
 
-  -- the length of a row and of rows
-  pub row-most : (p n : ℕ) → length (rowText m p n) ≤ 11 * n
-  unfolding rowText
-  row-most p zero = omega arith
-  row-most p (suc n) =
-      omega (
-        arith,
-        length-append (numberText (word m p) n) (rowText m (suc p) n),
-        length-append (digits (word m p)) (ending n ∷ []),
-        digits-most 9 (word m p),
-        row-most (suc p) n,
-      )
-
+  -- the length of rows
   pub count-most : (least most p : ℕ) → least ≤ most → rowCount least most m p ≤ most
   count-most least most p h = go (word m (p + (most - 1)))
     where
@@ -93,7 +61,7 @@ module _ (m : List ℕ) where
       omega (
         arith,
         length-append (rowText m p (rowCount least most m p)) (rowsText least most m (p + most) n),
-        row-most p (rowCount least most m p),
+        row-most m p (rowCount least most m p),
         count-most least most p h,
         rows-most least most (p + most) n h k,
       )
@@ -111,18 +79,12 @@ module _ (m : List ℕ) where
         wide = r .wide;
       }
 
-  -- a row is a line
-  pub row-line : (p n : ℕ) → rowText m p (suc n) ≡ lineOf (word m p) (wordsAt m (suc p) n)
-  unfolding rowText lineOf
-  row-line p zero = append-nil (digits (word m p) ++ 10 ∷ [])
-  row-line p (suc n) = simp (eqb·suc-zero n) (ap (λ (w : List ℕ). digits (word m p) ++ 32 ∷ [] ++ w) (row-line (suc p) n))
-
   -- rows of one word
   literal-rows : (p n : ℕ) → rowsText 1 1 m p n ≡ linesOf (map literalRow (wordsAt m p n))
   unfolding rowsText linesOf
   literal-rows p zero = refl
   literal-rows p (suc n) =
-      rw (either (word m (p + (1 - 1))) 1, row-line p 0, add-one p)
+      rw (either (word m (p + (1 - 1))) 1, row-line m p 0, add-one p)
       (ap (λ (w : List ℕ). lineOf (word m p) [] ++ w) (literal-rows (suc p) n))
 
   pub rows-literals : (p n : ℕ) → rowsText 1 1 m p n ≡ linesOf (map literalRow (column m p 1 n))
@@ -151,30 +113,15 @@ module _ (m : List ℕ) where
     where
       go : (w : ℕ) → word m (suc (suc p)) ≡ w
           → rowText m p (cond (eqb w 0) 2 3) ++ linesOf ls ≡ lineOf (word m p) (word m (suc p) ∷ cond (eqb w 0) [] (w ∷ [])) ++ linesOf ls
-      go zero q = rw (row-line p 1)
-      go (suc w) q = simp (eqb·suc-zero w, row-line p 2, q)
+      go zero q = rw (row-line m p 1)
+      go (suc w) q = simp (eqb·suc-zero w, row-line m p 2, q)
 
   gate-row : (p : ℕ) → Row 3 makeGate gateRow p
   unfolding linesOf
-  gate-row p ls = rw (either (word m (p + (3 - 1))) 3, row-line p 2)
+  gate-row p ls = rw (either (word m (p + (3 - 1))) 3, row-line m p 2)
 
   pub rows-latches : (p n : ℕ) → rowsText 2 3 m p n ≡ linesOf (map latchRow (map (λ j. latchIn m (p + 3 * j)) (upto n)))
   rows-latches p n = triple-rows 2 makeLatch latchRow latch-row p n ∙ ap (λ w. linesOf (map latchRow w)) (sym (map-triples makeLatch m p n))
 
   pub rows-gates : (p n : ℕ) → rowsText 3 3 m p n ≡ linesOf (map gateRow (map (λ j. gateIn m (p + 3 * j)) (upto n)))
   rows-gates p n = triple-rows 3 makeGate gateRow gate-row p n ∙ ap (λ w. linesOf (map gateRow w)) (sym (map-triples makeGate m p n))
-
-  -- the text of a memory is what write gives for the circuit that its words say
-  pub memory-text : memoryText m ≡ write (circuitIn m)
-  unfolding memoryText write circuitIn
-  memory-text =
-      simp (
-        upto-length,
-        row-line 0 6,
-        rows-literals 7 (word m 1),
-        rows-latches (latchesAt m) (word m 2),
-        rows-literals (outputsAt m) (word m 3),
-        rows-literals (badsAt m) (word m 5),
-        rows-literals (constraintsAt m) (word m 6),
-        rows-gates (gatesAt m) (word m 4),
-      )

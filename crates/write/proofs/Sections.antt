@@ -1,97 +1,92 @@
--- The sections of a held circuit: they stand in the memory, and their texts, one after the other, are what write gives. Assumes nothing.
-use mathlib.Core.Path.{_≡_, refl, sym, ap, _∙_}
-use mathlib.Core.List.{List, [], _∷_, _++_, append-assoc, append-nil}
-use Prim.Native.Nat.{ℕ, suc, _+_, _*_, _≤_, _<_}
+-- The sections of a held circuit, by the table of sections: they stand in the memory, and their texts, one after the other, are what write
+-- gives. Assumes nothing.
+use mathlib.Core.Path.{_≡_, ap, _∙_}
+use mathlib.Core.List.{List, [], _∷_, _++_, map, append-assoc, append-nil}
+use Prim.Native.Nat.{ℕ, zero, suc, _+_, _*_, _≤_, _<_}
+use native.Mathlib.Nat.{mul-suc}
 use native.Mathlib.Omega.{arith}
-use lib.ListN.{length, getD, drop, length-append}
-use lib.Seq.{drop-cons, sets, sets-eq}
+use lib.ListN.{length, drop, length-append}
 use Rattle.aiger.specs.Text.{bytes}
-use Rattle.aiger.specs.File.{Header}
-use Rattle.aiger.specs.Write.{write}
+use Rattle.aiger.specs.Circuit.{Circuit}
+use Rattle.aiger.specs.Write.{lineOf, linesOf, literalRow, latchRow, gateRow, countRow, write}
 use Rattle.aiger.specs.Memory.{Holds}
-use Rattle.aiger.specs.Operations.{front}
-use Rattle.layout.specs.Words.{circuitIn, word, contentEnd}
+use Rattle.layout.specs.Words.{circuitIn, word, contentEnd, latchesAt, outputsAt, badsAt, constraintsAt, gatesAt}
+use Rattle.layout.specs.Layout.{LayoutOf}
+use Rattle.layout.specs.Table.{table, sectionAt}
+use Rattle.layout.specs.declared.Layout.{Layout}
+use Rattle.layout.specs.declared.Section.{Section}
+use Rattle.layout.proofs.Table.{Inside, places, from-section, section-inside}
+use Rattle.roundtrip.proofs.Lists.{upto-length}
 use Rattle.roundtrip.proofs.LoadWrite.{counts-fit, text-short}
 use Rattle.roundtrip.proofs.Content.{content-length}
-use Rattle.roundtrip.proofs.Holding.{held-valid, content-fits, header-in}
-use Rattle.layout.specs.Layout.{LayoutOf}
-use Rattle.layout.specs.declared.Layout.{Layout}
-use Rattle.write.specs.Rows.{rowText, rowsText, memoryText, RowsIn}
-use Rattle.write.specs.Output.{putText, Room, Placed}
-use Rattle.write.proofs.Rows.{memory-text}
-use Rattle.write.proofs.Output.{Rest, rest-start, rest-room, rest-more, rest-end, put-front}
+use Rattle.roundtrip.proofs.Holding.{held-valid, content-fits}
+use Rattle.output.specs.Row.{rowText}
+use Rattle.output.proofs.Row.{row-line}
+use Rattle.write.specs.Rows.{rowsText, RowsIn}
+use Rattle.write.proofs.Rows.{rows-literals, rows-latches, rows-gates}
 
--- the header's words and the rows of each section stand in the memory
-pub record Sections (m : List ℕ) (p : Layout) : Type 0 where
-  pub head : 7 ≤ length m
-  pub inputs : RowsIn m 7 (p .i) 1
-  pub latches : RowsIn m (p .latches) (p .l) 3
-  pub outputs : RowsIn m (p .outputs) (p .o) 1
-  pub bads : RowsIn m (p .bads) (p .b) 1
-  pub constraints : RowsIn m (p .constraints) (p .c) 1
-  pub gates : RowsIn m (p .gates) (p .a) 3
+-- the text of a section, and of sections one after the other
+abbrev pub sectionText : List ℕ → Section → List ℕ
+sectionText m t = rowsText (t .least) (t .most) m (t .at) (t .rows)
 
-rows-in : {m : List ℕ} {q n : ℕ} (most : ℕ) → 0 < most → most ≤ 3 → n ≤ 4096 → q + most * n ≤ length m → RowsIn m q n most
-rows-in most s w f i = record { inside = i; few = f; some-word = s; wide = w }
+abbrev pub sectionsText : List ℕ → List Section → List ℕ
+sectionsText m [] = []
+sectionsText m (t ∷ ts) = sectionText m t ++ sectionsText m ts
 
--- texts, one after the other
-abbrev joined : List (List ℕ) → List ℕ
-joined [] = []
-joined (t ∷ ts) = t ++ joined ts
+-- what write gives, part after part
+written : (c : Circuit) → write c
+    ≡ bytes "aag "
+    ++ (lineOf (c .maxVar) (countRow c)
+    ++ (linesOf (map literalRow (c .inputs))
+    ++ (linesOf (map latchRow (c .latches))
+    ++ (linesOf (map literalRow (c .outputs))
+    ++ (linesOf (map literalRow (c .bads)) ++ (linesOf (map literalRow (c .constraints)) ++ (linesOf (map gateRow (c .gates)) ++ [])))))))
+unfolding write
+written c = simp (append-assoc, append-nil)
 
-joined-from : (ts : List (List ℕ)) (k : ℕ) → k < length ts → joined (drop k ts) ≡ getD ts k [] ++ joined (drop (suc k) ts)
-joined-from ts k h = ap joined (drop-cons ts k [] h)
+at-most : (n k : ℕ) → 0 < k → n ≤ n * k
+at-most n zero h = absurd (omega arith)
+at-most n (suc k) h = omega (arith, mul-suc n k)
 
--- the texts of the sections
-abbrev pub parts : List ℕ → Layout → List (List ℕ)
-parts m p =
-    bytes "aag "
-    ∷ rowText m 0 7
-    ∷ rowsText 1 1 m 7 (p .i)
-    ∷ rowsText 2 3 m (p .latches) (p .l)
-    ∷ rowsText 1 1 m (p .outputs) (p .o)
-    ∷ rowsText 1 1 m (p .bads) (p .b)
-    ∷ rowsText 1 1 m (p .constraints) (p .c)
-    ∷ rowsText 3 3 m (p .gates) (p .a)
-    ∷ []
+module _ (m : List ℕ) (p : Layout) (k : ℕ) (b : k < 6) where
+  -- one section, and those after it
+  pub text-more : sectionsText m (drop k (table p)) ≡ sectionText m (sectionAt p k) ++ sectionsText m (drop (suc k) (table p))
+  text-more = ap (sectionsText m) (from-section p k b)
 
-abbrev pub part : List ℕ → Layout → ℕ → List ℕ
-part m p k = getD (parts m p) k []
-
--- the texts of the sections from section k on
-abbrev pub partsFrom : List ℕ → Layout → ℕ → List ℕ
-partsFrom m p k = joined (drop k (parts m p))
+  pub text-longer : length (sectionsText m (drop k (table p)))
+      ≡ length (sectionText m (sectionAt p k)) + length (sectionsText m (drop (suc k) (table p)))
+  text-longer = ap length text-more ∙ length-append (sectionText m (sectionAt p k)) (sectionsText m (drop (suc k) (table p)))
 
 module _ {m : List ℕ} {p : Layout} (h : Holds m (circuitIn m)) (l : LayoutOf m p) where
-  -- the sections of a held circuit stand in its memory
-  pub sections : Sections m p
-  sections =
-      let v = held-valid h in
-      let counts = counts-fit (circuitIn m) (v .fit) in
-      let same = header-in m in
-      let top : circuitIn m .maxVar ≡ word m 0 = ap (λ (x : Header). x .M) same in
-      let i : p .i ≤ 256 = omega (arith, l .i-is, counts .inputs, ap (λ (x : Header). x .I) same) in
-      let k : p .l ≤ 1024 = omega (arith, l .l-is, counts .latches, ap (λ (x : Header). x .L) same) in
-      let o : p .o ≤ 64 = omega (arith, l .o-is, counts .outputs, ap (λ (x : Header). x .O) same) in
-      let a : p .a ≤ 3072 = omega (arith, l .a-is, counts .gates, ap (λ (x : Header). x .A) same) in
-      let b : p .b ≤ 16 = omega (arith, l .b-is, counts .bads, ap (λ (x : Header). x .B) same) in
-      let c : p .c ≤ 16 = omega (arith, l .c-is, counts .constraints, ap (λ (x : Header). x .C) same) in
-      let end : contentEnd m ≤ length m = omega (arith, v .held, content-fits v, content-length m) in
-      record {
-        head = omega arith;
-        inputs = rows-in 1 (omega arith) (omega arith) (omega arith) (omega (arith, l));
-        latches = rows-in 3 (omega arith) (omega arith) (omega arith) (omega (arith, l));
-        outputs = rows-in 1 (omega arith) (omega arith) (omega arith) (omega (arith, l));
-        bads = rows-in 1 (omega arith) (omega arith) (omega arith) (omega (arith, l));
-        constraints = rows-in 1 (omega arith) (omega arith) (omega arith) (omega (arith, l));
-        gates = rows-in 3 (omega arith) (omega arith) (omega arith) (omega (arith, l));
-      }
+  end-small : contentEnd m ≤ 65536
+  end-small = let v = held-valid h in omega (arith, counts-fit (circuitIn m) (v .fit) .maxVar, content-fits v, content-length m)
 
-  -- what write gives is the texts of the sections
-  pub text-parts : write (circuitIn m) ≡ partsFrom m p 0
-  unfolding memoryText
+  end-inside : contentEnd m ≤ length m
+  end-inside = let v = held-valid h in omega (arith, v .held, content-fits v, content-length m)
+
+  -- the header and the sections of a held circuit stand in its memory
+  pub head-inside : 7 ≤ length m
+  head-inside = omega (arith, end-inside)
+
+  pub section-rows : (k : ℕ) → k < 6 → let t = sectionAt p k in RowsIn m (t .at) (t .rows) (t .most) × (t .least ≤ t .most)
+  section-rows k b =
+      let t = sectionAt p k in
+      let i : Inside t (length m) = section-inside p k b (places l) end-inside in
+      let s : Inside t 65536 = section-inside p k b (places l) end-small in (
+        record {
+          inside = i .ends;
+          few = omega (arith, s .ends, at-most (t .rows) (t .most) (i .some-word));
+          some-word = i .some-word;
+          wide = i .wide;
+        },
+        i .least-most,
+      )
+
+  -- what write gives is the texts of header and sections
+  pub text-parts : write (circuitIn m) ≡ bytes "aag " ++ (rowText m 0 7 ++ sectionsText m (table p))
+  unfolding circuitIn
   text-parts =
-      sym (memory-text m)
+      written (circuitIn m)
       ∙ rw (
         l .i-is,
         l .l-is,
@@ -104,43 +99,21 @@ module _ {m : List ℕ} {p : Layout} (h : Holds m (circuitIn m)) (l : LayoutOf m
         l .bads-is,
         l .constraints-is,
         l .gates-is,
-      ) (simp (append-assoc, append-nil))
+      )
+      (simp (
+        upto-length,
+        row-line m 0 6,
+        rows-literals m 7 (word m 1),
+        rows-latches m (latchesAt m) (word m 2),
+        rows-literals m (outputsAt m) (word m 3),
+        rows-literals m (badsAt m) (word m 5),
+        rows-literals m (constraintsAt m) (word m 6),
+        rows-gates m (gatesAt m) (word m 4),
+      ))
 
-  -- the length of the text is that of the sections, and small
-  pub text-size : length (write (circuitIn m))
-      ≡ 4 + length (part m p 1) + length (part m p 2) + length (part m p 3) + length (part m p 4) + length (part m p 5) + length (part m p 6)
-      + length (part m p 7)
+  -- its length, which is small
+  pub text-size : length (write (circuitIn m)) ≡ 4 + length (rowText m 0 7) + length (sectionsText m (table p))
   text-size = ap length text-parts ∙ simp length-append (omega arith)
 
   pub text-small : length (write (circuitIn m)) ≤ 65536
   text-small = text-short (held-valid h)
-
--- a held circuit, its layout, and an output with room for its text
-abbrev pub Fitting : List ℕ → Layout → List ℕ → Type 0
-Fitting m p out = Holds m (circuitIn m) × LayoutOf m p × (length (write (circuitIn m)) ≤ length out)
-
--- the text is written but for the sections from k on
-abbrev pub Left : List ℕ → Layout → List ℕ → List ℕ → ℕ → ℕ → Type 0
-Left m p out out′ end k = Rest out 0 (write (circuitIn m)) out′ end (partsFrom m p k)
-
-module _ {m : List ℕ} {p : Layout} (out : List ℕ) (g : Fitting m p out) where
-  -- before anything is written
-  pub left-all : Left m p out out 0 0
-  left-all = rw (text-parts (g .0) (g .1)) (rest-start out 0 (partsFrom m p 0))
-
-  -- there is room for section k
-  pub left-room : {out₁ : List ℕ} {e₁ : ℕ} (k : ℕ) → k < 8 → Left m p out out₁ e₁ k → Room out₁ e₁ (part m p k)
-  left-room k b r = rest-room (part m p k) (partsFrom m p (suc k)) (omega arith) (rw (joined-from (parts m p) k b) at r)
-
-  -- section k is written
-  pub left-next : {out₁ out₂ : List ℕ} {e₁ e₂ : ℕ} (k : ℕ) → k < 8 → Left m p out out₁ e₁ k → Placed out₁ e₁ (part m p k) e₂ out₂ → Left m p out out₂ e₂ (suc k)
-  left-next k b r q = rest-more (part m p k) (partsFrom m p (suc k)) (omega arith) (rw (joined-from (parts m p) k b) at r) q
-
-  -- all sections are written
-  pub left-none : {out₁ : List ℕ} {e₁ : ℕ} → Left m p out out₁ e₁ 8 → out₁ ≡ front (write (circuitIn m)) out
-  left-none r = rest-end r .contents ∙ put-front out (write (circuitIn m))
-
-  -- the name of the format is stored
-  pub left-head : Left m p out (sets out 0 (bytes "aag ")) 4 1
-  unfolding putText
-  left-head = left-next 0 (omega arith) left-all (record { past = refl; contents = sets-eq (bytes "aag ") out 0 (omega (arith, text-size (g .0) (g .1), g .2)) })

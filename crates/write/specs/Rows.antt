@@ -4,21 +4,8 @@ use mathlib.Core.List.{List, [], _∷_, _++_}
 use Prim.Native.Nat.{ℕ, zero, suc, _+_, _-_, _*_, _≤_, _<_}
 use lib.Dec.{eqb}
 use lib.ListN.{length}
-use Rattle.aiger.specs.Text.{bytes, digits}
-use Rattle.layout.specs.Words.{word, latchesAt, outputsAt, badsAt, constraintsAt, gatesAt}
-
--- the byte after a number that so many follow in its line: a line feed after the last, a space after each other
-abbrev pub ending : ℕ → ℕ
-ending left = cond (eqb left 0) 10 32
-
--- a number and the byte after it
-abbrev pub numberText : ℕ → ℕ → List ℕ
-numberText n left = digits n ++ ending left ∷ []
-
--- the line of n words from position p on
-unfoldable pub rowText : List ℕ → ℕ → ℕ → List ℕ
-rowText m p zero = []
-rowText m p (suc n) = numberText (word m p) n ++ rowText m (suc p) n
+use Rattle.output.specs.Row.{rowText}
+use Rattle.layout.specs.Words.{word}
 
 -- how many of the `most` words at p their line has: `least` where the last is 0
 abbrev pub rowCount : ℕ → ℕ → List ℕ → ℕ → ℕ
@@ -29,16 +16,9 @@ unfoldable pub rowsText : ℕ → ℕ → List ℕ → ℕ → ℕ → List ℕ
 rowsText least most m p zero = []
 rowsText least most m p (suc n) = rowText m p (rowCount least most m p) ++ rowsText least most m (p + most) n
 
--- the text of a circuit memory
-unfoldable pub memoryText : List ℕ → List ℕ
-memoryText m =
-    bytes "aag " ++ rowText m 0 7
-    ++ rowsText 1 1 m 7 (word m 1) ++ rowsText 2 3 m (latchesAt m) (word m 2) ++ rowsText 1 1 m (outputsAt m) (word m 3)
-    ++ rowsText 1 1 m (badsAt m) (word m 5) ++ rowsText 1 1 m (constraintsAt m) (word m 6) ++ rowsText 3 3 m (gatesAt m) (word m 4)
-
 -- n rows of `most` words from position p on stand in the memory
 pub record RowsIn (m : List ℕ) (p n most : ℕ) : Type 0 where
-  pub inside : p + most * n ≤ length m
-  pub few : n ≤ 4096
+  pub inside : p + n * most ≤ length m
+  pub few : n ≤ 65536
   pub some-word : 0 < most
   pub wide : most ≤ 3

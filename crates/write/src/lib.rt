@@ -1,7 +1,6 @@
 // The text of the circuit that a circuit memory holds: its length, and the text at the front of an output.
 use circuit::Held;
 use layout::Layout;
-use numbers::Put;
 ghost use mathlib.Core.Path.{_≡_};
 ghost use Prim.Native.Nat.{_+_, _≤_, _<_};
 ghost use lib.ListN.{length};
@@ -10,24 +9,15 @@ ghost use Rattle.aiger.specs.Memory.{Holds};
 ghost use Rattle.aiger.specs.Operations.{front, Written};
 ghost use Rattle.layout.specs.Words.{circuitIn};
 ghost use Rattle.layout.specs.Layout.{LayoutOf};
-ghost use Rattle.write.specs.Rows.{ending, numberText, rowText, rowCount, rowsText, RowsIn};
-ghost use Rattle.write.specs.Output.{Room, Placed};
+ghost use Rattle.output.specs.Output.{Room, Placed};
+ghost use Rattle.output.specs.Row.{rowText};
+ghost use Rattle.write.specs.Rows.{rowCount, rowsText, RowsIn};
 ghost use Rattle.write.specs.Answer.{answered};
 
 // The length of the text, or the number of the refusal.
 pub enum WriteAnswer {
     Length(usize),
     Refused(u32),
-}
-
-// The byte after a number that `left` more follow in its line.
-fn ending_byte(left: usize) -> u8
-    ensures { λ r. ⌜ r ≡ ending left ⌝ }
-{
-    if left == 0 {
-        return b'\n';
-    }
-    b' '
 }
 
 // How many of the `most` words at p their line has: `least` where the last is 0.
@@ -78,42 +68,14 @@ fn text_length(m: &[u32], layout: Layout) -> usize
     requires { ⌜ Holds (now m) (circuitIn (now m)) × LayoutOf (now m) layout ⌝ }
     ensures { λ r. ⌜ r ≡ length (write (circuitIn (now (m .entry)))) ⌝ }
 {
-    let head = row_length(m, 0, 7);
-    let inputs = rows_length(m, 7, layout.i, 1, 1);
-    let latches = rows_length(m, layout.latches, layout.l, 2, 3);
-    let outputs = rows_length(m, layout.outputs, layout.o, 1, 1);
-    let bads = rows_length(m, layout.bads, layout.b, 1, 1);
-    let constraints = rows_length(m, layout.constraints, layout.c, 1, 1);
-    let gates = rows_length(m, layout.gates, layout.a, 3, 3);
-    4 + head + inputs + latches + outputs + bads + constraints + gates
-}
-
-// Writes n and the byte after it, in a line in which `left` numbers follow.
-pub fn write_ended(out: &mut [u8], at: usize, n: u32, left: usize) -> usize
-    requires { ⌜ Room (now out) at (numberText n left) ⌝ }
-    ensures { λ r. ⌜ Placed (now (out .entry)) at (numberText n left) r (now (out .exit)) ⌝ }
-{
-    let Put::At(end) = numbers::write_number(out, at, n) else {
-        return at;
-    };
-    out[end] = ending_byte(left);
-    end + 1
-}
-
-// Writes the line of n words from `first` on.
-pub fn write_row(m: &[u32], first: usize, n: usize, out: &mut [u8], at: usize) -> usize
-    requires { ⌜ (first + n ≤ length (now m)) × Room (now out) at (rowText (now m) first n) ⌝ }
-    ensures { λ r. ⌜ Placed (now (out .entry)) at (rowText (now (m .entry)) first n) r (now (out .exit)) ⌝ }
-{
-    let mut end = at;
-    let mut p = first;
-    let mut left = n;
-    while 0 < left {
-        left -= 1;
-        end = write_ended(out, end, m[p], left);
-        p += 1;
+    let mut total = 4 + row_length(m, 0, 7);
+    let mut k: usize = 0;
+    while k < 6 {
+        let t = layout::section_at(layout, k);
+        total += rows_length(m, t.at, t.rows, t.least, t.most);
+        k += 1;
     }
-    end
+    total
 }
 
 // Writes n lines of `least` to `most` numbers, `most` words each, from `first` on.
@@ -134,7 +96,7 @@ fn write_rows(
     let mut left = n;
     while 0 < left {
         let count = row_count(m, p, least, most);
-        end = write_row(m, p, count, out, end);
+        end = output::put_row(m, p, count, out, end);
         p += most;
         left -= 1;
     }
@@ -146,17 +108,14 @@ fn write_text(m: &[u32], layout: Layout, out: &mut [u8])
     requires { ⌜ Holds (now m) (circuitIn (now m)) × LayoutOf (now m) layout × (length (write (circuitIn (now m))) ≤ length (now out)) ⌝ }
     ensures { λ _. ⌜ now (out .exit) ≡ front (write (circuitIn (now (m .entry)))) (now (out .entry)) ⌝ }
 {
-    out[0] = b'a';
-    out[1] = b'a';
-    out[2] = b'g';
-    out[3] = b' ';
-    let inputs = write_row(m, 0, 7, out, 4);
-    let latches = write_rows(m, 7, layout.i, 1, 1, out, inputs);
-    let outputs = write_rows(m, layout.latches, layout.l, 2, 3, out, latches);
-    let bads = write_rows(m, layout.outputs, layout.o, 1, 1, out, outputs);
-    let constraints = write_rows(m, layout.bads, layout.b, 1, 1, out, bads);
-    let gates = write_rows(m, layout.constraints, layout.c, 1, 1, out, constraints);
-    write_rows(m, layout.gates, layout.a, 3, 3, out, gates);
+    let head = output::put(out, 0, b"aag ");
+    let mut end = output::put_row(m, 0, 7, out, head);
+    let mut k: usize = 0;
+    while k < 6 {
+        let t = layout::section_at(layout, k);
+        end = write_rows(m, t.at, t.rows, t.least, t.most, out, end);
+        k += 1;
+    }
 }
 
 // The operation write: puts the text of the circuit that m holds at the front of out.

@@ -14,8 +14,8 @@ use Rattle.frames.proofs.Facts.{valid}
 use Rattle.renumbered.specs.Renumbered.{writeBinary, BinaryEffect, WrittenBinary}
 use Rattle.renumbered_laws.proofs.Accepted.{placed, renumbered-valid}
 use Rattle.renumbered_laws.proofs.Reading.{binary-short}
-use Rattle.write.specs.Output.{Placed}
-use Rattle.write.proofs.Output.{put-front}
+use Rattle.output.specs.Output.{Placed}
+use Rattle.output.proofs.Output.{put-front}
 
 -- a text at the front of some bytes, copied to the front of others
 pub copied : {text w text′ : List ℕ} {n : ℕ} (out : List ℕ) → Placed text 0 w n text′

@@ -38,10 +38,10 @@ use Rattle.renumbered_laws.proofs.Numbers.{order-inside, order-length, number-m
 use Rattle.renumbered_laws.proofs.Accepted.{inputs-length, latches-length, gates-length, operands-below, placed, renumbered-valid}
 use Rattle.renumbered_laws.proofs.Reading.{binary-short}
 use Rattle.binary_text.specs.Lines.{latchLines, literalLines, gateUnderAt, gateBytes, Listed}
-use Rattle.write.specs.Rows.{rowText}
-use Rattle.write.specs.Output.{putText, Room, Placed}
-use Rattle.write.proofs.Output.{Rest, rest-start, rest-room, rest-more, rest-end}
-use Rattle.write.proofs.Rows.{row-line}
+use Rattle.output.specs.Row.{rowText}
+use Rattle.output.specs.Output.{putText, Room, Placed}
+use Rattle.output.proofs.Output.{Rest, rest-start, rest-room, rest-more, rest-end}
+use Rattle.output.proofs.Row.{row-line}
 use Rattle.write_binary.specs.Texts.{headText, Small, Ready}
 use Rattle.write_binary.proofs.Sections.{latches-part, lines-part, gates-part}
 use Rattle.pairing.proofs.Images.{output-count}

@@ -10,7 +10,7 @@ ghost use Rattle.layout.specs.Words.{circuitIn};
 ghost use Rattle.layout.specs.Layout.{LayoutOf};
 ghost use Rattle.renumbered.specs.Renumbered.{writeBinary, WrittenBinary};
 ghost use Rattle.write.specs.Answer.{answered};
-ghost use Rattle.write.specs.Output.{Room, Placed};
+ghost use Rattle.output.specs.Output.{Room, Placed};
 ghost use Rattle.write_binary.specs.Texts.{headText, Small, Ready};
 
 // Writes the header at the front.
@@ -31,7 +31,7 @@ fn write_head(p: Layout, out: &mut [u8]) -> usize
         p.b as u32,
         p.c as u32,
     ];
-    write::write_row(&row, 0, 7, out, 4)
+    output::put_row(&row, 0, 7, out, 4)
 }
 
 // Writes the text of the circuit in m at the front, by the numbers of its variables and the order of its gates.

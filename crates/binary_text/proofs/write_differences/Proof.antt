@@ -2,7 +2,8 @@
 use Prim.Native.Nat.{_-_}
 use borrow.Author.Needs.{needs}
 use Rattle.aiger.specs.Binary.{differenceText}
-use Rattle.binary_text.proofs.Steps.{room-first, room-second, placed-two, placed-in}
+use Rattle.output.proofs.Output.{room-first, room-second, placed-two}
+use Rattle.binary_text.proofs.Steps.{placed-in}
 use Rattle.binary_text.proofs.write_differences.Statement.{statement}
 use Rattle.binary_text.proofs.write_differences.Tie as tie
 

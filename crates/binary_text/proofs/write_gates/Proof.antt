@@ -7,7 +7,7 @@ use borrow.Author.Needs.{needs}
 use lib.ListN.{length}
 use Rattle.layout.specs.Words.{word}
 use Rattle.renumbered.specs.Renumbered.{sorted, gateText}
-use Rattle.write.proofs.Output.{Rest, rest-start, rest-room, rest-more, rest-end}
+use Rattle.output.proofs.Output.{Rest, rest-start, rest-room, rest-more, rest-end}
 use Rattle.binary_text.specs.Lines.{gateUnderAt, gateBytes}
 use Rattle.binary_text.proofs.Steps.{gates-from, gates-end, operand-within}
 use Rattle.binary_text.proofs.write_gates.Statement.{statement}

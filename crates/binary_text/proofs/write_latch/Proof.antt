@@ -1,12 +1,13 @@
 -- `binary_text::write_latch` meets its contract. Assumes nothing.
 use borrow.Author.Needs.{needs}
-use Rattle.write.specs.Rows.{numberText}
-use Rattle.binary_text.proofs.Steps.{room-first, room-second, placed-two, latch-one, latch-two}
+use Rattle.output.specs.Row.{numberText}
+use Rattle.output.proofs.Output.{room-first, room-second, placed-two}
+use Rattle.binary_text.proofs.Steps.{latch-one, latch-two}
 use Rattle.binary_text.proofs.write_latch.Statement.{statement}
 use Rattle.binary_text.proofs.write_latch.Tie as tie
 
-write-ended-requires : tie.Need-write-ended-requires
-write-ended-requires c κs =
+put-ended-requires : tie.Need-put-ended-requires
+put-ended-requires c κs =
     let a = c .before .before .before .args in
     rw (latch-one (a .next) (a .reset) (c .before .if1 .taken)) at (c .before .before .before .pre)
 
@@ -16,18 +17,18 @@ same-length c = search needs
 returns : tie.Need-returns
 returns c =
     let a = c .before .before .before .before .before .before .args in
-    rw (latch-one (a .next) (a .reset) (c .before .before .before .before .if1 .taken)) (c .before .before .write-ended .ensures)
+    rw (latch-one (a .next) (a .reset) (c .before .before .before .before .if1 .taken)) (c .before .before .put-ended .ensures)
 
-write-ended-requires-2 : tie.Need-write-ended-requires-2
-write-ended-requires-2 c κs =
+put-ended-requires-2 : tie.Need-put-ended-requires-2
+put-ended-requires-2 c κs =
     let a = c .before .before .before .args in
     room-first (a .out .now) (a .at) (numberText (a .next) 1) (numberText (a .reset) 0) (rw (latch-two (a .next) (a .reset) (c .before .if1 .left)) at (c .before .before .before .pre))
 
-write-ended-requires-3 : tie.Need-write-ended-requires-3
-write-ended-requires-3 c κs =
+put-ended-requires-3 : tie.Need-put-ended-requires-3
+put-ended-requires-3 c κs =
     let a = c .before .before .before .before .before .before .before .args in
     room-second (a .out .now) (a .at) (numberText (a .next) 1) (numberText (a .reset) 0) (rw (latch-two (a .next) (a .reset) (c .before .before .before .before .before .if1 .left)) at (c .before .before .before .before .before .before .before .pre))
-    (c .before .before .before .write-ended2 .ensures)
+    (c .before .before .before .put-ended2 .ensures)
 
 same-length-2 : tie.Need-same-length-2
 same-length-2 c = search needs
@@ -37,17 +38,17 @@ returns-2 c =
     let a = c .before .before .before .before .before .before .before .before .before .before .args in
     let e = latch-two (a .next) (a .reset) (c .before .before .before .before .before .before .before .before .if1 .left) in
     rw e
-    (placed-two (a .out .now) (a .at) (numberText (a .next) 1) (numberText (a .reset) 0) (rw e at (c .before .before .before .before .before .before .before .before .before .before .pre)) (c .before .before .before .before .before .before .write-ended2 .ensures)
-    (c .before .before .write-ended3 .ensures))
+    (placed-two (a .out .now) (a .at) (numberText (a .next) 1) (numberText (a .reset) 0) (rw e at (c .before .before .before .before .before .before .before .before .before .before .pre)) (c .before .before .before .before .before .before .put-ended2 .ensures)
+    (c .before .before .put-ended3 .ensures))
 
 pub write-latch-spec : {M : Type 1} → statement M
 write-latch-spec =
     tie.close
     (tie.spec
-    write-ended-requires
+    put-ended-requires
     same-length
     returns
-    write-ended-requires-2
-    write-ended-requires-3
+    put-ended-requires-2
+    put-ended-requires-3
     same-length-2
     returns-2)

@@ -6,7 +6,7 @@ use borrow.Author.Needs.{needs}
 use lib.ListN.{length}
 use Rattle.layout.specs.Words.{word}
 use Rattle.renumber.specs.Names.{Within, under}
-use Rattle.write.proofs.Output.{Rest, rest-start, rest-room, rest-more, rest-end}
+use Rattle.output.proofs.Output.{Rest, rest-start, rest-room, rest-more, rest-end}
 use Rattle.binary_text.specs.Lines.{latchLine, latchLines}
 use Rattle.binary_text.proofs.Steps.{latches-more, latches-none, within-from}
 use Rattle.binary_text.proofs.write_latches.Statement.{statement}

@@ -8,8 +8,8 @@ use lib.ListN.{length}
 use Rattle.aiger.specs.Circuit.{var}
 use Rattle.layout.specs.Words.{word}
 use Rattle.renumber.specs.Names.{Within, under}
-use Rattle.write.specs.Rows.{numberText}
-use Rattle.write.proofs.Output.{Rest, rest-start, rest-room, rest-more, rest-end}
+use Rattle.output.specs.Row.{numberText}
+use Rattle.output.proofs.Output.{Rest, rest-start, rest-room, rest-more, rest-end}
 use Rattle.binary_text.specs.Lines.{literalLines}
 use Rattle.binary_text.proofs.Steps.{literals-more, literals-none, within-from, within-here}
 use Rattle.binary_text.proofs.write_literals.Statement.{statement}
@@ -36,8 +36,8 @@ rename-requires c κs =
     let l = c .before .before .before in
     within-here (c .before .before .before .before .before .before .before .args .m .now) (l .loop .p) (l .loop .left) (c .before .before .before .before .before .before .before .args .names .now) (c .before .before .loop-test .taken) (l .loop .inv .1)
 
-write-ended-requires : tie.Need-write-ended-requires Inv-loop μ-loop
-write-ended-requires c κs =
+put-ended-requires : tie.Need-put-ended-requires Inv-loop μ-loop
+put-ended-requires c κs =
     let l = c .before .before .before .before in
     let s = c .before .before .before .before .before .before .before .before in
     let m = s .args .m .now in
@@ -69,7 +69,7 @@ loop-again c =
       omega (arith, l .loop .inv .0, t),
       within-from m p n names 1 (n - 1) (omega (arith, t)) (l .loop .inv .1),
       rest-more (numberText (under names (word m p)) 0) (literalLines names m (p + 1) (n - 1)) (s .pre .2)
-          (rw (literals-more names m p n t) at (l .loop .inv .2)) (rw (c .before .before .before .rename .ensures .0) at (c .before .before .write-ended .ensures)),
+          (rw (literals-more names m p n t) at (l .loop .inv .2)) (rw (c .before .before .before .rename .ensures .0) at (c .before .before .put-ended .ensures)),
     )
 
 same-length : tie.Need-same-length Inv-loop μ-loop
@@ -91,7 +91,7 @@ write-literals-spec =
     mul-rename
     shared-slice-read-rename
     rename-requires
-    write-ended-requires
+    put-ended-requires
     add-p
     sub-left
     loop-less

@@ -7,11 +7,11 @@ use Rattle.aiger.specs.Circuit.{var}
 use Rattle.aiger.specs.Write.{write}
 use Rattle.nodes.specs.Edges.{edgeWord}
 use Rattle.nodes.proofs.Laws.{word-node, word-edge}
-use Rattle.write.specs.Rows.{numberText}
-use Rattle.write.specs.Output.{Room}
-use Rattle.write.proofs.Output.{Rest, rest-room, rest-more}
+use Rattle.output.specs.Row.{numberText}
+use Rattle.output.specs.Output.{Room}
+use Rattle.output.proofs.Output.{Rest, rest-room, rest-more, last-room}
 use Rattle.fold.specs.Text.{literalWord, gatesText, inputsText, headText, foldedIn}
-use Rattle.fold.proofs.Parts.{last-room, shown}
+use Rattle.fold.proofs.Parts.{shown}
 use Rattle.fold.proofs.Lines.{literal-told, literal-small, left-all, kept-few, node-fits, gates-fit}
 use borrow.Author.Needs.{needs}
 use Rattle.fold.proofs.write_folded.Statement.{statement}
@@ -49,7 +49,7 @@ entry-1 c = c .before .before .before .before .before .before
 abbrev entry-2 : tie.After-write-inputs → tie.Start
 entry-2 c = entry-1 (c .before .before .before .before)
 
-abbrev entry-3 : tie.After-write-ended → tie.Start
+abbrev entry-3 : tie.After-put-ended → tie.Start
 entry-3 c = entry-2 (c .before .before .before .before)
 
 left-1 : (c : tie.After-write-head) → Leaves (entry-1 c) (c .write-head .last .0) (c .write-head .result) (inputs (entry-1 c) ++ (output (entry-1 c) ++ gates (entry-1 c)))
@@ -64,10 +64,10 @@ told c =
     let s = c .before .before .before .before in
     literal-told (s .args .work .now) (edgeWord (s .args .root)) (sym (word-edge (s .args .root))) (c .before .literal .ensures) (c .word .ensures)
 
-left-3 : (c : tie.After-write-ended) → Leaves (entry-3 c) (c .write-ended .last .0) (c .write-ended .result) (gates (entry-3 c))
+left-3 : (c : tie.After-put-ended) → Leaves (entry-3 c) (c .put-ended .last .0) (c .put-ended .result) (gates (entry-3 c))
 left-3 c =
     let s = entry-3 c in
-    rest-more (output s) (gates s) (room s) (left-2 (c .before .before .before .before)) (rw (told (c .before .before .before .before .before .before .before .before .before .before)) at (c .write-ended .ensures))
+    rest-more (output s) (gates s) (room s) (left-2 (c .before .before .before .before)) (rw (told (c .before .before .before .before .before .before .before .before .before .before)) at (c .put-ended .ensures))
 
 literal-requires : tie.Need-literal-requires
 literal-requires c κs =
@@ -94,8 +94,8 @@ write-inputs-requires c κs =
     let s = entry-1 w in
     (omega (arith, s .pre .0 .sized), rest-room (inputs s) (output s ++ gates s) (room s) (left-1 w))
 
-write-ended-requires : tie.Need-write-ended-requires
-write-ended-requires c κs =
+put-ended-requires : tie.Need-put-ended-requires
+put-ended-requires c κs =
     let w = c .before .before .before in
     let s = entry-2 w in
     rw (told (w .before .before .before .before .before .before)) (rest-room (output s) (gates s) (room s) (left-2 w))
@@ -104,7 +104,7 @@ write-gates-requires : tie.Need-write-gates-requires
 write-gates-requires c κs =
     let w = c .before .before .before in
     let s = entry-3 w in
-    (gates-fit (s .pre .0), last-room (room s) (left-3 w))
+    (gates-fit (s .pre .0), last-room (gates s) (room s) (left-3 w))
 
 same-length : tie.Need-same-length
 same-length c = search needs
@@ -124,7 +124,7 @@ write-folded-spec =
     cast-output
     write-head-requires
     write-inputs-requires
-    write-ended-requires
+    put-ended-requires
     write-gates-requires
     same-length
     returns)

@@ -2,9 +2,9 @@
 use mathlib.Core.Path.{_≡_}
 use mathlib.Core.List.{[], _∷_}
 use native.Mathlib.Omega.{arith}
-use Rattle.write.specs.Rows.{rowText}
+use Rattle.output.specs.Row.{rowText}
 use Rattle.fold.specs.Text.{gateText}
-use Rattle.fold.proofs.Parts.{placed-none}
+use Rattle.output.proofs.Output.{placed-none}
 use Rattle.fold.proofs.Lines.{gate-line, gate-none, gate-left}
 use borrow.Author.Needs.{needs}
 use Rattle.fold.proofs.write_gate.Statement.{statement}
@@ -23,7 +23,7 @@ shared-slice-read-number : tie.Need-shared-slice-read-number
 shared-slice-read-number c = search needs
 
 -- the row that is written is the gate's line
-line : (c : tie.After-write-row-arg) → (
+line : (c : tie.After-put-row-arg) → (
     let two = c .before .before in
     let one = two .before .before in
     let own = one .before .before in
@@ -75,11 +75,11 @@ shared-slice-read-literal-word-2 c = search needs
 literal-word-requires-2 : tie.Need-literal-word-requires-2
 literal-word-requires-2 c κs = search needs
 
-slice-aggregate-write-row : tie.Need-slice-aggregate-write-row
-slice-aggregate-write-row c = search needs
+slice-aggregate-put-row : tie.Need-slice-aggregate-put-row
+slice-aggregate-put-row c = search needs
 
-write-row-requires : tie.Need-write-row-requires
-write-row-requires c κs =
+put-row-requires : tie.Need-put-row-requires
+put-row-requires c κs =
     let s = c .before .before .before .before .before .before .before .before .before .before .before in
     (omega arith, rw (line c) (s .pre .1))
 
@@ -89,7 +89,7 @@ same-length c = search needs
 returns-2 : tie.Need-returns-2
 returns-2 c =
     let w = c .before .before in
-    rw (line (w .before)) at (w .write-row .ensures)
+    rw (line (w .before)) at (w .put-row .ensures)
 
 pub write-gate-spec : {M : Type 1} → statement M
 write-gate-spec =
@@ -111,7 +111,7 @@ write-gate-spec =
     mul-literal-word-4
     shared-slice-read-literal-word-2
     literal-word-requires-2
-    slice-aggregate-write-row
-    write-row-requires
+    slice-aggregate-put-row
+    put-row-requires
     same-length
     returns-2)

@@ -4,9 +4,10 @@ use Prim.Native.Nat.{ℕ, _+_, _-_, _≤_}
 use native.Mathlib.Omega.{arith}
 use mathlib.Core.Path.{_≡_}
 use mathlib.Core.List.{List}
-use Rattle.write.specs.Output.{Placed}
+use Rattle.output.specs.Output.{Placed}
 use Rattle.fold.specs.Text.{gateText, gatesText}
-use Rattle.fold.proofs.Parts.{placed-none, placed-length, text-room, part-room, part-more}
+use Rattle.output.proofs.Output.{placed-none, placed-length}
+use Rattle.fold.proofs.Parts.{text-room, part-room, part-more}
 use Rattle.fold.proofs.Lines.{gates-more, gates-none}
 use Rattle.fold.proofs.write_gates.Statement.{statement}
 use Rattle.fold.proofs.write_gates.Tie as tie

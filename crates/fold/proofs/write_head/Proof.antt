@@ -1,7 +1,7 @@
 -- `fold::write_head` meets its contract. Assumes nothing.
 use native.Mathlib.Omega.{arith}
 use lib.ListN.{length-set}
-use Rattle.fold.proofs.Parts.{placed-length}
+use Rattle.output.proofs.Output.{placed-length}
 use Rattle.fold.proofs.Lines.{head-room, head-placed}
 use borrow.Author.Needs.{needs}
 use Rattle.fold.proofs.write_head.Statement.{statement}
@@ -31,11 +31,11 @@ slice-write-out-3 c = simp length-set (omega arith)
 slice-write-out-4 : tie.Need-slice-write-out-4
 slice-write-out-4 c = simp length-set (omega arith)
 
-slice-aggregate-write-row : tie.Need-slice-aggregate-write-row
-slice-aggregate-write-row c = search needs
+slice-aggregate-put-row : tie.Need-slice-aggregate-put-row
+slice-aggregate-put-row c = search needs
 
-write-row-requires : tie.Need-write-row-requires
-write-row-requires c κs =
+put-row-requires : tie.Need-put-row-requires
+put-row-requires c κs =
     let s = c .before .before .before in
     (omega arith, head-room (s .args .out .now) (s .args .free) (s .args .kept) (s .pre .1))
 
@@ -43,13 +43,13 @@ same-length : tie.Need-same-length
 same-length c =
     let w = c .before .before in
     let s = w .before .before .before .before in
-    placed-length (s .pre .1) (head-placed (s .args .out .now) (s .args .free) (s .args .kept) (s .pre .1) (w .write-row .ensures))
+    placed-length (s .pre .1) (head-placed (s .args .out .now) (s .args .free) (s .args .kept) (s .pre .1) (w .put-row .ensures))
 
 returns : tie.Need-returns
 returns c =
     let w = c .before .before in
     let s = w .before .before .before .before in
-    head-placed (s .args .out .now) (s .args .free) (s .args .kept) (s .pre .1) (w .write-row .ensures)
+    head-placed (s .args .out .now) (s .args .free) (s .args .kept) (s .pre .1) (w .put-row .ensures)
 
 pub write-head-spec : {M : Type 1} → statement M
 write-head-spec =
@@ -63,7 +63,7 @@ write-head-spec =
     slice-write-out-2
     slice-write-out-3
     slice-write-out-4
-    slice-aggregate-write-row
-    write-row-requires
+    slice-aggregate-put-row
+    put-row-requires
     same-length
     returns)

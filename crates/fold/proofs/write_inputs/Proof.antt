@@ -4,10 +4,11 @@ use Prim.Native.Nat.{ℕ, _+_, _-_, _*_, _≤_}
 use native.Mathlib.Omega.{arith}
 use mathlib.Core.Path.{_≡_}
 use mathlib.Core.List.{List}
-use Rattle.write.specs.Rows.{numberText}
-use Rattle.write.specs.Output.{Placed}
+use Rattle.output.specs.Row.{numberText}
+use Rattle.output.specs.Output.{Placed}
 use Rattle.fold.specs.Text.{inputsText}
-use Rattle.fold.proofs.Parts.{placed-none, placed-length, text-room, part-room, part-more}
+use Rattle.output.proofs.Output.{placed-none, placed-length}
+use Rattle.fold.proofs.Parts.{text-room, part-room, part-more}
 use Rattle.fold.proofs.Lines.{inputs-more, inputs-none}
 use Rattle.fold.proofs.write_inputs.Statement.{statement}
 use Rattle.fold.proofs.write_inputs.Tie as tie
@@ -24,17 +25,17 @@ abbrev μ-loop : tie.MeasureT-loop
 loop-holds : tie.Need-loop-holds Inv-loop μ-loop
 loop-holds c = let s = c .before in (omega arith, rw inputs-none (placed-none (s .args .out .now) (s .args .at)))
 
-cast-write-ended : tie.Need-cast-write-ended Inv-loop μ-loop
-cast-write-ended c = omega arith
+cast-put-ended : tie.Need-cast-put-ended Inv-loop μ-loop
+cast-put-ended c = omega arith
 
-add-write-ended : tie.Need-add-write-ended Inv-loop μ-loop
-add-write-ended c = omega arith
+add-put-ended : tie.Need-add-put-ended Inv-loop μ-loop
+add-put-ended c = omega arith
 
-mul-write-ended : tie.Need-mul-write-ended Inv-loop μ-loop
-mul-write-ended c = omega arith
+mul-put-ended : tie.Need-mul-put-ended Inv-loop μ-loop
+mul-put-ended c = omega arith
 
-write-ended-requires : tie.Need-write-ended-requires Inv-loop μ-loop
-write-ended-requires c κs =
+put-ended-requires : tie.Need-put-ended-requires Inv-loop μ-loop
+put-ended-requires c κs =
     let l = c .before .before in
     let s = l .before .before in
     part-room inputsText line inputs-more (s .args .out .now) (s .args .at) (s .args .free) (s .pre .1) (l .loop .j) (c .before .loop-test .taken) (l .loop .inv .1)
@@ -52,7 +53,7 @@ loop-again c =
     let s = l .before .before in (
       omega arith,
       part-more inputsText line inputs-more (s .args .out .now) (s .args .at) (s .args .free) (s .pre .1) (l .loop .j) (w .before .before .loop-test .taken)
-          (l .loop .inv .1) (w .write-ended .ensures),
+          (l .loop .inv .1) (w .put-ended .ensures),
     )
 
 same-length : tie.Need-same-length Inv-loop μ-loop
@@ -75,10 +76,10 @@ write-inputs-spec =
     Inv-loop
     μ-loop
     loop-holds
-    cast-write-ended
-    add-write-ended
-    mul-write-ended
-    write-ended-requires
+    cast-put-ended
+    add-put-ended
+    mul-put-ended
+    put-ended-requires
     add-j
     loop-less
     loop-again

@@ -6,7 +6,7 @@ use Prim.Native.Nat.{_≤_}
 use native.Mathlib.Omega.{arith}
 use lib.ListN.{length, drop, length-set}
 use lib.Seq.{drop-length}
-use Rattle.numbers.specs.Put.{lastDigits}
+use Rattle.numbers.specs.Last.{lastDigits}
 use Rattle.numbers.proofs.Digits.{fill-before, fill-done}
 use Rattle.numbers.proofs.fill.Statement.{statement}
 use Rattle.numbers.proofs.fill.Tie as tie

@@ -2,7 +2,7 @@
 use native.Mathlib.Omega.{arith}
 use Rattle.aiger.specs.Text.{bytes}
 use Rattle.load.specs.Answers.{numbers}
-use Rattle.write.proofs.Rows.{row-most}
+use Rattle.output.proofs.Row.{row-most}
 use Rattle.replies.proofs.Putting.{Fronted, front-first, front-room, front-more, front-fronts}
 use Rattle.preview_command.proofs.Answers.{row-room, counts-row}
 use borrow.Author.Needs.{needs}
@@ -21,11 +21,11 @@ slice-aggregate-put c = search needs
 put-requires : tie.Need-put-requires
 put-requires c κs = search needs
 
-slice-aggregate-write-row : tie.Need-slice-aggregate-write-row
-slice-aggregate-write-row c = search needs
+slice-aggregate-put-row : tie.Need-slice-aggregate-put-row
+slice-aggregate-put-row c = search needs
 
-write-row-requires : tie.Need-write-row-requires
-write-row-requires c κs =
+put-row-requires : tie.Need-put-row-requires
+put-row-requires c κs =
     let w = c .before .before .before .before in
     (omega arith, row-room _ (w .put .last .0) (w .put .result) (front-room (word w) 77 (omega (arith, start w .pre))))
 
@@ -37,7 +37,7 @@ returns c =
     let r = c .before .before in
     let w = r .before .before .before .before .before in
     let k = start w .args .k in
-    counts-row k (front-fronts (front-more (word w) 77 (omega (arith, start w .pre)) (row-most (numbers k) 0 7) (r .write-row .ensures)))
+    counts-row k (front-fronts (front-more (word w) 77 (omega (arith, start w .pre)) (row-most (numbers k) 0 7) (r .put-row .ensures)))
 
 pub write-counts-spec : {M : Type 1} → statement M
 write-counts-spec =
@@ -45,7 +45,7 @@ write-counts-spec =
     (tie.spec
     slice-aggregate-put
     put-requires
-    slice-aggregate-write-row
-    write-row-requires
+    slice-aggregate-put-row
+    put-row-requires
     same-length
     returns)

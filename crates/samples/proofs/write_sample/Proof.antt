@@ -5,11 +5,10 @@ use Prim.Native.Nat.{ℕ, _+_, _*_, _≤_, _<_}
 use native.Mathlib.Omega.{arith}
 use borrow.Author.Needs.{needs}
 use lib.ListN.{length, length-append}
-use Rattle.write.specs.Output.{Room, Placed}
-use Rattle.write.proofs.Output.{Rest, rest-start, rest-room, rest-more}
+use Rattle.output.specs.Output.{Room, Placed}
+use Rattle.output.proofs.Output.{Rest, rest-start, rest-room, rest-more, last-placed}
 use Rattle.vcd.specs.Text.{Level, timeMark, valueLines, sample}
 use Rattle.vcd.proofs.Parts.{values-length}
-use Rattle.vcd.proofs.Putting.{last-placed}
 use Rattle.levels.specs.Levels.{after}
 use Rattle.samples.specs.Passes.{levelIn, low, Stands, Rewritten}
 use Rattle.samples.proofs.Standing.{stands-next}

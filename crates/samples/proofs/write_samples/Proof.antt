@@ -14,7 +14,7 @@ use Rattle.frames.specs.Lanes.{Ready}
 use Rattle.frames.proofs.Facts.{latches-are, ready-with}
 use Rattle.frames.proofs.Places.{inputs-are, inputs-few}
 use Rattle.blocks.proofs.Runs.{row-fits, row-next}
-use Rattle.write.specs.Output.{Room}
+use Rattle.output.specs.Output.{Room}
 use Rattle.vcd.specs.Text.{Level, timeMark, sample, samples}
 use Rattle.vcd.proofs.Parts.{samples-none}
 use Rattle.samples.specs.Passes.{low, levelOf, Stands, PassFits, RunsOf}

@@ -11,7 +11,6 @@ use Rattle.lines.specs.Lines.{RowsAt}
 use Rattle.lines.specs.declared.Rows.{Rows}
 use Rattle.binary.specs.Sections.{LatchesAt, GatesAt}
 use Rattle.binary.specs.declared.Gates.{Gates}
-use Rattle.sections.proofs.Parts.{Placed, placed, inputs-room}
 use Rattle.sections.proofs.Binary.{bad-latches, bad-roots, bad-gates, bad-tail, made, body-made, stored, large}
 use Rattle.sections.proofs.read_binary.Statement.{statement}
 use Rattle.sections.proofs.read_binary.Tie as tie
@@ -94,14 +93,10 @@ run4 n r e =
 few : (i l a : ℕ) → i + l + a ≤ 4096 → 1 + i ≤ 10000
 few i l a h = omega arith
 
--- the parts of the layout
-places : (s : tie.Start) → Placed (s .args .p) (length (s .args .words .now))
-places s = placed (s .args .p) (s .pre .1 .0) (s .pre .1 .1 .0)
-
 store-implied-requires : tie.Need-store-implied-requires
 store-implied-requires c κs =
     let s = c .before .before .before in
-    (inputs-room (places s), few (s .args .p .i) (s .args .p .l) (s .args .p .a) (s .pre .1 .1 .1 .1 .0))
+    (omega (arith, s .pre .1 .0, s .pre .1 .1 .0), few (s .args .p .i) (s .args .p .l) (s .args .p .a) (s .pre .1 .1 .1 .1 .0))
 
 add-variable : tie.Need-add-variable
 add-variable c = search needs
@@ -142,7 +137,7 @@ read-rows-requires : tie.Need-read-rows-requires
 read-rows-requires c κs =
     let t = c .before .before .before .before in
     let n = t .before .before .before .before in
-    (run2 n _ (t .at .given .1) .inside, (omega arith, omega (arith, places (start2 n), size2 n)))
+    (run2 n _ (t .at .given .1) .inside, (omega arith, omega (arith, start2 n .pre .1 .0, start2 n .pre .1 .1 .0, size2 n)))
 
 enum-known-at-2 : tie.Need-enum-known-at-2
 enum-known-at-2 c = search needs
@@ -176,7 +171,7 @@ read-gates-requires c κs =
     let n = t .before .before .before .before in
     let s = start3 n in (
       run3 n _ (t .at2 .given .1) .inside,
-      (omega (arith, places s, size3 n), omega (arith, s .pre .1 .1 .1 .1 .0, c .before .variable2 .ensures)),
+      (omega (arith, s .pre .1 .0, s .pre .1 .1 .0, size3 n), omega (arith, s .pre .1 .1 .1 .1 .0, c .before .variable2 .ensures)),
     )
 
 enum-known-end : tie.Need-enum-known-end
@@ -235,7 +230,7 @@ returns-5 c =
       made (a .s .now) (a .at) (a .p) (a .limit) (a .words .now) (s .pre .1 .0) (run1 m) r2 r3 r4,
       body-made (a .s .now) (a .at) (a .p) (a .limit) (a .words .now) (s .pre .1 .0) (run1 m) r2 r3 r4 e,
       drop (a .p .end) (words4 n),
-      stored (a .s .now) (a .at) (a .p) (a .limit) (a .words .now) (s .pre .1 .0) (run1 m) r2 r3 r4 (places s) (omega (arith, s .pre .1 .1 .0)) (c .if2 .taken),
+      stored (a .s .now) (a .at) (a .p) (a .limit) (a .words .now) (s .pre .1 .0) (run1 m) r2 r3 r4 (omega (arith, s .pre .1 .1 .0)) (c .if2 .taken),
     )
 
 same-length-6 : tie.Need-same-length-6

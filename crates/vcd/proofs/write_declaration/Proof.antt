@@ -2,19 +2,18 @@
 use mathlib.Core.List.{List, [], _∷_, _++_}
 use Prim.Native.Nat.{ℕ, _+_, _/_, _%_}
 use Rattle.aiger.specs.Text.{bytes}
-use Rattle.write.specs.Rows.{numberText}
-use Rattle.write.specs.Output.{Room, Placed}
-use Rattle.write.proofs.Output.{Rest, rest-start, rest-room, rest-more}
+use Rattle.output.specs.Row.{numberText}
+use Rattle.output.specs.Output.{Room, Placed}
+use Rattle.output.proofs.Output.{Rest, rest-start, rest-room, rest-more, last-room, last-placed}
 use Rattle.vcd.specs.declared.Name.{Name}
 use Rattle.vcd.specs.Text.{identifier, declaration}
-use Rattle.vcd.proofs.Putting.{last-room, last-placed}
 use borrow.Author.Needs.{needs}
 use Rattle.vcd.proofs.write_declaration.Statement.{statement}
 use Rattle.vcd.proofs.write_declaration.Tie as tie
 use Rattle.vcd.proofs.write_declaration.Reads as reads
 use Rattle.vcd.proofs.write_declaration.Lts as lts
-use Rattle.replies.proofs.put.Reads as put-reads
-use Rattle.write.proofs.write_ended.Reads as write-ended-reads
+use Rattle.output.proofs.put.Reads as put-reads
+use Rattle.output.proofs.put_ended.Reads as put-ended-reads
 
 -- the parts of the line
 abbrev word : List ℕ
@@ -82,8 +81,8 @@ put-requires-2 c κs =
     let a = c .before .before .before .before .before .before .before .before .args in
     label-room (a .out .now) (a .at) (a .k) (a .name) (c .before .before .before .before .before .before .before .before .pre .1) (c .before .before .before .before .put .ensures)
 
-write-ended-requires : tie.Need-write-ended-requires
-write-ended-requires c κs =
+put-ended-requires : tie.Need-put-ended-requires
+put-ended-requires c κs =
     let a = c .before .before .before .before .before .before .before .before .before .before .before .before .args in
     number-room (a .out .now) (a .at) (a .k) (a .name) (c .before .before .before .before .before .before .before .before .before .before .before .before .pre .1) (c .before .before .before .before .before .before .before .before .put .ensures) (c .before .before .before .put2 .ensures)
 
@@ -94,7 +93,7 @@ put-requires-3 : tie.Need-put-requires-3
 put-requires-3 c κs =
     let a = c .before .before .before .before .before .before .before .before .before .before .before .before .before .before .before .before .before .args in
     last-room end (c .before .before .before .before .before .before .before .before .before .before .before .before .before .before .before .before .before .pre .1)
-    (numbered (a .out .now) (a .at) (a .k) (a .name) (c .before .before .before .before .before .before .before .before .before .before .before .before .before .before .before .before .before .pre .1) (c .before .before .before .before .before .before .before .before .before .before .before .before .before .put .ensures) (c .before .before .before .before .before .before .before .before .put2 .ensures) (c .before .before .before .before .write-ended .ensures))
+    (numbered (a .out .now) (a .at) (a .k) (a .name) (c .before .before .before .before .before .before .before .before .before .before .before .before .before .before .before .before .before .pre .1) (c .before .before .before .before .before .before .before .before .before .before .before .before .before .put .ensures) (c .before .before .before .before .before .before .before .before .put2 .ensures) (c .before .before .before .before .put-ended .ensures))
 
 same-length : tie.Need-same-length
 same-length c = search needs
@@ -103,7 +102,7 @@ returns : tie.Need-returns
 returns c =
     let a = c .before .before .before .before .before .before .before .before .before .before .before .before .before .before .before .before .before .before .before .before .args in
     last-placed end (c .before .before .before .before .before .before .before .before .before .before .before .before .before .before .before .before .before .before .before .before .pre .1)
-    (numbered (a .out .now) (a .at) (a .k) (a .name) (c .before .before .before .before .before .before .before .before .before .before .before .before .before .before .before .before .before .before .before .before .pre .1) (c .before .before .before .before .before .before .before .before .before .before .before .before .before .before .before .before .put .ensures) (c .before .before .before .before .before .before .before .before .before .before .before .put2 .ensures) (c .before .before .before .before .before .before .before .write-ended .ensures))
+    (numbered (a .out .now) (a .at) (a .k) (a .name) (c .before .before .before .before .before .before .before .before .before .before .before .before .before .before .before .before .before .before .before .before .pre .1) (c .before .before .before .before .before .before .before .before .before .before .before .before .before .before .before .before .put .ensures) (c .before .before .before .before .before .before .before .before .before .before .before .put2 .ensures) (c .before .before .before .before .before .before .before .put-ended .ensures))
     (c .before .before .put3 .ensures)
 
 pub write-declaration-spec : {M : Type 1} → statement M
@@ -118,7 +117,7 @@ write-declaration-spec =
     put-requires
     slice-aggregate-put-2
     put-requires-2
-    write-ended-requires
+    put-ended-requires
     slice-aggregate-put-3
     put-requires-3
     same-length

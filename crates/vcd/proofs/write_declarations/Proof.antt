@@ -3,7 +3,7 @@
 use mathlib.Core.Path.{_≡_, sym}
 use Prim.Native.Nat.{_+_, _-_}
 use native.Mathlib.Omega.{arith}
-use Rattle.write.proofs.Output.{Rest, rest-start, rest-room, rest-more, rest-end}
+use Rattle.output.proofs.Output.{Rest, rest-start, rest-room, rest-more, rest-end}
 use Rattle.vcd.specs.Text.{declaration, declarations}
 use Rattle.vcd.specs.Wires.{nameIn}
 use Rattle.vcd.proofs.Parts.{declarations-more, declarations-none}

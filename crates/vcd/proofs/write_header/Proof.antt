@@ -1,18 +1,17 @@
 -- `vcd::write_header` meets its contract: its three parts, one after the other. Assumes nothing.
 use mathlib.Core.List.{List, _++_}
 use Prim.Native.Nat.{ℕ}
-use Rattle.write.specs.Output.{Room, Placed}
-use Rattle.write.proofs.Output.{Rest, rest-start, rest-room, rest-more}
+use Rattle.output.specs.Output.{Room, Placed}
+use Rattle.output.proofs.Output.{Rest, rest-start, rest-room, rest-more, last-room, last-placed}
 use Rattle.vcd.specs.declared.Name.{Name}
 use Rattle.vcd.specs.Text.{declarations, opening, closing, header}
 use Rattle.vcd.specs.Wires.{nameIn}
-use Rattle.vcd.proofs.Putting.{last-room, last-placed}
 use borrow.Author.Needs.{needs}
 use Rattle.vcd.proofs.write_header.Statement.{statement}
 use Rattle.vcd.proofs.write_header.Tie as tie
 use Rattle.vcd.proofs.write_header.Reads as reads
 use Rattle.vcd.proofs.write_header.Lts as lts
-use Rattle.replies.proofs.put.Reads as put-reads
+use Rattle.output.proofs.put.Reads as put-reads
 use Rattle.vcd.proofs.write_declarations.Reads as write-declarations-reads
 
 module _ (out : List ℕ) (at : ℕ) (name : ℕ → Name) (n : ℕ) (h : Room out at (header name n)) where

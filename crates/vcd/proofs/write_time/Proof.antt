@@ -1,18 +1,17 @@
 -- `vcd::write_time` meets its contract: the mark, and then the number. Assumes nothing.
 use mathlib.Core.List.{List, [], _∷_}
 use Prim.Native.Nat.{ℕ}
-use Rattle.write.specs.Rows.{numberText}
-use Rattle.write.specs.Output.{Room, Placed}
-use Rattle.write.proofs.Output.{Rest, rest-start, rest-room, rest-more}
+use Rattle.output.specs.Row.{numberText}
+use Rattle.output.specs.Output.{Room, Placed}
+use Rattle.output.proofs.Output.{Rest, rest-start, rest-room, rest-more, last-room, last-placed}
 use Rattle.vcd.specs.Text.{timeMark}
-use Rattle.vcd.proofs.Putting.{last-room, last-placed}
 use borrow.Author.Needs.{needs}
 use Rattle.vcd.proofs.write_time.Statement.{statement}
 use Rattle.vcd.proofs.write_time.Tie as tie
 use Rattle.vcd.proofs.write_time.Reads as reads
 use Rattle.vcd.proofs.write_time.Lts as lts
-use Rattle.replies.proofs.put.Reads as put-reads
-use Rattle.write.proofs.write_ended.Reads as write-ended-reads
+use Rattle.output.proofs.put.Reads as put-reads
+use Rattle.output.proofs.put_ended.Reads as put-ended-reads
 
 module _ (out : List ℕ) (at t : ℕ) (h : Room out at (timeMark t)) where
   mark-room : Room out at (35 ∷ [])
@@ -31,8 +30,8 @@ put-requires c κs =
     let a = c .before .before .before .args in
     mark-room (a .out .now) (a .at) (a .t) (c .before .before .before .pre)
 
-write-ended-requires : tie.Need-write-ended-requires
-write-ended-requires c κs =
+put-ended-requires : tie.Need-put-ended-requires
+put-ended-requires c κs =
     let a = c .before .before .before .before .before .before .before .args in
     last-room (numberText (a .t) 0) (c .before .before .before .before .before .before .before .pre) (marked (a .out .now) (a .at) (a .t) (c .before .before .before .before .before .before .before .pre) (c .before .before .before .put .ensures))
 
@@ -42,8 +41,8 @@ same-length c = search needs
 returns : tie.Need-returns
 returns c =
     let a = c .before .before .before .before .before .before .before .before .before .before .args in
-    last-placed (numberText (a .t) 0) (c .before .before .before .before .before .before .before .before .before .before .pre) (marked (a .out .now) (a .at) (a .t) (c .before .before .before .before .before .before .before .before .before .before .pre) (c .before .before .before .before .before .before .put .ensures)) (c .before .before .write-ended .ensures)
+    last-placed (numberText (a .t) 0) (c .before .before .before .before .before .before .before .before .before .before .pre) (marked (a .out .now) (a .at) (a .t) (c .before .before .before .before .before .before .before .before .before .before .pre) (c .before .before .before .before .before .before .put .ensures)) (c .before .before .put-ended .ensures)
 
 pub write-time-spec : {M : Type 1} → statement M
 write-time-spec =
-    tie.close (tie.spec slice-aggregate-put put-requires write-ended-requires same-length returns)
+    tie.close (tie.spec slice-aggregate-put put-requires put-ended-requires same-length returns)

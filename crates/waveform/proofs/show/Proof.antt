@@ -14,7 +14,7 @@ use Rattle.frames.specs.Lanes.{Ready}
 use Rattle.blocks.specs.Runs.{Fits}
 use Rattle.blocks.proofs.Words.{blocks-enough}
 use Rattle.replay.proofs.Shapes.{run-shaped-read}
-use Rattle.write.specs.Output.{putText}
+use Rattle.output.specs.Output.{putText}
 use Rattle.vcd.specs.Text.{Level, samples, dump}
 use Rattle.vcd.specs.Wires.{nameIn}
 use Rattle.levels.proofs.Wires.{wires-few}

@@ -1,97 +1,50 @@
--- `witness::write_heading` meets its contract: the number has room, and what the stores leave is `Headed`. Assumes nothing.
+-- `witness::write_heading` meets its contract: the bytes before the number, and the number with the line feed after it. Assumes nothing.
 use mathlib.Core.Path.{_≡_, _∙_}
-use mathlib.Core.List.{List}
-use Prim.Native.Nat.{ℕ}
+use mathlib.Core.List.{List, _++_}
+use native.Mathlib.Nat.{zero-add}
 use native.Mathlib.Omega.{arith}
 use borrow.Author.Needs.{needs}
-use lib.ListN.{length, set, length-set}
-use Rattle.aiger.specs.Text.{digits}
-use Rattle.numbers.proofs.Writing.{on-at, on-short}
-use Rattle.witness.proofs.Parts.{Headed, headed, heading-length}
+use lib.ListN.{length-append}
+use Rattle.aiger.specs.Text.{bytes, digits}
+use Rattle.output.specs.Output.{Room, Placed}
+use Rattle.output.specs.Row.{numberText}
+use Rattle.output.proofs.Output.{put-front, room-first, room-second, placed-two}
+use Rattle.witness.specs.Writing.{headingText}
+use Rattle.witness.proofs.Parts.{heading-length}
 use Rattle.witness.proofs.write_heading.Statement.{statement}
 use Rattle.witness.proofs.write_heading.Tie as tie
 
--- the text with the first three bytes stored
-abbrev three : List ℕ → List ℕ
-three out = set (set (set out 0 49) 1 10) 2 98
+-- there is room for both parts
+room : (s : tie.Start) → Room (s .args .out .now) 0 (bytes "1\nb" ++ numberText (s .args .b) 0)
+room s = omega (arith, s .pre, heading-length (s .args .b), length-append (digits (s .args .b)) (bytes "\n"))
 
-three-length : (out : List ℕ) → length (three out) ≡ length out
-three-length out = simp length-set
+slice-aggregate-put : tie.Need-slice-aggregate-put
+slice-aggregate-put c = search needs
 
-slice-write-out : tie.Need-slice-write-out
-slice-write-out c = omega (arith, heading-length (c .before .args .b))
+put-requires : tie.Need-put-requires
+put-requires c κs =
+    let s = c .before .before .before in
+    room-first (s .args .out .now) 0 (bytes "1\nb") (numberText (s .args .b) 0) (room s)
 
-slice-write-out-2 : tie.Need-slice-write-out-2
-slice-write-out-2 c = simp length-set (omega (arith, heading-length (c .before .args .b)))
-
-slice-write-out-3 : tie.Need-slice-write-out-3
-slice-write-out-3 c = simp length-set (omega (arith, heading-length (c .before .args .b)))
-
-write-number-requires : tie.Need-write-number-requires
-write-number-requires c κs = search needs
-
-enum-known-next : tie.Need-enum-known-next
-enum-known-next c = search needs
-
-enum-told : tie.Need-enum-told
-enum-told c = search needs
-
--- the number has room
-never : (c : tie.After-enum-told) → ⊥
-never c =
-    let w = c .before .before .before .before in
-    let a = w .before .before .before .args in
-    omega (
-      arith,
-      on-short {out = three (a .out .now)} {at = 3} {w = digits (a .b)} (w .write-number .ensures) (c .enum-told .given .1) .over,
-      three-length (a .out .now),
-      heading-length (a .b),
-      w .before .before .before .pre,
-    )
+put-ended-requires : tie.Need-put-ended-requires
+put-ended-requires c κs =
+    let w = c .before .before .before in
+    let s = w .before .before .before .before in
+    room-second (s .args .out .now) 0 (bytes "1\nb") (numberText (s .args .b) 0) (room s) (w .put .ensures)
 
 same-length : tie.Need-same-length
-same-length c = absurd (never c)
+same-length c = search needs
 
 returns : tie.Need-returns
-returns c = absurd (never c)
-
-left : (c : tie.After-known-told) → Headed (c .before .before .before .before .before .before .before .before .args .b)
-    (c .before .before .before .before .before .before .before .before .args .out .now)
-    (c .before .before .before .before .before .write-number .last .0) (c .before .next .given .0 .0)
-left c =
-    let w = c .before .before .before .before .before in
-    let s = w .before .before .before in
-    let a = s .args in
-    headed (a .b) (a .out .now) (w .write-number .last .0) (c .before .next .given .0 .0) (s .pre)
-    (on-at {out = three (a .out .now)} {at = 3} {w = digits (a .b)} (w .write-number .ensures) (c .before .next .given .1))
-
-slice-write-out-4 : tie.Need-slice-write-out-4
-slice-write-out-4 c = left c .inside
-
-add-result : tie.Need-add-result
-add-result c = omega (arith, left c .past, c .before .before .before .before .before .before .before .before .pre)
-
-same-length-2 : tie.Need-same-length-2
-same-length-2 c =
-    let w = c .before .before .before .before .before in
-    length-set (w .write-number .last .0) (c .before .next .given .0 .0) 10 ∙ w .write-number .kept .0 ∙ three-length (w .before .before .before .args .out .now)
-
-returns-2 : tie.Need-returns-2
-returns-2 c = (left c .past, left c .text)
+unfolding headingText
+returns c =
+    let e = c .before .before in
+    let w = e .before .before .before .before in
+    let s = w .before .before .before .before in
+    let o = s .args .out .now in
+    let n = numberText (s .args .b) 0 in
+    let p = placed-two o 0 (bytes "1\nb") n (room s) (w .put .ensures) (e .put-ended .ensures) in
+    (p .past ∙ zero-add _, p .contents ∙ put-front o (bytes "1\nb" ++ n))
 
 pub write-heading-spec : {M : Type 1} → statement M
-write-heading-spec =
-    tie.close
-    (tie.spec
-    slice-write-out
-    slice-write-out-2
-    slice-write-out-3
-    write-number-requires
-    enum-known-next
-    enum-told
-    same-length
-    returns
-    slice-write-out-4
-    add-result
-    same-length-2
-    returns-2)
+write-heading-spec = tie.close (tie.spec slice-aggregate-put put-requires put-ended-requires same-length returns)

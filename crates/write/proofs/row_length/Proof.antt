@@ -4,8 +4,8 @@ use mathlib.Core.Path.{_≡_, ap}
 use Prim.Native.Nat.{_+_, _≤_}
 use native.Mathlib.Omega.{arith}
 use lib.ListN.{length}
-use Rattle.write.specs.Rows.{rowText}
-use Rattle.write.proofs.Rows.{row-longer, row-none, row-most}
+use Rattle.output.specs.Row.{rowText}
+use Rattle.output.proofs.Row.{row-longer, row-none, row-most}
 use borrow.Author.Needs.{needs}
 use Rattle.write.proofs.row_length.Statement.{statement}
 use Rattle.write.proofs.row_length.Tie as tie

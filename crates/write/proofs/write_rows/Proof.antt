@@ -2,9 +2,10 @@
 -- of rows left. Assumes nothing.
 use Prim.Native.Nat.{_+_, _-_}
 use native.Mathlib.Omega.{arith}
-use Rattle.write.specs.Rows.{rowText, rowCount, rowsText, RowsIn}
+use Rattle.output.specs.Row.{rowText}
+use Rattle.write.specs.Rows.{rowCount, rowsText, RowsIn}
 use Rattle.write.proofs.Rows.{rows-more, rows-none, count-most, first-in, others-in}
-use Rattle.write.proofs.Output.{Rest, rest-start, rest-room, rest-more, rest-end}
+use Rattle.output.proofs.Output.{Rest, rest-start, rest-room, rest-more, rest-end}
 use Rattle.write.proofs.write_rows.Statement.{statement}
 use Rattle.write.proofs.write_rows.Tie as tie
 
@@ -22,8 +23,8 @@ row-count-requires c κs =
     let i = c .before .loop .inv .0 in
     (i .some-word, first-in (c .before .before .before .before .args .m .now) (c .loop-test .taken) i)
 
-write-row-requires : tie.Need-write-row-requires Inv-loop μ-loop
-write-row-requires c κs =
+put-row-requires : tie.Need-put-row-requires Inv-loop μ-loop
+put-row-requires c κs =
     let l = c .before .before .before in
     let s = l .before .before .before in
     let a = s .args in
@@ -61,7 +62,7 @@ loop-again c =
     let t = w .before .before .before .loop-test .taken in (
       others-in m t (l .loop .inv .0),
       rest-more (rowText m p (rowCount (a .least) (a .most) m p)) (rowsText (a .least) (a .most) m (p + a .most) (n - 1)) (s .pre .2)
-          (rw (rows-more m (a .least) (a .most) p n t) at (l .loop .inv .1)) (rw (w .before .before .row-count .ensures) at (w .write-row .ensures)),
+          (rw (rows-more m (a .least) (a .most) p n t) at (l .loop .inv .1)) (rw (w .before .before .row-count .ensures) at (w .put-row .ensures)),
     )
 
 same-length : tie.Need-same-length Inv-loop μ-loop
@@ -81,7 +82,7 @@ write-rows-spec =
     μ-loop
     loop-holds
     row-count-requires
-    write-row-requires
+    put-row-requires
     add-p
     sub-left
     loop-less

@@ -1,172 +1,164 @@
--- `write::write_text` meets its contract: after each section the text is written but for the sections that are left. Assumes nothing.
+-- `write::write_text` meets its contract. The loop's invariant: the sections are written but for those from section k on. The measure is
+-- how many are left. Assumes nothing.
+use mathlib.Core.Path.{_≡_, _∙_}
+use mathlib.Core.List.{List, _++_}
+use Prim.Native.Nat.{ℕ, suc, _-_, _≤_}
+use native.Mathlib.Numerals.{add-one}
 use native.Mathlib.Omega.{arith}
-use mathlib.Core.List.{List}
-use Prim.Native.Nat.{ℕ}
-use lib.ListN.{length-set}
-use Rattle.write.proofs.Sections.{Left, sections, text-size, left-head, left-room, left-next, left-none}
+use lib.ListN.{length, drop}
+use Rattle.aiger.specs.Text.{bytes}
+use Rattle.aiger.specs.Write.{write}
+use Rattle.layout.specs.Words.{circuitIn}
+use Rattle.layout.specs.Table.{table, sectionAt}
+use Rattle.output.specs.Output.{Room, Placed}
+use Rattle.output.specs.Row.{rowText}
+use Rattle.output.proofs.Output.{Rest, put-front, placed-length, rest-start, rest-room, rest-more, rest-end, last-room, last-placed}
+use Rattle.write.proofs.Sections.{sectionText, sectionsText, text-more, head-inside, section-rows, text-parts}
+use borrow.Author.Needs.{needs}
 use Rattle.write.proofs.write_text.Statement.{statement}
 use Rattle.write.proofs.write_text.Tie as tie
-use Rattle.write.proofs.write_text.Reads as reads
-use Rattle.write.proofs.write_text.Lts as lts
-use Rattle.write.proofs.write_row.Reads as write-row-reads
-use Rattle.write.proofs.write_rows.Reads as write-rows-reads
 
--- the places after the calls, and the function's entry from each; Wrote k is the place after the call that wrote section k
-abbrev Entry : Type 0
-Entry = lts.Start (write-row-reads.Asked, write-row-reads.Learnt, write-rows-reads.Asked, write-rows-reads.Learnt) reads.Pre reads.Post
+abbrev Inv-loop : tie.InvT-loop
+Inv-loop m p out₀ head₀ end₀ k₀ out end k = (k ≤ 6) × Rest out₀ end₀ (sectionsText m (table p)) out end (sectionsText m (drop k (table p)))
 
-abbrev Wrote-1 : Type 0
-Wrote-1 = lts.After-write-row (write-row-reads.Asked, write-row-reads.Learnt, write-rows-reads.Asked, write-rows-reads.Learnt) reads.Pre reads.Post
+abbrev μ-loop : tie.MeasureT-loop
+μ-loop m p out₀ head₀ end₀ k₀ out end k = 6 - k
 
-abbrev Wrote-2 : Type 0
-Wrote-2 = lts.After-write-rows (write-row-reads.Asked, write-row-reads.Learnt, write-rows-reads.Asked, write-rows-reads.Learnt) reads.Pre reads.Post
+-- the function's entry, and what is left to write there and after each call
+module _ (s : tie.Start Inv-loop μ-loop) where
+  abbrev head : List ℕ
+  head = rowText (s .args .m .now) 0 7
 
-abbrev Wrote-3 : Type 0
-Wrote-3 = lts.After-write-rows2 (write-row-reads.Asked, write-row-reads.Learnt, write-rows-reads.Asked, write-rows-reads.Learnt) reads.Pre reads.Post
+  abbrev from : ℕ → List ℕ
+  from k = sectionsText (s .args .m .now) (drop k (table (s .args .layout)))
 
-abbrev Wrote-4 : Type 0
-Wrote-4 = lts.After-write-rows3 (write-row-reads.Asked, write-row-reads.Learnt, write-rows-reads.Asked, write-rows-reads.Learnt) reads.Pre reads.Post
+  abbrev Leaves : List ℕ → ℕ → List ℕ → Type 0
+  Leaves out end rest = Rest (s .args .out .now) 0 (write (circuitIn (s .args .m .now))) out end rest
 
-abbrev Wrote-5 : Type 0
-Wrote-5 = lts.After-write-rows4 (write-row-reads.Asked, write-row-reads.Learnt, write-rows-reads.Asked, write-rows-reads.Learnt) reads.Pre reads.Post
+  room : Room (s .args .out .now) 0 (write (circuitIn (s .args .m .now)))
+  room = omega (arith, s .pre .2)
 
-abbrev Wrote-6 : Type 0
-Wrote-6 = lts.After-write-rows5 (write-row-reads.Asked, write-row-reads.Learnt, write-rows-reads.Asked, write-rows-reads.Learnt) reads.Pre reads.Post
+  whole : Leaves (s .args .out .now) 0 (bytes "aag " ++ (head ++ from 0))
+  whole = rw (text-parts (s .pre .0) (s .pre .1)) (rest-start (s .args .out .now) 0 (bytes "aag " ++ (head ++ from 0)))
 
-abbrev Wrote-7 : Type 0
-Wrote-7 = lts.After-write-rows6 (write-row-reads.Asked, write-row-reads.Learnt, write-rows-reads.Asked, write-rows-reads.Learnt) reads.Pre reads.Post
+abbrev entry-1 : tie.After-put Inv-loop μ-loop → tie.Start Inv-loop μ-loop
+entry-1 w = w .before .before .before .before .before
 
-abbrev entry-1 : Wrote-1 → Entry
-entry-1 c = c .before .before .before .before
+named : (w : tie.After-put Inv-loop μ-loop) → let s = entry-1 w in Leaves s (w .put .last .0) (w .put .result) (head s ++ from s 0)
+named w = let s = entry-1 w in rest-more (bytes "aag ") (head s ++ from s 0) (room s) (whole s) (w .put .ensures)
 
-abbrev entry-2 : Wrote-2 → Entry
-entry-2 c = entry-1 (c .before .before .before .before)
+abbrev entry-2 : tie.After-put-row Inv-loop μ-loop → tie.Start Inv-loop μ-loop
+entry-2 w = entry-1 (w .before .before .before .before)
 
-abbrev entry-3 : Wrote-3 → Entry
-entry-3 c = entry-2 (c .before .before .before .before)
+headed : (w : tie.After-put-row Inv-loop μ-loop) → let s = entry-2 w in
+    Leaves s (w .put-row .last .1 .1 .1 .0) (w .put-row .result) (from s 0)
+headed w = let s = entry-2 w in rest-more (head s) (from s 0) (room s) (named (w .before .before .before .before)) (w .put-row .ensures)
 
-abbrev entry-4 : Wrote-4 → Entry
-entry-4 c = entry-3 (c .before .before .before .before)
+-- the place before the loop, and the room for the sections there
+abbrev start : tie.At-loop Inv-loop μ-loop → tie.After-put-row Inv-loop μ-loop
+start l = l .before .before .before
 
-abbrev entry-5 : Wrote-5 → Entry
-entry-5 c = entry-4 (c .before .before .before .before)
+abbrev entry : tie.At-loop Inv-loop μ-loop → tie.Start Inv-loop μ-loop
+entry l = entry-2 (start l)
 
-abbrev entry-6 : Wrote-6 → Entry
-entry-6 c = entry-5 (c .before .before .before .before)
+sections-room : (w : tie.After-put-row Inv-loop μ-loop) → Room (w .put-row .last .1 .1 .1 .0) (w .put-row .result) (from (entry-2 w) 0)
+sections-room w = let s = entry-2 w in last-room (from s 0) (room s) (headed w)
 
-abbrev entry-7 : Wrote-7 → Entry
-entry-7 c = entry-6 (c .before .before .before .before)
+-- what is left at a turn of the loop: section k, and those after it
+left : (t : tie.In-loop Inv-loop μ-loop)
+    → let l = t .before in
+    let s = entry l in
+    let w = start l in
+    Rest (w .put-row .last .1 .1 .1 .0) (w .put-row .result) (from s 0) (l .loop .out) (l .loop .end)
+    (sectionText (s .args .m .now) (sectionAt (s .args .layout) (l .loop .k)) ++ from s (suc (l .loop .k)))
+left t =
+    let l = t .before in
+    let s = entry l in
+    rw (text-more (s .args .m .now) (s .args .layout) (l .loop .k) (t .loop-test .taken)) at (l .loop .inv .1)
 
--- after each call the text is written but for the sections that follow
-abbrev Leaves : Entry → List ℕ → ℕ → ℕ → Type 0
-Leaves s out end k = Left (s .args .m .now) (s .args .layout) (s .args .out .now) out end k
+slice-aggregate-put : tie.Need-slice-aggregate-put Inv-loop μ-loop
+slice-aggregate-put c = search needs
 
-left-1 : (c : Wrote-1) → Leaves (entry-1 c) (c .write-row .last .1 .1 .1 .0) (c .write-row .result) 2
-left-1 c = let s = entry-1 c in left-next (s .args .out .now) (s .pre) 1 (omega arith) (left-head (s .args .out .now) (s .pre)) (c .write-row .ensures)
+put-requires : tie.Need-put-requires Inv-loop μ-loop
+put-requires c κs =
+    let s = c .before .before .before .before in
+    rest-room (bytes "aag ") (head s ++ from s 0) (room s) (whole s)
 
-left-2 : (c : Wrote-2) → Leaves (entry-2 c) (c .write-rows .last .1 .1 .1 .1 .1 .0) (c .write-rows .result) 3
-left-2 c = let s = entry-2 c in left-next (s .args .out .now) (s .pre) 2 (omega arith) (left-1 (c .before .before .before .before)) (c .write-rows .ensures)
-
-left-3 : (c : Wrote-3) → Leaves (entry-3 c) (c .write-rows2 .last .1 .1 .1 .1 .1 .0) (c .write-rows2 .result) 4
-left-3 c = let s = entry-3 c in left-next (s .args .out .now) (s .pre) 3 (omega arith) (left-2 (c .before .before .before .before)) (c .write-rows2 .ensures)
-
-left-4 : (c : Wrote-4) → Leaves (entry-4 c) (c .write-rows3 .last .1 .1 .1 .1 .1 .0) (c .write-rows3 .result) 5
-left-4 c = let s = entry-4 c in left-next (s .args .out .now) (s .pre) 4 (omega arith) (left-3 (c .before .before .before .before)) (c .write-rows3 .ensures)
-
-left-5 : (c : Wrote-5) → Leaves (entry-5 c) (c .write-rows4 .last .1 .1 .1 .1 .1 .0) (c .write-rows4 .result) 6
-left-5 c = let s = entry-5 c in left-next (s .args .out .now) (s .pre) 5 (omega arith) (left-4 (c .before .before .before .before)) (c .write-rows4 .ensures)
-
-left-6 : (c : Wrote-6) → Leaves (entry-6 c) (c .write-rows5 .last .1 .1 .1 .1 .1 .0) (c .write-rows5 .result) 7
-left-6 c = let s = entry-6 c in left-next (s .args .out .now) (s .pre) 6 (omega arith) (left-5 (c .before .before .before .before)) (c .write-rows5 .ensures)
-
-left-7 : (c : Wrote-7) → Leaves (entry-7 c) (c .write-rows6 .last .1 .1 .1 .1 .1 .0) (c .write-rows6 .result) 8
-left-7 c = let s = entry-7 c in left-next (s .args .out .now) (s .pre) 7 (omega arith) (left-6 (c .before .before .before .before)) (c .write-rows6 .ensures)
-
-slice-write-out : tie.Need-slice-write-out
-slice-write-out c =
-    let s = c .before .before in
-    omega (arith, text-size (s .pre .0) (s .pre .1), s .pre .2)
-
-slice-write-out-2 : tie.Need-slice-write-out-2
-slice-write-out-2 c =
-    let s = c .before .before in
-    simp length-set (omega (arith, text-size (s .pre .0) (s .pre .1), s .pre .2))
-
-slice-write-out-3 : tie.Need-slice-write-out-3
-slice-write-out-3 c =
-    let s = c .before .before in
-    simp length-set (omega (arith, text-size (s .pre .0) (s .pre .1), s .pre .2))
-
-slice-write-out-4 : tie.Need-slice-write-out-4
-slice-write-out-4 c =
-    let s = c .before .before in
-    simp length-set (omega (arith, text-size (s .pre .0) (s .pre .1), s .pre .2))
-
-write-row-requires : tie.Need-write-row-requires
-write-row-requires c κs =
-    let s = c .before .before .before in
-    let o = s .args .out .now in
-    (omega (arith, sections (s .pre .0) (s .pre .1) .head), left-room o (s .pre) 1 (omega arith) (left-head o (s .pre)))
-
-write-rows-requires : tie.Need-write-rows-requires
-write-rows-requires c κs =
+put-row-requires : tie.Need-put-row-requires Inv-loop μ-loop
+put-row-requires c κs =
     let w = c .before .before .before in
     let s = entry-1 w in
-    (sections (s .pre .0) (s .pre .1) .inputs, omega arith, left-room (s .args .out .now) (s .pre) 2 (omega arith) (left-1 w))
+    (omega (arith, head-inside (s .pre .0) (s .pre .1)), rest-room (head s) (from s 0) (room s) (named w))
 
-write-rows-requires-2 : tie.Need-write-rows-requires-2
-write-rows-requires-2 c κs =
-    let w = c .before .before .before in
-    let s = entry-2 w in
-    (sections (s .pre .0) (s .pre .1) .latches, omega arith, left-room (s .args .out .now) (s .pre) 3 (omega arith) (left-2 w))
-
-write-rows-requires-3 : tie.Need-write-rows-requires-3
-write-rows-requires-3 c κs =
-    let w = c .before .before .before in
-    let s = entry-3 w in
-    (sections (s .pre .0) (s .pre .1) .outputs, omega arith, left-room (s .args .out .now) (s .pre) 4 (omega arith) (left-3 w))
-
-write-rows-requires-4 : tie.Need-write-rows-requires-4
-write-rows-requires-4 c κs =
-    let w = c .before .before .before in
-    let s = entry-4 w in
-    (sections (s .pre .0) (s .pre .1) .bads, omega arith, left-room (s .args .out .now) (s .pre) 5 (omega arith) (left-4 w))
-
-write-rows-requires-5 : tie.Need-write-rows-requires-5
-write-rows-requires-5 c κs =
-    let w = c .before .before .before in
-    let s = entry-5 w in
-    (sections (s .pre .0) (s .pre .1) .constraints, omega arith, left-room (s .args .out .now) (s .pre) 6 (omega arith) (left-5 w))
-
-write-rows-requires-6 : tie.Need-write-rows-requires-6
-write-rows-requires-6 c κs =
-    let w = c .before .before .before in
-    let s = entry-6 w in
-    (sections (s .pre .0) (s .pre .1) .gates, omega arith, left-room (s .args .out .now) (s .pre) 7 (omega arith) (left-6 w))
-
-same-length : tie.Need-same-length
-same-length c = left-7 (c .before .before) .kept
-
-returns : tie.Need-returns
-returns c =
+loop-holds : tie.Need-loop-holds Inv-loop μ-loop
+loop-holds c =
     let w = c .before .before in
-    let s = entry-7 w in
-    left-none (s .args .out .now) (s .pre) (left-7 w)
+    (omega arith, rest-start (w .put-row .last .1 .1 .1 .0) (w .put-row .result) (from (entry-2 w) 0))
+
+section-at-requires : tie.Need-section-at-requires Inv-loop μ-loop
+section-at-requires c κs = c .loop-test .taken
+
+write-rows-requires : tie.Need-write-rows-requires Inv-loop μ-loop
+write-rows-requires c κs =
+    let w = c .before in
+    let t = w .before in
+    let s = entry (t .before) in
+    let k = t .before .loop .k in
+    let r = section-rows (s .pre .0) (s .pre .1) k (t .loop-test .taken) in
+    let u = sectionText (s .args .m .now) (sectionAt (s .args .layout) k) in
+    rw (w .section-at .ensures)
+    (r .0, r .1, rest-room u (from s (suc k)) (sections-room (start (t .before))) (left t))
+
+add-k : tie.Need-add-k Inv-loop μ-loop
+add-k c = omega (arith, c .before .before .before .before .before .loop-test .taken)
+
+loop-less : tie.Need-loop-less Inv-loop μ-loop
+loop-less c = omega (arith, c .before .before .before .before .before .loop-test .taken)
+
+loop-again : tie.Need-loop-again Inv-loop μ-loop
+loop-again c =
+    let w = c .before .before in
+    let g = w .before .before in
+    let t = g .before in
+    let s = entry (t .before) in
+    let k = t .before .loop .k in (
+      omega (arith, t .loop-test .taken),
+      rw (add-one k)
+          (rest-more (sectionText (s .args .m .now) (sectionAt (s .args .layout) k)) (from s (suc k)) (sections-room (start (t .before)))
+          (left t) (rw (g .section-at .ensures) at (w .write-rows .ensures))),
+    )
+
+-- all is written
+done : (c : tie.After-loop Inv-loop μ-loop) → let s = entry (c .before) in
+    Placed (s .args .out .now) 0 (write (circuitIn (s .args .m .now))) (c .before .loop .end) (c .before .loop .out)
+done c =
+    let l = c .before in
+    let s = entry l in
+    let e : l .loop .k ≡ 6 = omega (arith, l .loop .inv .0, c .loop-test .left) in
+    last-placed (from s 0) (room s) (headed (start l)) (rest-end (rw e at (l .loop .inv .1)))
+
+same-length : tie.Need-same-length Inv-loop μ-loop
+same-length c = placed-length (room (entry (c .before))) (done c)
+
+returns : tie.Need-returns Inv-loop μ-loop
+returns c =
+    let s = entry (c .before) in
+    done c .contents ∙ put-front (s .args .out .now) (write (circuitIn (s .args .m .now)))
 
 pub write-text-spec : {M : Type 1} → statement M
 write-text-spec =
     tie.close
     (tie.spec
-    slice-write-out
-    slice-write-out-2
-    slice-write-out-3
-    slice-write-out-4
-    write-row-requires
+    Inv-loop
+    μ-loop
+    slice-aggregate-put
+    put-requires
+    put-row-requires
+    loop-holds
+    section-at-requires
     write-rows-requires
-    write-rows-requires-2
-    write-rows-requires-3
-    write-rows-requires-4
-    write-rows-requires-5
-    write-rows-requires-6
+    add-k
+    loop-less
+    loop-again
     same-length
     returns)

@@ -8,7 +8,7 @@ use lib.ListN.{length-set}
 use Rattle.aiger.specs.Text.{bytes}
 use Rattle.aiger.specs.Write.{lineOf}
 use Rattle.layout.specs.declared.Layout.{Layout}
-use Rattle.binary_text.proofs.Steps.{room-second, placed-two}
+use Rattle.output.proofs.Output.{room-second, placed-two}
 use Rattle.write_binary.proofs.Parts.{name-placed, head-line}
 use Rattle.write_binary.proofs.write_head.Statement.{statement}
 use Rattle.write_binary.proofs.write_head.Tie as tie
@@ -55,11 +55,11 @@ cast-t15 c = omega (arith, c .before .before .before .before .before .before .be
 cast-t16 : tie.Need-cast-t16
 cast-t16 c = omega (arith, c .before .before .before .before .before .before .before .before .before .pre .0)
 
-slice-aggregate-write-row : tie.Need-slice-aggregate-write-row
-slice-aggregate-write-row c = search needs
+slice-aggregate-put-row : tie.Need-slice-aggregate-put-row
+slice-aggregate-put-row c = search needs
 
-write-row-requires : tie.Need-write-row-requires
-write-row-requires c κs =
+put-row-requires : tie.Need-put-row-requires
+put-row-requires c κs =
     let s = c .before .before .before .before .before .before .before .before .before .before .before in
     let p = s .args .p in
     let o = s .args .out .now in (
@@ -69,7 +69,7 @@ write-row-requires c κs =
     )
 
 same-length : tie.Need-same-length
-same-length c = c .before .before .write-row .kept .1 .1 .1 .0 ∙ simp length-set
+same-length c = c .before .before .put-row .kept .1 .1 .1 .0 ∙ simp length-set
 
 returns : tie.Need-returns
 returns c =
@@ -77,7 +77,7 @@ returns c =
     let p = s .args .p in
     let o = s .args .out .now in
     placed-two o 0 (bytes "aig ") (line p) (s .pre .1) (name-placed o (line p) (s .pre .1))
-    (rw (head-line (p .i + p .l + p .a) (p .i) (p .l) (p .o) (p .a) (p .b) (p .c)) at (c .before .before .write-row .ensures))
+    (rw (head-line (p .i + p .l + p .a) (p .i) (p .l) (p .o) (p .a) (p .b) (p .c)) at (c .before .before .put-row .ensures))
 
 pub write-head-spec : {M : Type 1} → statement M
 write-head-spec =
@@ -96,7 +96,7 @@ write-head-spec =
     cast-t14
     cast-t15
     cast-t16
-    slice-aggregate-write-row
-    write-row-requires
+    slice-aggregate-put-row
+    put-row-requires
     same-length
     returns)

@@ -1,7 +1,7 @@
--- `write::ending_byte` meets its contract. Assumes nothing.
+-- `output::ending_byte` meets its contract. Assumes nothing.
 use borrow.Author.Tests.{eq-eqb, ne-eqb}
-use Rattle.write.proofs.ending_byte.Statement.{statement}
-use Rattle.write.proofs.ending_byte.Tie as tie
+use Rattle.output.proofs.ending_byte.Statement.{statement}
+use Rattle.output.proofs.ending_byte.Tie as tie
 
 returns : tie.Need-returns
 returns c = rw (eq-eqb (c .before .args .left) 0 (c .if1 .taken))

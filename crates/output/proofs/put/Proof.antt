@@ -1,9 +1,9 @@
--- `replies::put` meets its contract. Assumes nothing.
+-- `output::put` meets its contract. Assumes nothing.
 use mathlib.Core.Path.{refl}
-use Rattle.replies.proofs.Putting.{copied}
+use Rattle.output.proofs.Output.{copied}
 use borrow.Author.Needs.{needs}
-use Rattle.replies.proofs.put.Statement.{statement}
-use Rattle.replies.proofs.put.Tie as tie
+use Rattle.output.proofs.put.Statement.{statement}
+use Rattle.output.proofs.put.Tie as tie
 
 add-end : tie.Need-add-end
 add-end c = search needs
@@ -27,7 +27,7 @@ returns : tie.Need-returns
 returns c =
     let k = c .before .before in
     let a = k .before .before .before .before .args in
-    record { past = refl; contents = copied (a .line .now) (a .text .now) (k .copy .last .1 .0) (a .at) (k .copy .ensures .1) }
+    record { past = refl; contents = copied (a .out .now) (a .text .now) (k .copy .last .1 .0) (a .at) (k .copy .ensures .1) }
 
 pub put-spec : {M : Type 1} → statement M
 put-spec =

@@ -1,0 +1,53 @@
+-- `output::put_number` meets its contract: the part for the digits is filled with them. Assumes nothing.
+use mathlib.Core.Path.{ap}
+use Prim.Native.Nat.{ℕ, _+_}
+use native.Mathlib.Omega.{arith}
+use Rattle.output.proofs.Output.{filled}
+use borrow.Author.Needs.{needs}
+use Rattle.output.proofs.put_number.Statement.{statement}
+use Rattle.output.proofs.put_number.Tie as tie
+
+digit-count-requires : tie.Need-digit-count-requires
+digit-count-requires c κs = search needs
+
+add-end : tie.Need-add-end
+add-end c = search needs
+
+sub-fill : tie.Need-sub-fill
+sub-fill c = search needs
+
+part-fill-start : tie.Need-part-fill-start
+part-fill-start c = search needs
+
+part-fill-end : tie.Need-part-fill-end
+part-fill-end c = search needs
+
+fill-requires : tie.Need-fill-requires
+fill-requires c κs = search needs
+
+same-length : tie.Need-same-length
+same-length c = search needs
+
+returns : tie.Need-returns
+returns c =
+    let f = c .before .before in
+    let d = f .before .before .digit-count in
+    let a = f .before .before .before .before .args in
+    record {
+      past = ap (λ (k : ℕ). a .at + k) (d .ensures);
+      contents =
+          filled (a .out .now) (f .fill .last .0) (a .at) (a .n) (d .result) (omega arith) (d .ensures) (omega arith) (f .fill .ensures);
+    }
+
+pub put-number-spec : {M : Type 1} → statement M
+put-number-spec =
+    tie.close
+    (tie.spec
+    digit-count-requires
+    add-end
+    sub-fill
+    part-fill-start
+    part-fill-end
+    fill-requires
+    same-length
+    returns)

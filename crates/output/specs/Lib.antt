@@ -1,0 +1,3 @@
+-- What the contracts of `output` cite. Assumes nothing.
+pub mod Output
+pub mod Row
