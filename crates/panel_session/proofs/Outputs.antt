@@ -9,13 +9,12 @@ use borrow.Author.Tests.{eq-eqb}
 use lib.Dec.{T, leb}
 use lib.ListN.{length, take, drop, length-append, length-take}
 use Rattle.aiger.specs.Lists.{upto}
-use Rattle.aiger.specs.Text.{_>>=_, _>>_}
 use Rattle.aiger.specs.Circuit.{Circuit}
 use Rattle.aiger.specs.Frames.{runIn}
 use Rattle.aiger.specs.Load.{Answer, refused, gives}
 use Rattle.aiger.specs.Memory.{Holds}
 use Rattle.aiger.specs.Search.{Outcome, firstAt, permittedOf}
-use Rattle.aiger.specs.Witness.{witness, witnessLength, Witness, readRun}
+use Rattle.aiger.specs.Witness.{witness, witnessLength}
 use Rattle.aiger.specs.Write.{write}
 use Rattle.aiger.specs.Operations.{Operated, Test, need, judge, front, searchTests, foldTests}
 use Rattle.aiger.proofs.Tests.{T-true}
@@ -25,7 +24,7 @@ use Rattle.roundtrip.proofs.Holding.{held}
 use Rattle.roundtrip.proofs.Lists.{upto-length, every-made}
 use Rattle.roundtrip.proofs.Witness.{Shaped, wide, witness-length, run-shaped}
 use Rattle.layout.specs.Words.{circuitIn}
-use Rattle.completions.specs.Either.{readEither, heading, completion, widened}
+use Rattle.completions.specs.Either.{readEither, widened}
 use Rattle.completions.proofs.Widening.{widened-wider}
 use Rattle.pins.specs.Pins.{pinsOf, pinned, pinnedSpace, pinnedQuestion, pinnedWitness}
 use Rattle.pins.proofs.Inputs.{length-fill}
@@ -40,6 +39,7 @@ use Rattle.renumbered.specs.Renumbered.{writeBinary}
 use Rattle.waveform.specs.Waveform.{waveformOf, waveformTests}
 use Rattle.completions.specs.Operations.{widenTests}
 use Rattle.widen.proofs.Headings.{headed}
+use Rattle.widen.proofs.Theorems.{read-heading}
 use Rattle.search.specs.Chosen as Search
 use Rattle.fold.specs.Chosen as Fold
 use Rattle.job.specs.Replies.{shownLength}
@@ -126,18 +126,6 @@ waveform-told {text = text} {out = out} {out₀ = out₀} {only = only} e x =
     (λ c h j n s f.
     record { text = waveformOf c only (readEither c text); long = f .count; left = f .shows; again = record { count = f .count; shows = refl } }) p)
     x
-
-read-heading : (c : Circuit) (text : List ℕ) (h : ℕ × List ℕ) → readEither c text ≡ some h → heading text ≡ some h
-unfolding readEither
-read-heading c text h e = go (heading text) e
-  where
-    read : (k : ℕ × List ℕ) (o : Option Witness) → (o >> some k) ≡ some h → _≡_ {A = Option (ℕ × List ℕ)} (some k) (some h)
-    read k none q = let z : _≡_ {A = ℕ} 0 1 = cc in absurd (omega arith)
-    read k (some x) q = q
-
-    go : (o : Option (ℕ × List ℕ)) → (o >>= λ k. readRun c (k .0) (completion 0 (k .1)) >> some k) ≡ some h → o ≡ some h
-    go none q = let z : _≡_ {A = ℕ} 0 1 = cc in absurd (omega arith)
-    go (some k) q = read k (readRun c (k .0) (completion 0 (k .1))) q
 
 -- a widened witness is as long as the witness
 widened-long : (c : Circuit) (q : ℕ → ℕ) (text : List ℕ) (b : ℕ) (body : List ℕ) → readEither c text ≡ some (b, body)

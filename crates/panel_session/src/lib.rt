@@ -63,7 +63,7 @@ fn malformed() -> Said
     ensures { λ r. ⌜ Says r (bytes "malformed\n") ⌝ }
 {
     let mut line = [0u8; 128];
-    let count = replies::put(&mut line, 0, b"malformed\n");
+    let count = output::put(&mut line, 0, b"malformed\n");
     Said {
         line,
         count,
@@ -77,7 +77,7 @@ fn missing(may: bool) -> Said
 {
     let mut line = [0u8; 128];
     if may {
-        let count = replies::put(&mut line, 0, b"unreadable\n");
+        let count = output::put(&mut line, 0, b"unreadable\n");
         return Said {
             line,
             count,

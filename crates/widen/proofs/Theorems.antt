@@ -40,7 +40,7 @@ widened-same {text = text} {out = out} w v =
 
 -- ---- what was read
 
-read-heading : (c : Circuit) (text : List ℕ) (h : ℕ × List ℕ) → readEither c text ≡ some h → heading text ≡ some h
+pub read-heading : (c : Circuit) (text : List ℕ) (h : ℕ × List ℕ) → readEither c text ≡ some h → heading text ≡ some h
 unfolding readEither
 read-heading c text h e = go (heading text) e
   where
