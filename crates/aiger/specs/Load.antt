@@ -38,8 +38,8 @@ read n (some a) = gives a
 abbrev pub needed : ℕ → ℕ
 needed M = 8 * (M + 1) + 256
 
--- Clause 12.1: the sections of a file in binary form: lines of text, then gates by differences, then the tail. The earlier fault counts: 5 for
--- the lines, 15 for the gates, 5 for the tail
+-- Clause 12.1: the sections of a file in binary form: lines of text, then gates by differences, then the tail. The earlier fault
+-- counts: 5 for the lines, 15 for the gates, 5 for the tail
 unfoldable pub binaryBody : Header → List ℕ → Answer Circuit
 binaryBody h f = do
   l ← read 5 (rows 1 2 (h .L) f)

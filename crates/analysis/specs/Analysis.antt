@@ -77,7 +77,8 @@ replaced w net arena a l level step =
 
 unfoldable pub visited : List ℕ → Netlist → Arena → Analysis → ℕ → ℕ → ℕ → Analysed
 visited w net arena a t level step =
-    cond (isMember w net arena (draft a) (opposite (field w (net .nodes) t 9))) (replaced w net arena a (field w (net .nodes) t 9) level step) (reached w a)
+    cond (isMember w net arena (draft a) (opposite (field w (net .nodes) t 9)))
+    (replaced w net arena a (field w (net .nodes) t 9) level step) (reached w a)
 
 unfoldable pub descended : List ℕ → Netlist → Arena → Analysis → ℕ → ℕ → ℕ → Analysed
 descended w net arena a level step zero = reached w a

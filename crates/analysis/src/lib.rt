@@ -1,5 +1,5 @@
-// Analysis of a conflict: the working clause is resolved with reasons down the trail. Which entries are taken, and when it ends, only guides
-// the search: whatever the trail, the levels and the reasons say, the clause holds in every hit.
+// Analysis of a conflict: the working clause is resolved with reasons down the trail. Which entries are taken, and when it ends, only
+// guides the search: whatever the trail, the levels and the reasons say, the clause holds in every hit.
 use memory::ACT;
 use memory::Arena;
 use memory::Draft;

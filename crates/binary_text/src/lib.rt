@@ -29,7 +29,8 @@ pub fn write_latches(
     at: usize,
 ) -> usize
     requires { ⌜
-        (first + 3 * n ≤ length (now m)) × Within (now m) first (3 * n) (now names) × Room (now out) at (latchLines (now names) (now m) first n)
+        (first + 3 * n ≤ length (now m)) × Within (now m) first (3 * n) (now names)
+        × Room (now out) at (latchLines (now names) (now m) first n)
         ⌝ }
     ensures { λ r. ⌜ Placed (now (out .entry)) at (latchLines (now (names .entry)) (now (m .entry)) first n) r (now (out .exit)) ⌝ }
 {
@@ -107,7 +108,8 @@ pub fn write_gates(
         Listed (now names) (now m) first count (now order) × Room (now out) at (gateBytes (now names) (now m) first (now order) 0 count)
         ⌝ }
     ensures { λ r. ⌜
-        Placed (now (out .entry)) at (gateBytes (now (names .entry)) (now (m .entry)) first (now (order .entry)) 0 count) r (now (out .exit))
+        Placed (now (out .entry)) at (gateBytes (now (names .entry)) (now (m .entry)) first (now (order .entry)) 0 count) r
+        (now (out .exit))
         ⌝ }
 {
     let mut end = at;

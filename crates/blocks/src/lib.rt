@@ -67,7 +67,8 @@ fn put_line(
 ) -> usize
     requires { ⌜ Line (now m) column (now text) at seen (length (now values)) ⌝ }
     ensures { λ r. ⌜
-        Given (columnVar (now (m .entry)) column) (lineBit (now (text .entry)) at block) (column .count) (now (values .entry)) (now (values .exit))
+        Given (columnVar (now (m .entry)) column) (lineBit (now (text .entry)) at block) (column .count) (now (values .entry))
+        (now (values .exit))
         × (r ≡ eithers (take (at + column .count + 1) (now (text .entry))))
         ⌝ }
 {
@@ -124,7 +125,8 @@ fn agree_word(m: &[u32], layout: Layout, order: &[u32], values: &[u64]) -> u64
     agree
 }
 
-// Gives the inputs the row at `at`, before which `seen` x stand, and evaluates the gates. The answer is the number of x up to the row's end.
+// Gives the inputs the row at `at`, before which `seen` x stand, and evaluates the gates. The answer is the number of x up to the row's
+// end.
 pub fn put_frame(
     m: &[u32],
     layout: Layout,
@@ -164,7 +166,8 @@ pub fn put_starts(
     requires { ⌜ Ready (now m) layout (now order) (length (now values)) ⌝ }
     requires { ⌜ layout .l < length (now body) ⌝ }
     ensures { λ r. ⌜
-        Started (circuitIn (now (m .entry))) (now (body .entry)) block (now (values .exit)) × (r ≡ eithers (take (layout .l + 1) (now (body .entry))))
+        Started (circuitIn (now (m .entry))) (now (body .entry)) block (now (values .exit))
+        × (r ≡ eithers (take (layout .l + 1) (now (body .entry))))
         ⌝ }
 {
     values[0] = 0;
@@ -193,7 +196,8 @@ fn block_word(
     requires { ⌜ Fits (circuitIn (now m)) (q .bad) (q .frames) (q .eithers) (now body) ⌝ }
     ensures { λ x. ⌜
         ((p : ℕ) → p < 64 → (r : Run) → RunAt (circuitIn (now (m .entry))) (completion (block * 64 + p) (now (body .entry))) (q .frames) r
-        → bit x p ≡ (agrees (circuitIn (now (m .entry)) .latches) (r .start) && hits (circuitIn (now (m .entry))) (q .bad) r (q .frames - 1)))
+        → bit x p ≡ (agrees (circuitIn (now (m .entry)) .latches) (r .start)
+        && hits (circuitIn (now (m .entry))) (q .bad) r (q .frames - 1)))
         ⌝ }
 {
     let width = layout.i + 1;

@@ -1,6 +1,6 @@
--- What is given of a netlist and its words before a search. A place is a number below 2 to the power of the number of free bits; `val x` are the
--- values of all nodes at place x; `hits x` says that place x is looked for; `hit a` is what each such place's values obey, and what clauses are
--- about. Assumes nothing.
+-- What is given of a netlist and its words before a search. A place is a number below 2 to the power of the number of free bits; `val
+-- x` are the values of all nodes at place x; `hits x` says that place x is looked for; `hit a` is what each such place's values obey,
+-- and what clauses are about. Assumes nothing.
 use mathlib.Core.Path.{_≡_}
 use mathlib.Core.Bool.{Bool, false}
 use mathlib.Core.List.{List}

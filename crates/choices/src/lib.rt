@@ -1,5 +1,5 @@
-// Choice of decisions: the hit is true, then free bits have the floor's values, then the most active node is false. Where a value contradicts the
-// hit or the floor, the floor rises; where all have values, the floor is evaluated.
+// Choice of decisions: the hit is true, then free bits have the floor's values, then the most active node is false. Where a value
+// contradicts the hit or the floor, the floor rises; where all have values, the floor is evaluated.
 use analysis::expand_all;
 use floor::refute;
 use floor::show;
@@ -252,8 +252,8 @@ fn confirm(work: &mut [u32], net: Netlist, s: Search) -> Search
     end(s, 3)
 }
 
-// All nodes that may be decided have values. If the free bits have the floor's, the floor may be a hit; else those up to the first that has not
-// have them from now on.
+// All nodes that may be decided have values. If the free bits have the floor's, the floor may be a hit; else those up to the first that
+// has not have them from now on.
 fn model(work: &mut [u32], net: Netlist, s: Search) -> Search
     ensures { λ r. ⌜ Ln.Left (now (work .exit)) r (Ch.modelled (now (work .entry)) net s) ⌝ }
 {

@@ -29,7 +29,8 @@ textOf f (gives a) = f a
 
 -- what replay answers on a loaded circuit
 abbrev pub replayAnswer : Circuit → List ℕ → Answer Verdict
-replayAnswer c witness = judge (eitherTests c witness) >>= λ _. read 14 (readEither c witness) >>= λ h. gives (verdict (shows c (h .0)) (h .1))
+replayAnswer c witness =
+    judge (eitherTests c witness) >>= λ _. read 14 (readEither c witness) >>= λ h. gives (verdict (shows c (h .0)) (h .1))
 
 -- replay: whether all completions of the witness are hits of the loaded circuit, none, or some
 unfoldable pub replayText : List ℕ → List ℕ → List ℕ

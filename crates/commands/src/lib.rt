@@ -1,5 +1,5 @@
-// Writing of a loaded circuit, and the work of the programs replay and fold, from the bytes of files to what is printed. Each leaves what is
-// to be printed at the fronts of line and, save replay, out.
+// Writing of a loaded circuit, and the work of the programs replay and fold, from the bytes of files to what is printed. Each leaves
+// what is to be printed at the fronts of line and, save replay, out.
 use fold::FoldAnswer;
 use load::LoadAnswer;
 use replay::ReplayAnswer;
@@ -40,7 +40,8 @@ pub fn write_loaded(m: &[u32], out: &mut [u8], line: &mut [u8]) -> Report
 fn replay_loaded(m: &[u32], witness: &[u8], line: &mut [u8]) -> usize
     requires { ⌜ Holds (now m) (circuitIn (now m)) × (128 ≤ length (now line)) ⌝ }
     ensures { λ r. ⌜
-        Fronts (textOf verdictText (replayAnswer (circuitIn (now (m .entry))) (now (witness .entry)))) (now (line .entry)) r (now (line .exit))
+        Fronts (textOf verdictText (replayAnswer (circuitIn (now (m .entry))) (now (witness .entry)))) (now (line .entry)) r
+        (now (line .exit))
         ⌝ }
 {
     match replay::replay(m, witness) {

@@ -36,7 +36,8 @@ isRefused (gives o) = false
 abbrev pub pairAnswer : Circuit → ℕ → ℕ → ℕ → ℕ → ℕ → Answer Outcome
 pairAnswer c j k D room len = judge (searchTests c j k D room len) >>= λ _. gives (chosen c j k D)
 
--- the line, and after it the witness of a run that parts the outputs: the start of the old circuit, then that of the new one, then the inputs
+-- the line, and after it the witness of a run that parts the outputs: the start of the old circuit, then that of the new one, then the
+-- inputs
 unfoldable pub pairReply : Circuit → ℕ → ℕ → ℕ → ℕ → ℕ → Reply
 pairReply c j k D room len = replyOf (λ o. record { line = pairWords j o; out = witnessOf c j o }) (pairAnswer c j k D room len)
 

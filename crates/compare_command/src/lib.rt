@@ -1,5 +1,5 @@
-// The work of the command compare on one pair of outputs: a search of a bad line of the joined circuit. What is to be printed is left at the
-// fronts of line and out.
+// The work of the command compare on one pair of outputs: a search of a bad line of the joined circuit. What is to be printed is left
+// at the fronts of line and out.
 use search::SearchAnswer;
 ghost use mathlib.Core.Path.{_≡_};
 ghost use Prim.Native.Nat.{_+_, _≤_};

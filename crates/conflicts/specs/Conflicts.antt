@@ -126,7 +126,8 @@ relievedAfter s net = relieved (s .words) net (s .search)
 
 unfoldable pub repaired : List ℕ → Netlist → Search → Searched
 repaired w net s =
-    cond (eqb (s .trail .level) 0) (contradictedAtZero w net s (s .trail .clash)) (alternatedAfter (relievedAfter (learnt w net s (s .trail .clash)) net) net)
+    cond (eqb (s .trail .level) 0) (contradictedAtZero w net s (s .trail .clash))
+    (alternatedAfter (relievedAfter (learnt w net s (s .trail .clash)) net) net)
 
 abbrev pub chosenAfter : Searched → Netlist → Searched
 chosenAfter s net = chosen (s .words) net (s .search)
@@ -146,7 +147,8 @@ unfoldable pub steps : List ℕ → Netlist → Search → ℕ → ℕ → Searc
 steps w net s effort zero = searched w s
 steps w net s effort (suc k) =
     cond (eqb (s .order .verdict) 0)
-    (cond (leb effort (s .order .ticks)) (searched w s) (steps (stepped w net s .words) net (stepped w net s .search) effort k)) (searched w s)
+    (cond (leb effort (s .order .ticks)) (searched w s) (steps (stepped w net s .words) net (stepped w net s .search) effort k))
+    (searched w s)
 
 -- ---- the search
 

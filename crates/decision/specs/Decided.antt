@@ -36,8 +36,8 @@ pub record FrameFits (work m : List ℕ) (layout : Layout) (order : List ℕ) (b
   pub units : size (circuitIn m) t ≤ 65536
   pub held : 16 * size (circuitIn m) t ≤ length work
 
--- the frame is spent: none of the first `reached` sequences hits, D of them or more but not all, and working memory begins with the free bits of the
--- one after them, if these are no more than 1,024
+-- the frame is spent: none of the first `reached` sequences hits, D of them or more but not all, and working memory begins with the
+-- free bits of the one after them, if these are no more than 1,024
 pub record SpentAt (c : Circuit) (b t D : ℕ) (work : List ℕ) : Type 0 where
   pub decided : decisionOf c b t D ≡ Decision.spent
   pub none : (x : ℕ) → x < reached c b t D → T (reaches c b t x) → ⊥
@@ -63,7 +63,8 @@ pub record Prepared (c : Circuit) (b t : ℕ) (work : List ℕ) (made : Made) : 
   pub free : made .graph .free ≡ freeBits c t
   pub room : made .graph .room ≡ size c t
   -- the root is true exactly where the frame is hit
-  pub hit : (x : ℕ) → x < 2 ^ freeBits c t → rootAt (made .graph .free) (pairsOf work (made .graph)) (edgeWord (made .edge)) x ≡ reaches c b t x
+  pub hit : (x : ℕ) → x < 2 ^ freeBits c t
+      → rootAt (made .graph .free) (pairsOf work (made .graph)) (edgeWord (made .edge)) x ≡ reaches c b t x
   pub chosen : unrolled c b t ≡ record { gates = pairsOf work (made .graph); edge = edgeWord (made .edge) }
 
 -- where the places of the support may be tried, and none before place `from` hits

@@ -1,7 +1,7 @@
 -- What is decided of a frame, as a function of circuit, b, t and D. Document 01 leaves it to the program whether it is spent or decides
--- beyond its budget. Here all places are passed where the conflict search comes to an end within its effort. Where it does not, D places of
--- the support are tried, and no fewer than 16,384: the support are the free bits that lead to the hit in the graph that unrolling gives, and
--- the other free bits are 0 in the first hit. Assumes nothing.
+-- beyond its budget. Here all places are passed where the conflict search comes to an end within its effort. Where it does not, D
+-- places of the support are tried, and no fewer than 16,384: the support are the free bits that lead to the hit in the graph that
+-- unrolling gives, and the other free bits are 0 in the first hit. Assumes nothing.
 use mathlib.Core.Path.{_≡_}
 use mathlib.Core.Bool.{cond}
 use mathlib.Core.List.{List}
@@ -51,11 +51,12 @@ floorOf c b t D = solvedFloor (freeBits c t) (unrolled c b t .gates) (unrolled c
 abbrev pub endOf : ℕ → List Pair → ℕ → ℕ → ℕ → ℕ
 endOf n gs root D x = cond (leb D (before (inCone n gs root) (freeBit n x) n)) x (passed (support n gs root) n D)
 
--- where frame t is spent none of so many sequences hits: the floor, or what is tried; the latter where there are more than 1,024 free bits. Request 9
--- is to tell it
+-- where frame t is spent none of so many sequences hits: the floor, or what is tried; the latter where there are more than 1,024 free
+-- bits. Request 9 is to tell it
 unfoldable pub reached : Circuit → ℕ → ℕ → ℕ → ℕ
 reached c b t D =
-    cond (leb (freeBits c t) 1024) (endOf (freeBits c t) (unrolled c b t .gates) (unrolled c b t .edge) (max D 16384) (floorOf c b t D)) (tried c b t D)
+    cond (leb (freeBits c t) 1024) (endOf (freeBits c t) (unrolled c b t .gates) (unrolled c b t .edge) (max D 16384) (floorOf c b t D))
+    (tried c b t D)
 
 -- how many sequences of frame t are passed, in counting order, where none of them hits
 unfoldable pub reach : Circuit → ℕ → ℕ → ℕ → ℕ

@@ -1,5 +1,5 @@
-// What a frame has: the first sequences are tried on the circuit. Then the graph of the hit is searched: over its support alone where that is
-// small, else by conflicts, and over its support from the floor on where those decide nothing.
+// What a frame has: the first sequences are tried on the circuit. Then the graph of the hit is searched: over its support alone where
+// that is small, else by conflicts, and over its support from the floor on where those decide nothing.
 use conflicts::Verdict;
 use enumeration::Frame;
 use graph::Made;
@@ -27,8 +27,8 @@ ghost use Rattle.decision.specs.Decided.{FrameFits, Floored, FrameDecide
 // Places of the support are tried up to this one, whatever the budget: 2 to the power 14.
 const LEAST: u64 = 16384;
 
-// Up to so many sequences are all tried on the circuit: 2 to the power 12. Up to 12 free bits a graph is made with merges by function, which cost
-// more than these.
+// Up to so many sequences are all tried on the circuit: 2 to the power 12. Up to 12 free bits a graph is made with merges by function,
+// which cost more than these.
 const FEW: u64 = 4096;
 
 // Where there are more, so many are tried on the circuit: 2 to the power 6, the places of one block.
@@ -82,7 +82,10 @@ fn mark_of(work: &[u32], k: usize) -> usize
 // How many free bits are marked.
 fn support_size(work: &[u32], g: Graph) -> usize
     requires { ⌜ Sized g (length (now work)) ⌝ }
-    ensures { λ r. ⌜ ((root : ℕ) → Marks (pairsOf (now (work .entry)) g) (now (work .entry)) g root → r ≡ rank (support (g .free) (pairsOf (now (work .entry)) g) root) (g .free)) ⌝ }
+    ensures { λ r. ⌜
+        ((root : ℕ) → Marks (pairsOf (now (work .entry)) g) (now (work .entry)) g root → r
+        ≡ rank (support (g .free) (pairsOf (now (work .entry)) g) root) (g .free))
+        ⌝ }
 {
     let free = g.free;
     let mut r = 0;
@@ -134,11 +137,14 @@ fn scan(work: &mut [u32], g: Graph, root: Edge, from: u64, d: u64) -> Frame
     }
 }
 
-// What the places of the support have from the sequence in `bits` on, before which none hits. Where they are spent, a sequence before which none
-// hits is left at the front of working memory: this one, if the places to be tried lie before it, else the one after those.
+// What the places of the support have from the sequence in `bits` on, before which none hits. Where they are spent, a sequence before
+// which none hits is left at the front of working memory: this one, if the places to be tried lie before it, else the one after those.
 fn go_on(work: &mut [u32], g: Graph, root: Edge, d: u64, bits: &mut [u32]) -> Frame
     requires { ⌜ Resumable (now work) g (edgeWord root) d (now bits) ⌝ }
-    ensures { λ r. ⌜ ((x : ℕ) → FloorLeft (g .free) (pairsOf (now (work .entry)) g) (edgeWord root) x (now (bits .entry)) → Resumed (g .free) (pairsOf (now (work .entry)) g) (edgeWord root) (max d 16384) x (now (work .exit)) r) ⌝ }
+    ensures { λ r. ⌜
+        ((x : ℕ) → FloorLeft (g .free) (pairsOf (now (work .entry)) g) (edgeWord root) x (now (bits .entry))
+        → Resumed (g .free) (pairsOf (now (work .entry)) g) (edgeWord root) (max d 16384) x (now (work .exit)) r)
+        ⌝ }
 {
     let n = g.free;
     let y = places(d);
@@ -189,7 +195,8 @@ fn search_all(
     scan(work, graph, root, 0, d)
 }
 
-// What frame t has by the places of the support, where the conflict search has not decided it and left its floor at the front of working memory.
+// What frame t has by the places of the support, where the conflict search has not decided it and left its floor at the front of
+// working memory.
 fn search_support(
     m: &[u32],
     layout: Layout,

@@ -19,7 +19,8 @@ pub record Given (place : ℕ → ℕ) (value : ℕ → ℕ → Bool) (n : ℕ) 
 
 -- the inputs have the free bits from top - 1 down; the latches have their start values
 abbrev pub InputsGiven : Circuit → ℕ → ℕ → List ℕ → List ℕ → Type 0
-InputsGiven c top block before after = Given (λ i. var (inputAt c i)) (λ i p. freeBit top (block * 64 + p) i) (length (c .inputs)) before after
+InputsGiven c top block before after =
+    Given (λ i. var (inputAt c i)) (λ i p. freeBit top (block * 64 + p) i) (length (c .inputs)) before after
 
 abbrev pub StartsGiven : Circuit → ℕ → ℕ → List ℕ → List ℕ → Type 0
 StartsGiven c n block before after =

@@ -62,7 +62,11 @@ fn put_starts(m: &[u32], layout: Layout, n: usize, block: u64, values: &mut [u64
     requires { ⌜ Holds (now m) (circuitIn (now m)) ⌝ }
     requires { ⌜ LayoutOf (now m) layout ⌝ }
     requires { ⌜ (word (now m) 0 < length (now values)) × (freeStarts (circuitIn (now m)) ≤ n) ⌝ }
-    ensures { λ _. ⌜ Given (λ j. var (latchAt (circuitIn (now (m .entry))) j .lit)) (λ j p. startBit (circuitIn (now (m .entry))) n (block * 64 + p) j) (length (circuitIn (now (m .entry)) .latches)) (now (values .entry)) (now (values .exit)) ⌝ }
+    ensures { λ _. ⌜
+        Given (λ j. var (latchAt (circuitIn (now (m .entry))) j .lit))
+        (λ j p. startBit (circuitIn (now (m .entry))) n (block * 64 + p) j) (length (circuitIn (now (m .entry)) .latches))
+        (now (values .entry)) (now (values .exit))
+        ⌝ }
 {
     let count = layout.l;
     let latches = layout.latches;
@@ -84,7 +88,10 @@ pub fn put_inputs(m: &[u32], layout: Layout, top: usize, block: u64, values: &mu
     requires { ⌜ Holds (now m) (circuitIn (now m)) ⌝ }
     requires { ⌜ LayoutOf (now m) layout ⌝ }
     requires { ⌜ (word (now m) 0 < length (now values)) × (layout .i ≤ top) ⌝ }
-    ensures { λ _. ⌜ Given (λ i. var (inputAt (circuitIn (now (m .entry))) i)) (λ i p. freeBit top (block * 64 + p) i) (length (circuitIn (now (m .entry)) .inputs)) (now (values .entry)) (now (values .exit)) ⌝ }
+    ensures { λ _. ⌜
+        Given (λ i. var (inputAt (circuitIn (now (m .entry))) i)) (λ i p. freeBit top (block * 64 + p) i)
+        (length (circuitIn (now (m .entry)) .inputs)) (now (values .entry)) (now (values .exit))
+        ⌝ }
 {
     let count = layout.i;
     let mut i = 0;
@@ -130,7 +137,9 @@ fn next_frame(
 ) -> u64
     requires { ⌜ Ready (now m) layout (now order) (length (now values)) ⌝ }
     requires { ⌜ (layout .i ≤ block .top) × (1024 ≤ length (now state)) ⌝ }
-    ensures { λ r. ⌜ NextFrame (circuitIn (now (m .entry))) (block .top) (block .number) from (now (values .entry)) (now (values .exit)) r ⌝ }
+    ensures { λ r. ⌜
+        NextFrame (circuitIn (now (m .entry))) (block .top) (block .number) from (now (values .entry)) (now (values .exit)) r
+        ⌝ }
 {
     frames::advance(m, layout, order, values, state);
     put_inputs(m, layout, block.top, block.number, values);

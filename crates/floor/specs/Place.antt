@@ -43,7 +43,8 @@ later net l top = cond (eqb l (opposite (net .root))) top (cond (ltb top (l / 2)
 -- the last free bit of the first k literals of the working clause
 unfoldable pub judged : List ℕ → Netlist → Arena → ℕ → ℕ → ℕ
 judged w net arena zero top = top
-judged w net arena (suc k) top = cond (isWrong w net (draftAt w net arena k)) 4294967295 (judged w net arena k (later net (draftAt w net arena k) top))
+judged w net arena (suc k) top =
+    cond (isWrong w net (draftAt w net arena k)) 4294967295 (judged w net arena k (later net (draftAt w net arena k) top))
 
 unfoldable pub cleared : List ℕ → ℕ → ℕ → List ℕ
 cleared w nodes v = cond (eqb (bitAt (field w nodes v 2)) 1) (stored w nodes v 2 (field w nodes v 2 - 4)) w
@@ -57,7 +58,8 @@ canRise w nodes m v = leb v m && eqb (bitOf w nodes v) 0
 -- from node v downward: the last bit up to node m that counts and is 0 becomes 1, those after it 0; that node, or 0
 unfoldable pub raised : List ℕ → ℕ → ℕ → ℕ → Counted
 raised w nodes m zero = counted w 0
-raised w nodes m (suc v) = cond (canRise w nodes m (suc v)) (counted (lifted w nodes (suc v)) (suc v)) (raised (cleared w nodes (suc v)) nodes m v)
+raised w nodes m (suc v) =
+    cond (canRise w nodes m (suc v)) (counted (lifted w nodes (suc v)) (suc v)) (raised (cleared w nodes (suc v)) nodes m v)
 
 -- by a clause whose last free bit is m
 unfoldable pub raisedBy : List ℕ → Netlist → ℕ → Counted

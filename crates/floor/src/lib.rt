@@ -110,8 +110,8 @@ fn raise(work: &mut [u32], nodes: u32, m: u32, n: u32) -> u32
     0
 }
 
-// Raises the floor by the working clause, if that is whole and false there. The node whose bit becomes 1; 0 where there is no hit; 4294967295
-// where nothing is learnt.
+// Raises the floor by the working clause, if that is whole and false there. The node whose bit becomes 1; 0 where there is no hit;
+// 4294967295 where nothing is learnt.
 pub fn refute(work: &mut [u32], net: Netlist, arena: Arena, d: Draft) -> u32
     ensures { λ r. ⌜ P.Told (now (work .exit)) r (P.refuted (now (work .entry)) net arena d) ⌝ }
 {

@@ -25,13 +25,31 @@ texts =
     -- document 01's shift register, folded at 2: the starred row
     record { file = "aag 4 1 2 0 1 1\n2\n4 2\n6 4\n8\n8 4 6\n"; b = 0; t = 2; text = "aag 4 3 0 1 1 0 0\n2\n4\n6\n8\n8 4 2\n" }
     -- two inputs that differ, by three gates
-    ∷ record { file = "aag 5 2 0 0 3 1\n2\n4\n11\n6 2 5\n8 3 4\n10 7 9\n"; b = 0; t = 0; text = "aag 5 2 0 1 3 0 0\n2\n4\n11\n6 5 2\n8 4 3\n10 9 7\n" }
+    ∷ record {
+      file = "aag 5 2 0 0 3 1\n2\n4\n11\n6 2 5\n8 3 4\n10 7 9\n";
+      b = 0;
+      t = 0;
+      text =
+          "aag 5 2 0 1 3 0 0\n2\n4\n11\n6 5 2\n8 4 3\n10 9 7\n";
+    }
     -- a gate that is equal in function to an input is merged: the input, with the input or the other one
     ∷ record { file = "aag 4 2 0 0 2 1\n2\n4\n8\n6 3 5\n8 2 7\n"; b = 0; t = 0; text = "aag 2 2 0 1 0 0 0\n2\n4\n2\n" }
     -- gates that stand in another order than the depth-first one
-    ∷ record { file = "aag 5 2 0 0 3 1\n2\n4\n10\n10 9 7\n8 3 4\n6 2 5\n"; b = 0; t = 0; text = "aag 5 2 0 1 3 0 0\n2\n4\n10\n6 4 3\n8 5 2\n10 9 7\n" }
+    ∷ record {
+      file = "aag 5 2 0 0 3 1\n2\n4\n10\n10 9 7\n8 3 4\n6 2 5\n";
+      b = 0;
+      t = 0;
+      text =
+          "aag 5 2 0 1 3 0 0\n2\n4\n10\n6 4 3\n8 5 2\n10 9 7\n";
+    }
     -- an operand that is repeated one gate down: the same, its complement, and its complement under a complement
-    ∷ record { file = "aag 6 3 0 0 3 1\n2\n4\n6\n12\n8 2 4\n10 8 2\n12 10 6\n"; b = 0; t = 0; text = "aag 5 3 0 1 2 0 0\n2\n4\n6\n10\n8 4 2\n10 8 6\n" }
+    ∷ record {
+      file = "aag 6 3 0 0 3 1\n2\n4\n6\n12\n8 2 4\n10 8 2\n12 10 6\n";
+      b = 0;
+      t = 0;
+      text =
+          "aag 5 3 0 1 2 0 0\n2\n4\n6\n10\n8 4 2\n10 8 6\n";
+    }
     ∷ record { file = "aag 4 2 0 0 2 1\n2\n4\n8\n6 2 4\n8 5 6\n"; b = 0; t = 0; text = "aag 2 2 0 1 0 0 0\n2\n4\n0\n" }
     ∷ record { file = "aag 4 2 0 0 2 1\n2\n4\n8\n6 2 4\n8 7 5\n"; b = 0; t = 0; text = "aag 2 2 0 1 0 0 0\n2\n4\n5\n" }
     -- the constraints of both frames: they forbid the input that the hit needs, or ask for it

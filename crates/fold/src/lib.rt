@@ -19,7 +19,20 @@ ghost use Rattle.limits.specs.Limits.{Limited, CountsOf, told};
 ghost use Rattle.nodes.specs.Graph.{nodeOf};
 ghost use Rattle.nodes.specs.Edges.{edgeWord};
 ghost use Rattle.output.specs.Output.{Room, Placed};
-ghost use Rattle.fold.specs.Text.{literalOf, literalWord, gateText, gatesText, inputsText, headText, NodeFits, GateFits, GatesFit, foldedIn, Writable, Shown};
+ghost use Rattle.fold.specs.Text.{
+  literalOf,
+  literalWord,
+  gateText,
+  gatesText,
+  inputsText,
+  headText,
+  NodeFits,
+  GateFits,
+  GatesFit,
+  foldedIn,
+  Writable,
+  Shown,
+};
 ghost use Rattle.fold.specs.Chosen.{chosen};
 ghost use Rattle.fold.specs.Answer.{answered, FoldFits, FoldShown};
 
@@ -95,7 +108,9 @@ fn write_gate(work: &[u32], k: usize, out: &mut [u8], at: usize) -> usize
 // Writes the lines of the gates that have numbers.
 fn write_gates(work: &[u32], g: Graph, out: &mut [u8], at: usize) -> usize
     requires { ⌜ GatesFit (now work) g × Room (now out) at (gatesText (now work) (g .free + 1) (g .nodes - (g .free + 1))) ⌝ }
-    ensures { λ r. ⌜ Placed (now (out .entry)) at (gatesText (now (work .entry)) (g .free + 1) (g .nodes - (g .free + 1))) r (now (out .exit)) ⌝ }
+    ensures { λ r. ⌜
+        Placed (now (out .entry)) at (gatesText (now (work .entry)) (g .free + 1) (g .nodes - (g .free + 1))) r (now (out .exit))
+        ⌝ }
 {
     let first = g.free + 1;
     let gates = g.nodes - first;
@@ -162,7 +177,9 @@ fn fold_frame(
 
 // The operation fold: writes the hit of bad line b at frame t as a circuit without latches.
 pub fn fold(m: &[u32], b: u64, t: u64, work: &mut [u32], out: &mut [u8]) -> FoldAnswer
-    ensures { λ r. ⌜ Folded chosen (now (m .entry)) b t (now (work .entry)) (now (out .entry)) (answered r) (now (work .exit)) (now (out .exit)) ⌝ }
+    ensures { λ r. ⌜
+        Folded chosen (now (m .entry)) b t (now (work .entry)) (now (out .entry)) (answered r) (now (work .exit)) (now (out .exit))
+        ⌝ }
 {
     let mut order = [0u32; 3072];
     let Held::Circuit(layout) = circuit::held_in(m, &mut order) else {

@@ -36,7 +36,8 @@ pub record Leaves (c : Circuit) (row st : List Bool) (w : ℕ → Bool) : Type 0
 -- in each run, whatever frame the leaves stood for before, all values are that frame's after; what is no gate's variable keeps its value
 pub record Evaluated (c : Circuit) (before after : List ℕ) : Type 0 where
   pub values : (p : ℕ) → p < 64 → (row st : List Bool) → Leaves c row st (lane before p) → Valuation c row st (lane after p)
-  pub others : (p : ℕ) → p < 64 → (v : ℕ) → ((i : ℕ) → i < length (c .gates) → var (gateAt c i .lit) ≡ v → ⊥) → lane after p v ≡ lane before p v
+  pub others : (p : ℕ) → p < 64 → (v : ℕ) → ((i : ℕ) → i < length (c .gates) → var (gateAt c i .lit) ≡ v → ⊥)
+      → lane after p v ≡ lane before p v
   pub size : length after ≡ length before
 
 -- every constraint is true
@@ -53,7 +54,8 @@ hitIn c b w = constrainedIn c w && badIn c b w
 
 -- in each run, each latch has after the value that its next literal had before; what is no latch's variable keeps its word
 pub record Advanced (c : Circuit) (before after : List ℕ) : Type 0 where
-  pub latch : (p : ℕ) → p < 64 → (j : ℕ) → j < length (c .latches) → lane after p (var (latchAt c j .lit)) ≡ value (lane before p) (latchAt c j .next)
+  pub latch : (p : ℕ) → p < 64 → (j : ℕ) → j < length (c .latches)
+      → lane after p (var (latchAt c j .lit)) ≡ value (lane before p) (latchAt c j .next)
   pub others : (v : ℕ) → ((j : ℕ) → j < length (c .latches) → var (latchAt c j .lit) ≡ v → ⊥) → getD after v 0 ≡ getD before v 0
   pub constant : (p : ℕ) → p < 64 → lane after p 0 ≡ lane before p 0
   pub size : length after ≡ length before

@@ -52,7 +52,9 @@ pub fn eval_gates(m: &[u32], layout: Layout, order: &[u32], values: &mut [u64])
 // In which of the runs `from` every constraint is true in the frame.
 pub fn constrain(m: &[u32], layout: Layout, order: &[u32], from: u64, values: &[u64]) -> u64
     requires { ⌜ Ready (now m) layout (now order) (length (now values)) ⌝ }
-    ensures { λ r. ⌜ ((p : ℕ) → p < 64 → bit r p ≡ (bit from p && constrainedIn (circuitIn (now (m .entry))) (lane (now (values .entry)) p))) ⌝ }
+    ensures { λ r. ⌜
+        ((p : ℕ) → p < 64 → bit r p ≡ (bit from p && constrainedIn (circuitIn (now (m .entry))) (lane (now (values .entry)) p)))
+        ⌝ }
 {
     let count = layout.c;
     let constraints = layout.constraints;
@@ -79,7 +81,10 @@ pub fn bad_word(m: &[u32], layout: Layout, order: &[u32], b: usize, values: &[u6
 pub fn next_state(m: &[u32], layout: Layout, values: &[u64], state: &mut [u64])
     requires { ⌜ (layout .latches + 3 * layout .l ≤ length (now m)) × (layout .l ≤ length (now state)) ⌝ }
     requires { ⌜ ((j : ℕ) → j < layout .l → var (word (now m) (layout .latches + 3 * j + 1)) < length (now values)) ⌝ }
-    ensures { λ _. ⌜ ((j : ℕ) → j < layout .l → (p : ℕ) → p < 64 → bit (getD (now (state .exit)) j 0) p ≡ value (lane (now (values .entry)) p) (word (now (m .entry)) (layout .latches + 3 * j + 1))) ⌝ }
+    ensures { λ _. ⌜
+        ((j : ℕ) → j < layout .l → (p : ℕ) → p < 64 → bit (getD (now (state .exit)) j 0) p
+        ≡ value (lane (now (values .entry)) p) (word (now (m .entry)) (layout .latches + 3 * j + 1)))
+        ⌝ }
 {
     let count = layout.l;
     let latches = layout.latches;
@@ -94,7 +99,10 @@ pub fn next_state(m: &[u32], layout: Layout, values: &[u64], state: &mut [u64])
 fn put_state(m: &[u32], layout: Layout, state: &[u64], values: &mut [u64])
     requires { ⌜ (layout .latches + 3 * layout .l ≤ length (now m)) × (layout .l ≤ length (now state)) ⌝ }
     requires { ⌜ Apart (λ j. var (word (now m) (layout .latches + 3 * j))) (layout .l) (length (now values)) ⌝ }
-    ensures { λ _. ⌜ Stored (λ j. var (word (now (m .entry)) (layout .latches + 3 * j))) (λ j. getD (now (state .entry)) j 0) (layout .l) (now (values .entry)) (now (values .exit)) ⌝ }
+    ensures { λ _. ⌜
+        Stored (λ j. var (word (now (m .entry)) (layout .latches + 3 * j))) (λ j. getD (now (state .entry)) j 0) (layout .l)
+        (now (values .entry)) (now (values .exit))
+        ⌝ }
 {
     let count = layout.l;
     let latches = layout.latches;

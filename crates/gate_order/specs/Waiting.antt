@@ -96,7 +96,8 @@ Awaits ops v n s = (getD ops s 0 ≡ v) × (s < n)
 pub record Stale (vars ops table : List ℕ) (v n : ℕ) (waiting marks : List ℕ) : Type 0 where
   pub long : length waiting ≡ length vars
   pub blocks : length vars ≤ 64 * length marks
-  pub counts : (i : ℕ) → i < length vars → (Awaits ops v n (2 * i) → ⊥) → (Awaits ops v n (2 * i + 1) → ⊥) → getD waiting i 0 ≡ waits vars ops table i
+  pub counts : (i : ℕ) → i < length vars → (Awaits ops v n (2 * i) → ⊥) → (Awaits ops v n (2 * i + 1) → ⊥)
+      → getD waiting i 0 ≡ waits vars ops table i
   pub marked : Marked waiting marks
 
 -- no two gates have one variable

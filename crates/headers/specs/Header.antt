@@ -64,5 +64,6 @@ named letter s = same (take 4 s) (97 ∷ letter ∷ 103 ∷ 32 ∷ [])
 -- the limit of each number by itself
 abbrev pub limitsHold : Counts → Bool
 limitsHold c =
-    leb (c .m) 4096 && leb (c .i) 256 && leb (c .l) 1024 && leb (c .o) 64 && leb (c .a) 3072 && leb (c .b) 16 && leb (c .c) 16 && eqb (c .j) 0
+    leb (c .m) 4096 && leb (c .i) 256 && leb (c .l) 1024 && leb (c .o) 64 && leb (c .a) 3072 && leb (c .b) 16 && leb (c .c) 16
+    && eqb (c .j) 0
     && eqb (c .f) 0

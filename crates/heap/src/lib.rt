@@ -1,5 +1,5 @@
-// The heap of nodes by activity: the node from which the search decides next. Word HEAP of a record has the node that stands at the place of
-// that number, and 65536 times the place of the record's own node. Nothing is claimed of it.
+// The heap of nodes by activity: the node from which the search decides next. Word HEAP of a record has the node that stands at the
+// place of that number, and 65536 times the place of the record's own node. Nothing is claimed of it.
 use memory::ACT;
 use memory::FACT;
 use memory::HEAP;

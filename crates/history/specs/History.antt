@@ -42,7 +42,8 @@ pub data Call : Type 0 where
   widen : (user : ℕ) (text out : List ℕ) → Call
   waveform : (user : ℕ) (only : Bool) (text out : List ℕ) → Call
 
--- what a call gives back: the answer, and the output that was lent. A join answers as a load does; the writers, widening and waveform write a text
+-- what a call gives back: the answer, and the output that was lent. A join answers as a load does; the writers, widening and waveform
+-- write a text
 pub data Reply : Type 0 where
   loaded : Answer (List ℕ) → Reply
   pinned : Answer (Unit {0}) → Reply
@@ -83,10 +84,12 @@ pub data Step (s : State) : Call → Reply → State → Type 0 where
       → Step s (Call.load user file) (Reply.loaded a) (record { memory = m′; work = s .work; pins = p′ })
   pins : {user input value : ℕ} {p′ : List ℕ} {a : Answer (Unit {0})} → PinSet (s .memory) user input value (s .pins) a p′
       → Step s (Call.setPin user input value) (Reply.pinned a) (record { memory = s .memory; work = s .work; pins = p′ })
-  searches : {user b k D : ℕ} {out w′ out′ : List ℕ} {a : Answer Outcome} → PinnedSearched Search.chosen (s .memory) (s .pins) user b k D (s .work) out a w′ out′
+  searches : {user b k D : ℕ} {out w′ out′ : List ℕ} {a : Answer Outcome}
+      → PinnedSearched Search.chosen (s .memory) (s .pins) user b k D (s .work) out a w′ out′
       → length w′ ≡ length (s .work)
       → Step s (Call.search user b k D out) (Reply.searched a out′) (record { memory = s .memory; work = w′; pins = s .pins })
-  folds : {user b t : ℕ} {out w′ out′ : List ℕ} {a : Answer ℕ} → PinnedFolded Fold.chosen (s .memory) (s .pins) user b t (s .work) out a w′ out′
+  folds : {user b t : ℕ} {out w′ out′ : List ℕ} {a : Answer ℕ}
+      → PinnedFolded Fold.chosen (s .memory) (s .pins) user b t (s .work) out a w′ out′
       → length w′ ≡ length (s .work)
       → Step s (Call.fold user b t out) (Reply.folded a out′) (record { memory = s .memory; work = w′; pins = s .pins })
   writes : {user : ℕ} {out out′ : List ℕ} {a : Answer ℕ} → UserWritten (s .memory) user out a out′

@@ -27,7 +27,8 @@ Agree c st st′ = (i : ℕ) → i < length (c .kept) → getD st (keptAt c i) f
 pub record Same (c : Part) (b : ℕ) (w u : ℕ → Bool) : Type 0 where
   pub constrained : constrainedIn (c .circuit) w ≡ constrainedIn (c .circuit) u
   pub bad : badIn (c .circuit) b w ≡ badIn (c .circuit) b u
-  pub next : (i : ℕ) → i < length (c .kept) → value w (latchAt (c .circuit) (keptAt c i) .next) ≡ value u (latchAt (c .circuit) (keptAt c i) .next)
+  pub next : (i : ℕ) → i < length (c .kept)
+      → value w (latchAt (c .circuit) (keptAt c i) .next) ≡ value u (latchAt (c .circuit) (keptAt c i) .next)
 
 -- The latches that are kept are latches, in the order of the file.
 pub record Listed (c : Part) : Type 0 where

@@ -9,7 +9,22 @@ ghost use Rattle.aiger.specs.Bits.{nonzero};
 ghost use Rattle.layout.specs.Words.{word, circuitIn};
 ghost use Rattle.meaning.specs.Frame.{latchAt};
 ghost use Rattle.frames.specs.Lanes.{Ready};
-ghost use Rattle.influence.specs.Cone.{marked, markBelow, reach, reachDown, spread, closedAt, closed, settle, keptBelow, keptLatches, gateBy, Room, Rooms, Literals};
+ghost use Rattle.influence.specs.Cone.{
+  marked,
+  markBelow,
+  reach,
+  reachDown,
+  spread,
+  closedAt,
+  closed,
+  settle,
+  keptBelow,
+  keptLatches,
+  gateBy,
+  Room,
+  Rooms,
+  Literals,
+};
 
 // Marks the variables of n literals from `at` on.
 fn mark_words(m: &[u32], at: usize, n: usize, marks: &mut [u32])
@@ -164,7 +179,10 @@ fn keep(
 ) -> usize
     requires { ⌜ Ready (now m) layout (now order) (length (now marks)) ⌝ }
     requires { ⌜ 1024 ≤ length (now kept) ⌝ }
-    ensures { λ r. ⌜ (r ≤ layout .l) × (take r (now (kept .exit)) ≡ keptBelow (λ j. all || marked (now (marks .entry)) (latchAt (circuitIn (now (m .entry))) j .lit)) (layout .l)) ⌝ }
+    ensures { λ r. ⌜
+        (r ≤ layout .l) × (take r (now (kept .exit)) ≡ keptBelow (λ j. all
+        || marked (now (marks .entry)) (latchAt (circuitIn (now (m .entry))) j .lit)) (layout .l))
+        ⌝ }
 {
     let latches = layout.latches;
     let count = layout.l;

@@ -58,7 +58,8 @@ pub record Refuses (line : List ℕ) (n : ℕ) (r : Report) : Type 0 where
 -- what may be printed for a loaded circuit, where working memory has `room` words and the output `len` bytes
 pub data Printed (c : Circuit) (q : Query) (room len : ℕ) : List ℕ → Type 0 where
   refuses : {n : ℕ} → judge (searchTests c (q .b) (q .k) (q .d) room len) ≡ refused n → Printed c q room len (refusalLine n)
-  answers : judge (searchTests c (q .b) (q .k) (q .d) room len) ≡ gives tt → (o : Outcome) → chosen c (q .b) (q .k) (q .d) ≡ o → T (permitted c (q .b) (q .k) (q .d) o)
+  answers : judge (searchTests c (q .b) (q .k) (q .d) room len) ≡ gives tt → (o : Outcome) → chosen c (q .b) (q .k) (q .d) ≡ o
+      → T (permitted c (q .b) (q .k) (q .d) o)
       → Printed c q room len (report c (q .b) o)
 
 -- the line and the witness are left at the fronts of line and out

@@ -123,7 +123,10 @@ pub fn shown_length(m: &[u32], b: u64, answer: SearchAnswer) -> usize
 fn reply(m: &[u32], q: Query, work: &mut [u32], out: &mut [u8], line: &mut [u8]) -> Report
     requires { ⌜ Holds (now m) (circuitIn (now m)) ⌝ }
     requires { ⌜ 32 ≤ length (now line) ⌝ }
-    ensures { λ r. ⌜ Replies (circuitIn (now (m .entry))) q (length (now (work .entry))) (length (now (out .entry))) (now (line .exit)) (now (out .exit)) r ⌝ }
+    ensures { λ r. ⌜
+        Replies (circuitIn (now (m .entry))) q (length (now (work .entry))) (length (now (out .entry))) (now (line .exit))
+        (now (out .exit)) r
+        ⌝ }
 {
     let answer = search::search(m, q.b, q.k, q.d, work, out);
     let witness = shown_length(m, q.b, answer);
@@ -137,7 +140,9 @@ fn reply(m: &[u32], q: Query, work: &mut [u32], out: &mut [u8], line: &mut [u8])
 // Reads the request, loads the file and searches. What is to be printed is left at the fronts of line and out.
 pub fn run(input: &[u8], m: &mut [u32], work: &mut [u32], out: &mut [u8], line: &mut [u8]) -> Report
     requires { ⌜ (length (now m) ≡ 8192) × (length (now work) ≡ 8192) × (length (now out) ≡ 2048) × (32 ≤ length (now line)) ⌝ }
-    ensures prints { λ r. ⌜ Prints chosen (now (input .entry)) (take (r .line) (now (line .exit)) ++ take (r .witness) (now (out .exit))) ⌝ }
+    ensures prints { λ r. ⌜
+        Prints chosen (now (input .entry)) (take (r .line) (now (line .exit)) ++ take (r .witness) (now (out .exit)))
+        ⌝ }
     ensures within { λ r. ⌜ (r .line ≤ length (now (line .exit))) × (r .witness ≤ length (now (out .exit))) ⌝ }
 {
     if 65536 < input.len() {

@@ -32,9 +32,13 @@ fn refuse(line: &mut [u8], n: u32) -> Paired
 
 // Joins the circuits in first and second.
 fn join_pair(first: &[u32], second: &[u32], third: &mut [u32], line: &mut [u8]) -> Paired
-    requires { ⌜ Holds (now first) (circuitIn (now first)) × Holds (now second) (circuitIn (now second)) × (length (now third) ≡ 33032) × (128 ≤ length (now line)) ⌝ }
+    requires { ⌜
+        Holds (now first) (circuitIn (now first)) × Holds (now second) (circuitIn (now second)) × (length (now third) ≡ 33032)
+        × (128 ≤ length (now line))
+        ⌝ }
     ensures { λ r. ⌜
-        JoinedAs (joinedAnswer (circuitIn (now (first .entry))) (circuitIn (now (second .entry)))) (now (third .entry)) (now (line .entry)) r
+        JoinedAs (joinedAnswer (circuitIn (now (first .entry))) (circuitIn (now (second .entry)))) (now (third .entry))
+        (now (line .entry)) r
         (now (third .exit)) (now (line .exit))
         ⌝ }
 {
@@ -55,7 +59,10 @@ fn join_second(
     third: &mut [u32],
     line: &mut [u8],
 ) -> Paired
-    requires { ⌜ Holds (now first) (circuitIn (now first)) × (length (now second) ≡ 33032) × (length (now third) ≡ 33032) × (128 ≤ length (now line)) ⌝ }
+    requires { ⌜
+        Holds (now first) (circuitIn (now first)) × (length (now second) ≡ 33032) × (length (now third) ≡ 33032)
+        × (128 ≤ length (now line))
+        ⌝ }
     ensures joins { λ r. ⌜
         JoinedAs (secondAnswer (circuitIn (now (first .entry))) (now (new .entry))) (now (third .entry)) (now (line .entry)) r
         (now (third .exit)) (now (line .exit))
@@ -79,7 +86,8 @@ pub fn join_files(
 ) -> Paired
     requires { ⌜ (length (now first) ≡ 33032) × (length (now second) ≡ 33032) × (length (now third) ≡ 33032) × (128 ≤ length (now line)) ⌝ }
     ensures joins { λ r. ⌜
-        JoinedAs (joinAnswer (now (old .entry)) (now (new .entry))) (now (third .entry)) (now (line .entry)) r (now (third .exit)) (now (line .exit))
+        JoinedAs (joinAnswer (now (old .entry)) (now (new .entry))) (now (third .entry)) (now (line .entry)) r (now (third .exit))
+        (now (line .exit))
         ⌝ }
     ensures memory { λ _. ⌜
         BothLoaded (now (old .entry)) (now (new .entry)) (now (first .entry)) (now (second .entry)) (now (first .exit)) (now (second .exit))
@@ -101,9 +109,13 @@ pub fn join(
     out: &mut [u8],
     line: &mut [u8],
 ) -> Report
-    requires { ⌜ (length (now first) ≡ 33032) × (length (now second) ≡ 33032) × (length (now third) ≡ 33032) × (65536 ≤ length (now out)) × (128 ≤ length (now line)) ⌝ }
+    requires { ⌜
+        (length (now first) ≡ 33032) × (length (now second) ≡ 33032) × (length (now third) ≡ 33032) × (65536 ≤ length (now out))
+        × (128 ≤ length (now line))
+        ⌝ }
     ensures leaves { λ r. ⌜
-        Leaves (joinReply (now (old .entry)) (now (new .entry))) (now (line .entry)) (now (out .entry)) r (now (line .exit)) (now (out .exit))
+        Leaves (joinReply (now (old .entry)) (now (new .entry))) (now (line .entry)) (now (out .entry)) r (now (line .exit))
+        (now (out .exit))
         ⌝ }
     ensures memory { λ _. ⌜
         BothLoaded (now (old .entry)) (now (new .entry)) (now (first .entry)) (now (second .entry)) (now (first .exit)) (now (second .exit))

@@ -1,5 +1,5 @@
--- Clause 12.6: two circuits joined into one, with the same inputs for both and a bad line for each pair of outputs, true where the two differ.
--- Assumes nothing.
+-- Clause 12.6: two circuits joined into one, with the same inputs for both and a bad line for each pair of outputs, true where the two
+-- differ. Assumes nothing.
 use mathlib.Core.Path.{_≡_}
 use mathlib.Core.Bool.{Bool, cond, _&&_}
 use mathlib.Core.List.{List, [], _∷_, _++_, map}
@@ -23,7 +23,8 @@ placeFrom (l ∷ ls) n v d = cond (eqb (var l) v) n (placeFrom ls (n + 1) v d)
 -- the number that variable v of circuit c has in the joined circuit: inputs from 1 on, latches from p on, gates from q on, in file order;
 -- 0 for the constant and for what nothing defines
 unfoldable pub numberOf : Circuit → ℕ → ℕ → ℕ → ℕ
-numberOf c p q v = placeFrom (c .inputs) 1 v (placeFrom (map (λ l. l .lit) (c .latches)) p v (placeFrom (map (λ g. g .lit) (c .gates)) q v 0))
+numberOf c p q v =
+    placeFrom (c .inputs) 1 v (placeFrom (map (λ l. l .lit) (c .latches)) p v (placeFrom (map (λ g. g .lit) (c .gates)) q v 0))
 
 -- a literal, a latch and a gate under new numbers of the variables. The resets 0 and 1 are literals of the constant, whose number
 -- stays 0; a latch's own literal as reset becomes its new literal, so that a free start stays free
@@ -71,7 +72,8 @@ joined c d =
     let σ = firstNumber c d in
     let τ = secondNumber c d in
     record {
-      maxVar = length (c .inputs) + length (c .latches) + length (d .latches) + length (c .gates) + length (d .gates) + 3 * length (c .outputs);
+      maxVar = length (c .inputs) + length (c .latches) + length (d .latches) + length (c .gates) + length (d .gates) + 3
+          * length (c .outputs);
       inputs = map (λ i. 2 * (i + 1)) (upto (length (c .inputs)));
       latches = map (latchUnder σ) (c .latches) ++ map (latchUnder τ) (d .latches);
       outputs = [];
@@ -98,6 +100,7 @@ joinTests c d room =
 -- them, and m as a load of the joined circuit leaves it. A refusal leaves m as it was.
 pub data JoinedInto (m₁ m₂ m : List ℕ) : Answer (List ℕ) → List ℕ → Type 0 where
   noCircuit : HoldsNone m₁ ⊎ HoldsNone m₂ → JoinedInto m₁ m₂ m (refused 9) m
-  refuses : (c d : Circuit) {n : ℕ} → Holds m₁ c → Holds m₂ d → judge (joinTests c d (length m)) ≡ refused n → JoinedInto m₁ m₂ m (refused n) m
+  refuses : (c d : Circuit) {n : ℕ} → Holds m₁ c → Holds m₂ d → judge (joinTests c d (length m)) ≡ refused n
+      → JoinedInto m₁ m₂ m (refused n) m
   stores : (c d : Circuit) → Holds m₁ c → Holds m₂ d → judge (joinTests c d (length m)) ≡ gives tt
       → JoinedInto m₁ m₂ m (gives (joined c d .maxVar ∷ countRow (joined c d))) (front (image (joined c d)) m)

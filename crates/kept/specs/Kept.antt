@@ -56,7 +56,8 @@ watch x = 7 + x % 2
 
 unfoldable pub attached : List ℕ → Netlist → ℕ → ℕ → ℕ → List ℕ
 attached w net c s x =
-    stored (headed (headed w (net .words) c (2 + s) (field w (net .nodes) (x / 2) (watch x))) (net .words) c (4 + s) x) (net .nodes) (x / 2) (watch x) c
+    stored (headed (headed w (net .words) c (2 + s) (field w (net .nodes) (x / 2) (watch x))) (net .words) c (4 + s) x) (net .nodes)
+    (x / 2) (watch x) c
 
 unfoldable pub detached : List ℕ → Netlist → ℕ → List ℕ
 detached w net zero = w

@@ -1,5 +1,5 @@
-// Kept clauses and fixed literals: the working clause is kept, or, where it has one literal, that is fixed. Only a working clause of which no
-// literal was lost is believed.
+// Kept clauses and fixed literals: the working clause is kept, or, where it has one literal, that is fixed. Only a working clause of
+// which no literal was lost is believed.
 use memory::Arena;
 use memory::Draft;
 use memory::FACT;

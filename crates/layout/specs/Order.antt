@@ -34,7 +34,8 @@ ensured (some g) complete placed = cond (member g placed) placed (complete place
 -- gate g is placed after the gates of its left operand and then of its right one, each with what it needs, n gates deep at most
 unfoldable pub completed : (ℕ → Option ℕ) → (ℕ → Option ℕ) → ℕ → List ℕ → ℕ → List ℕ
 completed left right zero placed g = placed
-completed left right (suc n) placed g = ensured (right g) (completed left right n) (ensured (left g) (completed left right n) placed) ++ (g ∷ [])
+completed left right (suc n) placed g =
+    ensured (right g) (completed left right n) (ensured (left g) (completed left right n) placed) ++ (g ∷ [])
 
 -- the k gates from gate g on are placed one after the other, where there are m gates
 unfoldable pub placedFrom : (ℕ → Option ℕ) → (ℕ → Option ℕ) → ℕ → ℕ → ℕ → List ℕ → List ℕ

@@ -1,5 +1,5 @@
-// Learning from a conflict: the clause of the analysis is kept, or fixed where it has one literal, and the search goes back to where that clause
-// implies a literal.
+// Learning from a conflict: the clause of the analysis is kept, or fixed where it has one literal, and the search goes back to where
+// that clause implies a literal.
 use analysis::analyse;
 use heap::cool;
 use heap::restore;
@@ -23,9 +23,9 @@ ghost use mathlib.Core.Path.{_≡_};
 ghost use Prim.Native.Nat.{_<_};
 ghost use Rattle.learning.specs.Learning as Ln;
 
-// In which order the search decides, and what it has come to: whether free bits take the floor's values first, all of them or those up to `goal`;
-// up to which free bit they have them; how many entries of the trail are settled; the verdict (0: none yet, 1: the floor is a hit, 2: there is no
-// hit, 3: given up); the work done, the work after which the order changes, and how much work an order has.
+// In which order the search decides, and what it has come to: whether free bits take the floor's values first, all of them or those up
+// to `goal`; up to which free bit they have them; how many entries of the trail are settled; the verdict (0: none yet, 1: the floor is
+// a hit, 2: there is no hit, 3: given up); the work done, the work after which the order changes, and how much work an order has.
 pub struct Order {
     pub sweep: bool,
     pub goal: u32,

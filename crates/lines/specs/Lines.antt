@@ -53,7 +53,8 @@ pub record Stored (words : List ℕ) (most limit : ℕ) (before : List ℕ) (fro
   pub contents : after ≡ sets before from (map (narrowed limit) (take most words))
 
 -- a line of `least` to `most` numbers from `at` to `next`, tested and stored as `most` words
-pub record LineRead (s : List ℕ) (at least most limit : ℕ) (before : List ℕ) (from : ℕ) (after : List ℕ) (next : ℕ) (fits : Bool) : Type 0 where
+pub record LineRead (s : List ℕ) (at least most limit : ℕ) (before : List ℕ) (from : ℕ) (after : List ℕ) (next : ℕ) (fits : Bool)
+    : Type 0 where
   pub line : List ℕ
   pub meaning : row most (drop at s) ≡ some (line, drop next s)
   pub enough : least ≤ length line
@@ -71,7 +72,8 @@ LineAt s at least most limit before from after (rows-variants.Read next fits) = 
 LineAt s at least most limit before from after rows-variants.Malformed = NoLine least (row most (drop at s))
 
 -- n lines from `at` to `next`, tested, and stored from `from` on if every number is within the limit
-pub record RowsRead (s : List ℕ) (at least most n limit : ℕ) (before : List ℕ) (from : ℕ) (after : List ℕ) (next : ℕ) (fits : Bool) : Type 0 where
+pub record RowsRead (s : List ℕ) (at least most n limit : ℕ) (before : List ℕ) (from : ℕ) (after : List ℕ) (next : ℕ) (fits : Bool)
+    : Type 0 where
   pub lines : List (List ℕ)
   pub meaning : rows least most n (drop at s) ≡ some (lines, drop next s)
   pub inside : next ≤ length s
@@ -79,5 +81,6 @@ pub record RowsRead (s : List ℕ) (at least most n limit : ℕ) (before : List 
   pub contents : fits ≡ true → after ≡ take from before ++ flat most lines ++ drop (from + n * most) before
 
 abbrev pub RowsAt : List ℕ → ℕ → ℕ → ℕ → ℕ → ℕ → List ℕ → ℕ → List ℕ → Rows → Type 0
-RowsAt s at least most n limit before from after (rows-variants.Read next fits) = RowsRead s at least most n limit before from after next fits
+RowsAt s at least most n limit before from after (rows-variants.Read next fits) =
+    RowsRead s at least most n limit before from after next fits
 RowsAt s at least most n limit before from after rows-variants.Malformed = rows least most n (drop at s) ≡ none

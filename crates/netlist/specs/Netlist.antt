@@ -20,8 +20,8 @@ use Rattle.records.specs.Steps.{allLinked}
 unfoldable pub netNodes : ℕ → List Pair → ℕ → ℕ
 netNodes n gs root = n + 1 + keptBefore n gs root (length gs)
 
--- word f of the record of node v, which is no gate: both operands are its own edge, and the hit does not depend on it where it does not lead
--- to the root
+-- word f of the record of node v, which is no gate: both operands are its own edge, and the hit does not depend on it where it does not
+-- lead to the root
 unfoldable pub leafWord : ℕ → List Pair → ℕ → ℕ → ℕ → ℕ
 leafWord n gs root v f = cond (ltb f 2) (2 * v) (cond (eqb f 2) (cond (inCone n gs root v) 0 8) 0)
 

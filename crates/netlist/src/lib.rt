@@ -1,5 +1,5 @@
-// The netlist of a root edge of a graph, for a conflict search: the gates that lead to the root, renumbered upward after the constant and all
-// free bits, with their fan-outs, in place of the graph.
+// The netlist of a root edge of a graph, for a conflict search: the gates that lead to the root, renumbered upward after the constant
+// and all free bits, with their fan-outs, in place of the graph.
 use memory::Netlist;
 use nodes::Edge;
 use nodes::Graph;

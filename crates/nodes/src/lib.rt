@@ -4,10 +4,10 @@ ghost use mathlib.Core.Path.{_≡_};
 ghost use lib.Dec.{eqb};
 ghost use Rattle.nodes.specs.Edges.{wordEdge, edgeWord, opposite};
 
-// Words of a node's record, after the left operand, which is the first: the right operand; the signature, in two words; the node before it in
-// its bucket by operands, and by signature; the last node of the bucket that has the record's number, by operands, and by signature; the
-// values of a simulation, in two words; the mark, in whose place the number comes; and the candidate that has the record's number. Nodes
-// are one more than the node, or 0.
+// Words of a node's record, after the left operand, which is the first: the right operand; the signature, in two words; the node before
+// it in its bucket by operands, and by signature; the last node of the bucket that has the record's number, by operands, and by
+// signature; the values of a simulation, in two words; the mark, in whose place the number comes; and the candidate that has the
+// record's number. Nodes are one more than the node, or 0.
 pub const RIGHT: usize = 1;
 
 pub const SIGNATURE: usize = 2;

@@ -51,7 +51,8 @@ countWords p q =
 
 unfoldable pub definitionWords : List ℕ → Layout → List ℕ → List ℕ → Layout → List ℕ → List ℕ
 definitionWords a p first b q second =
-    countWords p q ++ map (λ i. 2 * (i + 1)) (upto (p .i)) ++ renamedWords first a (p .latches) (3 * p .l) ++ renamedWords second b (q .latches) (3 * q .l)
+    countWords p q ++ map (λ i. 2 * (i + 1)) (upto (p .i)) ++ renamedWords first a (p .latches) (3 * p .l)
+    ++ renamedWords second b (q .latches) (3 * q .l)
 
 -- the variable of the first gate of the pairs
 abbrev pub pairsVar : Layout → Layout → ℕ
@@ -59,12 +60,14 @@ pairsVar p q = p .i + p .l + q .l + p .a + q .a + 1
 
 unfoldable pub propertyWords : List ℕ → Layout → List ℕ → List ℕ → Layout → List ℕ → List ℕ
 propertyWords a p first b q second =
-    map (λ j. 2 * (pairsVar p q + 3 * j + 2) + 1) (upto (p .o)) ++ renamedWords first a (p .constraints) (p .c) ++ renamedWords second b (q .constraints) (q .c)
+    map (λ j. 2 * (pairsVar p q + 3 * j + 2) + 1) (upto (p .o)) ++ renamedWords first a (p .constraints) (p .c)
+    ++ renamedWords second b (q .constraints) (q .c)
 
 unfoldable pub gateWordsOf : List ℕ → Layout → List ℕ → List ℕ → Layout → List ℕ → List ℕ
 gateWordsOf a p first b q second =
     renamedWords first a (p .gates) (3 * p .a) ++ renamedWords second b (q .gates) (3 * q .a)
-    ++ map (pairsWord (pairsVar p q) (λ j. under first (word a (p .outputs + j))) (λ j. under second (word b (q .outputs + j)))) (upto (9 * p .o))
+    ++ map (pairsWord (pairsVar p q) (λ j. under first (word a (p .outputs + j))) (λ j. under second (word b (q .outputs + j))))
+    (upto (9 * p .o))
 
 -- where the bad lines begin, and the gates
 abbrev pub propertiesAt : Layout → Layout → ℕ
@@ -75,7 +78,8 @@ gatesFrom p q = propertiesAt p q + p .o + p .c + q .c
 
 -- words are written behind what stands at the front
 abbrev pub After : ℕ → List ℕ → List ℕ → List ℕ → Type 0
-After to words before after = (xs m : List ℕ) → before ≡ front xs m → to ≡ length xs → length before ≡ length m → after ≡ front (xs ++ words) m
+After to words before after =
+    (xs m : List ℕ) → before ≡ front xs m → to ≡ length xs → length before ≡ length m → after ≡ front (xs ++ words) m
 
 -- M of the joined circuit
 abbrev pub variables : Layout → Layout → ℕ

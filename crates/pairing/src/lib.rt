@@ -11,7 +11,21 @@ ghost use Rattle.aiger.specs.Operations.{front};
 ghost use Rattle.layout.specs.Words.{word, circuitIn};
 ghost use Rattle.joined.specs.Joined.{complement, joined};
 ghost use Rattle.renumber.specs.Names.{Put, Within, under};
-ghost use Rattle.pairing.specs.Words.{pairWord, pairsWord, Small, Table, definitionWords, propertyWords, gateWordsOf, pairsVar, propertiesAt, gatesFrom, After, variables, JoinFits};
+ghost use Rattle.pairing.specs.Words.{
+  pairWord,
+  pairsWord,
+  Small,
+  Table,
+  definitionWords,
+  propertyWords,
+  gateWordsOf,
+  pairsVar,
+  propertiesAt,
+  gatesFrom,
+  After,
+  variables,
+  JoinFits,
+};
 
 // Writes the inputs, 2, 4 and so on.
 fn put_inputs(m: &mut [u32], n: usize)
@@ -129,7 +143,11 @@ fn put_pairs(
 )
     requires { ⌜ Table (now a) p (now first) × Table (now b) q (now second) × Small p × Small q × (p .o ≤ 16) × (p .o ≡ q .o) ⌝ }
     requires { ⌜ (pairsVar p q ≤ 4096) × (gatesFrom p q + 3 * p .a + 3 * q .a + 9 * p .o ≤ length (now m)) ⌝ }
-    ensures { λ _. ⌜ Put (gatesFrom p q + 3 * p .a + 3 * q .a) (pairsWord (pairsVar p q) (λ j. under (now (first .entry)) (word (now (a .entry)) (p .outputs + j))) (λ j. under (now (second .entry)) (word (now (b .entry)) (q .outputs + j)))) (9 * p .o) (now (m .entry)) (now (m .exit)) ⌝ }
+    ensures { λ _. ⌜
+        Put (gatesFrom p q + 3 * p .a + 3 * q .a) (pairsWord (pairsVar p q)
+        (λ j. under (now (first .entry)) (word (now (a .entry)) (p .outputs + j)))
+        (λ j. under (now (second .entry)) (word (now (b .entry)) (q .outputs + j)))) (9 * p .o) (now (m .entry)) (now (m .exit))
+        ⌝ }
 {
     let to = pairs_from(p, q);
     let v = pairs_var(p, q);
@@ -157,7 +175,10 @@ fn write_definitions(
 )
     requires { ⌜ Table (now a) p (now first) × Table (now b) q (now second) × Small p × Small q ⌝ }
     requires { ⌜ 7 + p .i + 3 * p .l + 3 * q .l ≤ length (now m) ⌝ }
-    ensures { λ _. ⌜ now (m .exit) ≡ front (definitionWords (now (a .entry)) p (now (first .entry)) (now (b .entry)) q (now (second .entry))) (now (m .entry)) ⌝ }
+    ensures { λ _. ⌜
+        now (m .exit) ≡ front (definitionWords (now (a .entry)) p (now (first .entry)) (now (b .entry)) q (now (second .entry)))
+        (now (m .entry))
+        ⌝ }
 {
     let latches = p.l + q.l;
     let gates = p.a + q.a + 3 * p.o;
@@ -189,7 +210,10 @@ fn write_properties(
 )
     requires { ⌜ Table (now a) p (now first) × Table (now b) q (now second) × Small p × Small q × (p .o ≤ 16) ⌝ }
     requires { ⌜ (pairsVar p q ≤ 4096) × (propertiesAt p q + p .o + p .c + q .c ≤ length (now m)) ⌝ }
-    ensures { λ _. ⌜ After (propertiesAt p q) (propertyWords (now (a .entry)) p (now (first .entry)) (now (b .entry)) q (now (second .entry))) (now (m .entry)) (now (m .exit)) ⌝ }
+    ensures { λ _. ⌜
+        After (propertiesAt p q) (propertyWords (now (a .entry)) p (now (first .entry)) (now (b .entry)) q (now (second .entry)))
+        (now (m .entry)) (now (m .exit))
+        ⌝ }
 {
     let at = properties_at(p, q);
     let v = pairs_var(p, q);
@@ -210,7 +234,10 @@ fn write_gates(
 )
     requires { ⌜ Table (now a) p (now first) × Table (now b) q (now second) × Small p × Small q × (p .o ≤ 16) × (p .o ≡ q .o) ⌝ }
     requires { ⌜ (pairsVar p q ≤ 4096) × (gatesFrom p q + 3 * p .a + 3 * q .a + 9 * p .o ≤ length (now m)) ⌝ }
-    ensures { λ _. ⌜ After (gatesFrom p q) (gateWordsOf (now (a .entry)) p (now (first .entry)) (now (b .entry)) q (now (second .entry))) (now (m .entry)) (now (m .exit)) ⌝ }
+    ensures { λ _. ⌜
+        After (gatesFrom p q) (gateWordsOf (now (a .entry)) p (now (first .entry)) (now (b .entry)) q (now (second .entry)))
+        (now (m .entry)) (now (m .exit))
+        ⌝ }
 {
     let at = gates_from(p, q);
     rename_words(a, p.gates, 3 * p.a, first, m, at);

@@ -26,7 +26,8 @@ bucketAt work g k = bucketOf (g .room) (field work k 0) (field work k 1)
 unfoldable pub inBucket : List ℕ → Graph → ℕ → ℕ → Bool
 inBucket work g h k = leb (g .free + 1) k && eqb (bucketAt work g k) h
 
--- word 6 of record h is one more than the last node of bucket h, or 0; word 4 of a gate is one more than the node before it in its bucket, or 0
+-- word 6 of record h is one more than the last node of bucket h, or 0; word 4 of a gate is one more than the node before it in its
+-- bucket, or 0
 pub record PairStore (work : List ℕ) (g : Graph) : Type 0 where
   pub heads : (h : ℕ) → h < g .room → field work h 6 ≡ lastBefore (inBucket work g h) (g .nodes)
   pub links : (k : ℕ) → g .free + 1 ≤ k → k < g .nodes → field work k 4 ≡ lastBefore (inBucket work g (bucketAt work g k)) k
@@ -57,5 +58,6 @@ pub record Appended (work last : List ℕ) (g : Graph) (left right : ℕ) : Type
   pub pairs : pairsOf last (oneMore g) ≡ pairsOf work g ++ (record { left = left; right = right } ∷ [])
   pub store : PairStore last (oneMore g)
   pub others :
-      (i : ℕ) → (i ≡ 16 * g .nodes → ⊥) → (i ≡ 16 * g .nodes + 1 → ⊥) → (i ≡ 16 * g .nodes + 4 → ⊥) → (i ≡ 16 * bucketOf (g .room) left right + 6 → ⊥)
+      (i : ℕ) → (i ≡ 16 * g .nodes → ⊥) → (i ≡ 16 * g .nodes + 1 → ⊥) → (i ≡ 16 * g .nodes + 4 → ⊥)
+      → (i ≡ 16 * bucketOf (g .room) left right + 6 → ⊥)
       → getD last i 0 ≡ getD work i 0

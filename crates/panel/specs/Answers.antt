@@ -65,7 +65,8 @@ LoadSaid user file m pins line r m′ pins′ line′ =
 -- a query, as the call of a history that it is
 abbrev pub Queried : Query → ℕ → History.State → List ℕ → List ℕ → Report → History.State → List ℕ → List ℕ → Type 0
 Queried (Pin input value) user s out line r s′ out′ line′ =
-    Said (λ a. History.Step s (History.Call.setPin user input value) (History.Reply.pinned a) s′ × (out′ ≡ out)) pinWords noText line r line′ out′
+    Said (λ a. History.Step s (History.Call.setPin user input value) (History.Reply.pinned a) s′ × (out′ ≡ out)) pinWords noText line r
+    line′ out′
 Queried (Search b k D) user s out line r s′ out′ line′ =
     Said (λ a. History.Step s (History.Call.search user b k D out) (History.Reply.searched a out′) s′) saidWords
     (shownLength (circuitIn (s .memory)) b) line r line′ out′

@@ -39,7 +39,8 @@ struct Frame {
 pub fn load(user: u64, file: &[u8], m: &mut [u32], pins: &mut [u8], line: &mut [u8]) -> Report
     requires { ⌜ 128 ≤ length (now line) ⌝ }
     ensures { λ r. ⌜
-        LoadSaid user (now (file .entry)) (now (m .entry)) (now (pins .entry)) (now (line .entry)) r (now (m .exit)) (now (pins .exit)) (now (line .exit))
+        LoadSaid user (now (file .entry)) (now (m .entry)) (now (pins .entry)) (now (line .entry)) r (now (m .exit)) (now (pins .exit))
+        (now (line .exit))
         ⌝ }
 {
     if 1 < user {
@@ -67,7 +68,8 @@ pub fn preview(user: u64, file: &[u8], m: &[u32], out: &mut [u8], line: &mut [u8
 fn pin(user: u32, input: u64, value: u64, m: &[u32], pins: &mut [u8], line: &mut [u8]) -> Report
     requires { ⌜ 128 ≤ length (now line) ⌝ }
     ensures { λ r. ⌜
-        Said (λ a. PinSet (now (m .entry)) user input value (now (pins .entry)) a (now (pins .exit))) pinWords noText (now (line .entry)) r (now (line .exit)) []
+        Said (λ a. PinSet (now (m .entry)) user input value (now (pins .entry)) a (now (pins .exit))) pinWords noText
+        (now (line .entry)) r (now (line .exit)) []
         ⌝ }
 {
     if 2 < value {
@@ -124,7 +126,8 @@ fn fold(
     ensures { λ r. ⌜
         Said
         (λ a.
-        PinnedFolded Fold.chosen (now (m .entry)) (now (pins .entry)) user (f .b) (f .t) (now (work .entry)) (now (out .entry)) a (now (work .exit))
+        PinnedFolded Fold.chosen (now (m .entry)) (now (pins .entry)) user (f .b) (f .t) (now (work .entry)) (now (out .entry)) a
+        (now (work .exit))
         (now (out .exit)))
         textWords textLength (now (line .entry)) r (now (line .exit)) (now (out .exit))
         ⌝ }
@@ -139,7 +142,8 @@ fn fold(
 fn write(user: u32, m: &[u32], out: &mut [u8], line: &mut [u8]) -> Report
     requires { ⌜ 128 ≤ length (now line) ⌝ }
     ensures { λ r. ⌜
-        Said (λ a. UserWritten (now (m .entry)) user (now (out .entry)) a (now (out .exit))) textWords textLength (now (line .entry)) r (now (line .exit))
+        Said (λ a. UserWritten (now (m .entry)) user (now (out .entry)) a (now (out .exit))) textWords textLength (now (line .entry)) r
+        (now (line .exit))
         (now (out .exit))
         ⌝ }
 {
@@ -153,7 +157,8 @@ fn write(user: u32, m: &[u32], out: &mut [u8], line: &mut [u8]) -> Report
 fn write_binary(user: u32, m: &[u32], out: &mut [u8], line: &mut [u8]) -> Report
     requires { ⌜ 128 ≤ length (now line) ⌝ }
     ensures { λ r. ⌜
-        Said (λ a. UserWrittenBinary (now (m .entry)) user (now (out .entry)) a (now (out .exit))) textWords textLength (now (line .entry)) r
+        Said (λ a. UserWrittenBinary (now (m .entry)) user (now (out .entry)) a (now (out .exit))) textWords textLength
+        (now (line .entry)) r
         (now (line .exit)) (now (out .exit))
         ⌝ }
 {

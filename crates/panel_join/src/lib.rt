@@ -17,7 +17,8 @@ fn join_loaded(
     requires { ⌜ 128 ≤ length (now line) ⌝ }
     ensures { λ r. ⌜
         JoinSaid
-        (λ a. UserJoined (now (first .entry)) (now (second .entry)) (now (m .entry)) (now (pins .entry)) 0 a (now (m .exit)) (now (pins .exit)))
+        (λ a. UserJoined (now (first .entry)) (now (second .entry)) (now (m .entry)) (now (pins .entry)) 0 a (now (m .exit))
+        (now (pins .exit)))
         (now (line .entry)) r (now (line .exit))
         ⌝ }
 {
@@ -30,7 +31,8 @@ fn join_loaded(
 fn join_new(new: &[u8], first: &[u32], m: &mut [u32], pins: &mut [u8], line: &mut [u8]) -> Report
     requires { ⌜ 128 ≤ length (now line) ⌝ }
     ensures { λ r. ⌜
-        JoinSaid (λ a. NewJoined (now (first .entry)) (now (new .entry)) (now (m .entry)) (now (pins .entry)) a (now (m .exit)) (now (pins .exit)))
+        JoinSaid (λ a. NewJoined (now (first .entry)) (now (new .entry)) (now (m .entry)) (now (pins .entry)) a (now (m .exit))
+        (now (pins .exit)))
         (now (line .entry)) r (now (line .exit))
         ⌝ }
 {
@@ -53,7 +55,8 @@ pub fn join(
     requires { ⌜ 128 ≤ length (now line) ⌝ }
     ensures { λ r. ⌜
         JoinSaid
-        (λ a. FilesJoined (now (old .entry)) (now (new .entry)) (now (m .entry)) (now (pins .entry)) user a (now (m .exit)) (now (pins .exit)))
+        (λ a. FilesJoined (now (old .entry)) (now (new .entry)) (now (m .entry)) (now (pins .entry)) user a (now (m .exit))
+        (now (pins .exit)))
         (now (line .entry)) r (now (line .exit))
         ⌝ }
 {

@@ -28,7 +28,8 @@ unfoldable pub split : List ℕ → List ℕ × List ℕ
 split [] = ([], [])
 split (c ∷ s) = cond (eqb c 32) ([], c ∷ s) (c ∷ (split s) .0, (split s) .1)
 
--- the word after a space, which has a byte at least, and what follows it. What is given is empty, or begins with the space at which `split` ended
+-- the word after a space, which has a byte at least, and what follows it. What is given is empty, or begins with the space at which
+-- `split` ended
 unfoldable pub word : List ℕ → Option (List ℕ × List ℕ)
 word [] = none
 word (c ∷ s) = when (leb 1 (length ((split s) .0))) >> some (split s)

@@ -97,8 +97,8 @@ fn keep(b: u8, n: usize, buf: &mut [u8]) -> usize
     n + 1
 }
 
-// Reads a line into the front of buf, as much as has room, and passes over the rest of it. The loop counts its turns down from a number that
-// no run uses up, since nothing says that a line ends.
+// Reads a line into the front of buf, as much as has room, and passes over the rest of it. The loop counts its turns down from a number
+// that no run uses up, since nothing says that a line ends.
 fn read_line(buf: &mut [u8]) -> Line
     ensures { λ r. ⌜ Counts (r .count) (now (buf .exit)) ⌝ }
 {
@@ -234,7 +234,8 @@ fn session_with(work: &mut [u32], out: &mut [u8])
     session(&mut m, work, &mut pins, out);
 }
 
-// Lends the working memory and the output of the greatest size, 65,536. No text is longer than this output: fold asks for 1,572,928 bytes at most, waveform for 1,456,223.
+// Lends the working memory and the output of the greatest size, 65,536. No text is longer than this output: fold asks for 1,572,928
+// bytes at most, waveform for 1,456,223.
 fn session_of_both() {
     let mut work = [0u32; 1048576];
     let mut out = [0u8; 1572928];

@@ -29,8 +29,9 @@ use Rattle.panel_files.specs.Files.{verdictWords}
 
 -- ---- what a line asks
 
--- the files that a line names: at least one of them cannot be read; or the bytes of the first and of the second. Of a file that is longer than
--- any circuit file or witness these are its first bytes, more than 66,825, or 65,536 in a join: it is refused with the same number
+-- the files that a line names: at least one of them cannot be read; or the bytes of the first and of the second. Of a file that is
+-- longer than any circuit file or witness these are its first bytes, more than 66,825, or 65,536 in a join: it is refused with the same
+-- number
 pub data Files : Type 0 where
   missing : Files
   read : (first second : List ℕ) → Files
@@ -92,7 +93,8 @@ filesOf (Command.view v file) = file ∷ []
 -- a command: 18 comes before `unreadable`, and a command that names no file needs none
 abbrev pub commandAction : ℕ → Files → ℕ → Command → Action
 commandAction room Files.missing user c =
-    cond (eqb (length (filesOf c)) 0) (actionOf room user [] [] c) (Action.prints (cond (mayAsk user c) (bytes "unreadable\n") (refusalText 18)))
+    cond (eqb (length (filesOf c)) 0) (actionOf room user [] [] c)
+    (Action.prints (cond (mayAsk user c) (bytes "unreadable\n") (refusalText 18)))
 commandAction room (Files.read first second) user c = actionOf room user first second c
 
 -- a line that is no command is `malformed`
@@ -116,7 +118,8 @@ badOf (History.Call.replay user text) = 0
 badOf (History.Call.widen user text out) = 0
 badOf (History.Call.waveform user only text out) = 0
 
--- a line, and the text after it, for a circuit c and a bad line b. A preview answers 0 words where none are told, and `wordsLine 0` is empty
+-- a line, and the text after it, for a circuit c and a bad line b. A preview answers 0 words where none are told, and `wordsLine 0` is
+-- empty
 abbrev pub told : Circuit → ℕ → History.Reply → Reply
 told c b (History.Reply.loaded a) = record { line = loadWords a; out = [] }
 told c b (History.Reply.pinned a) = record { line = pinWords a; out = [] }
@@ -133,7 +136,8 @@ pub data Turn (room : ℕ) (line : List ℕ) (files : Files) (s : History.State)
   prints : {text : List ℕ} → lineAction room files (request line) ≡ Action.prints text
       → Turn room line files s (record { line = text; out = [] }) false s
   calls : {call : History.Call} {reply : History.Reply} {s′ : History.State} → lineAction room files (request line) ≡ Action.calls call
-      → History.Step s call reply s′ → Turn room line files s (told (circuitIn (s .memory)) (badOf call) reply) (History.isAccepted reply) s′
+      → History.Step s call reply s′ → Turn room line files s (told (circuitIn (s .memory)) (badOf call) reply)
+      (History.isAccepted reply) s′
 
 -- a line that was answered
 pub record Exchange : Type 0 where

@@ -1,5 +1,5 @@
--- Clause 12.7: replay and widening under the pins q, where q i is the pin of input i: a completion that differs from a pin is no hit. Their tests
--- are those of the circuit and the given text. Assumes nothing.
+-- Clause 12.7: replay and widening under the pins q, where q i is the pin of input i: a completion that differs from a pin is no hit.
+-- Their tests are those of the circuit and the given text. Assumes nothing.
 use mathlib.Core.Path.{_≡_}
 use mathlib.Core.Bool.{Bool, true, false, cond, _&&_}
 use mathlib.Core.List.{List, [], _∷_, _++_}

@@ -1,4 +1,5 @@
--- Where the held inputs of a body, the lines of a witness after line `b`, stand, and what the functions say and leave there. Assumes nothing.
+-- Where the held inputs of a body, the lines of a witness after line `b`, stand, and what the functions say and leave there. Assumes
+-- nothing.
 use mathlib.Core.Path.{_≡_}
 use mathlib.Core.Bool.{Bool, true, cond, _&&_}
 use mathlib.Core.List.{List}

@@ -1,5 +1,5 @@
-// Witnesses under the pins of a user: the pin of each byte of a body, which is the lines of a witness after line `b`. A user's pins are lent
-// as the bytes of that user alone; an input that has no byte is free.
+// Witnesses under the pins of a user: the pin of each byte of a body, which is the lines of a witness after line `b`. A user's pins are
+// lent as the bytes of that user alone; an input that has no byte is free.
 use layout::Layout;
 ghost use mathlib.Core.Path.{_≡_};
 ghost use Prim.Native.Nat.{_+_, _*_, _≤_};
@@ -98,7 +98,8 @@ pub fn agree(rows: Rows, own: &[u8], body: &[u8], loose: bool) -> bool
     ensures { λ r. ⌜
         r
         ≡ everyBelow (length (now (body .entry)))
-        (λ k. agreesAt loose (placePin (λ i. getD (now (own .entry)) i 2) (rows .first) (rows .inputs) (rows .end) k) (getD (now (body .entry)) k 0))
+        (λ k. agreesAt loose (placePin (λ i. getD (now (own .entry)) i 2) (rows .first) (rows .inputs) (rows .end) k)
+        (getD (now (body .entry)) k 0))
         ⌝ }
 {
     let mut k = 0;

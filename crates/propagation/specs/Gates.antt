@@ -16,7 +16,8 @@ ruleFalse x y = cond (eqb x 1) (cond (eqb y 1) 3 (cond (eqb y 2) 6 0)) (cond (eq
 
 unfoldable pub rule : ℕ → ℕ → ℕ → ℕ
 rule o x y =
-    cond (eqb o 1) (ruleTrue x y) (cond (eqb o 0) (ruleFalse x y) (cond (eqb x 0) 8 (cond (eqb y 0) 9 (cond (eqb x 1) (cond (eqb y 1) 10 0) 0))))
+    cond (eqb o 1) (ruleTrue x y) (cond (eqb o 0) (ruleFalse x y)
+    (cond (eqb x 0) 8 (cond (eqb y 0) 9 (cond (eqb x 1) (cond (eqb y 1) 10 0) 0))))
 
 unfoldable pub implied : List ℕ → ℕ → ℕ → ℕ → ℕ
 implied w nodes g rule =
@@ -50,7 +51,8 @@ unfoldable pub looked : List ℕ → Netlist → State → ℕ → Stood
 looked w net s g =
     cond (leb 1073741823 g) (stood w s)
     (applied w net s g
-    (rule (value w (net .nodes) (2 * g)) (value w (net .nodes) (field w (net .nodes) g 0)) (value w (net .nodes) (field w (net .nodes) g 1))))
+    (rule (value w (net .nodes) (2 * g)) (value w (net .nodes) (field w (net .nodes) g 0))
+    (value w (net .nodes) (field w (net .nodes) g 1))))
 
 unfoldable pub nextFan : List ℕ → ℕ → ℕ → ℕ
 nextFan w nodes e = cond (eqb (e % 2) 0) (field w nodes (e / 2) 12) (field w nodes (e / 2) 13)
@@ -60,5 +62,6 @@ unfoldable pub lookedUp : List ℕ → Netlist → State → ℕ → ℕ → Sto
 lookedUp w net s e zero = stood w s
 lookedUp w net s e (suc n) =
     cond (eqb e 0) (stood w s)
-    (cond (eqb (s .clash) 4294967295) (lookedUp (looked w net s (e / 2) .words) net (looked w net s (e / 2) .state) (nextFan w (net .nodes) e) n)
+    (cond (eqb (s .clash) 4294967295) (lookedUp (looked w net s (e / 2) .words) net (looked w net s (e / 2) .state)
+    (nextFan w (net .nodes) e) n)
     (stood w s))

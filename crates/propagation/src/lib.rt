@@ -10,9 +10,9 @@ ghost use Prim.Native.Nat.{_<_};
 ghost use Rattle.trail.specs.Trail as T;
 ghost use Rattle.propagation.specs.Gates as G;
 
-// What the values o of a gate and x, y of its operands imply: 0 nothing; 1, 2 or 3 that the clause of the left operand, of the right one or of
-// both is violated; 4, 5 that the left or right operand is true; 6, 7 that the right or left one is false; 8, 9 that the gate is false because of
-// the left or right one; 10 that it is true.
+// What the values o of a gate and x, y of its operands imply: 0 nothing; 1, 2 or 3 that the clause of the left operand, of the right
+// one or of both is violated; 4, 5 that the left or right operand is true; 6, 7 that the right or left one is false; 8, 9 that the gate
+// is false because of the left or right one; 10 that it is true.
 fn rule(o: u32, x: u32, y: u32) -> u32
     ensures { λ r. ⌜ r ≡ G.rule o x y ⌝ }
 {

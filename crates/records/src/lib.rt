@@ -1,6 +1,6 @@
-// Records of the nodes of a conflict search, 14 words a node, made in place of the records of a graph, 16 words a node. Word 10 of a graph's
-// record is the node's number, or 0 for a gate that is left out; numbers rise with the nodes, and none is larger than its node's place in the
-// graph, so that no record is overwritten before it is moved.
+// Records of the nodes of a conflict search, 14 words a node, made in place of the records of a graph, 16 words a node. Word 10 of a
+// graph's record is the node's number, or 0 for a gate that is left out; numbers rise with the nodes, and none is larger than its
+// node's place in the graph, so that no record is overwritten before it is moved.
 use memory::FACT;
 use memory::FAN;
 use memory::field;

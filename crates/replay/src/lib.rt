@@ -247,7 +247,9 @@ fn judge_copy(
     requires { ⌜ Ready (now m) layout (now order) 4097 ⌝ }
     requires { ⌜ (q .bad < word (now m) 5) × (length (now body) ≤ length (now copy)) ⌝ }
     requires { ⌜ Fits (circuitIn (now m)) (q .bad) (q .frames) (q .eithers) (now body) ⌝ }
-    ensures { λ r. ⌜ SettledJudged (circuitIn (now (m .entry))) (λ i. getD (now (own .entry)) i 2) (q .bad) (q .frames) (now (body .entry)) r ⌝ }
+    ensures { λ r. ⌜
+        SettledJudged (circuitIn (now (m .entry))) (λ i. getD (now (own .entry)) i 2) (q .bad) (q .frames) (now (body .entry)) r
+        ⌝ }
 {
     let end = body.len();
     let rows = pinned_runs::rows_of(layout, q.frames);
@@ -267,7 +269,9 @@ fn judge_settled(
     requires { ⌜ Ready (now m) layout (now order) 4097 ⌝ }
     requires { ⌜ q .bad < word (now m) 5 ⌝ }
     requires { ⌜ Fits (circuitIn (now m)) (q .bad) (q .frames) (q .eithers) (now body) ⌝ }
-    ensures { λ r. ⌜ SettledJudged (circuitIn (now (m .entry))) (λ i. getD (now (own .entry)) i 2) (q .bad) (q .frames) (now (body .entry)) r ⌝ }
+    ensures { λ r. ⌜
+        SettledJudged (circuitIn (now (m .entry))) (λ i. getD (now (own .entry)) i 2) (q .bad) (q .frames) (now (body .entry)) r
+        ⌝ }
 {
     let mut copy = [0u8; 66825];
     judge_copy(m, layout, order, q, own, body, &mut copy)

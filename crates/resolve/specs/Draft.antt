@@ -46,7 +46,8 @@ taken net arena d = 14 * net .nodes + arena .used + 6 * arena .count + d .length
 unfoldable pub appended : List ℕ → Netlist → Arena → Draft → ℕ → Drafted
 appended w net arena d l =
     cond (leb (net .words) (taken net arena d)) (drafted w (draftOf (d .length) false))
-    (drafted (stored (written w (net .nodes) (arena .used) (d .length) l) (net .nodes) (l / 2) 3 (d .length)) (draftOf (d .length + 1) (d .whole)))
+    (drafted (stored (written w (net .nodes) (arena .used) (d .length) l) (net .nodes) (l / 2) 3 (d .length))
+    (draftOf (d .length + 1) (d .whole)))
 
 unfoldable pub included : List ℕ → Netlist → Arena → Draft → ℕ → Drafted
 included w net arena d l =

@@ -1,4 +1,5 @@
--- Places of a support and sequences. Word 10 of a node's record is not 0 where the node leads to the root; free bit j is node j + 1. Assumes nothing.
+-- Places of a support and sequences. Word 10 of a node's record is not 0 where the node leads to the root; free bit j is node j + 1.
+-- Assumes nothing.
 use mathlib.Core.Path.{_≡_}
 use mathlib.Core.Bool.{Bool, cond}
 use mathlib.Core.List.{List}

@@ -1,5 +1,5 @@
-// A sequence as words, one for each of its free bits, and its place among those over the support of a graph's root: with this an enumeration goes
-// on where another search has come to, and its end is told as a sequence.
+// A sequence as words, one for each of its free bits, and its place among those over the support of a graph's root: with this an
+// enumeration goes on where another search has come to, and its end is told as a sequence.
 use nodes::Graph;
 ghost use mathlib.Core.Path.{_≡_};
 ghost use mathlib.Core.Bool.{cond, _&&_};

@@ -22,7 +22,8 @@ known Gate = none
 -- left is the larger operand: a constant operand, equal operands, and opposite operands, of which the conjunction is false
 unfoldable pub basic : ℕ → ℕ → Option ℕ
 basic left right =
-    cond (eqb right 0) (some 0) (cond (eqb right 1) (some left) (cond (eqb left right) (some left) (cond (eqb (nodeOf left) (nodeOf right)) (some 0) none)))
+    cond (eqb right 0) (some 0) (cond (eqb right 1) (some left)
+    (cond (eqb left right) (some left) (cond (eqb (nodeOf left) (nodeOf right)) (some 0) none)))
 
 -- the rules one gate down, where left is the edge of gate p: a with (not a and y) is false, a with not (not a and y) is a, and a with
 -- (a and y) is (a and y)

@@ -23,7 +23,17 @@ ghost use Rattle.waveform.specs.Answer as waveform;
 ghost use Rattle.service.specs.Binary.{BinaryCode};
 ghost use Rattle.service.specs.Waveforms.{WaveformCode};
 ghost use Rattle.service.specs.Codes.{loadCode, searchCode, replayCode, writeCode, shown};
-ghost use Rattle.service.specs.Codes.{LoadCode, PreviewCode, TestCode, SearchCode, ReplayCode, WidenCode, WriteCode, FoldCode, JoinCode};
+ghost use Rattle.service.specs.Codes.{
+  LoadCode,
+  PreviewCode,
+  TestCode,
+  SearchCode,
+  ReplayCode,
+  WidenCode,
+  WriteCode,
+  FoldCode,
+  JoinCode,
+};
 
 // 0 for an accepted load, else the number of the refusal.
 pub fn load_code(answer: LoadAnswer) -> u32
@@ -168,7 +178,9 @@ pub extern "C" fn yunverok_search(
     work: &mut [u32],
     out: &mut [u8],
 ) -> u64
-    ensures { λ r. ⌜ SearchCode (now (memory .entry)) b k d (now (work .entry)) (now (out .entry)) r (now (work .exit)) (now (out .exit)) ⌝ }
+    ensures { λ r. ⌜
+        SearchCode (now (memory .entry)) b k d (now (work .entry)) (now (out .entry)) r (now (work .exit)) (now (out .exit))
+        ⌝ }
 {
     search_code(search::search(memory, b, k, d, work, out))
 }

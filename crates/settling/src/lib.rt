@@ -1,5 +1,5 @@
-// The consequences of the entries of the trail, through gates and kept clauses; and literals of level 0, which are fixed where all other literals
-// of their reasons are false in every hit.
+// The consequences of the entries of the trail, through gates and kept clauses; and literals of level 0, which are fixed where all
+// other literals of their reasons are false in every hit.
 use kept::settle;
 use memory::Arena;
 use memory::FACT;

@@ -65,7 +65,10 @@ fn edge_word(work: &[u32], edge: Edge, f: usize) -> u64
 // The signature of an edge.
 pub fn signature(work: &[u32], edge: Edge) -> u64
     requires { ⌜ 16 * nodeOf (edgeWord edge) + 3 < length (now work) ⌝ }
-    ensures { λ r. ⌜ ((g : Graph) → SignatureStore (now (work .entry)) g → nodeOf (edgeWord edge) < g .nodes → PatternWord (patternValue (g .free) (pairsOf (now (work .entry)) g) (edgeWord edge)) r) ⌝ }
+    ensures { λ r. ⌜
+        ((g : Graph) → SignatureStore (now (work .entry)) g → nodeOf (edgeWord edge) < g .nodes
+        → PatternWord (patternValue (g .free) (pairsOf (now (work .entry)) g) (edgeWord edge)) r)
+        ⌝ }
 {
     edge_word(work, edge, SIGNATURE)
 }
@@ -103,7 +106,10 @@ fn bucket(s: u64, room: usize) -> usize
 // Empties the buckets.
 fn clear_heads(work: &mut [u32], room: usize)
     requires { ⌜ 16 * room ≤ length (now work) ⌝ }
-    ensures { λ r. ⌜ ((h : ℕ) → h < room → field (now (work .exit)) h 7 ≡ 0) × ((i : ℕ) → ((h : ℕ) → h < room → i ≡ 16 * h + 7 → ⊥) → getD (now (work .exit)) i 0 ≡ getD (now (work .entry)) i 0) ⌝ }
+    ensures { λ r. ⌜
+        ((h : ℕ) → h < room → field (now (work .exit)) h 7 ≡ 0) × ((i : ℕ) → ((h : ℕ) → h < room → i ≡ 16 * h + 7 → ⊥)
+        → getD (now (work .exit)) i 0 ≡ getD (now (work .entry)) i 0)
+        ⌝ }
 {
     let mut h = 0;
     while h < room {
@@ -238,7 +244,9 @@ fn gather(work: &mut [u32], g: Graph, s: u64) -> usize
 // Puts edge e after the candidates that are left, if its values are w. Answers how many are left.
 fn keep(work: &mut [u32], left: usize, e: Edge, w: u64) -> usize
     requires { ⌜ (16 * left + 11 < length (now work)) × (16 * nodeOf (edgeWord e) + 9 < length (now work)) × (edgeWord e < 2 ^ 32) ⌝ }
-    ensures { λ r. ⌜ Twin.Pushed (now (work .entry)) (now (work .exit)) left (λ d. (d ≡ edgeWord e) × Twin.HasWord (now (work .entry)) 8 w d) r ⌝ }
+    ensures { λ r. ⌜
+        Twin.Pushed (now (work .entry)) (now (work .exit)) left (λ d. (d ≡ edgeWord e) × Twin.HasWord (now (work .entry)) 8 w d) r
+        ⌝ }
 {
     if words::first_difference(edge_word(work, e, VALUES), w) < 64 {
         return left;

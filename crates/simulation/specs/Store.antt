@@ -84,7 +84,8 @@ pub record Slotted (words : ℕ) (slots : List ℕ) (count : ℕ) : Type 0 where
 pub record SlotsPut (work last slots : List ℕ) (from to block : ℕ) : Type 0 where
   pub kept : Kept work last
   pub new : (k : ℕ) → from ≤ k → k < to → (h q : ℕ) → h < 2 → q < 32 → half last h q (getD slots k 0) ≡ bit (block * 64 + (32 * h + q)) k
-  pub others : (v : ℕ) → ((k : ℕ) → from ≤ k → k < to → getD slots k 0 ≡ v → ⊥) → (h : ℕ) → h < 2 → field last v (2 + h) ≡ field work v (2 + h)
+  pub others : (v : ℕ) → ((k : ℕ) → from ≤ k → k < to → getD slots k 0 ≡ v → ⊥) → (h : ℕ) → h < 2
+      → field last v (2 + h) ≡ field work v (2 + h)
 
 -- node v has taken slot r, if its mark is not 0 and there is such a slot
 pub record Taken (slots last : List ℕ) (r v mark next : ℕ) : Type 0 where
@@ -95,13 +96,16 @@ pub record Taken (slots last : List ℕ) (r v mark next : ℕ) : Type 0 where
 -- where the marked free bits at the positions below from have slots, so have those below to
 abbrev pub SlotsTo : List ℕ → Graph → List ℕ → ℕ → Type 0
 SlotsTo work g slots i =
-    (gs : List Pair) (root : ℕ) → Net gs root work g → (j : ℕ) → j < i → T (support (g .free) gs root j) → rank (support (g .free) gs root) j < 32
+    (gs : List Pair) (root : ℕ) → Net gs root work g → (j : ℕ) → j < i → T (support (g .free) gs root j)
+    → rank (support (g .free) gs root) j < 32
     → getD slots (rank (support (g .free) gs root) j) 0 ≡ g .free - j
 
 pub record SlotsFilled (work : List ℕ) (g : Graph) (slots last : List ℕ) (from to r next : ℕ) : Type 0 where
   pub most : next ≤ to
-  pub next-is : (gs : List Pair) (root : ℕ) → Net gs root work g → r ≡ rank (support (g .free) gs root) from → next ≡ rank (support (g .free) gs root) to
-  pub slots-are : ((gs : List Pair) (root : ℕ) → Net gs root work g → r ≡ rank (support (g .free) gs root) from) → SlotsTo work g slots from → SlotsTo work g last to
+  pub next-is : (gs : List Pair) (root : ℕ) → Net gs root work g → r ≡ rank (support (g .free) gs root) from
+      → next ≡ rank (support (g .free) gs root) to
+  pub slots-are : ((gs : List Pair) (root : ℕ) → Net gs root work g → r ≡ rank (support (g .free) gs root) from)
+      → SlotsTo work g slots from → SlotsTo work g last to
 
 -- node k does not lead to the root, or has no free bit from node low on as an operand
 pub record Unused (work : List ℕ) (k low free : ℕ) : Type 0 where
@@ -160,7 +164,8 @@ pub record Scannable (work : List ℕ) (g : Graph) (root : ℕ) (slots firsts : 
 -- all nodes have their values in the next block, if they had them in the block; r says which of its places hit
 pub record Advanced (work last : List ℕ) (g : Graph) (root block r : ℕ) : Type 0 where
   pub kept : Kept work last
-  pub values : InBlock (g .free) (pairsOf work g) root block work (g .nodes) → InBlock (g .free) (pairsOf work g) root (block + 1) last (g .nodes)
+  pub values : InBlock (g .free) (pairsOf work g) root block work (g .nodes)
+      → InBlock (g .free) (pairsOf work g) root (block + 1) last (g .nodes)
   pub hits : InBlock (g .free) (pairsOf work g) root block work (g .nodes)
       → (p : ℕ) → p < 64 → bit r p ≡ hitAt (g .free) (pairsOf work g) root ((block + 1) * 64 + p)
 

@@ -36,11 +36,13 @@ fn put_bits(work: &mut [u32], nodes: u32, n: u32)
     }
 }
 
-// The first sequence that makes the root true, if the effort is enough: its free bits are left at the front of the words then. Else those of a
-// sequence before which none makes the root true.
+// The first sequence that makes the root true, if the effort is enough: its free bits are left at the front of the words then. Else
+// those of a sequence before which none makes the root true.
 pub fn first_hit(work: &mut [u32], g: Graph, root: Edge, effort: u64) -> Verdict
     requires { ⌜ Marked (now work) g (edgeWord root) ⌝ }
-    ensures { λ r. ⌜ S.SolvedIs (g .free) (pairsOf (now (work .entry)) g) (edgeWord root) (now (work .entry)) effort (now (work .exit)) r ⌝ }
+    ensures { λ r. ⌜
+        S.SolvedIs (g .free) (pairsOf (now (work .entry)) g) (edgeWord root) (now (work .entry)) effort (now (work .exit)) r
+        ⌝ }
 {
     let net = netlist::build(work, g, root);
     let said = conflicts::run(work, net, effort);

@@ -43,8 +43,10 @@ pub record Fits (quota count : ℕ) (records heads : List ℕ) : Type 0 where
 -- what meeting state s does to the number of records, the records and the heads
 pub data Meets (quota count s parent row : ℕ) (records heads : List ℕ) : ℕ → List ℕ → List ℕ → Type 0 where
   lost : quota < count → Meets quota count s parent row records heads count records heads
-  again : count ≤ quota → ((es : List Entry) → Stored records heads es → met s es ≡ true) → Meets quota count s parent row records heads count records heads
+  again : count ≤ quota → ((es : List Entry) → Stored records heads es → met s es ≡ true)
+      → Meets quota count s parent row records heads count records heads
   full : count ≡ quota → ((es : List Entry) → Stored records heads es → met s es ≡ false)
       → Meets quota count s parent row records heads (count + 1) records heads
   added : count < quota → ((es : List Entry) → Stored records heads es → met s es ≡ false)
-      → Meets quota count s parent row records heads (count + 1) (written records count s parent row (getD heads (bucketOf s) 0)) (set heads (bucketOf s) (count + 1))
+      → Meets quota count s parent row records heads (count + 1) (written records count s parent row (getD heads (bucketOf s) 0))
+      (set heads (bucketOf s) (count + 1))

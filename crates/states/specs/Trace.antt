@@ -9,7 +9,9 @@ use Rattle.states.specs.Table.{field, Stored}
 -- record i of the layer of frame t was first met after prefix z
 unfoldable pub Trace : ℕ → List ℕ → ℕ → ℕ → ℕ → Type 0
 Trace rows records zero i z = z ≡ field records i 2
-Trace rows records (suc t) i z = (field records i 1 < i) × (field records i 2 < rows) × ((y : ℕ) × Trace rows records t (field records i 1) y × (z ≡ y * rows + field records i 2))
+Trace rows records (suc t) i z =
+    (field records i 1 < i) × (field records i 2 < rows) × ((y : ℕ) × Trace rows records t (field records i 1) y
+    × (z ≡ y * rows + field records i 2))
 
 -- the records from lo on, below n, are of the layer of frame t, and their traces are the places of the entries
 abbrev pub Placed : ℕ → ℕ → ℕ → ℕ → List ℕ → List Entry → Type 0
@@ -30,4 +32,5 @@ pub record Holds (rows t lo quota count : ℕ) (records heads : List ℕ) (es : 
 -- row `row` of record parent, of the layer before, leads to prefix y; for a start place, row is y
 unfoldable pub Leads : ℕ → List ℕ → ℕ → ℕ → ℕ → ℕ → ℕ → Type 0
 Leads rows records zero count parent row y = y ≡ row
-Leads rows records (suc t) count parent row y = (parent < count) × (row < rows) × ((x : ℕ) × Trace rows records t parent x × (y ≡ x * rows + row))
+Leads rows records (suc t) count parent row y =
+    (parent < count) × (row < rows) × ((x : ℕ) × Trace rows records t parent x × (y ≡ x * rows + row))

@@ -34,7 +34,10 @@ fn known(records: &[u32], heads: &[u32], s: u32) -> bool
 // Adds record `count`, in front of its bucket.
 fn add(records: &mut [u32], heads: &mut [u32], count: usize, s: u32, parent: u32, row: u32)
     requires { ⌜ (4 * count + 4 ≤ length (now records)) × (4096 ≤ length (now heads)) × (count < 4294967295) ⌝ }
-    ensures { λ _. ⌜ (now (records .exit) ≡ written (now (records .entry)) count s parent row (getD (now (heads .entry)) (bucketOf s) 0)) × (now (heads .exit) ≡ set (now (heads .entry)) (bucketOf s) (count + 1)) ⌝ }
+    ensures { λ _. ⌜
+        (now (records .exit) ≡ written (now (records .entry)) count s parent row (getD (now (heads .entry)) (bucketOf s) 0))
+        × (now (heads .exit) ≡ set (now (heads .entry)) (bucketOf s) (count + 1))
+        ⌝ }
 {
     let h = bucket(s);
     let at = 4 * count;
@@ -57,7 +60,9 @@ pub fn meet(
     row: u32,
 ) -> usize
     requires { ⌜ Fits quota count (now records) (now heads) ⌝ }
-    ensures { λ r. ⌜ Meets quota count s parent row (now (records .entry)) (now (heads .entry)) r (now (records .exit)) (now (heads .exit)) ⌝ }
+    ensures { λ r. ⌜
+        Meets quota count s parent row (now (records .entry)) (now (heads .entry)) r (now (records .exit)) (now (heads .exit))
+        ⌝ }
 {
     if quota < count {
         return count;

@@ -69,7 +69,8 @@ fn fill(can: &mut [u8])
 fn put_line(m: &[u32], column: Column, text: &[u8], at: usize, can: &mut [u8])
     requires { ⌜ LineRoom (now m) column (now text) at (length (now can)) ⌝ }
     ensures { λ _. ⌜
-        ((w : ℕ → Bool) → ((i : ℕ) → i < column .count → Allows (getD (now (text .entry)) (at + i) 0) (w (columnVar (now (m .entry)) column i)))
+        ((w : ℕ → Bool) → ((i : ℕ) → i < column .count → Allows (getD (now (text .entry)) (at + i) 0)
+        (w (columnVar (now (m .entry)) column i)))
         → Covers (now (can .entry)) w → Covers (now (can .exit)) w)
         ⌝ }
 {
@@ -144,7 +145,8 @@ fn save_state(m: &[u32], layout: Layout, order: &[u32], can: &[u8], state: &mut 
 fn put_state(m: &[u32], layout: Layout, order: &[u32], state: &[u8], can: &mut [u8])
     requires { ⌜ Ready (now m) layout (now order) 4097 × (8194 ≤ length (now can)) × (2048 ≤ length (now state)) ⌝ }
     ensures { λ _. ⌜
-        ((w : ℕ → Bool) → ((j : ℕ) → j < layout .l → Saved (now (state .entry)) j (w (var (word (now (m .entry)) (layout .latches + 3 * j)))))
+        ((w : ℕ → Bool) → ((j : ℕ) → j < layout .l → Saved (now (state .entry)) j
+        (w (var (word (now (m .entry)) (layout .latches + 3 * j)))))
         → Covers (now (can .entry)) w → Covers (now (can .exit)) w)
         ⌝ }
 {
@@ -179,7 +181,8 @@ fn start_agrees(lit: u32, reset: u32, byte: u8) -> bool
 fn starts_agree(m: &[u32], layout: Layout, order: &[u32], body: &[u8]) -> bool
     requires { ⌜ Ready (now m) layout (now order) 4097 × (layout .l ≤ length (now body)) ⌝ }
     ensures { λ r. ⌜
-        (r ≡ true → (bs : List Bool) → ((j : ℕ) → j < layout .l → Allows (getD (now (body .entry)) j 0) (getD bs j false)) → length bs ≡ layout .l
+        (r ≡ true → (bs : List Bool) → ((j : ℕ) → j < layout .l → Allows (getD (now (body .entry)) j 0) (getD bs j false)) → length bs
+        ≡ layout .l
         → T (agrees (circuitIn (now (m .entry)) .latches) bs))
         ⌝ }
 {
@@ -253,7 +256,8 @@ fn first_frame(m: &[u32], layout: Layout, order: &[u32], body: &[u8], can: &mut 
     requires { ⌜ Ready (now m) layout (now order) 4097 × (8194 ≤ length (now can)) × (layout .l + 1 + layout .i ≤ length (now body)) ⌝ }
     ensures { λ _. ⌜
         ((u : List ℕ) → Completes (now (body .entry)) u → (w : ℕ → Bool)
-        → Valuation (circuitIn (now (m .entry))) (values u (layout .l + 1) (layout .i)) (values u 0 (layout .l)) w → Covers (now (can .exit)) w)
+        → Valuation (circuitIn (now (m .entry))) (values u (layout .l + 1) (layout .i)) (values u 0 (layout .l)) w
+        → Covers (now (can .exit)) w)
         ⌝ }
 {
     fill(can);
@@ -277,7 +281,8 @@ fn next_frame(
     state: &mut [u8],
 )
     requires { ⌜
-        Ready (now m) layout (now order) 4097 × (8194 ≤ length (now can)) × (2048 ≤ length (now state)) × (at + layout .i ≤ length (now body))
+        Ready (now m) layout (now order) 4097 × (8194 ≤ length (now can)) × (2048 ≤ length (now state))
+        × (at + layout .i ≤ length (now body))
         ⌝ }
     ensures { λ _. ⌜
         ((u : List ℕ) → Completes (now (body .entry)) u → (st : List Bool) (v w : ℕ → Bool) → Covers (now (can .entry)) v

@@ -113,7 +113,8 @@ Continues left right m order stack order′ stack′ sp done Cycle = Unit {0}
 
 -- the order is the depth-first one
 abbrev pub Arranged : List ℕ → ℕ → ℕ → List ℕ → List ℕ → Bool → Type 0
-Arranged lits base m table order true = (left right : ℕ → Option ℕ) → Operands lits base m table left right → take m order ≡ placedFrom left right m 0 m []
+Arranged lits base m table order true =
+    (left right : ℕ → Option ℕ) → Operands lits base m table left right → take m order ≡ placedFrom left right m 0 m []
 Arranged lits base m table order false = Unit {0}
 
 -- cause 8 does not refuse, and there is an order of evaluation; or it does

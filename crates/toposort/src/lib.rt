@@ -70,7 +70,10 @@ fn operand(lits: &[u32], table: &[u32], pos: &[u32], base: usize, m: usize, g: u
     requires { ⌜ Linked (now lits) base m (now table) ⌝ }
     requires { ⌜ m ≤ length (now pos) ⌝ }
     requires { ⌜ g < m ⌝ }
-    ensures { λ r. ⌜ OperandOf (now (lits .entry)) m (now (pos .entry)) g r × ((left right : ℕ → Option ℕ) → Operands (now (lits .entry)) base m (now (table .entry)) left right → Next m (now (pos .entry)) (left g) (right g) r) ⌝ }
+    ensures { λ r. ⌜
+        OperandOf (now (lits .entry)) m (now (pos .entry)) g r × ((left right : ℕ → Option ℕ)
+        → Operands (now (lits .entry)) base m (now (table .entry)) left right → Next m (now (pos .entry)) (left g) (right g) r)
+        ⌝ }
 {
     let left = Lit::from_word(lits[3 * g + 1]).var();
     let right = Lit::from_word(lits[3 * g + 2]).var();
@@ -113,10 +116,12 @@ fn advance(
     requires { ⌜ Search (now lits) (gates .m) (now pos) (now order) (now stack) (at .sp) (at .done) ⌝ }
     requires { ⌜ 0 < at .sp ⌝ }
     ensures { λ r. ⌜
-        Stepped (now (lits .entry)) (gates .m) (now (pos .entry)) (now (pos .exit)) (now (order .exit)) (now (stack .exit)) (at .sp) (at .done) r
+        Stepped (now (lits .entry)) (gates .m) (now (pos .entry)) (now (pos .exit)) (now (order .exit)) (now (stack .exit)) (at .sp)
+        (at .done) r
         × ((left right : ℕ → Option ℕ)
         → Operands (now (lits .entry)) (gates .base) (gates .m) (now (table .entry)) left right
-        → Continues left right (gates .m) (now (order .entry)) (now (stack .entry)) (now (order .exit)) (now (stack .exit)) (at .sp) (at .done) r)
+        → Continues left right (gates .m) (now (order .entry)) (now (stack .entry)) (now (order .exit)) (now (stack .exit)) (at .sp)
+        (at .done) r)
         ⌝ }
 {
     let base = gates.base;
@@ -150,7 +155,10 @@ fn sort(
     requires { ⌜ Linked (now lits) base m (now table) ⌝ }
     requires { ⌜ (m ≤ length (now pos)) × (m ≤ length (now order)) × (m ≤ length (now stack)) ⌝ }
     requires { ⌜ ((g : ℕ) → g < m → getD (now pos) g 0 ≡ 0) ⌝ }
-    ensures { λ r. ⌜ Answered (now (lits .entry)) m (now (pos .exit)) (now (order .exit)) r × Arranged (now (lits .entry)) base m (now (table .entry)) (now (order .exit)) r ⌝ }
+    ensures { λ r. ⌜
+        Answered (now (lits .entry)) m (now (pos .exit)) (now (order .exit)) r
+        × Arranged (now (lits .entry)) base m (now (table .entry)) (now (order .exit)) r
+        ⌝ }
 {
     let mut s = 0;
     let mut sp = 0;

@@ -12,7 +12,9 @@ ghost use Rattle.traces.specs.Digits.{Digits};
 pub fn walk(records: &[u32], t: usize, e: usize, row: usize, trace: &mut [u32])
     requires { ⌜ (t ≤ 255) × (257 ≤ length (now trace)) × (row < 4294967296) × (4 * e + 4 ≤ length (now records)) ⌝ }
     requires { ⌜ ((rows : ℕ) × (y : ℕ) × (row < rows) × Trace rows (now records) t e y) ⌝ }
-    ensures { λ _. ⌜ ((rows y : ℕ) → Trace rows (now (records .entry)) t e y → row < rows → Digits rows (now (trace .exit)) (suc t) (y * rows + row)) ⌝ }
+    ensures { λ _. ⌜
+        ((rows y : ℕ) → Trace rows (now (records .entry)) t e y → row < rows → Digits rows (now (trace .exit)) (suc t) (y * rows + row))
+        ⌝ }
 {
     trace[t + 1] = row as u32;
     let mut i = e;
@@ -29,7 +31,10 @@ pub fn walk(records: &[u32], t: usize, e: usize, row: usize, trace: &mut [u32])
 // Free bit j of the sequence whose start place and rows are in trace.
 fn free_bit(trace: &[u32], free: usize, width: usize, j: usize) -> u32
     requires { ⌜ (257 ≤ length (now trace)) × (free ≤ 16) × (width ≤ 16) × (j < free + width * 256) ⌝ }
-    ensures { λ r. ⌜ ((t x : ℕ) → Digits (2 ^ width) (now (trace .entry)) (suc t) x → j < free + width * (t + 1) → nonzero r ≡ freeBit (free + width * (t + 1)) x j) ⌝ }
+    ensures { λ r. ⌜
+        ((t x : ℕ) → Digits (2 ^ width) (now (trace .entry)) (suc t) x → j < free + width * (t + 1) → nonzero r
+        ≡ freeBit (free + width * (t + 1)) x j)
+        ⌝ }
 {
     if j < free {
         return (trace[0] >> (free - 1 - j)) % 2;
@@ -42,7 +47,9 @@ fn free_bit(trace: &[u32], free: usize, width: usize, j: usize) -> u32
 // Writes the first n free bits.
 pub fn put_trace(trace: &[u32], free: usize, width: usize, n: usize, work: &mut [u32])
     requires { ⌜ (257 ≤ length (now trace)) × (free ≤ 16) × (width ≤ 16) × (n ≤ free + width * 256) × (n ≤ length (now work)) ⌝ }
-    ensures { λ _. ⌜ ((t x : ℕ) → Digits (2 ^ width) (now (trace .entry)) (suc t) x → n ≡ free + width * (t + 1) → FreeBits n x (now (work .exit))) ⌝ }
+    ensures { λ _. ⌜
+        ((t x : ℕ) → Digits (2 ^ width) (now (trace .entry)) (suc t) x → n ≡ free + width * (t + 1) → FreeBits n x (now (work .exit)))
+        ⌝ }
 {
     let mut j = 0;
     while j < n {

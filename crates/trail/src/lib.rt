@@ -9,8 +9,9 @@ use memory::set_field;
 ghost use mathlib.Core.Path.{_≡_};
 ghost use Rattle.trail.specs.Trail as S;
 
-// Where a search stands: the length of its trail, the first entry whose consequences are not known yet, the level of decisions, the work done
-// so far, the violated clause as a reason or 4294967295, and, while clauses that watch a literal are visited, the clause and what led to it.
+// Where a search stands: the length of its trail, the first entry whose consequences are not known yet, the level of decisions, the
+// work done so far, the violated clause as a reason or 4294967295, and, while clauses that watch a literal are visited, the clause and
+// what led to it.
 pub struct State {
     pub length: u32,
     pub next: u32,

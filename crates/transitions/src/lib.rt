@@ -26,7 +26,10 @@ fn put_latches(m: &[u32], layout: Layout, s: u32, values: &mut [u64], kept: &[u3
     requires { ⌜ Holds (now m) (circuitIn (now m)) ⌝ }
     requires { ⌜ LayoutOf (now m) layout ⌝ }
     requires { ⌜ (word (now m) 0 < length (now values)) × Listed (partIn (now m) (now kept)) × (length (now kept) ≤ 32) ⌝ }
-    ensures { λ _. ⌜ Given (λ i. var (latchAt (circuitIn (now (m .entry))) (getD (now (kept .entry)) i 0) .lit)) (λ i p. bit s i) (length (now (kept .entry))) (now (values .entry)) (now (values .exit)) ⌝ }
+    ensures { λ _. ⌜
+        Given (λ i. var (latchAt (circuitIn (now (m .entry))) (getD (now (kept .entry)) i 0) .lit)) (λ i p. bit s i)
+        (length (now (kept .entry))) (now (values .entry)) (now (values .exit))
+        ⌝ }
 {
     let latches = layout.latches;
     let count = kept.len();
@@ -52,7 +55,9 @@ pub fn eval_rows(
 )
     requires { ⌜ Ready (now m) layout (now order) (length (now values)) ⌝ }
     requires { ⌜ Listed (partIn (now m) (now kept)) × (length (now kept) ≤ 32) ⌝ }
-    ensures { λ _. ⌜ ((p : ℕ) → p < 64 → ValuedIn (partIn (now (m .entry)) (now (kept .entry))) s (block * 64 + p) (lane (now (values .exit)) p)) ⌝ }
+    ensures { λ _. ⌜
+        ((p : ℕ) → p < 64 → ValuedIn (partIn (now (m .entry)) (now (kept .entry))) s (block * 64 + p) (lane (now (values .exit)) p))
+        ⌝ }
 {
     let inputs = layout.i;
     values[0] = 0;
@@ -91,7 +96,10 @@ fn start_words(m: &[u32], layout: Layout, y: u64, state: &mut [u64])
     requires { ⌜ Holds (now m) (circuitIn (now m)) ⌝ }
     requires { ⌜ LayoutOf (now m) layout ⌝ }
     requires { ⌜ (layout .u ≤ 16) × (1024 ≤ length (now state)) ⌝ }
-    ensures { λ _. ⌜ ((j : ℕ) → j < layout .l → getD (now (state .exit)) j 0 ≡ cond (startBit (circuitIn (now (m .entry))) (freeStarts (circuitIn (now (m .entry)))) y j) 1 0) ⌝ }
+    ensures { λ _. ⌜
+        ((j : ℕ) → j < layout .l → getD (now (state .exit)) j 0 ≡ cond
+        (startBit (circuitIn (now (m .entry))) (freeStarts (circuitIn (now (m .entry)))) y j) 1 0)
+        ⌝ }
 {
     let latches = layout.latches;
     let mut left: u32 = 0;

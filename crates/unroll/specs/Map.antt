@@ -103,7 +103,8 @@ pub record GateMapped (gate : Gate) (n : ℕ) (work : List ℕ) (g : Graph) (map
 pub record GatesMapped (c : Circuit) (n : ℕ) (work : List ℕ) (g : Graph) (map last : List ℕ) (h : Graph) (after : List ℕ) : Type 0 where
   pub grown : Grown n (length (c .gates)) work g last h
   pub edges : Edges h after
-  pub values : (x : ℕ) → x < 2 ^ n → (row st : List Bool) → Leaves c row st (mapped n work g map x) → Valuation c row st (mapped n last h after x)
+  pub values : (x : ℕ) → x < 2 ^ n → (row st : List Bool) → Leaves c row st (mapped n work g map x)
+      → Valuation c row st (mapped n last h after x)
   pub follows : (s : Mapping) → Agrees s work g map → Agrees (gatesMade c n (length (c .gates)) s) last h after
 
 -- frame 0
@@ -114,7 +115,8 @@ pub record FirstMapped (c : Circuit) (n : ℕ) (work : List ℕ) (g : Graph) (la
   pub follows : pairsOf work g ≡ [] → Agrees (firstMade c n) last h after
 
 -- the frame after u, where its first input has free bit `first`
-pub record NextMapped (c : Circuit) (n first : ℕ) (work : List ℕ) (g : Graph) (map last : List ℕ) (h : Graph) (after : List ℕ) : Type 0 where
+pub record NextMapped (c : Circuit) (n first : ℕ) (work : List ℕ) (g : Graph) (map last : List ℕ) (h : Graph) (after : List ℕ)
+    : Type 0 where
   pub grown : Grown n (length (c .gates)) work g last h
   pub edges : Edges h after
   pub values : (t u : ℕ) → n ≡ freeBits c t → u < t → first ≡ freeStarts c + length (c .inputs) * (u + 1) → Valued c t u n work g map
@@ -122,7 +124,8 @@ pub record NextMapped (c : Circuit) (n first : ℕ) (work : List ℕ) (g : Graph
   pub follows : (s : Mapping) → Agrees s work g map → Agrees (nextMade c n first s) last h after
 
 -- the conjunction of edge `from` and the constraints
-pub record ConstrainedMapped (c : Circuit) (from : Edge) (n : ℕ) (work : List ℕ) (g : Graph) (map last : List ℕ) (made : Made) : Type 0 where
+pub record ConstrainedMapped (c : Circuit) (from : Edge) (n : ℕ) (work : List ℕ) (g : Graph) (map last : List ℕ) (made : Made)
+    : Type 0 where
   pub grown : Grown n (length (c .constraints)) work g last (made .graph)
   pub node : made .edge .0 .0 < made .graph .nodes
   pub left : (x : ℕ) → x < 2 ^ n
@@ -161,7 +164,8 @@ pub record HitMapped (c : Circuit) (b n : ℕ) (work : List ℕ) (before : Made)
   pub node : made .edge .0 .0 < made .graph .nodes
   pub hit : (x : ℕ) → x < 2 ^ n
       → edgeValue n (pairsOf last (made .graph)) (freeBit n x) (edgeWord (made .edge))
-      ≡ (edgeValue n (pairsOf work (before .graph)) (freeBit n x) (edgeWord (before .edge)) && badIn c b (mapped n work (before .graph) map x))
+      ≡ (edgeValue n (pairsOf work (before .graph)) (freeBit n x) (edgeWord (before .edge))
+      && badIn c b (mapped n work (before .graph) map x))
   pub follows : (s : Mapping) → Agrees s work (before .graph) map
       → conjoin n (s .gates) (edgeWord (before .edge)) (literalIn (s .edges) (getD (c .bads) b 0))
       ≡ record { gates = pairsOf last (made .graph); edge = edgeWord (made .edge) }

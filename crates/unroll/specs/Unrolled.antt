@@ -32,6 +32,7 @@ pub record Unrolled (c : Circuit) (b t : ℕ) (work : List ℕ) (room : ℕ) (ma
   pub free : made .graph .free ≡ freeBits c t
   pub room-is : made .graph .room ≡ room
   pub node : made .edge .0 .0 < made .graph .nodes
-  pub hit : (x : ℕ) → x < 2 ^ freeBits c t → edgeValue (freeBits c t) (pairsOf work (made .graph)) (freeBit (freeBits c t) x) (edgeWord (made .edge)) ≡ reaches c b t x
+  pub hit : (x : ℕ) → x < 2 ^ freeBits c t
+      → edgeValue (freeBits c t) (pairsOf work (made .graph)) (freeBit (freeBits c t) x) (edgeWord (made .edge)) ≡ reaches c b t x
   -- of the graphs with such an edge it is the one that the circuit, b and t alone say
   pub chosen : unrolled c b t ≡ record { gates = pairsOf work (made .graph); edge = edgeWord (made .edge) }

@@ -16,8 +16,31 @@ ghost use Rattle.nodes.specs.Edges.{edgeWord};
 ghost use Rattle.literals.specs.Literal.{wordOf};
 ghost use Rattle.layout.specs.Words.{word, gateIn, circuitIn};
 ghost use Rattle.frames.specs.Lanes.{Ready, GateRoom};
-ghost use Rattle.unroll.specs.Map.{literalEdge, freeEdge, startEdge, Prepared, Written, latchVar, inputVar, startWord, nextWord, inputWord};
-ghost use Rattle.unroll.specs.Map.{Extensible, GateMapped, GatesMapped, FirstMapped, NextMapped, ConstrainedMapped, Framed, FrameNext, HitMapped, FirstFits, FramesFit};
+ghost use Rattle.unroll.specs.Map.{
+  literalEdge,
+  freeEdge,
+  startEdge,
+  Prepared,
+  Written,
+  latchVar,
+  inputVar,
+  startWord,
+  nextWord,
+  inputWord,
+};
+ghost use Rattle.unroll.specs.Map.{
+  Extensible,
+  GateMapped,
+  GatesMapped,
+  FirstMapped,
+  NextMapped,
+  ConstrainedMapped,
+  Framed,
+  FrameNext,
+  HitMapped,
+  FirstFits,
+  FramesFit,
+};
 ghost use Rattle.unroll.specs.Unrolled.{UnrollFits, Unrolled};
 
 // The edge of a literal.
@@ -65,7 +88,10 @@ fn start_edge(lit: Lit, reset: Lit, next: usize) -> Edge
 // Gives each latch the edge of its start.
 fn put_starts(m: &[u32], layout: Layout, map: &mut [u32])
     requires { ⌜ Prepared (now m) layout (length (now map)) ⌝ }
-    ensures { λ _. ⌜ Written (latchVar (now (m .entry)) (layout .latches)) (startWord (now (m .entry)) (layout .latches)) (layout .l) (now (map .entry)) (now (map .exit)) ⌝ }
+    ensures { λ _. ⌜
+        Written (latchVar (now (m .entry)) (layout .latches)) (startWord (now (m .entry)) (layout .latches)) (layout .l)
+        (now (map .entry)) (now (map .exit))
+        ⌝ }
 {
     let count = layout.l;
     let latches = layout.latches;
@@ -99,7 +125,10 @@ fn put_inputs(m: &[u32], layout: Layout, first: usize, map: &mut [u32])
 fn put_gate(work: &mut [u32], g: Graph, m: &[u32], at: usize, map: &mut [u32]) -> Graph
     requires { ⌜ GateRoom (now m) at (length (now map)) ⌝ }
     requires { ⌜ Extensible 1 (now work) g (now map) ⌝ }
-    ensures { λ r. ⌜ GateMapped (gateIn (now (m .entry)) at) (g .free) (now (work .entry)) g (now (map .entry)) (now (work .exit)) r (now (map .exit)) ⌝ }
+    ensures { λ r. ⌜
+        GateMapped (gateIn (now (m .entry)) at) (g .free) (now (work .entry)) g (now (map .entry)) (now (work .exit)) r
+        (now (map .exit))
+        ⌝ }
 {
     let l = Lit::from_word(m[at]);
     let a = edge_of(map, Lit::from_word(m[at + 1]));
@@ -121,7 +150,10 @@ fn put_gates(
 ) -> Graph
     requires { ⌜ Ready (now m) layout (now order) (length (now map)) ⌝ }
     requires { ⌜ Extensible (layout .a) (now work) g (now map) ⌝ }
-    ensures { λ r. ⌜ GatesMapped (circuitIn (now (m .entry))) (g .free) (now (work .entry)) g (now (map .entry)) (now (work .exit)) r (now (map .exit)) ⌝ }
+    ensures { λ r. ⌜
+        GatesMapped (circuitIn (now (m .entry))) (g .free) (now (work .entry)) g (now (map .entry)) (now (work .exit)) r
+        (now (map .exit))
+        ⌝ }
 {
     let count = layout.a;
     let gates = layout.gates;
@@ -139,7 +171,9 @@ fn put_gates(
 fn next_state(m: &[u32], layout: Layout, map: &[u32], state: &mut [u32])
     requires { ⌜ Prepared (now m) layout (length (now map)) ⌝ }
     requires { ⌜ 1024 ≤ length (now state) ⌝ }
-    ensures { λ _. ⌜ ((j : ℕ) → j < layout .l → getD (now (state .exit)) j 0 ≡ nextWord (now (m .entry)) (layout .latches) (now (map .entry)) j) ⌝ }
+    ensures { λ _. ⌜
+        ((j : ℕ) → j < layout .l → getD (now (state .exit)) j 0 ≡ nextWord (now (m .entry)) (layout .latches) (now (map .entry)) j)
+        ⌝ }
 {
     let count = layout.l;
     let latches = layout.latches;
@@ -155,7 +189,10 @@ fn next_state(m: &[u32], layout: Layout, map: &[u32], state: &mut [u32])
 fn put_state(m: &[u32], layout: Layout, state: &[u32], map: &mut [u32])
     requires { ⌜ Prepared (now m) layout (length (now map)) ⌝ }
     requires { ⌜ 1024 ≤ length (now state) ⌝ }
-    ensures { λ _. ⌜ Written (latchVar (now (m .entry)) (layout .latches)) (λ j. getD (now (state .entry)) j 0) (layout .l) (now (map .entry)) (now (map .exit)) ⌝ }
+    ensures { λ _. ⌜
+        Written (latchVar (now (m .entry)) (layout .latches)) (λ j. getD (now (state .entry)) j 0) (layout .l) (now (map .entry))
+        (now (map .exit))
+        ⌝ }
 {
     let count = layout.l;
     let latches = layout.latches;
@@ -200,7 +237,10 @@ fn put_next(
     requires { ⌜ Ready (now m) layout (now order) (length (now map)) ⌝ }
     requires { ⌜ Extensible (layout .a) (now work) g (now map) ⌝ }
     requires { ⌜ (first + layout .i ≤ g .free) × (1024 ≤ length (now state)) ⌝ }
-    ensures { λ r. ⌜ NextMapped (circuitIn (now (m .entry))) (g .free) first (now (work .entry)) g (now (map .entry)) (now (work .exit)) r (now (map .exit)) ⌝ }
+    ensures { λ r. ⌜
+        NextMapped (circuitIn (now (m .entry))) (g .free) first (now (work .entry)) g (now (map .entry)) (now (work .exit)) r
+        (now (map .exit))
+        ⌝ }
 {
     next_state(m, layout, map, state);
     put_state(m, layout, state, map);
@@ -213,7 +253,9 @@ fn constrain(work: &mut [u32], g: Graph, m: &[u32], layout: Layout, from: Edge, 
     requires { ⌜ Prepared (now m) layout (length (now map)) ⌝ }
     requires { ⌜ Extensible (layout .c) (now work) g (now map) ⌝ }
     requires { ⌜ from .0 .0 < g .nodes ⌝ }
-    ensures { λ r. ⌜ ConstrainedMapped (circuitIn (now (m .entry))) from (g .free) (now (work .entry)) g (now (map .entry)) (now (work .exit)) r ⌝ }
+    ensures { λ r. ⌜
+        ConstrainedMapped (circuitIn (now (m .entry))) from (g .free) (now (work .entry)) g (now (map .entry)) (now (work .exit)) r
+        ⌝ }
 {
     let count = layout.c;
     let constraints = layout.constraints;
@@ -242,7 +284,10 @@ fn first_frame(
 ) -> Made
     requires { ⌜ Ready (now m) layout (now order) (length (now map)) ⌝ }
     requires { ⌜ FirstFits (now m) layout starts (now work) g (now map) ⌝ }
-    ensures { λ r. ⌜ (pairsOf (now (work .entry)) g ≡ [] → (t : ℕ) → Framed (circuitIn (now (m .entry))) t 0 (g .free) (g .room) (now (work .exit)) r (now (map .exit))) ⌝ }
+    ensures { λ r. ⌜
+        (pairsOf (now (work .entry)) g ≡ [] → (t : ℕ) → Framed (circuitIn (now (m .entry))) t 0 (g .free) (g .room) (now (work .exit)) r
+        (now (map .exit)))
+        ⌝ }
 {
     let graph = put_first(work, g, m, layout, order, starts, map);
     constrain(work, graph, m, layout, Edge(Node(0), true), map)
@@ -262,7 +307,10 @@ fn next_frame(
     requires { ⌜ Ready (now m) layout (now order) (length (now map)) ⌝ }
     requires { ⌜ Extensible (layout .a + layout .c) (now work) (before .graph) (now map) ⌝ }
     requires { ⌜ (before .edge .0 .0 < before .graph .nodes) × (first + layout .i ≤ before .graph .free) × (1024 ≤ length (now state)) ⌝ }
-    ensures { λ r. ⌜ FrameNext (circuitIn (now (m .entry))) first (now (work .entry)) before (now (map .entry)) (now (work .exit)) r (now (map .exit)) ⌝ }
+    ensures { λ r. ⌜
+        FrameNext (circuitIn (now (m .entry))) first (now (work .entry)) before (now (map .entry)) (now (work .exit)) r
+        (now (map .exit))
+        ⌝ }
 {
     let graph = put_next(work, before.graph, m, layout, order, first, map, state);
     constrain(work, graph, m, layout, before.edge, map)
@@ -283,7 +331,9 @@ fn put_frames(
     requires { ⌜ Ready (now m) layout (now order) (length (now map)) ⌝ }
     requires { ⌜ FramesFit (now m) layout t starts (now work) first (now map) ⌝ }
     requires { ⌜ 1024 ≤ length (now state) ⌝ }
-    ensures { λ r. ⌜ Framed (circuitIn (now (m .entry))) t t (first .graph .free) (first .graph .room) (now (work .exit)) r (now (map .exit)) ⌝ }
+    ensures { λ r. ⌜
+        Framed (circuitIn (now (m .entry))) t t (first .graph .free) (first .graph .room) (now (work .exit)) r (now (map .exit))
+        ⌝ }
 {
     let inputs = layout.i;
     let mut made = first;
@@ -316,7 +366,10 @@ fn hit_edge(
     requires { ⌜ Prepared (now m) layout (length (now map)) ⌝ }
     requires { ⌜ Extensible 1 (now work) (frames .graph) (now map) ⌝ }
     requires { ⌜ (frames .edge .0 .0 < frames .graph .nodes) × (b < word (now m) 5) ⌝ }
-    ensures { λ r. ⌜ HitMapped (circuitIn (now (m .entry))) b (frames .graph .free) (now (work .entry)) frames (now (map .entry)) (now (work .exit)) r ⌝ }
+    ensures { λ r. ⌜
+        HitMapped (circuitIn (now (m .entry))) b (frames .graph .free) (now (work .entry)) frames (now (map .entry)) (now (work .exit))
+        r
+        ⌝ }
 {
     let bads = layout.bads;
     let e = edge_of(map, Lit::from_word(m[bads + b]));

@@ -11,12 +11,14 @@ use Rattle.aiger.specs.Operations.{Loaded, Operated, Test, need}
 use Rattle.user_calls.specs.declared.PinAnswer.{PinAnswer}
 use Rattle.user_calls.specs.declared.PinAnswer.the-variants.{Set, Refused}
 
--- a call that replaces the shared circuit, where `answers` says what it answers to user 0 and what it leaves of the circuit memory: 18 for any other
--- user, tested first; a refusal leaves all pins; where the circuit is replaced all are freed
-pub data Replaced (user : ℕ) (m pins : List ℕ) (answers : Answer (List ℕ) → List ℕ → Type 0) : Answer (List ℕ) → List ℕ → List ℕ → Type 0 where
+-- a call that replaces the shared circuit, where `answers` says what it answers to user 0 and what it leaves of the circuit memory: 18
+-- for any other user, tested first; a refusal leaves all pins; where the circuit is replaced all are freed
+pub data Replaced (user : ℕ) (m pins : List ℕ) (answers : Answer (List ℕ) → List ℕ → Type 0) : Answer (List ℕ) → List ℕ → List ℕ
+    → Type 0 where
   stranger : 0 < user → Replaced user m pins answers (refused 18) m pins
   refuses : {n : ℕ} {m′ : List ℕ} → user ≡ 0 → answers (refused n) m′ → Replaced user m pins answers (refused n) m′ pins
-  stores : {counts m′ : List ℕ} → user ≡ 0 → answers (gives counts) m′ → Replaced user m pins answers (gives counts) m′ (replicate (length pins) 2)
+  stores : {counts m′ : List ℕ} → user ≡ 0 → answers (gives counts) m′
+      → Replaced user m pins answers (gives counts) m′ (replicate (length pins) 2)
 
 abbrev pub UserLoaded : List ℕ → List ℕ → List ℕ → ℕ → Answer (List ℕ) → List ℕ → List ℕ → Type 0
 UserLoaded m f pins user a m′ pins′ = Replaced user m pins (Loaded m f) a m′ pins′

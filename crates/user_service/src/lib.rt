@@ -67,7 +67,8 @@ pub extern "C" fn yunverok_user_search(
     ensures { λ r. ⌜
         Coded
         (λ a.
-        PinnedSearched chosen (now (memory .entry)) (now (pins .entry)) user b k d (now (work .entry)) (now (out .entry)) a (now (work .exit))
+        PinnedSearched chosen (now (memory .entry)) (now (pins .entry)) user b k d (now (work .entry)) (now (out .entry)) a
+        (now (work .exit))
         (now (out .exit)))
         searchCode r
         ⌝ }
@@ -89,7 +90,8 @@ pub extern "C" fn yunverok_user_fold(
     ensures { λ r. ⌜
         Coded
         (λ a.
-        PinnedFolded fold.chosen (now (memory .entry)) (now (pins .entry)) user b t (now (work .entry)) (now (out .entry)) a (now (work .exit))
+        PinnedFolded fold.chosen (now (memory .entry)) (now (pins .entry)) user b t (now (work .entry)) (now (out .entry)) a
+        (now (work .exit))
         (now (out .exit)))
         writeCode r
         ⌝ }

@@ -29,7 +29,8 @@ pub record PinnedSearchEffect (chosen : Circuit → ℕ → ℕ → ℕ → Outc
   pub shows : left .1 ≡ pinnedShown c q b o out
 
 -- the tests are those of the circuit itself, so that size and output needed do not depend on pins
-abbrev pub PinnedSearched : (Circuit → ℕ → ℕ → ℕ → Outcome) → List ℕ → List ℕ → ℕ → ℕ → ℕ → ℕ → List ℕ → List ℕ → Answer Outcome → List ℕ → List ℕ → Type 0
+abbrev pub PinnedSearched : (Circuit → ℕ → ℕ → ℕ → Outcome) → List ℕ → List ℕ → ℕ → ℕ → ℕ → ℕ → List ℕ → List ℕ → Answer Outcome
+    → List ℕ → List ℕ → Type 0
 PinnedSearched chosen m pins user b k D w out a w′ out′ =
     ForUser user (w, out)
     (Operated m (λ c. searchTests c b k D (length w) (length out)) (w, out) (PinnedSearchEffect chosen (pinsOf pins user) b k D out))

@@ -25,7 +25,8 @@ literals c = c .inputs ++ (map (λ l. l .lit) (c .latches) ++ (c .outputs ++ (c 
 -- name and literal of wire k
 abbrev pub nameAt : Circuit → ℕ → Name
 nameAt c k =
-    getD (names (length (c .inputs)) (length (c .latches)) (length (c .outputs)) (length (c .bads)) (length (c .constraints))) k (nameOf 0 0)
+    getD (names (length (c .inputs)) (length (c .latches)) (length (c .outputs)) (length (c .bads)) (length (c .constraints))) k
+    (nameOf 0 0)
 
 abbrev pub literalAt : Circuit → ℕ → ℕ
 literalAt c k = getD (literals c) k 0

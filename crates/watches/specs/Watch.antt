@@ -71,7 +71,8 @@ clashed t why =
 
 unfoldable pub closed : List ℕ → Netlist → State → ℕ → ℕ → Stood
 closed w net t o s =
-    cond (eqb (value w (net .nodes) o) 0) (stood w (clashed t (4 * t .clause + 3))) (assigned w net (passed w (net .words) t s) o (4 * t .clause + 3))
+    cond (eqb (value w (net .nodes) o) 0) (stood w (clashed t (4 * t .clause + 3)))
+    (assigned w net (passed w (net .words) t s) o (4 * t .clause + 3))
 
 -- by the other literal o that the clause watches, and by the literal x that it may watch instead
 unfoldable pub chosen : List ℕ → Netlist → Arena → State → ℕ → ℕ → ℕ → ℕ → Stood

@@ -1,4 +1,5 @@
-// Kept clauses that watch a literal which has become false: each finds another literal to watch, implies its other watched literal, or is violated.
+// Kept clauses that watch a literal which has become false: each finds another literal to watch, implies its other watched literal, or
+// is violated.
 use kept::attach;
 use memory::Arena;
 use memory::Netlist;

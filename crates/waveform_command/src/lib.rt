@@ -36,7 +36,8 @@ pub fn waveform(
 ) -> Report
     requires { ⌜ (length (now m) ≡ 33032) × (length (now out) ≡ 1572928) × (128 ≤ length (now line)) ⌝ }
     ensures leaves { λ r. ⌜
-        Leaves (waveformReply (now (file .entry)) only (now (witness .entry))) (now (line .entry)) (now (out .entry)) r (now (line .exit)) (now (out .exit))
+        Leaves (waveformReply (now (file .entry)) only (now (witness .entry))) (now (line .entry)) (now (out .entry)) r
+        (now (line .exit)) (now (out .exit))
         ⌝ }
     ensures memory { λ _. ⌜ now (m .exit) ≡ loadedWords (now (m .entry)) (now (file .entry)) ⌝ }
 {

@@ -29,7 +29,8 @@ fn widen_loaded(m: &[u32], witness: &[u8], out: &mut [u8], line: &mut [u8]) -> R
 pub fn widen(file: &[u8], witness: &[u8], m: &mut [u32], out: &mut [u8], line: &mut [u8]) -> Report
     requires { ⌜ (length (now m) ≡ 33032) × (length (now out) ≡ 66826) × (128 ≤ length (now line)) ⌝ }
     ensures leaves { λ r. ⌜
-        Leaves (widenReply (now (file .entry)) (now (witness .entry))) (now (line .entry)) (now (out .entry)) r (now (line .exit)) (now (out .exit))
+        Leaves (widenReply (now (file .entry)) (now (witness .entry))) (now (line .entry)) (now (out .entry)) r (now (line .exit))
+        (now (out .exit))
         ⌝ }
     ensures memory { λ _. ⌜ now (m .exit) ≡ loadedWords (now (m .entry)) (now (file .entry)) ⌝ }
 {

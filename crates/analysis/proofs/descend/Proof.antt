@@ -32,9 +32,6 @@ returns c =
 sub-left : tie.Need-sub-left Inv-loop μ-loop
 sub-left c = omega arith
 
-visit-requires : tie.Need-visit-requires Inv-loop μ-loop
-visit-requires c κs = search needs
-
 loop-less : tie.Need-loop-less Inv-loop μ-loop
 loop-less c = omega arith
 
@@ -61,14 +58,4 @@ pub descend-spec : {M : Type 1} → statement M
 descend-spec =
     tie.close
     (tie.spec
-    Inv-loop
-    μ-loop
-    loop-holds
-    same-length
-    returns
-    sub-left
-    visit-requires
-    loop-less
-    loop-again
-    same-length-2
-    returns-2)
+    Inv-loop μ-loop loop-holds same-length returns sub-left (λ c κs. search needs) loop-less loop-again same-length-2 returns-2)

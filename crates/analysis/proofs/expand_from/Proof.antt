@@ -22,9 +22,6 @@ loop-holds c = (refl, refl)
 sub-left : tie.Need-sub-left Inv-loop μ-loop
 sub-left c = omega arith
 
-expand-requires : tie.Need-expand-requires Inv-loop μ-loop
-expand-requires c κs = search needs
-
 loop-less : tie.Need-loop-less Inv-loop μ-loop
 loop-less c = omega arith
 
@@ -51,12 +48,4 @@ pub expand-from-spec : {M : Type 1} → statement M
 expand-from-spec =
     tie.close
     (tie.spec
-    Inv-loop
-    μ-loop
-    loop-holds
-    sub-left
-    expand-requires
-    loop-less
-    loop-again
-    same-length
-    returns)
+    Inv-loop μ-loop loop-holds sub-left (λ c κs. search needs) loop-less loop-again same-length returns)

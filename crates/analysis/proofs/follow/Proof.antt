@@ -5,15 +5,6 @@ use borrow.Author.Needs.{needs}
 use Rattle.analysis.proofs.follow.Statement.{statement}
 use Rattle.analysis.proofs.follow.Tie as tie
 
-touch-all-requires : tie.Need-touch-all-requires
-touch-all-requires c κs = search needs
-
-descend-requires : tie.Need-descend-requires
-descend-requires c κs = search needs
-
-same-length : tie.Need-same-length
-same-length c = search needs
-
 returns : tie.Need-returns
 unfolding S.followed
 returns c =
@@ -22,4 +13,4 @@ returns c =
     rw (← t .words, ← t .count) (record { words = e .words; draft = ap S.draft (e .now) })
 
 pub follow-spec : {M : Type 1} → statement M
-follow-spec = tie.close (tie.spec touch-all-requires descend-requires same-length returns)
+follow-spec = tie.close (tie.spec (λ c κs. search needs) (λ c κs. search needs) (λ c. search needs) returns)

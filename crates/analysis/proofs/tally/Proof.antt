@@ -5,12 +5,6 @@ use borrow.Author.Needs.{needs}
 use Rattle.analysis.proofs.tally.Statement.{statement}
 use Rattle.analysis.proofs.tally.Tie as tie
 
-field-requires : tie.Need-field-requires
-field-requires c κs = search needs
-
-sum-requires : tie.Need-sum-requires
-sum-requires c κs = search needs
-
 returns : tie.Need-returns
 unfolding S.tallied
 returns c = rw (← c .before .before .field .ensures, eq-eqb _ _ (c .before .if1 .taken)) (c .sum .ensures)
@@ -20,4 +14,4 @@ unfolding S.tallied
 returns-2 c = rw (← c .before .field .ensures, ne-eqb _ _ (c .if1 .left))
 
 pub tally-spec : {M : Type 1} → statement M
-tally-spec = tie.close (tie.spec field-requires sum-requires returns returns-2)
+tally-spec = tie.close (tie.spec (λ c κs. search needs) (λ c κs. search needs) returns returns-2)

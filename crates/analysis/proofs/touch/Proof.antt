@@ -4,18 +4,6 @@ use borrow.Author.Needs.{needs}
 use Rattle.analysis.proofs.touch.Statement.{statement}
 use Rattle.analysis.proofs.touch.Tie as tie
 
-field-requires : tie.Need-field-requires
-field-requires c κs = search needs
-
-sum-requires : tie.Need-sum-requires
-sum-requires c κs = search needs
-
-set-field-requires : tie.Need-set-field-requires
-set-field-requires c κs = search needs
-
-same-length : tie.Need-same-length
-same-length c = search needs
-
 returns : tie.Need-returns
 unfolding S.touched
 returns c =
@@ -26,4 +14,4 @@ returns c =
 
 pub touch-spec : {M : Type 1} → statement M
 touch-spec =
-    tie.close (tie.spec field-requires sum-requires set-field-requires same-length returns)
+    tie.close (tie.spec (λ c κs. search needs) (λ c κs. search needs) (λ c κs. search needs) (λ c. search needs) returns)

@@ -71,21 +71,5 @@ pub read-argument-spec : {M : Type 1} → statement M
 read-argument-spec =
     tie.close
     (tie.spec
-    Inv-loop
-    μ-loop
-    returns
-    returns-2
-    loop-holds
-    shared-slice-read-b
-    mul-total
-    wide-requires
-    add-total
-    add-i
-    loop-less
-    loop-again
-    returns-3
-    returns-4
-    returns-5
-    shared-slice-read-if6
-    returns-6
-    returns-7)
+    Inv-loop μ-loop returns returns-2 loop-holds shared-slice-read-b mul-total wide-requires add-total add-i loop-less loop-again
+    returns-3 returns-4 returns-5 shared-slice-read-if6 returns-6 returns-7)

@@ -32,15 +32,6 @@ found-2 : (n : tie.After-read-difference2) (r : Difference) → n .read-differen
     → DifferenceAt (S (N (E n)) .args .s .now) (E n .first .given .0 .1 .0) r
 found-2 n r e = subst (DifferenceAt (S (N (E n)) .args .s .now) (E n .first .given .0 .1 .0)) e (n .read-difference2 .ensures)
 
-read-difference-requires : tie.Need-read-difference-requires
-read-difference-requires c κs = search needs
-
-enum-known-first : tie.Need-enum-known-first
-enum-known-first c = search needs
-
-enum-told : tie.Need-enum-told
-enum-told c = search needs
-
 returns : tie.Need-returns
 returns c =
     let n = c .before .before in
@@ -58,15 +49,6 @@ returns-3 c =
     let n = N t in
     below-zero (S n .args .s .now) (S n .args .at) (S n .args .lit) _ (t .first .given .0 .1 .0) (found n _ (t .first .given .1) .meaning) (c .before .if1 .left) (c .if2 .taken)
 
-read-difference-requires-2 : tie.Need-read-difference-requires-2
-read-difference-requires-2 c κs = search needs
-
-enum-known-second : tie.Need-enum-known-second
-enum-known-second c = search needs
-
-enum-told-2 : tie.Need-enum-told-2
-enum-told-2 c = search needs
-
 returns-4 : tie.Need-returns-4
 returns-4 c =
     let q = c .before .before in
@@ -83,32 +65,11 @@ returns-5 c =
     below-zero-2 (S n .args .s .now) (S n .args .at) (S n .args .lit) _ (t .first .given .0 .1 .0) (found n _ (t .first .given .1) .meaning) (q .before .before .if1 .left)
     (q .before .if2 .left) _ (c .before .before .second .given .0 .1 .0) (found-2 q _ (c .before .before .second .given .1) .meaning) (c .if3 .taken)
 
-mul-out : tie.Need-mul-out
-mul-out c = search needs
-
-slice-write-out : tie.Need-slice-write-out
-slice-write-out c = search needs
-
-add-out : tie.Need-add-out
-add-out c = search needs
-
-mul-out-2 : tie.Need-mul-out-2
-mul-out-2 c = search needs
-
 slice-write-out-2 : tie.Need-slice-write-out-2
 slice-write-out-2 c = simp length-set (omega arith)
 
-add-out-2 : tie.Need-add-out-2
-add-out-2 c = search needs
-
-mul-out-3 : tie.Need-mul-out-3
-mul-out-3 c = search needs
-
 slice-write-out-3 : tie.Need-slice-write-out-3
 slice-write-out-3 c = simp length-set (omega arith)
-
-same-length : tie.Need-same-length
-same-length c = search needs
 
 returns-6 : tie.Need-returns-6
 returns-6 c =
@@ -123,24 +84,6 @@ pub read-gate-spec : {M : Type 1} → statement M
 read-gate-spec =
     tie.close
     (tie.spec
-    read-difference-requires
-    enum-known-first
-    enum-told
-    returns
-    returns-2
-    returns-3
-    read-difference-requires-2
-    enum-known-second
-    enum-told-2
-    returns-4
-    returns-5
-    mul-out
-    slice-write-out
-    add-out
-    mul-out-2
-    slice-write-out-2
-    add-out-2
-    mul-out-3
-    slice-write-out-3
-    same-length
-    returns-6)
+    (λ c κs. search needs) (λ c. search needs) (λ c. search needs) returns returns-2 returns-3 (λ c κs. search needs)
+    (λ c. search needs) (λ c. search needs) returns-4 returns-5 (λ c. search needs) (λ c. search needs) (λ c. search needs)
+    (λ c. search needs) slice-write-out-2 (λ c. search needs) (λ c. search needs) slice-write-out-3 (λ c. search needs) returns-6)

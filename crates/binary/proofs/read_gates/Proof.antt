@@ -39,9 +39,6 @@ mul-read-gate c = omega (arith, c .before .loop .inv .low)
 read-gate-requires : tie.Need-read-gate-requires Inv-loop μ-loop
 read-gate-requires c κs = here (c .before)
 
-enum-known-after : tie.Need-enum-known-after Inv-loop μ-loop
-enum-known-after c = search needs
-
 add-var : tie.Need-add-var Inv-loop μ-loop
 add-var c = omega (arith, c .before .before .before .before .before .before .before .before .loop .inv .low)
 
@@ -59,9 +56,6 @@ loop-again c =
     let n = c .before .before .before .before .before in
     let t = n .before .before in
     more (t .before .loop .inv) _ _ (t .loop-test .taken) (found n _ (c .before .after .given .1))
-
-enum-told : tie.Need-enum-told Inv-loop μ-loop
-enum-told c = search needs
 
 same-length : tie.Need-same-length Inv-loop μ-loop
 same-length c =
@@ -84,19 +78,5 @@ pub read-gates-spec : {M : Type 1} → statement M
 read-gates-spec =
     tie.close
     (tie.spec
-    Inv-loop
-    μ-loop
-    loop-holds
-    mul-read-gate
-    read-gate-requires
-    enum-known-after
-    add-var
-    add-to
-    sub-left
-    loop-less
-    loop-again
-    enum-told
-    same-length
-    returns
-    same-length-2
-    returns-2)
+    Inv-loop μ-loop loop-holds mul-read-gate read-gate-requires (λ c. search needs) add-var add-to sub-left loop-less loop-again
+    (λ c. search needs) same-length returns same-length-2 returns-2)

@@ -52,9 +52,6 @@ add-read-line c = omega (arith, here (c .before))
 read-line-requires : tie.Need-read-line-requires Inv-loop μ-loop
 read-line-requires c κs = (omega arith, simp length-set (omega (arith, here (c .before))))
 
-enum-known-after : tie.Need-enum-known-after Inv-loop μ-loop
-enum-known-after c = search needs
-
 add-var : tie.Need-add-var Inv-loop μ-loop
 add-var c = omega (arith, c .before .before .before .before .before .before .before .before .loop .inv .low)
 
@@ -72,9 +69,6 @@ loop-again c =
     let n = c .before .before .before .before .before in
     let t = n .before .before in
     more (t .before .loop .inv) _ refl _ _ _ (t .loop-test .taken) (found n _ (c .before .after .given .1))
-
-enum-told : tie.Need-enum-told Inv-loop μ-loop
-enum-told c = search needs
 
 same-length : tie.Need-same-length Inv-loop μ-loop
 same-length c =
@@ -97,22 +91,5 @@ pub read-latches-spec : {M : Type 1} → statement M
 read-latches-spec =
     tie.close
     (tie.spec
-    Inv-loop
-    μ-loop
-    loop-holds
-    mul-out
-    mul-out-2
-    slice-write-out
-    add-read-line
-    read-line-requires
-    enum-known-after
-    add-var
-    add-to
-    sub-left
-    loop-less
-    loop-again
-    enum-told
-    same-length
-    returns
-    same-length-2
-    returns-2)
+    Inv-loop μ-loop loop-holds mul-out mul-out-2 slice-write-out add-read-line read-line-requires (λ c. search needs) add-var add-to
+    sub-left loop-less loop-again (λ c. search needs) same-length returns same-length-2 returns-2)

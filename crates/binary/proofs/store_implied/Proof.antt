@@ -49,16 +49,4 @@ pub store-implied-spec : {M : Type 1} → statement M
 store-implied-spec =
     tie.close
     (tie.spec
-    Inv-loop
-    μ-loop
-    loop-holds
-    mul-out
-    mul-out-2
-    slice-write-out
-    add-var
-    add-to
-    sub-left
-    loop-less
-    loop-again
-    same-length
-    returns)
+    Inv-loop μ-loop loop-holds mul-out mul-out-2 slice-write-out add-var add-to sub-left loop-less loop-again same-length returns)

@@ -7,25 +7,16 @@ use Rattle.binary_text.proofs.Steps.{placed-in}
 use Rattle.binary_text.proofs.write_differences.Statement.{statement}
 use Rattle.binary_text.proofs.write_differences.Tie as tie
 
-sub-write-difference : tie.Need-sub-write-difference
-sub-write-difference c = search needs
-
 write-difference-requires : tie.Need-write-difference-requires
 write-difference-requires c κs =
     let a = c .before .before .args in
     room-first (a .out .now) (a .at) (differenceText (a .lit - a .left)) (differenceText (a .left - a .right)) (c .before .before .pre .2)
-
-sub-write-difference-2 : tie.Need-sub-write-difference-2
-sub-write-difference-2 c = search needs
 
 write-difference-requires-2 : tie.Need-write-difference-requires-2
 write-difference-requires-2 c κs =
     let a = c .before .before .before .before .before .before .args in
     room-second (a .out .now) (a .at) (differenceText (a .lit - a .left)) (differenceText (a .left - a .right)) (c .before .before .before .before .before .before .pre .2)
     (placed-in (c .before .before .before .write-difference .ensures))
-
-same-length : tie.Need-same-length
-same-length c = search needs
 
 returns : tie.Need-returns
 returns c =
@@ -37,9 +28,4 @@ pub write-differences-spec : {M : Type 1} → statement M
 write-differences-spec =
     tie.close
     (tie.spec
-    sub-write-difference
-    write-difference-requires
-    sub-write-difference-2
-    write-difference-requires-2
-    same-length
-    returns)
+    (λ c. search needs) write-difference-requires (λ c. search needs) write-difference-requires-2 (λ c. search needs) returns)

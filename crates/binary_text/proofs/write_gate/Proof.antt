@@ -10,9 +10,6 @@ write-differences-requires c κs =
     let a = c .before .before .before .args in
     (c .before .before .before .pre .1, omega (arith, c .before .if1 .taken), rw (lt-ltb (a .left) (a .right) (c .before .if1 .taken)) at (c .before .before .before .pre .2))
 
-same-length : tie.Need-same-length
-same-length c = search needs
-
 returns : tie.Need-returns
 returns c =
     let a = c .before .before .before .before .before .before .args in
@@ -23,9 +20,6 @@ write-differences-requires-2 c κs =
     let a = c .before .before .before .args in
     (c .before .before .before .pre .0, c .before .if1 .left, rw (le-ltb (a .left) (a .right) (c .before .if1 .left)) at (c .before .before .before .pre .2))
 
-same-length-2 : tie.Need-same-length-2
-same-length-2 c = search needs
-
 returns-2 : tie.Need-returns-2
 returns-2 c =
     let a = c .before .before .before .before .before .before .args in
@@ -35,9 +29,4 @@ pub write-gate-spec : {M : Type 1} → statement M
 write-gate-spec =
     tie.close
     (tie.spec
-    write-differences-requires
-    same-length
-    returns
-    write-differences-requires-2
-    same-length-2
-    returns-2)
+    write-differences-requires (λ c. search needs) returns write-differences-requires-2 (λ c. search needs) returns-2)

@@ -132,28 +132,6 @@ pub write-gates-spec : {M : Type 1} → statement M
 write-gates-spec =
     tie.close
     (tie.spec
-    Inv-loop
-    μ-loop
-    loop-holds
-    mul-p
-    shared-slice-read-p
-    cast-p
-    mul-p-2
-    add-p
-    mul-rename
-    shared-slice-read-rename
-    rename-requires
-    add-rename
-    mul-rename-2
-    shared-slice-read-rename-2
-    rename-requires-2
-    add-rename-2
-    mul-rename-3
-    shared-slice-read-rename-3
-    rename-requires-3
-    write-gate-requires
-    add-j
-    loop-less
-    loop-again
-    same-length
-    returns)
+    Inv-loop μ-loop loop-holds mul-p shared-slice-read-p cast-p mul-p-2 add-p mul-rename shared-slice-read-rename rename-requires
+    add-rename mul-rename-2 shared-slice-read-rename-2 rename-requires-2 add-rename-2 mul-rename-3 shared-slice-read-rename-3
+    rename-requires-3 write-gate-requires add-j loop-less loop-again same-length returns)

@@ -11,9 +11,6 @@ put-ended-requires c κs =
     let a = c .before .before .before .args in
     rw (latch-one (a .next) (a .reset) (c .before .if1 .taken)) at (c .before .before .before .pre)
 
-same-length : tie.Need-same-length
-same-length c = search needs
-
 returns : tie.Need-returns
 returns c =
     let a = c .before .before .before .before .before .before .args in
@@ -30,9 +27,6 @@ put-ended-requires-3 c κs =
     room-second (a .out .now) (a .at) (numberText (a .next) 1) (numberText (a .reset) 0) (rw (latch-two (a .next) (a .reset) (c .before .before .before .before .before .if1 .left)) at (c .before .before .before .before .before .before .before .pre))
     (c .before .before .before .put-ended2 .ensures)
 
-same-length-2 : tie.Need-same-length-2
-same-length-2 c = search needs
-
 returns-2 : tie.Need-returns-2
 returns-2 c =
     let a = c .before .before .before .before .before .before .before .before .before .before .args in
@@ -45,10 +39,4 @@ pub write-latch-spec : {M : Type 1} → statement M
 write-latch-spec =
     tie.close
     (tie.spec
-    put-ended-requires
-    same-length
-    returns
-    put-ended-requires-2
-    put-ended-requires-3
-    same-length-2
-    returns-2)
+    put-ended-requires (λ c. search needs) returns put-ended-requires-2 put-ended-requires-3 (λ c. search needs) returns-2)

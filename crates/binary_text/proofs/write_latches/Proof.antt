@@ -25,9 +25,6 @@ loop-holds c = let s = c .before .before .before in (s .pre .0, s .pre .1, rest-
 add-rename : tie.Need-add-rename Inv-loop μ-loop
 add-rename c = omega arith
 
-mul-rename : tie.Need-mul-rename Inv-loop μ-loop
-mul-rename c = search needs
-
 shared-slice-read-rename : tie.Need-shared-slice-read-rename Inv-loop μ-loop
 shared-slice-read-rename c = omega arith
 
@@ -36,9 +33,6 @@ rename-requires c κs = c .before .before .loop .inv .1 1 (omega (arith, c .befo
 
 add-rename-2 : tie.Need-add-rename-2 Inv-loop μ-loop
 add-rename-2 c = omega arith
-
-mul-rename-2 : tie.Need-mul-rename-2 Inv-loop μ-loop
-mul-rename-2 c = search needs
 
 shared-slice-read-rename-2 : tie.Need-shared-slice-read-rename-2 Inv-loop μ-loop
 shared-slice-read-rename-2 c = omega arith
@@ -96,21 +90,5 @@ pub write-latches-spec : {M : Type 1} → statement M
 write-latches-spec =
     tie.close
     (tie.spec
-    Inv-loop
-    μ-loop
-    loop-holds
-    add-rename
-    mul-rename
-    shared-slice-read-rename
-    rename-requires
-    add-rename-2
-    mul-rename-2
-    shared-slice-read-rename-2
-    rename-requires-2
-    write-latch-requires
-    add-p
-    sub-left
-    loop-less
-    loop-again
-    same-length
-    returns)
+    Inv-loop μ-loop loop-holds add-rename (λ c. search needs) shared-slice-read-rename rename-requires add-rename-2 (λ c. search needs)
+    shared-slice-read-rename-2 rename-requires-2 write-latch-requires add-p sub-left loop-less loop-again same-length returns)

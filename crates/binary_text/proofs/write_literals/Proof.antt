@@ -25,9 +25,6 @@ abbrev μ-loop : tie.MeasureT-loop
 loop-holds : tie.Need-loop-holds Inv-loop μ-loop
 loop-holds c = let s = c .before .before .before in (s .pre .0, s .pre .1, rest-start (s .args .out .now) (s .args .at) _)
 
-mul-rename : tie.Need-mul-rename Inv-loop μ-loop
-mul-rename c = search needs
-
 shared-slice-read-rename : tie.Need-shared-slice-read-rename Inv-loop μ-loop
 shared-slice-read-rename c = omega arith
 
@@ -85,16 +82,5 @@ pub write-literals-spec : {M : Type 1} → statement M
 write-literals-spec =
     tie.close
     (tie.spec
-    Inv-loop
-    μ-loop
-    loop-holds
-    mul-rename
-    shared-slice-read-rename
-    rename-requires
-    put-ended-requires
-    add-p
-    sub-left
-    loop-less
-    loop-again
-    same-length
-    returns)
+    Inv-loop μ-loop loop-holds (λ c. search needs) shared-slice-read-rename rename-requires put-ended-requires add-p sub-left loop-less
+    loop-again same-length returns)

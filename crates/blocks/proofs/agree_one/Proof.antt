@@ -60,10 +60,4 @@ pub agree-one-spec : {M : Type 1} → statement M
 agree-one-spec =
     tie.close
     (tie.spec
-    equals-requires
-    returns
-    is-true-requires
-    returns-2
-    is-constant-requires
-    returns-3
-    returns-4)
+    equals-requires returns is-true-requires returns-2 is-constant-requires returns-3 returns-4)

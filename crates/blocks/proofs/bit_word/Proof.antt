@@ -8,9 +8,6 @@ use Rattle.blocks.proofs.Words.{either-bit, one-bit, other-bit}
 use Rattle.blocks.proofs.bit_word.Statement.{statement}
 use Rattle.blocks.proofs.bit_word.Tie as tie
 
-counting-word-requires : tie.Need-counting-word-requires
-counting-word-requires c κs = search needs
-
 returns : tie.Need-returns
 returns c = λ p h.
     let a = c .before .before .args in
@@ -27,4 +24,4 @@ returns-3 c = λ p h.
     bit-none p ∙ other-bit (a .byte) (bit (a .block * 64 + p) (a .k)) (c .before .if1 .left) (c .if2 .left)
 
 pub bit-word-spec : {M : Type 1} → statement M
-bit-word-spec = tie.close (tie.spec counting-word-requires returns returns-2 returns-3)
+bit-word-spec = tie.close (tie.spec (λ c κs. search needs) returns returns-2 returns-3)

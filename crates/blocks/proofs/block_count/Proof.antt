@@ -5,12 +5,6 @@ use Rattle.blocks.proofs.Words.{one-block, more-blocks}
 use Rattle.blocks.proofs.block_count.Statement.{statement}
 use Rattle.blocks.proofs.block_count.Tie as tie
 
-sub-result : tie.Need-sub-result
-sub-result c = search needs
-
-shl-result : tie.Need-shl-result
-shl-result c = search needs
-
 returns : tie.Need-returns
 returns c = one-block (c .before .args .n) (omega arith)
 
@@ -18,4 +12,4 @@ returns-2 : tie.Need-returns-2
 returns-2 c = more-blocks (c .before .args .n) (omega arith)
 
 pub block-count-spec : {M : Type 1} → statement M
-block-count-spec = tie.close (tie.spec sub-result shl-result returns returns-2)
+block-count-spec = tie.close (tie.spec (λ c. search needs) (λ c. search needs) returns returns-2)

@@ -195,26 +195,6 @@ pub block-word-spec : {M : Type 1} → statement M
 block-word-spec =
     tie.close
     (tie.spec
-    Inv-loop
-    μ-loop
-    add-width
-    put-starts-requires
-    agree-word-requires
-    add-at
-    put-frame-requires
-    constrain-requires
-    loop-holds
-    same-length
-    same-length-2
-    returns
-    advance-requires
-    add-at-2
-    put-frame-requires-2
-    constrain-requires-2
-    add-u
-    loop-less
-    loop-again
-    bad-word-requires
-    same-length-3
-    same-length-4
-    returns-2)
+    Inv-loop μ-loop add-width put-starts-requires agree-word-requires add-at put-frame-requires constrain-requires loop-holds
+    same-length same-length-2 returns advance-requires add-at-2 put-frame-requires-2 constrain-requires-2 add-u loop-less loop-again
+    bad-word-requires same-length-3 same-length-4 returns-2)

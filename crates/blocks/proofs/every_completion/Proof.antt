@@ -109,19 +109,5 @@ pub every-completion-spec : {M : Type 1} → statement M
 every-completion-spec =
     tie.close
     (tie.spec
-    Inv-loop
-    μ-loop
-    block-count-requires
-    all-bits-requires
-    loop-holds
-    block-word-requires
-    first-difference-requires
-    same-length
-    same-length-2
-    returns
-    add-block
-    loop-less
-    loop-again
-    same-length-3
-    same-length-4
-    returns-2)
+    Inv-loop μ-loop block-count-requires all-bits-requires loop-holds block-word-requires first-difference-requires same-length
+    same-length-2 returns add-block loop-less loop-again same-length-3 same-length-4 returns-2)

@@ -171,29 +171,6 @@ pub put-line-spec : {M : Type 1} → statement M
 put-line-spec =
     tie.close
     (tie.spec
-    Inv-loop
-    μ-loop
-    loop-holds
-    mul-from-word
-    add-from-word
-    mul-from-word-2
-    shared-slice-read-from-word
-    from-word-requires
-    var-requires
-    add-byte
-    shared-slice-read-byte
-    cast-place
-    bit-word-requires
-    mul-values
-    slice-write-values
-    either-of-requires
-    add-k
-    add-i
-    loop-less
-    loop-again
-    add-either-of
-    shared-slice-read-either-of
-    either-of-requires-2
-    add-result
-    same-length
-    returns)
+    Inv-loop μ-loop loop-holds mul-from-word add-from-word mul-from-word-2 shared-slice-read-from-word from-word-requires var-requires
+    add-byte shared-slice-read-byte cast-place bit-word-requires mul-values slice-write-values either-of-requires add-k add-i loop-less
+    loop-again add-either-of shared-slice-read-either-of either-of-requires-2 add-result same-length returns)

@@ -12,9 +12,6 @@ use Rattle.blocks.proofs.Runs.{started}
 use Rattle.blocks.proofs.put_starts.Statement.{statement}
 use Rattle.blocks.proofs.put_starts.Tie as tie
 
-slice-write-values : tie.Need-slice-write-values
-slice-write-values c = search needs
-
 put-line-requires : tie.Need-put-line-requires
 put-line-requires c κs =
     let S = c .before .before .before .before .before in
@@ -43,4 +40,4 @@ returns c =
     )
 
 pub put-starts-spec : {M : Type 1} → statement M
-put-starts-spec = tie.close (tie.spec slice-write-values put-line-requires same-length returns)
+put-starts-spec = tie.close (tie.spec (λ c. search needs) put-line-requires same-length returns)

@@ -22,9 +22,6 @@ loop-holds c = refl
 add-differs : tie.Need-add-differs Inv-loop μ-loop
 add-differs c = omega arith
 
-differs-requires : tie.Need-differs-requires Inv-loop μ-loop
-differs-requires c κs = search needs
-
 returns : tie.Need-returns Inv-loop μ-loop
 returns c =
     let l = c .before .before .before .loop in
@@ -55,13 +52,4 @@ pub agree-spec : {M : Type 1} → statement M
 agree-spec =
     tie.close
     (tie.spec
-    Inv-loop
-    μ-loop
-    loop-holds
-    add-differs
-    differs-requires
-    returns
-    add-at
-    loop-less
-    loop-again
-    returns-2)
+    Inv-loop μ-loop loop-holds add-differs (λ c κs. search needs) returns add-at loop-less loop-again returns-2)

@@ -6,25 +6,13 @@ use borrow.Author.Needs.{needs}
 use Rattle.choices.proofs.conclude.Statement.{statement}
 use Rattle.choices.proofs.conclude.Tie as tie
 
-end-requires : tie.Need-end-requires
-end-requires c κs = search needs
-
 returns : tie.Need-returns
 unfolding Ch.concluded
 returns c = rw (eq-eqb _ _ (c .before .if1 .taken)) (record { words = refl; search = c .end .ensures })
 
-end-requires-2 : tie.Need-end-requires-2
-end-requires-2 c κs = search needs
-
 returns-2 : tie.Need-returns-2
 unfolding Ch.concluded
 returns-2 c = rw (ne-eqb _ _ (c .before .before .if1 .left), eq-eqb _ _ (c .before .if2 .taken)) (record { words = refl; search = c .end2 .ensures })
-
-release-requires : tie.Need-release-requires
-release-requires c κs = search needs
-
-same-length : tie.Need-same-length
-same-length c = search needs
 
 returns-3 : tie.Need-returns-3
 unfolding Ch.concluded
@@ -33,4 +21,4 @@ returns-3 c = rw (ne-eqb _ _ (c .before .before .before .before .before .if1 .le
 pub conclude-spec : {M : Type 1} → statement M
 conclude-spec =
     tie.close
-    (tie.spec end-requires returns end-requires-2 returns-2 release-requires same-length returns-3)
+    (tie.spec (λ c κs. search needs) returns (λ c κs. search needs) returns-2 (λ c κs. search needs) (λ c. search needs) returns-3)

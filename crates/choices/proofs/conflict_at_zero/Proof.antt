@@ -4,21 +4,9 @@ use borrow.Author.Needs.{needs}
 use Rattle.choices.proofs.conflict_at_zero.Statement.{statement}
 use Rattle.choices.proofs.conflict_at_zero.Tie as tie
 
-expand-all-requires : tie.Need-expand-all-requires
-expand-all-requires c κs = search needs
-
-refute-requires : tie.Need-refute-requires
-refute-requires c κs = search needs
-
-conclude-requires : tie.Need-conclude-requires
-conclude-requires c κs = search needs
-
-same-length : tie.Need-same-length
-same-length c = search needs
-
 returns : tie.Need-returns
 returns c = let s = c .before .before .before .before .before .before .before .before .before .before .before .before .before .before .args in rw (← zero-by (s .work .now) (s .net) (s .s) (s .r) (c .before .before .before .before .before .before .before .before .before .before .expand-all .ensures .words) (c .before .before .before .before .before .before .before .before .before .before .expand-all .ensures .draft) (c .before .before .before .before .before .before .refute .ensures .words) (c .before .before .before .before .before .before .refute .ensures .count)) (c .before .before .conclude .ensures)
 
 pub conflict-at-zero-spec : {M : Type 1} → statement M
 conflict-at-zero-spec =
-    tie.close (tie.spec expand-all-requires refute-requires conclude-requires same-length returns)
+    tie.close (tie.spec (λ c κs. search needs) (λ c κs. search needs) (λ c κs. search needs) (λ c. search needs) returns)

@@ -4,21 +4,9 @@ use borrow.Author.Needs.{needs}
 use Rattle.choices.proofs.contradict.Statement.{statement}
 use Rattle.choices.proofs.contradict.Tie as tie
 
-explain-requires : tie.Need-explain-requires
-explain-requires c κs = search needs
-
-refute-requires : tie.Need-refute-requires
-refute-requires c κs = search needs
-
-conclude-requires : tie.Need-conclude-requires
-conclude-requires c κs = search needs
-
-same-length : tie.Need-same-length
-same-length c = search needs
-
 returns : tie.Need-returns
 returns c = let s = c .before .before .before .before .before .before .before .before .before .before .before .before .before .before .args in rw (← contradicted-by (s .work .now) (s .net) (s .s) (s .l) (c .before .before .before .before .before .before .before .before .before .before .explain .ensures .words) (c .before .before .before .before .before .before .before .before .before .before .explain .ensures .draft) (c .before .before .before .before .before .before .refute .ensures .words) (c .before .before .before .before .before .before .refute .ensures .count)) (c .before .before .conclude .ensures)
 
 pub contradict-spec : {M : Type 1} → statement M
 contradict-spec =
-    tie.close (tie.spec explain-requires refute-requires conclude-requires same-length returns)
+    tie.close (tie.spec (λ c κs. search needs) (λ c κs. search needs) (λ c κs. search needs) (λ c. search needs) returns)

@@ -6,38 +6,14 @@ use borrow.Author.Needs.{needs}
 use Rattle.choices.proofs.decide_active.Statement.{statement}
 use Rattle.choices.proofs.decide_active.Tie as tie
 
-skim-requires : tie.Need-skim-requires
-skim-requires c κs = search needs
-
-with-heap-requires : tie.Need-with-heap-requires
-with-heap-requires c κs = search needs
-
-model-requires : tie.Need-model-requires
-model-requires c κs = search needs
-
-same-length : tie.Need-same-length
-same-length c = search needs
-
 returns : tie.Need-returns
 returns c = let s = c .before .before .before .before .before .before .before .before .before .before .before .before .before .args in rw (← active-none (s .work .now) (s .net) (s .s) (c .before .before .before .before .before .before .before .before .before .skim .ensures .words) (c .before .before .before .before .before .before .before .before .before .skim .ensures .heap) (c .before .before .before .with-heap .ensures) (c .before .before .before .before .before .if1 .taken)) (c .before .before .model .ensures)
-
-at-place-requires : tie.Need-at-place-requires
-at-place-requires c κs = search needs
-
-with-heap-requires-2 : tie.Need-with-heap-requires-2
-with-heap-requires-2 c κs = search needs
 
 mul-take : tie.Need-mul-take
 mul-take c = omega arith
 
 add-take : tie.Need-add-take
 add-take c = omega arith
-
-take-requires : tie.Need-take-requires
-take-requires c κs = search needs
-
-same-length-2 : tie.Need-same-length-2
-same-length-2 c = search needs
 
 returns-2 : tie.Need-returns-2
 returns-2 c = let s = c .before .before .before .before .before .before .before .before .before .before .before .before .before .before .before .args in rw (← active-some (s .work .now) (s .net) (s .s) (c .before .before .before .before .before .before .before .before .before .before .before .skim .ensures .words) (c .before .before .before .before .before .before .before .before .before .before .before .skim .ensures .heap) (c .before .before .before .with-heap2 .ensures) (c .before .before .before .before .before .before .before .if1 .left) (c .before .before .before .before .before .at-place .ensures)) (c .before .before .take .ensures)
@@ -46,15 +22,5 @@ pub decide-active-spec : {M : Type 1} → statement M
 decide-active-spec =
     tie.close
     (tie.spec
-    skim-requires
-    with-heap-requires
-    model-requires
-    same-length
-    returns
-    at-place-requires
-    with-heap-requires-2
-    mul-take
-    add-take
-    take-requires
-    same-length-2
-    returns-2)
+    (λ c κs. search needs) (λ c κs. search needs) (λ c κs. search needs) (λ c. search needs) returns (λ c κs. search needs)
+    (λ c κs. search needs) mul-take add-take (λ c κs. search needs) (λ c. search needs) returns-2)

@@ -4,15 +4,6 @@ use borrow.Author.Needs.{needs}
 use Rattle.choices.proofs.take.Statement.{statement}
 use Rattle.choices.proofs.take.Tie as tie
 
-decide-requires : tie.Need-decide-requires
-decide-requires c κs = search needs
-
-with-trail-requires : tie.Need-with-trail-requires
-with-trail-requires c κs = search needs
-
-same-length : tie.Need-same-length
-same-length c = search needs
-
 returns : tie.Need-returns
 unfolding Ch.taken
 returns c =
@@ -20,4 +11,4 @@ returns c =
     rw (← u .state) (record { words = u .words; search = c .with-trail .ensures })
 
 pub take-spec : {M : Type 1} → statement M
-take-spec = tie.close (tie.spec decide-requires with-trail-requires same-length returns)
+take-spec = tie.close (tie.spec (λ c κs. search needs) (λ c κs. search needs) (λ c. search needs) returns)

@@ -9,21 +9,9 @@ returns : tie.Need-returns
 unfolding Ch.wish
 returns c = rw (le-leb _ _ (c .if1 .taken))
 
-field-requires : tie.Need-field-requires
-field-requires c κs = search needs
-
-mul-result : tie.Need-mul-result
-mul-result c = search needs
-
 returns-2 : tie.Need-returns-2
 unfolding Ch.wish
 returns-2 c = rw (← c .before .field .ensures, lt-leb _ _ (c .before .before .if1 .left), eq-eqb _ _ (c .if2 .taken))
-
-mul-result-2 : tie.Need-mul-result-2
-mul-result-2 c = search needs
-
-add-result : tie.Need-add-result
-add-result c = search needs
 
 returns-3 : tie.Need-returns-3
 unfolding Ch.wish
@@ -32,4 +20,4 @@ returns-3 c = rw (← c .before .field .ensures, lt-leb _ _ (c .before .before .
 pub wish-spec : {M : Type 1} → statement M
 wish-spec =
     tie.close
-    (tie.spec returns field-requires mul-result returns-2 mul-result-2 add-result returns-3)
+    (tie.spec returns (λ c κs. search needs) (λ c. search needs) returns-2 (λ c. search needs) (λ c. search needs) returns-3)

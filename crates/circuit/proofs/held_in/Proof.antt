@@ -26,12 +26,6 @@ found n r e =
 returns : tie.Need-returns
 returns c = none-short (c .if1 .taken)
 
-layout-of-requires : tie.Need-layout-of-requires
-layout-of-requires c κs = search needs
-
-is-shaped-requires : tie.Need-is-shaped-requires
-is-shaped-requires c κs = search needs
-
 returns-2 : tie.Need-returns-2
 returns-2 c =
     let m = c .before .before .before .before .before .before .args .m .now in
@@ -40,19 +34,10 @@ returns-2 c =
 check-requires : tie.Need-check-requires
 check-requires c κs = (shaped-counted (well (c .before)), c .before .before .before .before .before .before .before .pre)
 
-enum-told : tie.Need-enum-told
-enum-told c = search needs
-
 with-starts-requires : tie.Need-with-starts-requires
 with-starts-requires c κs =
     let n = c .before .before .before .before in
     (n .before .before .before .before .layout-of .ensures .0, shaped-counted (well (n .before .before)))
-
-enum-told-2 : tie.Need-enum-told-2
-enum-told-2 c = search needs
-
-same-length : tie.Need-same-length
-same-length c = search needs
 
 returns-3 : tie.Need-returns-3
 returns-3 c =
@@ -61,9 +46,6 @@ returns-3 c =
     let w = well (n .before .before) in
     (c .with-starts .ensures, sound-holds (sound w (r .0)), r .1)
 
-same-length-2 : tie.Need-same-length-2
-same-length-2 c = search needs
-
 returns-4 : tie.Need-returns-4
 returns-4 c = none-refused (found (c .before .before .before .before) _ (c .enum-told2 .given .1))
 
@@ -71,15 +53,5 @@ pub held-in-spec : {M : Type 1} → statement M
 held-in-spec =
     tie.close
     (tie.spec
-    returns
-    layout-of-requires
-    is-shaped-requires
-    returns-2
-    check-requires
-    enum-told
-    with-starts-requires
-    enum-told-2
-    same-length
-    returns-3
-    same-length-2
-    returns-4)
+    returns (λ c κs. search needs) (λ c κs. search needs) returns-2 check-requires (λ c. search needs) with-starts-requires
+    (λ c. search needs) (λ c. search needs) returns-3 (λ c. search needs) returns-4)

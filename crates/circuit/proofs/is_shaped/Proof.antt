@@ -20,12 +20,6 @@ said t = ap (λ (k : Counts). countsFit (countsMeant k)) (sym (t .before .counts
 fit : (t : tie.Else1) → countsFit (countsMeant (countsIn (t .before .before .before .before .args .p))) ≡ true
 fit t = said (t .before) ∙ not-false _ (t .if1 .left)
 
-counts-of-requires : tie.Need-counts-of-requires
-counts-of-requires c κs = search needs
-
-counts-fit-requires : tie.Need-counts-fit-requires
-counts-fit-requires c κs = search needs
-
 returns : tie.Need-returns
 returns c =
     let s = c .before .before .before .before in
@@ -50,9 +44,6 @@ returns-2 c =
     let s = c .before .before .before .before .before .before in
     too-short _ (s .args .p) (s .pre) (c .if2 .taken)
 
-are-zeros-requires : tie.Need-are-zeros-requires
-are-zeros-requires c κs = search needs
-
 returns-3 : tie.Need-returns-3
 returns-3 c =
     let t = c .before .before in
@@ -63,12 +54,4 @@ pub is-shaped-spec : {M : Type 1} → statement M
 is-shaped-spec =
     tie.close
     (tie.spec
-    counts-of-requires
-    counts-fit-requires
-    returns
-    add-needed
-    mul-needed
-    add-needed-2
-    returns-2
-    are-zeros-requires
-    returns-3)
+    (λ c κs. search needs) (λ c κs. search needs) returns add-needed mul-needed add-needed-2 returns-2 (λ c κs. search needs) returns-3)

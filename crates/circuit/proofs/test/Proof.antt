@@ -4,16 +4,10 @@ use Rattle.circuit.proofs.Testing.{tested}
 use Rattle.circuit.proofs.test.Statement.{statement}
 use Rattle.circuit.proofs.test.Tie as tie
 
-slice-aggregate-held-in : tie.Need-slice-aggregate-held-in
-slice-aggregate-held-in c = search needs
-
-held-in-requires : tie.Need-held-in-requires
-held-in-requires c κs = search needs
-
 returns : tie.Need-returns
 returns c =
     let h = c .before in
     tested (h .before .before .before .args .m .now) (h .held-in .last .1 .0) (h .held-in .result) (h .held-in .ensures)
 
 pub test-spec : {M : Type 1} → statement M
-test-spec = tie.close (tie.spec slice-aggregate-held-in held-in-requires returns)
+test-spec = tie.close (tie.spec (λ c. search needs) (λ c κs. search needs) returns)

@@ -12,9 +12,6 @@ number-inputs-requires c κs =
     let s = c .before .before .before .before in
     inputs-ready (s .pre .0) (s .args .p) (s .pre .1 .0) (s .args .names .now) (omega (arith, s .pre .1 .1 .0))
 
-add-number-triples : tie.Need-add-number-triples
-add-number-triples c = search needs
-
 cast-number-triples : tie.Need-cast-number-triples
 cast-number-triples c = let s = c .before .before .before .before .before .before .before .before in omega (arith, sizes (s .pre .0) (s .pre .1 .0))
 
@@ -41,24 +38,9 @@ number-listed-requires c κs =
       ),
     )
 
-same-length : tie.Need-same-length
-same-length c = search needs
-
-same-length-2 : tie.Need-same-length-2
-same-length-2 c = search needs
-
-returns : tie.Need-returns
-returns c = search needs
-
 pub number-circuit-spec : {M : Type 1} → statement M
 number-circuit-spec =
     tie.close
     (tie.spec
-    number-inputs-requires
-    add-number-triples
-    cast-number-triples
-    number-triples-requires
-    number-listed-requires
-    same-length
-    same-length-2
-    returns)
+    number-inputs-requires (λ c. search needs) cast-number-triples number-triples-requires number-listed-requires (λ c. search needs)
+    (λ c. search needs) (λ c. search needs))

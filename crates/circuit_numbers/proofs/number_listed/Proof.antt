@@ -11,20 +11,8 @@ use Rattle.renumbered_laws.proofs.Numbers.{vars-length}
 use Rattle.circuit_numbers.proofs.number_listed.Statement.{statement}
 use Rattle.circuit_numbers.proofs.number_listed.Tie as tie
 
-add-k : tie.Need-add-k
-add-k c = search needs
-
-add-k-2 : tie.Need-add-k-2
-add-k-2 c = search needs
-
 cast-k : tie.Need-cast-k
 cast-k c = let s = c .before .before .before .before in omega (arith, sizes (s .pre .0) (s .pre .1 .0))
-
-slice-aggregate-read-gates : tie.Need-slice-aggregate-read-gates
-slice-aggregate-read-gates c = search needs
-
-slice-aggregate-read-gates-2 : tie.Need-slice-aggregate-read-gates-2
-slice-aggregate-read-gates-2 c = search needs
 
 read-gates-requires : tie.Need-read-gates-requires
 read-gates-requires c κs =
@@ -40,9 +28,6 @@ slice-aggregate-number-read c =
     let s = c .before .before .before .before .before .before .before .before .before .before in
     let r = c .before .before .before .read-gates in
     sym (length-take-le (s .args .p .a) (r .last .1 .1 .1 .0) (omega (arith, sizes (s .pre .0) (s .pre .1 .0) .few, r .kept .1 .1 .1 .0, length-replicate {A = ℕ} 3072 0)))
-
-mul-ops : tie.Need-mul-ops
-mul-ops c = search needs
 
 array-share-prefix-ops : tie.Need-array-share-prefix-ops
 array-share-prefix-ops c = let s = c .before .before .before .before .before .before .before .before .before .before in omega (arith, sizes (s .pre .0) (s .pre .1 .0) .few)
@@ -65,12 +50,6 @@ number-read-requires c κs =
       (omega (arith, size, z .few, s .pre .1 .1 .1), omega (arith, size, z .top), omega arith),
     )
 
-same-length : tie.Need-same-length
-same-length c = search needs
-
-same-length-2 : tie.Need-same-length-2
-same-length-2 c = search needs
-
 returns : tie.Need-returns
 returns c =
     let s = c .before .before .before .before .before .before .before .before .before .before .before .before .before .before .before .before .before .before in
@@ -86,18 +65,6 @@ pub number-listed-spec : {M : Type 1} → statement M
 number-listed-spec =
     tie.close
     (tie.spec
-    add-k
-    add-k-2
-    cast-k
-    slice-aggregate-read-gates
-    slice-aggregate-read-gates-2
-    read-gates-requires
-    array-share-prefix-vars
-    slice-aggregate-number-read
-    mul-ops
-    array-share-prefix-ops
-    slice-aggregate-number-read-2
-    number-read-requires
-    same-length
-    same-length-2
-    returns)
+    (λ c. search needs) (λ c. search needs) cast-k (λ c. search needs) (λ c. search needs) read-gates-requires array-share-prefix-vars
+    slice-aggregate-number-read (λ c. search needs) array-share-prefix-ops slice-aggregate-number-read-2 number-read-requires
+    (λ c. search needs) (λ c. search needs) returns)

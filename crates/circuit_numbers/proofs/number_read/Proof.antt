@@ -14,12 +14,6 @@ use Rattle.circuit_numbers.proofs.number_read.Tie as tie
 part-length : (n : ℕ) → n ≤ 3072 → length (take n (replicate {A = ℕ} 3072 0)) ≡ n
 part-length n h = length-take-le n (replicate 3072 0) (omega (arith, length-replicate {A = ℕ} 3072 0))
 
-slice-aggregate-number-gates : tie.Need-slice-aggregate-number-gates
-slice-aggregate-number-gates c = search needs
-
-array-borrow-prefix-waiting : tie.Need-array-borrow-prefix-waiting
-array-borrow-prefix-waiting c = search needs
-
 slice-aggregate-number-gates-2 : tie.Need-slice-aggregate-number-gates-2
 slice-aggregate-number-gates-2 c = let s = c .before .before .before .before .before .before .before .before in sym
     (part-length (length (s .args .vars .now)) (s .pre .0 .0 .few))
@@ -38,23 +32,9 @@ number-gates-requires c κs =
       ),
     )
 
-same-length : tie.Need-same-length
-same-length c = search needs
-
-same-length-2 : tie.Need-same-length-2
-same-length-2 c = search needs
-
-returns : tie.Need-returns
-returns c = search needs
-
 pub number-read-spec : {M : Type 1} → statement M
 number-read-spec =
     tie.close
     (tie.spec
-    slice-aggregate-number-gates
-    array-borrow-prefix-waiting
-    slice-aggregate-number-gates-2
-    number-gates-requires
-    same-length
-    same-length-2
-    returns)
+    (λ c. search needs) (λ c. search needs) slice-aggregate-number-gates-2 number-gates-requires (λ c. search needs)
+    (λ c. search needs) (λ c. search needs))

@@ -109,31 +109,6 @@ pub read-gates-spec : {M : Type 1} → statement M
 read-gates-spec =
     tie.close
     (tie.spec
-    Inv-loop
-    μ-loop
-    loop-holds
-    mul-p
-    add-p
-    mul-vars
-    shared-slice-read-vars
-    mul-vars-2
-    slice-write-vars
-    add-ops
-    mul-ops
-    shared-slice-read-ops
-    mul-ops-2
-    mul-ops-3
-    slice-write-ops
-    add-ops-2
-    mul-ops-4
-    shared-slice-read-ops-2
-    mul-ops-5
-    add-ops-3
-    mul-ops-6
-    slice-write-ops-2
-    add-i
-    loop-less
-    loop-again
-    same-length
-    same-length-2
-    returns)
+    Inv-loop μ-loop loop-holds mul-p add-p mul-vars shared-slice-read-vars mul-vars-2 slice-write-vars add-ops mul-ops
+    shared-slice-read-ops mul-ops-2 mul-ops-3 slice-write-ops add-ops-2 mul-ops-4 shared-slice-read-ops-2 mul-ops-5 add-ops-3 mul-ops-6
+    slice-write-ops-2 add-i loop-less loop-again same-length same-length-2 returns)

@@ -11,66 +11,6 @@ use Rattle.columns.proofs.column_of.Tie as tie
 same : {a b s t m n : ℕ} → a ≡ b → s ≡ t → m ≡ n → spaced a s m ≡ spaced b t n
 same e f g = λ i. spaced (e i) (f i) (g i)
 
-layout-of-requires : tie.Need-layout-of-requires
-layout-of-requires c κs = search needs
-
-enum-told : tie.Need-enum-told
-enum-told c = search needs
-
-spaced-requires : tie.Need-spaced-requires
-spaced-requires c κs = search needs
-
-enum-told-2 : tie.Need-enum-told-2
-enum-told-2 c = search needs
-
-spaced-requires-2 : tie.Need-spaced-requires-2
-spaced-requires-2 c κs = search needs
-
-enum-told-3 : tie.Need-enum-told-3
-enum-told-3 c = search needs
-
-spaced-requires-3 : tie.Need-spaced-requires-3
-spaced-requires-3 c κs = search needs
-
-enum-told-4 : tie.Need-enum-told-4
-enum-told-4 c = search needs
-
-add-spaced : tie.Need-add-spaced
-add-spaced c = search needs
-
-spaced-requires-4 : tie.Need-spaced-requires-4
-spaced-requires-4 c κs = search needs
-
-enum-told-5 : tie.Need-enum-told-5
-enum-told-5 c = search needs
-
-add-spaced-2 : tie.Need-add-spaced-2
-add-spaced-2 c = search needs
-
-add-spaced-3 : tie.Need-add-spaced-3
-add-spaced-3 c = search needs
-
-spaced-requires-5 : tie.Need-spaced-requires-5
-spaced-requires-5 c κs = search needs
-
-enum-told-6 : tie.Need-enum-told-6
-enum-told-6 c = search needs
-
-add-spaced-4 : tie.Need-add-spaced-4
-add-spaced-4 c = search needs
-
-spaced-requires-6 : tie.Need-spaced-requires-6
-spaced-requires-6 c κs = search needs
-
-enum-told-7 : tie.Need-enum-told-7
-enum-told-7 c = search needs
-
-add-spaced-5 : tie.Need-add-spaced-5
-add-spaced-5 c = search needs
-
-spaced-requires-7 : tie.Need-spaced-requires-7
-spaced-requires-7 c κs = search needs
-
 returns : tie.Need-returns
 returns c =
     rw (c .before .enum-told .given .1) (c .spaced .ensures ∙ same (omega arith) (omega arith) (omega arith))
@@ -103,30 +43,7 @@ pub column-of-spec : {M : Type 1} → statement M
 column-of-spec =
     tie.close
     (tie.spec
-    layout-of-requires
-    enum-told
-    spaced-requires
-    enum-told-2
-    spaced-requires-2
-    enum-told-3
-    spaced-requires-3
-    enum-told-4
-    add-spaced
-    spaced-requires-4
-    enum-told-5
-    add-spaced-2
-    add-spaced-3
-    spaced-requires-5
-    enum-told-6
-    add-spaced-4
-    spaced-requires-6
-    enum-told-7
-    add-spaced-5
-    spaced-requires-7
-    returns
-    returns-2
-    returns-3
-    returns-4
-    returns-5
-    returns-6
-    returns-7)
+    (λ c κs. search needs) (λ c. search needs) (λ c κs. search needs) (λ c. search needs) (λ c κs. search needs) (λ c. search needs)
+    (λ c κs. search needs) (λ c. search needs) (λ c. search needs) (λ c κs. search needs) (λ c. search needs) (λ c. search needs)
+    (λ c. search needs) (λ c κs. search needs) (λ c. search needs) (λ c. search needs) (λ c κs. search needs) (λ c. search needs)
+    (λ c. search needs) (λ c κs. search needs) returns returns-2 returns-3 returns-4 returns-5 returns-6 returns-7)

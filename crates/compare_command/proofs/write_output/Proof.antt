@@ -47,12 +47,6 @@ second w =
     let p = words (three w) in
     (p .0, front-more (p .1) 10 (omega arith) (digits-most 9 (start (one (two (three w))) .args .n)) (w .put-number2 .ensures))
 
-slice-aggregate-put : tie.Need-slice-aggregate-put
-slice-aggregate-put c = search needs
-
-put-requires : tie.Need-put-requires
-put-requires c κs = search needs
-
 put-number-requires : tie.Need-put-number-requires
 put-number-requires c κs =
     let w = c .before .before .before in
@@ -71,14 +65,8 @@ put-number-requires-2 c κs =
     let p = words w in
     omega (arith, digits-most 9 (start (one (two w)) .args .n), front-room (p .1) 10 (omega arith))
 
-slice-aggregate-put-2 : tie.Need-slice-aggregate-put-2
-slice-aggregate-put-2 c = search needs
-
 put-requires-3 : tie.Need-put-requires-3
 put-requires-3 c κs = let p = second (c .before .before .before .before) in front-room (p .1) 1 (omega arith)
-
-same-length : tie.Need-same-length
-same-length c = search needs
 
 returns : tie.Need-returns
 returns c =
@@ -89,12 +77,5 @@ pub write-output-spec : {M : Type 1} → statement M
 write-output-spec =
     tie.close
     (tie.spec
-    slice-aggregate-put
-    put-requires
-    put-number-requires
-    put-requires-2
-    put-number-requires-2
-    slice-aggregate-put-2
-    put-requires-3
-    same-length
-    returns)
+    (λ c. search needs) (λ c κs. search needs) put-number-requires put-requires-2 put-number-requires-2 (λ c. search needs)
+    put-requires-3 (λ c. search needs) returns)

@@ -21,16 +21,9 @@ slice-aggregate-compare-with-4 c = sym (length-replicate {A = ℕ} 1048576 0)
 compare-with-requires : tie.Need-compare-with-requires
 compare-with-requires c κs = (length-replicate {A = ℕ} 33032 0, length-replicate {A = ℕ} 33032 0, length-replicate {A = ℕ} 33032 0)
 
-returns : tie.Need-returns
-returns c = search needs
-
 pub compare-files-spec : {M : Type 1} → statement M
 compare-files-spec =
     tie.close
     (tie.spec
-    slice-aggregate-compare-with
-    slice-aggregate-compare-with-2
-    slice-aggregate-compare-with-3
-    slice-aggregate-compare-with-4
-    compare-with-requires
-    returns)
+    slice-aggregate-compare-with slice-aggregate-compare-with-2 slice-aggregate-compare-with-3 slice-aggregate-compare-with-4
+    compare-with-requires (λ c. search needs))

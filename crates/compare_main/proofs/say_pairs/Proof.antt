@@ -33,18 +33,12 @@ slice-aggregate-say : tie.Need-slice-aggregate-say Inv-loop μ-loop
 slice-aggregate-say c =
     let w = c .before .before .before .before .before .before .before .compare in sym (length-take-le (w .result .line) (w .last .1 .1 .1 .1 .1 .0) (fronts-inside (w .ensures .leaves .line-is)))
 
-say-requires : tie.Need-say-requires Inv-loop μ-loop
-say-requires c κs = search needs
-
 slice-reshare-prefix-say-2 : tie.Need-slice-reshare-prefix-say-2 Inv-loop μ-loop
 slice-reshare-prefix-say-2 c = omega (arith, fronts-inside (c .before .before .before .before .before .before .before .before .compare .ensures .leaves .out-is))
 
 slice-aggregate-say-2 : tie.Need-slice-aggregate-say-2 Inv-loop μ-loop
 slice-aggregate-say-2 c =
     let w = c .before .before .before .before .before .before .before .before .before .compare in sym (length-take-le (w .result .out) (w .last .1 .1 .1 .1 .0) (fronts-inside (w .ensures .leaves .out-is)))
-
-say-requires-2 : tie.Need-say-requires-2 Inv-loop μ-loop
-say-requires-2 c κs = search needs
 
 same-length : tie.Need-same-length Inv-loop μ-loop
 same-length c = c .before .before .before .before .before .before .before .before .before .before .before .compare .kept .1 .1 .1 .0 ∙ c .before .before .before .before .before .before .before .before .before .before .before .before .before .before .before .before .loop .inv .1
@@ -54,9 +48,6 @@ same-length-2 c = c .before .before .before .before .before .before .before .bef
 
 same-length-3 : tie.Need-same-length-3 Inv-loop μ-loop
 same-length-3 c = c .before .before .before .before .before .before .before .before .before .before .before .compare .kept .1 .1 .1 .1 .1 .0 ∙ c .before .before .before .before .before .before .before .before .before .before .before .before .before .before .before .before .loop .inv .3
-
-returns : tie.Need-returns Inv-loop μ-loop
-returns c = search needs
 
 add-j : tie.Need-add-j Inv-loop μ-loop
 add-j c = omega (arith, c .before .before .before .before .before .before .before .before .before .before .before .before .before .before .before .loop-test)
@@ -79,32 +70,10 @@ same-length-5 c = c .before .loop .inv .2
 same-length-6 : tie.Need-same-length-6 Inv-loop μ-loop
 same-length-6 c = c .before .loop .inv .3
 
-returns-2 : tie.Need-returns-2 Inv-loop μ-loop
-returns-2 c = search needs
-
 pub say-pairs-spec : {M : Type 1} → statement M
 say-pairs-spec =
     tie.close
     (tie.spec
-    Inv-loop
-    μ-loop
-    loop-holds
-    cast-compare
-    compare-requires
-    slice-reshare-prefix-say
-    slice-aggregate-say
-    say-requires
-    slice-reshare-prefix-say-2
-    slice-aggregate-say-2
-    say-requires-2
-    same-length
-    same-length-2
-    same-length-3
-    returns
-    add-j
-    loop-less
-    loop-again
-    same-length-4
-    same-length-5
-    same-length-6
-    returns-2)
+    Inv-loop μ-loop loop-holds cast-compare compare-requires slice-reshare-prefix-say slice-aggregate-say (λ c κs. search needs)
+    slice-reshare-prefix-say-2 slice-aggregate-say-2 (λ c κs. search needs) same-length same-length-2 same-length-3 (λ c. search needs)
+    add-j loop-less loop-again same-length-4 same-length-5 same-length-6 (λ c. search needs))

@@ -93,15 +93,5 @@ pub assign-spec : {M : Type 1} → statement M
 assign-spec =
     tie.close
     (tie.spec
-    Inv-loop
-    μ-loop
-    number-leaves-requires
-    add-first
-    loop-holds
-    number-gate-requires
-    add-k
-    loop-less
-    loop-again
-    sub-result
-    same-length
+    Inv-loop μ-loop number-leaves-requires add-first loop-holds number-gate-requires add-k loop-less loop-again sub-result same-length
     returns)

@@ -77,14 +77,4 @@ pub mark-spec : {M : Type 1} → statement M
 mark-spec =
     tie.close
     (tie.spec
-    Inv-loop
-    μ-loop
-    start-marks-requires
-    loop-holds
-    add-if1
-    sub-k
-    mark-gate-requires
-    loop-less
-    loop-again
-    same-length
-    returns)
+    Inv-loop μ-loop start-marks-requires loop-holds add-if1 sub-k mark-gate-requires loop-less loop-again same-length returns)

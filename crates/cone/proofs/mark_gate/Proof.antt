@@ -21,53 +21,8 @@ left-node m k q = ap (λ (e : Edge). e .0 .0) q ∙ ap nodeOf (first-word m k)
 right-node : (m : List ℕ) (k : ℕ) {e : Edge} → e ≡ wordEdge (getD m (16 * k + 1) 0) → e .0 .0 ≡ nodeOf (field m k 1)
 right-node m k q = ap (λ (e : Edge). e .0 .0) q
 
-mul-if1 : tie.Need-mul-if1
-mul-if1 c = search needs
-
-add-if1 : tie.Need-add-if1
-add-if1 c = search needs
-
-mul-if1-2 : tie.Need-mul-if1-2
-mul-if1-2 c = search needs
-
-slice-read-if1 : tie.Need-slice-read-if1
-slice-read-if1 c = search needs
-
 returns : tie.Need-returns
 returns c = let a = c .before .before .before .args in passed-none (now (a .work)) (a .k) (omega arith)
-
-mul-from-word : tie.Need-mul-from-word
-mul-from-word c = search needs
-
-mul-from-word-2 : tie.Need-mul-from-word-2
-mul-from-word-2 c = search needs
-
-slice-read-from-word : tie.Need-slice-read-from-word
-slice-read-from-word c = search needs
-
-from-word-requires : tie.Need-from-word-requires
-from-word-requires c κs = search needs
-
-mul-from-word-3 : tie.Need-mul-from-word-3
-mul-from-word-3 c = search needs
-
-add-from-word : tie.Need-add-from-word
-add-from-word c = search needs
-
-mul-from-word-4 : tie.Need-mul-from-word-4
-mul-from-word-4 c = search needs
-
-slice-read-from-word-2 : tie.Need-slice-read-from-word-2
-slice-read-from-word-2 c = search needs
-
-from-word-requires-2 : tie.Need-from-word-requires-2
-from-word-requires-2 c κs = search needs
-
-cast-left : tie.Need-cast-left
-cast-left c = search needs
-
-cast-right : tie.Need-cast-right
-cast-right c = search needs
 
 mul-work : tie.Need-mul-work
 mul-work c =
@@ -133,9 +88,6 @@ slice-write-work-2 c =
     let r = right-node m (s .args .k) (c .before .before .from-word2 .ensures) in
     simp length-set (omega (arith, l, r, s .pre .held, s .pre .right))
 
-same-length : tie.Need-same-length
-same-length c = search needs
-
 returns-2 : tie.Need-returns-2
 returns-2 c =
     let s = c .before .before .before .before .before .before .before .before .before in
@@ -148,29 +100,7 @@ pub mark-gate-spec : {M : Type 1} → statement M
 mark-gate-spec =
     tie.close
     (tie.spec
-    mul-if1
-    add-if1
-    mul-if1-2
-    slice-read-if1
-    returns
-    mul-from-word
-    mul-from-word-2
-    slice-read-from-word
-    from-word-requires
-    mul-from-word-3
-    add-from-word
-    mul-from-word-4
-    slice-read-from-word-2
-    from-word-requires-2
-    cast-left
-    cast-right
-    mul-work
-    add-work
-    mul-work-2
-    slice-write-work
-    mul-work-3
-    add-work-2
-    mul-work-4
-    slice-write-work-2
-    same-length
-    returns-2)
+    (λ c. search needs) (λ c. search needs) (λ c. search needs) (λ c. search needs) returns (λ c. search needs) (λ c. search needs)
+    (λ c. search needs) (λ c κs. search needs) (λ c. search needs) (λ c. search needs) (λ c. search needs) (λ c. search needs)
+    (λ c κs. search needs) (λ c. search needs) (λ c. search needs) mul-work add-work mul-work-2 slice-write-work mul-work-3 add-work-2
+    mul-work-4 slice-write-work-2 (λ c. search needs) returns-2)

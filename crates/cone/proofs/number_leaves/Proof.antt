@@ -58,17 +58,5 @@ pub number-leaves-spec : {M : Type 1} → statement M
 number-leaves-spec =
     tie.close
     (tie.spec
-    Inv-loop
-    μ-loop
-    loop-holds
-    add-loop
-    cast-work
-    mul-work
-    add-work
-    mul-work-2
-    slice-write-work
-    add-k
-    loop-less
-    loop-again
-    same-length
+    Inv-loop μ-loop loop-holds add-loop cast-work mul-work add-work mul-work-2 slice-write-work add-k loop-less loop-again same-length
     returns)

@@ -72,20 +72,5 @@ pub start-marks-spec : {M : Type 1} → statement M
 start-marks-spec =
     tie.close
     (tie.spec
-    Inv-loop
-    μ-loop
-    loop-holds
-    mul-work
-    add-work
-    mul-work-2
-    slice-write-work
-    add-k
-    loop-less
-    loop-again
-    cast-t
-    mul-work-3
-    add-work-2
-    mul-work-4
-    slice-write-work-2
-    same-length
-    returns)
+    Inv-loop μ-loop loop-holds mul-work add-work mul-work-2 slice-write-work add-k loop-less loop-again cast-t mul-work-3 add-work-2
+    mul-work-4 slice-write-work-2 same-length returns)

@@ -3,11 +3,8 @@ use borrow.Author.Needs.{needs}
 use Rattle.conflicts.proofs.counted.Statement.{statement}
 use Rattle.conflicts.proofs.counted.Tie as tie
 
-sum-requires : tie.Need-sum-requires
-sum-requires c κs = search needs
-
 returns : tie.Need-returns
 returns c = rw (c .sum .ensures)
 
 pub counted-spec : {M : Type 1} → statement M
-counted-spec = tie.close (tie.spec sum-requires returns)
+counted-spec = tie.close (tie.spec (λ c κs. search needs) returns)

@@ -3,11 +3,8 @@ use borrow.Author.Needs.{needs}
 use Rattle.conflicts.proofs.doubled.Statement.{statement}
 use Rattle.conflicts.proofs.doubled.Tie as tie
 
-sum-requires : tie.Need-sum-requires
-sum-requires c κs = search needs
-
 returns : tie.Need-returns
 returns c = rw (c .sum .ensures)
 
 pub doubled-spec : {M : Type 1} → statement M
-doubled-spec = tie.close (tie.spec sum-requires returns)
+doubled-spec = tie.close (tie.spec (λ c κs. search needs) returns)

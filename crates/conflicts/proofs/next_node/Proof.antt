@@ -5,9 +5,6 @@ use borrow.Author.Needs.{needs}
 use Rattle.conflicts.proofs.next_node.Statement.{statement}
 use Rattle.conflicts.proofs.next_node.Tie as tie
 
-add-result : tie.Need-add-result
-add-result c = search needs
-
 returns : tie.Need-returns
 unfolding Cf.nextNode
 returns c = rw (eq-eqb _ _ (c .if1 .taken))
@@ -17,4 +14,4 @@ unfolding Cf.nextNode
 returns-2 c = rw (ne-eqb _ _ (c .if1 .left))
 
 pub next-node-spec : {M : Type 1} → statement M
-next-node-spec = tie.close (tie.spec add-result returns returns-2)
+next-node-spec = tie.close (tie.spec (λ c. search needs) returns returns-2)

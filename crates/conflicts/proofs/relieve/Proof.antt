@@ -5,15 +5,6 @@ use borrow.Author.Needs.{needs}
 use Rattle.conflicts.proofs.relieve.Statement.{statement}
 use Rattle.conflicts.proofs.relieve.Tie as tie
 
-is-full-requires : tie.Need-is-full-requires
-is-full-requires c κs = search needs
-
-forget-requires : tie.Need-forget-requires
-forget-requires c κs = search needs
-
-same-length : tie.Need-same-length
-same-length c = search needs
-
 returns : tie.Need-returns
 unfolding Cf.relieved
 returns c = rw (← c .before .before .before .before .before .is-full .ensures, c .before .before .before .before .if1 .taken) ((c .before .before .forget .ensures))
@@ -23,4 +14,4 @@ unfolding Cf.relieved
 returns-2 c = rw (← c .before .is-full .ensures, c .if1 .left) (record { words = refl; search = refl })
 
 pub relieve-spec : {M : Type 1} → statement M
-relieve-spec = tie.close (tie.spec is-full-requires forget-requires same-length returns returns-2)
+relieve-spec = tie.close (tie.spec (λ c κs. search needs) (λ c κs. search needs) (λ c. search needs) returns returns-2)

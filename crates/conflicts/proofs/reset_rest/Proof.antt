@@ -4,21 +4,6 @@ use borrow.Author.Needs.{needs}
 use Rattle.conflicts.proofs.reset_rest.Statement.{statement}
 use Rattle.conflicts.proofs.reset_rest.Tie as tie
 
-set-field-requires : tie.Need-set-field-requires
-set-field-requires c κs = search needs
-
-set-field-requires-2 : tie.Need-set-field-requires-2
-set-field-requires-2 c κs = search needs
-
-set-field-requires-3 : tie.Need-set-field-requires-3
-set-field-requires-3 c κs = search needs
-
-set-field-requires-4 : tie.Need-set-field-requires-4
-set-field-requires-4 c κs = search needs
-
-same-length : tie.Need-same-length
-same-length c = search needs
-
 returns : tie.Need-returns
 unfolding Cf.resetRest
 returns c =
@@ -32,9 +17,4 @@ pub reset-rest-spec : {M : Type 1} → statement M
 reset-rest-spec =
     tie.close
     (tie.spec
-    set-field-requires
-    set-field-requires-2
-    set-field-requires-3
-    set-field-requires-4
-    same-length
-    returns)
+    (λ c κs. search needs) (λ c κs. search needs) (λ c κs. search needs) (λ c κs. search needs) (λ c. search needs) returns)

@@ -43,9 +43,6 @@ returns-2 c =
     let all = sym (steps-spent (l .work) (s .net) (l .u) (s .effort) (l .left) (c .before .before .if1 .left) (c .if2 .taken)) ∙ l .inv .1 in
     record { words = ap (λ (t : Searched). t .words) all; search = ap (λ (t : Searched). t .search) all }
 
-step-requires : tie.Need-step-requires Inv-loop μ-loop
-step-requires c κs = search needs
-
 sub-left : tie.Need-sub-left Inv-loop μ-loop
 sub-left c = omega arith
 
@@ -73,16 +70,5 @@ pub steps-spec : {M : Type 1} → statement M
 steps-spec =
     tie.close
     (tie.spec
-    Inv-loop
-    μ-loop
-    loop-holds
-    same-length
-    returns
-    same-length-2
-    returns-2
-    step-requires
-    sub-left
-    loop-less
-    loop-again
-    same-length-3
-    returns-3)
+    Inv-loop μ-loop loop-holds same-length returns same-length-2 returns-2 (λ c κs. search needs) sub-left loop-less loop-again
+    same-length-3 returns-3)

@@ -5,12 +5,6 @@ use borrow.Author.Needs.{needs}
 use Rattle.conflicts.proofs.work_of.Statement.{statement}
 use Rattle.conflicts.proofs.work_of.Tie as tie
 
-cast-result : tie.Need-cast-result
-cast-result c = search needs
-
-add-result : tie.Need-add-result
-add-result c = search needs
-
 returns : tie.Need-returns
 unfolding Cf.workOf
 returns c = rw (lt-ltb _ _ (c .if1 .taken))
@@ -20,4 +14,4 @@ unfolding Cf.workOf
 returns-2 c = rw (le-ltb _ _ (c .if1 .left))
 
 pub work-of-spec : {M : Type 1} → statement M
-work-of-spec = tie.close (tie.spec cast-result add-result returns returns-2)
+work-of-spec = tie.close (tie.spec (λ c. search needs) (λ c. search needs) returns returns-2)

@@ -38,15 +38,6 @@ first-hit-requires c κs =
     let e = c .before .first-places .ensures in
     (p .ready, ((p .bad, p .last, omega (arith, e .0), omega (arith, e .1)), omega (arith, bits-within (circuitIn (now (s .args .m))) (s .args .t) (s .args .t) (omega arith), p .held)))
 
-enum-told : tie.Need-enum-told
-enum-told c = search needs
-
-enum-told-2 : tie.Need-enum-told-2
-enum-told-2 c = search needs
-
-enum-told-3 : tie.Need-enum-told-3
-enum-told-3 c = search needs
-
 size-requires : tie.Need-size-requires
 size-requires c κs =
     let s = c .before .before .before .before .before .before .before .before .before .before in
@@ -78,9 +69,6 @@ search-graph-requires c κs =
     let l = part-long (16 * c .before .size .result) (c .before .before .before .before .before .before .first-hit .last .1 .1 .1 .1 .1 .1 .0) (omega (arith, z, p .held, c .before .before .before .before .before .before .first-hit .kept .1 .1 .1 .1 .1 .1 .0)) in
     (record { ready = p .ready; bad = p .bad; last = p .last; some = p .some; budget = p .budget; units = p .units; held = omega (arith, l, z) }, omega (arith, l, z))
 
-same-length : tie.Need-same-length
-same-length c = search needs
-
 returns : tie.Need-returns
 returns c =
     let n = c .before .before .before .before in
@@ -89,18 +77,12 @@ returns c =
     let e = n .before .before .first-places in
     (f .0, tried-hit (circuitIn (now (s .args .m))) (s .args .b) (s .args .t) (s .args .d) (e .result) (e .ensures .1) (f .1), f .2)
 
-same-length-2 : tie.Need-same-length-2
-same-length-2 c = search needs
-
 returns-2 : tie.Need-returns-2
 returns-2 c =
     let n = c .before .before .before .before in
     let s = n .before .before .before .before .before .before in
     let e = n .before .before .first-places in
     tried-clear (circuitIn (now (s .args .m))) (s .args .b) (s .args .t) (s .args .d) (e .result) (e .ensures .1) (framed n _ (c .enum-told2 .given .1))
-
-same-length-3 : tie.Need-same-length-3
-same-length-3 c = search needs
 
 returns-3 : tie.Need-returns-3
 returns-3 c =
@@ -115,19 +97,6 @@ pub decide-spec : {M : Type 1} → statement M
 decide-spec =
     tie.close
     (tie.spec
-    first-places-requires
-    first-hit-requires
-    enum-told
-    enum-told-2
-    enum-told-3
-    size-requires
-    mul-words
-    slice-relend-prefix-search-graph
-    slice-aggregate-search-graph
-    search-graph-requires
-    same-length
-    returns
-    same-length-2
-    returns-2
-    same-length-3
-    returns-3)
+    first-places-requires first-hit-requires (λ c. search needs) (λ c. search needs) (λ c. search needs) size-requires mul-words
+    slice-relend-prefix-search-graph slice-aggregate-search-graph search-graph-requires (λ c. search needs) returns (λ c. search needs)
+    returns-2 (λ c. search needs) returns-3)

@@ -9,20 +9,11 @@ use Rattle.decision.proofs.first_places.Tie as tie
 use Rattle.decision.proofs.first_places.Reads as reads
 use Rattle.decision.proofs.first_places.Lts as lts
 
-add-if1 : tie.Need-add-if1
-add-if1 c = search needs
-
 mul-if1 : tie.Need-mul-if1
 mul-if1 c = omega (arith, product-small (c .before .args .t) (c .before .args .layout .i) (omega arith) (omega arith), mul-comm (c .before .args .layout .i) (c .before .args .t + 1))
 
 add-if1-2 : tie.Need-add-if1-2
 add-if1-2 c = omega (arith, product-small (c .before .before .args .t) (c .before .before .args .layout .i) (omega arith) (omega arith), mul-comm (c .before .before .args .layout .i) (c .before .before .args .t + 1))
 
-returns : tie.Need-returns
-returns c = search needs
-
-returns-2 : tie.Need-returns-2
-returns-2 c = search needs
-
 pub first-places-spec : {M : Type 1} → statement M
-first-places-spec = tie.close (tie.spec add-if1 mul-if1 add-if1-2 returns returns-2)
+first-places-spec = tie.close (tie.spec (λ c. search needs) mul-if1 add-if1-2 (λ c. search needs) (λ c. search needs))

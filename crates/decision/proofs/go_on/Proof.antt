@@ -32,21 +32,6 @@ told n r e =
     let a = n .before .before .before .before .before .before .before .before .before .before .before .before .before .before .args in
     subst (Scanned (a .g .free) (pairsOf (now (a .work)) (a .g)) (edgeWord (a .root)) (max (a .d) 16384) (n .scan .last .0)) e (n .scan .ensures)
 
-places-requires : tie.Need-places-requires
-places-requires c κs = search needs
-
-place-of-requires : tie.Need-place-of-requires
-place-of-requires c κs = search needs
-
-copy-bits-requires : tie.Need-copy-bits-requires
-copy-bits-requires c κs = search needs
-
-same-length : tie.Need-same-length
-same-length c = search needs
-
-same-length-2 : tie.Need-same-length-2
-same-length-2 c = search needs
-
 returns : tie.Need-returns
 returns c = λ x left.
     let s = c .before .before .before .before .before .before .before .before .before .before .before .before in
@@ -59,49 +44,16 @@ returns c = λ x left.
     let k = c .before .before .copy-bits in
     stop-floor (a .g .free) gs root (max (a .d) 16384) x h left (k .last .1 .1 .0) (bits-copied (a .g .free) x (now (a .bits)) (k .last .1 .1 .0) (left .bits) (k .ensures))
 
-spread-bits-requires : tie.Need-spread-bits-requires
-spread-bits-requires c κs = search needs
-
 scan-requires : tie.Need-scan-requires
 scan-requires c κs =
     let s = c .before .before .before .before .before .before .before .before .before .before .before .before .before in
     scannable-from (s .pre .net) (s .args .d) (s .pre .from) (now (s .args .bits)) (c .before .before .before .before .before .before .before .place-of .result) (s .pre .budget) (s .pre .left) (c .before .before .before .before .before .before .before .place-of .ensures)
 
-enum-told : tie.Need-enum-told
-enum-told c = search needs
-
-enum-told-2 : tie.Need-enum-told-2
-enum-told-2 c = search needs
-
-enum-told-3 : tie.Need-enum-told-3
-enum-told-3 c = search needs
-
-copy-bits-requires-2 : tie.Need-copy-bits-requires-2
-copy-bits-requires-2 c κs = search needs
-
-same-length-3 : tie.Need-same-length-3
-same-length-3 c = search needs
-
-same-length-4 : tie.Need-same-length-4
-same-length-4 c = search needs
-
 returns-2 : tie.Need-returns-2
 returns-2 c = λ x left. told (c .before .before .before .before) _ (c .enum-told .given .1)
 
-same-length-5 : tie.Need-same-length-5
-same-length-5 c = search needs
-
-same-length-6 : tie.Need-same-length-6
-same-length-6 c = search needs
-
 returns-3 : tie.Need-returns-3
 returns-3 c = λ x left. told (c .before .before .before .before) _ (c .enum-told2 .given .1)
-
-same-length-7 : tie.Need-same-length-7
-same-length-7 c = search needs
-
-same-length-8 : tie.Need-same-length-8
-same-length-8 c = search needs
 
 returns-4 : tie.Need-returns-4
 returns-4 c = λ x left.
@@ -124,24 +76,7 @@ pub go-on-spec : {M : Type 1} → statement M
 go-on-spec =
     tie.close
     (tie.spec
-    places-requires
-    place-of-requires
-    copy-bits-requires
-    same-length
-    same-length-2
-    returns
-    spread-bits-requires
-    scan-requires
-    enum-told
-    enum-told-2
-    enum-told-3
-    copy-bits-requires-2
-    same-length-3
-    same-length-4
-    returns-2
-    same-length-5
-    same-length-6
-    returns-3
-    same-length-7
-    same-length-8
-    returns-4)
+    (λ c κs. search needs) (λ c κs. search needs) (λ c κs. search needs) (λ c. search needs) (λ c. search needs) returns
+    (λ c κs. search needs) scan-requires (λ c. search needs) (λ c. search needs) (λ c. search needs) (λ c κs. search needs)
+    (λ c. search needs) (λ c. search needs) returns-2 (λ c. search needs) (λ c. search needs) returns-3 (λ c. search needs)
+    (λ c. search needs) returns-4)

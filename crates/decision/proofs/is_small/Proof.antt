@@ -15,22 +15,10 @@ use Rattle.decision.proofs.places.Reads as places-reads
 places-small : (p n : ℕ) → p ≤ 1048576 → n ≤ 65536 → p * n ≤ 68719476736
 places-small p n h l = let a : p * n ≤ 1048576 * n = mul-le-mul-right n h in omega arith
 
-returns : tie.Need-returns
-returns c = search needs
-
-shl-all : tie.Need-shl-all
-shl-all c = search needs
-
 mul-if2 : tie.Need-mul-if2
 mul-if2 c =
     let p : 2 ^ c .before .args .s ≤ 2 ^ 20 = pow-mono (c .if1 .left) in
     omega (arith, places-small (1 * 2 ^ c .before .args .s % 18446744073709551616) (c .before .args .nodes) (omega arith) (omega arith))
-
-returns-2 : tie.Need-returns-2
-returns-2 c = search needs
-
-places-requires : tie.Need-places-requires
-places-requires c κs = search needs
 
 returns-3 : tie.Need-returns-3
 returns-3 c = λ t.
@@ -38,4 +26,4 @@ returns-3 c = λ t.
     omega (arith, c .places .ensures, leb→le (1 * 2 ^ c .before .before .before .args .s % 18446744073709551616) (c .places .result) t)
 
 pub is-small-spec : {M : Type 1} → statement M
-is-small-spec = tie.close (tie.spec returns shl-all mul-if2 returns-2 places-requires returns-3)
+is-small-spec = tie.close (tie.spec (λ c. search needs) (λ c. search needs) mul-if2 (λ c. search needs) (λ c κs. search needs) returns-3)

@@ -34,9 +34,6 @@ unroll-requires c κs =
 mark-requires : tie.Need-mark-requires
 mark-requires c κs = markable (c .before .before .before .before .before .unroll .ensures)
 
-same-length : tie.Need-same-length
-same-length c = search needs
-
 returns : tie.Need-returns
 returns c =
     let s = c .before .before .before .before .before .before .before .before .before .before .before .before .before .before in
@@ -47,4 +44,4 @@ returns c =
 
 pub prepare-spec : {M : Type 1} → statement M
 prepare-spec =
-    tie.close (tie.spec size-requires unroll-requires mark-requires same-length returns)
+    tie.close (tie.spec size-requires unroll-requires mark-requires (λ c. search needs) returns)

@@ -23,35 +23,14 @@ found n r e =
     subst (FoundIs (a .g .free) (pairsOf (now (a .work)) (a .g)) (edgeWord (a .root)) (max (a .d) 16384) (n .first-hit .last .0)) e
     (subst (λ (d : ℕ). FoundIs (a .g .free) (pairsOf (now (a .work)) (a .g)) (edgeWord (a .root)) d (n .first-hit .last .0) (n .first-hit .result)) (n .before .places .ensures) (n .first-hit .ensures))
 
-places-requires : tie.Need-places-requires
-places-requires c κs = search needs
-
 first-hit-requires : tie.Need-first-hit-requires
 first-hit-requires c κs = (c .before .before .before .pre .net, (omega (arith, c .places .ensures, c .before .before .before .pre .budget), c .before .before .before .pre .none))
-
-enum-told : tie.Need-enum-told
-enum-told c = search needs
-
-enum-told-2 : tie.Need-enum-told-2
-enum-told-2 c = search needs
-
-enum-told-3 : tie.Need-enum-told-3
-enum-told-3 c = search needs
-
-same-length : tie.Need-same-length
-same-length c = search needs
 
 returns : tie.Need-returns
 returns c = found (c .before .before .before .before) _ (c .enum-told .given .1)
 
-same-length-2 : tie.Need-same-length-2
-same-length-2 c = search needs
-
 returns-2 : tie.Need-returns-2
 returns-2 c = found (c .before .before .before .before) _ (c .enum-told2 .given .1)
-
-same-length-3 : tie.Need-same-length-3
-same-length-3 c = search needs
 
 returns-3 : tie.Need-returns-3
 returns-3 c = found (c .before .before .before .before) _ (c .enum-told3 .given .1)
@@ -60,14 +39,5 @@ pub scan-spec : {M : Type 1} → statement M
 scan-spec =
     tie.close
     (tie.spec
-    places-requires
-    first-hit-requires
-    enum-told
-    enum-told-2
-    enum-told-3
-    same-length
-    returns
-    same-length-2
-    returns-2
-    same-length-3
-    returns-3)
+    (λ c κs. search needs) first-hit-requires (λ c. search needs) (λ c. search needs) (λ c. search needs) (λ c. search needs) returns
+    (λ c. search needs) returns-2 (λ c. search needs) returns-3)

@@ -9,16 +9,10 @@ use Rattle.decision.proofs.search_all.Lts as lts
 use Rattle.decision.proofs.prepare.Reads as prepare-reads
 use Rattle.decision.proofs.scan.Reads as scan-reads
 
-prepare-requires : tie.Need-prepare-requires
-prepare-requires c κs = search needs
-
 scan-requires : tie.Need-scan-requires
 scan-requires c κs =
     let s = c .before .before .before .before .before .before .before .before .before .before in
     scannable-all (c .before .before .before .before .before .prepare .ensures .net) (s .args .d) (s .pre .0 .budget)
-
-same-length : tie.Need-same-length
-same-length c = search needs
 
 returns : tie.Need-returns
 returns c =
@@ -27,4 +21,4 @@ returns c =
     scanned-all (c .before .before .before .before .before .before .before .before .prepare .ensures) (s .args .d) (u .last .0) (u .result) (s .pre .1 .0) (s .pre .1 .1) (u .ensures)
 
 pub search-all-spec : {M : Type 1} → statement M
-search-all-spec = tie.close (tie.spec prepare-requires scan-requires same-length returns)
+search-all-spec = tie.close (tie.spec (λ c κs. search needs) scan-requires (λ c. search needs) returns)

@@ -46,12 +46,6 @@ enough n =
     let s = n .before .before .before .before .before .before .before .before .before .before .before .before .before .before .before .before .args in
     n .before .before .effort .ensures ∙ ap (λ (x : ℕ). effort x (s .d)) (n .before .before .before .before .before .before .before .before .before .before .before .prepare .ensures .room)
 
-prepare-requires : tie.Need-prepare-requires
-prepare-requires c κs = search needs
-
-support-size-requires : tie.Need-support-size-requires
-support-size-requires c κs = search needs
-
 is-small-requires : tie.Need-is-small-requires
 is-small-requires c κs = omega (arith, c .before .before .before .before .before .before .prepare .ensures .net .sized .nodes, c .before .before .before .before .before .before .prepare .ensures .net .sized .room)
 
@@ -59,9 +53,6 @@ scan-requires : tie.Need-scan-requires
 scan-requires c κs =
     let s = c .before .before .before .before .before .before .before .before .before .before .before .before .before .before in
     scannable-all (c .before .before .before .before .before .before .before .before .before .prepare .ensures .net) (s .args .d) (s .pre .0 .budget)
-
-same-length : tie.Need-same-length
-same-length c = search needs
 
 returns : tie.Need-returns
 returns c =
@@ -72,20 +63,8 @@ returns c =
     let few = c .before .before .before .before .before .is-small .ensures (true-of (c .before .before .before .before .if1 .taken)) in
     scanned (p .ensures) (s .args .d) (u .last .0) (u .result) (subst (λ (x : ℕ). 2 ^ x ≤ max (s .args .d) 16384) k few) (u .ensures)
 
-effort-requires : tie.Need-effort-requires
-effort-requires c κs = search needs
-
 first-hit-requires : tie.Need-first-hit-requires
 first-hit-requires c κs = marked (c .before .before .before .before .before .before .before .before .before .before .prepare .ensures) (c .before .before .before .before .before .before .before .before .before .before .before .before .before .before .before .args .d) (c .before .before .before .before .before .before .before .before .before .before .prepare .kept .1 .1 .1 .1 .1 .0 ∙ c .before .before .before .before .before .before .before .before .before .before .before .before .before .before .before .pre .1)
-
-enum-told : tie.Need-enum-told
-enum-told c = search needs
-
-enum-told-2 : tie.Need-enum-told-2
-enum-told-2 c = search needs
-
-enum-told-3 : tie.Need-enum-told-3
-enum-told-3 c = search needs
 
 -- what the conflict search leaves undecided, with its floor
 left-out : (n : tie.After-first-hit) → n .first-hit .result ≡ Out
@@ -109,9 +88,6 @@ search-support-requires c κs =
     let o = left-out n (c .before .before .before .enum-told3 .given .1) in
     (fits n, (o .0, (o .1, omega (arith, n .before .before .before .before .before .before .before .before .before .before .before .prepare .ensures .free, c .before .if2 .taken))))
 
-same-length-2 : tie.Need-same-length-2
-same-length-2 c = search needs
-
 returns-2 : tie.Need-returns-2
 returns-2 c = c .before .before .search-support .ensures
 
@@ -121,26 +97,17 @@ search-all-requires c κs =
     let o = left-out n (c .before .before .before .enum-told3 .given .1) in
     (fits n, (o .0, omega (arith, n .before .before .before .before .before .before .before .before .before .before .before .prepare .ensures .free, c .before .if2 .left)))
 
-same-length-3 : tie.Need-same-length-3
-same-length-3 c = search needs
-
 returns-3 : tie.Need-returns-3
 returns-3 c =
     let n = c .before .before .before .before in
     let s = c .before .before .before .before .before .before .before .before .before .before .before .before .before .before .before .before .before .before .before .before in
     solved-hit (n .before .before .before .before .before .before .before .before .before .before .before .prepare .ensures) (s .args .d) (n .before .before .before .before .before .before .before .before .before .before .before .prepare .kept .1 .1 .1 .1 .1 .0 ∙ s .pre .1) (n .before .before .effort .result) (enough n) (n .first-hit .last .0) (told n _ (c .enum-told .given .1))
 
-same-length-4 : tie.Need-same-length-4
-same-length-4 c = search needs
-
 returns-4 : tie.Need-returns-4
 returns-4 c =
     let n = c .before .before .before .before in
     let s = c .before .before .before .before .before .before .before .before .before .before .before .before .before .before .before .before .before .before .before .before in
     solved-clear (n .before .before .before .before .before .before .before .before .before .before .before .prepare .ensures) (s .args .d) (n .before .before .before .before .before .before .before .before .before .before .before .prepare .kept .1 .1 .1 .1 .1 .0 ∙ s .pre .1) (n .before .before .effort .result) (enough n) (n .first-hit .last .0) (told n _ (c .enum-told2 .given .1))
-
-same-length-5 : tie.Need-same-length-5
-same-length-5 c = search needs
 
 returns-5 : tie.Need-returns-5
 returns-5 c = c .before .before .search-all .ensures
@@ -149,24 +116,6 @@ pub search-graph-spec : {M : Type 1} → statement M
 search-graph-spec =
     tie.close
     (tie.spec
-    prepare-requires
-    support-size-requires
-    is-small-requires
-    scan-requires
-    same-length
-    returns
-    effort-requires
-    first-hit-requires
-    enum-told
-    enum-told-2
-    enum-told-3
-    search-support-requires
-    same-length-2
-    returns-2
-    search-all-requires
-    same-length-3
-    returns-3
-    same-length-4
-    returns-4
-    same-length-5
-    returns-5)
+    (λ c κs. search needs) (λ c κs. search needs) is-small-requires scan-requires (λ c. search needs) returns (λ c κs. search needs)
+    first-hit-requires (λ c. search needs) (λ c. search needs) (λ c. search needs) search-support-requires (λ c. search needs)
+    returns-2 search-all-requires (λ c. search needs) returns-3 (λ c. search needs) returns-4 (λ c. search needs) returns-5)

@@ -56,9 +56,6 @@ copy-bits-requires c κs =
     let h = c .before .before .held .ensures in
     (omega (arith, z, h, p .held), omega (arith, h, length-replicate {A = ℕ} 1024 0))
 
-prepare-requires : tie.Need-prepare-requires
-prepare-requires c κs = search needs
-
 slice-aggregate-go-on : tie.Need-slice-aggregate-go-on
 slice-aggregate-go-on c = sym (c .before .before .before .before .before .before .before .before .before .copy-bits .kept .1 .1 .0 ∙ length-replicate {A = ℕ} 1024 0)
 
@@ -76,9 +73,6 @@ go-on-requires c κs =
       left = floored u (a .d) (n .copy-bits .last .1 .1 .0) (floor-in n);
     }
 
-same-length : tie.Need-same-length
-same-length c = search needs
-
 returns : tie.Need-returns
 returns c =
     let s = c .before .before .before .before .before .before .before .before .before .before .before .before .before .before .before .before .before .before .before .before .before in
@@ -93,12 +87,5 @@ pub search-support-spec : {M : Type 1} → statement M
 search-support-spec =
     tie.close
     (tie.spec
-    size-requires
-    held-requires
-    slice-aggregate-copy-bits
-    copy-bits-requires
-    prepare-requires
-    slice-aggregate-go-on
-    go-on-requires
-    same-length
-    returns)
+    size-requires held-requires slice-aggregate-copy-bits copy-bits-requires (λ c κs. search needs) slice-aggregate-go-on
+    go-on-requires (λ c. search needs) returns)

@@ -60,13 +60,4 @@ pub support-size-spec : {M : Type 1} → statement M
 support-size-spec =
     tie.close
     (tie.spec
-    Inv-loop
-    μ-loop
-    loop-holds
-    sub-mark-of
-    mark-of-requires
-    add-r
-    add-i
-    loop-less
-    loop-again
-    returns)
+    Inv-loop μ-loop loop-holds sub-mark-of mark-of-requires add-r add-i loop-less loop-again returns)

@@ -104,22 +104,5 @@ pub read-difference-spec : {M : Type 1} → statement M
 read-difference-spec =
     tie.close
     (tie.spec
-    Inv-loop
-    μ-loop
-    loop-holds
-    returns
-    shared-slice-read-wide
-    wide-requires
-    add-i
-    mul-total
-    add-total
-    returns-2
-    cast-t14
-    returns-3
-    mul-total-2
-    add-total-2
-    mul-scale
-    sub-left
-    loop-less
-    loop-again
-    returns-4)
+    Inv-loop μ-loop loop-holds returns shared-slice-read-wide wide-requires add-i mul-total add-total returns-2 cast-t14 returns-3
+    mul-total-2 add-total-2 mul-scale sub-left loop-less loop-again returns-4)

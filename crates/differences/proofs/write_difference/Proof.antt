@@ -58,17 +58,5 @@ pub write-difference-spec : {M : Type 1} → statement M
 write-difference-spec =
     tie.close
     (tie.spec
-    Inv-loop
-    μ-loop
-    loop-holds
-    add-out
-    cast-out
-    slice-write-out
-    add-end
-    loop-less
-    loop-again
-    cast-out-2
-    slice-write-out-2
-    add-result
-    same-length
-    returns)
+    Inv-loop μ-loop loop-holds add-out cast-out slice-write-out add-end loop-less loop-again cast-out-2 slice-write-out-2 add-result
+    same-length returns)

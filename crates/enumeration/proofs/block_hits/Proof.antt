@@ -135,20 +135,5 @@ pub block-hits-spec : {M : Type 1} → statement M
 block-hits-spec =
     tie.close
     (tie.spec
-    Inv-loop
-    μ-loop
-    sub-top
-    first-frame-requires
-    loop-holds
-    same-length
-    same-length-2
-    returns
-    sub-top-2
-    next-frame-requires
-    add-u
-    loop-less
-    loop-again
-    bad-word-requires
-    same-length-3
-    same-length-4
-    returns-2)
+    Inv-loop μ-loop sub-top first-frame-requires loop-holds same-length same-length-2 returns sub-top-2 next-frame-requires add-u
+    loop-less loop-again bad-word-requires same-length-3 same-length-4 returns-2)

@@ -64,10 +64,4 @@ pub first-frame-spec : {M : Type 1} → statement M
 first-frame-spec =
     tie.close
     (tie.spec
-    slice-write-values
-    put-starts-requires
-    put-inputs-requires
-    eval-gates-requires
-    constrain-requires
-    same-length
-    returns)
+    slice-write-values put-starts-requires put-inputs-requires eval-gates-requires constrain-requires same-length returns)

@@ -12,9 +12,6 @@ use borrow.Author.Needs.{needs}
 use Rattle.enumeration.proofs.first_hit.Statement.{statement}
 use Rattle.enumeration.proofs.first_hit.Tie as tie
 
-add-n : tie.Need-add-n
-add-n c = search needs
-
 mul-n : tie.Need-mul-n
 mul-n c =
     let S = c .before .before .before .before in
@@ -26,9 +23,6 @@ add-n-2 c =
     let S = c .before .before .before .before in
     let R = S .pre .0 in
     omega (arith, bits-few (S .args .layout .i) (S .args .t) (inputs-few (R .held) (R .layout-of)) (S .pre .1 .0 .1), R .layout-of .u-is, starts-few (R .held) (R .layout-of))
-
-tries-requires : tie.Need-tries-requires
-tries-requires c κs = search needs
 
 first-below-requires : tie.Need-first-below-requires
 first-below-requires c κs =
@@ -43,9 +37,6 @@ put-free-requires c κs =
     let R = S .pre .0 in
     omega (arith, (bits-are (circuitIn (S .args .m .now)) (S .args .t) (R .layout-of .u-is) (inputs-are (R .held) (R .layout-of))), S .pre .1 .1)
 
-same-length : tie.Need-same-length
-same-length c = search needs
-
 returns : tie.Need-returns
 returns c =
     let S = c .before .before .before .before .before .before .before .before .before .before .before in
@@ -54,9 +45,6 @@ returns c =
     let W = c .before .before .put-free in
     let R = S .pre .0 in
     (F .result, decision-hit (circuitIn (S .args .m .now)) (S .args .b) (S .args .t) (S .args .d) (bits-are (circuitIn (S .args .m .now)) (S .args .t) (R .layout-of .u-is) (inputs-are (R .held) (R .layout-of))) (N .ensures) (F .ensures) (c .before .before .before .before .if1 .taken), subst (λ (n : ℕ). FreeBits n (F .result) (W .last .1 .1 .0)) (bits-are (circuitIn (S .args .m .now)) (S .args .t) (R .layout-of .u-is) (inputs-are (R .held) (R .layout-of))) (W .ensures))
-
-covers-requires : tie.Need-covers-requires
-covers-requires c κs = search needs
 
 returns-2 : tie.Need-returns-2
 returns-2 c =
@@ -80,14 +68,5 @@ pub first-hit-spec : {M : Type 1} → statement M
 first-hit-spec =
     tie.close
     (tie.spec
-    add-n
-    mul-n
-    add-n-2
-    tries-requires
-    first-below-requires
-    put-free-requires
-    same-length
-    returns
-    covers-requires
-    returns-2
-    returns-3)
+    (λ c. search needs) mul-n add-n-2 (λ c κs. search needs) first-below-requires put-free-requires (λ c. search needs) returns
+    (λ c κs. search needs) returns-2 returns-3)

@@ -43,10 +43,4 @@ pub next-frame-spec : {M : Type 1} → statement M
 next-frame-spec =
     tie.close
     (tie.spec
-    advance-requires
-    put-inputs-requires
-    eval-gates-requires
-    constrain-requires
-    same-length
-    same-length-2
-    returns)
+    advance-requires put-inputs-requires eval-gates-requires constrain-requires same-length same-length-2 returns)

@@ -59,16 +59,5 @@ pub put-free-spec : {M : Type 1} → statement M
 put-free-spec =
     tie.close
     (tie.spec
-    Inv-loop
-    μ-loop
-    loop-holds
-    add-bit-of
-    sub-bit-of
-    bit-of-requires
-    mul-free
-    slice-write-free
-    add-j
-    loop-less
-    loop-again
-    same-length
+    Inv-loop μ-loop loop-holds add-bit-of sub-bit-of bit-of-requires mul-free slice-write-free add-j loop-less loop-again same-length
     returns)

@@ -100,22 +100,6 @@ pub put-inputs-spec : {M : Type 1} → statement M
 put-inputs-spec =
     tie.close
     (tie.spec
-    Inv-loop
-    μ-loop
-    loop-holds
-    add-from-word
-    mul-from-word
-    shared-slice-read-from-word
-    from-word-requires
-    var-requires
-    cast-place
-    add-counting-word
-    sub-counting-word
-    counting-word-requires
-    mul-values
-    slice-write-values
-    add-i
-    loop-less
-    loop-again
-    same-length
+    Inv-loop μ-loop loop-holds add-from-word mul-from-word shared-slice-read-from-word from-word-requires var-requires cast-place
+    add-counting-word sub-counting-word counting-word-requires mul-values slice-write-values add-i loop-less loop-again same-length
     returns)

@@ -123,24 +123,5 @@ pub scan-blocks-spec : {M : Type 1} → statement M
 scan-blocks-spec =
     tie.close
     (tie.spec
-    Inv-loop
-    μ-loop
-    loop-holds
-    mul-loop
-    block-hits-requires
-    first-difference-requires
-    cast-p
-    mul-x
-    add-x
-    same-length
-    same-length-2
-    returns
-    same-length-3
-    same-length-4
-    returns-2
-    add-block
-    loop-less
-    loop-again
-    same-length-5
-    same-length-6
-    returns-3)
+    Inv-loop μ-loop loop-holds mul-loop block-hits-requires first-difference-requires cast-p mul-x add-x same-length same-length-2
+    returns same-length-3 same-length-4 returns-2 add-block loop-less loop-again same-length-5 same-length-6 returns-3)

@@ -8,9 +8,6 @@ use Rattle.enumeration.proofs.start_word.Tie as tie
 equals-requires : tie.Need-equals-requires
 equals-requires c κs = tt
 
-counting-word-requires : tie.Need-counting-word-requires
-counting-word-requires c κs = search needs
-
 returns : tie.Need-returns
 returns c = λ p h. rw (sym (c .before .before .equals .ensures) ∙ c .before .if1 .taken) (c .counting-word .ensures p h)
 
@@ -29,9 +26,4 @@ pub start-word-spec : {M : Type 1} → statement M
 start-word-spec =
     tie.close
     (tie.spec
-    equals-requires
-    counting-word-requires
-    returns
-    is-true-requires
-    returns-2
-    returns-3)
+    equals-requires (λ c κs. search needs) returns is-true-requires returns-2 returns-3)

@@ -8,9 +8,6 @@ use Rattle.enumeration.proofs.tries.Tie as tie
 returns : tie.Need-returns
 returns c = omega (arith, pow-mono (c .if1 .taken))
 
-shl-all : tie.Need-shl-all
-shl-all c = search needs
-
 returns-2 : tie.Need-returns-2
 returns-2 c = omega (arith, pow-mono (c .before .if1 .left))
 
@@ -18,4 +15,4 @@ returns-3 : tie.Need-returns-3
 returns-3 c = omega (arith, pow-mono (c .before .if1 .left))
 
 pub tries-spec : {M : Type 1} → statement M
-tries-spec = tie.close (tie.spec returns shl-all returns-2 returns-3)
+tries-spec = tie.close (tie.spec returns (λ c. search needs) returns-2 returns-3)

@@ -11,15 +11,6 @@ use Rattle.expansion.proofs.expand.Lts as lts
 use Rattle.expansion.proofs.copy.Reads as copy-reads
 use Rattle.expansion.proofs.expand_rows.Reads as expand-rows-reads
 
-copy-requires : tie.Need-copy-requires
-copy-requires c κs = search needs
-
-expand-rows-requires : tie.Need-expand-rows-requires
-expand-rows-requires c κs = search needs
-
-same-length : tie.Need-same-length
-same-length c = search needs
-
 returns : tie.Need-returns
 returns c = let s = c .before .before .before .before .before .before .before .before .before .before .before in
     let a = s .args in
@@ -29,4 +20,4 @@ returns c = let s = c .before .before .before .before .before .before .before .b
     (e .last .1 .1 .1 .1 .1 .1 .0) (s .pre .3) (omega (arith, s .pre .4)) (k .ensures) (e .ensures)
 
 pub expand-spec : {M : Type 1} → statement M
-expand-spec = tie.close (tie.spec copy-requires expand-rows-requires same-length returns)
+expand-spec = tie.close (tie.spec (λ c κs. search needs) (λ c κs. search needs) (λ c. search needs) returns)

@@ -11,21 +11,12 @@ use Rattle.expansion.proofs.expand_bit.Lts as lts
 use Rattle.expansion.proofs.byte_of.Reads as byte-of-reads
 use Rattle.expansion.proofs.is_one.Reads as is-one-reads
 
-byte-of-requires : tie.Need-byte-of-requires
-byte-of-requires c κs = search needs
-
 returns : tie.Need-returns
 returns c = let h = lt-ltb (c .before .before .before .args .pin) 2 (omega arith) in (rw h (c .byte-of .ensures), rw h)
-
-is-one-requires : tie.Need-is-one-requires
-is-one-requires c κs = search needs
-
-byte-of-requires-2 : tie.Need-byte-of-requires-2
-byte-of-requires-2 c κs = search needs
 
 returns-2 : tie.Need-returns-2
 returns-2 c = let h = le-ltb (c .before .before .before .before .args .pin) 2 (omega arith) in (rw h (c .byte-of2 .ensures ∙ ap byteOf (c .before .is-one .ensures)), rw h)
 
 pub expand-bit-spec : {M : Type 1} → statement M
 expand-bit-spec =
-    tie.close (tie.spec byte-of-requires returns is-one-requires byte-of-requires-2 returns-2)
+    tie.close (tie.spec (λ c κs. search needs) returns (λ c κs. search needs) (λ c κs. search needs) returns-2)

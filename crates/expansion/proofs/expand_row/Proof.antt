@@ -29,9 +29,6 @@ add-expand-bit c = omega arith
 pin-at-requires : tie.Need-pin-at-requires Inv-loop μ-loop
 pin-at-requires c κs = (omega arith, omega arith)
 
-expand-bit-requires : tie.Need-expand-bit-requires Inv-loop μ-loop
-expand-bit-requires c κs = search needs
-
 add-out : tie.Need-add-out Inv-loop μ-loop
 add-out c = omega arith
 
@@ -82,21 +79,5 @@ pub expand-row-spec : {M : Type 1} → statement M
 expand-row-spec =
     tie.close
     (tie.spec
-    Inv-loop
-    μ-loop
-    loop-holds
-    add-expand-bit
-    pin-at-requires
-    expand-bit-requires
-    add-out
-    slice-write-out
-    add-j
-    add-i
-    loop-less
-    loop-again
-    add-out-2
-    slice-write-out-2
-    add-result
-    add-result-2
-    same-length
-    returns)
+    Inv-loop μ-loop loop-holds add-expand-bit pin-at-requires (λ c κs. search needs) add-out slice-write-out add-j add-i loop-less
+    loop-again add-out-2 slice-write-out-2 add-result add-result-2 same-length returns)

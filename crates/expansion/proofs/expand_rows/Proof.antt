@@ -88,17 +88,5 @@ pub expand-rows-spec : {M : Type 1} → statement M
 expand-rows-spec =
     tie.close
     (tie.spec
-    Inv-loop
-    μ-loop
-    loop-holds
-    expand-row-requires
-    add-at
-    add-at-2
-    add-u
-    loop-less
-    loop-again
-    slice-write-out
-    add-out
-    slice-write-out-2
-    same-length
-    returns)
+    Inv-loop μ-loop loop-holds expand-row-requires add-at add-at-2 add-u loop-less loop-again slice-write-out add-out slice-write-out-2
+    same-length returns)

@@ -7,14 +7,8 @@ use Rattle.expansion.proofs.is_one.Tie as tie
 use Rattle.expansion.proofs.is_one.Reads as reads
 use Rattle.expansion.proofs.is_one.Lts as lts
 
-shared-slice-read-result : tie.Need-shared-slice-read-result
-shared-slice-read-result c = search needs
-
-returns : tie.Need-returns
-returns c = search needs
-
 returns-2 : tie.Need-returns-2
 returns-2 c = rw (getD-past (c .before .args .text .now) (c .before .args .at) 0 (omega arith))
 
 pub is-one-spec : {M : Type 1} → statement M
-is-one-spec = tie.close (tie.spec shared-slice-read-result returns returns-2)
+is-one-spec = tie.close (tie.spec (λ c. search needs) (λ c. search needs) returns-2)

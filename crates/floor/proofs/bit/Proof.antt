@@ -4,12 +4,9 @@ use borrow.Author.Needs.{needs}
 use Rattle.floor.proofs.bit.Statement.{statement}
 use Rattle.floor.proofs.bit.Tie as tie
 
-field-requires : tie.Need-field-requires
-field-requires c κs = search needs
-
 returns : tie.Need-returns
 unfolding P.bitOf
 returns c = rw (← c .field .ensures)
 
 pub bit-spec : {M : Type 1} → statement M
-bit-spec = tie.close (tie.spec field-requires returns)
+bit-spec = tie.close (tie.spec (λ c κs. search needs) returns)

@@ -4,12 +4,9 @@ use borrow.Author.Needs.{needs}
 use Rattle.floor.proofs.can_rise.Statement.{statement}
 use Rattle.floor.proofs.can_rise.Tie as tie
 
-bit-requires : tie.Need-bit-requires
-bit-requires c κs = search needs
-
 returns : tie.Need-returns
 unfolding P.canRise
 returns c = rw (← c .bit .ensures)
 
 pub can-rise-spec : {M : Type 1} → statement M
-can-rise-spec = tie.close (tie.spec bit-requires returns)
+can-rise-spec = tie.close (tie.spec (λ c κs. search needs) returns)

@@ -5,18 +5,6 @@ use borrow.Author.Needs.{needs}
 use Rattle.floor.proofs.clear.Statement.{statement}
 use Rattle.floor.proofs.clear.Tie as tie
 
-field-requires : tie.Need-field-requires
-field-requires c κs = search needs
-
-sub-set-field : tie.Need-sub-set-field
-sub-set-field c = search needs
-
-set-field-requires : tie.Need-set-field-requires
-set-field-requires c κs = search needs
-
-same-length : tie.Need-same-length
-same-length c = search needs
-
 returns : tie.Need-returns
 unfolding P.cleared
 returns c =
@@ -24,9 +12,6 @@ returns c =
       ← c .before .before .before .before .before .field .ensures,
       eq-eqb _ _ (c .before .before .before .before .if1 .taken),
     ) (c .before .before .set-field .ensures)
-
-same-length-2 : tie.Need-same-length-2
-same-length-2 c = search needs
 
 returns-2 : tie.Need-returns-2
 unfolding P.cleared
@@ -36,10 +21,4 @@ pub clear-spec : {M : Type 1} → statement M
 clear-spec =
     tie.close
     (tie.spec
-    field-requires
-    sub-set-field
-    set-field-requires
-    same-length
-    returns
-    same-length-2
-    returns-2)
+    (λ c κs. search needs) (λ c. search needs) (λ c κs. search needs) (λ c. search needs) returns (λ c. search needs) returns-2)

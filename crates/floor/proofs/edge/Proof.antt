@@ -5,9 +5,6 @@ use borrow.Author.Needs.{needs}
 use Rattle.floor.proofs.edge.Statement.{statement}
 use Rattle.floor.proofs.edge.Tie as tie
 
-field-requires : tie.Need-field-requires
-field-requires c κs = search needs
-
 returns : tie.Need-returns
 unfolding P.edge
 returns c = rw (← c .before .field .ensures, eq-eqb _ _ (c .if1 .taken))
@@ -21,4 +18,4 @@ unfolding P.edge
 returns-3 c = rw (← c .before .before .field .ensures, ne-eqb _ _ (c .before .if1 .left), ne-eqb _ _ (c .if2 .left))
 
 pub edge-spec : {M : Type 1} → statement M
-edge-spec = tie.close (tie.spec field-requires returns returns-2 returns-3)
+edge-spec = tie.close (tie.spec (λ c κs. search needs) returns returns-2 returns-3)

@@ -5,9 +5,6 @@ use borrow.Author.Needs.{needs}
 use Rattle.floor.proofs.is_wrong.Statement.{statement}
 use Rattle.floor.proofs.is_wrong.Tie as tie
 
-opposite-requires : tie.Need-opposite-requires
-opposite-requires c κs = search needs
-
 returns : tie.Need-returns
 unfolding P.isWrong
 returns c = rw (← c .before .opposite .ensures, eq-eqb _ _ (c .if1 .taken))
@@ -25,9 +22,6 @@ returns-3 c =
       ne-eqb _ _ (c .before .before .if2 .left),
       lt-ltb _ _ (c .if3 .taken),
     )
-
-bit-requires : tie.Need-bit-requires
-bit-requires c κs = search needs
 
 returns-4 : tie.Need-returns-4
 unfolding P.isWrong
@@ -56,4 +50,4 @@ returns-5 c =
 pub is-wrong-spec : {M : Type 1} → statement M
 is-wrong-spec =
     tie.close
-    (tie.spec opposite-requires returns returns-2 returns-3 bit-requires returns-4 returns-5)
+    (tie.spec (λ c κs. search needs) returns returns-2 returns-3 (λ c κs. search needs) returns-4 returns-5)

@@ -21,20 +21,11 @@ loop-holds c =
 sub-left : tie.Need-sub-left Inv-loop μ-loop
 sub-left c = omega arith
 
-literal-requires : tie.Need-literal-requires Inv-loop μ-loop
-literal-requires c κs = search needs
-
-is-wrong-requires : tie.Need-is-wrong-requires Inv-loop μ-loop
-is-wrong-requires c κs = search needs
-
 returns : tie.Need-returns Inv-loop μ-loop
 returns c =
     let l = c .before .before .before .before .loop in
     let s = c .before .before .before .before .before .before .args in
     sym (judged-wrong (s .work .now) (s .net) (s .arena) (l .left) (l .top) (omega arith) (rw (← c .before .before .literal .ensures) (sym (c .before .is-wrong .ensures) ∙ c .if1 .taken))) ∙ l .inv
-
-later-requires : tie.Need-later-requires Inv-loop μ-loop
-later-requires c κs = search needs
 
 loop-less : tie.Need-loop-less Inv-loop μ-loop
 loop-less c = omega arith
@@ -56,14 +47,5 @@ pub judge-spec : {M : Type 1} → statement M
 judge-spec =
     tie.close
     (tie.spec
-    Inv-loop
-    μ-loop
-    loop-holds
-    sub-left
-    literal-requires
-    is-wrong-requires
-    returns
-    later-requires
-    loop-less
-    loop-again
-    returns-2)
+    Inv-loop μ-loop loop-holds sub-left (λ c κs. search needs) (λ c κs. search needs) returns (λ c κs. search needs) loop-less
+    loop-again returns-2)

@@ -5,9 +5,6 @@ use borrow.Author.Needs.{needs}
 use Rattle.floor.proofs.later.Statement.{statement}
 use Rattle.floor.proofs.later.Tie as tie
 
-opposite-requires : tie.Need-opposite-requires
-opposite-requires c κs = search needs
-
 returns : tie.Need-returns
 unfolding P.later
 returns c = rw (← c .before .opposite .ensures, eq-eqb _ _ (c .if1 .taken))
@@ -21,4 +18,4 @@ unfolding P.later
 returns-3 c = rw (← c .before .before .opposite .ensures, ne-eqb _ _ (c .before .if1 .left), le-ltb _ _ (c .if2 .left))
 
 pub later-spec : {M : Type 1} → statement M
-later-spec = tie.close (tie.spec opposite-requires returns returns-2 returns-3)
+later-spec = tie.close (tie.spec (λ c κs. search needs) returns returns-2 returns-3)

@@ -18,12 +18,6 @@ abbrev μ-loop : tie.MeasureT-loop
 loop-holds : tie.Need-loop-holds Inv-loop μ-loop
 loop-holds c = (refl, refl)
 
-can-rise-requires : tie.Need-can-rise-requires Inv-loop μ-loop
-can-rise-requires c κs = search needs
-
-lift-requires : tie.Need-lift-requires Inv-loop μ-loop
-lift-requires c κs = search needs
-
 same-length : tie.Need-same-length Inv-loop μ-loop
 same-length c =
     search needs
@@ -34,9 +28,6 @@ returns c =
     let s = c .before .before .before .before .before .before .before .before .before .before .args in
     let all = sym (raised-here (l .work) (s .nodes) (s .m) (l .v) (omega arith) (sym (c .before .before .before .before .before .can-rise .ensures) ∙ c .before .before .before .before .if1 .taken)) ∙ l .inv .1 in
     record { words = c .before .before .lift .ensures ∙ ap (λ (t : Counted). t .words) all; count = ap (λ (t : Counted). t .count) all }
-
-clear-requires : tie.Need-clear-requires Inv-loop μ-loop
-clear-requires c κs = search needs
 
 sub-v : tie.Need-sub-v Inv-loop μ-loop
 sub-v c = omega arith
@@ -67,16 +58,5 @@ pub raise-spec : {M : Type 1} → statement M
 raise-spec =
     tie.close
     (tie.spec
-    Inv-loop
-    μ-loop
-    loop-holds
-    can-rise-requires
-    lift-requires
-    same-length
-    returns
-    clear-requires
-    sub-v
-    loop-less
-    loop-again
-    same-length-2
-    returns-2)
+    Inv-loop μ-loop loop-holds (λ c κs. search needs) (λ c κs. search needs) same-length returns (λ c κs. search needs) sub-v loop-less
+    loop-again same-length-2 returns-2)

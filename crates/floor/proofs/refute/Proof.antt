@@ -6,12 +6,6 @@ use borrow.Author.Needs.{needs}
 use Rattle.floor.proofs.refute.Statement.{statement}
 use Rattle.floor.proofs.refute.Tie as tie
 
-judge-requires : tie.Need-judge-requires
-judge-requires c κs = search needs
-
-same-length : tie.Need-same-length
-same-length c = search needs
-
 returns : tie.Need-returns
 unfolding P.refuted P.raisedBy
 returns c =
@@ -20,12 +14,6 @@ returns c =
       c .before .before .before .if1 .taken,
       eq-eqb _ _ (c .if2 .taken),
     ) (record { words = refl; count = refl })
-
-raise-requires : tie.Need-raise-requires
-raise-requires c κs = search needs
-
-same-length-2 : tie.Need-same-length-2
-same-length-2 c = search needs
 
 returns-2 : tie.Need-returns-2
 unfolding P.refuted P.raisedBy
@@ -38,4 +26,4 @@ returns-3 c = rw (c .if1 .left) (record { words = refl; count = refl })
 pub refute-spec : {M : Type 1} → statement M
 refute-spec =
     tie.close
-    (tie.spec judge-requires same-length returns raise-requires same-length-2 returns-2 returns-3)
+    (tie.spec (λ c κs. search needs) (λ c. search needs) returns (λ c κs. search needs) (λ c. search needs) returns-2 returns-3)

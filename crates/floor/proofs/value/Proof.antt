@@ -9,9 +9,6 @@ returns : tie.Need-returns
 unfolding P.nodeValue
 returns c = rw (eq-eqb _ _ (c .if1 .taken))
 
-bit-requires : tie.Need-bit-requires
-bit-requires c κs = search needs
-
 returns-2 : tie.Need-returns-2
 unfolding P.nodeValue
 returns-2 c =
@@ -32,12 +29,6 @@ returns-3 c =
       ne-eqb _ _ (c .if3 .left),
     )
 
-field-requires : tie.Need-field-requires
-field-requires c κs = search needs
-
-edge-requires : tie.Need-edge-requires
-edge-requires c κs = search needs
-
 returns-4 : tie.Need-returns-4
 unfolding P.nodeValue
 returns-4 c =
@@ -48,12 +39,6 @@ returns-4 c =
       lt-leb _ _ (c .before .before .before .if2 .left),
       eq-eqb _ _ (c .if4 .taken),
     )
-
-field-requires-2 : tie.Need-field-requires-2
-field-requires-2 c κs = search needs
-
-edge-requires-2 : tie.Need-edge-requires-2
-edge-requires-2 c κs = search needs
 
 returns-5 : tie.Need-returns-5
 unfolding P.nodeValue
@@ -72,13 +57,5 @@ pub value-spec : {M : Type 1} → statement M
 value-spec =
     tie.close
     (tie.spec
-    returns
-    bit-requires
-    returns-2
-    returns-3
-    field-requires
-    edge-requires
-    returns-4
-    field-requires-2
-    edge-requires-2
-    returns-5)
+    returns (λ c κs. search needs) returns-2 returns-3 (λ c κs. search needs) (λ c κs. search needs) returns-4 (λ c κs. search needs)
+    (λ c κs. search needs) returns-5)

@@ -54,9 +54,6 @@ unroll-requires c κs =
 mark-requires : tie.Need-mark-requires
 mark-requires c κs = markable (c .before .before .before .before .before .unroll .ensures)
 
-assign-requires : tie.Need-assign-requires
-assign-requires c κs = search needs
-
 write-folded-requires : tie.Need-write-folded-requires
 write-folded-requires c κs =
     let a = c .before .before .before .before in
@@ -64,12 +61,6 @@ write-folded-requires c κs =
     let s = u .before .before .before .before .before .before .before in
     let w = writes a in
     (w, omega (arith, text-short w, w .sized .nodes, u .unroll .ensures .room-is, room-is (u .before .before), s .pre .output))
-
-same-length : tie.Need-same-length
-same-length c = search needs
-
-same-length-2 : tie.Need-same-length-2
-same-length-2 c = search needs
 
 returns : tie.Need-returns
 returns c =
@@ -92,11 +83,5 @@ pub fold-frame-spec : {M : Type 1} → statement M
 fold-frame-spec =
     tie.close
     (tie.spec
-    size-requires
-    unroll-requires
-    mark-requires
-    assign-requires
-    write-folded-requires
-    same-length
-    same-length-2
+    size-requires unroll-requires mark-requires (λ c κs. search needs) write-folded-requires (λ c. search needs) (λ c. search needs)
     returns)

@@ -13,21 +13,12 @@ use Rattle.limits.proofs.Refusals.{judge-refused, length-refused, length-passes
 use Rattle.fold.proofs.judge.Statement.{statement}
 use Rattle.fold.proofs.judge.Tie as tie
 
-judge-requires : tie.Need-judge-requires
-judge-requires c κs = search needs
-
-enum-known-n : tie.Need-enum-known-n
-enum-known-n c = search needs
-
 returns : tie.Need-returns
 returns c =
     let a = c .before .before .before .before .args in
     λ x e.
     judge-refused (boundTests x (a .b) (a .t) true (a .room)) (need 13 (leb (24 * size x (a .t) + 64) (a .len)) ∷ []) _
     (rw (c .before .n .given .1) at (c .before .before .before .judge .ensures .tests x e))
-
-enum-told : tie.Need-enum-told
-enum-told c = search needs
 
 size-requires : tie.Need-size-requires
 size-requires c κs =
@@ -61,12 +52,4 @@ pub judge-spec : {M : Type 1} → statement M
 judge-spec =
     tie.close
     (tie.spec
-    judge-requires
-    enum-known-n
-    returns
-    enum-told
-    size-requires
-    mul-if1
-    add-if1
-    returns-2
-    returns-3)
+    (λ c κs. search needs) (λ c. search needs) returns (λ c. search needs) size-requires mul-if1 add-if1 returns-2 returns-3)

@@ -13,16 +13,10 @@ told c =
     let s = c .before .before .before .before in
     literal-told (s .args .work .now) (s .args .w) (c .before .before .from-word .ensures) (c .before .literal .ensures) (c .word .ensures)
 
-from-word-requires : tie.Need-from-word-requires
-from-word-requires c κs = search needs
-
 literal-requires : tie.Need-literal-requires
 literal-requires c κs =
     let s = c .before .before in
     subst (λ (e : Edge). NodeFits (s .args .work .now) (e .0 .0)) (sym (c .from-word .ensures)) (s .pre)
-
-word-requires : tie.Need-word-requires
-word-requires c κs = search needs
 
 cast-result : tie.Need-cast-result
 cast-result c =
@@ -34,4 +28,4 @@ returns c = told c
 
 pub literal-word-spec : {M : Type 1} → statement M
 literal-word-spec =
-    tie.close (tie.spec from-word-requires literal-requires word-requires cast-result returns)
+    tie.close (tie.spec (λ c κs. search needs) literal-requires (λ c κs. search needs) cast-result returns)

@@ -74,9 +74,6 @@ literal-requires c κs =
     let s = c .before .before in
     node-fits (s .pre .0) (s .args .root .0 .0) (omega (arith, word-node (s .args .root), s .pre .0 .inside))
 
-word-requires : tie.Need-word-requires
-word-requires c κs = search needs
-
 cast-output : tie.Need-cast-output
 cast-output c =
     let s = c .before .before .before .before in
@@ -106,9 +103,6 @@ write-gates-requires c κs =
     let s = entry-3 w in
     (gates-fit (s .pre .0), last-room (gates s) (room s) (left-3 w))
 
-same-length : tie.Need-same-length
-same-length c = search needs
-
 returns : tie.Need-returns
 returns c =
     let w = c .before .before in
@@ -119,12 +113,5 @@ pub write-folded-spec : {M : Type 1} → statement M
 write-folded-spec =
     tie.close
     (tie.spec
-    literal-requires
-    word-requires
-    cast-output
-    write-head-requires
-    write-inputs-requires
-    put-ended-requires
-    write-gates-requires
-    same-length
-    returns)
+    literal-requires (λ c κs. search needs) cast-output write-head-requires write-inputs-requires put-ended-requires
+    write-gates-requires (λ c. search needs) returns)

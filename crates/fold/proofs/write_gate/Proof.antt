@@ -10,18 +10,6 @@ use borrow.Author.Needs.{needs}
 use Rattle.fold.proofs.write_gate.Statement.{statement}
 use Rattle.fold.proofs.write_gate.Tie as tie
 
-mul-number : tie.Need-mul-number
-mul-number c = search needs
-
-add-number : tie.Need-add-number
-add-number c = search needs
-
-mul-number-2 : tie.Need-mul-number-2
-mul-number-2 c = search needs
-
-shared-slice-read-number : tie.Need-shared-slice-read-number
-shared-slice-read-number c = search needs
-
 -- the row that is written is the gate's line
 line : (c : tie.After-put-row-arg) → (
     let two = c .before .before in
@@ -42,49 +30,13 @@ returns c =
     let s = c .before .before .before .before in
     rw (gate-none (s .args .work .now) (s .args .k) (omega arith)) (placed-none (s .args .out .now) (s .args .at))
 
-word-requires : tie.Need-word-requires
-word-requires c κs = search needs
-
-cast-own : tie.Need-cast-own
-cast-own c = search needs
-
-mul-literal-word : tie.Need-mul-literal-word
-mul-literal-word c = search needs
-
-mul-literal-word-2 : tie.Need-mul-literal-word-2
-mul-literal-word-2 c = search needs
-
-shared-slice-read-literal-word : tie.Need-shared-slice-read-literal-word
-shared-slice-read-literal-word c = search needs
-
 literal-word-requires : tie.Need-literal-word-requires
 literal-word-requires c κs = let s = c .before .before .before .before .before .before in gate-left (s .args .work .now) (s .args .k) (s .pre .0)
-
-mul-literal-word-3 : tie.Need-mul-literal-word-3
-mul-literal-word-3 c = search needs
-
-add-literal-word : tie.Need-add-literal-word
-add-literal-word c = search needs
-
-mul-literal-word-4 : tie.Need-mul-literal-word-4
-mul-literal-word-4 c = search needs
-
-shared-slice-read-literal-word-2 : tie.Need-shared-slice-read-literal-word-2
-shared-slice-read-literal-word-2 c = search needs
-
-literal-word-requires-2 : tie.Need-literal-word-requires-2
-literal-word-requires-2 c κs = search needs
-
-slice-aggregate-put-row : tie.Need-slice-aggregate-put-row
-slice-aggregate-put-row c = search needs
 
 put-row-requires : tie.Need-put-row-requires
 put-row-requires c κs =
     let s = c .before .before .before .before .before .before .before .before .before .before .before in
     (omega arith, rw (line c) (s .pre .1))
-
-same-length : tie.Need-same-length
-same-length c = search needs
 
 returns-2 : tie.Need-returns-2
 returns-2 c =
@@ -95,23 +47,6 @@ pub write-gate-spec : {M : Type 1} → statement M
 write-gate-spec =
     tie.close
     (tie.spec
-    mul-number
-    add-number
-    mul-number-2
-    shared-slice-read-number
-    returns
-    word-requires
-    cast-own
-    mul-literal-word
-    mul-literal-word-2
-    shared-slice-read-literal-word
-    literal-word-requires
-    mul-literal-word-3
-    add-literal-word
-    mul-literal-word-4
-    shared-slice-read-literal-word-2
-    literal-word-requires-2
-    slice-aggregate-put-row
-    put-row-requires
-    same-length
-    returns-2)
+    (λ c. search needs) (λ c. search needs) (λ c. search needs) (λ c. search needs) returns (λ c κs. search needs) (λ c. search needs)
+    (λ c. search needs) (λ c. search needs) (λ c. search needs) literal-word-requires (λ c. search needs) (λ c. search needs)
+    (λ c. search needs) (λ c. search needs) (λ c κs. search needs) (λ c. search needs) put-row-requires (λ c. search needs) returns-2)

@@ -85,15 +85,4 @@ pub write-gates-spec : {M : Type 1} → statement M
 write-gates-spec =
     tie.close
     (tie.spec
-    Inv-loop
-    μ-loop
-    add-first
-    sub-gates
-    loop-holds
-    add-write-gate
-    write-gate-requires
-    add-j
-    loop-less
-    loop-again
-    same-length
-    returns)
+    Inv-loop μ-loop add-first sub-gates loop-holds add-write-gate write-gate-requires add-j loop-less loop-again same-length returns)

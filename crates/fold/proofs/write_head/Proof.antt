@@ -7,21 +7,6 @@ use borrow.Author.Needs.{needs}
 use Rattle.fold.proofs.write_head.Statement.{statement}
 use Rattle.fold.proofs.write_head.Tie as tie
 
-add-all : tie.Need-add-all
-add-all c = search needs
-
-cast-all : tie.Need-cast-all
-cast-all c = search needs
-
-cast-inputs : tie.Need-cast-inputs
-cast-inputs c = search needs
-
-cast-gates : tie.Need-cast-gates
-cast-gates c = search needs
-
-slice-write-out : tie.Need-slice-write-out
-slice-write-out c = search needs
-
 slice-write-out-2 : tie.Need-slice-write-out-2
 slice-write-out-2 c = simp length-set (omega arith)
 
@@ -30,9 +15,6 @@ slice-write-out-3 c = simp length-set (omega arith)
 
 slice-write-out-4 : tie.Need-slice-write-out-4
 slice-write-out-4 c = simp length-set (omega arith)
-
-slice-aggregate-put-row : tie.Need-slice-aggregate-put-row
-slice-aggregate-put-row c = search needs
 
 put-row-requires : tie.Need-put-row-requires
 put-row-requires c κs =
@@ -55,15 +37,5 @@ pub write-head-spec : {M : Type 1} → statement M
 write-head-spec =
     tie.close
     (tie.spec
-    add-all
-    cast-all
-    cast-inputs
-    cast-gates
-    slice-write-out
-    slice-write-out-2
-    slice-write-out-3
-    slice-write-out-4
-    slice-aggregate-put-row
-    put-row-requires
-    same-length
-    returns)
+    (λ c. search needs) (λ c. search needs) (λ c. search needs) (λ c. search needs) (λ c. search needs) slice-write-out-2
+    slice-write-out-3 slice-write-out-4 (λ c. search needs) put-row-requires same-length returns)

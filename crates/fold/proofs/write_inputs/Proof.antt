@@ -73,15 +73,5 @@ pub write-inputs-spec : {M : Type 1} → statement M
 write-inputs-spec =
     tie.close
     (tie.spec
-    Inv-loop
-    μ-loop
-    loop-holds
-    cast-put-ended
-    add-put-ended
-    mul-put-ended
-    put-ended-requires
-    add-j
-    loop-less
-    loop-again
-    same-length
+    Inv-loop μ-loop loop-holds cast-put-ended add-put-ended mul-put-ended put-ended-requires add-j loop-less loop-again same-length
     returns)

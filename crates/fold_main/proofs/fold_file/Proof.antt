@@ -15,10 +15,7 @@ slice-aggregate-fold-with-2 c = sym (length-replicate {A = ℕ} 1572928 0)
 fold-with-requires : tie.Need-fold-with-requires
 fold-with-requires c κs = (length-replicate {A = ℕ} 1048576 0, length-replicate {A = ℕ} 1572928 0)
 
-returns : tie.Need-returns
-returns c = search needs
-
 pub fold-file-spec : {M : Type 1} → statement M
 fold-file-spec =
     tie.close
-    (tie.spec slice-aggregate-fold-with slice-aggregate-fold-with-2 fold-with-requires returns)
+    (tie.spec slice-aggregate-fold-with slice-aggregate-fold-with-2 fold-with-requires (λ c. search needs))

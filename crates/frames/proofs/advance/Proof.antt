@@ -16,12 +16,6 @@ put-state-requires c κs =
     let S = c .before .before .before .before .before .before .before .before .before .before .before in
     ((latches-inside (S .pre .0), omega (arith, latches-few (S .pre .0), S .pre .1, c .before .before .before .before .next-state .kept .1 .1 .1 .0)), latches-apart (S .pre .0))
 
-same-length : tie.Need-same-length
-same-length c = search needs
-
-same-length-2 : tie.Need-same-length-2
-same-length-2 c = search needs
-
 returns : tie.Need-returns
 returns c =
     let N = c .before .before .before .before .before .before .before .next-state in
@@ -31,4 +25,4 @@ returns c =
 
 pub advance-spec : {M : Type 1} → statement M
 advance-spec =
-    tie.close (tie.spec next-state-requires put-state-requires same-length same-length-2 returns)
+    tie.close (tie.spec next-state-requires put-state-requires (λ c. search needs) (λ c. search needs) returns)

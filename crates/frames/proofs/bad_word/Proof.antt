@@ -13,17 +13,11 @@ use Rattle.frames.proofs.Hits.{bad-end}
 use Rattle.frames.proofs.bad_word.Statement.{statement}
 use Rattle.frames.proofs.bad_word.Tie as tie
 
-add-from-word : tie.Need-add-from-word
-add-from-word c = search needs
-
 mul-from-word : tie.Need-mul-from-word
 mul-from-word c = let S = c .before .before .before in omega (arith, bad-inside (S .pre .0) (S .args .b) (S .pre .1))
 
 shared-slice-read-from-word : tie.Need-shared-slice-read-from-word
 shared-slice-read-from-word c = let S = c .before .before .before .before in omega (arith, bad-inside (S .pre .0) (S .args .b) (S .pre .1))
-
-from-word-requires : tie.Need-from-word-requires
-from-word-requires c κs = search needs
 
 literal-value-requires : tie.Need-literal-value-requires
 literal-value-requires c κs =
@@ -41,9 +35,4 @@ pub bad-word-spec : {M : Type 1} → statement M
 bad-word-spec =
     tie.close
     (tie.spec
-    add-from-word
-    mul-from-word
-    shared-slice-read-from-word
-    from-word-requires
-    literal-value-requires
-    returns)
+    (λ c. search needs) mul-from-word shared-slice-read-from-word (λ c κs. search needs) literal-value-requires returns)

@@ -35,9 +35,6 @@ mul-from-word c = omega (arith, constraint-inside (c .before .before .before .be
 shared-slice-read-from-word : tie.Need-shared-slice-read-from-word Inv-loop μ-loop
 shared-slice-read-from-word c = omega (arith, constraint-inside (c .before .before .before .before .before .before .pre) (c .before .before .loop .k) (omega arith))
 
-from-word-requires : tie.Need-from-word-requires Inv-loop μ-loop
-from-word-requires c κs = search needs
-
 literal-value-requires : tie.Need-literal-value-requires Inv-loop μ-loop
 literal-value-requires c κs =
     rw (ap (λ (l : Lit). l .0 .0) (c .from-word .ensures)) (constraint-below (c .before .before .before .before .before .before .before .pre) (c .before .before .before .loop .k) (omega arith))
@@ -72,15 +69,5 @@ pub constrain-spec : {M : Type 1} → statement M
 constrain-spec =
     tie.close
     (tie.spec
-    Inv-loop
-    μ-loop
-    loop-holds
-    add-from-word
-    mul-from-word
-    shared-slice-read-from-word
-    from-word-requires
-    literal-value-requires
-    add-k
-    loop-less
-    loop-again
-    returns)
+    Inv-loop μ-loop loop-holds add-from-word mul-from-word shared-slice-read-from-word (λ c κs. search needs) literal-value-requires
+    add-k loop-less loop-again returns)

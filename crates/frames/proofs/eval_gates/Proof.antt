@@ -89,17 +89,5 @@ pub eval-gates-spec : {M : Type 1} → statement M
 eval-gates-spec =
     tie.close
     (tie.spec
-    Inv-loop
-    μ-loop
-    loop-holds
-    mul-g
-    shared-slice-read-g
-    cast-g
-    mul-eval-gate
-    add-eval-gate
-    eval-gate-requires
-    add-k
-    loop-less
-    loop-again
-    same-length
-    returns)
+    Inv-loop μ-loop loop-holds mul-g shared-slice-read-g cast-g mul-eval-gate add-eval-gate eval-gate-requires add-k loop-less
+    loop-again same-length returns)

@@ -5,18 +5,6 @@ use borrow.Author.Needs.{needs}
 use Rattle.frames.proofs.literal_value.Statement.{statement}
 use Rattle.frames.proofs.literal_value.Tie as tie
 
-cast-v : tie.Need-cast-v
-cast-v c = search needs
-
-cast-s : tie.Need-cast-s
-cast-s c = search needs
-
-mul-result : tie.Need-mul-result
-mul-result c = search needs
-
-shared-slice-read-result : tie.Need-shared-slice-read-result
-shared-slice-read-result c = search needs
-
 mul-result-2 : tie.Need-mul-result-2
 mul-result-2 c = omega (arith, bit-fits (c .before .before .before .args .l .1))
 
@@ -27,9 +15,4 @@ pub literal-value-spec : {M : Type 1} → statement M
 literal-value-spec =
     tie.close
     (tie.spec
-    cast-v
-    cast-s
-    mul-result
-    shared-slice-read-result
-    mul-result-2
-    returns)
+    (λ c. search needs) (λ c. search needs) (λ c. search needs) (λ c. search needs) mul-result-2 returns)

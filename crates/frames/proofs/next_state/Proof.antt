@@ -40,9 +40,6 @@ mul-from-word-2 c = omega arith
 shared-slice-read-from-word : tie.Need-shared-slice-read-from-word Inv-loop μ-loop
 shared-slice-read-from-word c = omega arith
 
-from-word-requires : tie.Need-from-word-requires Inv-loop μ-loop
-from-word-requires c κs = search needs
-
 literal-value-requires : tie.Need-literal-value-requires Inv-loop μ-loop
 literal-value-requires c κs =
     rw (ap (λ (l : Lit). l .0 .0) (c .from-word .ensures)) (c .before .before .before .before .before .before .before .pre .1 (c .before .before .before .loop .j) (c .before .before .loop-test .taken))
@@ -81,20 +78,5 @@ pub next-state-spec : {M : Type 1} → statement M
 next-state-spec =
     tie.close
     (tie.spec
-    Inv-loop
-    μ-loop
-    loop-holds
-    mul-from-word
-    add-from-word
-    add-from-word-2
-    mul-from-word-2
-    shared-slice-read-from-word
-    from-word-requires
-    literal-value-requires
-    mul-state
-    slice-write-state
-    add-j
-    loop-less
-    loop-again
-    same-length
-    returns)
+    Inv-loop μ-loop loop-holds mul-from-word add-from-word add-from-word-2 mul-from-word-2 shared-slice-read-from-word
+    (λ c κs. search needs) literal-value-requires mul-state slice-write-state add-j loop-less loop-again same-length returns)

@@ -40,12 +40,6 @@ mul-from-word-2 c = omega arith
 shared-slice-read-from-word : tie.Need-shared-slice-read-from-word Inv-loop μ-loop
 shared-slice-read-from-word c = omega arith
 
-from-word-requires : tie.Need-from-word-requires Inv-loop μ-loop
-from-word-requires c κs = search needs
-
-var-requires : tie.Need-var-requires Inv-loop μ-loop
-var-requires c κs = search needs
-
 cast-place : tie.Need-cast-place Inv-loop μ-loop
 cast-place c = omega (arith, read (c .before), c .before .before .before .before .before .before .before .before .before .pre .1 .below (c .before .before .before .before .before .loop .j) (omega arith))
 
@@ -94,22 +88,6 @@ pub put-state-spec : {M : Type 1} → statement M
 put-state-spec =
     tie.close
     (tie.spec
-    Inv-loop
-    μ-loop
-    loop-holds
-    mul-from-word
-    add-from-word
-    mul-from-word-2
-    shared-slice-read-from-word
-    from-word-requires
-    var-requires
-    cast-place
-    mul-values
-    shared-slice-read-values
-    mul-values-2
-    slice-write-values
-    add-j
-    loop-less
-    loop-again
-    same-length
-    returns)
+    Inv-loop μ-loop loop-holds mul-from-word add-from-word mul-from-word-2 shared-slice-read-from-word (λ c κs. search needs)
+    (λ c κs. search needs) cast-place mul-values shared-slice-read-values mul-values-2 slice-write-values add-j loop-less loop-again
+    same-length returns)

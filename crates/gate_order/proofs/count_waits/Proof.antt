@@ -7,12 +7,6 @@ use Rattle.gate_order.proofs.Counts.{lacks-few, waits-free, waits-taken
 use Rattle.gate_order.proofs.count_waits.Statement.{statement}
 use Rattle.gate_order.proofs.count_waits.Tie as tie
 
-mul-own : tie.Need-mul-own
-mul-own c = search needs
-
-shared-slice-read-own : tie.Need-shared-slice-read-own
-shared-slice-read-own c = search needs
-
 cast-own : tie.Need-cast-own
 cast-own c = omega (arith, c .before .before .before .before .pre .0 .known (c .before .before .before .before .args .i) (c .before .before .before .before .pre .1), c .shared-slice-known4 .given (c .before .before .before .before .args .i))
 
@@ -22,29 +16,8 @@ mul-if1 c = omega (arith, c .before .before .before .before .pre .0 .known (c .b
 shared-slice-read-if1 : tie.Need-shared-slice-read-if1
 shared-slice-read-if1 c = omega (arith, c .before .before .before .before .before .pre .0 .known (c .before .before .before .before .before .args .i) (c .before .before .before .before .before .pre .1))
 
-mul-lacks-number : tie.Need-mul-lacks-number
-mul-lacks-number c = search needs
-
-mul-lacks-number-2 : tie.Need-mul-lacks-number-2
-mul-lacks-number-2 c = search needs
-
-shared-slice-read-lacks-number : tie.Need-shared-slice-read-lacks-number
-shared-slice-read-lacks-number c = search needs
-
 lacks-number-requires : tie.Need-lacks-number-requires
 lacks-number-requires c κs = c .before .before .before .before .before .before .before .pre .0 .used (2 * c .before .before .before .before .before .before .before .args .i) (omega (arith, c .before .before .before .before .before .before .before .pre .0 .pairs))
-
-mul-lacks-number-3 : tie.Need-mul-lacks-number-3
-mul-lacks-number-3 c = search needs
-
-add-lacks-number : tie.Need-add-lacks-number
-add-lacks-number c = search needs
-
-mul-lacks-number-4 : tie.Need-mul-lacks-number-4
-mul-lacks-number-4 c = search needs
-
-shared-slice-read-lacks-number-2 : tie.Need-shared-slice-read-lacks-number-2
-shared-slice-read-lacks-number-2 c = search needs
 
 lacks-number-requires-2 : tie.Need-lacks-number-requires-2
 lacks-number-requires-2 c κs = c .before .before .before .before .before .before .before .before .before .pre .0 .used (2 * c .before .before .before .before .before .before .before .before .before .args .i + 1) (omega (arith, c .before .before .before .before .before .before .before .before .before .pre .0 .pairs))
@@ -68,20 +41,6 @@ pub count-waits-spec : {M : Type 1} → statement M
 count-waits-spec =
     tie.close
     (tie.spec
-    mul-own
-    shared-slice-read-own
-    cast-own
-    mul-if1
-    shared-slice-read-if1
-    mul-lacks-number
-    mul-lacks-number-2
-    shared-slice-read-lacks-number
-    lacks-number-requires
-    mul-lacks-number-3
-    add-lacks-number
-    mul-lacks-number-4
-    shared-slice-read-lacks-number-2
-    lacks-number-requires-2
-    add-result
-    returns
-    returns-2)
+    (λ c. search needs) (λ c. search needs) cast-own mul-if1 shared-slice-read-if1 (λ c. search needs) (λ c. search needs)
+    (λ c. search needs) lacks-number-requires (λ c. search needs) (λ c. search needs) (λ c. search needs) (λ c. search needs)
+    lacks-number-requires-2 add-result returns returns-2)

@@ -59,15 +59,4 @@ pub first-ready-spec : {M : Type 1} → statement M
 first-ready-spec =
     tie.close
     (tie.spec
-    Inv-loop
-    μ-loop
-    loop-holds
-    mul-loop
-    look-in-block-requires
-    same-length
-    returns
-    add-b
-    loop-less
-    loop-again
-    same-length-2
-    returns-2)
+    Inv-loop μ-loop loop-holds mul-loop look-in-block-requires same-length returns add-b loop-less loop-again same-length-2 returns-2)

@@ -81,23 +81,5 @@ pub link-users-spec : {M : Type 1} → statement M
 link-users-spec =
     tie.close
     (tie.spec
-    Inv-loop
-    μ-loop
-    loop-holds
-    mul-v
-    shared-slice-read-v
-    cast-v
-    mul-links
-    slice-read-links
-    add-links
-    mul-links-2
-    slice-write-links
-    cast-links
-    add-links-2
-    mul-links-3
-    slice-write-links-2
-    add-s
-    loop-less
-    loop-again
-    same-length
-    returns)
+    Inv-loop μ-loop loop-holds mul-v shared-slice-read-v cast-v mul-links slice-read-links add-links mul-links-2 slice-write-links
+    cast-links add-links-2 mul-links-3 slice-write-links-2 add-s loop-less loop-again same-length returns)

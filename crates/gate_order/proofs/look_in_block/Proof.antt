@@ -5,28 +5,10 @@ use Rattle.gate_order.proofs.Blocks.{end-past, block-clear, block-found
 use Rattle.gate_order.proofs.look_in_block.Statement.{statement}
 use Rattle.gate_order.proofs.look_in_block.Tie as tie
 
-mul-if1 : tie.Need-mul-if1
-mul-if1 c = search needs
-
-slice-read-if1 : tie.Need-slice-read-if1
-slice-read-if1 c = search needs
-
 returns : tie.Need-returns
 returns c =
     let s = c .before .before .before .before in
     block-clear (s .args .waiting .now) (s .args .marks .now) (s .args .b) (s .pre .0 .2) (c .if1 .taken)
-
-mul-least : tie.Need-mul-least
-mul-least c = search needs
-
-add-least : tie.Need-add-least
-add-least c = search needs
-
-least-requires : tie.Need-least-requires
-least-requires c κs = search needs
-
-mul-first-in : tie.Need-mul-first-in
-mul-first-in c = search needs
 
 first-in-requires : tie.Need-first-in-requires
 first-in-requires c κs =
@@ -40,15 +22,6 @@ returns-2 c =
     let l = c .before .before .least .ensures in
     block-found (s .args .waiting .now) (s .args .marks .now) (s .args .b) (s .pre .0 .2) _ (l .0, l .1) (l .2) _ (c .if2 .taken) (c .before .first-in .ensures)
 
-mul-marks : tie.Need-mul-marks
-mul-marks c = search needs
-
-slice-write-marks : tie.Need-slice-write-marks
-slice-write-marks c = search needs
-
-same-length : tie.Need-same-length
-same-length c = search needs
-
 returns-3 : tie.Need-returns-3
 returns-3 c =
     let s = c .before .before .before .before .before .before .before in
@@ -59,16 +32,5 @@ pub look-in-block-spec : {M : Type 1} → statement M
 look-in-block-spec =
     tie.close
     (tie.spec
-    mul-if1
-    slice-read-if1
-    returns
-    mul-least
-    add-least
-    least-requires
-    mul-first-in
-    first-in-requires
-    returns-2
-    mul-marks
-    slice-write-marks
-    same-length
-    returns-3)
+    (λ c. search needs) (λ c. search needs) returns (λ c. search needs) (λ c. search needs) (λ c κs. search needs) (λ c. search needs)
+    first-in-requires returns-2 (λ c. search needs) (λ c. search needs) (λ c. search needs) returns-3)

@@ -25,29 +25,9 @@ take-gates-requires c κs =
       ),
     )
 
-same-length : tie.Need-same-length
-same-length c = search needs
-
-same-length-2 : tie.Need-same-length-2
-same-length-2 c = search needs
-
-same-length-3 : tie.Need-same-length-3
-same-length-3 c = search needs
-
-same-length-4 : tie.Need-same-length-4
-same-length-4 c = search needs
-
-returns : tie.Need-returns
-returns c = search needs
-
 pub number-gates-spec : {M : Type 1} → statement M
 number-gates-spec =
     tie.close
     (tie.spec
-    link-users-requires
-    take-gates-requires
-    same-length
-    same-length-2
-    same-length-3
-    same-length-4
-    returns)
+    link-users-requires take-gates-requires (λ c. search needs) (λ c. search needs) (λ c. search needs) (λ c. search needs)
+    (λ c. search needs))

@@ -88,19 +88,5 @@ pub refresh-users-spec : {M : Type 1} → statement M
 refresh-users-spec =
     tie.close
     (tie.spec
-    Inv-loop
-    μ-loop
-    mul-cur
-    shared-slice-read-cur
-    loop-holds
-    cast-s
-    sub-s
-    refresh-requires
-    add-cur
-    mul-cur-2
-    shared-slice-read-cur-2
-    loop-less
-    loop-again
-    same-length
-    same-length-2
-    returns)
+    Inv-loop μ-loop mul-cur shared-slice-read-cur loop-holds cast-s sub-s refresh-requires add-cur mul-cur-2 shared-slice-read-cur-2
+    loop-less loop-again same-length same-length-2 returns)

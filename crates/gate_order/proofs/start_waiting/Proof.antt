@@ -50,13 +50,4 @@ pub start-waiting-spec : {M : Type 1} → statement M
 start-waiting-spec =
     tie.close
     (tie.spec
-    Inv-loop
-    μ-loop
-    loop-holds
-    refresh-requires
-    add-i
-    loop-less
-    loop-again
-    same-length
-    same-length-2
-    returns)
+    Inv-loop μ-loop loop-holds refresh-requires add-i loop-less loop-again same-length same-length-2 returns)

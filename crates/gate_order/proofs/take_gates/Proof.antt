@@ -200,34 +200,7 @@ pub take-gates-spec : {M : Type 1} → statement M
 take-gates-spec =
     tie.close
     (tie.spec
-    Inv-loop
-    μ-loop
-    slice-aggregate-start-waiting
-    start-waiting-requires
-    loop-holds
-    slice-aggregate-first-ready
-    first-ready-requires
-    same-length
-    same-length-2
-    same-length-3
-    returns
-    mul-v
-    shared-slice-read-v
-    cast-v
-    cast-order
-    mul-order
-    slice-write-order
-    mul-table
-    slice-write-table
-    slice-aggregate-refresh
-    refresh-requires
-    slice-aggregate-refresh-users
-    refresh-users-requires
-    add-n
-    add-next
-    loop-less
-    loop-again
-    same-length-4
-    same-length-5
-    same-length-6
-    returns-2)
+    Inv-loop μ-loop slice-aggregate-start-waiting start-waiting-requires loop-holds slice-aggregate-first-ready first-ready-requires
+    same-length same-length-2 same-length-3 returns mul-v shared-slice-read-v cast-v cast-order mul-order slice-write-order mul-table
+    slice-write-table slice-aggregate-refresh refresh-requires slice-aggregate-refresh-users refresh-users-requires add-n add-next
+    loop-less loop-again same-length-4 same-length-5 same-length-6 returns-2)

@@ -15,9 +15,6 @@ append-pair-requires c κs =
     let w = c .before .before .before .pre .0 .proper in
     (record { sized = w .stored .sized; store = w .stored .pairs; room = w .room }, word-bound w)
 
-same-length : tie.Need-same-length
-same-length c = search needs
-
 returns : tie.Need-returns
 returns c =
     let s = c .before .before .before .before .before .before in
@@ -26,4 +23,4 @@ returns c =
     (λ l. absurd (omega (arith, s .pre .1))) (λ l. absurd (omega (arith, s .pre .1))) (p .result) (p .ensures .0)
 
 pub append-plain-spec : {M : Type 1} → statement M
-append-plain-spec = tie.close (tie.spec cast-k append-pair-requires same-length returns)
+append-plain-spec = tie.close (tie.spec cast-k append-pair-requires (λ c. search needs) returns)

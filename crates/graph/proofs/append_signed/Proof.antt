@@ -40,9 +40,6 @@ append-signature-requires c κs =
           (n .ensures (a .g) (w .stored .signatures (s .pre .1 .0)) (omega (arith, w .earlier, w .larger))) (p .result) (p .ensures .0),
     )
 
-same-length : tie.Need-same-length
-same-length c = search needs
-
 returns : tie.Need-returns
 returns c =
     let s = c .before .before .before .before .before .before .before .before .before .before .before .before .before .before in
@@ -56,10 +53,4 @@ pub append-signed-spec : {M : Type 1} → statement M
 append-signed-spec =
     tie.close
     (tie.spec
-    cast-k
-    signature-requires
-    signature-requires-2
-    append-pair-requires
-    append-signature-requires
-    same-length
-    returns)
+    cast-k signature-requires signature-requires-2 append-pair-requires append-signature-requires (λ c. search needs) returns)

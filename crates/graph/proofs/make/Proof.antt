@@ -6,19 +6,10 @@ use borrow.Author.Needs.{needs}
 use Rattle.graph.proofs.make.Statement.{statement}
 use Rattle.graph.proofs.make.Tie as tie
 
-word-requires : tie.Need-word-requires
-word-requires c κs = search needs
-
-word-requires-2 : tie.Need-word-requires-2
-word-requires-2 c κs = search needs
-
 make-ordered-requires : tie.Need-make-ordered-requires
 make-ordered-requires c κs =
     let s = c .before .before .before .before .before in
     (operands-swapped (s .pre), omega (arith, c .before .if1 .taken, c .before .before .before .word .ensures, c .before .before .word2 .ensures))
-
-same-length : tie.Need-same-length
-same-length c = search needs
 
 returns : tie.Need-returns
 returns c =
@@ -31,9 +22,6 @@ make-ordered-requires-2 c κs =
     let s = c .before .before .before .before .before in
     (s .pre, omega (arith, c .before .if1 .left, c .before .before .before .word .ensures, c .before .before .word2 .ensures))
 
-same-length-2 : tie.Need-same-length-2
-same-length-2 c = search needs
-
 returns-2 : tie.Need-returns-2
 returns-2 c = c .before .before .make-ordered2 .ensures
 
@@ -41,11 +29,5 @@ pub make-spec : {M : Type 1} → statement M
 make-spec =
     tie.close
     (tie.spec
-    word-requires
-    word-requires-2
-    make-ordered-requires
-    same-length
-    returns
-    make-ordered-requires-2
-    same-length-2
-    returns-2)
+    (λ c κs. search needs) (λ c κs. search needs) make-ordered-requires (λ c. search needs) returns make-ordered-requires-2
+    (λ c. search needs) returns-2)

@@ -15,12 +15,6 @@ find-pair-requires c κs =
     let w = c .before .before .pre in
     (record { sized = w .stored .sized; store = w .stored .pairs }, word-bound w)
 
-enum-known-k : tie.Need-enum-known-k
-enum-known-k c = search needs
-
-enum-told : tie.Need-enum-told
-enum-told c = search needs
-
 append-plain-requires : tie.Need-append-plain-requires
 append-plain-requires c κs =
     let s = c .before .before .before .before .before .before .before .before in
@@ -29,9 +23,6 @@ append-plain-requires c κs =
           (ap placeOf (c .before .before .before .enum-told .given .1)),
       omega (arith, c .before .if1 .taken),
     )
-
-same-length : tie.Need-same-length
-same-length c = search needs
 
 returns : tie.Need-returns
 returns c = c .before .before .append-plain .ensures
@@ -45,18 +36,12 @@ merge-requires c κs =
       omega (arith, c .before .if1 .left),
     )
 
-same-length-2 : tie.Need-same-length-2
-same-length-2 c = search needs
-
 returns-2 : tie.Need-returns-2
 returns-2 c =
     let s = c .before .before .before .before .before .before in
     let f = c .before .before .before .find-pair in
     found-made (s .args .work .now) (s .args .g) (edgeWord (s .args .left)) (edgeWord (s .args .right)) (s .pre) (placeOf (f .result)) (f .ensures) _
     (sym (ap placeOf (c .before .k .given .1)))
-
-same-length-3 : tie.Need-same-length-3
-same-length-3 c = search needs
 
 returns-3 : tie.Need-returns-3
 returns-3 c = c .before .before .merge .ensures
@@ -65,14 +50,5 @@ pub make-gate-spec : {M : Type 1} → statement M
 make-gate-spec =
     tie.close
     (tie.spec
-    find-pair-requires
-    enum-known-k
-    enum-told
-    append-plain-requires
-    same-length
-    returns
-    merge-requires
-    same-length-2
-    returns-2
-    same-length-3
-    returns-3)
+    find-pair-requires (λ c. search needs) (λ c. search needs) append-plain-requires (λ c. search needs) returns merge-requires
+    (λ c. search needs) returns-2 (λ c. search needs) returns-3)

@@ -12,29 +12,17 @@ simplify-requires c κs =
     let o = c .before .before .pre .0 in
     record { sized = o .stored .sized; inside = o .left }
 
-enum-known-e : tie.Need-enum-known-e
-enum-known-e c = search needs
-
-enum-told : tie.Need-enum-told
-enum-told c = search needs
-
 make-gate-requires : tie.Need-make-gate-requires
 make-gate-requires c κs =
     let s = c .before .before .before .before .before .before in
     gate-proper (s .args .work .now) (s .args .g) (edgeWord (s .args .left)) (edgeWord (s .args .right)) (s .pre .0) (s .pre .1)
     (sym (c .before .before .before .simplify .ensures) ∙ ap known (c .before .enum-told .given .1))
 
-same-length : tie.Need-same-length
-same-length c = search needs
-
 returns : tie.Need-returns
 returns c =
     let s = c .before .before .before .before .before .before in
     known-made (s .args .work .now) (s .args .g) (edgeWord (s .args .left)) (edgeWord (s .args .right)) (s .pre .0) (s .pre .1) _
     (sym (c .before .before .before .simplify .ensures) ∙ ap known (c .before .e .given .1))
-
-same-length-2 : tie.Need-same-length-2
-same-length-2 c = search needs
 
 returns-2 : tie.Need-returns-2
 returns-2 c = c .before .before .make-gate .ensures
@@ -43,11 +31,5 @@ pub make-ordered-spec : {M : Type 1} → statement M
 make-ordered-spec =
     tie.close
     (tie.spec
-    simplify-requires
-    enum-known-e
-    enum-told
-    make-gate-requires
-    same-length
-    returns
-    same-length-2
+    simplify-requires (λ c. search needs) (λ c. search needs) make-gate-requires (λ c. search needs) returns (λ c. search needs)
     returns-2)

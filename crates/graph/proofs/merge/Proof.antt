@@ -14,12 +14,6 @@ find-twin-requires c κs =
     let s = c .before .before in
     twin-ready (s .args .work .now) (s .args .g) (edgeWord (s .args .left)) (edgeWord (s .args .right)) (s .pre .1) (s .pre .0)
 
-enum-known-e : tie.Need-enum-known-e
-enum-known-e c = search needs
-
-enum-told : tie.Need-enum-told
-enum-told c = search needs
-
 append-signed-requires : tie.Need-append-signed-requires
 append-signed-requires c κs =
     let s = c .before .before .before .before .before .before .before .before in
@@ -36,9 +30,6 @@ append-signed-requires c κs =
       ),
     )
 
-same-length : tie.Need-same-length
-same-length c = search needs
-
 returns : tie.Need-returns
 returns c =
     let s = c .before .before .before .before .before .before .before .before in
@@ -46,9 +37,6 @@ returns c =
     let t = c .before .before .before .before .before .find-twin in
     twin-made (a .work .now) (t .last .0) (a .g) (edgeWord (a .left)) (edgeWord (a .right)) (placeOf (t .result)) (s .pre .0) (t .kept .0) (t .ensures) (s .pre .1)
     (c .before .e .given .0 .0) (ap placeOf (c .before .e .given .1))
-
-same-length-2 : tie.Need-same-length-2
-same-length-2 c = search needs
 
 returns-2 : tie.Need-returns-2
 returns-2 c =
@@ -63,11 +51,5 @@ pub merge-spec : {M : Type 1} → statement M
 merge-spec =
     tie.close
     (tie.spec
-    find-twin-requires
-    enum-known-e
-    enum-told
-    append-signed-requires
-    same-length
-    returns
-    same-length-2
+    find-twin-requires (λ c. search needs) (λ c. search needs) append-signed-requires (λ c. search needs) returns (λ c. search needs)
     returns-2)

@@ -9,15 +9,6 @@ use Rattle.graph.proofs.Empty.{start-stored, start-signed}
 use Rattle.graph.proofs.start.Statement.{statement}
 use Rattle.graph.proofs.start.Tie as tie
 
-add-t5 : tie.Need-add-t5
-add-t5 c = search needs
-
-start-pairs-requires : tie.Need-start-pairs-requires
-start-pairs-requires c κs = search needs
-
-same-length : tie.Need-same-length
-same-length c = search needs
-
 returns : tie.Need-returns
 returns c =
     let s = c .before .before .before .before .before .before in
@@ -26,12 +17,6 @@ returns c =
       start-stored (p .last .0) (s .args .free) (s .args .room) (length (s .args .work .now)) (p .kept .0) (s .pre) (p .ensures .store)
           (λ l. absurd (omega (arith, c .if1 .taken))),
     )
-
-start-signatures-requires : tie.Need-start-signatures-requires
-start-signatures-requires c κs = search needs
-
-same-length-2 : tie.Need-same-length-2
-same-length-2 c = search needs
 
 returns-2 : tie.Need-returns-2
 returns-2 c =
@@ -47,10 +32,4 @@ pub start-spec : {M : Type 1} → statement M
 start-spec =
     tie.close
     (tie.spec
-    add-t5
-    start-pairs-requires
-    same-length
-    returns
-    start-signatures-requires
-    same-length-2
-    returns-2)
+    (λ c. search needs) (λ c κs. search needs) (λ c. search needs) returns (λ c κs. search needs) (λ c. search needs) returns-2)

@@ -11,9 +11,6 @@ use Rattle.headers.proofs.counts_fit.Tie as tie
 held : (t : tie.Then1) → limitsHold (t .before .before .args .c) ≡ true
 held t = sym (t .before .within-limits .ensures) ∙ t .if1 .taken
 
-within-limits-requires : tie.Need-within-limits-requires
-within-limits-requires c κs = search needs
-
 add-result : tie.Need-add-result
 add-result c = omega (arith, bounded (c .before .before .before .args .c) (held (c .before)))
 
@@ -28,4 +25,4 @@ returns-2 c = limits-fail _ (sym (c .before .within-limits .ensures) ∙ c .if1 
 
 pub counts-fit-spec : {M : Type 1} → statement M
 counts-fit-spec =
-    tie.close (tie.spec within-limits-requires add-result add-result-2 returns returns-2)
+    tie.close (tie.spec (λ c κs. search needs) add-result add-result-2 returns returns-2)

@@ -12,9 +12,6 @@ use Rattle.headers.proofs.counts_right.Tie as tie
 held : (t : tie.Then1) → countsFit (countsMeant (t .before .before .args .c)) ≡ true
 held t = sym (t .before .counts-fit .ensures) ∙ t .if1 .taken
 
-counts-fit-requires : tie.Need-counts-fit-requires
-counts-fit-requires c κs = search needs
-
 add-result : tie.Need-add-result
 add-result c = omega (arith, fit-bounded (c .before .before .before .before .args .c) (held (c .before .before)))
 
@@ -34,4 +31,4 @@ returns-3 c = right-not _ (c .before .before .args .binary) (sym (c .before .cou
 
 pub counts-right-spec : {M : Type 1} → statement M
 counts-right-spec =
-    tie.close (tie.spec counts-fit-requires add-result add-result-2 returns returns-2 returns-3)
+    tie.close (tie.spec (λ c κs. search needs) add-result add-result-2 returns returns-2 returns-3)

@@ -5,11 +5,8 @@ use borrow.Author.Needs.{needs}
 use Rattle.headers.proofs.is_binary.Statement.{statement}
 use Rattle.headers.proofs.is_binary.Tie as tie
 
-is-named-requires : tie.Need-is-named-requires
-is-named-requires c κs = search needs
-
 returns : tie.Need-returns
 returns c = c .is-named .ensures ∙ named-binary (c .before .before .args .s .now)
 
 pub is-binary-spec : {M : Type 1} → statement M
-is-binary-spec = tie.close (tie.spec is-named-requires returns)
+is-binary-spec = tie.close (tie.spec (λ c κs. search needs) returns)

@@ -37,28 +37,10 @@ room n = omega (arith, n .read-row .kept .1 .1 .1 .0)
 found : (n : tie.After-read-row) (r : Row) → n .read-row .result ≡ r → RowAt (S n) 4 9 (replicate 9 0) (list n) r
 found n r e = subst (RowAt (S n) 4 9 (replicate 9 0) (list n)) e (n .read-row .ensures)
 
-is-named-requires : tie.Need-is-named-requires
-is-named-requires c κs = search needs
-
-is-binary-requires : tie.Need-is-binary-requires
-is-binary-requires c κs = search needs
-
-slice-aggregate-read-row : tie.Need-slice-aggregate-read-row
-slice-aggregate-read-row c = search needs
-
-read-row-requires : tie.Need-read-row-requires
-read-row-requires c κs = search needs
-
-enum-known-count : tie.Need-enum-known-count
-enum-known-count c = search needs
-
 returns : tie.Need-returns
 returns c =
     let n = c .before .before .before .before .before in
     few (S n) (named n) (replicate 9 0) (list n) _ _ (room n) (found n _ (c .before .before .count .given .1)) (omega arith)
-
-counts-of-requires : tie.Need-counts-of-requires
-counts-of-requires c κs = search needs
 
 returns-2 : tie.Need-returns-2
 returns-2 c =
@@ -67,9 +49,6 @@ returns-2 c =
     let next = e .before .before .count .given .0 .1 .0 in
     subst (λ (h : Counts). HeaderAt (S n) (Read h next)) (sym (c .counts-of .ensures))
     (enough (S n) (named n) (replicate 9 0) (list n) _ _ (room n) (found n _ (e .before .before .count .given .1)) (zeros 9) (omega arith))
-
-enum-told : tie.Need-enum-told
-enum-told c = search needs
 
 returns-3 : tie.Need-returns-3
 returns-3 c =
@@ -83,14 +62,5 @@ pub read-header-spec : {M : Type 1} → statement M
 read-header-spec =
     tie.close
     (tie.spec
-    is-named-requires
-    is-binary-requires
-    slice-aggregate-read-row
-    read-row-requires
-    enum-known-count
-    returns
-    counts-of-requires
-    returns-2
-    enum-told
-    returns-3
-    returns-4)
+    (λ c κs. search needs) (λ c κs. search needs) (λ c. search needs) (λ c κs. search needs) (λ c. search needs) returns
+    (λ c κs. search needs) returns-2 (λ c. search needs) returns-3 returns-4)

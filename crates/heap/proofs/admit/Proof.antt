@@ -5,21 +5,9 @@ use borrow.Author.Needs.{needs}
 use Rattle.heap.proofs.admit.Statement.{statement}
 use Rattle.heap.proofs.admit.Tie as tie
 
-is-wanted-requires : tie.Need-is-wanted-requires
-is-wanted-requires c κs = search needs
-
-rise-requires : tie.Need-rise-requires
-rise-requires c κs = search needs
-
-same-length : tie.Need-same-length
-same-length c = search needs
-
 returns : tie.Need-returns
 unfolding Hp.admitted
 returns c = rw (← c .before .before .before .before .before .is-wanted .ensures, c .before .before .before .before .if1 .taken) ((c .before .before .rise .ensures))
-
-same-length-2 : tie.Need-same-length-2
-same-length-2 c = search needs
 
 returns-2 : tie.Need-returns-2
 unfolding Hp.admitted
@@ -28,4 +16,4 @@ returns-2 c = rw (← c .before .is-wanted .ensures, c .if1 .left) (record { wor
 pub admit-spec : {M : Type 1} → statement M
 admit-spec =
     tie.close
-    (tie.spec is-wanted-requires rise-requires same-length returns same-length-2 returns-2)
+    (tie.spec (λ c κs. search needs) (λ c κs. search needs) (λ c. search needs) returns (λ c. search needs) returns-2)

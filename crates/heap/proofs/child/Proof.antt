@@ -5,12 +5,6 @@ use borrow.Author.Needs.{needs}
 use Rattle.heap.proofs.child.Statement.{statement}
 use Rattle.heap.proofs.child.Tie as tie
 
-mul-result : tie.Need-mul-result
-mul-result c = search needs
-
-add-result : tie.Need-add-result
-add-result c = search needs
-
 returns : tie.Need-returns
 unfolding Hp.child
 returns c = rw (le-leb _ _ (c .if1 .taken))
@@ -20,4 +14,4 @@ unfolding Hp.child
 returns-2 c = rw (lt-leb _ _ (c .if1 .left))
 
 pub child-spec : {M : Type 1} → statement M
-child-spec = tie.close (tie.spec mul-result add-result returns returns-2)
+child-spec = tie.close (tie.spec (λ c. search needs) (λ c. search needs) returns returns-2)

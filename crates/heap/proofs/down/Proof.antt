@@ -20,18 +20,6 @@ abbrev μ-loop : tie.MeasureT-loop
 loop-holds : tie.Need-loop-holds Inv-loop μ-loop
 loop-holds c = (refl, refl)
 
-child-requires : tie.Need-child-requires Inv-loop μ-loop
-child-requires c κs = search needs
-
-larger-requires : tie.Need-larger-requires Inv-loop μ-loop
-larger-requires c κs = search needs
-
-is-below-requires : tie.Need-is-below-requires Inv-loop μ-loop
-is-below-requires c κs = search needs
-
-lift-requires : tie.Need-lift-requires Inv-loop μ-loop
-lift-requires c κs = search needs
-
 sub-left : tie.Need-sub-left Inv-loop μ-loop
 sub-left c = omega arith
 
@@ -47,9 +35,6 @@ loop-again c =
     let u = c .before .before .lift in
     (u .kept .0 ∙ l .inv .0, rw (u .ensures, e) (sym more ∙ l .inv .1))
 
-seat-requires : tie.Need-seat-requires Inv-loop μ-loop
-seat-requires c κs = search needs
-
 same-length : tie.Need-same-length Inv-loop μ-loop
 same-length c = c .before .before .seat .kept .0 ∙ c .before .before .before .before .before .before .before .before .before .before .before .loop .inv .0
 
@@ -60,9 +45,6 @@ returns c =
     let e = c .before .before .before .before .before .before .before .larger .ensures ∙ ap (larger (l .work) (s .nodes) (s .size)) (c .before .before .before .before .before .before .before .before .child .ensures) in
     let stop = downed-stop (l .work) (s .nodes) (s .size) (s .v) (l .at) (l .left) (sym (ap (λ (k : ℕ). isBelow (l .work) (s .nodes) (s .size) k (s .v)) e) ∙ sym (c .before .before .before .before .before .is-below .ensures) ∙ c .before .before .before .before .if1 .left) in
     c .before .before .seat .ensures ∙ sym stop ∙ l .inv .1
-
-seat-requires-2 : tie.Need-seat-requires-2 Inv-loop μ-loop
-seat-requires-2 c κs = search needs
 
 same-length-2 : tie.Need-same-length-2 Inv-loop μ-loop
 same-length-2 c = c .before .before .seat2 .kept .0 ∙ c .before .before .before .before .before .loop .inv .0
@@ -78,19 +60,5 @@ pub down-spec : {M : Type 1} → statement M
 down-spec =
     tie.close
     (tie.spec
-    Inv-loop
-    μ-loop
-    loop-holds
-    child-requires
-    larger-requires
-    is-below-requires
-    lift-requires
-    sub-left
-    loop-less
-    loop-again
-    seat-requires
-    same-length
-    returns
-    seat-requires-2
-    same-length-2
-    returns-2)
+    Inv-loop μ-loop loop-holds (λ c κs. search needs) (λ c κs. search needs) (λ c κs. search needs) (λ c κs. search needs) sub-left
+    loop-less loop-again (λ c κs. search needs) same-length returns (λ c κs. search needs) same-length-2 returns-2)

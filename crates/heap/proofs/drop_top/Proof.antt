@@ -10,24 +10,6 @@ returns : tie.Need-returns
 unfolding Hp.dropped
 returns c = rw (le-leb _ _ (c .if1 .taken)) (record { words = refl; heap = refl })
 
-sub-at-place : tie.Need-sub-at-place
-sub-at-place c = search needs
-
-at-place-requires : tie.Need-at-place-requires
-at-place-requires c κs = search needs
-
-sub-down : tie.Need-sub-down
-sub-down c = search needs
-
-down-requires : tie.Need-down-requires
-down-requires c κs = search needs
-
-sub-t8 : tie.Need-sub-t8
-sub-t8 c = search needs
-
-same-length : tie.Need-same-length
-same-length c = search needs
-
 returns-2 : tie.Need-returns-2
 unfolding Hp.dropped
 returns-2 c =
@@ -38,11 +20,5 @@ pub drop-top-spec : {M : Type 1} → statement M
 drop-top-spec =
     tie.close
     (tie.spec
-    returns
-    sub-at-place
-    at-place-requires
-    sub-down
-    down-requires
-    sub-t8
-    same-length
-    returns-2)
+    returns (λ c. search needs) (λ c κs. search needs) (λ c. search needs) (λ c κs. search needs) (λ c. search needs)
+    (λ c. search needs) returns-2)

@@ -9,18 +9,6 @@ returns : tie.Need-returns
 unfolding Hp.isAbove
 returns c = rw (eq-eqb _ _ (c .if1 .taken))
 
-parent-requires : tie.Need-parent-requires
-parent-requires c κs = search needs
-
-at-place-requires : tie.Need-at-place-requires
-at-place-requires c κs = search needs
-
-field-requires : tie.Need-field-requires
-field-requires c κs = search needs
-
-field-requires-2 : tie.Need-field-requires-2
-field-requires-2 c κs = search needs
-
 returns-2 : tie.Need-returns-2
 unfolding Hp.isAbove
 returns-2 c =
@@ -35,4 +23,4 @@ returns-2 c =
 pub is-above-spec : {M : Type 1} → statement M
 is-above-spec =
     tie.close
-    (tie.spec returns parent-requires at-place-requires field-requires field-requires-2 returns-2)
+    (tie.spec returns (λ c κs. search needs) (λ c κs. search needs) (λ c κs. search needs) (λ c κs. search needs) returns-2)

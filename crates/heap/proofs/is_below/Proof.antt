@@ -9,15 +9,6 @@ returns : tie.Need-returns
 unfolding Hp.isBelow
 returns c = rw (le-leb _ _ (c .if1 .taken))
 
-at-place-requires : tie.Need-at-place-requires
-at-place-requires c κs = search needs
-
-field-requires : tie.Need-field-requires
-field-requires c κs = search needs
-
-field-requires-2 : tie.Need-field-requires-2
-field-requires-2 c κs = search needs
-
 returns-2 : tie.Need-returns-2
 unfolding Hp.isBelow
 returns-2 c =
@@ -30,4 +21,4 @@ returns-2 c =
 
 pub is-below-spec : {M : Type 1} → statement M
 is-below-spec =
-    tie.close (tie.spec returns at-place-requires field-requires field-requires-2 returns-2)
+    tie.close (tie.spec returns (λ c κs. search needs) (λ c κs. search needs) (λ c κs. search needs) returns-2)

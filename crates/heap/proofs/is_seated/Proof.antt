@@ -5,19 +5,13 @@ use borrow.Author.Needs.{needs}
 use Rattle.heap.proofs.is_seated.Statement.{statement}
 use Rattle.heap.proofs.is_seated.Tie as tie
 
-place-of-requires : tie.Need-place-of-requires
-place-of-requires c κs = search needs
-
 returns : tie.Need-returns
 unfolding Hp.isSeated
 returns c = rw (← c .before .place-of .ensures, le-leb _ _ (c .if1 .taken))
-
-at-place-requires : tie.Need-at-place-requires
-at-place-requires c κs = search needs
 
 returns-2 : tie.Need-returns-2
 unfolding Hp.isSeated
 returns-2 c = rw (← c .before .before .place-of .ensures, lt-leb _ _ (c .before .if1 .left), ← c .at-place .ensures)
 
 pub is-seated-spec : {M : Type 1} → statement M
-is-seated-spec = tie.close (tie.spec place-of-requires returns at-place-requires returns-2)
+is-seated-spec = tie.close (tie.spec (λ c κs. search needs) returns (λ c κs. search needs) returns-2)

@@ -9,30 +9,9 @@ returns : tie.Need-returns
 unfolding Hp.larger
 returns c = rw (le-leb _ _ (c .if1 .taken))
 
-add-if2 : tie.Need-add-if2
-add-if2 c = search needs
-
 returns-2 : tie.Need-returns-2
 unfolding Hp.larger
 returns-2 c = rw (lt-leb _ _ (c .before .if1 .left), le-leb _ _ (c .if2 .taken))
-
-at-place-requires : tie.Need-at-place-requires
-at-place-requires c κs = search needs
-
-add-at-place : tie.Need-add-at-place
-add-at-place c = search needs
-
-at-place-requires-2 : tie.Need-at-place-requires-2
-at-place-requires-2 c κs = search needs
-
-field-requires : tie.Need-field-requires
-field-requires c κs = search needs
-
-field-requires-2 : tie.Need-field-requires-2
-field-requires-2 c κs = search needs
-
-add-result : tie.Need-add-result
-add-result c = search needs
 
 returns-3 : tie.Need-returns-3
 unfolding Hp.larger
@@ -64,14 +43,5 @@ pub larger-spec : {M : Type 1} → statement M
 larger-spec =
     tie.close
     (tie.spec
-    returns
-    add-if2
-    returns-2
-    at-place-requires
-    add-at-place
-    at-place-requires-2
-    field-requires
-    field-requires-2
-    add-result
-    returns-3
-    returns-4)
+    returns (λ c. search needs) returns-2 (λ c κs. search needs) (λ c. search needs) (λ c κs. search needs) (λ c κs. search needs)
+    (λ c κs. search needs) (λ c. search needs) returns-3 returns-4)

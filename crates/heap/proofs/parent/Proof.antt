@@ -5,9 +5,6 @@ use borrow.Author.Needs.{needs}
 use Rattle.heap.proofs.parent.Statement.{statement}
 use Rattle.heap.proofs.parent.Tie as tie
 
-sub-result : tie.Need-sub-result
-sub-result c = search needs
-
 returns : tie.Need-returns
 unfolding Hp.parent
 returns c = rw (eq-eqb _ _ (c .if1 .taken))
@@ -17,4 +14,4 @@ unfolding Hp.parent
 returns-2 c = rw (ne-eqb _ _ (c .if1 .left))
 
 pub parent-spec : {M : Type 1} → statement M
-parent-spec = tie.close (tie.spec sub-result returns returns-2)
+parent-spec = tie.close (tie.spec (λ c. search needs) returns returns-2)

@@ -4,12 +4,9 @@ use borrow.Author.Needs.{needs}
 use Rattle.heap.proofs.place_of.Statement.{statement}
 use Rattle.heap.proofs.place_of.Tie as tie
 
-field-requires : tie.Need-field-requires
-field-requires c κs = search needs
-
 returns : tie.Need-returns
 unfolding Hp.placeOf
 returns c = rw (← c .field .ensures)
 
 pub place-of-spec : {M : Type 1} → statement M
-place-of-spec = tie.close (tie.spec field-requires returns)
+place-of-spec = tie.close (tie.spec (λ c κs. search needs) returns)

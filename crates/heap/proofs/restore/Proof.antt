@@ -21,12 +21,6 @@ loop-holds c = (refl, refl)
 sub-left : tie.Need-sub-left Inv-loop μ-loop
 sub-left c = omega arith
 
-field-requires : tie.Need-field-requires Inv-loop μ-loop
-field-requires c κs = search needs
-
-admit-requires : tie.Need-admit-requires Inv-loop μ-loop
-admit-requires c κs = search needs
-
 loop-less : tie.Need-loop-less Inv-loop μ-loop
 loop-less c = omega arith
 
@@ -52,13 +46,4 @@ pub restore-spec : {M : Type 1} → statement M
 restore-spec =
     tie.close
     (tie.spec
-    Inv-loop
-    μ-loop
-    loop-holds
-    sub-left
-    field-requires
-    admit-requires
-    loop-less
-    loop-again
-    same-length
-    returns)
+    Inv-loop μ-loop loop-holds sub-left (λ c κs. search needs) (λ c κs. search needs) loop-less loop-again same-length returns)

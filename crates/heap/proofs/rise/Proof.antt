@@ -6,18 +6,6 @@ use borrow.Author.Needs.{needs}
 use Rattle.heap.proofs.rise.Statement.{statement}
 use Rattle.heap.proofs.rise.Tie as tie
 
-is-seated-requires : tie.Need-is-seated-requires
-is-seated-requires c κs = search needs
-
-place-of-requires : tie.Need-place-of-requires
-place-of-requires c κs = search needs
-
-up-requires : tie.Need-up-requires
-up-requires c κs = search needs
-
-same-length : tie.Need-same-length
-same-length c = search needs
-
 returns : tie.Need-returns
 unfolding Hp.risen
 returns c =
@@ -25,9 +13,6 @@ returns c =
       ← c .before .before .before .before .before .before .before .is-seated .ensures,
       c .before .before .before .before .before .before .if1 .taken,
     ) (record { words = rw (← c .before .before .before .before .place-of .ensures) (c .before .before .up .ensures); heap = refl })
-
-same-length-2 : tie.Need-same-length-2
-same-length-2 c = search needs
 
 returns-2 : tie.Need-returns-2
 unfolding Hp.risen
@@ -37,15 +22,6 @@ returns-2 c =
       c .before .before .if1 .left,
       le-leb _ _ (c .if2 .taken),
     ) (record { words = refl; heap = refl })
-
-up-requires-2 : tie.Need-up-requires-2
-up-requires-2 c κs = search needs
-
-add-t18 : tie.Need-add-t18
-add-t18 c = search needs
-
-same-length-3 : tie.Need-same-length-3
-same-length-3 c = search needs
 
 returns-3 : tie.Need-returns-3
 unfolding Hp.risen
@@ -60,14 +36,5 @@ pub rise-spec : {M : Type 1} → statement M
 rise-spec =
     tie.close
     (tie.spec
-    is-seated-requires
-    place-of-requires
-    up-requires
-    same-length
-    returns
-    same-length-2
-    returns-2
-    up-requires-2
-    add-t18
-    same-length-3
-    returns-3)
+    (λ c κs. search needs) (λ c κs. search needs) (λ c κs. search needs) (λ c. search needs) returns (λ c. search needs) returns-2
+    (λ c κs. search needs) (λ c. search needs) (λ c. search needs) returns-3)

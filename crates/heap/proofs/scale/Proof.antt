@@ -21,12 +21,6 @@ loop-holds c = (refl, refl)
 sub-left : tie.Need-sub-left Inv-loop μ-loop
 sub-left c = omega arith
 
-field-requires : tie.Need-field-requires Inv-loop μ-loop
-field-requires c κs = search needs
-
-set-field-requires : tie.Need-set-field-requires Inv-loop μ-loop
-set-field-requires c κs = search needs
-
 loop-less : tie.Need-loop-less Inv-loop μ-loop
 loop-less c = omega arith
 
@@ -51,13 +45,4 @@ pub scale-spec : {M : Type 1} → statement M
 scale-spec =
     tie.close
     (tie.spec
-    Inv-loop
-    μ-loop
-    loop-holds
-    sub-left
-    field-requires
-    set-field-requires
-    loop-less
-    loop-again
-    same-length
-    returns)
+    Inv-loop μ-loop loop-holds sub-left (λ c κs. search needs) (λ c κs. search needs) loop-less loop-again same-length returns)

@@ -20,12 +20,6 @@ abbrev μ-loop : tie.MeasureT-loop
 loop-holds : tie.Need-loop-holds Inv-loop μ-loop
 loop-holds c = (refl, refl)
 
-at-place-requires : tie.Need-at-place-requires Inv-loop μ-loop
-at-place-requires c κs = search needs
-
-field-requires : tie.Need-field-requires Inv-loop μ-loop
-field-requires c κs = search needs
-
 same-length : tie.Need-same-length Inv-loop μ-loop
 same-length c = c .before .before .before .before .before .before .loop .inv .0
 
@@ -36,9 +30,6 @@ returns c =
     let e = c .before .field .ensures ∙ ap (λ (k : ℕ). field (l .work) (s .nodes) k 5) (c .before .before .before .at-place .ensures) in
     let all = sym (skimmed-stop (l .work) (s .nodes) (l .h) (l .left) (sym e ∙ c .if1 .taken)) ∙ l .inv .1 in
     record { words = ap (λ (t : Heaped). t .words) all; heap = ap (λ (t : Heaped). t .heap) all }
-
-drop-top-requires : tie.Need-drop-top-requires Inv-loop μ-loop
-drop-top-requires c κs = search needs
 
 sub-left : tie.Need-sub-left Inv-loop μ-loop
 sub-left c = omega arith
@@ -69,16 +60,5 @@ pub skim-spec : {M : Type 1} → statement M
 skim-spec =
     tie.close
     (tie.spec
-    Inv-loop
-    μ-loop
-    loop-holds
-    at-place-requires
-    field-requires
-    same-length
-    returns
-    drop-top-requires
-    sub-left
-    loop-less
-    loop-again
-    same-length-2
-    returns-2)
+    Inv-loop μ-loop loop-holds (λ c κs. search needs) (λ c κs. search needs) same-length returns (λ c κs. search needs) sub-left
+    loop-less loop-again same-length-2 returns-2)

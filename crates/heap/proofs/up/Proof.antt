@@ -18,15 +18,6 @@ abbrev μ-loop : tie.MeasureT-loop
 loop-holds : tie.Need-loop-holds Inv-loop μ-loop
 loop-holds c = (refl, refl)
 
-is-above-requires : tie.Need-is-above-requires Inv-loop μ-loop
-is-above-requires c κs = search needs
-
-lower-requires : tie.Need-lower-requires Inv-loop μ-loop
-lower-requires c κs = search needs
-
-parent-requires : tie.Need-parent-requires Inv-loop μ-loop
-parent-requires c κs = search needs
-
 sub-left : tie.Need-sub-left Inv-loop μ-loop
 sub-left c = omega arith
 
@@ -41,9 +32,6 @@ loop-again c =
     let u = c .before .before .before .lower in
     (u .kept .0 ∙ l .inv .0, rw (u .ensures, c .parent .ensures) (sym more ∙ l .inv .1))
 
-seat-requires : tie.Need-seat-requires Inv-loop μ-loop
-seat-requires c κs = search needs
-
 same-length : tie.Need-same-length Inv-loop μ-loop
 same-length c = c .before .before .seat .kept .0 ∙ c .before .before .before .before .before .before .before .before .loop .inv .0
 
@@ -53,9 +41,6 @@ returns c =
     let s = c .before .before .before .before .before .before .before .before .before .before .args in
     let stop = upped-stop (l .work) (s .nodes) (s .v) (l .at) (l .left) (sym (c .before .before .before .before .before .is-above .ensures) ∙ c .before .before .before .before .if1 .left) in
     c .before .before .seat .ensures ∙ sym stop ∙ l .inv .1
-
-seat-requires-2 : tie.Need-seat-requires-2 Inv-loop μ-loop
-seat-requires-2 c κs = search needs
 
 same-length-2 : tie.Need-same-length-2 Inv-loop μ-loop
 same-length-2 c = c .before .before .seat2 .kept .0 ∙ c .before .before .before .before .before .loop .inv .0
@@ -71,18 +56,5 @@ pub up-spec : {M : Type 1} → statement M
 up-spec =
     tie.close
     (tie.spec
-    Inv-loop
-    μ-loop
-    loop-holds
-    is-above-requires
-    lower-requires
-    parent-requires
-    sub-left
-    loop-less
-    loop-again
-    seat-requires
-    same-length
-    returns
-    seat-requires-2
-    same-length-2
-    returns-2)
+    Inv-loop μ-loop loop-holds (λ c κs. search needs) (λ c κs. search needs) (λ c κs. search needs) sub-left loop-less loop-again
+    (λ c κs. search needs) same-length returns (λ c κs. search needs) same-length-2 returns-2)

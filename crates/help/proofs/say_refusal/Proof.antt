@@ -7,18 +7,6 @@ use borrow.Author.Needs.{needs}
 use Rattle.help.proofs.say_refusal.Statement.{statement}
 use Rattle.help.proofs.say_refusal.Tie as tie
 
-slice-aggregate-say : tie.Need-slice-aggregate-say
-slice-aggregate-say c = search needs
-
-say-requires : tie.Need-say-requires
-say-requires c κs = search needs
-
-slice-aggregate-write-refusal : tie.Need-slice-aggregate-write-refusal
-slice-aggregate-write-refusal c = search needs
-
-write-refusal-requires : tie.Need-write-refusal-requires
-write-refusal-requires c κs = search needs
-
 array-share-prefix-line : tie.Need-array-share-prefix-line
 array-share-prefix-line c = omega (arith, fronts-inside (c .before .write-refusal .ensures))
 
@@ -27,21 +15,9 @@ slice-aggregate-say-2 c =
     let w = c .before .before .write-refusal in
     sym (length-take-le (w .result) (w .last .0) (fronts-inside (w .ensures)))
 
-say-requires-2 : tie.Need-say-requires-2
-say-requires-2 c κs = search needs
-
-returns : tie.Need-returns
-returns c = search needs
-
 pub say-refusal-spec : {M : Type 1} → statement M
 say-refusal-spec =
     tie.close
     (tie.spec
-    slice-aggregate-say
-    say-requires
-    slice-aggregate-write-refusal
-    write-refusal-requires
-    array-share-prefix-line
-    slice-aggregate-say-2
-    say-requires-2
-    returns)
+    (λ c. search needs) (λ c κs. search needs) (λ c. search needs) (λ c κs. search needs) array-share-prefix-line slice-aggregate-say-2
+    (λ c κs. search needs) (λ c. search needs))

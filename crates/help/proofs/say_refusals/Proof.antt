@@ -35,12 +35,4 @@ pub say-refusals-spec : {M : Type 1} → statement M
 say-refusals-spec =
     tie.close
     (tie.spec
-    Inv-loop
-    μ-loop
-    loop-holds
-    say-refusal-requires
-    add-n
-    loop-less
-    loop-again
-    returns
-    returns-2)
+    Inv-loop μ-loop loop-holds say-refusal-requires add-n loop-less loop-again returns returns-2)

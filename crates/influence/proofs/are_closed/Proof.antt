@@ -50,14 +50,4 @@ pub are-closed-spec : {M : Type 1} → statement M
 are-closed-spec =
     tie.close
     (tie.spec
-    Inv-loop
-    μ-loop
-    loop-holds
-    mul-is-closed
-    add-is-closed
-    is-closed-requires
-    returns
-    add-i
-    loop-less
-    loop-again
-    returns-2)
+    Inv-loop μ-loop loop-holds mul-is-closed add-is-closed is-closed-requires returns add-i loop-less loop-again returns-2)

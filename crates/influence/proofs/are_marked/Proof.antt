@@ -61,17 +61,5 @@ pub are-marked-spec : {M : Type 1} → statement M
 are-marked-spec =
     tie.close
     (tie.spec
-    Inv-loop
-    μ-loop
-    loop-holds
-    add-v
-    mul-v
-    shared-slice-read-v
-    cast-v
-    mul-if1
-    shared-slice-read-if1
-    returns
-    add-i
-    loop-less
-    loop-again
+    Inv-loop μ-loop loop-holds add-v mul-v shared-slice-read-v cast-v mul-if1 shared-slice-read-if1 returns add-i loop-less loop-again
     returns-2)

@@ -7,9 +7,6 @@ use borrow.Author.Needs.{needs}
 use Rattle.influence.proofs.is_kept.Statement.{statement}
 use Rattle.influence.proofs.is_kept.Tie as tie
 
-returns : tie.Need-returns
-returns c = search needs
-
 returns-2 : tie.Need-returns-2
 returns-2 c = sym (ap (λ (q : Bool). q || nonzero (c .before .before .args .mark)) (c .before .if1 .left) ∙ no-mark (c .before .before .args .mark) (c .if2 .taken))
 
@@ -17,4 +14,4 @@ returns-3 : tie.Need-returns-3
 returns-3 c = sym (ap (λ (q : Bool). q || nonzero (c .before .before .args .mark)) (c .before .if1 .left) ∙ a-mark (c .before .before .args .mark) (c .if2 .left))
 
 pub is-kept-spec : {M : Type 1} → statement M
-is-kept-spec = tie.close (tie.spec returns returns-2 returns-3)
+is-kept-spec = tie.close (tie.spec (λ c. search needs) returns-2 returns-3)

@@ -33,9 +33,4 @@ pub is-settled-spec : {M : Type 1} → statement M
 is-settled-spec =
     tie.close
     (tie.spec
-    are-closed-requires
-    are-closed-requires-2
-    add-are-marked
-    are-marked-requires
-    are-marked-requires-2
-    returns)
+    are-closed-requires are-closed-requires-2 add-are-marked are-marked-requires are-marked-requires-2 returns)

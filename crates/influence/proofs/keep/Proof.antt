@@ -90,23 +90,5 @@ pub keep-spec : {M : Type 1} → statement M
 keep-spec =
     tie.close
     (tie.spec
-    Inv-loop
-    μ-loop
-    loop-holds
-    mul-v
-    add-v
-    mul-v-2
-    shared-slice-read-v
-    cast-v
-    mul-is-kept
-    shared-slice-read-is-kept
-    is-kept-requires
-    cast-kept
-    mul-kept
-    slice-write-kept
-    add-n
-    add-j
-    loop-less
-    loop-again
-    same-length
-    returns)
+    Inv-loop μ-loop loop-holds mul-v add-v mul-v-2 shared-slice-read-v cast-v mul-is-kept shared-slice-read-is-kept is-kept-requires
+    cast-kept mul-kept slice-write-kept add-n add-j loop-less loop-again same-length returns)

@@ -16,38 +16,20 @@ use Rattle.influence.proofs.kept_latches.Tie as tie
 add-mark-words : tie.Need-add-mark-words
 add-mark-words c = omega (arith, bad-inside (c .before .before .before .before .pre .0) (c .before .before .before .before .args .b) (c .before .before .before .before .pre .1 .0))
 
-slice-aggregate-mark-words : tie.Need-slice-aggregate-mark-words
-slice-aggregate-mark-words c = search needs
-
 mark-words-requires : tie.Need-mark-words-requires
 mark-words-requires c κs = bad-literals (ready-with (c .before .before .before .before .before .pre .0) (omega (arith, c .before .before .before .before .before .pre .0 .room))) (c .before .before .before .before .before .args .b) (c .before .before .before .before .before .pre .1 .0)
-
-slice-aggregate-mark-words-2 : tie.Need-slice-aggregate-mark-words-2
-slice-aggregate-mark-words-2 c = search needs
 
 mark-words-requires-2 : tie.Need-mark-words-requires-2
 mark-words-requires-2 c κs = constraint-literals (ready-with (c .before .before .before .before .before .before .before .before .pre .0) (omega (arith, c .before .before .mark-words .kept .1 .1 .1 .0, c .before .before .before .before .before .before .before .before .pre .0 .room)))
 
-slice-aggregate-settle : tie.Need-slice-aggregate-settle
-slice-aggregate-settle c = search needs
-
 settle-requires : tie.Need-settle-requires
 settle-requires c κs = (ready-with (c .before .before .before .before .before .before .before .before .before .before .before .pre .0) (omega (arith, c .before .before .mark-words2 .kept .1 .1 .1 .0, c .before .before .before .before .before .mark-words .kept .1 .1 .1 .0, c .before .before .before .before .before .before .before .before .before .before .before .pre .0 .room)), c .before .before .before .before .before .before .before .before .before .before .before .pre .1 .0)
-
-slice-aggregate-is-settled : tie.Need-slice-aggregate-is-settled
-slice-aggregate-is-settled c = search needs
 
 is-settled-requires : tie.Need-is-settled-requires
 is-settled-requires c κs = (ready-with (c .before .before .before .before .before .before .before .before .before .before .before .before .before .before .pre .0) (omega (arith, c .before .before .settle .kept .1 .1 .1 .1 .0, c .before .before .before .before .before .mark-words2 .kept .1 .1 .1 .0, c .before .before .before .before .before .before .before .before .mark-words .kept .1 .1 .1 .0, c .before .before .before .before .before .before .before .before .before .before .before .before .before .before .pre .0 .room)), c .before .before .before .before .before .before .before .before .before .before .before .before .before .before .pre .1 .0)
 
-slice-aggregate-keep : tie.Need-slice-aggregate-keep
-slice-aggregate-keep c = search needs
-
 keep-requires : tie.Need-keep-requires
 keep-requires c κs = (ready-with (c .before .before .before .before .before .before .before .before .before .before .before .before .before .before .before .before .before .pre .0) (omega (arith, c .before .before .before .before .before .settle .kept .1 .1 .1 .1 .0, c .before .before .before .before .before .before .before .before .mark-words2 .kept .1 .1 .1 .0, c .before .before .before .before .before .before .before .before .before .before .before .mark-words .kept .1 .1 .1 .0, c .before .before .before .before .before .before .before .before .before .before .before .before .before .before .before .before .before .pre .0 .room)), c .before .before .before .before .before .before .before .before .before .before .before .before .before .before .before .before .before .pre .1 .1)
-
-same-length : tie.Need-same-length
-same-length c = search needs
 
 returns : tie.Need-returns
 returns c =
@@ -60,16 +42,5 @@ pub kept-latches-spec : {M : Type 1} → statement M
 kept-latches-spec =
     tie.close
     (tie.spec
-    add-mark-words
-    slice-aggregate-mark-words
-    mark-words-requires
-    slice-aggregate-mark-words-2
-    mark-words-requires-2
-    slice-aggregate-settle
-    settle-requires
-    slice-aggregate-is-settled
-    is-settled-requires
-    slice-aggregate-keep
-    keep-requires
-    same-length
-    returns)
+    add-mark-words (λ c. search needs) mark-words-requires (λ c. search needs) mark-words-requires-2 (λ c. search needs)
+    settle-requires (λ c. search needs) is-settled-requires (λ c. search needs) keep-requires (λ c. search needs) returns)

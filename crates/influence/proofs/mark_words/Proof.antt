@@ -58,17 +58,5 @@ pub mark-words-spec : {M : Type 1} → statement M
 mark-words-spec =
     tie.close
     (tie.spec
-    Inv-loop
-    μ-loop
-    loop-holds
-    add-v
-    mul-v
-    shared-slice-read-v
-    cast-v
-    mul-marks
-    slice-write-marks
-    add-i
-    loop-less
-    loop-again
-    same-length
-    returns)
+    Inv-loop μ-loop loop-holds add-v mul-v shared-slice-read-v cast-v mul-marks slice-write-marks add-i loop-less loop-again
+    same-length returns)

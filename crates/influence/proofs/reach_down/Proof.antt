@@ -52,14 +52,4 @@ pub reach-down-spec : {M : Type 1} → statement M
 reach-down-spec =
     tie.close
     (tie.spec
-    Inv-loop
-    μ-loop
-    loop-holds
-    sub-k
-    mul-reach
-    add-reach
-    reach-requires
-    loop-less
-    loop-again
-    same-length
-    returns)
+    Inv-loop μ-loop loop-holds sub-k mul-reach add-reach reach-requires loop-less loop-again same-length returns)

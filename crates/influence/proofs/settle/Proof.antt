@@ -54,15 +54,5 @@ pub settle-spec : {M : Type 1} → statement M
 settle-spec =
     tie.close
     (tie.spec
-    Inv-loop
-    μ-loop
-    loop-holds
-    is-settled-requires
-    same-length
-    returns
-    spread-requires
-    sub-left
-    loop-less
-    loop-again
-    same-length-2
+    Inv-loop μ-loop loop-holds is-settled-requires same-length returns spread-requires sub-left loop-less loop-again same-length-2
     returns-2)

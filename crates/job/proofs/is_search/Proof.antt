@@ -15,16 +15,10 @@ returns c = too-short (c .before .before .args .input .now) (bytes "search ") 7 
 slice-aggregate-same : tie.Need-slice-aggregate-same
 slice-aggregate-same c = omega (arith, length-take-le 7 (c .before .before .before .args .input .now) (omega arith))
 
-slice-aggregate-same-2 : tie.Need-slice-aggregate-same-2
-slice-aggregate-same-2 c = search needs
-
-same-requires : tie.Need-same-requires
-same-requires c κs = search needs
-
 returns-2 : tie.Need-returns-2
 returns-2 c = by-same (c .same .result) (take 7 (c .before .before .before .before .before .args .input .now)) (bytes "search ") (c .same .ensures)
 
 pub is-search-spec : {M : Type 1} → statement M
 is-search-spec =
     tie.close
-    (tie.spec returns slice-aggregate-same slice-aggregate-same-2 same-requires returns-2)
+    (tie.spec returns slice-aggregate-same (λ c. search needs) (λ c κs. search needs) returns-2)

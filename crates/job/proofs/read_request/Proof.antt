@@ -36,23 +36,8 @@ room n = omega (arith, n .read-row .kept .1 .1 .1 .0)
 found : (n : tie.After-read-row) (r : Row) → n .read-row .result ≡ r → RowAt (S n) 7 3 (replicate 3 0) (list n) r
 found n r e = subst (RowAt (S n) 7 3 (replicate 3 0) (list n)) e (n .read-row .ensures)
 
-is-search-requires : tie.Need-is-search-requires
-is-search-requires c κs = search needs
-
 returns : tie.Need-returns
 returns c = let i = c .before in not-search (i .before .before .args .input .now) (sym (i .is-search .ensures) ∙ not-true (i .is-search .result) (c .if1 .taken))
-
-slice-aggregate-read-row : tie.Need-slice-aggregate-read-row
-slice-aggregate-read-row c = search needs
-
-read-row-requires : tie.Need-read-row-requires
-read-row-requires c κs = search needs
-
-enum-known-count : tie.Need-enum-known-count
-enum-known-count c = search needs
-
-enum-told : tie.Need-enum-told
-enum-told c = search needs
 
 returns-2 : tie.Need-returns-2
 returns-2 c = let n = c .before .before .before in no-row (S n) (named n) (found n _ (c .enum-told .given .1))
@@ -61,9 +46,6 @@ returns-3 : tie.Need-returns-3
 returns-3 c =
     let n = c .before .before .before .before .before in
     few (S n) (named n) (room n) (found n _ (c .before .before .count .given .1)) (omega arith)
-
-query-of-requires : tie.Need-query-of-requires
-query-of-requires c κs = search needs
 
 returns-4 : tie.Need-returns-4
 returns-4 c =
@@ -76,13 +58,5 @@ pub read-request-spec : {M : Type 1} → statement M
 read-request-spec =
     tie.close
     (tie.spec
-    is-search-requires
-    returns
-    slice-aggregate-read-row
-    read-row-requires
-    enum-known-count
-    enum-told
-    returns-2
-    returns-3
-    query-of-requires
-    returns-4)
+    (λ c κs. search needs) returns (λ c. search needs) (λ c κs. search needs) (λ c. search needs) (λ c. search needs) returns-2
+    returns-3 (λ c κs. search needs) returns-4)

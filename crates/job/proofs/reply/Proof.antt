@@ -6,9 +6,6 @@ use borrow.Author.Needs.{needs}
 use Rattle.job.proofs.reply.Statement.{statement}
 use Rattle.job.proofs.reply.Tie as tie
 
-search-requires : tie.Need-search-requires
-search-requires c κs = search needs
-
 shown-length-requires : tie.Need-shown-length-requires
 shown-length-requires c κs =
     let n = c .before .before .before .before in
@@ -16,18 +13,6 @@ shown-length-requires c κs =
     let a = s .args in
     shown-fits (a .m .now) (a .q .b) (a .q .k) (a .q .d) (length (a .work .now)) (a .out .now) (s .pre .0) (n .search .result)
     (judged (s .pre .0) (n .search .ensures))
-
-write-answer-requires : tie.Need-write-answer-requires
-write-answer-requires c κs = search needs
-
-same-length : tie.Need-same-length
-same-length c = search needs
-
-same-length-2 : tie.Need-same-length-2
-same-length-2 c = search needs
-
-same-length-3 : tie.Need-same-length-3
-same-length-3 c = search needs
 
 returns : tie.Need-returns
 returns c =
@@ -45,10 +30,5 @@ pub reply-spec : {M : Type 1} → statement M
 reply-spec =
     tie.close
     (tie.spec
-    search-requires
-    shown-length-requires
-    write-answer-requires
-    same-length
-    same-length-2
-    same-length-3
+    (λ c κs. search needs) shown-length-requires (λ c κs. search needs) (λ c. search needs) (λ c. search needs) (λ c. search needs)
     returns)

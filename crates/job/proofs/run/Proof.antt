@@ -27,32 +27,11 @@ load-of n =
     let s = k .before .before .before .before .before .before .before .before .before .before .args in
     rw (whole-rest (s .input .now) (k .before .q .given .0 .0 .file)) at (n .load .ensures)
 
-refuse-requires : tie.Need-refuse-requires
-refuse-requires c κs = search needs
-
-same-length : tie.Need-same-length
-same-length c = search needs
-
 returns : tie.Need-returns
 returns c =
     let f = c .before .before .refuse .ensures in
     let s = c .before .before .before .before .before .before .before .before .before .before .args in
     (too-long (s .input .now) (omega (arith, c .before .before .before .before .if1 .taken)) (s .out .now) f, (f .line-is .inside, omega (arith, f .no-witness)))
-
-read-request-requires : tie.Need-read-request-requires
-read-request-requires c κs = search needs
-
-enum-known-q : tie.Need-enum-known-q
-enum-known-q c = search needs
-
-enum-told : tie.Need-enum-told
-enum-told c = search needs
-
-refuse-requires-2 : tie.Need-refuse-requires-2
-refuse-requires-2 c κs = search needs
-
-same-length-2 : tie.Need-same-length-2
-same-length-2 c = search needs
 
 returns-2 : tie.Need-returns-2
 returns-2 c =
@@ -69,31 +48,10 @@ sub-load c = omega (arith, asked c .1)
 part-load-start : tie.Need-part-load-start
 part-load-start c = omega (arith, asked c .1)
 
-part-load-end : tie.Need-part-load-end
-part-load-end c = search needs
-
-load-requires : tie.Need-load-requires
-load-requires c κs = search needs
-
-enum-known-n : tie.Need-enum-known-n
-enum-known-n c = search needs
-
-refuse-requires-3 : tie.Need-refuse-requires-3
-refuse-requires-3 c κs = search needs
-
-enum-told-2 : tie.Need-enum-told-2
-enum-told-2 c = search needs
-
 reply-requires : tie.Need-reply-requires
 reply-requires c κs =
     let n = c .before .before .before .before .before .before .before .before in
     (stored-in (stored (load-of n) (ap answered (c .before .before .before .before .enum-told2 .given .1))), omega (arith, c .before .before .before .before .before .before .before .before .before .before .before .before .before .before .before .before .before .before .before .before .before .pre .3))
-
-same-length-3 : tie.Need-same-length-3
-same-length-3 c = search needs
-
-same-length-4 : tie.Need-same-length-4
-same-length-4 c = search needs
 
 returns-3 : tie.Need-returns-3
 returns-3 c =
@@ -106,18 +64,6 @@ returns-3 c =
           (not-loaded (load-of n) (ap answered (c .before .before .before .before .before .n .given .1))) (a .out .now) f,
       (f .line-is .inside, omega (arith, f .no-witness)),
     )
-
-same-length-5 : tie.Need-same-length-5
-same-length-5 c = search needs
-
-same-length-6 : tie.Need-same-length-6
-same-length-6 c = search needs
-
-same-length-7 : tie.Need-same-length-7
-same-length-7 c = search needs
-
-same-length-8 : tie.Need-same-length-8
-same-length-8 c = search needs
 
 returns-4 : tie.Need-returns-4
 returns-4 c =
@@ -135,28 +81,7 @@ pub run-spec : {M : Type 1} → statement M
 run-spec =
     tie.close
     (tie.spec
-    refuse-requires
-    same-length
-    returns
-    read-request-requires
-    enum-known-q
-    enum-told
-    refuse-requires-2
-    same-length-2
-    returns-2
-    sub-load
-    part-load-start
-    part-load-end
-    load-requires
-    enum-known-n
-    refuse-requires-3
-    enum-told-2
-    reply-requires
-    same-length-3
-    same-length-4
-    returns-3
-    same-length-5
-    same-length-6
-    same-length-7
-    same-length-8
-    returns-4)
+    (λ c κs. search needs) (λ c. search needs) returns (λ c κs. search needs) (λ c. search needs) (λ c. search needs)
+    (λ c κs. search needs) (λ c. search needs) returns-2 sub-load part-load-start (λ c. search needs) (λ c κs. search needs)
+    (λ c. search needs) (λ c κs. search needs) (λ c. search needs) reply-requires (λ c. search needs) (λ c. search needs) returns-3
+    (λ c. search needs) (λ c. search needs) (λ c. search needs) (λ c. search needs) returns-4)

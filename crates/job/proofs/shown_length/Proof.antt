@@ -15,9 +15,6 @@ use Rattle.job.proofs.shown_length.Tie as tie
 fits : (k : tie.After-known-told) → let s = k .before .before .before .before .args in FoundFits (s .m .now) (s .b) (k .before .answer .given .0 .0)
 fits k = rw (k .before .answer .given .1) at (k .before .before .before .before .pre)
 
-enum-known-answer : tie.Need-enum-known-answer
-enum-known-answer c = search needs
-
 returns : tie.Need-returns
 returns c = let s = c .before .before .args in other-length (circuitIn (s .m .now)) (s .b) (s .answer) (c .match .keys2)
 
@@ -31,9 +28,6 @@ with-starts-requires c κs =
 
 cast-witness-length : tie.Need-cast-witness-length
 cast-witness-length c = let k = c .before .before in omega (arith, fits k .bad, counts (fits k .holds) .bads)
-
-cast-witness-length-2 : tie.Need-cast-witness-length-2
-cast-witness-length-2 c = search needs
 
 witness-length-requires : tie.Need-witness-length-requires
 witness-length-requires c κs = let k = c .before .before in (limited (fits k .holds) (c .with-starts .ensures), omega (arith, fits k .frame))
@@ -50,11 +44,5 @@ pub shown-length-spec : {M : Type 1} → statement M
 shown-length-spec =
     tie.close
     (tie.spec
-    enum-known-answer
-    returns
-    layout-of-requires
-    with-starts-requires
-    cast-witness-length
-    cast-witness-length-2
-    witness-length-requires
+    (λ c. search needs) returns layout-of-requires with-starts-requires cast-witness-length (λ c. search needs) witness-length-requires
     returns-2)

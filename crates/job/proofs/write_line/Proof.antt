@@ -6,9 +6,6 @@ use borrow.Author.Needs.{needs}
 use Rattle.job.proofs.write_line.Statement.{statement}
 use Rattle.job.proofs.write_line.Tie as tie
 
-put-requires : tie.Need-put-requires
-put-requires c κs = search needs
-
 put-ended-requires : tie.Need-put-ended-requires
 put-ended-requires c κs =
     let w = c .before .before .before in
@@ -17,9 +14,6 @@ put-ended-requires c κs =
     let l = a .line .now in
     let t = a .word .now in
     room-second l 0 t (numberText (a .n) 0) (line-room l t (a .n) (s .pre)) (w .put .ensures)
-
-same-length : tie.Need-same-length
-same-length c = search needs
 
 returns : tie.Need-returns
 returns c =
@@ -33,4 +27,4 @@ returns c =
     (placed-two l 0 t (numberText (a .n) 0) (line-room l t (a .n) (s .pre)) (w .put .ensures) (e .put-ended .ensures))
 
 pub write-line-spec : {M : Type 1} → statement M
-write-line-spec = tie.close (tie.spec put-requires put-ended-requires same-length returns)
+write-line-spec = tie.close (tie.spec (λ c κs. search needs) put-ended-requires (λ c. search needs) returns)

@@ -7,26 +7,8 @@ use Rattle.join.proofs.Answers.{small, refuses-in, stores-in}
 use Rattle.join.proofs.join.Statement.{statement}
 use Rattle.join.proofs.join.Tie as tie
 
-test-requires : tie.Need-test-requires
-test-requires c κs = search needs
-
-enum-known-p : tie.Need-enum-known-p
-enum-known-p c = search needs
-
-enum-told : tie.Need-enum-told
-enum-told c = search needs
-
 returns : tie.Need-returns
 returns c = JoinedInto.noCircuit (inl (rw (c .enum-told .given .1) at (c .before .before .test .ensures)))
-
-test-requires-2 : tie.Need-test-requires-2
-test-requires-2 c κs = search needs
-
-enum-known-q : tie.Need-enum-known-q
-enum-known-q c = search needs
-
-enum-told-2 : tie.Need-enum-told-2
-enum-told-2 c = search needs
 
 returns-2 : tie.Need-returns-2
 returns-2 c = JoinedInto.noCircuit (inr (rw (c .enum-told2 .given .1) at (c .before .before .test2 .ensures)))
@@ -38,9 +20,6 @@ judge-requires c κs =
     let t = rw (p .p .given .1) at (p .before .before .test .ensures) in
     let u = rw (q .q .given .1) at (q .before .before .test2 .ensures) in (small (t .0) (t .1), small (u .0) (u .1))
 
-enum-known-n : tie.Need-enum-known-n
-enum-known-n c = search needs
-
 returns-3 : tie.Need-returns-3
 returns-3 c =
     let r = c .before .before .before in
@@ -49,9 +28,6 @@ returns-3 c =
     let t = rw (p .p .given .1) at (p .before .before .test .ensures) in
     let u = rw (q .q .given .1) at (q .before .before .test2 .ensures) in
     refuses-in (t .1) (t .0) (u .1) (u .0) (rw (c .before .n .given .1) at (r .judge .ensures))
-
-enum-told-3 : tie.Need-enum-told-3
-enum-told-3 c = search needs
 
 join-held-requires : tie.Need-join-held-requires
 join-held-requires c κs =
@@ -90,19 +66,6 @@ pub join-spec : {M : Type 1} → statement M
 join-spec =
     tie.close
     (tie.spec
-    test-requires
-    enum-known-p
-    enum-told
-    returns
-    test-requires-2
-    enum-known-q
-    enum-told-2
-    returns-2
-    judge-requires
-    enum-known-n
-    returns-3
-    enum-told-3
-    join-held-requires
-    joined-counts-requires
-    same-length
-    returns-4)
+    (λ c κs. search needs) (λ c. search needs) (λ c. search needs) returns (λ c κs. search needs) (λ c. search needs)
+    (λ c. search needs) returns-2 judge-requires (λ c. search needs) returns-3 (λ c. search needs) join-held-requires
+    joined-counts-requires same-length returns-4)

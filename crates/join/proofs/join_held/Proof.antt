@@ -34,9 +34,6 @@ cast-number-all c = let s = c .before .before .before .before .before .before .b
 cast-number-all-2 : tie.Need-cast-number-all-2
 cast-number-all-2 c = let s = c .before .before .before .before .before .before .before in omega (arith, s .pre .1 .0 .top)
 
-slice-aggregate-number-all : tie.Need-slice-aggregate-number-all
-slice-aggregate-number-all c = search needs
-
 number-all-requires : tie.Need-number-all-requires
 number-all-requires c κs =
     let s = c .before .before .before .before .before .before .before .before in (
@@ -53,21 +50,12 @@ add-number-all-2 c = let s = c .before .before .before .before .before .before .
 cast-number-all-4 : tie.Need-cast-number-all-4
 cast-number-all-4 c = let s = c .before .before .before .before .before .before .before .before .before .before .before in omega (arith, s .pre .1 .0 .top)
 
-slice-aggregate-number-all-2 : tie.Need-slice-aggregate-number-all-2
-slice-aggregate-number-all-2 c = search needs
-
 number-all-requires-2 : tie.Need-number-all-requires-2
 number-all-requires-2 c κs =
     let s = c .before .before .before .before .before .before .before .before .before .before .before .before in (
       s .pre .0 .2,
       (s .pre .0 .3, (omega arith, omega (arith, s .pre .1 .0 .top), omega (arith, s .pre .1 .0 .top, s .pre .1 .0 .some), getD-zeros 4097)),
     )
-
-slice-aggregate-write-joined : tie.Need-slice-aggregate-write-joined
-slice-aggregate-write-joined c = search needs
-
-slice-aggregate-write-joined-2 : tie.Need-slice-aggregate-write-joined-2
-slice-aggregate-write-joined-2 c = search needs
 
 write-joined-requires : tie.Need-write-joined-requires
 write-joined-requires c κs =
@@ -99,23 +87,6 @@ pub join-held-spec : {M : Type 1} → statement M
 join-held-spec =
     tie.close
     (tie.spec
-    add-latches
-    add-latches-2
-    add-gates
-    add-gates-2
-    add-gates-3
-    add-number-all
-    cast-number-all
-    cast-number-all-2
-    slice-aggregate-number-all
-    number-all-requires
-    cast-number-all-3
-    add-number-all-2
-    cast-number-all-4
-    slice-aggregate-number-all-2
-    number-all-requires-2
-    slice-aggregate-write-joined
-    slice-aggregate-write-joined-2
-    write-joined-requires
-    same-length
-    returns)
+    add-latches add-latches-2 add-gates add-gates-2 add-gates-3 add-number-all cast-number-all cast-number-all-2 (λ c. search needs)
+    number-all-requires cast-number-all-3 add-number-all-2 cast-number-all-4 (λ c. search needs) number-all-requires-2
+    (λ c. search needs) (λ c. search needs) write-joined-requires same-length returns)

@@ -11,9 +11,6 @@ use Rattle.join.proofs.Answers.{says-17, says-3, says-4, says-none}
 use Rattle.join.proofs.judge.Statement.{statement}
 use Rattle.join.proofs.judge.Tie as tie
 
-can-pair-requires : tie.Need-can-pair-requires
-can-pair-requires c κs = search needs
-
 returns : tie.Need-returns
 returns c =
     let a = c .before .before .args in says-17 (a .p) (a .q) (a .room) (sym (c .before .can-pair .ensures) ∙ not-true _ (c .if1 .taken))
@@ -21,27 +18,12 @@ returns c =
 joined-counts-requires : tie.Need-joined-counts-requires
 joined-counts-requires c κs = c .before .before .pre
 
-are-small-requires : tie.Need-are-small-requires
-are-small-requires c κs = search needs
-
 returns-2 : tie.Need-returns-2
 returns-2 c =
     let a = c .before .before .before .before .before .args in
     let k = ap (λ (x : Counts). countsFit (headerMeant x)) (c .before .before .joined-counts .ensures) in
     says-3 (a .p) (a .q) (a .room) (sym (c .before .before .before .before .can-pair .ensures) ∙ not-false _ (c .before .before .before .if1 .left))
     (sym k ∙ sym (c .before .are-small .ensures) ∙ not-true _ (c .if2 .taken))
-
-cast-if3 : tie.Need-cast-if3
-cast-if3 c = search needs
-
-add-if3 : tie.Need-add-if3
-add-if3 c = search needs
-
-mul-if3 : tie.Need-mul-if3
-mul-if3 c = search needs
-
-add-if3-2 : tie.Need-add-if3-2
-add-if3-2 c = search needs
 
 returns-3 : tie.Need-returns-3
 returns-3 c =
@@ -63,14 +45,5 @@ pub judge-spec : {M : Type 1} → statement M
 judge-spec =
     tie.close
     (tie.spec
-    can-pair-requires
-    returns
-    joined-counts-requires
-    are-small-requires
-    returns-2
-    cast-if3
-    add-if3
-    mul-if3
-    add-if3-2
-    returns-3
-    returns-4)
+    (λ c κs. search needs) returns joined-counts-requires (λ c κs. search needs) returns-2 (λ c. search needs) (λ c. search needs)
+    (λ c. search needs) (λ c. search needs) returns-3 returns-4)

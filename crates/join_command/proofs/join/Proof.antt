@@ -7,21 +7,6 @@ use borrow.Author.Needs.{needs}
 use Rattle.join_command.proofs.join.Statement.{statement}
 use Rattle.join_command.proofs.join.Tie as tie
 
-join-files-requires : tie.Need-join-files-requires
-join-files-requires c κs = search needs
-
-same-length : tie.Need-same-length
-same-length c = search needs
-
-same-length-2 : tie.Need-same-length-2
-same-length-2 c = search needs
-
-same-length-3 : tie.Need-same-length-3
-same-length-3 c = search needs
-
-same-length-4 : tie.Need-same-length-4
-same-length-4 c = search needs
-
 returns : tie.Need-returns
 returns c =
     let s = c .before .before .before .before .before .before .before .before .before .before .before .before .before .before .before .before .before .before .before .before .before .before in
@@ -36,21 +21,6 @@ write-loaded-requires c κs =
     let h = join-held (a .third .now) (a .old .now) (a .new .now) (s .pre .2) (c .before .before .before .before .before .before .before .before .before .before .before .before .before .join-files .ensures .0) (c .before .before .before .if1 .left) in
     (h .0, s .pre .3, omega (arith, ap length (h .2), s .pre .4))
 
-same-length-5 : tie.Need-same-length-5
-same-length-5 c = search needs
-
-same-length-6 : tie.Need-same-length-6
-same-length-6 c = search needs
-
-same-length-7 : tie.Need-same-length-7
-same-length-7 c = search needs
-
-same-length-8 : tie.Need-same-length-8
-same-length-8 c = search needs
-
-same-length-9 : tie.Need-same-length-9
-same-length-9 c = search needs
-
 returns-2 : tie.Need-returns-2
 returns-2 c =
     let s = c .before .before .before .before .before .before .before .before .before .before .before .before .before .before .before .before .before .before .before .before .before .before .before .before .before .before .before .before .before .before in
@@ -62,16 +32,5 @@ pub join-spec : {M : Type 1} → statement M
 join-spec =
     tie.close
     (tie.spec
-    join-files-requires
-    same-length
-    same-length-2
-    same-length-3
-    same-length-4
-    returns
-    write-loaded-requires
-    same-length-5
-    same-length-6
-    same-length-7
-    same-length-8
-    same-length-9
-    returns-2)
+    (λ c κs. search needs) (λ c. search needs) (λ c. search needs) (λ c. search needs) (λ c. search needs) returns
+    write-loaded-requires (λ c. search needs) (λ c. search needs) (λ c. search needs) (λ c. search needs) (λ c. search needs) returns-2)

@@ -8,28 +8,10 @@ use borrow.Author.Needs.{needs}
 use Rattle.join_command.proofs.join_files.Statement.{statement}
 use Rattle.join_command.proofs.join_files.Tie as tie
 
-load-requires : tie.Need-load-requires
-load-requires c κs = search needs
-
-enum-known-n : tie.Need-enum-known-n
-enum-known-n c = search needs
-
-refuse-requires : tie.Need-refuse-requires
-refuse-requires c κs = search needs
-
-enum-told : tie.Need-enum-told
-enum-told c = search needs
-
 join-second-requires : tie.Need-join-second-requires
 join-second-requires c κs =
     let s = c .before .before .before .before .before .before .before .before .before .before .before .before .before .before .before .before in
     (stored-in (stored (c .before .before .before .before .before .before .before .before .load .ensures) (ap answered (c .before .before .before .before .enum-told .given .1))), s .pre .1, s .pre .2, s .pre .3)
-
-same-length : tie.Need-same-length
-same-length c = search needs
-
-same-length-2 : tie.Need-same-length-2
-same-length-2 c = search needs
 
 returns : tie.Need-returns
 returns c =
@@ -41,18 +23,6 @@ returns c =
       first-left (a .first .now) (a .old .now) (a .new .now) (s .pre .0) e (a .third .now) (f .0) (f .1),
       both-left (a .first .now) (a .old .now) (a .new .now) (s .pre .0) e (a .second .now) (loaded-words (l .load .ensures)),
     )
-
-same-length-3 : tie.Need-same-length-3
-same-length-3 c = search needs
-
-same-length-4 : tie.Need-same-length-4
-same-length-4 c = search needs
-
-same-length-5 : tie.Need-same-length-5
-same-length-5 c = search needs
-
-same-length-6 : tie.Need-same-length-6
-same-length-6 c = search needs
 
 returns-2 : tie.Need-returns-2
 returns-2 c =
@@ -69,16 +39,5 @@ pub join-files-spec : {M : Type 1} → statement M
 join-files-spec =
     tie.close
     (tie.spec
-    load-requires
-    enum-known-n
-    refuse-requires
-    enum-told
-    join-second-requires
-    same-length
-    same-length-2
-    returns
-    same-length-3
-    same-length-4
-    same-length-5
-    same-length-6
-    returns-2)
+    (λ c κs. search needs) (λ c. search needs) (λ c κs. search needs) (λ c. search needs) join-second-requires (λ c. search needs)
+    (λ c. search needs) returns (λ c. search needs) (λ c. search needs) (λ c. search needs) (λ c. search needs) returns-2)

@@ -21,12 +21,6 @@ loop-holds c = (refl, refl)
 sub-left : tie.Need-sub-left Inv-loop μ-loop
 sub-left c = omega arith
 
-set-field-requires : tie.Need-set-field-requires Inv-loop μ-loop
-set-field-requires c κs = search needs
-
-set-field-requires-2 : tie.Need-set-field-requires-2 Inv-loop μ-loop
-set-field-requires-2 c κs = search needs
-
 loop-less : tie.Need-loop-less Inv-loop μ-loop
 loop-less c = omega arith
 
@@ -53,13 +47,4 @@ pub detach-spec : {M : Type 1} → statement M
 detach-spec =
     tie.close
     (tie.spec
-    Inv-loop
-    μ-loop
-    loop-holds
-    sub-left
-    set-field-requires
-    set-field-requires-2
-    loop-less
-    loop-again
-    same-length
-    returns)
+    Inv-loop μ-loop loop-holds sub-left (λ c κs. search needs) (λ c κs. search needs) loop-less loop-again same-length returns)

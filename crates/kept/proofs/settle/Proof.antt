@@ -5,15 +5,6 @@ use borrow.Author.Needs.{needs}
 use Rattle.kept.proofs.settle.Statement.{statement}
 use Rattle.kept.proofs.settle.Tie as tie
 
-literal-requires : tie.Need-literal-requires
-literal-requires c κs = search needs
-
-fix-requires : tie.Need-fix-requires
-fix-requires c κs = search needs
-
-same-length : tie.Need-same-length
-same-length c = search needs
-
 returns : tie.Need-returns
 unfolding K.settled
 returns c =
@@ -33,4 +24,4 @@ returns-3 c = rw (c .if1 .left)
 
 pub settle-spec : {M : Type 1} → statement M
 settle-spec =
-    tie.close (tie.spec literal-requires fix-requires same-length returns returns-2 returns-3)
+    tie.close (tie.spec (λ c κs. search needs) (λ c κs. search needs) (λ c. search needs) returns returns-2 returns-3)

@@ -27,16 +27,10 @@ kept m a b e t = go (eqb m 0) refl (sym e ∙ t)
     go true f h = not-true a (sym (xor-true a) ∙ h) ∙ sym (ap nonzero (eqb-true m 0 f))
     go false f h = sym (xor-false a) ∙ h ∙ sym (nonzero-some m f)
 
-shr-literal-word : tie.Need-shr-literal-word
-shr-literal-word c = search needs
-
-literal-word-requires : tie.Need-literal-word-requires
-literal-word-requires c κs = search needs
-
 returns : tie.Need-returns
 unfolding bit
 returns c = λ q l t. kept (c .before .args .x / 2 ^ c .before .args .p % 2) (bit (c .before .args .x) q) (bit (c .literal-word .result) q)
     (c .literal-word .ensures q l) t
 
 pub alike-spec : {M : Type 1} → statement M
-alike-spec = tie.close (tie.spec shr-literal-word literal-word-requires returns)
+alike-spec = tie.close (tie.spec (λ c. search needs) (λ c κs. search needs) returns)

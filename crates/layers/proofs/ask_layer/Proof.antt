@@ -160,9 +160,6 @@ mul-t34 c = omega (
       .before .pre .1 .0 .2) (c .before .before .before .before .before .before .before .before .before .blocks2 .ensures) .0,
 )
 
-cast-t35 : tie.Need-cast-t35 Inv-loop μ-loop
-cast-t35 c = search needs
-
 add-t36 : tie.Need-add-t36 Inv-loop μ-loop
 add-t36 c = omega (
   arith,
@@ -391,33 +388,6 @@ pub ask-layer-spec : {M : Type 1} → statement M
 ask-layer-spec =
     tie.close
     (tie.spec
-    Inv-loop
-    μ-loop
-    blocks-requires
-    lanes-requires
-    sub-total
-    mul-total
-    loop-holds
-    div-e
-    add-e
-    rem-block
-    mul-s
-    mul-s-2
-    slice-read-s
-    judge-rows-requires
-    mul-t34
-    cast-t35
-    add-t36
-    same-length
-    same-length-2
-    same-length-3
-    returns
-    cast-t30
-    meet-block-requires
-    add-q
-    loop-less
-    loop-again
-    same-length-4
-    same-length-5
-    same-length-6
-    returns-2)
+    Inv-loop μ-loop blocks-requires lanes-requires sub-total mul-total loop-holds div-e add-e rem-block mul-s mul-s-2 slice-read-s
+    judge-rows-requires mul-t34 (λ c. search needs) add-t36 same-length same-length-2 same-length-3 returns cast-t30
+    meet-block-requires add-q loop-less loop-again same-length-4 same-length-5 same-length-6 returns-2)

@@ -74,9 +74,4 @@ pub judge-rows-spec : {M : Type 1} → statement M
 judge-rows-spec =
     tie.close
     (tie.spec
-    eval-rows-requires
-    bad-word-requires
-    constrain-requires
-    first-difference-requires
-    same-length
-    returns)
+    eval-rows-requires bad-word-requires constrain-requires first-difference-requires same-length returns)

@@ -9,14 +9,8 @@ use Rattle.layers.proofs.lanes.Tie as tie
 returns : tie.Need-returns
 returns c = omega (arith, pow-mono {i = 6} {j = c .before .args .inputs} (omega arith))
 
-cast-result : tie.Need-cast-result
-cast-result c = search needs
-
-shl-result : tie.Need-shl-result
-shl-result c = search needs
-
 returns-2 : tie.Need-returns-2
 returns-2 c = omega (arith, pow-mono {i = c .before .args .inputs} {j = 5} (omega arith))
 
 pub lanes-spec : {M : Type 1} → statement M
-lanes-spec = tie.close (tie.spec returns cast-result shl-result returns-2)
+lanes-spec = tie.close (tie.spec returns (λ c. search needs) (λ c. search needs) returns-2)

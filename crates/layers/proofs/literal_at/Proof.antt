@@ -45,10 +45,4 @@ pub literal-at-spec : {M : Type 1} → statement M
 literal-at-spec =
     tie.close
     (tie.spec
-    mul-l
-    shared-slice-read-l
-    cast-literal-word
-    mul-literal-word
-    shared-slice-read-literal-word
-    literal-word-requires
-    returns)
+    mul-l shared-slice-read-l cast-literal-word mul-literal-word shared-slice-read-literal-word literal-word-requires returns)

@@ -41,9 +41,6 @@ mul-first c = omega (arith, c .before .before .before .before .before .before .b
 cast-first : tie.Need-cast-first
 cast-first c = omega (arith, c .before .before .before .before .before .before .before .before .pre .1 .1 .2)
 
-slice-aggregate-next-kept : tie.Need-slice-aggregate-next-kept
-slice-aggregate-next-kept c = search needs
-
 next-kept-requires : tie.Need-next-kept-requires
 next-kept-requires c κs =
     let R = c .before .before .before .before .before .before .before .before .before .pre .0 .1 in (
@@ -176,15 +173,5 @@ pub meet-block-spec : {M : Type 1} → statement M
 meet-block-spec =
     tie.close
     (tie.spec
-    returns
-    lanes-requires
-    mul-first
-    cast-first
-    slice-aggregate-next-kept
-    next-kept-requires
-    array-share-prefix-state
-    slice-aggregate-meet-rows
-    meet-rows-requires
-    same-length
-    same-length-2
-    returns-2)
+    returns lanes-requires mul-first cast-first (λ c. search needs) next-kept-requires array-share-prefix-state
+    slice-aggregate-meet-rows meet-rows-requires same-length same-length-2 returns-2)

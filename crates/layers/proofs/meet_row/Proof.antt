@@ -53,9 +53,6 @@ first-of false b e = e
 left-in : (left others q : ℕ) → bit (bitAnd left others) q ≡ true → bit left q ≡ true
 left-in left others q e = first-of (bit left q) (bit others q) (sym (bit-and left others q) ∙ e)
 
-shr-if1 : tie.Need-shr-if1
-shr-if1 c = search needs
-
 returns : tie.Need-returns
 unfolding bit
 returns c = RowStep.skipped (ap nonzero (c .if1 .taken))
@@ -109,13 +106,5 @@ pub meet-row-spec : {M : Type 1} → statement M
 meet-row-spec =
     tie.close
     (tie.spec
-    shr-if1
-    returns
-    pack-requires
-    same-rows-requires
-    literal-word-requires
-    add-meet
-    meet-requires
-    same-length
-    same-length-2
+    (λ c. search needs) returns pack-requires same-rows-requires literal-word-requires add-meet meet-requires same-length same-length-2
     returns-2)

@@ -93,13 +93,4 @@ pub meet-rows-spec : {M : Type 1} → statement M
 meet-rows-spec =
     tie.close
     (tie.spec
-    Inv-loop
-    μ-loop
-    loop-holds
-    meet-row-requires
-    add-p
-    loop-less
-    loop-again
-    same-length
-    same-length-2
-    returns)
+    Inv-loop μ-loop loop-holds meet-row-requires add-p loop-less loop-again same-length same-length-2 returns)

@@ -119,20 +119,5 @@ pub meet-starts-spec : {M : Type 1} → statement M
 meet-starts-spec =
     tie.close
     (tie.spec
-    Inv-loop
-    μ-loop
-    loop-holds
-    same-length
-    same-length-2
-    same-length-3
-    returns
-    start-number-requires
-    cast-meet
-    meet-requires
-    add-y
-    loop-less
-    loop-again
-    same-length-4
-    same-length-5
-    same-length-6
-    returns-2)
+    Inv-loop μ-loop loop-holds same-length same-length-2 same-length-3 returns start-number-requires cast-meet meet-requires add-y
+    loop-less loop-again same-length-4 same-length-5 same-length-6 returns-2)

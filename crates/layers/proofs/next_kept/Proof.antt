@@ -109,20 +109,5 @@ pub next-kept-spec : {M : Type 1} → statement M
 next-kept-spec =
     tie.close
     (tie.spec
-    Inv-loop
-    μ-loop
-    loop-holds
-    mul-j
-    shared-slice-read-j
-    cast-j
-    mul-literal-at
-    add-literal-at
-    add-literal-at-2
-    literal-at-requires
-    mul-state
-    slice-write-state
-    add-i
-    loop-less
-    loop-again
-    same-length
-    returns)
+    Inv-loop μ-loop loop-holds mul-j shared-slice-read-j cast-j mul-literal-at add-literal-at add-literal-at-2 literal-at-requires
+    mul-state slice-write-state add-i loop-less loop-again same-length returns)

@@ -41,9 +41,6 @@ mul-n-2 c = omega (arith, c .before .before .pre .0)
 shared-slice-read-n : tie.Need-shared-slice-read-n Inv-loop μ-loop
 shared-slice-read-n c = omega arith
 
-shr-n : tie.Need-shr-n Inv-loop μ-loop
-shr-n c = search needs
-
 add-n : tie.Need-add-n Inv-loop μ-loop
 add-n c = omega (
   arith,
@@ -82,16 +79,5 @@ pub pack-spec : {M : Type 1} → statement M
 pack-spec =
     tie.close
     (tie.spec
-    Inv-loop
-    μ-loop
-    loop-holds
-    sub-i
-    mul-n
-    mul-n-2
-    shared-slice-read-n
-    shr-n
-    add-n
-    loop-less
-    loop-again
-    cast-result
+    Inv-loop μ-loop loop-holds sub-i mul-n mul-n-2 shared-slice-read-n (λ c. search needs) add-n loop-less loop-again cast-result
     returns)

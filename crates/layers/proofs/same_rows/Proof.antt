@@ -58,13 +58,4 @@ pub same-rows-spec : {M : Type 1} → statement M
 same-rows-spec =
     tie.close
     (tie.spec
-    Inv-loop
-    μ-loop
-    loop-holds
-    mul-alike
-    shared-slice-read-alike
-    alike-requires
-    add-i
-    loop-less
-    loop-again
-    returns)
+    Inv-loop μ-loop loop-holds mul-alike shared-slice-read-alike alike-requires add-i loop-less loop-again returns)

@@ -4,9 +4,6 @@ use borrow.Author.Needs.{needs}
 use Rattle.layout.proofs.free_start.Statement.{statement}
 use Rattle.layout.proofs.free_start.Tie as tie
 
-equals-requires : tie.Need-equals-requires
-equals-requires c κs = search needs
-
 returns : tie.Need-returns
 returns c = rw (sym (c .before .equals .ensures) ∙ c .if1 .taken)
 
@@ -17,6 +14,4 @@ pub free-start-spec : {M : Type 1} → statement M
 free-start-spec =
     tie.close
     (tie.spec
-    equals-requires
-    returns
-    returns-2)
+    (λ c κs. search needs) returns returns-2)

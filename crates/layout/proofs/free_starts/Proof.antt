@@ -93,23 +93,6 @@ pub free-starts-spec : {M : Type 1} → statement M
 free-starts-spec =
     tie.close
     (tie.spec
-    Inv-loop
-    μ-loop
-    loop-holds
-    mul-from-word
-    add-from-word
-    mul-from-word-2
-    shared-slice-read-from-word
-    from-word-requires
-    mul-from-word-3
-    add-from-word-2
-    add-from-word-3
-    mul-from-word-4
-    shared-slice-read-from-word-2
-    from-word-requires-2
-    free-start-requires
-    add-free
-    add-j
-    loop-less
-    loop-again
-    returns)
+    Inv-loop μ-loop loop-holds mul-from-word add-from-word mul-from-word-2 shared-slice-read-from-word from-word-requires
+    mul-from-word-3 add-from-word-2 add-from-word-3 mul-from-word-4 shared-slice-read-from-word-2 from-word-requires-2
+    free-start-requires add-free add-j loop-less loop-again returns)

@@ -4,15 +4,6 @@ use borrow.Author.Needs.{needs}
 use Rattle.learning.proofs.assert.Statement.{statement}
 use Rattle.learning.proofs.assert.Tie as tie
 
-assign-requires : tie.Need-assign-requires
-assign-requires c κs = search needs
-
-with-trail-requires : tie.Need-with-trail-requires
-with-trail-requires c κs = search needs
-
-same-length : tie.Need-same-length
-same-length c = search needs
-
 returns : tie.Need-returns
 unfolding Ln.asserted
 returns c =
@@ -20,4 +11,4 @@ returns c =
     rw (← u .state) (record { words = u .words; search = c .with-trail .ensures })
 
 pub assert-spec : {M : Type 1} → statement M
-assert-spec = tie.close (tie.spec assign-requires with-trail-requires same-length returns)
+assert-spec = tie.close (tie.spec (λ c κs. search needs) (λ c κs. search needs) (λ c. search needs) returns)

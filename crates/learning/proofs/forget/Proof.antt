@@ -4,21 +4,6 @@ use borrow.Author.Needs.{needs}
 use Rattle.learning.proofs.forget.Statement.{statement}
 use Rattle.learning.proofs.forget.Tie as tie
 
-retreat-requires : tie.Need-retreat-requires
-retreat-requires c κs = search needs
-
-settle-level-requires : tie.Need-settle-level-requires
-settle-level-requires c κs = search needs
-
-detach-requires : tie.Need-detach-requires
-detach-requires c κs = search needs
-
-with-arena-requires : tie.Need-with-arena-requires
-with-arena-requires c κs = search needs
-
-same-length : tie.Need-same-length
-same-length c = search needs
-
 returns : tie.Need-returns
 unfolding Ln.forgotten
 returns c =
@@ -35,9 +20,4 @@ pub forget-spec : {M : Type 1} → statement M
 forget-spec =
     tie.close
     (tie.spec
-    retreat-requires
-    settle-level-requires
-    detach-requires
-    with-arena-requires
-    same-length
-    returns)
+    (λ c κs. search needs) (λ c κs. search needs) (λ c κs. search needs) (λ c κs. search needs) (λ c. search needs) returns)

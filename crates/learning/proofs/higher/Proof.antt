@@ -13,12 +13,6 @@ returns-2 : tie.Need-returns-2
 unfolding Ln.higher
 returns-2 c = rw (ne-eqb _ _ (c .before .if1 .left), eq-eqb _ _ (c .if2 .taken))
 
-field-requires : tie.Need-field-requires
-field-requires c κs = search needs
-
-field-requires-2 : tie.Need-field-requires-2
-field-requires-2 c κs = search needs
-
 returns-3 : tie.Need-returns-3
 unfolding Ln.higher
 returns-3 c =
@@ -43,4 +37,4 @@ returns-4 c =
 
 pub higher-spec : {M : Type 1} → statement M
 higher-spec =
-    tie.close (tie.spec returns returns-2 field-requires field-requires-2 returns-3 returns-4)
+    tie.close (tie.spec returns returns-2 (λ c κs. search needs) (λ c κs. search needs) returns-3 returns-4)

@@ -4,21 +4,6 @@ use borrow.Author.Needs.{needs}
 use Rattle.learning.proofs.keep_literal.Statement.{statement}
 use Rattle.learning.proofs.keep_literal.Tie as tie
 
-literal-requires : tie.Need-literal-requires
-literal-requires c κs = search needs
-
-settle-requires : tie.Need-settle-requires
-settle-requires c κs = search needs
-
-retreat-requires : tie.Need-retreat-requires
-retreat-requires c κs = search needs
-
-assert-requires : tie.Need-assert-requires
-assert-requires c κs = search needs
-
-same-length : tie.Need-same-length
-same-length c = search needs
-
 returns : tie.Need-returns
 unfolding Ln.keptLiteral
 returns c =
@@ -34,9 +19,4 @@ pub keep-literal-spec : {M : Type 1} → statement M
 keep-literal-spec =
     tie.close
     (tie.spec
-    literal-requires
-    settle-requires
-    retreat-requires
-    assert-requires
-    same-length
-    returns)
+    (λ c κs. search needs) (λ c κs. search needs) (λ c κs. search needs) (λ c κs. search needs) (λ c. search needs) returns)

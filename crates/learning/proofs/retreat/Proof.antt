@@ -4,18 +4,6 @@ use borrow.Author.Needs.{needs}
 use Rattle.learning.proofs.retreat.Statement.{statement}
 use Rattle.learning.proofs.retreat.Tie as tie
 
-backtrack-requires : tie.Need-backtrack-requires
-backtrack-requires c κs = search needs
-
-restore-requires : tie.Need-restore-requires
-restore-requires c κs = search needs
-
-none-agreed-requires : tie.Need-none-agreed-requires
-none-agreed-requires c κs = search needs
-
-same-length : tie.Need-same-length
-same-length c = search needs
-
 returns : tie.Need-returns
 unfolding Ln.retreated
 returns c =
@@ -26,4 +14,4 @@ returns c =
 pub retreat-spec : {M : Type 1} → statement M
 retreat-spec =
     tie.close
-    (tie.spec backtrack-requires restore-requires none-agreed-requires same-length returns)
+    (tie.spec (λ c κs. search needs) (λ c κs. search needs) (λ c κs. search needs) (λ c. search needs) returns)

@@ -6,18 +6,6 @@ use borrow.Author.Needs.{needs}
 use Rattle.learning.proofs.settle_level.Statement.{statement}
 use Rattle.learning.proofs.settle_level.Tie as tie
 
-settle-all-requires : tie.Need-settle-all-requires
-settle-all-requires c κs = search needs
-
-all-settled-requires : tie.Need-all-settled-requires
-all-settled-requires c κs = search needs
-
-with-order-requires : tie.Need-with-order-requires
-with-order-requires c κs = search needs
-
-same-length : tie.Need-same-length
-same-length c = search needs
-
 returns : tie.Need-returns
 unfolding Ln.settledLevel
 returns c =
@@ -32,9 +20,4 @@ pub settle-level-spec : {M : Type 1} → statement M
 settle-level-spec =
     tie.close
     (tie.spec
-    settle-all-requires
-    all-settled-requires
-    with-order-requires
-    same-length
-    returns
-    returns-2)
+    (λ c κs. search needs) (λ c κs. search needs) (λ c κs. search needs) (λ c. search needs) returns returns-2)

@@ -6,39 +6,15 @@ use borrow.Author.Needs.{needs}
 use Rattle.learning.proofs.store.Statement.{statement}
 use Rattle.learning.proofs.store.Tie as tie
 
-keep-literal-requires : tie.Need-keep-literal-requires
-keep-literal-requires c κs = search needs
-
-same-length : tie.Need-same-length
-same-length c = search needs
-
 returns : tie.Need-returns
 returns c = let s = c .before .before .before .before .before .before .before .before .args in rw (store-literal (s .work .now) (s .net) (s .s) (s .d) (c .before .before .before .before .before .before .if1 .taken) (c .before .before .before .before .if2 .taken)) (c .before .before .keep-literal .ensures)
-
-keep-clause-requires : tie.Need-keep-clause-requires
-keep-clause-requires c κs = search needs
-
-same-length-2 : tie.Need-same-length-2
-same-length-2 c = search needs
 
 returns-2 : tie.Need-returns-2
 returns-2 c = let s = c .before .before .before .before .before .before .before .before .before .before .args in rw (store-clause (s .work .now) (s .net) (s .s) (s .d) (c .before .before .before .before .before .before .before .before .if1 .taken) (c .before .before .before .before .before .before .if2 .left) (c .before .before .before .before .if3 .taken)) (c .before .before .keep-clause .ensures)
 
-forget-requires : tie.Need-forget-requires
-forget-requires c κs = search needs
-
-same-length-3 : tie.Need-same-length-3
-same-length-3 c = search needs
-
 returns-3 : tie.Need-returns-3
 unfolding Ln.storedClause
 returns-3 c = rw (c .before .before .before .before .before .before .before .before .if1 .taken, ne-eqb _ _ (c .before .before .before .before .before .before .if2 .left), le-ltb _ _ (c .before .before .before .before .if3 .left)) ((c .before .before .forget .ensures))
-
-forget-requires-2 : tie.Need-forget-requires-2
-forget-requires-2 c κs = search needs
-
-same-length-4 : tie.Need-same-length-4
-same-length-4 c = search needs
 
 returns-4 : tie.Need-returns-4
 unfolding Ln.storedClause
@@ -48,15 +24,5 @@ pub store-spec : {M : Type 1} → statement M
 store-spec =
     tie.close
     (tie.spec
-    keep-literal-requires
-    same-length
-    returns
-    keep-clause-requires
-    same-length-2
-    returns-2
-    forget-requires
-    same-length-3
-    returns-3
-    forget-requires-2
-    same-length-4
-    returns-4)
+    (λ c κs. search needs) (λ c. search needs) returns (λ c κs. search needs) (λ c. search needs) returns-2 (λ c κs. search needs)
+    (λ c. search needs) returns-3 (λ c κs. search needs) (λ c. search needs) returns-4)

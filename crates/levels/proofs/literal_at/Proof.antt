@@ -10,9 +10,6 @@ use Rattle.levels.proofs.literal_at.Tie as tie
 use Rattle.levels.proofs.literal_at.Reads as reads
 use Rattle.levels.proofs.literal_at.Lts as lts
 
-add-result : tie.Need-add-result
-add-result c = search needs
-
 mul-result : tie.Need-mul-result
 mul-result c =
     let S = c .before .before in
@@ -27,12 +24,6 @@ returns : tie.Need-returns
 returns c =
     let S = c .before .before .before in
     input-literal (S .pre .0) (S .pre .1) (S .args .k) (c .before .if1 .taken)
-
-mul-latch : tie.Need-mul-latch
-mul-latch c = search needs
-
-add-latch : tie.Need-add-latch
-add-latch c = search needs
 
 add-latch-2 : tie.Need-add-latch-2
 add-latch-2 c =
@@ -81,17 +72,5 @@ pub literal-at-spec : {M : Type 1} → statement M
 literal-at-spec =
     tie.close
     (tie.spec
-    add-result
-    mul-result
-    shared-slice-read-result
-    returns
-    mul-latch
-    add-latch
-    add-latch-2
-    mul-result-2
-    shared-slice-read-result-2
-    returns-2
-    add-at
-    mul-result-3
-    shared-slice-read-result-3
-    returns-3)
+    (λ c. search needs) mul-result shared-slice-read-result returns (λ c. search needs) (λ c. search needs) add-latch-2 mul-result-2
+    shared-slice-read-result-2 returns-2 add-at mul-result-3 shared-slice-read-result-3 returns-3)

@@ -34,9 +34,6 @@ returns-3 c =
       within = λ z. absurd (not-accepted 11 z);
     }
 
-size-requires : tie.Need-size-requires
-size-requires c κs = search needs
-
 returns-4 : tie.Need-returns-4
 returns-4 c =
     let a = c .before .before .before .before .before .args in
@@ -47,9 +44,6 @@ returns-4 c =
           size-refused x (a .b) (a .k) (a .budget) (a .room) (omega (arith, e .bads)) (omega arith) right (omega arith);
       within = λ z. absurd (not-accepted 12 z);
     }
-
-mul-if5 : tie.Need-mul-if5
-mul-if5 c = search needs
 
 returns-5 : tie.Need-returns-5
 returns-5 c =
@@ -77,4 +71,4 @@ returns-6 c =
 pub judge-spec : {M : Type 1} → statement M
 judge-spec =
     tie.close
-    (tie.spec returns returns-2 returns-3 size-requires returns-4 mul-if5 returns-5 returns-6)
+    (tie.spec returns returns-2 returns-3 (λ c κs. search needs) returns-4 (λ c. search needs) returns-5 returns-6)

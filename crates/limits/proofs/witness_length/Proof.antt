@@ -13,26 +13,14 @@ small s = product-small (s .args .k) (s .args .layout .i + 1) (omega (arith, s .
 ten : (n : tie.After-digit-count) → n .digit-count .result ≤ 10
 ten n = omega (arith, n .digit-count .ensures, digits-most 9 (n .before .args .b))
 
-digit-count-requires : tie.Need-digit-count-requires
-digit-count-requires c κs = search needs
-
 add-result : tie.Need-add-result
 add-result c = omega (arith, ten c)
 
 add-result-2 : tie.Need-add-result-2
 add-result-2 c = omega (arith, ten c)
 
-add-result-3 : tie.Need-add-result-3
-add-result-3 c = search needs
-
 add-result-4 : tie.Need-add-result-4
 add-result-4 c = omega (arith, ten (c .before), c .before .before .pre .0)
-
-add-result-5 : tie.Need-add-result-5
-add-result-5 c = search needs
-
-add-result-6 : tie.Need-add-result-6
-add-result-6 c = search needs
 
 mul-result : tie.Need-mul-result
 mul-result c = omega (arith, small (c .before .before .before))
@@ -50,14 +38,5 @@ pub witness-length-spec : {M : Type 1} → statement M
 witness-length-spec =
     tie.close
     (tie.spec
-    digit-count-requires
-    add-result
-    add-result-2
-    add-result-3
-    add-result-4
-    add-result-5
-    add-result-6
-    mul-result
-    add-result-7
-    add-result-8
-    returns)
+    (λ c κs. search needs) add-result add-result-2 (λ c. search needs) add-result-4 (λ c. search needs) (λ c. search needs) mul-result
+    add-result-7 add-result-8 returns)

@@ -8,25 +8,13 @@ use Rattle.lines.proofs.is_tail.Tie as tie
 returns : tie.Need-returns
 returns c = ended (c .before .args .s .now) (c .before .args .at) (omega arith)
 
-sub-if2 : tie.Need-sub-if2
-sub-if2 c = search needs
-
 returns-2 : tie.Need-returns-2
 returns-2 c = one-byte (c .before .before .args .s .now) (c .before .before .args .at) (omega arith) (omega arith)
-
-shared-slice-read-if3 : tie.Need-shared-slice-read-if3
-shared-slice-read-if3 c = search needs
 
 returns-3 : tie.Need-returns-3
 returns-3 c =
     let a = c .before .before .before .before .args in
     other-byte (a .s .now) (a .at) (omega arith) (c .if3 .taken)
-
-add-result : tie.Need-add-result
-add-result c = search needs
-
-shared-slice-read-result : tie.Need-shared-slice-read-result
-shared-slice-read-result c = search needs
 
 returns-4 : tie.Need-returns-4
 returns-4 c =
@@ -37,11 +25,4 @@ pub is-tail-spec : {M : Type 1} → statement M
 is-tail-spec =
     tie.close
     (tie.spec
-    returns
-    sub-if2
-    returns-2
-    shared-slice-read-if3
-    returns-3
-    add-result
-    shared-slice-read-result
-    returns-4)
+    returns (λ c. search needs) returns-2 (λ c. search needs) returns-3 (λ c. search needs) (λ c. search needs) returns-4)

@@ -26,31 +26,10 @@ found n r e =
     let a = n .before .before .before .before .args in
     subst (RowAt (a .s .now) (a .at) (a .most) (replicate 3 0) (words n)) e (n .read-row .ensures)
 
-slice-aggregate-read-row : tie.Need-slice-aggregate-read-row
-slice-aggregate-read-row c = search needs
-
-read-row-requires : tie.Need-read-row-requires
-read-row-requires c κs = search needs
-
-enum-known-count : tie.Need-enum-known-count
-enum-known-count c = search needs
-
 returns : tie.Need-returns
 returns c =
     let n = c .before .before .before .before .before in
     line-short _ _ _ _ _ (words n) _ _ (room n) (found n _ (c .before .before .count .given .1)) (c .if1 .taken)
-
-slice-aggregate-store-words : tie.Need-slice-aggregate-store-words
-slice-aggregate-store-words c = search needs
-
-store-words-requires : tie.Need-store-words-requires
-store-words-requires c κs = search needs
-
-enum-told : tie.Need-enum-told
-enum-told c = search needs
-
-same-length : tie.Need-same-length
-same-length c = search needs
 
 returns-2 : tie.Need-returns-2
 returns-2 c =
@@ -69,13 +48,5 @@ pub read-line-spec : {M : Type 1} → statement M
 read-line-spec =
     tie.close
     (tie.spec
-    slice-aggregate-read-row
-    read-row-requires
-    enum-known-count
-    returns
-    slice-aggregate-store-words
-    store-words-requires
-    enum-told
-    same-length
-    returns-2
-    returns-3)
+    (λ c. search needs) (λ c κs. search needs) (λ c. search needs) returns (λ c. search needs) (λ c κs. search needs)
+    (λ c. search needs) (λ c. search needs) returns-2 returns-3)

@@ -28,12 +28,6 @@ found n r e = subst (NumberAt (S (n .before .before)) (n .before .before .loop .
 loop-holds : tie.Need-loop-holds Inv-loop μ-loop
 loop-holds c = start _ _ _ _ (c .before .before .pre)
 
-read-number-requires : tie.Need-read-number-requires Inv-loop μ-loop
-read-number-requires c κs = search needs
-
-enum-known-v : tie.Need-enum-known-v Inv-loop μ-loop
-enum-known-v c = search needs
-
 mul-buf : tie.Need-mul-buf Inv-loop μ-loop
 mul-buf c = omega arith
 
@@ -51,9 +45,6 @@ loop-again c =
     let n = c .before .before .before in
     let l = n .before .before in
     more _ _ _ _ _ _ _ (l .loop .inv) _ _ (n .before .loop-test .taken) (found n _ (c .before .v .given .1))
-
-enum-known-v-2 : tie.Need-enum-known-v-2 Inv-loop μ-loop
-enum-known-v-2 c = search needs
 
 mul-buf-2 : tie.Need-mul-buf-2 Inv-loop μ-loop
 mul-buf-2 c = omega arith
@@ -73,9 +64,6 @@ returns c =
     let l = n .before .before in
     last _ _ _ _ _ _ _ (l .loop .inv) _ _ (n .before .loop-test .taken) (found n _ (c .before .v2 .given .1))
 
-enum-told : tie.Need-enum-told Inv-loop μ-loop
-enum-told c = search needs
-
 same-length-2 : tie.Need-same-length-2 Inv-loop μ-loop
 same-length-2 c = c .before .before .before .before .loop .inv .kept
 
@@ -94,24 +82,6 @@ pub read-row-spec : {M : Type 1} → statement M
 read-row-spec =
     tie.close
     (tie.spec
-    Inv-loop
-    μ-loop
-    loop-holds
-    read-number-requires
-    enum-known-v
-    mul-buf
-    slice-write-buf
-    add-count
-    loop-less
-    loop-again
-    enum-known-v-2
-    mul-buf-2
-    slice-write-buf-2
-    add-t15
-    same-length
-    returns
-    enum-told
-    same-length-2
-    returns-2
-    same-length-3
-    returns-3)
+    Inv-loop μ-loop loop-holds (λ c κs. search needs) (λ c. search needs) mul-buf slice-write-buf add-count loop-less loop-again
+    (λ c. search needs) mul-buf-2 slice-write-buf-2 add-t15 same-length returns (λ c. search needs) same-length-2 returns-2
+    same-length-3 returns-3)

@@ -37,9 +37,6 @@ loop-holds c = start _ _ _ _ _ _ _ _ (c .before .before .pre .0) (c .before .bef
 read-line-requires : tie.Need-read-line-requires Inv-loop μ-loop
 read-line-requires c κs = (omega arith, here (c .before))
 
-enum-known-after : tie.Need-enum-known-after Inv-loop μ-loop
-enum-known-after c = search needs
-
 add-to : tie.Need-add-to Inv-loop μ-loop
 add-to c = omega (arith, here (c .before .before .before .before .before .before .before))
 
@@ -54,9 +51,6 @@ loop-again c =
     let n = c .before .before .before .before .before in
     let t = n .before .before in
     more _ _ _ _ _ _ _ _ _ _ _ _ _ (t .before .loop .inv) _ _ _ (t .loop-test .taken) (found n _ (c .before .after .given .1))
-
-enum-told : tie.Need-enum-told Inv-loop μ-loop
-enum-told c = search needs
 
 same-length : tie.Need-same-length Inv-loop μ-loop
 same-length c =
@@ -79,17 +73,5 @@ pub read-rows-spec : {M : Type 1} → statement M
 read-rows-spec =
     tie.close
     (tie.spec
-    Inv-loop
-    μ-loop
-    loop-holds
-    read-line-requires
-    enum-known-after
-    add-to
-    sub-left
-    loop-less
-    loop-again
-    enum-told
-    same-length
-    returns
-    same-length-2
-    returns-2)
+    Inv-loop μ-loop loop-holds read-line-requires (λ c. search needs) add-to sub-left loop-less loop-again (λ c. search needs)
+    same-length returns same-length-2 returns-2)

@@ -53,17 +53,5 @@ pub store-words-spec : {M : Type 1} → statement M
 store-words-spec =
     tie.close
     (tie.spec
-    Inv-loop
-    μ-loop
-    loop-holds
-    mul-v
-    shared-slice-read-v
-    narrow-requires
-    add-out
-    mul-out
-    slice-write-out
-    add-k
-    loop-less
-    loop-again
-    same-length
-    returns)
+    Inv-loop μ-loop loop-holds mul-v shared-slice-read-v narrow-requires add-out mul-out slice-write-out add-k loop-less loop-again
+    same-length returns)

@@ -55,15 +55,4 @@ pub copy-spec : {M : Type 1} → statement M
 copy-spec =
     tie.close
     (tie.spec
-    Inv-loop
-    μ-loop
-    loop-holds
-    mul-m
-    shared-slice-read-m
-    mul-m-2
-    slice-write-m
-    add-i
-    loop-less
-    loop-again
-    same-length
-    returns)
+    Inv-loop μ-loop loop-holds mul-m shared-slice-read-m mul-m-2 slice-write-m add-i loop-less loop-again same-length returns)

@@ -66,48 +66,21 @@ right t = said (t .before) ∙ not-false _ (t .if3 .left)
 fit : (t : tie.Else3) → file.countsFit (countsMeant (H (t .before .before .before .before))) ≡ true
 fit t = right-fit _ _ (right t)
 
-refused-requires : tie.Need-refused-requires
-refused-requires c κs = search needs
-
 returns : tie.Need-returns
 returns c =
     let a = c .before .before .before .before .before .args in
     judged-refused (c .refused .ensures) (refused-empty (a .room) (a .file .now) (c .before .if1 .taken)) (none-empty (a .file .now) (c .before .if1 .taken))
-
-refused-requires-2 : tie.Need-refused-requires-2
-refused-requires-2 c κs = search needs
 
 returns-2 : tie.Need-returns-2
 returns-2 c =
     let a = c .before .before .before .before .before .before .args in
     judged-refused (c .refused2 .ensures) (refused-long (a .room) (a .file .now) (c .before .if2 .taken)) (none-long (a .file .now) (c .before .if2 .taken))
 
-read-header-requires : tie.Need-read-header-requires
-read-header-requires c κs = search needs
-
-enum-known-h : tie.Need-enum-known-h
-enum-known-h c = search needs
-
-enum-told : tie.Need-enum-told
-enum-told c = search needs
-
-refused-requires-3 : tie.Need-refused-requires-3
-refused-requires-3 c κs = search needs
-
 returns-3 : tie.Need-returns-3
 returns-3 c =
     let n = c .before .before .before in
     let e = sym (found n _ (c .before .enum-told .given .1) .meaning) in
     judged-refused (c .refused3 .ensures) (refused-header (room n) (F n) (some-byte n) (short n) e) (none-header (F n) (some-byte n) (short n) e)
-
-is-binary-requires : tie.Need-is-binary-requires
-is-binary-requires c κs = search needs
-
-counts-right-requires : tie.Need-counts-right-requires
-counts-right-requires c κs = search needs
-
-refused-requires-4 : tie.Need-refused-requires-4
-refused-requires-4 c κs = search needs
 
 returns-4 : tie.Need-returns-4
 returns-4 c =
@@ -148,12 +121,6 @@ judge-sections-requires c κs =
       (ap (λ (x : Counts). file.countsFit (headerMeant x)) k ∙ fit-narrowed (H t) (fit (e .before)), (s .pre .0, s .pre .1)),
     )
 
-same-length : tie.Need-same-length
-same-length c = search needs
-
-same-length-2 : tie.Need-same-length-2
-same-length-2 c = search needs
-
 returns-6 : tie.Need-returns-6
 returns-6 c =
     let y = c .before .before .before .before in
@@ -176,25 +143,6 @@ pub judge-spec : {M : Type 1} → statement M
 judge-spec =
     tie.close
     (tie.spec
-    refused-requires
-    returns
-    refused-requires-2
-    returns-2
-    read-header-requires
-    enum-known-h
-    enum-told
-    refused-requires-3
-    returns-3
-    is-binary-requires
-    counts-right-requires
-    refused-requires-4
-    returns-4
-    add-needed
-    mul-needed
-    add-needed-2
-    returns-5
-    narrow-requires
-    judge-sections-requires
-    same-length
-    same-length-2
-    returns-6)
+    (λ c κs. search needs) returns (λ c κs. search needs) returns-2 (λ c κs. search needs) (λ c. search needs) (λ c. search needs)
+    (λ c κs. search needs) returns-3 (λ c κs. search needs) (λ c κs. search needs) (λ c κs. search needs) returns-4 add-needed
+    mul-needed add-needed-2 returns-5 narrow-requires judge-sections-requires (λ c. search needs) (λ c. search needs) returns-6)

@@ -16,23 +16,8 @@ found : (n : tie.After-check) (r : Checked) → n .check .result ≡ r
     → Checks (circuitIn (n .before .before .before .before .args .words .now)) (n .check .last .1 .0) r
 found n r e = subst (Checks (circuitIn (n .before .before .before .before .args .words .now)) (n .check .last .1 .0)) e (n .check .ensures)
 
-check-requires : tie.Need-check-requires
-check-requires c κs = search needs
-
-enum-known-n : tie.Need-enum-known-n
-enum-known-n c = search needs
-
-enum-told : tie.Need-enum-told
-enum-told c = search needs
-
-same-length : tie.Need-same-length
-same-length c = search needs
-
 returns : tie.Need-returns
 returns c = accepts-refused _ (found (c .before .before .before .before .before) _ (c .before .n .given .1))
-
-same-length-2 : tie.Need-same-length-2
-same-length-2 c = search needs
 
 returns-2 : tie.Need-returns-2
 returns-2 c = (refl, accepts-right _ (found (c .before .before .before .before) _ (c .enum-told .given .1) .0))
@@ -40,4 +25,4 @@ returns-2 c = (refl, accepts-right _ (found (c .before .before .before .before) 
 pub judge-circuit-spec : {M : Type 1} → statement M
 judge-circuit-spec =
     tie.close
-    (tie.spec check-requires enum-known-n enum-told same-length returns same-length-2 returns-2)
+    (tie.spec (λ c κs. search needs) (λ c. search needs) (λ c. search needs) (λ c. search needs) returns (λ c. search needs) returns-2)

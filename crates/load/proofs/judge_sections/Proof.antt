@@ -47,12 +47,6 @@ found n r e =
     subst (λ (h : Header). BodyAt (S t .args .binary) h (rest n) (lined n) r) (header-stored (S t .args .k) (W t) (drop 7 (S t .args .words .now)) (counts t))
     (subst (BodyAt (S t .args .binary) (headerAt (W t)) (rest n) (lined n)) e (n .read-sections .ensures))
 
-store-counts-requires : tie.Need-store-counts-requires
-store-counts-requires c κs = search needs
-
-layout-of-requires : tie.Need-layout-of-requires
-layout-of-requires c κs = search needs
-
 mul-read-sections : tie.Need-mul-read-sections
 mul-read-sections c =
     let s = S (c .before .before .before .before .before) in
@@ -79,18 +73,6 @@ read-sections-requires c κs =
       ),
     )
 
-enum-told : tie.Need-enum-told
-enum-told c = search needs
-
-enum-told-2 : tie.Need-enum-told-2
-enum-told-2 c = search needs
-
-enum-told-3 : tie.Need-enum-told-3
-enum-told-3 c = search needs
-
-enum-told-4 : tie.Need-enum-told-4
-enum-told-4 c = search needs
-
 judge-circuit-requires : tie.Need-judge-circuit-requires
 judge-circuit-requires c κs =
     let e = c .before .before in
@@ -99,17 +81,11 @@ judge-circuit-requires c κs =
     let f = found n _ (e .enum-told4 .given .1) in
     (counts-stored (s .args .binary) (s .args .k) (rest n) (f .0) (f .1) (lined n) (f .2) (f .3) (s .pre .1 .0), s .pre .1 .1 .1)
 
-same-length : tie.Need-same-length
-same-length c = search needs
-
 returns : tie.Need-returns
 returns c =
     let n = c .before .before .before .before in
     let s = S (at n) in
     body-refused (s .args .binary) (headerMeant (s .args .k)) (rest n) (found n _ (c .enum-told .given .1))
-
-same-length-2 : tie.Need-same-length-2
-same-length-2 c = search needs
 
 returns-2 : tie.Need-returns-2
 returns-2 c =
@@ -117,21 +93,12 @@ returns-2 c =
     let s = S (at n) in
     body-refused (s .args .binary) (headerMeant (s .args .k)) (rest n) (found n _ (c .enum-told2 .given .1))
 
-same-length-3 : tie.Need-same-length-3
-same-length-3 c = search needs
-
 returns-3 : tie.Need-returns-3
 returns-3 c =
     let n = c .before .before .before .before in
     let s = S (at n) in
     let f = found n _ (c .enum-told3 .given .1) in
     body-large (s .args .binary) (s .args .k) (rest n) (f .0) (f .1) (f .2)
-
-same-length-4 : tie.Need-same-length-4
-same-length-4 c = search needs
-
-same-length-5 : tie.Need-same-length-5
-same-length-5 c = search needs
 
 returns-4 : tie.Need-returns-4
 returns-4 c =
@@ -146,22 +113,6 @@ pub judge-sections-spec : {M : Type 1} → statement M
 judge-sections-spec =
     tie.close
     (tie.spec
-    store-counts-requires
-    layout-of-requires
-    mul-read-sections
-    add-read-sections
-    read-sections-requires
-    enum-told
-    enum-told-2
-    enum-told-3
-    enum-told-4
-    judge-circuit-requires
-    same-length
-    returns
-    same-length-2
-    returns-2
-    same-length-3
-    returns-3
-    same-length-4
-    same-length-5
-    returns-4)
+    (λ c κs. search needs) (λ c κs. search needs) mul-read-sections add-read-sections read-sections-requires (λ c. search needs)
+    (λ c. search needs) (λ c. search needs) (λ c. search needs) judge-circuit-requires (λ c. search needs) returns (λ c. search needs)
+    returns-2 (λ c. search needs) returns-3 (λ c. search needs) (λ c. search needs) returns-4)

@@ -9,15 +9,6 @@ use Rattle.load.proofs.load_by.Lts as lts
 use Rattle.load.proofs.judge.Reads as judge-reads
 use Rattle.load.proofs.store.Reads as store-reads
 
-judge-requires : tie.Need-judge-requires
-judge-requires c κs = search needs
-
-enum-known-answer : tie.Need-enum-known-answer
-enum-known-answer c = search needs
-
-enum-known-answer-2 : tie.Need-enum-known-answer-2
-enum-known-answer-2 c = search needs
-
 store-requires : tie.Need-store-requires
 store-requires c κs =
     let g = c .before .before .before in
@@ -26,23 +17,8 @@ store-requires c κs =
     let z = rw (g .answer2 .given .1) at (A .judge .ensures .answer) in
     (judged-counted (s .args .m .now) (s .args .file .now) _ _ z, judged-room (s .args .m .now) (s .args .file .now) _ _ z)
 
-same-length : tie.Need-same-length
-same-length c = search needs
-
-same-length-2 : tie.Need-same-length-2
-same-length-2 c = search needs
-
 returns : tie.Need-returns
 returns c = Loaded.refuses (rw (c .before .answer .given .1) at (c .before .before .before .before .before .before .before .judge .ensures .answer))
-
-same-length-3 : tie.Need-same-length-3
-same-length-3 c = search needs
-
-same-length-4 : tie.Need-same-length-4
-same-length-4 c = search needs
-
-same-length-5 : tie.Need-same-length-5
-same-length-5 c = search needs
 
 returns-2 : tie.Need-returns-2
 returns-2 c =
@@ -57,14 +33,5 @@ pub load-by-spec : {M : Type 1} → statement M
 load-by-spec =
     tie.close
     (tie.spec
-    judge-requires
-    enum-known-answer
-    enum-known-answer-2
-    store-requires
-    same-length
-    same-length-2
-    returns
-    same-length-3
-    same-length-4
-    same-length-5
-    returns-2)
+    (λ c κs. search needs) (λ c. search needs) (λ c. search needs) store-requires (λ c. search needs) (λ c. search needs) returns
+    (λ c. search needs) (λ c. search needs) (λ c. search needs) returns-2)

@@ -26,8 +26,5 @@ cast-t7 c = omega (arith, limits-read (c .before .before .before .before .before
 cast-t8 : tie.Need-cast-t8
 cast-t8 c = omega (arith, limits-read (c .before .before .before .before .before .before .before .args .h) (c .before .before .before .before .before .before .before .pre))
 
-returns : tie.Need-returns
-returns c = search needs
-
 pub narrow-spec : {M : Type 1} → statement M
-narrow-spec = tie.close (tie.spec cast-t2 cast-t3 cast-t4 cast-t5 cast-t6 cast-t7 cast-t8 returns)
+narrow-spec = tie.close (tie.spec cast-t2 cast-t3 cast-t4 cast-t5 cast-t6 cast-t7 cast-t8 (λ c. search needs))

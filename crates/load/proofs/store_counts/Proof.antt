@@ -7,9 +7,6 @@ use Rattle.load.specs.Answers.{numbers}
 use Rattle.load.proofs.store_counts.Statement.{statement}
 use Rattle.load.proofs.store_counts.Tie as tie
 
-slice-write-words : tie.Need-slice-write-words
-slice-write-words c = search needs
-
 slice-write-words-2 : tie.Need-slice-write-words-2
 slice-write-words-2 c = simp length-set (omega arith)
 
@@ -25,12 +22,6 @@ slice-write-words-5 c = simp length-set (omega arith)
 slice-write-words-6 : tie.Need-slice-write-words-6
 slice-write-words-6 c = simp length-set (omega arith)
 
-slice-write-words-7 : tie.Need-slice-write-words-7
-slice-write-words-7 c = search needs
-
-same-length : tie.Need-same-length
-same-length c = search needs
-
 returns : tie.Need-returns
 returns c = sets-eq (numbers (c .args .k)) (c .args .words .now) 0 (c .pre)
 
@@ -38,12 +29,5 @@ pub store-counts-spec : {M : Type 1} → statement M
 store-counts-spec =
     tie.close
     (tie.spec
-    slice-write-words
-    slice-write-words-2
-    slice-write-words-3
-    slice-write-words-4
-    slice-write-words-5
-    slice-write-words-6
-    slice-write-words-7
-    same-length
-    returns)
+    (λ c. search needs) slice-write-words-2 slice-write-words-3 slice-write-words-4 slice-write-words-5 slice-write-words-6
+    (λ c. search needs) (λ c. search needs) returns)

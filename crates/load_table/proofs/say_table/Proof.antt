@@ -46,15 +46,5 @@ pub say-table-spec : {M : Type 1} → statement M
 say-table-spec =
     tie.close
     (tie.spec
-    Inv-loop
-    μ-loop
-    arg-count-requires
-    loop-holds
-    say-argument-requires
-    add-i
-    loop-less
-    loop-again
-    same-length
-    same-length-2
-    same-length-3
-    returns)
+    Inv-loop μ-loop arg-count-requires loop-holds say-argument-requires add-i loop-less loop-again same-length same-length-2
+    same-length-3 returns)

@@ -9,15 +9,9 @@ returns : tie.Need-returns
 unfolding R.field
 returns c = rw (le-leb _ _ (c .if1 .taken))
 
-place-requires : tie.Need-place-requires
-place-requires c κs = search needs
-
-get-requires : tie.Need-get-requires
-get-requires c κs = search needs
-
 returns-2 : tie.Need-returns-2
 unfolding R.field
 returns-2 c = rw (← c .before .place .ensures, lt-leb _ _ (c .before .before .if1 .left)) (c .get .ensures)
 
 pub field-spec : {M : Type 1} → statement M
-field-spec = tie.close (tie.spec returns place-requires get-requires returns-2)
+field-spec = tie.close (tie.spec returns (λ c κs. search needs) (λ c κs. search needs) returns-2)

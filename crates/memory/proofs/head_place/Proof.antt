@@ -6,15 +6,6 @@ use borrow.Author.Needs.{needs}
 use Rattle.memory.proofs.head_place.Statement.{statement}
 use Rattle.memory.proofs.head_place.Tie as tie
 
-add-up : tie.Need-add-up
-add-up c = search needs
-
-mul-down : tie.Need-mul-down
-mul-down c = search needs
-
-add-down : tie.Need-add-down
-add-down c = search needs
-
 returns : tie.Need-returns
 unfolding R.headPlace
 returns c = omega arith
@@ -24,4 +15,4 @@ unfolding R.headPlace
 returns-2 c = omega arith
 
 pub head-place-spec : {M : Type 1} → statement M
-head-place-spec = tie.close (tie.spec add-up mul-down add-down returns returns-2)
+head-place-spec = tie.close (tie.spec (λ c. search needs) (λ c. search needs) (λ c. search needs) returns returns-2)

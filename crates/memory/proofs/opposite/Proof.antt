@@ -5,12 +5,6 @@ use borrow.Author.Needs.{needs}
 use Rattle.memory.proofs.opposite.Statement.{statement}
 use Rattle.memory.proofs.opposite.Tie as tie
 
-add-result : tie.Need-add-result
-add-result c = search needs
-
-sub-result : tie.Need-sub-result
-sub-result c = search needs
-
 returns : tie.Need-returns
 unfolding W.opposite
 returns c = rw (eq-eqb _ _ (c .if1 .taken))
@@ -20,4 +14,4 @@ unfolding W.opposite
 returns-2 c = rw (ne-eqb _ _ (c .if1 .left))
 
 pub opposite-spec : {M : Type 1} → statement M
-opposite-spec = tie.close (tie.spec add-result sub-result returns returns-2)
+opposite-spec = tie.close (tie.spec (λ c. search needs) (λ c. search needs) returns returns-2)

@@ -9,15 +9,6 @@ returns : tie.Need-returns
 unfolding R.stored
 returns c = rw (le-leb _ _ (c .if1 .taken))
 
-place-requires : tie.Need-place-requires
-place-requires c κs = search needs
-
-put-requires : tie.Need-put-requires
-put-requires c κs = search needs
-
-same-length : tie.Need-same-length
-same-length c = search needs
-
 returns-2 : tie.Need-returns-2
 unfolding R.stored
 returns-2 c =
@@ -27,4 +18,4 @@ returns-2 c =
     ) (c .before .before .put .ensures)
 
 pub set-field-spec : {M : Type 1} → statement M
-set-field-spec = tie.close (tie.spec returns place-requires put-requires same-length returns-2)
+set-field-spec = tie.close (tie.spec returns (λ c κs. search needs) (λ c κs. search needs) (λ c. search needs) returns-2)

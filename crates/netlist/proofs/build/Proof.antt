@@ -15,32 +15,8 @@ use Rattle.records.proofs.arrange.Reads as arrange-reads
 use Rattle.records.proofs.renumber.Reads as renumber-reads
 use Rattle.records.proofs.set_leaves.Reads as set-leaves-reads
 
-cast-free : tie.Need-cast-free
-cast-free c = search needs
-
-add-first : tie.Need-add-first
-add-first c = search needs
-
-set-leaves-requires : tie.Need-set-leaves-requires
-set-leaves-requires c κs = search needs
-
-assign-requires : tie.Need-assign-requires
-assign-requires c κs = search needs
-
 cast-kept : tie.Need-cast-kept
 cast-kept c = omega (arith, kept-few (now (c .before .before .before .before .before .before .before .before .before .before .args .work)) (c .before .before .before .before .before .before .set-leaves .last .0) (c .before .before .assign .last .0) (c .before .before .before .before .before .before .before .before .before .before .args .g) (edgeWord (c .before .before .before .before .before .before .before .before .before .before .args .root)) (c .before .before .assign .result) (c .before .before .before .before .before .before .before .before .before .before .pre) (c .before .before .before .before .before .before .set-leaves .ensures) (c .before .before .assign .kept .0) (c .before .before .assign .ensures), c .before .before .before .before .before .before .before .before .before .before .pre .sized .nodes, c .before .before .before .before .before .before .before .before .before .before .pre .sized .room)
-
-word-requires : tie.Need-word-requires
-word-requires c κs = search needs
-
-cast-renumber : tie.Need-cast-renumber
-cast-renumber c = search needs
-
-renumber-requires : tie.Need-renumber-requires
-renumber-requires c κs = search needs
-
-cast-last : tie.Need-cast-last
-cast-last c = search needs
 
 add-arrange : tie.Need-add-arrange
 add-arrange c = omega (arith, kept-few (now (c .before .before .before .before .before .before .before .before .before .before .before .before .before .before .before .args .work)) (c .before .before .before .before .before .before .before .before .before .before .before .set-leaves .last .0) (c .before .before .before .before .before .before .before .assign .last .0) (c .before .before .before .before .before .before .before .before .before .before .before .before .before .before .before .args .g) (edgeWord (c .before .before .before .before .before .before .before .before .before .before .before .before .before .before .before .args .root)) (c .before .before .before .before .before .before .before .assign .result) (c .before .before .before .before .before .before .before .before .before .before .before .before .before .before .before .pre) (c .before .before .before .before .before .before .before .before .before .before .before .set-leaves .ensures) (c .before .before .before .before .before .before .before .assign .kept .0) (c .before .before .before .before .before .before .before .assign .ensures), c .before .before .before .before .before .before .before .before .before .before .before .before .before .before .before .pre .sized .nodes, c .before .before .before .before .before .before .before .before .before .before .before .before .before .before .before .pre .sized .room)
@@ -50,12 +26,6 @@ arrange-requires c κs = omega (arith, kept-few (now (c .before .before .before 
 
 add-t18 : tie.Need-add-t18
 add-t18 c = omega (arith, kept-few (now (c .before .before .before .before .before .before .before .before .before .before .before .before .before .before .before .before .before .before .args .work)) (c .before .before .before .before .before .before .before .before .before .before .before .before .before .before .set-leaves .last .0) (c .before .before .before .before .before .before .before .before .before .before .assign .last .0) (c .before .before .before .before .before .before .before .before .before .before .before .before .before .before .before .before .before .before .args .g) (edgeWord (c .before .before .before .before .before .before .before .before .before .before .before .before .before .before .before .before .before .before .args .root)) (c .before .before .before .before .before .before .before .before .before .before .assign .result) (c .before .before .before .before .before .before .before .before .before .before .before .before .before .before .before .before .before .before .pre) (c .before .before .before .before .before .before .before .before .before .before .before .before .before .before .set-leaves .ensures) (c .before .before .before .before .before .before .before .before .before .before .assign .kept .0) (c .before .before .before .before .before .before .before .before .before .before .assign .ensures), c .before .before .before .before .before .before .before .before .before .before .before .before .before .before .before .before .before .before .pre .sized .nodes, c .before .before .before .before .before .before .before .before .before .before .before .before .before .before .before .before .before .before .pre .sized .room)
-
-cast-t21 : tie.Need-cast-t21
-cast-t21 c = search needs
-
-same-length : tie.Need-same-length
-same-length c = search needs
 
 returns : tie.Need-returns
 returns c =
@@ -70,18 +40,6 @@ pub build-spec : {M : Type 1} → statement M
 build-spec =
     tie.close
     (tie.spec
-    cast-free
-    add-first
-    set-leaves-requires
-    assign-requires
-    cast-kept
-    word-requires
-    cast-renumber
-    renumber-requires
-    cast-last
-    add-arrange
-    arrange-requires
-    add-t18
-    cast-t21
-    same-length
-    returns)
+    (λ c. search needs) (λ c. search needs) (λ c κs. search needs) (λ c κs. search needs) cast-kept (λ c κs. search needs)
+    (λ c. search needs) (λ c κs. search needs) (λ c. search needs) add-arrange arrange-requires add-t18 (λ c. search needs)
+    (λ c. search needs) returns)

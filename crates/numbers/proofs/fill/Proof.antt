@@ -55,14 +55,4 @@ pub fill-spec : {M : Type 1} → statement M
 fill-spec =
     tie.close
     (tie.spec
-    Inv-loop
-    μ-loop
-    loop-holds
-    sub-k
-    cast-out
-    add-out
-    slice-write-out
-    loop-less
-    loop-again
-    same-length
-    returns)
+    Inv-loop μ-loop loop-holds sub-k cast-out add-out slice-write-out loop-less loop-again same-length returns)

@@ -117,26 +117,5 @@ pub read-number-spec : {M : Type 1} → statement M
 read-number-spec =
     tie.close
     (tie.spec
-    Inv-loop
-    μ-loop
-    loop-holds
-    shared-slice-read-b
-    is-number-requires
-    add-t12
-    returns
-    returns-2
-    is-number-requires-2
-    add-t14
-    returns-3
-    returns-4
-    returns-5
-    mul-total
-    wide-requires
-    add-total
-    add-count
-    add-i
-    loop-less
-    loop-again
-    returns-6
-    returns-7
-    returns-8)
+    Inv-loop μ-loop loop-holds shared-slice-read-b is-number-requires add-t12 returns returns-2 is-number-requires-2 add-t14 returns-3
+    returns-4 returns-5 mul-total wide-requires add-total add-count add-i loop-less loop-again returns-6 returns-7 returns-8)

@@ -24,17 +24,11 @@ put-number-requires c κs =
     let s = c .before .before in
     room-first (s .args .out .now) (s .args .at) (digits (s .args .n)) (ending (s .args .left) ∷ []) (s .pre)
 
-ending-byte-requires : tie.Need-ending-byte-requires
-ending-byte-requires c κs = search needs
-
 slice-write-out : tie.Need-slice-write-out
 slice-write-out c = below (c .before .before .before)
 
 add-result : tie.Need-add-result
 add-result c = omega (arith, below (c .before .before .before))
-
-same-length : tie.Need-same-length
-same-length c = search needs
 
 returns : tie.Need-returns
 returns c =
@@ -47,4 +41,4 @@ returns c =
 pub put-ended-spec : {M : Type 1} → statement M
 put-ended-spec =
     tie.close
-    (tie.spec put-number-requires ending-byte-requires slice-write-out add-result same-length returns)
+    (tie.spec put-number-requires (λ c κs. search needs) slice-write-out add-result (λ c. search needs) returns)

@@ -23,9 +23,6 @@ loop-holds c = (c .before .before .pre .0, rest-start (c .before .before .args .
 sub-left : tie.Need-sub-left Inv-loop μ-loop
 sub-left c = omega arith
 
-mul-put-ended : tie.Need-mul-put-ended Inv-loop μ-loop
-mul-put-ended c = search needs
-
 shared-slice-read-put-ended : tie.Need-shared-slice-read-put-ended Inv-loop μ-loop
 shared-slice-read-put-ended c = omega arith
 
@@ -71,15 +68,5 @@ pub put-row-spec : {M : Type 1} → statement M
 put-row-spec =
     tie.close
     (tie.spec
-    Inv-loop
-    μ-loop
-    loop-holds
-    sub-left
-    mul-put-ended
-    shared-slice-read-put-ended
-    put-ended-requires
-    add-p
-    loop-less
-    loop-again
-    same-length
-    returns)
+    Inv-loop μ-loop loop-holds sub-left (λ c. search needs) shared-slice-read-put-ended put-ended-requires add-p loop-less loop-again
+    same-length returns)

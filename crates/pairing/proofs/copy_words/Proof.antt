@@ -57,16 +57,4 @@ pub copy-words-spec : {M : Type 1} → statement M
 copy-words-spec =
     tie.close
     (tie.spec
-    Inv-loop
-    μ-loop
-    loop-holds
-    mul-m
-    shared-slice-read-m
-    add-m
-    mul-m-2
-    slice-write-m
-    add-j
-    loop-less
-    loop-again
-    same-length
-    returns)
+    Inv-loop μ-loop loop-holds mul-m shared-slice-read-m add-m mul-m-2 slice-write-m add-j loop-less loop-again same-length returns)

@@ -69,20 +69,5 @@ pub put-bads-spec : {M : Type 1} → statement M
 put-bads-spec =
     tie.close
     (tie.spec
-    Inv-loop
-    μ-loop
-    loop-holds
-    cast-m
-    mul-m
-    add-m
-    add-m-2
-    mul-m-2
-    add-m-3
-    add-m-4
-    mul-m-3
-    slice-write-m
-    add-j
-    loop-less
-    loop-again
-    same-length
-    returns)
+    Inv-loop μ-loop loop-holds cast-m mul-m add-m add-m-2 mul-m-2 add-m-3 add-m-4 mul-m-3 slice-write-m add-j loop-less loop-again
+    same-length returns)

@@ -60,17 +60,4 @@ pub put-inputs-spec : {M : Type 1} → statement M
 put-inputs-spec =
     tie.close
     (tie.spec
-    Inv-loop
-    μ-loop
-    loop-holds
-    cast-m
-    add-m
-    mul-m
-    add-m-2
-    mul-m-2
-    slice-write-m
-    add-i
-    loop-less
-    loop-again
-    same-length
-    returns)
+    Inv-loop μ-loop loop-holds cast-m add-m mul-m add-m-2 mul-m-2 slice-write-m add-i loop-less loop-again same-length returns)

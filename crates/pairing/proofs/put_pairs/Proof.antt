@@ -118,27 +118,6 @@ pub put-pairs-spec : {M : Type 1} → statement M
 put-pairs-spec =
     tie.close
     (tie.spec
-    Inv-loop
-    μ-loop
-    pairs-from-requires
-    pairs-var-requires
-    loop-holds
-    add-rename
-    mul-rename
-    shared-slice-read-rename
-    rename-requires
-    add-rename-2
-    mul-rename-2
-    shared-slice-read-rename-2
-    rename-requires-2
-    mul-put-pair
-    add-put-pair
-    cast-put-pair
-    mul-put-pair-2
-    add-put-pair-2
-    put-pair-requires
-    add-j
-    loop-less
-    loop-again
-    same-length
-    returns)
+    Inv-loop μ-loop pairs-from-requires pairs-var-requires loop-holds add-rename mul-rename shared-slice-read-rename rename-requires
+    add-rename-2 mul-rename-2 shared-slice-read-rename-2 rename-requires-2 mul-put-pair add-put-pair cast-put-pair mul-put-pair-2
+    add-put-pair-2 put-pair-requires add-j loop-less loop-again same-length returns)

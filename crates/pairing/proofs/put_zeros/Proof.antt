@@ -50,14 +50,4 @@ pub put-zeros-spec : {M : Type 1} → statement M
 put-zeros-spec =
     tie.close
     (tie.spec
-    Inv-loop
-    μ-loop
-    loop-holds
-    add-m
-    mul-m
-    slice-write-m
-    add-j
-    loop-less
-    loop-again
-    same-length
-    returns)
+    Inv-loop μ-loop loop-holds add-m mul-m slice-write-m add-j loop-less loop-again same-length returns)

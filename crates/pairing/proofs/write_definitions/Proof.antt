@@ -57,9 +57,6 @@ add-t12 c = let s = c .before .before .before .before .before .before .before .b
 cast-t18 : tie.Need-cast-t18
 cast-t18 c = let s = c .before .before .before .before .before .before .before .before .before .before .before .before .before .before .before in omega (arith, s .pre .0 .2, s .pre .0 .3, s .pre .1)
 
-slice-aggregate-copy-words : tie.Need-slice-aggregate-copy-words
-slice-aggregate-copy-words c = search needs
-
 copy-words-requires : tie.Need-copy-words-requires
 copy-words-requires c κs = let s = c .before .before .before .before .before .before .before .before .before .before .before .before .before .before .before .before .before in (omega arith, omega (arith, s .pre .1))
 
@@ -122,29 +119,6 @@ pub write-definitions-spec : {M : Type 1} → statement M
 write-definitions-spec =
     tie.close
     (tie.spec
-    add-latches
-    add-gates
-    mul-gates
-    add-gates-2
-    add-all
-    add-all-2
-    cast-all
-    cast-t14
-    cast-t15
-    cast-t16
-    cast-t17
-    add-t12
-    cast-t18
-    slice-aggregate-copy-words
-    copy-words-requires
-    put-inputs-requires
-    mul-rename-words
-    add-rename-words
-    rename-words-requires
-    mul-rename-words-2
-    add-rename-words-2
-    mul-rename-words-3
-    add-rename-words-3
-    rename-words-requires-2
-    same-length
-    returns)
+    add-latches add-gates mul-gates add-gates-2 add-all add-all-2 cast-all cast-t14 cast-t15 cast-t16 cast-t17 add-t12 cast-t18
+    (λ c. search needs) copy-words-requires put-inputs-requires mul-rename-words add-rename-words rename-words-requires
+    mul-rename-words-2 add-rename-words-2 mul-rename-words-3 add-rename-words-3 rename-words-requires-2 same-length returns)

@@ -84,13 +84,5 @@ pub write-gates-spec : {M : Type 1} → statement M
 write-gates-spec =
     tie.close
     (tie.spec
-    gates-from-requires
-    mul-rename-words
-    rename-words-requires
-    mul-rename-words-2
-    mul-rename-words-3
-    add-rename-words
-    rename-words-requires-2
-    put-pairs-requires
-    same-length
-    returns)
+    gates-from-requires mul-rename-words rename-words-requires mul-rename-words-2 mul-rename-words-3 add-rename-words
+    rename-words-requires-2 put-pairs-requires same-length returns)

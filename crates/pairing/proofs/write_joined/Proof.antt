@@ -109,14 +109,5 @@ pub write-joined-spec : {M : Type 1} → statement M
 write-joined-spec =
     tie.close
     (tie.spec
-    write-definitions-requires
-    write-properties-requires
-    write-gates-requires
-    pairs-from-requires
-    mul-end
-    add-end
-    words-needed-requires
-    sub-put-zeros
-    put-zeros-requires
-    same-length
-    returns)
+    write-definitions-requires write-properties-requires write-gates-requires pairs-from-requires mul-end add-end words-needed-requires
+    sub-put-zeros put-zeros-requires same-length returns)

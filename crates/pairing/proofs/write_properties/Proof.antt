@@ -87,13 +87,5 @@ pub write-properties-spec : {M : Type 1} → statement M
 write-properties-spec =
     tie.close
     (tie.spec
-    properties-at-requires
-    pairs-var-requires
-    put-bads-requires
-    add-rename-words
-    rename-words-requires
-    add-rename-words-2
-    add-rename-words-3
-    rename-words-requires-2
-    same-length
-    returns)
+    properties-at-requires pairs-var-requires put-bads-requires add-rename-words rename-words-requires add-rename-words-2
+    add-rename-words-3 rename-words-requires-2 same-length returns)

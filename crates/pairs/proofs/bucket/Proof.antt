@@ -6,24 +6,6 @@ use Rattle.pairs.proofs.Buckets.{bucketOf-lt}
 use Rattle.pairs.proofs.bucket.Statement.{statement}
 use Rattle.pairs.proofs.bucket.Tie as tie
 
-word-requires : tie.Need-word-requires
-word-requires c κs = search needs
-
-mul-sum : tie.Need-mul-sum
-mul-sum c = search needs
-
-word-requires-2 : tie.Need-word-requires-2
-word-requires-2 c κs = search needs
-
-mul-sum-2 : tie.Need-mul-sum-2
-mul-sum-2 c = search needs
-
-add-sum : tie.Need-add-sum
-add-sum c = search needs
-
-rem-result : tie.Need-rem-result
-rem-result c = search needs
-
 returns : tie.Need-returns
 unfolding bucketOf
 returns c =
@@ -33,4 +15,4 @@ returns c =
     )
 
 pub bucket-spec : {M : Type 1} → statement M
-bucket-spec = tie.close (tie.spec word-requires mul-sum word-requires-2 mul-sum-2 add-sum rem-result returns)
+bucket-spec = tie.close (tie.spec (λ c κs. search needs) (λ c. search needs) (λ c κs. search needs) (λ c. search needs) (λ c. search needs) (λ c. search needs) returns)

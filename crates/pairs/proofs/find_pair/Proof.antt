@@ -87,18 +87,5 @@ pub find-pair-spec : {M : Type 1} → statement M
 find-pair-spec =
     tie.close
     (tie.spec
-    Inv-loop
-    μ-loop
-    bucket-requires
-    word-requires
-    loop-holds
-    sub-has-pair
-    has-pair-requires
-    sub-t11
-    cast-t12
-    returns
-    sub-word
-    word-requires-2
-    loop-less
-    loop-again
-    returns-2)
+    Inv-loop μ-loop bucket-requires word-requires loop-holds sub-has-pair has-pair-requires sub-t11 cast-t12 returns sub-word
+    word-requires-2 loop-less loop-again returns-2)

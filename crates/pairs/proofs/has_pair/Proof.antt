@@ -11,38 +11,11 @@ use Rattle.pairs.specs.Store.{hasPair}
 use Rattle.pairs.proofs.has_pair.Statement.{statement}
 use Rattle.pairs.proofs.has_pair.Tie as tie
 
-mul-result : tie.Need-mul-result
-mul-result c = search needs
-
-mul-result-2 : tie.Need-mul-result-2
-mul-result-2 c = search needs
-
-shared-slice-read-result : tie.Need-shared-slice-read-result
-shared-slice-read-result c = search needs
-
 cast-result : tie.Need-cast-result
 cast-result c = omega (arith, c .shared-slice-known2 .given (16 * c .before .before .args .k))
 
-word-requires : tie.Need-word-requires
-word-requires c κs = search needs
-
-mul-result-3 : tie.Need-mul-result-3
-mul-result-3 c = search needs
-
-add-result : tie.Need-add-result
-add-result c = search needs
-
-mul-result-4 : tie.Need-mul-result-4
-mul-result-4 c = search needs
-
-shared-slice-read-result-2 : tie.Need-shared-slice-read-result-2
-shared-slice-read-result-2 c = search needs
-
 cast-result-2 : tie.Need-cast-result-2
 cast-result-2 c = omega (arith, c .shared-slice-known3 .given (16 * c .before .before .before .before .args .k + 1))
-
-word-requires-2 : tie.Need-word-requires-2
-word-requires-2 c κs = search needs
 
 returns : tie.Need-returns
 unfolding hasPair
@@ -57,15 +30,5 @@ pub has-pair-spec : {M : Type 1} → statement M
 has-pair-spec =
     tie.close
     (tie.spec
-    mul-result
-    mul-result-2
-    shared-slice-read-result
-    cast-result
-    word-requires
-    mul-result-3
-    add-result
-    mul-result-4
-    shared-slice-read-result-2
-    cast-result-2
-    word-requires-2
-    returns)
+    (λ c. search needs) (λ c. search needs) (λ c. search needs) cast-result (λ c κs. search needs) (λ c. search needs)
+    (λ c. search needs) (λ c. search needs) (λ c. search needs) cast-result-2 (λ c κs. search needs) returns)

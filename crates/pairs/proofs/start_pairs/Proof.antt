@@ -47,15 +47,4 @@ pub start-pairs-spec : {M : Type 1} → statement M
 start-pairs-spec =
     tie.close
     (tie.spec
-    Inv-loop
-    μ-loop
-    loop-holds
-    mul-work
-    add-work
-    mul-work-2
-    slice-write-work
-    add-h
-    loop-less
-    loop-again
-    same-length
-    returns)
+    Inv-loop μ-loop loop-holds mul-work add-work mul-work-2 slice-write-work add-h loop-less loop-again same-length returns)

@@ -9,12 +9,6 @@ use borrow.Author.Needs.{needs}
 use Rattle.panel.proofs.load.Statement.{statement}
 use Rattle.panel.proofs.load.Tie as tie
 
-refuse-requires : tie.Need-refuse-requires
-refuse-requires c κs = search needs
-
-same-length : tie.Need-same-length
-same-length c = search needs
-
 returns : tie.Need-returns
 returns c =
     let at-refuse = c .before .before in
@@ -25,24 +19,6 @@ returns c =
       out-is = at-refuse .refuse .ensures .1;
       inside = omega (arith, at-refuse .refuse .ensures .1);
     }
-
-cast-load : tie.Need-cast-load
-cast-load c = search needs
-
-load-requires : tie.Need-load-requires
-load-requires c κs = search needs
-
-write-answer-requires : tie.Need-write-answer-requires
-write-answer-requires c κs = search needs
-
-same-length-2 : tie.Need-same-length-2
-same-length-2 c = search needs
-
-same-length-3 : tie.Need-same-length-3
-same-length-3 c = search needs
-
-same-length-4 : tie.Need-same-length-4
-same-length-4 c = search needs
 
 returns-2 : tie.Need-returns-2
 returns-2 c =
@@ -60,13 +36,5 @@ pub load-spec : {M : Type 1} → statement M
 load-spec =
     tie.close
     (tie.spec
-    refuse-requires
-    same-length
-    returns
-    cast-load
-    load-requires
-    write-answer-requires
-    same-length-2
-    same-length-3
-    same-length-4
-    returns-2)
+    (λ c κs. search needs) (λ c. search needs) returns (λ c. search needs) (λ c κs. search needs) (λ c κs. search needs)
+    (λ c. search needs) (λ c. search needs) (λ c. search needs) returns-2)

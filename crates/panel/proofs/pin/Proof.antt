@@ -8,12 +8,6 @@ use borrow.Author.Needs.{needs}
 use Rattle.panel.proofs.pin.Statement.{statement}
 use Rattle.panel.proofs.pin.Tie as tie
 
-refuse-requires : tie.Need-refuse-requires
-refuse-requires c κs = search needs
-
-same-length : tie.Need-same-length
-same-length c = search needs
-
 returns : tie.Need-returns
 returns c =
     let at-refuse = c .before .before in
@@ -24,33 +18,6 @@ returns c =
       out-is = at-refuse .refuse .ensures .1;
       inside = omega (arith, at-refuse .refuse .ensures .1);
     }
-
-cast-set-pin : tie.Need-cast-set-pin
-cast-set-pin c = search needs
-
-set-pin-requires : tie.Need-set-pin-requires
-set-pin-requires c κs = search needs
-
-enum-known-n : tie.Need-enum-known-n
-enum-known-n c = search needs
-
-refuse-requires-2 : tie.Need-refuse-requires-2
-refuse-requires-2 c κs = search needs
-
-enum-told : tie.Need-enum-told
-enum-told c = search needs
-
-slice-aggregate-put : tie.Need-slice-aggregate-put
-slice-aggregate-put c = search needs
-
-put-requires : tie.Need-put-requires
-put-requires c κs = search needs
-
-same-length-2 : tie.Need-same-length-2
-same-length-2 c = search needs
-
-same-length-3 : tie.Need-same-length-3
-same-length-3 c = search needs
 
 returns-2 : tie.Need-returns-2
 returns-2 c =
@@ -64,12 +31,6 @@ returns-2 c =
       out-is = at-refuse2 .refuse2 .ensures .1;
       inside = omega (arith, at-refuse2 .refuse2 .ensures .1);
     }
-
-same-length-4 : tie.Need-same-length-4
-same-length-4 c = search needs
-
-same-length-5 : tie.Need-same-length-5
-same-length-5 c = search needs
 
 returns-3 : tie.Need-returns-3
 returns-3 c =
@@ -88,19 +49,6 @@ pub pin-spec : {M : Type 1} → statement M
 pin-spec =
     tie.close
     (tie.spec
-    refuse-requires
-    same-length
-    returns
-    cast-set-pin
-    set-pin-requires
-    enum-known-n
-    refuse-requires-2
-    enum-told
-    slice-aggregate-put
-    put-requires
-    same-length-2
-    same-length-3
-    returns-2
-    same-length-4
-    same-length-5
-    returns-3)
+    (λ c κs. search needs) (λ c. search needs) returns (λ c. search needs) (λ c κs. search needs) (λ c. search needs)
+    (λ c κs. search needs) (λ c. search needs) (λ c. search needs) (λ c κs. search needs) (λ c. search needs) (λ c. search needs)
+    returns-2 (λ c. search needs) (λ c. search needs) returns-3)

@@ -6,27 +6,12 @@ use borrow.Author.Needs.{needs}
 use Rattle.panel.proofs.preview.Statement.{statement}
 use Rattle.panel.proofs.preview.Tie as tie
 
-refuse-requires : tie.Need-refuse-requires
-refuse-requires c κs = search needs
-
-same-length : tie.Need-same-length
-same-length c = search needs
-
 returns : tie.Need-returns
 returns c =
     let at-refuse = c .before .before in
     let start = at-refuse .before .before .before .before .before .before .before in
     simp (lt-ltb 1 (start .args .user) (omega arith))
     (refused-leaves 18 (start .args .out .now) (at-refuse .refuse .ensures .0) (at-refuse .refuse .ensures .1))
-
-preview-requires : tie.Need-preview-requires
-preview-requires c κs = search needs
-
-same-length-2 : tie.Need-same-length-2
-same-length-2 c = search needs
-
-same-length-3 : tie.Need-same-length-3
-same-length-3 c = search needs
 
 returns-2 : tie.Need-returns-2
 returns-2 c =
@@ -38,10 +23,4 @@ pub preview-spec : {M : Type 1} → statement M
 preview-spec =
     tie.close
     (tie.spec
-    refuse-requires
-    same-length
-    returns
-    preview-requires
-    same-length-2
-    same-length-3
-    returns-2)
+    (λ c κs. search needs) (λ c. search needs) returns (λ c κs. search needs) (λ c. search needs) (λ c. search needs) returns-2)

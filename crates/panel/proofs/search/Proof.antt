@@ -5,27 +5,12 @@ use borrow.Author.Needs.{needs}
 use Rattle.panel.proofs.search.Statement.{statement}
 use Rattle.panel.proofs.search.Tie as tie
 
-search-requires : tie.Need-search-requires
-search-requires c κs = search needs
-
 shown-length-requires : tie.Need-shown-length-requires
 shown-length-requires c κs =
     let at-search = c .before .before .before .before in
     let start = at-search .before .before .before .before .before .before .before .before in
     shown-fits (start .args .m .now) (start .args .pins .now) (start .args .work .now) (start .args .out .now)
     (at-search .search .result) (at-search .search .ensures)
-
-write-answer-requires : tie.Need-write-answer-requires
-write-answer-requires c κs = search needs
-
-same-length : tie.Need-same-length
-same-length c = search needs
-
-same-length-2 : tie.Need-same-length-2
-same-length-2 c = search needs
-
-same-length-3 : tie.Need-same-length-3
-same-length-3 c = search needs
 
 returns : tie.Need-returns
 returns c =
@@ -47,10 +32,5 @@ pub search-spec : {M : Type 1} → statement M
 search-spec =
     tie.close
     (tie.spec
-    search-requires
-    shown-length-requires
-    write-answer-requires
-    same-length
-    same-length-2
-    same-length-3
+    (λ c κs. search needs) shown-length-requires (λ c κs. search needs) (λ c. search needs) (λ c. search needs) (λ c. search needs)
     returns)

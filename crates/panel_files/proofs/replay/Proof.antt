@@ -6,15 +6,6 @@ use borrow.Author.Needs.{needs}
 use Rattle.panel_files.proofs.replay.Statement.{statement}
 use Rattle.panel_files.proofs.replay.Tie as tie
 
-replay-requires : tie.Need-replay-requires
-replay-requires c κs = search needs
-
-write-verdict-requires : tie.Need-write-verdict-requires
-write-verdict-requires c κs = search needs
-
-same-length : tie.Need-same-length
-same-length c = search needs
-
 returns : tie.Need-returns
 returns c =
     let at-write-verdict = c .before .before in
@@ -28,4 +19,4 @@ returns c =
     }
 
 pub replay-spec : {M : Type 1} → statement M
-replay-spec = tie.close (tie.spec replay-requires write-verdict-requires same-length returns)
+replay-spec = tie.close (tie.spec (λ c κs. search needs) (λ c κs. search needs) (λ c. search needs) returns)

@@ -6,42 +6,12 @@ use borrow.Author.Needs.{needs}
 use Rattle.panel_files.proofs.view.Statement.{statement}
 use Rattle.panel_files.proofs.view.Tie as tie
 
-refuse-requires : tie.Need-refuse-requires
-refuse-requires c κs = search needs
-
-same-length : tie.Need-same-length
-same-length c = search needs
-
 returns : tie.Need-returns
 returns c =
     let at-refuse = c .before .before in
     let start = at-refuse .before .before .before .before .before .before .before .before in
     strange (start .args .v) (start .args .user) (start .args .witness .now) (start .args .m .now) (start .args .pins .now)
     (start .args .out .now) (omega arith) (at-refuse .refuse .ensures .0) (at-refuse .refuse .ensures .1)
-
-cast-known : tie.Need-cast-known
-cast-known c = search needs
-
-enum-told : tie.Need-enum-told
-enum-told c = search needs
-
-replay-requires : tie.Need-replay-requires
-replay-requires c κs = search needs
-
-enum-told-2 : tie.Need-enum-told-2
-enum-told-2 c = search needs
-
-widen-requires : tie.Need-widen-requires
-widen-requires c κs = search needs
-
-enum-known-v : tie.Need-enum-known-v
-enum-known-v c = search needs
-
-waveform-requires : tie.Need-waveform-requires
-waveform-requires c κs = search needs
-
-same-length-2 : tie.Need-same-length-2
-same-length-2 c = search needs
 
 returns-2 : tie.Need-returns-2
 returns-2 c =
@@ -56,12 +26,6 @@ returns-2 c =
       inside = omega (arith, p .out-is);
     })
 
-same-length-3 : tie.Need-same-length-3
-same-length-3 c = search needs
-
-same-length-4 : tie.Need-same-length-4
-same-length-4 c = search needs
-
 returns-3 : tie.Need-returns-3
 returns-3 c =
     let at-widen = c .before .before .before .before in
@@ -74,12 +38,6 @@ returns-3 c =
       out-is = p .out-is;
       inside = p .inside;
     })
-
-same-length-5 : tie.Need-same-length-5
-same-length-5 c = search needs
-
-same-length-6 : tie.Need-same-length-6
-same-length-6 c = search needs
 
 returns-4 : tie.Need-returns-4
 returns-4 c =
@@ -98,21 +56,6 @@ pub view-spec : {M : Type 1} → statement M
 view-spec =
     tie.close
     (tie.spec
-    refuse-requires
-    same-length
-    returns
-    cast-known
-    enum-told
-    replay-requires
-    enum-told-2
-    widen-requires
-    enum-known-v
-    waveform-requires
-    same-length-2
-    returns-2
-    same-length-3
-    same-length-4
-    returns-3
-    same-length-5
-    same-length-6
-    returns-4)
+    (λ c κs. search needs) (λ c. search needs) returns (λ c. search needs) (λ c. search needs) (λ c κs. search needs)
+    (λ c. search needs) (λ c κs. search needs) (λ c. search needs) (λ c κs. search needs) (λ c. search needs) returns-2
+    (λ c. search needs) (λ c. search needs) returns-3 (λ c. search needs) (λ c. search needs) returns-4)

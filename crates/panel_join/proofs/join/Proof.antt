@@ -11,12 +11,6 @@ use borrow.Author.Needs.{needs}
 use Rattle.panel_join.proofs.join.Statement.{statement}
 use Rattle.panel_join.proofs.join.Tie as tie
 
-refuse-requires : tie.Need-refuse-requires
-refuse-requires c κs = search needs
-
-same-length : tie.Need-same-length
-same-length c = search needs
-
 returns : tie.Need-returns
 returns c =
     let at-refuse = c .before .before in
@@ -31,27 +25,6 @@ returns c =
 slice-aggregate-load : tie.Need-slice-aggregate-load
 slice-aggregate-load c = sym (length-replicate {A = ℕ} 33032 0)
 
-load-requires : tie.Need-load-requires
-load-requires c κs = search needs
-
-enum-known-n : tie.Need-enum-known-n
-enum-known-n c = search needs
-
-refuse-requires-2 : tie.Need-refuse-requires-2
-refuse-requires-2 c κs = search needs
-
-enum-told : tie.Need-enum-told
-enum-told c = search needs
-
-slice-aggregate-join-new : tie.Need-slice-aggregate-join-new
-slice-aggregate-join-new c = search needs
-
-join-new-requires : tie.Need-join-new-requires
-join-new-requires c κs = search needs
-
-same-length-2 : tie.Need-same-length-2
-same-length-2 c = search needs
-
 returns-2 : tie.Need-returns-2
 returns-2 c =
     let at-refuse2 = c .before .before in
@@ -65,15 +38,6 @@ returns-2 c =
       out-is = at-refuse2 .refuse2 .ensures .1;
       inside = omega (arith, at-refuse2 .refuse2 .ensures .1);
     }
-
-same-length-3 : tie.Need-same-length-3
-same-length-3 c = search needs
-
-same-length-4 : tie.Need-same-length-4
-same-length-4 c = search needs
-
-same-length-5 : tie.Need-same-length-5
-same-length-5 c = search needs
 
 returns-3 : tie.Need-returns-3
 returns-3 c =
@@ -95,19 +59,6 @@ pub join-spec : {M : Type 1} → statement M
 join-spec =
     tie.close
     (tie.spec
-    refuse-requires
-    same-length
-    returns
-    slice-aggregate-load
-    load-requires
-    enum-known-n
-    refuse-requires-2
-    enum-told
-    slice-aggregate-join-new
-    join-new-requires
-    same-length-2
-    returns-2
-    same-length-3
-    same-length-4
-    same-length-5
-    returns-3)
+    (λ c κs. search needs) (λ c. search needs) returns slice-aggregate-load (λ c κs. search needs) (λ c. search needs)
+    (λ c κs. search needs) (λ c. search needs) (λ c. search needs) (λ c κs. search needs) (λ c. search needs) returns-2
+    (λ c. search needs) (λ c. search needs) (λ c. search needs) returns-3)

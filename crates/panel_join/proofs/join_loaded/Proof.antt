@@ -7,21 +7,6 @@ use borrow.Author.Needs.{needs}
 use Rattle.panel_join.proofs.join_loaded.Statement.{statement}
 use Rattle.panel_join.proofs.join_loaded.Tie as tie
 
-join-requires : tie.Need-join-requires
-join-requires c κs = search needs
-
-write-answer-requires : tie.Need-write-answer-requires
-write-answer-requires c κs = search needs
-
-same-length : tie.Need-same-length
-same-length c = search needs
-
-same-length-2 : tie.Need-same-length-2
-same-length-2 c = search needs
-
-same-length-3 : tie.Need-same-length-3
-same-length-3 c = search needs
-
 returns : tie.Need-returns
 returns c =
     let at-write-answer = c .before .before in
@@ -38,9 +23,4 @@ pub join-loaded-spec : {M : Type 1} → statement M
 join-loaded-spec =
     tie.close
     (tie.spec
-    join-requires
-    write-answer-requires
-    same-length
-    same-length-2
-    same-length-3
-    returns)
+    (λ c κs. search needs) (λ c κs. search needs) (λ c. search needs) (λ c. search needs) (λ c. search needs) returns)

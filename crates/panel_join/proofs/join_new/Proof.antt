@@ -14,27 +14,6 @@ use Rattle.panel_join.proofs.join_new.Tie as tie
 slice-aggregate-load : tie.Need-slice-aggregate-load
 slice-aggregate-load c = sym (length-replicate {A = ℕ} 33032 0)
 
-load-requires : tie.Need-load-requires
-load-requires c κs = search needs
-
-enum-known-n : tie.Need-enum-known-n
-enum-known-n c = search needs
-
-refuse-requires : tie.Need-refuse-requires
-refuse-requires c κs = search needs
-
-enum-told : tie.Need-enum-told
-enum-told c = search needs
-
-slice-aggregate-join-loaded : tie.Need-slice-aggregate-join-loaded
-slice-aggregate-join-loaded c = search needs
-
-join-loaded-requires : tie.Need-join-loaded-requires
-join-loaded-requires c κs = search needs
-
-same-length : tie.Need-same-length
-same-length c = search needs
-
 returns : tie.Need-returns
 returns c =
     let at-refuse = c .before .before in
@@ -48,15 +27,6 @@ returns c =
       out-is = at-refuse .refuse .ensures .1;
       inside = omega (arith, at-refuse .refuse .ensures .1);
     }
-
-same-length-2 : tie.Need-same-length-2
-same-length-2 c = search needs
-
-same-length-3 : tie.Need-same-length-3
-same-length-3 c = search needs
-
-same-length-4 : tie.Need-same-length-4
-same-length-4 c = search needs
 
 returns-2 : tie.Need-returns-2
 returns-2 c =
@@ -78,16 +48,5 @@ pub join-new-spec : {M : Type 1} → statement M
 join-new-spec =
     tie.close
     (tie.spec
-    slice-aggregate-load
-    load-requires
-    enum-known-n
-    refuse-requires
-    enum-told
-    slice-aggregate-join-loaded
-    join-loaded-requires
-    same-length
-    returns
-    same-length-2
-    same-length-3
-    same-length-4
-    returns-2)
+    slice-aggregate-load (λ c κs. search needs) (λ c. search needs) (λ c κs. search needs) (λ c. search needs) (λ c. search needs)
+    (λ c κs. search needs) (λ c. search needs) returns (λ c. search needs) (λ c. search needs) (λ c. search needs) returns-2)

@@ -5,15 +5,6 @@ use borrow.Author.Needs.{needs}
 use Rattle.panel_lines.proofs.number_after.Statement.{statement}
 use Rattle.panel_lines.proofs.number_after.Tie as tie
 
-word-after-requires : tie.Need-word-after-requires
-word-after-requires c κs = search needs
-
-enum-known-part : tie.Need-enum-known-part
-enum-known-part c = search needs
-
-enum-told : tie.Need-enum-told
-enum-told c = search needs
-
 returns : tie.Need-returns
 returns c =
     let at-word-after = c .before .before in
@@ -39,15 +30,6 @@ part-read-argument-end c =
     let at-word-after = at-part .before .before in
     (rw (at-part .part .given .1) at (at-word-after .word-after .ensures)) .inside .within
 
-read-argument-requires : tie.Need-read-argument-requires
-read-argument-requires c κs = search needs
-
-enum-known-n : tie.Need-enum-known-n
-enum-known-n c = search needs
-
-enum-told-2 : tie.Need-enum-told-2
-enum-told-2 c = search needs
-
 returns-2 : tie.Need-returns-2
 returns-2 c =
     let at-n = c .before in
@@ -71,15 +53,5 @@ pub number-after-spec : {M : Type 1} → statement M
 number-after-spec =
     tie.close
     (tie.spec
-    word-after-requires
-    enum-known-part
-    enum-told
-    returns
-    sub-read-argument
-    part-read-argument-start
-    part-read-argument-end
-    read-argument-requires
-    enum-known-n
-    enum-told-2
-    returns-2
-    returns-3)
+    (λ c κs. search needs) (λ c. search needs) (λ c. search needs) returns sub-read-argument part-read-argument-start
+    part-read-argument-end (λ c κs. search needs) (λ c. search needs) (λ c. search needs) returns-2 returns-3)

@@ -5,15 +5,6 @@ use borrow.Author.Needs.{needs}
 use Rattle.panel_lines.proofs.one_name.Statement.{statement}
 use Rattle.panel_lines.proofs.one_name.Tie as tie
 
-word-after-requires : tie.Need-word-after-requires
-word-after-requires c κs = search needs
-
-enum-known-name : tie.Need-enum-known-name
-enum-known-name c = search needs
-
-enum-told : tie.Need-enum-told
-enum-told c = search needs
-
 returns : tie.Need-returns
 returns c =
     let at-word-after = c .before .before in
@@ -38,4 +29,4 @@ returns-3 c =
 
 pub one-name-spec : {M : Type 1} → statement M
 one-name-spec =
-    tie.close (tie.spec word-after-requires enum-known-name enum-told returns returns-2 returns-3)
+    tie.close (tie.spec (λ c κs. search needs) (λ c. search needs) (λ c. search needs) returns returns-2 returns-3)

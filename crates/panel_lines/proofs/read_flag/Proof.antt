@@ -11,15 +11,6 @@ returns c =
     let start = c .before .before .before in
     flag-unset (start .args .line .now) (start .args .at) (start .args .text .now) (omega arith)
 
-one-name-requires : tie.Need-one-name-requires
-one-name-requires c κs = search needs
-
-enum-known-word : tie.Need-enum-known-word
-enum-known-word c = search needs
-
-enum-told : tie.Need-enum-told
-enum-told c = search needs
-
 returns-2 : tie.Need-returns-2
 returns-2 c =
     let at-one-name = c .before .before in
@@ -55,11 +46,4 @@ pub read-flag-spec : {M : Type 1} → statement M
 read-flag-spec =
     tie.close
     (tie.spec
-    returns
-    one-name-requires
-    enum-known-word
-    enum-told
-    returns-2
-    is-word-requires
-    returns-3
-    returns-4)
+    returns (λ c κs. search needs) (λ c. search needs) (λ c. search needs) returns-2 is-word-requires returns-3 returns-4)

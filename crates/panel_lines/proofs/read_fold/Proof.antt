@@ -4,15 +4,6 @@ use borrow.Author.Needs.{needs}
 use Rattle.panel_lines.proofs.read_fold.Statement.{statement}
 use Rattle.panel_lines.proofs.read_fold.Tie as tie
 
-two-numbers-requires : tie.Need-two-numbers-requires
-two-numbers-requires c κs = search needs
-
-enum-known-b : tie.Need-enum-known-b
-enum-known-b c = search needs
-
-enum-told : tie.Need-enum-told
-enum-told c = search needs
-
 returns : tie.Need-returns
 returns c =
     let at-two-numbers = c .before .before in
@@ -27,4 +18,4 @@ returns-2 c =
     fold-all (start .args .line .now) (start .args .at) _ _ (rw (at-b .b .given .1) at (at-two-numbers .two-numbers .ensures))
 
 pub read-fold-spec : {M : Type 1} → statement M
-read-fold-spec = tie.close (tie.spec two-numbers-requires enum-known-b enum-told returns returns-2)
+read-fold-spec = tie.close (tie.spec (λ c κs. search needs) (λ c. search needs) (λ c. search needs) returns returns-2)

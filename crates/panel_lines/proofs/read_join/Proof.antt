@@ -4,15 +4,6 @@ use borrow.Author.Needs.{needs}
 use Rattle.panel_lines.proofs.read_join.Statement.{statement}
 use Rattle.panel_lines.proofs.read_join.Tie as tie
 
-word-after-requires : tie.Need-word-after-requires
-word-after-requires c κs = search needs
-
-enum-known-old : tie.Need-enum-known-old
-enum-known-old c = search needs
-
-enum-told : tie.Need-enum-told
-enum-told c = search needs
-
 returns : tie.Need-returns
 returns c =
     let at-word-after = c .before .before in
@@ -24,12 +15,6 @@ one-name-requires c κs =
     let at-old = c .before in
     let at-word-after = at-old .before .before in
     (rw (at-old .old .given .1) at (at-word-after .word-after .ensures)) .inside .within
-
-enum-known-new : tie.Need-enum-known-new
-enum-known-new c = search needs
-
-enum-told-2 : tie.Need-enum-told-2
-enum-told-2 c = search needs
 
 returns-2 : tie.Need-returns-2
 returns-2 c =
@@ -54,12 +39,5 @@ pub read-join-spec : {M : Type 1} → statement M
 read-join-spec =
     tie.close
     (tie.spec
-    word-after-requires
-    enum-known-old
-    enum-told
-    returns
-    one-name-requires
-    enum-known-new
-    enum-told-2
-    returns-2
-    returns-3)
+    (λ c κs. search needs) (λ c. search needs) (λ c. search needs) returns one-name-requires (λ c. search needs) (λ c. search needs)
+    returns-2 returns-3)

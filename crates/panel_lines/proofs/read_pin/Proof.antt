@@ -4,15 +4,6 @@ use borrow.Author.Needs.{needs}
 use Rattle.panel_lines.proofs.read_pin.Statement.{statement}
 use Rattle.panel_lines.proofs.read_pin.Tie as tie
 
-two-numbers-requires : tie.Need-two-numbers-requires
-two-numbers-requires c κs = search needs
-
-enum-known-input : tie.Need-enum-known-input
-enum-known-input c = search needs
-
-enum-told : tie.Need-enum-told
-enum-told c = search needs
-
 returns : tie.Need-returns
 returns c =
     let at-two-numbers = c .before .before in
@@ -28,4 +19,4 @@ returns-2 c =
 
 pub read-pin-spec : {M : Type 1} → statement M
 read-pin-spec =
-    tie.close (tie.spec two-numbers-requires enum-known-input enum-told returns returns-2)
+    tie.close (tie.spec (λ c κs. search needs) (λ c. search needs) (λ c. search needs) returns returns-2)

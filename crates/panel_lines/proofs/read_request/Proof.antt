@@ -7,34 +7,16 @@ use borrow.Author.Needs.{needs}
 use Rattle.panel_lines.proofs.read_request.Statement.{statement}
 use Rattle.panel_lines.proofs.read_request.Tie as tie
 
-malformed-requires : tie.Need-malformed-requires
-malformed-requires c κs = search needs
-
 returns : tie.Need-returns
 returns c =
     let start = c .before .before .before in
     too-long (start .args .line .now) (c .malformed .result) (c .malformed .ensures) (omega arith)
-
-word-end-requires : tie.Need-word-end-requires
-word-end-requires c κs = search needs
 
 slice-aggregate-read-argument : tie.Need-slice-aggregate-read-argument
 slice-aggregate-read-argument c =
     let at-word-end = c .before in
     let start = at-word-end .before .before .before in
     sym (length-take-le (at-word-end .word-end .result) (start .args .line .now) ((at-word-end .word-end .ensures) .within))
-
-read-argument-requires : tie.Need-read-argument-requires
-read-argument-requires c κs = search needs
-
-enum-known-user : tie.Need-enum-known-user
-enum-known-user c = search needs
-
-enum-told : tie.Need-enum-told
-enum-told c = search needs
-
-malformed-requires-2 : tie.Need-malformed-requires-2
-malformed-requires-2 c κs = search needs
 
 returns-2 : tie.Need-returns-2
 returns-2 c =
@@ -44,18 +26,6 @@ returns-2 c =
     let start = at-word-end .before .before .before in
     no-user (start .args .line .now) (c .malformed2 .result) (c .malformed2 .ensures) (omega arith) (at-word-end .word-end .ensures)
     (rw (at-enum-told .enum-told .given .1) at (at-read-argument .read-argument .ensures))
-
-word-after-requires : tie.Need-word-after-requires
-word-after-requires c κs = search needs
-
-enum-known-part : tie.Need-enum-known-part
-enum-known-part c = search needs
-
-enum-told-2 : tie.Need-enum-told-2
-enum-told-2 c = search needs
-
-malformed-requires-3 : tie.Need-malformed-requires-3
-malformed-requires-3 c κs = search needs
 
 returns-3 : tie.Need-returns-3
 returns-3 c =
@@ -99,20 +69,6 @@ pub read-request-spec : {M : Type 1} → statement M
 read-request-spec =
     tie.close
     (tie.spec
-    malformed-requires
-    returns
-    word-end-requires
-    slice-aggregate-read-argument
-    read-argument-requires
-    enum-known-user
-    enum-told
-    malformed-requires-2
-    returns-2
-    word-after-requires
-    enum-known-part
-    enum-told-2
-    malformed-requires-3
-    returns-3
-    verb-of-requires
-    read-task-requires
-    returns-4)
+    (λ c κs. search needs) returns (λ c κs. search needs) slice-aggregate-read-argument (λ c κs. search needs) (λ c. search needs)
+    (λ c. search needs) (λ c κs. search needs) returns-2 (λ c κs. search needs) (λ c. search needs) (λ c. search needs)
+    (λ c κs. search needs) returns-3 verb-of-requires read-task-requires returns-4)

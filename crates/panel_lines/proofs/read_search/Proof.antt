@@ -4,15 +4,6 @@ use borrow.Author.Needs.{needs}
 use Rattle.panel_lines.proofs.read_search.Statement.{statement}
 use Rattle.panel_lines.proofs.read_search.Tie as tie
 
-number-after-requires : tie.Need-number-after-requires
-number-after-requires c κs = search needs
-
-enum-known-b : tie.Need-enum-known-b
-enum-known-b c = search needs
-
-enum-told : tie.Need-enum-told
-enum-told c = search needs
-
 returns : tie.Need-returns
 returns c =
     let at-number-after = c .before .before in
@@ -24,12 +15,6 @@ two-numbers-requires c κs =
     let at-b = c .before in
     let at-number-after = at-b .before .before in
     (rw (at-b .b .given .1) at (at-number-after .number-after .ensures)) .within
-
-enum-known-k : tie.Need-enum-known-k
-enum-known-k c = search needs
-
-enum-told-2 : tie.Need-enum-told-2
-enum-told-2 c = search needs
 
 returns-2 : tie.Need-returns-2
 returns-2 c =
@@ -54,12 +39,5 @@ pub read-search-spec : {M : Type 1} → statement M
 read-search-spec =
     tie.close
     (tie.spec
-    number-after-requires
-    enum-known-b
-    enum-told
-    returns
-    two-numbers-requires
-    enum-known-k
-    enum-told-2
-    returns-2
-    returns-3)
+    (λ c κs. search needs) (λ c. search needs) (λ c. search needs) returns two-numbers-requires (λ c. search needs) (λ c. search needs)
+    returns-2 returns-3)

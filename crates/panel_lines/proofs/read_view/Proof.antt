@@ -4,15 +4,6 @@ use borrow.Author.Needs.{needs}
 use Rattle.panel_lines.proofs.read_view.Statement.{statement}
 use Rattle.panel_lines.proofs.read_view.Tie as tie
 
-one-name-requires : tie.Need-one-name-requires
-one-name-requires c κs = search needs
-
-enum-known-witness : tie.Need-enum-known-witness
-enum-known-witness c = search needs
-
-enum-told : tie.Need-enum-told
-enum-told c = search needs
-
 returns : tie.Need-returns
 returns c =
     let at-one-name = c .before .before in
@@ -32,8 +23,4 @@ pub read-view-spec : {M : Type 1} → statement M
 read-view-spec =
     tie.close
     (tie.spec
-    one-name-requires
-    enum-known-witness
-    enum-told
-    returns
-    returns-2)
+    (λ c κs. search needs) (λ c. search needs) (λ c. search needs) returns returns-2)

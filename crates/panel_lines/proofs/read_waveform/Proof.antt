@@ -4,35 +4,17 @@ use borrow.Author.Needs.{needs}
 use Rattle.panel_lines.proofs.read_waveform.Statement.{statement}
 use Rattle.panel_lines.proofs.read_waveform.Tie as tie
 
-word-after-requires : tie.Need-word-after-requires
-word-after-requires c κs = search needs
-
-enum-known-witness : tie.Need-enum-known-witness
-enum-known-witness c = search needs
-
-enum-told : tie.Need-enum-told
-enum-told c = search needs
-
 returns : tie.Need-returns
 returns c =
     let at-word-after = c .before .before in
     let start = at-word-after .before .before in
     waveform-none (start .args .line .now) (start .args .at) (rw (c .enum-told .given .1) at (at-word-after .word-after .ensures))
 
-slice-aggregate-read-flag : tie.Need-slice-aggregate-read-flag
-slice-aggregate-read-flag c = search needs
-
 read-flag-requires : tie.Need-read-flag-requires
 read-flag-requires c κs =
     let at-witness = c .before .before in
     let at-word-after = at-witness .before .before in
     (rw (at-witness .witness .given .1) at (at-word-after .word-after .ensures)) .inside .within
-
-enum-known-only : tie.Need-enum-known-only
-enum-known-only c = search needs
-
-enum-told-2 : tie.Need-enum-told-2
-enum-told-2 c = search needs
 
 returns-2 : tie.Need-returns-2
 returns-2 c =
@@ -59,13 +41,5 @@ pub read-waveform-spec : {M : Type 1} → statement M
 read-waveform-spec =
     tie.close
     (tie.spec
-    word-after-requires
-    enum-known-witness
-    enum-told
-    returns
-    slice-aggregate-read-flag
-    read-flag-requires
-    enum-known-only
-    enum-told-2
-    returns-2
-    returns-3)
+    (λ c κs. search needs) (λ c. search needs) (λ c. search needs) returns (λ c. search needs) read-flag-requires (λ c. search needs)
+    (λ c. search needs) returns-2 returns-3)

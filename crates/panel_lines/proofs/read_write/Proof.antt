@@ -4,18 +4,6 @@ use borrow.Author.Needs.{needs}
 use Rattle.panel_lines.proofs.read_write.Statement.{statement}
 use Rattle.panel_lines.proofs.read_write.Tie as tie
 
-slice-aggregate-read-flag : tie.Need-slice-aggregate-read-flag
-slice-aggregate-read-flag c = search needs
-
-read-flag-requires : tie.Need-read-flag-requires
-read-flag-requires c κs = search needs
-
-enum-known-binary : tie.Need-enum-known-binary
-enum-known-binary c = search needs
-
-enum-told : tie.Need-enum-told
-enum-told c = search needs
-
 returns : tie.Need-returns
 returns c =
     let at-read-flag = c .before .before in
@@ -42,10 +30,4 @@ pub read-write-spec : {M : Type 1} → statement M
 read-write-spec =
     tie.close
     (tie.spec
-    slice-aggregate-read-flag
-    read-flag-requires
-    enum-known-binary
-    enum-told
-    returns
-    returns-2
-    returns-3)
+    (λ c. search needs) (λ c κs. search needs) (λ c. search needs) (λ c. search needs) returns returns-2 returns-3)

@@ -5,15 +5,6 @@ use borrow.Author.Needs.{needs}
 use Rattle.panel_lines.proofs.two_numbers.Statement.{statement}
 use Rattle.panel_lines.proofs.two_numbers.Tie as tie
 
-number-after-requires : tie.Need-number-after-requires
-number-after-requires c κs = search needs
-
-enum-known-a : tie.Need-enum-known-a
-enum-known-a c = search needs
-
-enum-told : tie.Need-enum-told
-enum-told c = search needs
-
 returns : tie.Need-returns
 returns c =
     let at-number-after = c .before .before in
@@ -25,12 +16,6 @@ number-after-requires-2 c κs =
     let at-a = c .before in
     let at-number-after = at-a .before .before in
     (rw (at-a .a .given .1) at (at-number-after .number-after .ensures)) .within
-
-enum-known-b : tie.Need-enum-known-b
-enum-known-b c = search needs
-
-enum-told-2 : tie.Need-enum-told-2
-enum-told-2 c = search needs
 
 returns-2 : tie.Need-returns-2
 returns-2 c =
@@ -65,13 +50,5 @@ pub two-numbers-spec : {M : Type 1} → statement M
 two-numbers-spec =
     tie.close
     (tie.spec
-    number-after-requires
-    enum-known-a
-    enum-told
-    returns
-    number-after-requires-2
-    enum-known-b
-    enum-told-2
-    returns-2
-    returns-3
-    returns-4)
+    (λ c κs. search needs) (λ c. search needs) (λ c. search needs) returns number-after-requires-2 (λ c. search needs)
+    (λ c. search needs) returns-2 returns-3 returns-4)

@@ -8,12 +8,6 @@ use Rattle.panel_lines.proofs.word_after.Tie as tie
 returns : tie.Need-returns
 returns c = let start = c .before .before in no-word (start .args .line .now) (start .args .at) (omega arith)
 
-add-from : tie.Need-add-from
-add-from c = search needs
-
-word-end-requires : tie.Need-word-end-requires
-word-end-requires c κs = search needs
-
 returns-2 : tie.Need-returns-2
 returns-2 c =
     let at-word-end = c .before in
@@ -29,4 +23,4 @@ returns-3 c =
     (omega (arith, at-word-end .word-end .ensures .forward))
 
 pub word-after-spec : {M : Type 1} → statement M
-word-after-spec = tie.close (tie.spec returns add-from word-end-requires returns-2 returns-3)
+word-after-spec = tie.close (tie.spec returns (λ c. search needs) (λ c κs. search needs) returns-2 returns-3)

@@ -95,37 +95,9 @@ pub do-line-spec : {M : Type 1} → statement M
 do-line-spec =
     tie.close
     (tie.spec
-    (λ c κs. search needs)
-    (λ c. search needs)
-    (λ c. search needs)
-    (λ c. search needs)
-    (λ c κs. search needs)
-    tell-requires
-    (λ c. search needs)
-    sub-with-one
-    part-with-one-start
-    part-with-one-end
-    with-one-requires
-    (λ c. search needs)
-    sub-with-two
-    part-with-two-start
-    part-with-two-end
-    sub-with-two-2
-    part-with-two-start-2
-    part-with-two-end-2
-    with-two-requires
-    (λ c. search needs)
-    (λ c. search needs)
-    (λ c. search needs)
-    (λ c. search needs)
-    (λ c. search needs)
-    (λ c. search needs)
-    (λ c. search needs)
-    (λ c. search needs)
-    (λ c. search needs)
-    (λ c. search needs)
-    (λ c. search needs)
-    (λ c. search needs)
-    (λ c. search needs)
-    (λ c. search needs)
-    (λ c. search needs))
+    (λ c κs. search needs) (λ c. search needs) (λ c. search needs) (λ c. search needs) (λ c κs. search needs) tell-requires
+    (λ c. search needs) sub-with-one part-with-one-start part-with-one-end with-one-requires (λ c. search needs) sub-with-two
+    part-with-two-start part-with-two-end sub-with-two-2 part-with-two-start-2 part-with-two-end-2 with-two-requires
+    (λ c. search needs) (λ c. search needs) (λ c. search needs) (λ c. search needs) (λ c. search needs) (λ c. search needs)
+    (λ c. search needs) (λ c. search needs) (λ c. search needs) (λ c. search needs) (λ c. search needs) (λ c. search needs)
+    (λ c. search needs) (λ c. search needs) (λ c. search needs))

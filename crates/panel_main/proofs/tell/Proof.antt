@@ -22,8 +22,4 @@ pub tell-spec : {M : Type 1} → statement M
 tell-spec =
     tie.close
     (tie.spec
-    array-share-prefix-line
-    slice-aggregate-answer
-    slice-aggregate-answer-2
-    (λ c κs. search needs)
-    (λ c. search needs))
+    array-share-prefix-line slice-aggregate-answer slice-aggregate-answer-2 (λ c κs. search needs) (λ c. search needs))

@@ -38,11 +38,5 @@ pub fold-known-spec : {M : Type 1} → statement M
 fold-known-spec =
     tie.close
     (tie.spec
-    slice-aggregate-pin-circuit
-    slice-aggregate-pin-circuit-2
-    pin-circuit-requires
-    slice-aggregate-fold
-    fold-requires
-    same-length
-    same-length-2
-    returns)
+    slice-aggregate-pin-circuit slice-aggregate-pin-circuit-2 pin-circuit-requires slice-aggregate-fold fold-requires same-length
+    same-length-2 returns)

@@ -81,14 +81,4 @@ pub agree-spec : {M : Type 1} → statement M
 agree-spec =
     tie.close
     (tie.spec
-    Inv-loop
-    μ-loop
-    loop-holds
-    pin-of-requires
-    shared-slice-read-agrees
-    agrees-requires
-    returns
-    add-k
-    loop-less
-    loop-again
-    returns-2)
+    Inv-loop μ-loop loop-holds pin-of-requires shared-slice-read-agrees agrees-requires returns add-k loop-less loop-again returns-2)

@@ -79,15 +79,5 @@ pub copy-settled-spec : {M : Type 1} → statement M
 copy-settled-spec =
     tie.close
     (tie.spec
-    Inv-loop
-    μ-loop
-    loop-holds
-    pin-of-requires
-    shared-slice-read-settle
-    settle-requires
-    slice-write-copy
-    add-k
-    loop-less
-    loop-again
-    same-length
-    returns)
+    Inv-loop μ-loop loop-holds pin-of-requires shared-slice-read-settle settle-requires slice-write-copy add-k loop-less loop-again
+    same-length returns)

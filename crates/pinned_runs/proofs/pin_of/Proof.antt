@@ -27,12 +27,6 @@ returns-2 c =
     let r = s .args .rows in
     place-after (pinsIn s) (r .first) (r .inputs) (r .end) (s .args .k) (omega arith)
 
-add-column : tie.Need-add-column
-add-column c = search needs
-
-rem-column : tie.Need-rem-column
-rem-column c = search needs
-
 returns-3 : tie.Need-returns-3
 returns-3 c =
     let s = c .before .before .before .before .before .before .before .before in
@@ -46,9 +40,6 @@ returns-4 c =
     sym (place-in (pinsIn s) (r .first) (r .inputs) (r .end) (s .args .k) (omega arith) (omega arith) (c .before .if3 .left)
     ∙ getD-past (s .args .own .now) (column s) 2 (c .if4 .taken))
 
-shared-slice-read-result : tie.Need-shared-slice-read-result
-shared-slice-read-result c = search needs
-
 returns-5 : tie.Need-returns-5
 returns-5 c =
     let s = c .before .before .before .before .before .before .before .before .before .before in
@@ -60,11 +51,4 @@ pub pin-of-spec : {M : Type 1} → statement M
 pin-of-spec =
     tie.close
     (tie.spec
-    returns
-    returns-2
-    add-column
-    rem-column
-    returns-3
-    returns-4
-    shared-slice-read-result
-    returns-5)
+    returns returns-2 (λ c. search needs) (λ c. search needs) returns-3 returns-4 (λ c. search needs) returns-5)

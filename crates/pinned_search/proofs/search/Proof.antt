@@ -14,12 +14,6 @@ returns c = ForUser.stranger (omega arith)
 test-requires : tie.Need-test-requires
 test-requires c κs = tt
 
-enum-known-layout : tie.Need-enum-known-layout
-enum-known-layout c = search needs
-
-enum-told : tie.Need-enum-told
-enum-told c = search needs
-
 returns-2 : tie.Need-returns-2
 returns-2 c = ForUser.known (omega arith) (Operated.noCircuit (rw (c .enum-told .given .1) at (c .before .before .test .ensures)))
 
@@ -29,9 +23,6 @@ judge-requires c κs =
     let h = rw (l .layout .given .1) at (l .before .before .test .ensures) in
     limited (h .1) (h .0)
 
-enum-known-n : tie.Need-enum-known-n
-enum-known-n c = search needs
-
 returns-3 : tie.Need-returns-3
 returns-3 c =
     let r = c .before .before .before in
@@ -39,9 +30,6 @@ returns-3 c =
     let a = l .before .before .before .before .before .before .before .before .args in
     let h = rw (l .layout .given .1) at (l .before .before .test .ensures) in
     refused-with (a .pins .now) (h .1) (omega arith) (rw (c .before .n .given .1) at (r .judge .ensures _ (counts-of (h .1) (h .0))))
-
-enum-told-2 : tie.Need-enum-told-2
-enum-told-2 c = search needs
 
 search-known-requires : tie.Need-search-known-requires
 search-known-requires c κs =
@@ -77,16 +65,5 @@ pub search-spec : {M : Type 1} → statement M
 search-spec =
     tie.close
     (tie.spec
-    returns
-    test-requires
-    enum-known-layout
-    enum-told
-    returns-2
-    judge-requires
-    enum-known-n
-    returns-3
-    enum-told-2
-    search-known-requires
-    same-length
-    same-length-2
-    returns-4)
+    returns test-requires (λ c. search needs) (λ c. search needs) returns-2 judge-requires (λ c. search needs) returns-3
+    (λ c. search needs) search-known-requires same-length same-length-2 returns-4)

@@ -56,9 +56,6 @@ search-text-requires c κs = let s = c .before .before .before .before .before .
     (length (s .args .work .now)) n)
     (sym (length-replicate {A = ℕ} 66825 0)) (fits-text (s .pre) 66825 (fits-long (s .pre)))
 
-enum-known-t : tie.Need-enum-known-t
-enum-known-t c = search needs
-
 slice-aggregate-expand : tie.Need-slice-aggregate-expand
 slice-aggregate-expand c = sym (c .before .before .before .before .before .before .before .search-text .kept .1 .1 .1 .1 .1 .1 .0
     ∙ length-replicate {A = ℕ} 66825 0)
@@ -85,15 +82,6 @@ expand-requires c κs = let x = rw (c .before .before .before .t .given .1) at
     (c .before .before .before .before .before .before .before .before .search-text .kept .1 .1 .1 .1 .1 .1 .0
     ∙ length-replicate {A = ℕ} 66825 0) (c .before .before .before .before .before .before .before .before .before .before .before
     .rows-at .ensures)
-
-enum-known-n : tie.Need-enum-known-n
-enum-known-n c = search needs
-
-enum-known-t-2 : tie.Need-enum-known-t-2
-enum-known-t-2 c = search needs
-
-enum-known-n-2 : tie.Need-enum-known-n-2
-enum-known-n-2 c = search needs
 
 same-length : tie.Need-same-length
 same-length c = c .before .before .before .before .before .before .before .before .before .before .before .search-text .kept .1 .1 .1 .1
@@ -146,23 +134,6 @@ pub search-known-spec : {M : Type 1} → statement M
 search-known-spec =
     tie.close
     (tie.spec
-    cast-rows-at
-    rows-at-requires
-    slice-aggregate-search-text
-    search-text-requires
-    enum-known-t
-    slice-aggregate-expand
-    cast-expand
-    expand-requires
-    enum-known-n
-    enum-known-t-2
-    enum-known-n-2
-    same-length
-    same-length-2
-    returns
-    same-length-3
-    returns-2
-    same-length-4
-    returns-3
-    same-length-5
-    returns-4)
+    cast-rows-at rows-at-requires slice-aggregate-search-text search-text-requires (λ c. search needs) slice-aggregate-expand
+    cast-expand expand-requires (λ c. search needs) (λ c. search needs) (λ c. search needs) same-length same-length-2 returns
+    same-length-3 returns-2 same-length-4 returns-3 same-length-5 returns-4)

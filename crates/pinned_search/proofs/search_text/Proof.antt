@@ -45,11 +45,5 @@ pub search-text-spec : {M : Type 1} → statement M
 search-text-spec =
     tie.close
     (tie.spec
-    slice-aggregate-pin-circuit
-    slice-aggregate-pin-circuit-2
-    pin-circuit-requires
-    slice-aggregate-search
-    search-requires
-    same-length
-    same-length-2
-    returns)
+    slice-aggregate-pin-circuit slice-aggregate-pin-circuit-2 pin-circuit-requires slice-aggregate-search search-requires same-length
+    same-length-2 returns)

@@ -32,9 +32,6 @@ mul-tie c = omega arith
 shared-slice-read-tie : tie.Need-shared-slice-read-tie Inv-loop μ-loop
 shared-slice-read-tie c = omega arith
 
-tie-requires : tie.Need-tie-requires Inv-loop μ-loop
-tie-requires c κs = search needs
-
 add-words : tie.Need-add-words Inv-loop μ-loop
 add-words c = omega arith
 
@@ -70,18 +67,5 @@ pub copy-tied-spec : {M : Type 1} → statement M
 copy-tied-spec =
     tie.close
     (tie.spec
-    Inv-loop
-    μ-loop
-    loop-holds
-    add-tie
-    mul-tie
-    shared-slice-read-tie
-    tie-requires
-    add-words
-    mul-words
-    slice-write-words
-    add-j
-    loop-less
-    loop-again
-    same-length
-    returns)
+    Inv-loop μ-loop loop-holds add-tie mul-tie shared-slice-read-tie (λ c κs. search needs) add-words mul-words slice-write-words add-j
+    loop-less loop-again same-length returns)

@@ -76,15 +76,5 @@ pub enter-pins-spec : {M : Type 1} → statement M
 enter-pins-spec =
     tie.close
     (tie.spec
-    Inv-loop
-    μ-loop
-    loop-holds
-    sub-i
-    add-variable-at
-    variable-at-requires
-    pin-at-requires
-    slice-write-table
-    loop-less
-    loop-again
-    same-length
-    returns)
+    Inv-loop μ-loop loop-holds sub-i add-variable-at variable-at-requires pin-at-requires slice-write-table loop-less loop-again
+    same-length returns)

@@ -68,16 +68,5 @@ pub keep-inputs-spec : {M : Type 1} → statement M
 keep-inputs-spec =
     tie.close
     (tie.spec
-    Inv-loop
-    μ-loop
-    loop-holds
-    add-keep-one
-    mul-keep-one
-    shared-slice-read-keep-one
-    pin-at-requires
-    keep-one-requires
-    add-i
-    loop-less
-    loop-again
-    same-length
-    returns)
+    Inv-loop μ-loop loop-holds add-keep-one mul-keep-one shared-slice-read-keep-one pin-at-requires keep-one-requires add-i loop-less
+    loop-again same-length returns)

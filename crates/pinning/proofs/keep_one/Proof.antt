@@ -10,21 +10,9 @@ use Rattle.pinning.proofs.keep_one.Lts as lts
 returns : tie.Need-returns
 returns c = (rw (lt-ltb _ 2 (c .if1 .taken)), rw (lt-ltb _ 2 (c .if1 .taken)))
 
-mul-words : tie.Need-mul-words
-mul-words c = search needs
-
-slice-write-words : tie.Need-slice-write-words
-slice-write-words c = search needs
-
-add-result : tie.Need-add-result
-add-result c = search needs
-
-same-length : tie.Need-same-length
-same-length c = search needs
-
 returns-2 : tie.Need-returns-2
 returns-2 c = (rw (le-ltb (c .before .args .pin) 2 (omega arith)), rw (le-ltb (c .before .args .pin) 2 (omega arith)))
 
 pub keep-one-spec : {M : Type 1} → statement M
 keep-one-spec =
-    tie.close (tie.spec returns mul-words slice-write-words add-result same-length returns-2)
+    tie.close (tie.spec returns (λ c. search needs) (λ c. search needs) (λ c. search needs) (λ c. search needs) returns-2)

@@ -9,15 +9,6 @@ use Rattle.pinning.proofs.pin_at.Tie as tie
 use Rattle.pinning.proofs.pin_at.Reads as reads
 use Rattle.pinning.proofs.pin_at.Lts as lts
 
-mul-at : tie.Need-mul-at
-mul-at c = search needs
-
-add-at : tie.Need-add-at
-add-at c = search needs
-
-shared-slice-read-result : tie.Need-shared-slice-read-result
-shared-slice-read-result c = search needs
-
 returns : tie.Need-returns
 returns c =
     let a = c .before .before .args in
@@ -31,4 +22,4 @@ returns-2 c =
     sym (pin-is (a .pins .now) (a .user) (a .i) (omega arith) ∙ getD-past (a .pins .now) at 2 (omega arith))
 
 pub pin-at-spec : {M : Type 1} → statement M
-pin-at-spec = tie.close (tie.spec mul-at add-at shared-slice-read-result returns returns-2)
+pin-at-spec = tie.close (tie.spec (λ c. search needs) (λ c. search needs) (λ c. search needs) returns returns-2)

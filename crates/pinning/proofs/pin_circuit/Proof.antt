@@ -12,9 +12,6 @@ use Rattle.pinning.proofs.enter_pins.Reads as enter-pins-reads
 use Rattle.pinning.proofs.keep_inputs.Reads as keep-inputs-reads
 use Rattle.pinning.proofs.store_heads.Reads as store-heads-reads
 
-sub-n : tie.Need-sub-n
-sub-n c = search needs
-
 enter-pins-requires : tie.Need-enter-pins-requires
 enter-pins-requires c κs =
     let f = c .before .before .before .before .before .before .pre in
@@ -26,9 +23,6 @@ keep-inputs-requires c κs =
     let f = c .before .before .before .before .before .before .before .before .before .before .pre in
     let n = fits-inputs f in
     (f .user-of, n .0, n .1, n .2)
-
-sub-store-heads : tie.Need-sub-store-heads
-sub-store-heads c = search needs
 
 store-heads-requires : tie.Need-store-heads-requires
 store-heads-requires c κs =
@@ -46,12 +40,6 @@ copy-tied-requires c κs =
     let t = fits-tail (s .pre) (k .keep-inputs .result) h in
     (t .0, omega (arith, t .1, k .keep-inputs .kept))
 
-same-length : tie.Need-same-length
-same-length c = search needs
-
-same-length-2 : tie.Need-same-length-2
-same-length-2 c = search needs
-
 returns : tie.Need-returns
 returns c =
     let s = c .before .before .before .before .before .before .before .before .before .before .before .before .before .before .before .before .before .before .before .before .before .before in
@@ -67,12 +55,5 @@ pub pin-circuit-spec : {M : Type 1} → statement M
 pin-circuit-spec =
     tie.close
     (tie.spec
-    sub-n
-    enter-pins-requires
-    keep-inputs-requires
-    sub-store-heads
-    store-heads-requires
-    copy-tied-requires
-    same-length
-    same-length-2
-    returns)
+    (λ c. search needs) enter-pins-requires keep-inputs-requires (λ c. search needs) store-heads-requires copy-tied-requires
+    (λ c. search needs) (λ c. search needs) returns)

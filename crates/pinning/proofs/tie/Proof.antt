@@ -10,22 +10,10 @@ use Rattle.pinning.proofs.tie.Tie as tie
 use Rattle.pinning.proofs.tie.Reads as reads
 use Rattle.pinning.proofs.tie.Lts as lts
 
-cast-v : tie.Need-cast-v
-cast-v c = search needs
-
 returns : tie.Need-returns
 returns c =
     let a = c .before .args in
     sym (constant-free (getD (a .table .now) (a .l / 2) 2) (a .l) (omega (arith, getD-past (a .table .now) (a .l / 2) 2 (omega arith))))
-
-shared-slice-read-p : tie.Need-shared-slice-read-p
-shared-slice-read-p c = search needs
-
-cast-result : tie.Need-cast-result
-cast-result c = search needs
-
-add-result : tie.Need-add-result
-add-result c = search needs
 
 returns-2 : tie.Need-returns-2
 returns-2 c =
@@ -42,4 +30,4 @@ returns-3 c =
 pub tie-spec : {M : Type 1} → statement M
 tie-spec =
     tie.close
-    (tie.spec cast-v returns shared-slice-read-p cast-result add-result returns-2 returns-3)
+    (tie.spec (λ c. search needs) returns (λ c. search needs) (λ c. search needs) (λ c. search needs) returns-2 returns-3)

@@ -6,17 +6,8 @@ use Rattle.pinning.proofs.variable_at.Tie as tie
 use Rattle.pinning.proofs.variable_at.Reads as reads
 use Rattle.pinning.proofs.variable_at.Lts as lts
 
-mul-result : tie.Need-mul-result
-mul-result c = search needs
-
-shared-slice-read-result : tie.Need-shared-slice-read-result
-shared-slice-read-result c = search needs
-
 cast-result : tie.Need-cast-result
 cast-result c = omega (arith, c .shared-slice-known .given (c .before .args .at))
 
-returns : tie.Need-returns
-returns c = search needs
-
 pub variable-at-spec : {M : Type 1} → statement M
-variable-at-spec = tie.close (tie.spec mul-result shared-slice-read-result cast-result returns)
+variable-at-spec = tie.close (tie.spec (λ c. search needs) (λ c. search needs) cast-result (λ c. search needs))

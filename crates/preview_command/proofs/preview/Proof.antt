@@ -9,22 +9,10 @@ use Rattle.preview_command.proofs.preview.Tie as tie
 abbrev start : tie.After-preview → tie.Start
 start w = w .before .before .before .before .before
 
-preview-requires : tie.Need-preview-requires
-preview-requires c κs = search needs
-
-write-answer-requires : tie.Need-write-answer-requires
-write-answer-requires c κs = search needs
-
 write-needed-requires : tie.Need-write-needed-requires
 write-needed-requires c κs =
     let w = c .before .before .before .before .before in
     (start w .pre .1, omega (arith, w .preview .ensures .needed, words-few (start w .args .file .now)))
-
-same-length : tie.Need-same-length
-same-length c = search needs
-
-same-length-2 : tie.Need-same-length-2
-same-length-2 c = search needs
 
 returns : tie.Need-returns
 returns c =
@@ -35,9 +23,4 @@ pub preview-spec : {M : Type 1} → statement M
 preview-spec =
     tie.close
     (tie.spec
-    preview-requires
-    write-answer-requires
-    write-needed-requires
-    same-length
-    same-length-2
-    returns)
+    (λ c κs. search needs) (λ c κs. search needs) write-needed-requires (λ c. search needs) (λ c. search needs) returns)

@@ -15,22 +15,10 @@ start w = w .before .before .before .before
 word : (w : tie.After-put) → Fronted (start w .args .line .now) 6 (bytes "loads ") (w .put .result) (w .put .last .0)
 word w = front-first (omega (arith, start w .pre)) (w .put .ensures)
 
-slice-aggregate-put : tie.Need-slice-aggregate-put
-slice-aggregate-put c = search needs
-
-put-requires : tie.Need-put-requires
-put-requires c κs = search needs
-
-slice-aggregate-put-row : tie.Need-slice-aggregate-put-row
-slice-aggregate-put-row c = search needs
-
 put-row-requires : tie.Need-put-row-requires
 put-row-requires c κs =
     let w = c .before .before .before .before in
     (omega arith, row-room _ (w .put .last .0) (w .put .result) (front-room (word w) 77 (omega (arith, start w .pre))))
-
-same-length : tie.Need-same-length
-same-length c = search needs
 
 returns : tie.Need-returns
 returns c =
@@ -43,9 +31,4 @@ pub write-counts-spec : {M : Type 1} → statement M
 write-counts-spec =
     tie.close
     (tie.spec
-    slice-aggregate-put
-    put-requires
-    slice-aggregate-put-row
-    put-row-requires
-    same-length
-    returns)
+    (λ c. search needs) (λ c κs. search needs) (λ c. search needs) put-row-requires (λ c. search needs) returns)

@@ -8,18 +8,6 @@ use Rattle.preview_command.proofs.write_needed.Tie as tie
 returns : tie.Need-returns
 returns c = let a = c .before .before .args in words-none (a .needed) (a .out .now) (omega arith)
 
-slice-aggregate-write-line : tie.Need-slice-aggregate-write-line
-slice-aggregate-write-line c = search needs
-
-cast-write-line : tie.Need-cast-write-line
-cast-write-line c = search needs
-
-write-line-requires : tie.Need-write-line-requires
-write-line-requires c κs = search needs
-
-same-length : tie.Need-same-length
-same-length c = search needs
-
 returns-2 : tie.Need-returns-2
 returns-2 c = words-some (c .before .before .before .before .before .before .before .args .needed) (omega arith) (c .before .before .write-line .ensures)
 
@@ -27,9 +15,4 @@ pub write-needed-spec : {M : Type 1} → statement M
 write-needed-spec =
     tie.close
     (tie.spec
-    returns
-    slice-aggregate-write-line
-    cast-write-line
-    write-line-requires
-    same-length
-    returns-2)
+    returns (λ c. search needs) (λ c. search needs) (λ c κs. search needs) (λ c. search needs) returns-2)

@@ -10,33 +10,9 @@ returns : tie.Need-returns
 unfolding G.applied
 returns c = rw (eq-eqb _ _ (c .if1 .taken)) (record { words = refl; state = refl })
 
-mul-violated : tie.Need-mul-violated
-mul-violated c = search needs
-
-sub-violated : tie.Need-sub-violated
-sub-violated c = search needs
-
-add-violated : tie.Need-add-violated
-add-violated c = search needs
-
-violated-requires : tie.Need-violated-requires
-violated-requires c κs = search needs
-
 returns-2 : tie.Need-returns-2
 unfolding G.applied
 returns-2 c = rw (ne-eqb _ _ (c .before .before .if1 .left), le-leb _ _ (c .before .if2 .taken)) (record { words = refl; state = c .violated .ensures })
-
-implied-requires : tie.Need-implied-requires
-implied-requires c κs = search needs
-
-reason-requires : tie.Need-reason-requires
-reason-requires c κs = search needs
-
-assign-requires : tie.Need-assign-requires
-assign-requires c κs = search needs
-
-same-length : tie.Need-same-length
-same-length c = search needs
 
 returns-3 : tie.Need-returns-3
 unfolding G.applied
@@ -46,14 +22,5 @@ pub apply-spec : {M : Type 1} → statement M
 apply-spec =
     tie.close
     (tie.spec
-    returns
-    mul-violated
-    sub-violated
-    add-violated
-    violated-requires
-    returns-2
-    implied-requires
-    reason-requires
-    assign-requires
-    same-length
-    returns-3)
+    returns (λ c. search needs) (λ c. search needs) (λ c. search needs) (λ c κs. search needs) returns-2 (λ c κs. search needs)
+    (λ c κs. search needs) (λ c κs. search needs) (λ c. search needs) returns-3)

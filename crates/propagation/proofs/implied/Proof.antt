@@ -5,25 +5,13 @@ use borrow.Author.Needs.{needs}
 use Rattle.propagation.proofs.implied.Statement.{statement}
 use Rattle.propagation.proofs.implied.Tie as tie
 
-field-requires : tie.Need-field-requires
-field-requires c κs = search needs
-
 returns : tie.Need-returns
 unfolding G.implied
 returns c = rw (eq-eqb _ _ (c .before .if1 .taken)) (c .field .ensures)
 
-field-requires-2 : tie.Need-field-requires-2
-field-requires-2 c κs = search needs
-
 returns-2 : tie.Need-returns-2
 unfolding G.implied
 returns-2 c = rw (ne-eqb _ _ (c .before .before .if1 .left), eq-eqb _ _ (c .before .if2 .taken)) (c .field2 .ensures)
-
-field-requires-3 : tie.Need-field-requires-3
-field-requires-3 c κs = search needs
-
-opposite-requires : tie.Need-opposite-requires
-opposite-requires c κs = search needs
 
 returns-3 : tie.Need-returns-3
 unfolding G.implied
@@ -35,12 +23,6 @@ returns-3 c =
       ← c .before .field3 .ensures,
     ) (c .opposite .ensures)
 
-field-requires-4 : tie.Need-field-requires-4
-field-requires-4 c κs = search needs
-
-opposite-requires-2 : tie.Need-opposite-requires-2
-opposite-requires-2 c κs = search needs
-
 returns-4 : tie.Need-returns-4
 unfolding G.implied
 returns-4 c =
@@ -51,15 +33,6 @@ returns-4 c =
       eq-eqb _ _ (c .before .before .if4 .taken),
       ← c .before .field4 .ensures,
     ) (c .opposite2 .ensures)
-
-mul-result : tie.Need-mul-result
-mul-result c = search needs
-
-mul-result-2 : tie.Need-mul-result-2
-mul-result-2 c = search needs
-
-add-result : tie.Need-add-result
-add-result c = search needs
 
 returns-5 : tie.Need-returns-5
 unfolding G.implied
@@ -87,18 +60,6 @@ pub implied-spec : {M : Type 1} → statement M
 implied-spec =
     tie.close
     (tie.spec
-    field-requires
-    returns
-    field-requires-2
-    returns-2
-    field-requires-3
-    opposite-requires
-    returns-3
-    field-requires-4
-    opposite-requires-2
-    returns-4
-    mul-result
-    mul-result-2
-    add-result
-    returns-5
+    (λ c κs. search needs) returns (λ c κs. search needs) returns-2 (λ c κs. search needs) (λ c κs. search needs) returns-3
+    (λ c κs. search needs) (λ c κs. search needs) returns-4 (λ c. search needs) (λ c. search needs) (λ c. search needs) returns-5
     returns-6)

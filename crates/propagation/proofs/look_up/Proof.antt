@@ -41,12 +41,6 @@ returns-2 c =
     let all = sym (up-stop (l .work) (s .net) (l .t) (l .at) (l .left) (c .before .before .if1 .left) (c .if2 .taken)) ∙ l .inv .1 in
     record { words = ap (λ (k : Stood). k .words) all; state = ap (λ (k : Stood). k .state) all }
 
-next-fan-requires : tie.Need-next-fan-requires Inv-loop μ-loop
-next-fan-requires c κs = search needs
-
-look-requires : tie.Need-look-requires Inv-loop μ-loop
-look-requires c κs = search needs
-
 sub-left : tie.Need-sub-left Inv-loop μ-loop
 sub-left c = omega arith
 
@@ -76,17 +70,5 @@ pub look-up-spec : {M : Type 1} → statement M
 look-up-spec =
     tie.close
     (tie.spec
-    Inv-loop
-    μ-loop
-    loop-holds
-    same-length
-    returns
-    same-length-2
-    returns-2
-    next-fan-requires
-    look-requires
-    sub-left
-    loop-less
-    loop-again
-    same-length-3
-    returns-3)
+    Inv-loop μ-loop loop-holds same-length returns same-length-2 returns-2 (λ c κs. search needs) (λ c κs. search needs) sub-left
+    loop-less loop-again same-length-3 returns-3)

@@ -5,12 +5,6 @@ use borrow.Author.Needs.{needs}
 use Rattle.propagation.proofs.next_fan.Statement.{statement}
 use Rattle.propagation.proofs.next_fan.Tie as tie
 
-field-requires : tie.Need-field-requires
-field-requires c κs = search needs
-
-field-requires-2 : tie.Need-field-requires-2
-field-requires-2 c κs = search needs
-
 returns : tie.Need-returns
 unfolding G.nextFan
 returns c = rw (eq-eqb _ _ (c .before .if1 .taken)) (c .field .ensures)
@@ -20,4 +14,4 @@ unfolding G.nextFan
 returns-2 c = rw (ne-eqb _ _ (c .before .if1 .left)) (c .field2 .ensures)
 
 pub next-fan-spec : {M : Type 1} → statement M
-next-fan-spec = tie.close (tie.spec field-requires field-requires-2 returns returns-2)
+next-fan-spec = tie.close (tie.spec (λ c κs. search needs) (λ c κs. search needs) returns returns-2)

@@ -5,15 +5,9 @@ use borrow.Author.Needs.{needs}
 use Rattle.propagation.proofs.rule.Statement.{statement}
 use Rattle.propagation.proofs.rule.Tie as tie
 
-rule-true-requires : tie.Need-rule-true-requires
-rule-true-requires c κs = search needs
-
 returns : tie.Need-returns
 unfolding G.rule
 returns c = rw (eq-eqb _ _ (c .before .if1 .taken)) (c .rule-true .ensures)
-
-rule-false-requires : tie.Need-rule-false-requires
-rule-false-requires c κs = search needs
 
 returns-2 : tie.Need-returns-2
 unfolding G.rule
@@ -72,12 +66,4 @@ pub rule-spec : {M : Type 1} → statement M
 rule-spec =
     tie.close
     (tie.spec
-    rule-true-requires
-    returns
-    rule-false-requires
-    returns-2
-    returns-3
-    returns-4
-    returns-5
-    returns-6
-    returns-7)
+    (λ c κs. search needs) returns (λ c κs. search needs) returns-2 returns-3 returns-4 returns-5 returns-6 returns-7)

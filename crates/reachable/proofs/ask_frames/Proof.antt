@@ -244,9 +244,6 @@ ask-layer-requires c κs =
       ),
     )
 
-enum-known-e : tie.Need-enum-known-e Inv-loop μ-loop
-enum-known-e c = search needs
-
 same-length-3 : tie.Need-same-length-3 Inv-loop μ-loop
 same-length-3 c = c .before .before .before .before .before .before .before .before .before .ask-layer .kept .1 .1 .1 .0
     ∙ c .before .before .before .before .before .before .before .before .before .before .before .before .before .before .before .loop .inv
@@ -331,9 +328,6 @@ returns-2 c =
     (quota-small C 0 (c .before .before .before .before .before .before .before .before .before .before .before .before .before
     .before .before .before .before .before .before .before .before .before .before .before .before .before .before .before .before
     .before .before .before .pre .1 .0 .2) .0) (c .before .e .given .1)
-
-enum-known-met : tie.Need-enum-known-met Inv-loop μ-loop
-enum-known-met c = search needs
 
 add-t35 : tie.Need-add-t35 Inv-loop μ-loop
 add-t35 c = omega (
@@ -642,35 +636,7 @@ pub ask-frames-spec : {M : Type 1} → statement M
 ask-frames-spec =
     tie.close
     (tie.spec
-    Inv-loop
-    μ-loop
-    quota-requires
-    meet-starts-requires
-    same-length
-    same-length-2
-    returns
-    loop-holds
-    quota-requires-2
-    ask-layer-requires
-    enum-known-e
-    same-length-3
-    same-length-4
-    same-length-5
-    returns-2
-    enum-known-met
-    add-t35
-    same-length-6
-    same-length-7
-    same-length-8
-    returns-3
-    same-length-9
-    same-length-10
-    same-length-11
-    returns-4
-    add-t
-    loop-less
-    loop-again
-    same-length-12
-    same-length-13
-    same-length-14
-    returns-5)
+    Inv-loop μ-loop quota-requires meet-starts-requires same-length same-length-2 returns loop-holds quota-requires-2
+    ask-layer-requires (λ c. search needs) same-length-3 same-length-4 same-length-5 returns-2 (λ c. search needs) add-t35
+    same-length-6 same-length-7 same-length-8 returns-3 same-length-9 same-length-10 same-length-11 returns-4 add-t loop-less
+    loop-again same-length-12 same-length-13 same-length-14 returns-5)

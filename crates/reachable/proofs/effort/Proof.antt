@@ -85,12 +85,4 @@ pub effort-spec : {M : Type 1} → statement M
 effort-spec =
     tie.close
     (tie.spec
-    blocks-requires
-    power-requires
-    add-result
-    add-result-2
-    mul-result
-    add-result-3
-    mul-result-2
-    add-result-4
-    returns)
+    blocks-requires power-requires add-result add-result-2 mul-result add-result-3 mul-result-2 add-result-4 returns)

@@ -8,12 +8,6 @@ use borrow.Author.Needs.{needs}
 use Rattle.reachable.proofs.find_first.Statement.{statement}
 use Rattle.reachable.proofs.find_first.Tie as tie
 
-slice-aggregate-ask-frames : tie.Need-slice-aggregate-ask-frames
-slice-aggregate-ask-frames c = search needs
-
-slice-aggregate-ask-frames-2 : tie.Need-slice-aggregate-ask-frames-2
-slice-aggregate-ask-frames-2 c = search needs
-
 ask-frames-requires : tie.Need-ask-frames-requires
 ask-frames-requires c κs = (
   c .before .before .before .before .before .before .before .pre .0,
@@ -43,8 +37,4 @@ pub find-first-spec : {M : Type 1} → statement M
 find-first-spec =
     tie.close
     (tie.spec
-    slice-aggregate-ask-frames
-    slice-aggregate-ask-frames-2
-    ask-frames-requires
-    same-length
-    returns)
+    (λ c. search needs) (λ c. search needs) ask-frames-requires same-length returns)

@@ -13,9 +13,6 @@ use Rattle.reachable.proofs.meet_starts.Tie as tie
 power-requires : tie.Need-power-requires
 power-requires c κs = c .before .before .before .before .pre .1 .1 .0
 
-slice-aggregate-meet-starts : tie.Need-slice-aggregate-meet-starts
-slice-aggregate-meet-starts c = search needs
-
 meet-starts-requires : tie.Need-meet-starts-requires
 meet-starts-requires c κs = (
   c .before .before .before .before .before .before .before .before .pre .0,
@@ -53,9 +50,4 @@ pub meet-starts-spec : {M : Type 1} → statement M
 meet-starts-spec =
     tie.close
     (tie.spec
-    power-requires
-    slice-aggregate-meet-starts
-    meet-starts-requires
-    same-length
-    same-length-2
-    returns)
+    power-requires (λ c. search needs) meet-starts-requires same-length same-length-2 returns)

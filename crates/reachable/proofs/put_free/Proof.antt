@@ -12,9 +12,6 @@ use Rattle.reachable.proofs.put_free.Tie as tie
 few : (free width t : ℕ) → t ≤ 255 → free + width * (t + 1) ≤ free + width * 256
 few free width t l = let a : width * (t + 1) ≤ width * 256 = mul-le-mul-left width (omega arith) in omega arith
 
-slice-aggregate-walk : tie.Need-slice-aggregate-walk
-slice-aggregate-walk c = search needs
-
 walk-requires : tie.Need-walk-requires
 walk-requires c κs = (
   (
@@ -35,9 +32,6 @@ walk-requires c κs = (
     c .before .before .before .pre .1 .1,
   ),
 )
-
-slice-aggregate-put-trace : tie.Need-slice-aggregate-put-trace
-slice-aggregate-put-trace c = search needs
 
 add-put-trace : tie.Need-add-put-trace
 add-put-trace c = omega (arith, c .before .before .before .before .before .before .pre .0 .0)
@@ -90,12 +84,5 @@ pub put-free-spec : {M : Type 1} → statement M
 put-free-spec =
     tie.close
     (tie.spec
-    slice-aggregate-walk
-    walk-requires
-    slice-aggregate-put-trace
-    add-put-trace
-    mul-put-trace
-    add-put-trace-2
-    put-trace-requires
-    same-length
+    (λ c. search needs) walk-requires (λ c. search needs) add-put-trace mul-put-trace add-put-trace-2 put-trace-requires same-length
     returns)

@@ -127,14 +127,4 @@ pub quota-spec : {M : Type 1} → statement M
 quota-spec =
     tie.close
     (tie.spec
-    returns
-    returns-2
-    returns-3
-    size-requires
-    effort-requires
-    mul-most
-    mul-affordable
-    add-affordable
-    div-affordable
-    returns-4
-    returns-5)
+    returns returns-2 returns-3 size-requires effort-requires mul-most mul-affordable add-affordable div-affordable returns-4 returns-5)

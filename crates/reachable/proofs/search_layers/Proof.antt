@@ -13,9 +13,6 @@ use borrow.Author.Needs.{needs}
 use Rattle.reachable.proofs.search_layers.Statement.{statement}
 use Rattle.reachable.proofs.search_layers.Tie as tie
 
-slice-aggregate-kept-latches : tie.Need-slice-aggregate-kept-latches
-slice-aggregate-kept-latches c = search needs
-
 kept-latches-requires : tie.Need-kept-latches-requires
 kept-latches-requires c κs = (c .before .before .before .before .pre .0, (c .before .before .before .before .pre .1 .0 .0, omega arith))
 
@@ -72,10 +69,5 @@ pub search-layers-spec : {M : Type 1} → statement M
 search-layers-spec =
     tie.close
     (tie.spec
-    slice-aggregate-kept-latches
-    kept-latches-requires
-    array-share-prefix-table
-    slice-aggregate-search-part
-    search-part-requires
-    same-length
+    (λ c. search needs) kept-latches-requires array-share-prefix-table slice-aggregate-search-part search-part-requires same-length
     returns)

@@ -36,9 +36,6 @@ find-first-requires c κs = (
   ),
 )
 
-enum-known-t : tie.Need-enum-known-t
-enum-known-t c = search needs
-
 put-free-requires : tie.Need-put-free-requires
 put-free-requires c κs =
     let C = partIn (c .before .before .before .before .before .before .before .before .before .before .before .before .before .before
@@ -84,12 +81,6 @@ put-free-requires c κs =
           .i) (c .before .before .before .before .before .before .before .before .before .before .before .before .before .before .args
           .layout .u) (inputs-are (R .held) (R .layout-of)) (R .layout-of .u-is),
     )
-
-enum-told : tie.Need-enum-told
-enum-told c = search needs
-
-enum-known-t-2 : tie.Need-enum-known-t-2
-enum-known-t-2 c = search needs
 
 same-length : tie.Need-same-length
 same-length c = c .before .before .put-free .kept .1 .1 .1 .1 .1 .0
@@ -147,16 +138,5 @@ pub search-part-spec : {M : Type 1} → statement M
 search-part-spec =
     tie.close
     (tie.spec
-    quota-requires
-    returns
-    find-first-requires
-    enum-known-t
-    put-free-requires
-    enum-told
-    enum-known-t-2
-    same-length
-    returns-2
-    same-length-2
-    returns-3
-    same-length-3
-    returns-4)
+    quota-requires returns find-first-requires (λ c. search needs) put-free-requires (λ c. search needs) (λ c. search needs)
+    same-length returns-2 same-length-2 returns-3 same-length-3 returns-4)

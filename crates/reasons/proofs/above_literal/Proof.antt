@@ -5,18 +5,9 @@ use borrow.Author.Needs.{needs}
 use Rattle.reasons.proofs.above_literal.Statement.{statement}
 use Rattle.reasons.proofs.above_literal.Tie as tie
 
-mul-result : tie.Need-mul-result
-mul-result c = search needs
-
 returns : tie.Need-returns
 unfolding R.aboveLiteral
 returns c = rw (eq-eqb _ _ (c .if1 .taken))
-
-field-requires : tie.Need-field-requires
-field-requires c κs = search needs
-
-opposite-requires : tie.Need-opposite-requires
-opposite-requires c κs = search needs
 
 returns-2 : tie.Need-returns-2
 unfolding R.aboveLiteral
@@ -26,12 +17,6 @@ returns-2 c =
       eq-eqb _ _ (c .before .before .if2 .taken),
       ← c .before .field .ensures,
     ) (c .opposite .ensures)
-
-field-requires-2 : tie.Need-field-requires-2
-field-requires-2 c κs = search needs
-
-opposite-requires-2 : tie.Need-opposite-requires-2
-opposite-requires-2 c κs = search needs
 
 returns-3 : tie.Need-returns-3
 unfolding R.aboveLiteral
@@ -46,11 +31,5 @@ pub above-literal-spec : {M : Type 1} → statement M
 above-literal-spec =
     tie.close
     (tie.spec
-    mul-result
-    returns
-    field-requires
-    opposite-requires
-    returns-2
-    field-requires-2
-    opposite-requires-2
+    (λ c. search needs) returns (λ c κs. search needs) (λ c κs. search needs) returns-2 (λ c κs. search needs) (λ c κs. search needs)
     returns-3)

@@ -5,22 +5,13 @@ use borrow.Author.Needs.{needs}
 use Rattle.reasons.proofs.below_literal.Statement.{statement}
 use Rattle.reasons.proofs.below_literal.Tie as tie
 
-mul-result : tie.Need-mul-result
-mul-result c = search needs
-
-add-result : tie.Need-add-result
-add-result c = search needs
-
 returns : tie.Need-returns
 unfolding R.belowLiteral
 returns c = rw (eq-eqb _ _ (c .if1 .taken))
-
-field-requires : tie.Need-field-requires
-field-requires c κs = search needs
 
 returns-2 : tie.Need-returns-2
 unfolding R.belowLiteral
 returns-2 c = rw (ne-eqb _ _ (c .before .if1 .left)) (c .field .ensures)
 
 pub below-literal-spec : {M : Type 1} → statement M
-below-literal-spec = tie.close (tie.spec mul-result add-result returns field-requires returns-2)
+below-literal-spec = tie.close (tie.spec (λ c. search needs) (λ c. search needs) returns (λ c κs. search needs) returns-2)

@@ -5,9 +5,6 @@ use borrow.Author.Needs.{needs}
 use Rattle.reasons.proofs.length_of.Statement.{statement}
 use Rattle.reasons.proofs.length_of.Tie as tie
 
-head-requires : tie.Need-head-requires
-head-requires c κs = search needs
-
 returns : tie.Need-returns
 unfolding R.lengthOf
 returns c = rw (eq-eqb _ _ (c .before .if1 .taken), ← c .head .ensures)
@@ -21,4 +18,4 @@ unfolding R.lengthOf
 returns-3 c = rw (ne-eqb _ _ (c .before .if1 .left), ne-eqb _ _ (c .if2 .left))
 
 pub length-of-spec : {M : Type 1} → statement M
-length-of-spec = tie.close (tie.spec head-requires returns returns-2 returns-3)
+length-of-spec = tie.close (tie.spec (λ c κs. search needs) returns returns-2 returns-3)

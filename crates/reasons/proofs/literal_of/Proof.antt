@@ -5,25 +5,13 @@ use borrow.Author.Needs.{needs}
 use Rattle.reasons.proofs.literal_of.Statement.{statement}
 use Rattle.reasons.proofs.literal_of.Tie as tie
 
-kept-literal-requires : tie.Need-kept-literal-requires
-kept-literal-requires c κs = search needs
-
 returns : tie.Need-returns
 unfolding R.literalOf
 returns c = rw (eq-eqb _ _ (c .before .if1 .taken)) (c .kept-literal .ensures)
 
-above-literal-requires : tie.Need-above-literal-requires
-above-literal-requires c κs = search needs
-
 returns-2 : tie.Need-returns-2
 unfolding R.literalOf
 returns-2 c = rw (ne-eqb _ _ (c .before .before .if1 .left), eq-eqb _ _ (c .before .if2 .taken)) (c .above-literal .ensures)
-
-cast-below-literal : tie.Need-cast-below-literal
-cast-below-literal c = search needs
-
-below-literal-requires : tie.Need-below-literal-requires
-below-literal-requires c κs = search needs
 
 returns-3 : tie.Need-returns-3
 unfolding R.literalOf
@@ -33,10 +21,4 @@ pub literal-of-spec : {M : Type 1} → statement M
 literal-of-spec =
     tie.close
     (tie.spec
-    kept-literal-requires
-    returns
-    above-literal-requires
-    returns-2
-    cast-below-literal
-    below-literal-requires
-    returns-3)
+    (λ c κs. search needs) returns (λ c κs. search needs) returns-2 (λ c. search needs) (λ c κs. search needs) returns-3)

@@ -14,30 +14,6 @@ use Rattle.records.proofs.move_nodes.Reads as move-nodes-reads
 use Rattle.records.proofs.move_to.Reads as move-to-reads
 use Rattle.records.proofs.set_gates.Reads as set-gates-reads
 
-set-gates-requires : tie.Need-set-gates-requires
-set-gates-requires c κs = search needs
-
-move-to-requires : tie.Need-move-to-requires
-move-to-requires c κs = search needs
-
-move-nodes-requires : tie.Need-move-nodes-requires
-move-nodes-requires c κs = search needs
-
-place-requires : tie.Need-place-requires
-place-requires c κs = search needs
-
-sub-clear : tie.Need-sub-clear
-sub-clear c = search needs
-
-clear-requires : tie.Need-clear-requires
-clear-requires c κs = search needs
-
-link-gates-requires : tie.Need-link-gates-requires
-link-gates-requires c κs = search needs
-
-same-length : tie.Need-same-length
-same-length c = search needs
-
 returns : tie.Need-returns
 returns c =
     let s = c .before .before .before .before .before .before .before .before .before .before .before .before .before .before .before .before .before .before .before .before .before .before .args in
@@ -53,12 +29,5 @@ pub arrange-spec : {M : Type 1} → statement M
 arrange-spec =
     tie.close
     (tie.spec
-    set-gates-requires
-    move-to-requires
-    move-nodes-requires
-    place-requires
-    sub-clear
-    clear-requires
-    link-gates-requires
-    same-length
-    returns)
+    (λ c κs. search needs) (λ c κs. search needs) (λ c κs. search needs) (λ c κs. search needs) (λ c. search needs)
+    (λ c κs. search needs) (λ c κs. search needs) (λ c. search needs) returns)

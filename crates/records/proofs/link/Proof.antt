@@ -9,33 +9,6 @@ use Rattle.memory.proofs.field.Reads as field-reads
 use Rattle.memory.proofs.set_field.Reads as set-field-reads
 use Rattle.records.proofs.edge_to.Reads as edge-to-reads
 
-field-requires : tie.Need-field-requires
-field-requires c κs = search needs
-
-field-requires-2 : tie.Need-field-requires-2
-field-requires-2 c κs = search needs
-
-add-set-field : tie.Need-add-set-field
-add-set-field c = search needs
-
-set-field-requires : tie.Need-set-field-requires
-set-field-requires c κs = search needs
-
-edge-to-requires : tie.Need-edge-to-requires
-edge-to-requires c κs = search needs
-
-mul-set-field : tie.Need-mul-set-field
-mul-set-field c = search needs
-
-add-set-field-2 : tie.Need-add-set-field-2
-add-set-field-2 c = search needs
-
-set-field-requires-2 : tie.Need-set-field-requires-2
-set-field-requires-2 c κs = search needs
-
-same-length : tie.Need-same-length
-same-length c = search needs
-
 returns : tie.Need-returns
 unfolding S.linkedTo
 returns c =
@@ -50,13 +23,5 @@ pub link-spec : {M : Type 1} → statement M
 link-spec =
     tie.close
     (tie.spec
-    field-requires
-    field-requires-2
-    add-set-field
-    set-field-requires
-    edge-to-requires
-    mul-set-field
-    add-set-field-2
-    set-field-requires-2
-    same-length
-    returns)
+    (λ c κs. search needs) (λ c κs. search needs) (λ c. search needs) (λ c κs. search needs) (λ c κs. search needs) (λ c. search needs)
+    (λ c. search needs) (λ c κs. search needs) (λ c. search needs) returns)

@@ -58,13 +58,4 @@ pub link-gates-spec : {M : Type 1} → statement M
 link-gates-spec =
     tie.close
     (tie.spec
-    Inv-loop
-    μ-loop
-    loop-holds
-    sub-g
-    link-requires
-    link-requires-2
-    loop-less
-    loop-again
-    same-length
-    returns)
+    Inv-loop μ-loop loop-holds sub-g link-requires link-requires-2 loop-less loop-again same-length returns)

@@ -9,21 +9,9 @@ use Rattle.records.proofs.move_node.Lts as lts
 use Rattle.records.proofs.move_to.Reads as move-to-reads
 use Rattle.records.proofs.word.Reads as word-reads
 
-word-requires : tie.Need-word-requires
-word-requires c κs = search needs
-
-same-length : tie.Need-same-length
-same-length c = search needs
-
 returns : tie.Need-returns
 unfolding S.moved
 returns c = rw (← c .before .word .ensures, eq-eqb _ _ (c .if1 .taken))
-
-move-to-requires : tie.Need-move-to-requires
-move-to-requires c κs = search needs
-
-same-length-2 : tie.Need-same-length-2
-same-length-2 c = search needs
 
 returns-2 : tie.Need-returns-2
 unfolding S.moved
@@ -35,4 +23,4 @@ returns-2 c =
 
 pub move-node-spec : {M : Type 1} → statement M
 move-node-spec =
-    tie.close (tie.spec word-requires same-length returns move-to-requires same-length-2 returns-2)
+    tie.close (tie.spec (λ c κs. search needs) (λ c. search needs) returns (λ c κs. search needs) (λ c. search needs) returns-2)

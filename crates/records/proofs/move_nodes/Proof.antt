@@ -50,12 +50,4 @@ pub move-nodes-spec : {M : Type 1} → statement M
 move-nodes-spec =
     tie.close
     (tie.spec
-    Inv-loop
-    μ-loop
-    loop-holds
-    move-node-requires
-    add-k
-    loop-less
-    loop-again
-    same-length
-    returns)
+    Inv-loop μ-loop loop-holds move-node-requires add-k loop-less loop-again same-length returns)

@@ -7,24 +7,6 @@ use Rattle.records.proofs.put_three.Reads as reads
 use Rattle.records.proofs.put_three.Lts as lts
 use Rattle.memory.proofs.put.Reads as put-reads
 
-put-requires : tie.Need-put-requires
-put-requires c κs = search needs
-
-add-put : tie.Need-add-put
-add-put c = search needs
-
-put-requires-2 : tie.Need-put-requires-2
-put-requires-2 c κs = search needs
-
-add-put-2 : tie.Need-add-put-2
-add-put-2 c = search needs
-
-put-requires-3 : tie.Need-put-requires-3
-put-requires-3 c κs = search needs
-
-same-length : tie.Need-same-length
-same-length c = search needs
-
 returns : tie.Need-returns
 unfolding S.three
 returns c =
@@ -36,4 +18,4 @@ returns c =
 pub put-three-spec : {M : Type 1} → statement M
 put-three-spec =
     tie.close
-    (tie.spec put-requires add-put put-requires-2 add-put-2 put-requires-3 same-length returns)
+    (tie.spec (λ c κs. search needs) (λ c. search needs) (λ c κs. search needs) (λ c. search needs) (λ c κs. search needs) (λ c. search needs) returns)

@@ -8,15 +8,9 @@ use Rattle.records.proofs.renumber.Lts as lts
 use Rattle.records.proofs.edge_to.Reads as edge-to-reads
 use Rattle.records.proofs.word.Reads as word-reads
 
-word-requires : tie.Need-word-requires
-word-requires c κs = search needs
-
-edge-to-requires : tie.Need-edge-to-requires
-edge-to-requires c κs = search needs
-
 returns : tie.Need-returns
 unfolding S.renumber
 returns c = rw (← c .before .word .ensures) (c .edge-to .ensures)
 
 pub renumber-spec : {M : Type 1} → statement M
-renumber-spec = tie.close (tie.spec word-requires edge-to-requires returns)
+renumber-spec = tie.close (tie.spec (λ c κs. search needs) (λ c κs. search needs) returns)

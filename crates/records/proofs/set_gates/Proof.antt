@@ -24,9 +24,6 @@ loop-holds c = (refl, omega arith, refl)
 sub-k : tie.Need-sub-k Inv-loop μ-loop
 sub-k c = omega arith
 
-set-gate-requires : tie.Need-set-gate-requires Inv-loop μ-loop
-set-gate-requires c κs = search needs
-
 loop-less : tie.Need-loop-less Inv-loop μ-loop
 loop-less c = omega arith
 
@@ -52,12 +49,4 @@ pub set-gates-spec : {M : Type 1} → statement M
 set-gates-spec =
     tie.close
     (tie.spec
-    Inv-loop
-    μ-loop
-    loop-holds
-    sub-k
-    set-gate-requires
-    loop-less
-    loop-again
-    same-length
-    returns)
+    Inv-loop μ-loop loop-holds sub-k (λ c κs. search needs) loop-less loop-again same-length returns)

@@ -10,24 +10,6 @@ use Rattle.records.proofs.first_fact.Reads as first-fact-reads
 use Rattle.records.proofs.put_three.Reads as put-three-reads
 use Rattle.records.proofs.word.Reads as word-reads
 
-edge-to-requires : tie.Need-edge-to-requires
-edge-to-requires c κs = search needs
-
-word-requires : tie.Need-word-requires
-word-requires c κs = search needs
-
-first-fact-requires : tie.Need-first-fact-requires
-first-fact-requires c κs = search needs
-
-mul-put-three : tie.Need-mul-put-three
-mul-put-three c = search needs
-
-put-three-requires : tie.Need-put-three-requires
-put-three-requires c κs = search needs
-
-same-length : tie.Need-same-length
-same-length c = search needs
-
 returns : tie.Need-returns
 unfolding S.leafSet
 returns c =
@@ -41,10 +23,5 @@ pub set-leaf-spec : {M : Type 1} → statement M
 set-leaf-spec =
     tie.close
     (tie.spec
-    edge-to-requires
-    word-requires
-    first-fact-requires
-    mul-put-three
-    put-three-requires
-    same-length
+    (λ c κs. search needs) (λ c κs. search needs) (λ c κs. search needs) (λ c. search needs) (λ c κs. search needs) (λ c. search needs)
     returns)

@@ -24,9 +24,6 @@ loop-holds c = (refl, omega arith, refl)
 sub-k : tie.Need-sub-k Inv-loop μ-loop
 sub-k c = omega arith
 
-set-leaf-requires : tie.Need-set-leaf-requires Inv-loop μ-loop
-set-leaf-requires c κs = search needs
-
 loop-less : tie.Need-loop-less Inv-loop μ-loop
 loop-less c = omega arith
 
@@ -50,12 +47,4 @@ pub set-leaves-spec : {M : Type 1} → statement M
 set-leaves-spec =
     tie.close
     (tie.spec
-    Inv-loop
-    μ-loop
-    loop-holds
-    sub-k
-    set-leaf-requires
-    loop-less
-    loop-again
-    same-length
-    returns)
+    Inv-loop μ-loop loop-holds sub-k (λ c κs. search needs) loop-less loop-again same-length returns)

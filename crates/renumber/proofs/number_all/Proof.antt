@@ -26,9 +26,6 @@ number-triples-requires-2 c κs =
     gates-ready (S .pre .0) (S .args .p) (S .pre .1 .0) (l .last .1 .1 .1 .1 .0) (omega (arith, i .kept .1 .1 .0, l .kept .1 .1 .1 .1 .0, S .pre .1 .1 .0)) (S .args .gate)
     (S .pre .1 .1 .2)
 
-same-length : tie.Need-same-length
-same-length c = search needs
-
 returns : tie.Need-returns
 returns c =
     let S = c .before .before .before .before .before .before .before .before .before .before .before .before .before .before in
@@ -42,8 +39,4 @@ pub number-all-spec : {M : Type 1} → statement M
 number-all-spec =
     tie.close
     (tie.spec
-    number-inputs-requires
-    number-triples-requires
-    number-triples-requires-2
-    same-length
-    returns)
+    number-inputs-requires number-triples-requires number-triples-requires-2 (λ c. search needs) returns)

@@ -69,19 +69,5 @@ pub number-inputs-spec : {M : Type 1} → statement M
 number-inputs-spec =
     tie.close
     (tie.spec
-    Inv-loop
-    μ-loop
-    loop-holds
-    add-v
-    mul-v
-    shared-slice-read-v
-    cast-v
-    cast-names
-    add-names
-    mul-names
-    slice-write-names
-    add-j
-    loop-less
-    loop-again
-    same-length
-    returns)
+    Inv-loop μ-loop loop-holds add-v mul-v shared-slice-read-v cast-v cast-names add-names mul-names slice-write-names add-j loop-less
+    loop-again same-length returns)

@@ -72,20 +72,5 @@ pub number-triples-spec : {M : Type 1} → statement M
 number-triples-spec =
     tie.close
     (tie.spec
-    Inv-loop
-    μ-loop
-    loop-holds
-    mul-v
-    add-v
-    mul-v-2
-    shared-slice-read-v
-    cast-v
-    cast-names
-    add-names
-    mul-names
-    slice-write-names
-    add-j
-    loop-less
-    loop-again
-    same-length
-    returns)
+    Inv-loop μ-loop loop-holds mul-v add-v mul-v-2 shared-slice-read-v cast-v cast-names add-names mul-names slice-write-names add-j
+    loop-less loop-again same-length returns)

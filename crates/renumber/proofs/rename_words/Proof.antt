@@ -65,18 +65,5 @@ pub rename-words-spec : {M : Type 1} → statement M
 rename-words-spec =
     tie.close
     (tie.spec
-    Inv-loop
-    μ-loop
-    loop-holds
-    add-rename
-    mul-rename
-    shared-slice-read-rename
-    rename-requires
-    add-m
-    mul-m
-    slice-write-m
-    add-j
-    loop-less
-    loop-again
-    same-length
-    returns)
+    Inv-loop μ-loop loop-holds add-rename mul-rename shared-slice-read-rename rename-requires add-m mul-m slice-write-m add-j loop-less
+    loop-again same-length returns)

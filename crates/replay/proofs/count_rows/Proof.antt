@@ -35,12 +35,6 @@ returns c = λ u h.
 read-symbols-requires : tie.Need-read-symbols-requires Inv-loop μ-loop
 read-symbols-requires c κs = tt
 
-enum-known-after : tie.Need-enum-known-after Inv-loop μ-loop
-enum-known-after c = search needs
-
-enum-told : tie.Need-enum-told Inv-loop μ-loop
-enum-told c = search needs
-
 returns-2 : tie.Need-returns-2 Inv-loop μ-loop
 returns-2 c = λ u h.
     let l = c .before .before .before .before .before .before in
@@ -85,18 +79,5 @@ pub count-rows-spec : {M : Type 1} → statement M
 count-rows-spec =
     tie.close
     (tie.spec
-    Inv-loop
-    μ-loop
-    loop-holds
-    is-last-requires
-    returns
-    read-symbols-requires
-    enum-known-after
-    enum-told
-    returns-2
-    add-rows
-    loop-less
-    loop-again
-    is-last-requires-2
-    returns-3
-    returns-4)
+    Inv-loop μ-loop loop-holds is-last-requires returns read-symbols-requires (λ c. search needs) (λ c. search needs) returns-2
+    add-rows loop-less loop-again is-last-requires-2 returns-3 returns-4)

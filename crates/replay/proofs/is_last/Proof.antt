@@ -11,25 +11,13 @@ use Rattle.replay.proofs.is_last.Tie as tie
 returns : tie.Need-returns
 returns c = λ u h. let a = c .before .args in sym (not-end u (a .at) (λ e. omega (arith, h .size)))
 
-sub-if2 : tie.Need-sub-if2
-sub-if2 c = search needs
-
 returns-2 : tie.Need-returns-2
 returns-2 c = λ u h. let a = c .before .before .args in sym (not-end u (a .at) (λ e. c .if2 .taken (omega (arith, h .size))))
-
-shared-slice-read-if3 : tie.Need-shared-slice-read-if3
-shared-slice-read-if3 c = search needs
 
 returns-3 : tie.Need-returns-3
 returns-3 c = λ u h.
     let a = c .before .before .before .before .args in
     sym (not-dot u (a .at) (omega (arith, h .size, c .before .before .if2 .left)) (no-dot h (a .at) (c .if3 .taken)))
-
-add-result : tie.Need-add-result
-add-result c = search needs
-
-shared-slice-read-result : tie.Need-shared-slice-read-result
-shared-slice-read-result c = search needs
 
 returns-4 : tie.Need-returns-4
 returns-4 c = λ u h.
@@ -38,4 +26,4 @@ returns-4 c = λ u h.
     ∙ sym (dot u (a .at) (omega (arith, h .size, c .before .before .before .if2 .left)) (same-dot h (a .at) (c .before .if3 .left)))
 
 pub is-last-spec : {M : Type 1} → statement M
-is-last-spec = tie.close (tie.spec returns sub-if2 returns-2 shared-slice-read-if3 returns-3 add-result shared-slice-read-result returns-4)
+is-last-spec = tie.close (tie.spec returns (λ c. search needs) returns-2 (λ c. search needs) returns-3 (λ c. search needs) (λ c. search needs) returns-4)

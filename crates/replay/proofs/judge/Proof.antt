@@ -14,15 +14,6 @@ use Rattle.replay.proofs.judge.Tie as tie
 abbrev start : tie.After-every-completion → tie.Start
 start k = k .before .before .before .before .before .before .before .before
 
-every-completion-requires : tie.Need-every-completion-requires
-every-completion-requires c κs = search needs
-
-same-length : tie.Need-same-length
-same-length c = search needs
-
-same-length-2 : tie.Need-same-length-2
-same-length-2 c = search needs
-
 returns : tie.Need-returns
 returns c =
     let k = c .before .before .before .before .before in
@@ -37,12 +28,6 @@ every-completion-requires-2 c κs =
       ((S .pre .1 .0 .0, omega (arith, k .every-completion .kept .1 .1 .1 .1 .1 .1 .1 .0, S .pre .1 .0 .1)), S .pre .1 .1),
     )
 
-same-length-3 : tie.Need-same-length-3
-same-length-3 c = search needs
-
-same-length-4 : tie.Need-same-length-4
-same-length-4 c = search needs
-
 returns-2 : tie.Need-returns-2
 returns-2 c =
     let j = c .before .before .before .before .before in
@@ -53,12 +38,6 @@ returns-2 c =
     ap gives
     (verdict-no p (a .body .now) (sym (o .if1 .left) ∙ k .every-completion .ensures)
     (sym (c .if2 .taken) ∙ j .every-completion2 .ensures ∙ sym (none-is p (a .body .now))))
-
-same-length-5 : tie.Need-same-length-5
-same-length-5 c = search needs
-
-same-length-6 : tie.Need-same-length-6
-same-length-6 c = search needs
 
 returns-3 : tie.Need-returns-3
 returns-3 c =
@@ -75,14 +54,5 @@ pub judge-spec : {M : Type 1} → statement M
 judge-spec =
     tie.close
     (tie.spec
-    every-completion-requires
-    same-length
-    same-length-2
-    returns
-    every-completion-requires-2
-    same-length-3
-    same-length-4
-    returns-2
-    same-length-5
-    same-length-6
-    returns-3)
+    (λ c κs. search needs) (λ c. search needs) (λ c. search needs) returns every-completion-requires-2 (λ c. search needs)
+    (λ c. search needs) returns-2 (λ c. search needs) (λ c. search needs) returns-3)

@@ -3,20 +3,11 @@ use borrow.Author.Needs.{needs}
 use Rattle.replay.proofs.judge_alone.Statement.{statement}
 use Rattle.replay.proofs.judge_alone.Tie as tie
 
-slice-aggregate-judge : tie.Need-slice-aggregate-judge
-slice-aggregate-judge c = search needs
-
-slice-aggregate-judge-2 : tie.Need-slice-aggregate-judge-2
-slice-aggregate-judge-2 c = search needs
-
 judge-requires : tie.Need-judge-requires
 judge-requires c κs =
     let S = c .before .before .before .before .before in
     (S .pre .0, ((S .pre .1 .0, search needs), S .pre .1 .1))
 
-returns : tie.Need-returns
-returns c = search needs
-
 pub judge-alone-spec : {M : Type 1} → statement M
 judge-alone-spec =
-    tie.close (tie.spec slice-aggregate-judge slice-aggregate-judge-2 judge-requires returns)
+    tie.close (tie.spec (λ c. search needs) (λ c. search needs) judge-requires (λ c. search needs))

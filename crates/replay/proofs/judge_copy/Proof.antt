@@ -50,12 +50,6 @@ module _ (k : tie.After-copy-settled) where
   part-is : take (length body - 0) (k .copy-settled .last .1 .1 .1 .0) ≡ copied
   part-is = let e : length body - 0 ≡ length body = omega arith in ap (λ (n : ℕ). take n (k .copy-settled .last .1 .1 .1 .0)) e
 
-sub-judge-counted : tie.Need-sub-judge-counted
-sub-judge-counted c = search needs
-
-part-judge-counted-start : tie.Need-part-judge-counted-start
-part-judge-counted-start c = search needs
-
 part-judge-counted-end : tie.Need-part-judge-counted-end
 part-judge-counted-end c = long (c .before .before .before)
 
@@ -72,9 +66,6 @@ judge-counted-requires c κs =
       ),
     )
 
-same-length : tie.Need-same-length
-same-length c = search needs
-
 returns : tie.Need-returns
 returns c =
     let k = c .before .before .before .before .before in
@@ -89,11 +80,5 @@ pub judge-copy-spec : {M : Type 1} → statement M
 judge-copy-spec =
     tie.close
     (tie.spec
-    rows-of-requires
-    copy-settled-requires
-    sub-judge-counted
-    part-judge-counted-start
-    part-judge-counted-end
-    judge-counted-requires
-    same-length
-    returns)
+    rows-of-requires copy-settled-requires (λ c. search needs) (λ c. search needs) part-judge-counted-end judge-counted-requires
+    (λ c. search needs) returns)

@@ -63,12 +63,5 @@ pub judge-under-spec : {M : Type 1} → statement M
 judge-under-spec =
     tie.close
     (tie.spec
-    rows-of-requires
-    agree-requires
-    returns
-    agree-requires-2
-    judge-alone-requires
-    returns-2
-    judge-settled-requires
-    demote-requires
+    rows-of-requires agree-requires returns agree-requires-2 judge-alone-requires returns-2 judge-settled-requires demote-requires
     returns-3)

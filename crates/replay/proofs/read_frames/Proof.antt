@@ -10,15 +10,6 @@ use Rattle.replay.proofs.Answers.{no-start, no-rows, zero-rows, body-re
 use Rattle.replay.proofs.read_frames.Statement.{statement}
 use Rattle.replay.proofs.read_frames.Tie as tie
 
-read-symbols-requires : tie.Need-read-symbols-requires
-read-symbols-requires c κs = search needs
-
-enum-known-rows : tie.Need-enum-known-rows
-enum-known-rows c = search needs
-
-enum-told : tie.Need-enum-told
-enum-told c = search needs
-
 returns : tie.Need-returns
 returns c = λ u h d p q b.
     let a = c .before .before .before .before .args in
@@ -29,12 +20,6 @@ count-rows-requires c κs =
     let body = c .before .before .before .before .before .args .body .now in
     let r = on-read (c .before .before .before .read-symbols .ensures (completion 0 body) (zero-form body)) (c .before .rows .given .1) in
     omega (arith, r .1 .inside, zero-form body .size)
-
-enum-known-frames : tie.Need-enum-known-frames
-enum-known-frames c = search needs
-
-enum-told-2 : tie.Need-enum-told-2
-enum-told-2 c = search needs
 
 returns-2 : tie.Need-returns-2
 returns-2 c = λ u h d p q b.
@@ -68,13 +53,5 @@ pub read-frames-spec : {M : Type 1} → statement M
 read-frames-spec =
     tie.close
     (tie.spec
-    read-symbols-requires
-    enum-known-rows
-    enum-told
-    returns
-    count-rows-requires
-    enum-known-frames
-    enum-told-2
-    returns-2
-    returns-3
-    returns-4)
+    (λ c κs. search needs) (λ c. search needs) (λ c. search needs) returns count-rows-requires (λ c. search needs) (λ c. search needs)
+    returns-2 returns-3 returns-4)

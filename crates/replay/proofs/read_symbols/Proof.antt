@@ -93,22 +93,5 @@ pub read-symbols-spec : {M : Type 1} → statement M
 read-symbols-spec =
     tie.close
     (tie.spec
-    Inv-loop
-    μ-loop
-    returns
-    sub-if2
-    returns-2
-    loop-holds
-    add-is-symbol
-    shared-slice-read-is-symbol
-    is-symbol-requires
-    returns-3
-    add-i
-    loop-less
-    loop-again
-    add-if4
-    shared-slice-read-if4
-    returns-4
-    add-t7
-    add-t5
-    returns-5)
+    Inv-loop μ-loop returns sub-if2 returns-2 loop-holds add-is-symbol shared-slice-read-is-symbol is-symbol-requires returns-3 add-i
+    loop-less loop-again add-if4 shared-slice-read-if4 returns-4 add-t7 add-t5 returns-5)

@@ -46,15 +46,6 @@ module _ (r : tie.After-read-frames) where
       subst (λ (w : List ℕ). (u : List ℕ) → SameForm w u → FramesRead (S h .args .layout .l) (S h .args .layout .i) u (r .read-frames .result))
       (rest-is (text h) (start h)) (r .read-frames .ensures)
 
-read-heading-requires : tie.Need-read-heading-requires
-read-heading-requires c κs = search needs
-
-enum-known-b : tie.Need-enum-known-b
-enum-known-b c = search needs
-
-enum-told : tie.Need-enum-told
-enum-told c = search needs
-
 returns : tie.Need-returns
 returns c = λ d k. no-heading d (c .before .before .before .before .args .text .now) (on-malformed (c .before .before .read-heading .ensures) (c .enum-told .given .1))
 
@@ -69,26 +60,11 @@ sub-body c = headed (c .before .before) .1 .inside
 part-body-start : tie.Need-part-body-start
 part-body-start c = headed (c .before .before) .1 .inside
 
-part-body-end : tie.Need-part-body-end
-part-body-end c = search needs
-
-read-frames-requires : tie.Need-read-frames-requires
-read-frames-requires c κs = search needs
-
-enum-known-frames : tie.Need-enum-known-frames
-enum-known-frames c = search needs
-
-enum-told-2 : tie.Need-enum-told-2
-enum-told-2 c = search needs
-
 returns-3 : tie.Need-returns-3
 returns-3 c = λ d k.
     let r = c .before .before in
     let z = subst (FramesRead (S (h r) .args .layout .l) (S (h r) .args .layout .i) (completion 0 (body r))) (c .enum-told2 .given .1) (frames-read r (completion 0 (body r)) (zero-form (body r))) in
     no-body d (text (h r)) (bad (h r)) (body r) (headed (h r) .0) (z d (k .latches) (k .inputs) (bad (h r)))
-
-count-eithers-requires : tie.Need-count-eithers-requires
-count-eithers-requires c κs = search needs
 
 -- the x are counted: what follows from that
 module _ (n : tie.After-count-eithers) where
@@ -132,18 +108,5 @@ pub read-witness-spec : {M : Type 1} → statement M
 read-witness-spec =
     tie.close
     (tie.spec
-    read-heading-requires
-    enum-known-b
-    enum-told
-    returns
-    returns-2
-    sub-body
-    part-body-start
-    part-body-end
-    read-frames-requires
-    enum-known-frames
-    enum-told-2
-    returns-3
-    count-eithers-requires
-    returns-4
-    returns-5)
+    (λ c κs. search needs) (λ c. search needs) (λ c. search needs) returns returns-2 sub-body part-body-start (λ c. search needs)
+    (λ c κs. search needs) (λ c. search needs) (λ c. search needs) returns-3 (λ c κs. search needs) returns-4 returns-5)

@@ -18,18 +18,6 @@ use Rattle.replay.proofs.Under.{refuses-under, judged-under}
 use Rattle.replay.proofs.replay_under.Statement.{statement}
 use Rattle.replay.proofs.replay_under.Tie as tie
 
-slice-aggregate-held-in : tie.Need-slice-aggregate-held-in
-slice-aggregate-held-in c = search needs
-
-held-in-requires : tie.Need-held-in-requires
-held-in-requires c κs = search needs
-
-enum-known-layout : tie.Need-enum-known-layout
-enum-known-layout c = search needs
-
-enum-told : tie.Need-enum-told
-enum-told c = search needs
-
 returns : tie.Need-returns
 returns c = Operated.noCircuit (rw (c .enum-told .given .1) at (c .before .before .before .held-in .ensures))
 
@@ -53,31 +41,16 @@ module _ (r : tie.After-read-witness) where
   reading : WitnessRead (circuitIn m) text (r .read-witness .result)
   reading = r .read-witness .ensures (circuitIn m) (counts-of (holding .1) (holding .0))
 
-read-witness-requires : tie.Need-read-witness-requires
-read-witness-requires c κs = search needs
-
-enum-known-n : tie.Need-enum-known-n
-enum-known-n c = search needs
-
-enum-known-start : tie.Need-enum-known-start
-enum-known-start c = search needs
-
 -- a witness that was read
 placed : (k : tie.After-start)
     → (let r = k .before .before in Placed (circuitIn (m r)) (text r) (k .start .given .0 .0) (k .start .given .0 .1 .0))
 placed k = let r = k .before .before in subst (WitnessRead (circuitIn (m r)) (text r)) (k .start .given .1) (reading r)
-
-slice-aggregate-judge-under : tie.Need-slice-aggregate-judge-under
-slice-aggregate-judge-under c = search needs
 
 sub-judge-under : tie.Need-sub-judge-under
 sub-judge-under c = placed (c .before .before) .inside
 
 part-judge-under-start : tie.Need-part-judge-under-start
 part-judge-under-start c = placed (c .before .before) .inside
-
-part-judge-under-end : tie.Need-part-judge-under-end
-part-judge-under-end c = search needs
 
 judge-under-requires : tie.Need-judge-under-requires
 judge-under-requires c κs =
@@ -111,18 +84,6 @@ pub replay-under-spec : {M : Type 1} → statement M
 replay-under-spec =
     tie.close
     (tie.spec
-    slice-aggregate-held-in
-    held-in-requires
-    enum-known-layout
-    enum-told
-    returns
-    read-witness-requires
-    enum-known-n
-    enum-known-start
-    slice-aggregate-judge-under
-    sub-judge-under
-    part-judge-under-start
-    part-judge-under-end
-    judge-under-requires
-    returns-2
-    returns-3)
+    (λ c. search needs) (λ c κs. search needs) (λ c. search needs) (λ c. search needs) returns (λ c κs. search needs)
+    (λ c. search needs) (λ c. search needs) (λ c. search needs) sub-judge-under part-judge-under-start (λ c. search needs)
+    judge-under-requires returns-2 returns-3)

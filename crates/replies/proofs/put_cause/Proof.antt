@@ -37,24 +37,6 @@ module _ (w : tie.After-put-arg) where
 returns : tie.Need-returns
 returns c = let a = c .before .before .args in no-words (a .line .now) (a .at) (a .n) (omega (arith, c .if1 .taken))
 
-slice-aggregate-words : tie.Need-slice-aggregate-words
-slice-aggregate-words c = search needs
-
-mul-from : tie.Need-mul-from
-mul-from c = search needs
-
-array-read-from : tie.Need-array-read-from
-array-read-from c = search needs
-
-add-to : tie.Need-add-to
-add-to c = search needs
-
-mul-to : tie.Need-mul-to
-mul-to c = search needs
-
-array-read-to : tie.Need-array-read-to
-array-read-to c = search needs
-
 sub-put : tie.Need-sub-put
 sub-put c = forward c
 
@@ -67,9 +49,6 @@ part-put-end c = omega (arith, inside c)
 put-requires : tie.Need-put-requires
 put-requires c κs = rw (words (c .before)) (omega (arith, cause-short (number (c .before))))
 
-same-length : tie.Need-same-length
-same-length c = search needs
-
 returns-2 : tie.Need-returns-2
 returns-2 c = rw (words (c .before .before .before .before)) at (c .before .before .put .ensures)
 
@@ -77,16 +56,5 @@ pub put-cause-spec : {M : Type 1} → statement M
 put-cause-spec =
     tie.close
     (tie.spec
-    returns
-    slice-aggregate-words
-    mul-from
-    array-read-from
-    add-to
-    mul-to
-    array-read-to
-    sub-put
-    part-put-start
-    part-put-end
-    put-requires
-    same-length
-    returns-2)
+    returns (λ c. search needs) (λ c. search needs) (λ c. search needs) (λ c. search needs) (λ c. search needs) (λ c. search needs)
+    sub-put part-put-start part-put-end put-requires (λ c. search needs) returns-2)

@@ -27,23 +27,14 @@ number w =
     let s = start (one w) in
     front-more (word (one w)) 10 (omega (arith, s .pre)) (digits-most 9 (s .args .n)) (w .put-number .ensures)
 
-put-requires : tie.Need-put-requires
-put-requires c κs = search needs
-
 put-number-requires : tie.Need-put-number-requires
 put-number-requires c κs =
     let w = c .before .before .before in
     let s = start w in
     omega (arith, digits-most 9 (s .args .n), front-room (word w) 10 (omega (arith, s .pre)))
 
-slice-aggregate-put : tie.Need-slice-aggregate-put
-slice-aggregate-put c = search needs
-
 put-requires-2 : tie.Need-put-requires-2
 put-requires-2 c κs = let w = c .before .before .before .before in front-room (number w) 1 (omega (arith, start (one w) .pre))
-
-same-length : tie.Need-same-length
-same-length c = search needs
 
 returns : tie.Need-returns
 returns c =
@@ -55,9 +46,4 @@ pub write-line-spec : {M : Type 1} → statement M
 write-line-spec =
     tie.close
     (tie.spec
-    put-requires
-    put-number-requires
-    slice-aggregate-put
-    put-requires-2
-    same-length
-    returns)
+    (λ c κs. search needs) put-number-requires (λ c. search needs) put-requires-2 (λ c. search needs) returns)

@@ -48,20 +48,11 @@ words w =
     let a = one (two (three w)) .before .before .before .before .args in
     (p .0, front-more (p .1) 80 (omega arith) (cause-short (a .n)) (w .put-cause .ensures))
 
-slice-aggregate-put : tie.Need-slice-aggregate-put
-slice-aggregate-put c = search needs
-
-put-requires : tie.Need-put-requires
-put-requires c κs = search needs
-
 put-number-requires : tie.Need-put-number-requires
 put-number-requires c κs =
     let w = c .before .before .before in
     let p = word w in
     omega (arith, digits-most 9 (w .before .before .before .before .args .n), front-room (p .1) 10 (omega arith))
-
-slice-aggregate-put-2 : tie.Need-slice-aggregate-put-2
-slice-aggregate-put-2 c = search needs
 
 put-requires-2 : tie.Need-put-requires-2
 put-requires-2 c κs = let p = number (c .before .before .before .before) in front-room (p .1) 2 (omega arith)
@@ -69,14 +60,8 @@ put-requires-2 c κs = let p = number (c .before .before .before .before) in fro
 put-cause-requires : tie.Need-put-cause-requires
 put-cause-requires c κs = let p = colon (c .before .before .before) in front-room (p .1) 80 (omega arith)
 
-slice-aggregate-put-3 : tie.Need-slice-aggregate-put-3
-slice-aggregate-put-3 c = search needs
-
 put-requires-3 : tie.Need-put-requires-3
 put-requires-3 c κs = let p = words (c .before .before .before .before) in front-room (p .1) 1 (omega arith)
-
-same-length : tie.Need-same-length
-same-length c = search needs
 
 returns : tie.Need-returns
 unfolding refusalText
@@ -89,13 +74,5 @@ pub write-refusal-spec : {M : Type 1} → statement M
 write-refusal-spec =
     tie.close
     (tie.spec
-    slice-aggregate-put
-    put-requires
-    put-number-requires
-    slice-aggregate-put-2
-    put-requires-2
-    put-cause-requires
-    slice-aggregate-put-3
-    put-requires-3
-    same-length
-    returns)
+    (λ c. search needs) (λ c κs. search needs) put-number-requires (λ c. search needs) put-requires-2 put-cause-requires
+    (λ c. search needs) put-requires-3 (λ c. search needs) returns)

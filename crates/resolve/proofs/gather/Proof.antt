@@ -15,20 +15,11 @@ Inv-loop work₀ net arena r x e₀ left₀ work e left =
 abbrev μ-loop : tie.MeasureT-loop
 μ-loop work₀ net arena r x e₀ left₀ work e left = left
 
-length-of-requires : tie.Need-length-of-requires Inv-loop μ-loop
-length-of-requires c κs = search needs
-
 loop-holds : tie.Need-loop-holds Inv-loop μ-loop
 loop-holds c = (refl, refl)
 
 sub-left : tie.Need-sub-left Inv-loop μ-loop
 sub-left c = omega arith
-
-literal-of-requires : tie.Need-literal-of-requires Inv-loop μ-loop
-literal-of-requires c κs = search needs
-
-join-requires : tie.Need-join-requires Inv-loop μ-loop
-join-requires c κs = search needs
 
 loop-less : tie.Need-loop-less Inv-loop μ-loop
 loop-less c = omega arith
@@ -57,14 +48,5 @@ pub gather-spec : {M : Type 1} → statement M
 gather-spec =
     tie.close
     (tie.spec
-    Inv-loop
-    μ-loop
-    length-of-requires
-    loop-holds
-    sub-left
-    literal-of-requires
-    join-requires
-    loop-less
-    loop-again
-    same-length
-    returns)
+    Inv-loop μ-loop (λ c κs. search needs) loop-holds sub-left (λ c κs. search needs) (λ c κs. search needs) loop-less loop-again
+    same-length returns)

@@ -5,21 +5,9 @@ use borrow.Author.Needs.{needs}
 use Rattle.resolve.proofs.include.Statement.{statement}
 use Rattle.resolve.proofs.include.Tie as tie
 
-is-false-requires : tie.Need-is-false-requires
-is-false-requires c κs = search needs
-
-same-length : tie.Need-same-length
-same-length c = search needs
-
 returns : tie.Need-returns
 unfolding D.included
 returns c = rw (← c .before .is-false .ensures, c .if1 .taken) (record { words = refl; draft = refl })
-
-is-member-requires : tie.Need-is-member-requires
-is-member-requires c κs = search needs
-
-same-length-2 : tie.Need-same-length-2
-same-length-2 c = search needs
 
 returns-2 : tie.Need-returns-2
 unfolding D.included
@@ -30,12 +18,6 @@ returns-2 c =
       c .before .before .before .if1 .left,
       c .if2 .taken,
     ) (record { words = refl; draft = refl })
-
-append-requires : tie.Need-append-requires
-append-requires c κs = search needs
-
-same-length-3 : tie.Need-same-length-3
-same-length-3 c = search needs
 
 returns-3 : tie.Need-returns-3
 unfolding D.included
@@ -51,12 +33,5 @@ pub include-spec : {M : Type 1} → statement M
 include-spec =
     tie.close
     (tie.spec
-    is-false-requires
-    same-length
-    returns
-    is-member-requires
-    same-length-2
-    returns-2
-    append-requires
-    same-length-3
-    returns-3)
+    (λ c κs. search needs) (λ c. search needs) returns (λ c κs. search needs) (λ c. search needs) returns-2 (λ c κs. search needs)
+    (λ c. search needs) returns-3)

@@ -10,15 +10,9 @@ returns : tie.Need-returns
 unfolding D.joined
 returns c = rw (eq-eqb _ _ (c .if1 .taken)) (record { words = refl; draft = refl })
 
-include-requires : tie.Need-include-requires
-include-requires c κs = search needs
-
-same-length : tie.Need-same-length
-same-length c = search needs
-
 returns-2 : tie.Need-returns-2
 unfolding D.joined
 returns-2 c = rw (ne-eqb _ _ (c .before .before .before .before .if1 .left)) (c .before .before .include .ensures)
 
 pub join-spec : {M : Type 1} → statement M
-join-spec = tie.close (tie.spec returns include-requires same-length returns-2)
+join-spec = tie.close (tie.spec returns (λ c κs. search needs) (λ c. search needs) returns-2)

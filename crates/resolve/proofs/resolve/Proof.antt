@@ -5,21 +5,6 @@ use borrow.Author.Needs.{needs}
 use Rattle.resolve.proofs.resolve.Statement.{statement}
 use Rattle.resolve.proofs.resolve.Tie as tie
 
-is-reason-requires : tie.Need-is-reason-requires
-is-reason-requires c κs = search needs
-
-opposite-requires : tie.Need-opposite-requires
-opposite-requires c κs = search needs
-
-exclude-requires : tie.Need-exclude-requires
-exclude-requires c κs = search needs
-
-gather-requires : tie.Need-gather-requires
-gather-requires c κs = search needs
-
-same-length : tie.Need-same-length
-same-length c = search needs
-
 returns : tie.Need-returns
 unfolding D.resolved
 returns c =
@@ -40,10 +25,4 @@ pub resolve-spec : {M : Type 1} → statement M
 resolve-spec =
     tie.close
     (tie.spec
-    is-reason-requires
-    opposite-requires
-    exclude-requires
-    gather-requires
-    same-length
-    returns
-    returns-2)
+    (λ c κs. search needs) (λ c κs. search needs) (λ c κs. search needs) (λ c κs. search needs) (λ c. search needs) returns returns-2)

@@ -8,12 +8,6 @@ use Rattle.resolve.proofs.start.Tie as tie
 is-reason-requires : tie.Need-is-reason-requires
 is-reason-requires c κs = tt
 
-gather-requires : tie.Need-gather-requires
-gather-requires c κs = search needs
-
-same-length : tie.Need-same-length
-same-length c = search needs
-
 returns : tie.Need-returns
 unfolding D.started
 returns c =
@@ -27,4 +21,4 @@ unfolding D.started
 returns-2 c = rw (← c .before .is-reason .ensures, c .if1 .left) (record { words = refl; draft = refl })
 
 pub start-spec : {M : Type 1} → statement M
-start-spec = tie.close (tie.spec is-reason-requires gather-requires same-length returns returns-2)
+start-spec = tie.close (tie.spec is-reason-requires (λ c κs. search needs) (λ c. search needs) returns returns-2)

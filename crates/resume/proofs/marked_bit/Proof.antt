@@ -7,14 +7,8 @@ use Rattle.resume.proofs.marked_bit.Reads as reads
 use Rattle.resume.proofs.marked_bit.Lts as lts
 use Rattle.simulation.proofs.bit_of.Reads as bit-of-reads
 
-returns : tie.Need-returns
-returns c = search needs
-
-bit-of-requires : tie.Need-bit-of-requires
-bit-of-requires c κs = search needs
-
 returns-2 : tie.Need-returns-2
 returns-2 c = rw (is-some (c .before .before .args .mark) (c .before .if1 .left)) (c .bit-of .ensures)
 
 pub marked-bit-spec : {M : Type 1} → statement M
-marked-bit-spec = tie.close (tie.spec returns bit-of-requires returns-2)
+marked-bit-spec = tie.close (tie.spec (λ c. search needs) (λ c κs. search needs) returns-2)

@@ -7,20 +7,8 @@ use Rattle.resume.proofs.next_place.Tie as tie
 use Rattle.resume.proofs.next_place.Reads as reads
 use Rattle.resume.proofs.next_place.Lts as lts
 
-returns : tie.Need-returns
-returns c = search needs
-
 returns-2 : tie.Need-returns-2
 returns-2 c = rw (is-some (c .before .before .args .mark) (c .before .if1 .left)) (omega arith)
-
-mul-result : tie.Need-mul-result
-mul-result c = search needs
-
-mul-result-2 : tie.Need-mul-result-2
-mul-result-2 c = search needs
-
-add-result : tie.Need-add-result
-add-result c = search needs
 
 returns-3 : tie.Need-returns-3
 returns-3 c = rw (is-some (c .before .before .before .args .mark) (c .before .before .if1 .left), is-none (c .before .before .before .args .digit) (c .if3 .taken)) (omega arith)
@@ -30,4 +18,4 @@ returns-4 c = rw (is-some (c .before .before .before .args .mark) (c .before .be
 
 pub next-place-spec : {M : Type 1} → statement M
 next-place-spec =
-    tie.close (tie.spec returns returns-2 mul-result mul-result-2 add-result returns-3 returns-4)
+    tie.close (tie.spec (λ c. search needs) returns-2 (λ c. search needs) (λ c. search needs) (λ c. search needs) returns-3 returns-4)

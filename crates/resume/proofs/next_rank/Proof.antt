@@ -7,9 +7,6 @@ use Rattle.resume.proofs.next_rank.Tie as tie
 use Rattle.resume.proofs.next_rank.Reads as reads
 use Rattle.resume.proofs.next_rank.Lts as lts
 
-add-result : tie.Need-add-result
-add-result c = search needs
-
 returns : tie.Need-returns
 returns c = rw (is-none (c .before .args .mark) (c .if1 .taken)) (omega arith)
 
@@ -17,4 +14,4 @@ returns-2 : tie.Need-returns-2
 returns-2 c = rw (is-some (c .before .args .mark) (c .if1 .left)) (omega arith)
 
 pub next-rank-spec : {M : Type 1} → statement M
-next-rank-spec = tie.close (tie.spec add-result returns returns-2)
+next-rank-spec = tie.close (tie.spec (λ c. search needs) returns returns-2)

@@ -74,18 +74,5 @@ pub place-of-spec : {M : Type 1} → statement M
 place-of-spec =
     tie.close
     (tie.spec
-    Inv-loop
-    μ-loop
-    loop-holds
-    add-mark
-    mul-mark
-    add-mark-2
-    mul-mark-2
-    shared-slice-read-mark
-    mul-next-place
-    shared-slice-read-next-place
-    next-place-requires
-    add-v
-    loop-less
-    loop-again
-    returns)
+    Inv-loop μ-loop loop-holds add-mark mul-mark add-mark-2 mul-mark-2 shared-slice-read-mark mul-next-place
+    shared-slice-read-next-place next-place-requires add-v loop-less loop-again returns)

@@ -69,19 +69,5 @@ pub spread-bits-spec : {M : Type 1} → statement M
 spread-bits-spec =
     tie.close
     (tie.spec
-    Inv-loop
-    μ-loop
-    loop-holds
-    mul-mark
-    add-mark
-    mul-mark-2
-    shared-slice-read-mark
-    sub-left
-    marked-bit-requires
-    mul-bits
-    slice-write-bits
-    next-rank-requires
-    loop-less
-    loop-again
-    same-length
-    returns)
+    Inv-loop μ-loop loop-holds mul-mark add-mark mul-mark-2 shared-slice-read-mark sub-left marked-bit-requires mul-bits
+    slice-write-bits next-rank-requires loop-less loop-again same-length returns)

@@ -12,18 +12,9 @@ use Rattle.rules.specs.Rules.{basic}
 use Rattle.rules.proofs.basic_rule.Statement.{statement}
 use Rattle.rules.proofs.basic_rule.Tie as tie
 
-equals-requires : tie.Need-equals-requires
-equals-requires c κs = search needs
-
 returns : tie.Need-returns
 unfolding basic
 returns c = rw (sym (c .before .equals .ensures) ∙ c .if1 .taken)
-
-complement-requires : tie.Need-complement-requires
-complement-requires c κs = search needs
-
-equals-requires-2 : tie.Need-equals-requires-2
-equals-requires-2 c κs = search needs
 
 returns-2 : tie.Need-returns-2
 unfolding basic
@@ -32,9 +23,6 @@ returns-2 c =
     let truth : eqb (edgeWord (a .right)) 1 ≡ true =
     ap (λ (e : Edge). eqb (edgeWord (a .right)) (edgeWord e)) (sym (c .before .before .complement .ensures)) ∙ sym (c .before .equals2 .ensures) ∙ c .if2 .taken in
     rw (sym (c .before .before .before .before .equals .ensures) ∙ c .before .before .before .if1 .left, truth)
-
-equals-requires-3 : tie.Need-equals-requires-3
-equals-requires-3 c κs = search needs
 
 returns-3 : tie.Need-returns-3
 unfolding basic
@@ -68,12 +56,5 @@ pub basic-rule-spec : {M : Type 1} → statement M
 basic-rule-spec =
     tie.close
     (tie.spec
-    equals-requires
-    returns
-    complement-requires
-    equals-requires-2
-    returns-2
-    equals-requires-3
-    returns-3
-    returns-4
+    (λ c κs. search needs) returns (λ c κs. search needs) (λ c κs. search needs) returns-2 (λ c κs. search needs) returns-3 returns-4
     returns-5)

@@ -5,14 +5,8 @@ use borrow.Author.Needs.{needs}
 use Rattle.rules.proofs.is_among.Statement.{statement}
 use Rattle.rules.proofs.is_among.Tie as tie
 
-equals-requires : tie.Need-equals-requires
-equals-requires c κs = search needs
-
-equals-requires-2 : tie.Need-equals-requires-2
-equals-requires-2 c κs = search needs
-
 returns : tie.Need-returns
 returns c = ap₂ (λ (x y : Bool). x || y) (c .before .equals .ensures) (c .equals2 .ensures)
 
 pub is-among-spec : {M : Type 1} → statement M
-is-among-spec = tie.close (tie.spec equals-requires equals-requires-2 returns)
+is-among-spec = tie.close (tie.spec (λ c κs. search needs) (λ c κs. search needs) returns)

@@ -17,15 +17,6 @@ looked-for first second right other b q e =
     e ∙ ap (λ (x : Edge). among (edgeWord first) (edgeWord second) (edgeWord x)) q
     ∙ sym (ap (among (edgeWord first) (edgeWord second)) (word-opposite right))
 
-complement-requires : tie.Need-complement-requires
-complement-requires c κs = search needs
-
-is-among-requires : tie.Need-is-among-requires
-is-among-requires c κs = search needs
-
-is-complement-requires : tie.Need-is-complement-requires
-is-complement-requires c κs = search needs
-
 returns : tie.Need-returns
 returns c =
     let a = c .before .before .before .before .before .args in
@@ -40,18 +31,12 @@ returns-2 c =
     (looked-for (a .first) (a .second) (a .right) _ _ (c .before .before .before .before .complement .ensures) (c .before .before .before .is-among .ensures)) (c .before .before .if1 .taken)
     (word-sign (a .left) ∙ sym (c .before .is-complement .ensures) ∙ c .if2 .left)
 
-is-complement-requires-2 : tie.Need-is-complement-requires-2
-is-complement-requires-2 c κs = search needs
-
 returns-3 : tie.Need-returns-3
 returns-3 c =
     let a = c .before .before .before .before .before .args in
     lower-complement (edgeWord (a .first)) (edgeWord (a .second)) (edgeWord (a .left)) (edgeWord (a .right))
     (looked-for (a .first) (a .second) (a .right) _ _ (c .before .before .before .before .complement .ensures) (c .before .before .before .is-among .ensures)) (c .before .before .if1 .left)
     (word-sign (a .left) ∙ sym (c .before .is-complement2 .ensures) ∙ c .if3 .taken)
-
-is-among-requires-2 : tie.Need-is-among-requires-2
-is-among-requires-2 c κs = search needs
 
 returns-4 : tie.Need-returns-4
 returns-4 c =
@@ -71,13 +56,5 @@ pub lower-rule-spec : {M : Type 1} → statement M
 lower-rule-spec =
     tie.close
     (tie.spec
-    complement-requires
-    is-among-requires
-    is-complement-requires
-    returns
-    returns-2
-    is-complement-requires-2
-    returns-3
-    is-among-requires-2
-    returns-4
-    returns-5)
+    (λ c κs. search needs) (λ c κs. search needs) (λ c κs. search needs) returns returns-2 (λ c κs. search needs) returns-3
+    (λ c κs. search needs) returns-4 returns-5)

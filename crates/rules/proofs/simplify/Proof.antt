@@ -10,18 +10,6 @@ use borrow.Author.Needs.{needs}
 use Rattle.rules.proofs.simplify.Statement.{statement}
 use Rattle.rules.proofs.simplify.Tie as tie
 
-basic-rule-requires : tie.Need-basic-rule-requires
-basic-rule-requires c κs = search needs
-
-enum-known-e : tie.Need-enum-known-e
-enum-known-e c = search needs
-
-enum-told : tie.Need-enum-told
-enum-told c = search needs
-
-cast-k : tie.Need-cast-k
-cast-k c = search needs
-
 returns : tie.Need-returns
 returns c =
     let b = c .before .before .before .before .before in
@@ -30,39 +18,15 @@ returns c =
     (simplified-leaf (a .g .free) (pairsOf (a .work .now) (a .g)) (edgeWord (a .left)) (edgeWord (a .right))
     (sym (b .basic-rule .ensures) ∙ ap known (c .before .before .before .enum-told .given .1)) (omega (arith, c .if1 .taken, word-node (a .left))))
 
-mul-from-word : tie.Need-mul-from-word
-mul-from-word c = search needs
-
-mul-from-word-2 : tie.Need-mul-from-word-2
-mul-from-word-2 c = search needs
-
 shared-slice-read-from-word : tie.Need-shared-slice-read-from-word
 shared-slice-read-from-word c =
     let s = c .before .before .before .before .before .before .before .before in
     omega (arith, s .pre .sized .nodes, s .pre .sized .held, s .pre .inside, word-node (s .args .left))
 
-from-word-requires : tie.Need-from-word-requires
-from-word-requires c κs = search needs
-
-mul-from-word-3 : tie.Need-mul-from-word-3
-mul-from-word-3 c = search needs
-
-add-from-word : tie.Need-add-from-word
-add-from-word c = search needs
-
-mul-from-word-4 : tie.Need-mul-from-word-4
-mul-from-word-4 c = search needs
-
 shared-slice-read-from-word-2 : tie.Need-shared-slice-read-from-word-2
 shared-slice-read-from-word-2 c =
     let s = c .before .before .before .before .before .before .before .before .before .before in
     omega (arith, s .pre .sized .nodes, s .pre .sized .held, s .pre .inside, word-node (s .args .left))
-
-from-word-requires-2 : tie.Need-from-word-requires-2
-from-word-requires-2 c κs = search needs
-
-lower-rule-requires : tie.Need-lower-rule-requires
-lower-rule-requires c κs = search needs
 
 returns-2 : tie.Need-returns-2
 returns-2 c =
@@ -84,20 +48,6 @@ pub simplify-spec : {M : Type 1} → statement M
 simplify-spec =
     tie.close
     (tie.spec
-    basic-rule-requires
-    enum-known-e
-    enum-told
-    cast-k
-    returns
-    mul-from-word
-    mul-from-word-2
-    shared-slice-read-from-word
-    from-word-requires
-    mul-from-word-3
-    add-from-word
-    mul-from-word-4
-    shared-slice-read-from-word-2
-    from-word-requires-2
-    lower-rule-requires
-    returns-2
-    returns-3)
+    (λ c κs. search needs) (λ c. search needs) (λ c. search needs) (λ c. search needs) returns (λ c. search needs) (λ c. search needs)
+    shared-slice-read-from-word (λ c κs. search needs) (λ c. search needs) (λ c. search needs) (λ c. search needs)
+    shared-slice-read-from-word-2 (λ c κs. search needs) (λ c κs. search needs) returns-2 returns-3)

@@ -55,9 +55,6 @@ write-values-requires c κs =
     let a = S .args in
     (S .pre .0, values-room (a .out .now) (a .at) (a .pass .wires) (a .t) (S .pre .1) (w .write-time .ensures) (w .write-time .kept .0))
 
-same-length : tie.Need-same-length
-same-length c = search needs
-
 returns : tie.Need-returns
 returns c =
     let v = c .before .before in
@@ -70,4 +67,4 @@ returns c =
 
 pub write-sample-spec : {M : Type 1} → statement M
 write-sample-spec =
-    tie.close (tie.spec write-time-requires write-values-requires same-length returns)
+    tie.close (tie.spec write-time-requires write-values-requires (λ c. search needs) returns)

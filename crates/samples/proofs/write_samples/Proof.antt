@@ -237,22 +237,5 @@ pub write-samples-spec : {M : Type 1} → statement M
 write-samples-spec =
     tie.close
     (tie.spec
-    Inv-loop
-    μ-loop
-    add-width
-    put-starts-requires
-    add-row
-    loop-holds
-    put-frame-requires
-    write-sample-requires
-    advance-requires
-    add-row-2
-    add-t
-    sub-left
-    loop-less
-    loop-again
-    write-time-requires
-    same-length
-    same-length-2
-    same-length-3
-    returns)
+    Inv-loop μ-loop add-width put-starts-requires add-row loop-holds put-frame-requires write-sample-requires advance-requires
+    add-row-2 add-t sub-left loop-less loop-again write-time-requires same-length same-length-2 same-length-3 returns)

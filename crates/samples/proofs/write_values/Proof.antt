@@ -65,9 +65,6 @@ loop-holds c =
 literal-at-requires : tie.Need-literal-at-requires Inv-loop μ-loop
 literal-at-requires c κs = (W c .held, W c .layout-of, omega (arith, there c, W c .wires))
 
-cast-v : tie.Need-cast-v Inv-loop μ-loop
-cast-v c = search needs
-
 mul-level-of : tie.Need-mul-level-of Inv-loop μ-loop
 mul-level-of c = omega (arith, word-inside c)
 
@@ -139,20 +136,5 @@ pub write-values-spec : {M : Type 1} → statement M
 write-values-spec =
     tie.close
     (tie.spec
-    Inv-loop
-    μ-loop
-    loop-holds
-    literal-at-requires
-    cast-v
-    mul-level-of
-    shared-slice-read-level-of
-    level-of-requires
-    slice-read-joined
-    joined-requires
-    write-value-requires
-    add-k
-    sub-left
-    loop-less
-    loop-again
-    same-length
-    returns)
+    Inv-loop μ-loop loop-holds literal-at-requires (λ c. search needs) mul-level-of shared-slice-read-level-of level-of-requires
+    slice-read-joined joined-requires write-value-requires add-k sub-left loop-less loop-again same-length returns)

@@ -14,12 +14,6 @@ use Rattle.limits.proofs.Refusals.{judge-refused, length-refused, length-passes
 use Rattle.search.proofs.judge.Statement.{statement}
 use Rattle.search.proofs.judge.Tie as tie
 
-is-budget-requires : tie.Need-is-budget-requires
-is-budget-requires c κs = search needs
-
-judge-requires : tie.Need-judge-requires
-judge-requires c κs = search needs
-
 -- the tests 10 to 12 of a circuit with these counts
 bounded : (n : tie.After-judge) (x : Circuit)
     → (let a = n .before .before .args in
@@ -29,9 +23,6 @@ bounded n x e =
     subst (λ (p : Bool). judge (boundTests x (a .b) (a .k) p (a .room)) ≡ told (n .judge .result)) (n .before .is-budget .ensures)
     (n .judge .ensures .tests x e)
 
-enum-known-n : tie.Need-enum-known-n
-enum-known-n c = search needs
-
 returns : tie.Need-returns
 returns c =
     let n = c .before .before .before in
@@ -40,9 +31,6 @@ returns c =
     judge-refused (boundTests x (a .b) (a .k) (budgetRight (a .d)) (a .room))
     (need 13 (leb (witnessLength x (a .b) (a .k)) (a .len)) ∷ []) _
     (rw (c .before .n .given .1) at (bounded n x e))
-
-enum-told : tie.Need-enum-told
-enum-told c = search needs
 
 cast-witness-length : tie.Need-cast-witness-length
 cast-witness-length c =
@@ -80,12 +68,5 @@ pub judge-spec : {M : Type 1} → statement M
 judge-spec =
     tie.close
     (tie.spec
-    is-budget-requires
-    judge-requires
-    enum-known-n
-    returns
-    enum-told
-    cast-witness-length
-    witness-length-requires
-    returns-2
-    returns-3)
+    (λ c κs. search needs) (λ c κs. search needs) (λ c. search needs) returns (λ c. search needs) cast-witness-length
+    witness-length-requires returns-2 returns-3)

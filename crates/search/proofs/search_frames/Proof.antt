@@ -21,9 +21,6 @@ search-layers-requires : tie.Need-search-layers-requires
 search-layers-requires c κs = let p = c .before .before .before .before .before .pre in
     (p .ready, ((p .bad, p .bound), (p .words, p .units)))
 
-enum-known-t : tie.Need-enum-known-t
-enum-known-t c = search needs
-
 cast-write-witness : tie.Need-cast-write-witness
 cast-write-witness c = let p = c .before .before .before .before .before .before .before .before .before .before .before .before .pre in
     omega (arith, p .bad, limited (p .ready .held) (p .ready .layout-of) .bads, p .ready .layout-of .b-is)
@@ -63,14 +60,8 @@ cast-t18 c =
           .before .before .before .pre .bound,
     )
 
-enum-told : tie.Need-enum-told
-enum-told c = search needs
-
 cast-t21 : tie.Need-cast-t21
 cast-t21 c = omega (arith, c .before .before .before .before .before .before .before .before .before .before .pre .bound)
-
-enum-known-t-2 : tie.Need-enum-known-t-2
-enum-known-t-2 c = search needs
 
 search-from-requires : tie.Need-search-from-requires
 search-from-requires c κs =
@@ -142,20 +133,6 @@ pub search-frames-spec : {M : Type 1} → statement M
 search-frames-spec =
     tie.close
     (tie.spec
-    search-layers-requires
-    enum-known-t
-    cast-write-witness
-    write-witness-requires
-    cast-t18
-    enum-told
-    cast-t21
-    enum-known-t-2
-    search-from-requires
-    same-length
-    same-length-2
-    returns
-    same-length-3
-    returns-2
-    same-length-4
-    same-length-5
+    search-layers-requires (λ c. search needs) cast-write-witness write-witness-requires cast-t18 (λ c. search needs) cast-t21
+    (λ c. search needs) search-from-requires same-length same-length-2 returns same-length-3 returns-2 same-length-4 same-length-5
     returns-3)

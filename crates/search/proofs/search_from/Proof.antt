@@ -58,9 +58,6 @@ decide-requires c κs =
       held = omega (arith, f, p .words, l .inv .1);
     }
 
-enum-told : tie.Need-enum-told Inv-loop μ-loop
-enum-told c = search needs
-
 cast-write-witness : tie.Need-cast-write-witness Inv-loop μ-loop
 cast-write-witness c =
     let s = c .before .before .before .before .before .before .before .before .before .before .before .before .before in
@@ -114,9 +111,6 @@ returns c =
     (c .before .before .write-witness .ensures (f .0) (f .2)
     ∙ ap₂ (λ (x y : List _). front x y) (hit-shown C (s .q .b) (s .q .k) (s .q .d) (l .t) (f .0) (f .1)) (l .inv .2))
 
-enum-told-2 : tie.Need-enum-told-2 Inv-loop μ-loop
-enum-told-2 c = search needs
-
 add-t : tie.Need-add-t Inv-loop μ-loop
 add-t c =
     let n = c .before .before .before .before in
@@ -138,9 +132,6 @@ loop-again c =
       l .inv .2,
       left-more (circuitIn (s .m .now)) (s .q .b) (s .q .k) (s .q .d) (l .t) (omega (arith, i)) (l .inv .3) e,
     )
-
-enum-told-3 : tie.Need-enum-told-3 Inv-loop μ-loop
-enum-told-3 c = search needs
 
 cast-t22 : tie.Need-cast-t22 Inv-loop μ-loop
 cast-t22 c =
@@ -188,27 +179,6 @@ pub search-from-spec : {M : Type 1} → statement M
 search-from-spec =
     tie.close
     (tie.spec
-    Inv-loop
-    μ-loop
-    loop-holds
-    decide-requires
-    enum-told
-    cast-write-witness
-    write-witness-requires
-    cast-t19
-    same-length
-    same-length-2
-    returns
-    enum-told-2
-    add-t
-    loop-less
-    loop-again
-    enum-told-3
-    cast-t22
-    same-length-3
-    same-length-4
-    returns-2
-    cast-t23
-    same-length-5
-    same-length-6
-    returns-3)
+    Inv-loop μ-loop loop-holds decide-requires (λ c. search needs) cast-write-witness write-witness-requires cast-t19 same-length
+    same-length-2 returns (λ c. search needs) add-t loop-less loop-again (λ c. search needs) cast-t22 same-length-3 same-length-4
+    returns-2 cast-t23 same-length-5 same-length-6 returns-3)

@@ -12,8 +12,5 @@ slice-aggregate-search-with c = sym (length-replicate {A = ℕ} 1048576 0)
 search-with-requires : tie.Need-search-with-requires
 search-with-requires c κs = length-replicate {A = ℕ} 1048576 0
 
-returns : tie.Need-returns
-returns c = search needs
-
 pub search-file-spec : {M : Type 1} → statement M
-search-file-spec = tie.close (tie.spec slice-aggregate-search-with search-with-requires returns)
+search-file-spec = tie.close (tie.spec slice-aggregate-search-with search-with-requires (λ c. search needs))

@@ -98,24 +98,6 @@ store-implied-requires c κs =
     let s = c .before .before .before in
     (omega (arith, s .pre .1 .0, s .pre .1 .1 .0), few (s .args .p .i) (s .args .p .l) (s .args .p .a) (s .pre .1 .1 .1 .1 .0))
 
-add-variable : tie.Need-add-variable
-add-variable c = search needs
-
-variable-requires : tie.Need-variable-requires
-variable-requires c κs = search needs
-
-read-latches-requires : tie.Need-read-latches-requires
-read-latches-requires c κs = search needs
-
-enum-known-at : tie.Need-enum-known-at
-enum-known-at c = search needs
-
-enum-told : tie.Need-enum-told
-enum-told c = search needs
-
-same-length : tie.Need-same-length
-same-length c = search needs
-
 returns : tie.Need-returns
 returns c =
     let n = c .before .before .before .before in
@@ -138,15 +120,6 @@ read-rows-requires c κs =
     let t = c .before .before .before .before in
     let n = t .before .before .before .before in
     (run2 n _ (t .at .given .1) .inside, (omega arith, omega (arith, start2 n .pre .1 .0, start2 n .pre .1 .1 .0, size2 n)))
-
-enum-known-at-2 : tie.Need-enum-known-at-2
-enum-known-at-2 c = search needs
-
-enum-told-2 : tie.Need-enum-told-2
-enum-told-2 c = search needs
-
-same-length-2 : tie.Need-same-length-2
-same-length-2 c = search needs
 
 returns-2 : tie.Need-returns-2
 returns-2 c =
@@ -174,12 +147,6 @@ read-gates-requires c κs =
       (omega (arith, s .pre .1 .0, s .pre .1 .1 .0, size3 n), omega (arith, s .pre .1 .1 .1 .1 .0, c .before .variable2 .ensures)),
     )
 
-enum-known-end : tie.Need-enum-known-end
-enum-known-end c = search needs
-
-enum-told-3 : tie.Need-enum-told-3
-enum-told-3 c = search needs
-
 same-length-3 : tie.Need-same-length-3
 same-length-3 c = size4 (c .before .before .before .before)
 
@@ -192,9 +159,6 @@ returns-3 c =
     let m = before3 k in
     bad-gates (a .s .now) (a .at) (a .p) (a .limit) (a .words .now) (s .pre .1 .0) (run1 m) (run2 m _ (T2 k .at .given .1))
     (run3 k _ (T3 n .at2 .given .1)) (run4 n _ (c .enum-told3 .given .1))
-
-is-tail-requires : tie.Need-is-tail-requires
-is-tail-requires c κs = search needs
 
 same-length-4 : tie.Need-same-length-4
 same-length-4 c = size4 (c .before .before .before .before .before .before .before)
@@ -257,33 +221,7 @@ pub read-binary-spec : {M : Type 1} → statement M
 read-binary-spec =
     tie.close
     (tie.spec
-    store-implied-requires
-    add-variable
-    variable-requires
-    read-latches-requires
-    enum-known-at
-    enum-told
-    same-length
-    returns
-    add-roots
-    add-roots-2
-    read-rows-requires
-    enum-known-at-2
-    enum-told-2
-    same-length-2
-    returns-2
-    add-variable-2
-    add-variable-3
-    variable-requires-2
-    read-gates-requires
-    enum-known-end
-    enum-told-3
-    same-length-3
-    returns-3
-    is-tail-requires
-    same-length-4
-    returns-4
-    same-length-5
-    returns-5
-    same-length-6
-    returns-6)
+    store-implied-requires (λ c. search needs) (λ c κs. search needs) (λ c κs. search needs) (λ c. search needs) (λ c. search needs)
+    (λ c. search needs) returns add-roots add-roots-2 read-rows-requires (λ c. search needs) (λ c. search needs) (λ c. search needs)
+    returns-2 add-variable-2 add-variable-3 variable-requires-2 read-gates-requires (λ c. search needs) (λ c. search needs)
+    same-length-3 returns-3 (λ c κs. search needs) same-length-4 returns-4 same-length-5 returns-5 same-length-6 returns-6)

@@ -84,9 +84,6 @@ read-rows-requires c κs =
     let w = c .before in
     (w .before .before .loop .inv .1 .inside, (room w .wide, room w .ends))
 
-enum-known-after : tie.Need-enum-known-after Inv-loop μ-loop
-enum-known-after c = search needs
-
 add-k : tie.Need-add-k Inv-loop μ-loop
 add-k c = omega (arith, c .before .before .before .before .before .before .before .before .loop-test .taken)
 
@@ -103,9 +100,6 @@ loop-again c =
           (found n _ (c .before .after .given .1)) (n .read-rows .kept .1 .1 .1 .1 .1 .1 .0),
     )
 
-enum-told : tie.Need-enum-told Inv-loop μ-loop
-enum-told c = search needs
-
 same-length : tie.Need-same-length Inv-loop μ-loop
 same-length c =
     let n = c .before .before .before .before in
@@ -121,9 +115,6 @@ returns c =
     no-lines (a .s .now) (a .at) (a .p) (a .limit) (a .words .now) (s .pre .1 .0)
     (reached-stops (l .loop .inv .1) (w .before .loop-test .taken) (w .section-at .result) (w .section-at .ensures)
     (found n _ (c .enum-told .given .1)))
-
-is-tail-requires : tie.Need-is-tail-requires Inv-loop μ-loop
-is-tail-requires c κs = search needs
 
 same-length-2 : tie.Need-same-length-2 Inv-loop μ-loop
 same-length-2 c = c .before .before .before .loop .inv .1 .size
@@ -169,22 +160,6 @@ pub read-text-spec : {M : Type 1} → statement M
 read-text-spec =
     tie.close
     (tie.spec
-    Inv-loop
-    μ-loop
-    loop-holds
-    section-at-requires
-    read-rows-requires
-    enum-known-after
-    add-k
-    loop-less
-    loop-again
-    enum-told
-    same-length
-    returns
-    is-tail-requires
-    same-length-2
-    returns-2
-    same-length-3
-    returns-3
-    same-length-4
+    Inv-loop μ-loop loop-holds section-at-requires read-rows-requires (λ c. search needs) add-k loop-less loop-again
+    (λ c. search needs) same-length returns (λ c κs. search needs) same-length-2 returns-2 same-length-3 returns-3 same-length-4
     returns-4)

@@ -11,9 +11,6 @@ use Rattle.service.proofs.put_counts.Tie as tie
 returns : tie.Need-returns
 returns c = rw (lt-leb 7 (length (c .before .args .out .now)) (c .if1 .taken))
 
-slice-write-out : tie.Need-slice-write-out
-slice-write-out c = search needs
-
 slice-write-out-2 : tie.Need-slice-write-out-2
 slice-write-out-2 c = simp length-set (omega arith)
 
@@ -29,12 +26,6 @@ slice-write-out-5 c = simp length-set (omega arith)
 slice-write-out-6 : tie.Need-slice-write-out-6
 slice-write-out-6 c = simp length-set (omega arith)
 
-slice-write-out-7 : tie.Need-slice-write-out-7
-slice-write-out-7 c = search needs
-
-same-length : tie.Need-same-length
-same-length c = search needs
-
 returns-2 : tie.Need-returns-2
 returns-2 c =
     let a = c .before .args in
@@ -44,13 +35,5 @@ pub put-counts-spec : {M : Type 1} → statement M
 put-counts-spec =
     tie.close
     (tie.spec
-    returns
-    slice-write-out
-    slice-write-out-2
-    slice-write-out-3
-    slice-write-out-4
-    slice-write-out-5
-    slice-write-out-6
-    slice-write-out-7
-    same-length
-    returns-2)
+    returns (λ c. search needs) slice-write-out-2 slice-write-out-3 slice-write-out-4 slice-write-out-5 slice-write-out-6
+    (λ c. search needs) (λ c. search needs) returns-2)

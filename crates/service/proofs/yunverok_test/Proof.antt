@@ -7,15 +7,6 @@ use borrow.Author.Needs.{needs}
 use Rattle.service.proofs.yunverok_test.Statement.{statement}
 use Rattle.service.proofs.yunverok_test.Tie as tie
 
-test-requires : tie.Need-test-requires
-test-requires c κs = search needs
-
-enum-told : tie.Need-enum-told
-enum-told c = search needs
-
-enum-told-2 : tie.Need-enum-told-2
-enum-told-2 c = search needs
-
 returns : tie.Need-returns
 returns c = TestCode.holds (subst (λ (x : Held). Tested (c .before .before .before .before .args .memory .now) x) (c .enum-told .given .1) (c .before .before .test .ensures) .1)
 
@@ -23,4 +14,4 @@ returns-2 : tie.Need-returns-2
 returns-2 c = TestCode.holdsNone (subst (λ (x : Held). Tested (c .before .before .before .before .args .memory .now) x) (c .enum-told2 .given .1) (c .before .before .test .ensures))
 
 pub yunverok-test-spec : {M : Type 1} → statement M
-yunverok-test-spec = tie.close (tie.spec test-requires enum-told enum-told-2 returns returns-2)
+yunverok-test-spec = tie.close (tie.spec (λ c κs. search needs) (λ c. search needs) (λ c. search needs) returns returns-2)

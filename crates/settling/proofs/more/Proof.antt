@@ -5,9 +5,6 @@ use borrow.Author.Needs.{needs}
 use Rattle.settling.proofs.more.Statement.{statement}
 use Rattle.settling.proofs.more.Tie as tie
 
-add-result : tie.Need-add-result
-add-result c = search needs
-
 returns : tie.Need-returns
 unfolding S.more
 returns c = rw (eq-eqb _ _ (c .if1 .taken))
@@ -17,4 +14,4 @@ unfolding S.more
 returns-2 c = rw (ne-eqb _ _ (c .if1 .left))
 
 pub more-spec : {M : Type 1} → statement M
-more-spec = tie.close (tie.spec add-result returns returns-2)
+more-spec = tie.close (tie.spec (λ c. search needs) returns returns-2)

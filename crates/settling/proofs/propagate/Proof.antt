@@ -39,9 +39,6 @@ returns-2 c =
     let all = sym (propagated-stop (l .work) (s .net) (s .arena) (l .t) (l .left) (c .before .before .if1 .left) (c .if2 .taken)) ∙ l .inv .1 in
     record { words = ap (λ (t : Stood). t .words) all; state = ap (λ (t : Stood). t .state) all }
 
-follow-requires : tie.Need-follow-requires Inv-loop μ-loop
-follow-requires c κs = search needs
-
 sub-left : tie.Need-sub-left Inv-loop μ-loop
 sub-left c = omega arith
 
@@ -70,16 +67,5 @@ pub propagate-spec : {M : Type 1} → statement M
 propagate-spec =
     tie.close
     (tie.spec
-    Inv-loop
-    μ-loop
-    loop-holds
-    same-length
-    returns
-    same-length-2
-    returns-2
-    follow-requires
-    sub-left
-    loop-less
-    loop-again
-    same-length-3
-    returns-3)
+    Inv-loop μ-loop loop-holds same-length returns same-length-2 returns-2 (λ c κs. search needs) sub-left loop-less loop-again
+    same-length-3 returns-3)

@@ -4,18 +4,6 @@ use borrow.Author.Needs.{needs}
 use Rattle.settling.proofs.through_gates.Statement.{statement}
 use Rattle.settling.proofs.through_gates.Tie as tie
 
-look-requires : tie.Need-look-requires
-look-requires c κs = search needs
-
-field-requires : tie.Need-field-requires
-field-requires c κs = search needs
-
-look-up-requires : tie.Need-look-up-requires
-look-up-requires c κs = search needs
-
-same-length : tie.Need-same-length
-same-length c = search needs
-
 returns : tie.Need-returns
 unfolding S.throughGates
 returns c =
@@ -24,4 +12,4 @@ returns c =
 
 pub through-gates-spec : {M : Type 1} → statement M
 through-gates-spec =
-    tie.close (tie.spec look-requires field-requires look-up-requires same-length returns)
+    tie.close (tie.spec (λ c κs. search needs) (λ c κs. search needs) (λ c κs. search needs) (λ c. search needs) returns)

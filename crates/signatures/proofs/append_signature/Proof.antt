@@ -6,19 +6,10 @@ use borrow.Author.Needs.{needs}
 use Rattle.signatures.proofs.append_signature.Statement.{statement}
 use Rattle.signatures.proofs.append_signature.Tie as tie
 
-sub-link : tie.Need-sub-link
-sub-link c = search needs
-
-link-requires : tie.Need-link-requires
-link-requires c κs = search needs
-
-same-length : tie.Need-same-length
-same-length c = search needs
-
 returns : tie.Need-returns
 returns c =
     let t = c .before .before .before .before .before in
     signed-last (now (t .args .work)) (c .before .before .link .last .0) (t .args .g) (t .args .s) (omega arith) (t .pre .1) (c .before .before .link .ensures)
 
 pub append-signature-spec : {M : Type 1} → statement M
-append-signature-spec = tie.close (tie.spec sub-link link-requires same-length returns)
+append-signature-spec = tie.close (tie.spec (λ c. search needs) (λ c κs. search needs) (λ c. search needs) returns)

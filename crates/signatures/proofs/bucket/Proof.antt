@@ -8,15 +8,6 @@ use borrow.Author.Needs.{needs}
 use Rattle.signatures.proofs.bucket.Statement.{statement}
 use Rattle.signatures.proofs.bucket.Tie as tie
 
-normal-requires : tie.Need-normal-requires
-normal-requires c κs = search needs
-
-scramble-requires : tie.Need-scramble-requires
-scramble-requires c κs = search needs
-
-rem-result : tie.Need-rem-result
-rem-result c = search needs
-
 returns : tie.Need-returns
 unfolding bucketOf
 returns c =
@@ -24,4 +15,4 @@ returns c =
     (ap (λ (h : ℕ). h % a .room) (c .scramble .ensures ∙ ap scrambled (c .before .normal .ensures)), mod-lt (c .scramble .result) (omega arith))
 
 pub bucket-spec : {M : Type 1} → statement M
-bucket-spec = tie.close (tie.spec normal-requires scramble-requires rem-result returns)
+bucket-spec = tie.close (tie.spec (λ c κs. search needs) (λ c κs. search needs) (λ c. search needs) returns)

@@ -8,9 +8,6 @@ use Rattle.signatures.proofs.Twins.{candidate-even, candidate-odd, cand
 use Rattle.signatures.proofs.candidate.Statement.{statement}
 use Rattle.signatures.proofs.candidate.Tie as tie
 
-first-difference-requires : tie.Need-first-difference-requires
-first-difference-requires c κs = search needs
-
 returns : tie.Need-returns
 returns c =
     let d = c .before in
@@ -19,9 +16,6 @@ returns c =
     let z : 2 * k + 1 ≡ 2 * k + 0 + 1 = omega arith in
     subst (λ (r : ℕ). Candidate k (t .args .t) (t .args .s) r) z
     (candidate-even k (t .args .t) (t .args .s) (t .fits .t .fits) (t .fits .s .fits) (d .first-difference .ensures .equal (c .if1 .taken)))
-
-first-difference-requires-2 : tie.Need-first-difference-requires-2
-first-difference-requires-2 c κs = search needs
 
 returns-2 : tie.Need-returns-2
 returns-2 c =
@@ -37,4 +31,4 @@ returns-3 c =
     (λ q. c .before .before .if1 .left (d .first-difference .ensures .none q)) (λ q. c .if2 .left (c .before .first-difference2 .ensures .none q))
 
 pub candidate-spec : {M : Type 1} → statement M
-candidate-spec = tie.close (tie.spec first-difference-requires returns first-difference-requires-2 returns-2 returns-3)
+candidate-spec = tie.close (tie.spec (λ c κs. search needs) returns (λ c κs. search needs) returns-2 returns-3)

@@ -9,21 +9,12 @@ use borrow.Author.Needs.{needs}
 use Rattle.signatures.proofs.check_block.Statement.{statement}
 use Rattle.signatures.proofs.check_block.Tie as tie
 
-set-leaves-requires : tie.Need-set-leaves-requires
-set-leaves-requires c κs = search needs
-
 eval-gates-requires : tie.Need-eval-gates-requires
 eval-gates-requires c κs =
     let s = c .before .before .before .before .before .before in
     let m = now (s .args .work) in
     let l = c .before .before .before .set-leaves in
     simulable-kept m (l .last .0) (s .args .g) (l .kept .0) (kept-simulated m (l .last .0) (l .ensures .kept)) (s .pre .0 .0)
-
-edge-word-requires : tie.Need-edge-word-requires
-edge-word-requires c κs = search needs
-
-edge-word-requires-2 : tie.Need-edge-word-requires-2
-edge-word-requires-2 c κs = search needs
 
 filter-requires : tie.Need-filter-requires
 filter-requires c κs =
@@ -32,9 +23,6 @@ filter-requires c κs =
     let l = c .before .before .before .before .before .before .before .before .before .before .before .set-leaves in
     let e = c .before .before .before .before .before .before .before .eval-gates in
     candidates-more (omega arith) (block-candidates (l .ensures) (e .ensures) (s .pre .0 .1))
-
-same-length : tie.Need-same-length
-same-length c = search needs
 
 returns : tie.Need-returns
 returns c =
@@ -53,10 +41,5 @@ pub check-block-spec : {M : Type 1} → statement M
 check-block-spec =
     tie.close
     (tie.spec
-    set-leaves-requires
-    eval-gates-requires
-    edge-word-requires
-    edge-word-requires-2
-    filter-requires
-    same-length
+    (λ c κs. search needs) eval-gates-requires (λ c κs. search needs) (λ c κs. search needs) filter-requires (λ c. search needs)
     returns)

@@ -96,17 +96,5 @@ pub check-blocks-spec : {M : Type 1} → statement M
 check-blocks-spec =
     tie.close
     (tie.spec
-    Inv-loop
-    μ-loop
-    returns
-    sub-blocks
-    shl-blocks
-    loop-holds
-    same-length
-    returns-2
-    check-block-requires
-    add-q
-    loop-less
-    loop-again
-    same-length-2
-    returns-3)
+    Inv-loop μ-loop returns sub-blocks shl-blocks loop-holds same-length returns-2 check-block-requires add-q loop-less loop-again
+    same-length-2 returns-3)

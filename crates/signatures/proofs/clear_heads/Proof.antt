@@ -51,15 +51,4 @@ pub clear-heads-spec : {M : Type 1} → statement M
 clear-heads-spec =
     tie.close
     (tie.spec
-    Inv-loop
-    μ-loop
-    loop-holds
-    mul-work
-    add-work
-    mul-work-2
-    slice-write-work
-    add-h
-    loop-less
-    loop-again
-    same-length
-    returns)
+    Inv-loop μ-loop loop-holds mul-work add-work mul-work-2 slice-write-work add-h loop-less loop-again same-length returns)

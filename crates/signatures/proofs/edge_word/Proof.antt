@@ -12,17 +12,8 @@ use borrow.Author.Needs.{needs}
 use Rattle.signatures.proofs.edge_word.Statement.{statement}
 use Rattle.signatures.proofs.edge_word.Tie as tie
 
-cast-k : tie.Need-cast-k
-cast-k c = search needs
-
 word-at-requires : tie.Need-word-at-requires
 word-at-requires c κs = omega (arith, word-node (c .before .before .args .edge))
-
-is-complement-requires : tie.Need-is-complement-requires
-is-complement-requires c κs = search needs
-
-literal-word-requires : tie.Need-literal-word-requires
-literal-word-requires c κs = search needs
 
 returns : tie.Need-returns
 returns c =
@@ -33,4 +24,4 @@ returns c =
     ∙ edge-sign (λ k. bit (wordAt (now (a .work)) k (a .f)) p) (a .edge)
 
 pub edge-word-spec : {M : Type 1} → statement M
-edge-word-spec = tie.close (tie.spec cast-k word-at-requires is-complement-requires literal-word-requires returns)
+edge-word-spec = tie.close (tie.spec (λ c. search needs) word-at-requires (λ c κs. search needs) (λ c κs. search needs) returns)

@@ -26,33 +26,6 @@ left-read m k q = ap edgeWord q ∙ edge-word (getD m (16 * k) 0) ∙ field-firs
 right-read : (m : List ℕ) (k : ℕ) {e : Edge} → e ≡ wordEdge (getD m (16 * k + 1) 0) → edgeWord e ≡ field m k 1
 right-read m k q = ap edgeWord q ∙ edge-word (getD m (16 * k + 1) 0)
 
-mul-from-word : tie.Need-mul-from-word
-mul-from-word c = search needs
-
-mul-from-word-2 : tie.Need-mul-from-word-2
-mul-from-word-2 c = search needs
-
-slice-read-from-word : tie.Need-slice-read-from-word
-slice-read-from-word c = search needs
-
-from-word-requires : tie.Need-from-word-requires
-from-word-requires c κs = search needs
-
-mul-from-word-3 : tie.Need-mul-from-word-3
-mul-from-word-3 c = search needs
-
-add-from-word : tie.Need-add-from-word
-add-from-word c = search needs
-
-mul-from-word-4 : tie.Need-mul-from-word-4
-mul-from-word-4 c = search needs
-
-slice-read-from-word-2 : tie.Need-slice-read-from-word-2
-slice-read-from-word-2 c = search needs
-
-from-word-requires-2 : tie.Need-from-word-requires-2
-from-word-requires-2 c κs = search needs
-
 edge-word-requires : tie.Need-edge-word-requires
 edge-word-requires c κs =
     let a = c .before .before .before .before .before .before .args in
@@ -62,12 +35,6 @@ edge-word-requires-2 : tie.Need-edge-word-requires-2
 edge-word-requires-2 c κs =
     let a = c .before .before .before .before .before .before .before .before .args in
     omega (arith, right-read (now (a .work)) (a .k) (c .before .before .before .from-word2 .ensures))
-
-put-word-requires : tie.Need-put-word-requires
-put-word-requires c κs = search needs
-
-same-length : tie.Need-same-length
-same-length c = search needs
 
 returns : tie.Need-returns
 returns c =
@@ -89,17 +56,6 @@ pub eval-gate-spec : {M : Type 1} → statement M
 eval-gate-spec =
     tie.close
     (tie.spec
-    mul-from-word
-    mul-from-word-2
-    slice-read-from-word
-    from-word-requires
-    mul-from-word-3
-    add-from-word
-    mul-from-word-4
-    slice-read-from-word-2
-    from-word-requires-2
-    edge-word-requires
-    edge-word-requires-2
-    put-word-requires
-    same-length
-    returns)
+    (λ c. search needs) (λ c. search needs) (λ c. search needs) (λ c κs. search needs) (λ c. search needs) (λ c. search needs)
+    (λ c. search needs) (λ c. search needs) (λ c κs. search needs) edge-word-requires edge-word-requires-2 (λ c κs. search needs)
+    (λ c. search needs) returns)

@@ -65,13 +65,4 @@ pub eval-gates-spec : {M : Type 1} → statement M
 eval-gates-spec =
     tie.close
     (tie.spec
-    Inv-loop
-    μ-loop
-    add-k
-    loop-holds
-    eval-gate-requires
-    add-k-2
-    loop-less
-    loop-again
-    same-length
-    returns)
+    Inv-loop μ-loop add-k loop-holds eval-gate-requires add-k-2 loop-less loop-again same-length returns)

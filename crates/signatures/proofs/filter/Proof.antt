@@ -42,9 +42,6 @@ mul-from-word-2 c = omega arith
 slice-read-from-word : tie.Need-slice-read-from-word Inv-loop μ-loop
 slice-read-from-word c = omega arith
 
-from-word-requires : tie.Need-from-word-requires Inv-loop μ-loop
-from-word-requires c κs = search needs
-
 keep-requires : tie.Need-keep-requires Inv-loop μ-loop
 keep-requires c κs =
     let s = c .before .before .before .before .before .before in
@@ -83,17 +80,5 @@ pub filter-spec : {M : Type 1} → statement M
 filter-spec =
     tie.close
     (tie.spec
-    Inv-loop
-    μ-loop
-    loop-holds
-    mul-from-word
-    add-from-word
-    mul-from-word-2
-    slice-read-from-word
-    from-word-requires
-    keep-requires
-    add-i
-    loop-less
-    loop-again
-    same-length
-    returns)
+    Inv-loop μ-loop loop-holds mul-from-word add-from-word mul-from-word-2 slice-read-from-word (λ c κs. search needs) keep-requires
+    add-i loop-less loop-again same-length returns)

@@ -29,15 +29,6 @@ module _ (c : tie.After-signature2) where
         bits = λ p l. bit-and (c .before .before .signature .result) (c .signature2 .result) p ∙ ap₂ _&&_ (x .bits p l) (y .bits p l);
       }
 
-signature-requires : tie.Need-signature-requires
-signature-requires c κs = search needs
-
-signature-requires-2 : tie.Need-signature-requires-2
-signature-requires-2 c κs = search needs
-
-gather-requires : tie.Need-gather-requires
-gather-requires c κs = search needs
-
 check-blocks-requires : tie.Need-check-blocks-requires
 check-blocks-requires c κs =
     let t = c .before .before .before .before .before .before .before .before .before .before in
@@ -51,9 +42,6 @@ check-blocks-requires c κs =
       (t .pre .left, t .pre .right, t .pre .free),
     )
 
-same-length : tie.Need-same-length
-same-length c = search needs
-
 returns : tie.Need-returns
 returns c =
     let t = c .before .before .before .before .before .before .before .before .before .before .before .before .before .before in
@@ -61,15 +49,6 @@ returns c =
     let l = c .before .before .before .check-blocks in
     let h = both (c .before .before .before .before .before .before .before .before .before) in
     searched (t .pre) h (k .ensures) (l .ensures) (twin-none (t .pre) h (k .ensures) (l .ensures) (c .if1 .taken))
-
-slice-read-from-word : tie.Need-slice-read-from-word
-slice-read-from-word c = search needs
-
-from-word-requires : tie.Need-from-word-requires
-from-word-requires c κs = search needs
-
-same-length-2 : tie.Need-same-length-2
-same-length-2 c = search needs
 
 returns-2 : tie.Need-returns-2
 returns-2 c =
@@ -85,13 +64,5 @@ pub find-twin-spec : {M : Type 1} → statement M
 find-twin-spec =
     tie.close
     (tie.spec
-    signature-requires
-    signature-requires-2
-    gather-requires
-    check-blocks-requires
-    same-length
-    returns
-    slice-read-from-word
-    from-word-requires
-    same-length-2
-    returns-2)
+    (λ c κs. search needs) (λ c κs. search needs) (λ c κs. search needs) check-blocks-requires (λ c. search needs) returns
+    (λ c. search needs) (λ c κs. search needs) (λ c. search needs) returns-2)

@@ -62,9 +62,6 @@ word-at-requires c κs =
     let w = walked (c .before .before) in
     omega (arith, w .room)
 
-candidate-requires : tie.Need-candidate-requires Inv-loop μ-loop
-candidate-requires c κs = search needs
-
 push-requires : tie.Need-push-requires Inv-loop μ-loop
 push-requires c κs =
     let w = walked (c .before .before .before .before .before) in
@@ -118,24 +115,5 @@ pub gather-spec : {M : Type 1} → statement M
 gather-spec =
     tie.close
     (tie.spec
-    Inv-loop
-    μ-loop
-    bucket-requires
-    mul-next
-    add-next
-    mul-next-2
-    slice-read-next
-    loop-holds
-    sub-k
-    cast-i
-    word-at-requires
-    candidate-requires
-    push-requires
-    mul-next-3
-    add-next-2
-    mul-next-4
-    slice-read-next-2
-    loop-less
-    loop-again
-    same-length
-    returns)
+    Inv-loop μ-loop bucket-requires mul-next add-next mul-next-2 slice-read-next loop-holds sub-k cast-i word-at-requires
+    (λ c κs. search needs) push-requires mul-next-3 add-next-2 mul-next-4 slice-read-next-2 loop-less loop-again same-length returns)

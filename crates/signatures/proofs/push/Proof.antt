@@ -10,38 +10,11 @@ use borrow.Author.Needs.{needs}
 use Rattle.signatures.proofs.push.Statement.{statement}
 use Rattle.signatures.proofs.push.Tie as tie
 
-enum-told : tie.Need-enum-told
-enum-told c = search needs
-
-enum-known-e : tie.Need-enum-known-e
-enum-known-e c = search needs
-
-word-requires : tie.Need-word-requires
-word-requires c κs = search needs
-
 cast-work : tie.Need-cast-work
 cast-work c = omega (arith, c .before .before .before .before .before .pre .1, ap placeOf (c .before .before .e .given .1), c .word .ensures)
 
-mul-work : tie.Need-mul-work
-mul-work c = search needs
-
-add-work : tie.Need-add-work
-add-work c = search needs
-
-mul-work-2 : tie.Need-mul-work-2
-mul-work-2 c = search needs
-
-slice-write-work : tie.Need-slice-write-work
-slice-write-work c = search needs
-
-add-result : tie.Need-add-result
-add-result c = search needs
-
 returns : tie.Need-returns
 returns c = pushed-none (λ d q. let z : _≡_ {A = ℕ} 0 (d + 1) = sym (ap placeOf (c .enum-told .given .1)) ∙ q in omega arith)
-
-same-length : tie.Need-same-length
-same-length c = search needs
 
 returns-2 : tie.Need-returns-2
 returns-2 c =
@@ -56,15 +29,5 @@ pub push-spec : {M : Type 1} → statement M
 push-spec =
     tie.close
     (tie.spec
-    enum-told
-    enum-known-e
-    word-requires
-    cast-work
-    mul-work
-    add-work
-    mul-work-2
-    slice-write-work
-    add-result
-    returns
-    same-length
-    returns-2)
+    (λ c. search needs) (λ c. search needs) (λ c κs. search needs) cast-work (λ c. search needs) (λ c. search needs)
+    (λ c. search needs) (λ c. search needs) (λ c. search needs) returns (λ c. search needs) returns-2)

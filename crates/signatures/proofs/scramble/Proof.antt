@@ -6,18 +6,9 @@ use borrow.Author.Needs.{needs}
 use Rattle.signatures.proofs.scramble.Statement.{statement}
 use Rattle.signatures.proofs.scramble.Tie as tie
 
-halves-requires : tie.Need-halves-requires
-halves-requires c κs = search needs
-
-add-result : tie.Need-add-result
-add-result c = search needs
-
-mul-result : tie.Need-mul-result
-mul-result c = search needs
-
 returns : tie.Need-returns
 unfolding scrambled
 returns c = ap (λ (h : ℕ). (h % 2 ^ 32 + h / 2 ^ 32) * 1481765933 / 2 ^ 20) (c .halves .ensures .0)
 
 pub scramble-spec : {M : Type 1} → statement M
-scramble-spec = tie.close (tie.spec halves-requires add-result mul-result returns)
+scramble-spec = tie.close (tie.spec (λ c κs. search needs) (λ c. search needs) (λ c. search needs) returns)

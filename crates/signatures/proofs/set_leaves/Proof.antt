@@ -29,9 +29,6 @@ add-counting-word c = omega arith
 sub-counting-word : tie.Need-sub-counting-word Inv-loop μ-loop
 sub-counting-word c = omega arith
 
-counting-word-requires : tie.Need-counting-word-requires Inv-loop μ-loop
-counting-word-requires c κs = search needs
-
 add-put-word : tie.Need-add-put-word Inv-loop μ-loop
 add-put-word c = omega arith
 
@@ -76,17 +73,5 @@ pub set-leaves-spec : {M : Type 1} → statement M
 set-leaves-spec =
     tie.close
     (tie.spec
-    Inv-loop
-    μ-loop
-    put-word-requires
-    loop-holds
-    add-counting-word
-    sub-counting-word
-    counting-word-requires
-    add-put-word
-    put-word-requires-2
-    add-j
-    loop-less
-    loop-again
-    same-length
-    returns)
+    Inv-loop μ-loop put-word-requires loop-holds add-counting-word sub-counting-word (λ c κs. search needs) add-put-word
+    put-word-requires-2 add-j loop-less loop-again same-length returns)

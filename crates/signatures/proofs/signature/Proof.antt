@@ -8,9 +8,6 @@ use borrow.Author.Needs.{needs}
 use Rattle.signatures.proofs.signature.Statement.{statement}
 use Rattle.signatures.proofs.signature.Tie as tie
 
-edge-word-requires : tie.Need-edge-word-requires
-edge-word-requires c κs = search needs
-
 returns : tie.Need-returns
 returns c =
     λ g s h.
@@ -18,4 +15,4 @@ returns c =
     record { fits = omega arith; bits = λ p l. c .edge-word .ensures p l ∙ store-edge (now (a .work)) g s (edgeWord (a .edge)) h p l }
 
 pub signature-spec : {M : Type 1} → statement M
-signature-spec = tie.close (tie.spec edge-word-requires returns)
+signature-spec = tie.close (tie.spec (λ c κs. search needs) returns)

@@ -29,9 +29,6 @@ loop-holds c = (omega arith, refl, λ m u. u)
 cast-pattern-word : tie.Need-cast-pattern-word Inv-loop μ-loop
 cast-pattern-word c = omega arith
 
-pattern-word-requires : tie.Need-pattern-word-requires Inv-loop μ-loop
-pattern-word-requires c κs = search needs
-
 add-link : tie.Need-add-link Inv-loop μ-loop
 add-link c = omega arith
 
@@ -77,17 +74,5 @@ pub start-signatures-spec : {M : Type 1} → statement M
 start-signatures-spec =
     tie.close
     (tie.spec
-    Inv-loop
-    μ-loop
-    clear-heads-requires
-    link-requires
-    loop-holds
-    cast-pattern-word
-    pattern-word-requires
-    add-link
-    link-requires-2
-    add-j
-    loop-less
-    loop-again
-    same-length
-    returns)
+    Inv-loop μ-loop clear-heads-requires link-requires loop-holds cast-pattern-word (λ c κs. search needs) add-link link-requires-2
+    add-j loop-less loop-again same-length returns)

@@ -43,13 +43,4 @@ pub clear-front-spec : {M : Type 1} → statement M
 clear-front-spec =
     tie.close
     (tie.spec
-    Inv-loop
-    μ-loop
-    loop-holds
-    mul-work
-    slice-write-work
-    add-j
-    loop-less
-    loop-again
-    same-length
-    returns)
+    Inv-loop μ-loop loop-holds mul-work slice-write-work add-j loop-less loop-again same-length returns)

@@ -58,13 +58,4 @@ pub clear-leaves-spec : {M : Type 1} → statement M
 clear-leaves-spec =
     tie.close
     (tie.spec
-    Inv-loop
-    μ-loop
-    loop-holds
-    add-loop
-    put-word-requires
-    add-v
-    loop-less
-    loop-again
-    same-length
-    returns)
+    Inv-loop μ-loop loop-holds add-loop put-word-requires add-v loop-less loop-again same-length returns)

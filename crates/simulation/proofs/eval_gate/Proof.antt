@@ -8,32 +8,14 @@ use Rattle.simulation.proofs.eval_gate.Reads as reads
 use Rattle.simulation.proofs.eval_gate.Lts as lts
 use Rattle.simulation.proofs.eval_half.Reads as eval-half-reads
 
-mul-if1 : tie.Need-mul-if1
-mul-if1 c = search needs
-
-add-if1 : tie.Need-add-if1
-add-if1 c = search needs
-
-mul-if1-2 : tie.Need-mul-if1-2
-mul-if1-2 c = search needs
-
-slice-read-if1 : tie.Need-slice-read-if1
-slice-read-if1 c = search needs
-
 returns : tie.Need-returns
 returns c = let a = c .before .before .before .args in evaluated-none (now (a .work)) (a .k) (omega arith)
-
-eval-half-requires : tie.Need-eval-half-requires
-eval-half-requires c κs = search needs
 
 eval-half-requires-2 : tie.Need-eval-half-requires-2
 eval-half-requires-2 c κs =
     let s = c .before .before .before .before .before .before .before .before in
     let e = c .before .before .before .eval-half in
     (evaluable-half (now (s .args .work)) (e .last .0) (s .args .k) (s .pre) (e .kept .0) (e .ensures), omega arith)
-
-same-length : tie.Need-same-length
-same-length c = search needs
 
 returns-2 : tie.Need-returns-2
 returns-2 c =
@@ -47,12 +29,5 @@ pub eval-gate-spec : {M : Type 1} → statement M
 eval-gate-spec =
     tie.close
     (tie.spec
-    mul-if1
-    add-if1
-    mul-if1-2
-    slice-read-if1
-    returns
-    eval-half-requires
-    eval-half-requires-2
-    same-length
-    returns-2)
+    (λ c. search needs) (λ c. search needs) (λ c. search needs) (λ c. search needs) returns (λ c κs. search needs) eval-half-requires-2
+    (λ c. search needs) returns-2)

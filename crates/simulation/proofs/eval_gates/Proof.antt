@@ -69,12 +69,4 @@ pub eval-gates-spec : {M : Type 1} → statement M
 eval-gates-spec =
     tie.close
     (tie.spec
-    Inv-loop
-    μ-loop
-    loop-holds
-    eval-gate-requires
-    add-k
-    loop-less
-    loop-again
-    same-length
-    returns)
+    Inv-loop μ-loop loop-holds eval-gate-requires add-k loop-less loop-again same-length returns)

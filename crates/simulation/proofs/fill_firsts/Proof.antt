@@ -76,17 +76,5 @@ pub fill-firsts-spec : {M : Type 1} → statement M
 fill-firsts-spec =
     tie.close
     (tie.spec
-    Inv-loop
-    μ-loop
-    loop-holds
-    mul-first-use
-    shared-slice-read-first-use
-    first-use-requires
-    cast-firsts
-    mul-firsts
-    slice-write-firsts
-    add-k
-    loop-less
-    loop-again
-    same-length
-    returns)
+    Inv-loop μ-loop loop-holds mul-first-use shared-slice-read-first-use first-use-requires cast-firsts mul-firsts slice-write-firsts
+    add-k loop-less loop-again same-length returns)

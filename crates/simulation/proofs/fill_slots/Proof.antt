@@ -102,18 +102,5 @@ pub fill-slots-spec : {M : Type 1} → statement M
 fill-slots-spec =
     tie.close
     (tie.spec
-    Inv-loop
-    μ-loop
-    loop-holds
-    sub-v
-    mul-mark
-    add-mark
-    mul-mark-2
-    shared-slice-read-mark
-    cast-take-slot
-    take-slot-requires
-    add-i
-    loop-less
-    loop-again
-    same-length
-    returns)
+    Inv-loop μ-loop loop-holds sub-v mul-mark add-mark mul-mark-2 shared-slice-read-mark cast-take-slot take-slot-requires add-i
+    loop-less loop-again same-length returns)

@@ -60,11 +60,5 @@ pub first-hit-spec : {M : Type 1} → statement M
 first-hit-spec =
     tie.close
     (tie.spec
-    word-requires
-    cast-e
-    slice-aggregate-fill-slots
-    fill-slots-requires
-    slice-aggregate-scan-slots
-    scan-slots-requires
-    same-length
+    word-requires cast-e slice-aggregate-fill-slots fill-slots-requires slice-aggregate-scan-slots scan-slots-requires same-length
     returns)

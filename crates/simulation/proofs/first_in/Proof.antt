@@ -7,18 +7,6 @@ use Rattle.simulation.proofs.first_in.Reads as reads
 use Rattle.simulation.proofs.first_in.Lts as lts
 use Rattle.words.proofs.first_difference.Reads as first-difference-reads
 
-first-difference-requires : tie.Need-first-difference-requires
-first-difference-requires c κs = search needs
-
-cast-p : tie.Need-cast-p
-cast-p c = search needs
-
-mul-y : tie.Need-mul-y
-mul-y c = search needs
-
-add-y : tie.Need-add-y
-add-y c = search needs
-
 returns : tie.Need-returns
 returns c = let a = c .before .before .args in in-here (a .block) (a .hits) (a .total) (c .before .first-difference .result) (c .before .first-difference .ensures) (omega arith)
 
@@ -26,4 +14,4 @@ returns-2 : tie.Need-returns-2
 returns-2 c = let a = c .before .before .args in in-none (a .block) (a .hits) (a .total) (c .before .first-difference .result) (c .before .first-difference .ensures) (omega arith)
 
 pub first-in-spec : {M : Type 1} → statement M
-first-in-spec = tie.close (tie.spec first-difference-requires cast-p mul-y add-y returns returns-2)
+first-in-spec = tie.close (tie.spec (λ c κs. search needs) (λ c. search needs) (λ c. search needs) (λ c. search needs) returns returns-2)

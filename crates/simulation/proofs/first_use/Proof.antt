@@ -54,14 +54,4 @@ pub first-use-spec : {M : Type 1} → statement M
 first-use-spec =
     tie.close
     (tie.spec
-    Inv-loop
-    μ-loop
-    cast-free
-    add-k
-    loop-holds
-    uses-requires
-    returns
-    add-k-2
-    loop-less
-    loop-again
-    returns-2)
+    Inv-loop μ-loop cast-free add-k loop-holds uses-requires returns add-k-2 loop-less loop-again returns-2)

@@ -10,24 +10,6 @@ use Rattle.simulation.proofs.hit_word.Reads as reads
 use Rattle.simulation.proofs.hit_word.Lts as lts
 use Rattle.simulation.proofs.edge_half.Reads as edge-half-reads
 
-edge-half-requires : tie.Need-edge-half-requires
-edge-half-requires c κs = search needs
-
-cast-low : tie.Need-cast-low
-cast-low c = search needs
-
-edge-half-requires-2 : tie.Need-edge-half-requires-2
-edge-half-requires-2 c κs = search needs
-
-cast-high : tie.Need-cast-high
-cast-high c = search needs
-
-mul-result : tie.Need-mul-result
-mul-result c = search needs
-
-add-result : tie.Need-add-result
-add-result c = search needs
-
 returns : tie.Need-returns
 returns c =
     let a = c .before .before .before .args in
@@ -37,10 +19,5 @@ pub hit-word-spec : {M : Type 1} → statement M
 hit-word-spec =
     tie.close
     (tie.spec
-    edge-half-requires
-    cast-low
-    edge-half-requires-2
-    cast-high
-    mul-result
-    add-result
+    (λ c κs. search needs) (λ c. search needs) (λ c κs. search needs) (λ c. search needs) (λ c. search needs) (λ c. search needs)
     returns)

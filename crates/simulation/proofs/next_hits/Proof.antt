@@ -14,9 +14,6 @@ use Rattle.simulation.proofs.eval_gates.Reads as eval-gates-reads
 use Rattle.simulation.proofs.hit_word.Reads as hit-word-reads
 use Rattle.simulation.proofs.put_slots.Reads as put-slots-reads
 
-carry-requires : tie.Need-carry-requires
-carry-requires c κs = search needs
-
 add-top : tie.Need-add-top
 add-top c =
     let s = c .before .before .before .before in
@@ -43,9 +40,6 @@ add-put-slots c =
     let s = c .before .before .before .before .before .before in
     omega (arith, carry-few (s .args .block) (c .before .before .carry .result) (s .pre .0 .0) (c .before .before .carry .ensures) (s .pre .0 .2), s .pre .0 .1 .slots-of .count-is)
 
-add-put-slots-2 : tie.Need-add-put-slots-2
-add-put-slots-2 c = search needs
-
 put-slots-requires : tie.Need-put-slots-requires
 put-slots-requires c κs =
     let s = c .before .before .before .before .before .before in
@@ -60,12 +54,6 @@ eval-gates-requires c κs =
     let f = carry-few (s .args .block) (r .result) (s .pre .0 .0) (r .ensures) (s .pre .0 .2) in
     ((pairsOf (now (s .args .work)) (s .args .g), s .args .root, net-kept (s .pre .0 .1 .net) (b .last .0) (b .ensures .kept) (b .kept .0)), s .pre .0 .1 .firsts-of (6 + r .result) f .gates)
 
-hit-word-requires : tie.Need-hit-word-requires
-hit-word-requires c κs = search needs
-
-same-length : tie.Need-same-length
-same-length c = search needs
-
 returns : tie.Need-returns
 returns c =
     let s = c .before .before .before .before .before .before .before .before .before .before .before .before .before .before .before in
@@ -78,15 +66,5 @@ pub next-hits-spec : {M : Type 1} → statement M
 next-hits-spec =
     tie.close
     (tie.spec
-    carry-requires
-    add-top
-    mul-first
-    shared-slice-read-first
-    cast-first
-    add-put-slots
-    add-put-slots-2
-    put-slots-requires
-    eval-gates-requires
-    hit-word-requires
-    same-length
-    returns)
+    (λ c κs. search needs) add-top mul-first shared-slice-read-first cast-first add-put-slots (λ c. search needs) put-slots-requires
+    eval-gates-requires (λ c κs. search needs) (λ c. search needs) returns)

@@ -73,18 +73,5 @@ pub put-bits-spec : {M : Type 1} → statement M
 put-bits-spec =
     tie.close
     (tie.spec
-    Inv-loop
-    μ-loop
-    loop-holds
-    mul-v
-    shared-slice-read-v
-    cast-v
-    bit-of-requires
-    sub-work
-    mul-work
-    slice-write-work
-    add-k
-    loop-less
-    loop-again
-    same-length
-    returns)
+    Inv-loop μ-loop loop-holds mul-v shared-slice-read-v cast-v bit-of-requires sub-work mul-work slice-write-work add-k loop-less
+    loop-again same-length returns)

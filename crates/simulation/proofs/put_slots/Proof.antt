@@ -74,16 +74,5 @@ pub put-slots-spec : {M : Type 1} → statement M
 put-slots-spec =
     tie.close
     (tie.spec
-    Inv-loop
-    μ-loop
-    loop-holds
-    mul-v
-    shared-slice-read-v
-    cast-v
-    counting-word-requires
-    put-word-requires
-    add-k
-    loop-less
-    loop-again
-    same-length
-    returns)
+    Inv-loop μ-loop loop-holds mul-v shared-slice-read-v cast-v counting-word-requires put-word-requires add-k loop-less loop-again
+    same-length returns)

@@ -100,18 +100,5 @@ pub scan-spec : {M : Type 1} → statement M
 scan-spec =
     tie.close
     (tie.spec
-    Inv-loop
-    μ-loop
-    loop-holds
-    mul-loop
-    add-loop
-    first-in-requires
-    same-length
-    returns
-    next-hits-requires
-    add-block
-    loop-less
-    loop-again
-    first-in-requires-2
-    same-length-2
-    returns-2)
+    Inv-loop μ-loop loop-holds mul-loop add-loop first-in-requires same-length returns next-hits-requires add-block loop-less
+    loop-again first-in-requires-2 same-length-2 returns-2)

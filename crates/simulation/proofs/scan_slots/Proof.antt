@@ -183,20 +183,6 @@ pub scan-slots-spec : {M : Type 1} → statement M
 scan-slots-spec =
     tie.close
     (tie.spec
-    tries-requires
-    slot-count-requires
-    whole-blocks-requires
-    slice-aggregate-fill-firsts
-    fill-firsts-requires
-    start-hits-requires
-    slice-aggregate-scan
-    scan-requires
-    clear-front-requires
-    put-bits-requires
-    same-length
-    returns
-    covers-requires
-    same-length-2
-    returns-2
-    same-length-3
-    returns-3)
+    tries-requires slot-count-requires whole-blocks-requires slice-aggregate-fill-firsts fill-firsts-requires start-hits-requires
+    slice-aggregate-scan scan-requires clear-front-requires put-bits-requires same-length returns covers-requires same-length-2
+    returns-2 same-length-3 returns-3)

@@ -14,18 +14,12 @@ use Rattle.simulation.proofs.eval_gates.Reads as eval-gates-reads
 use Rattle.simulation.proofs.hit_word.Reads as hit-word-reads
 use Rattle.simulation.proofs.put_slots.Reads as put-slots-reads
 
-clear-leaves-requires : tie.Need-clear-leaves-requires
-clear-leaves-requires c κs = search needs
-
 put-slots-requires : tie.Need-put-slots-requires
 put-slots-requires c κs =
     let s = c .before .before .before .before .before .before .before in
     let e = c .before .before .before .clear-leaves in
     let so = s .pre .1 .0 in
     (slotted (net-kept (s .pre .0) (e .last .0) (e .ensures .kept) (e .kept .0)) so (s .args .count) (omega arith), omega arith)
-
-add-eval-gates : tie.Need-add-eval-gates
-add-eval-gates c = search needs
 
 eval-gates-requires : tie.Need-eval-gates-requires
 eval-gates-requires c κs =
@@ -34,12 +28,6 @@ eval-gates-requires c κs =
     let b = c .before .before .before .put-slots in
     let w = now (s .args .work) in
     ((pairsOf w (s .args .g), s .args .root, net-kept (s .pre .0) (b .last .0) (kept-trans w (a .last .0) (b .last .0) (a .ensures .kept) (b .ensures .kept)) (b .kept .0 ∙ a .kept .0)), omega arith)
-
-hit-word-requires : tie.Need-hit-word-requires
-hit-word-requires c κs = search needs
-
-same-length : tie.Need-same-length
-same-length c = search needs
 
 returns : tie.Need-returns
 returns c =
@@ -53,10 +41,5 @@ pub start-hits-spec : {M : Type 1} → statement M
 start-hits-spec =
     tie.close
     (tie.spec
-    clear-leaves-requires
-    put-slots-requires
-    add-eval-gates
-    eval-gates-requires
-    hit-word-requires
-    same-length
+    (λ c κs. search needs) put-slots-requires (λ c. search needs) eval-gates-requires (λ c κs. search needs) (λ c. search needs)
     returns)

@@ -10,23 +10,8 @@ use Rattle.simulation.proofs.take_slot.Lts as lts
 returns : tie.Need-returns
 returns c = let a = c .before .args in taken-none (now (a .slots)) (a .r) (a .v) (a .mark) (omega arith)
 
-mul-slots : tie.Need-mul-slots
-mul-slots c = search needs
-
-slice-write-slots : tie.Need-slice-write-slots
-slice-write-slots c = search needs
-
-add-result : tie.Need-add-result
-add-result c = search needs
-
-same-length : tie.Need-same-length
-same-length c = search needs
-
 returns-2 : tie.Need-returns-2
 returns-2 c = let a = c .before .before .args in taken-one (now (a .slots)) (a .r) (a .v) (a .mark) (λ e. omega arith) (omega arith)
-
-add-result-2 : tie.Need-add-result-2
-add-result-2 c = search needs
 
 returns-3 : tie.Need-returns-3
 returns-3 c = let a = c .before .before .args in taken-over (now (a .slots)) (a .r) (a .v) (a .mark) (λ e. omega arith) (λ e. omega arith)
@@ -35,11 +20,4 @@ pub take-slot-spec : {M : Type 1} → statement M
 take-slot-spec =
     tie.close
     (tie.spec
-    returns
-    mul-slots
-    slice-write-slots
-    add-result
-    same-length
-    returns-2
-    add-result-2
-    returns-3)
+    returns (λ c. search needs) (λ c. search needs) (λ c. search needs) (λ c. search needs) returns-2 (λ c. search needs) returns-3)

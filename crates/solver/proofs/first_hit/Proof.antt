@@ -12,12 +12,6 @@ use Rattle.conflicts.proofs.run.Reads as run-reads
 use Rattle.netlist.proofs.build.Reads as build-reads
 use Rattle.solver.proofs.put_bits.Reads as put-bits-reads
 
-build-requires : tie.Need-build-requires
-build-requires c κs = search needs
-
-run-requires : tie.Need-run-requires
-run-requires c κs = search needs
-
 put-bits-requires : tie.Need-put-bits-requires
 put-bits-requires c κs =
     let s = c .before .before .before .before .before .before .before .before .before .before in
@@ -25,9 +19,6 @@ put-bits-requires c κs =
     let b = c .before .before .before .before .before .before .before .build in
     let u = c .before .before .before .run in
     free-few (now (a .work)) (b .last .0) (u .last .0) (a .g) (edgeWord (a .root)) (a .effort) (s .pre) (b .result) (u .result) (b .ensures) (u .ensures)
-
-same-length : tie.Need-same-length
-same-length c = search needs
 
 returns : tie.Need-returns
 returns c =
@@ -38,4 +29,4 @@ returns c =
     solved-is (now (a .work)) (b .last .0) (u .last .0) (a .g) (edgeWord (a .root)) (a .effort) (s .pre) (b .result) (u .result) (b .ensures) (u .ensures) _ (u .result) refl (u .kept .0 ∙ b .kept .0) (c .before .before .put-bits .ensures)
 
 pub first-hit-spec : {M : Type 1} → statement M
-first-hit-spec = tie.close (tie.spec build-requires run-requires put-bits-requires same-length returns)
+first-hit-spec = tie.close (tie.spec (λ c κs. search needs) (λ c κs. search needs) put-bits-requires (λ c. search needs) returns)

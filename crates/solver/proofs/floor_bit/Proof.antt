@@ -8,9 +8,6 @@ use Rattle.solver.proofs.floor_bit.Reads as reads
 use Rattle.solver.proofs.floor_bit.Lts as lts
 use Rattle.memory.proofs.field.Reads as field-reads
 
-field-requires : tie.Need-field-requires
-field-requires c κs = search needs
-
 returns : tie.Need-returns
 unfolding bitOf
 returns c = rw (← c .before .field .ensures, eq-eqb _ _ (c .if1 .taken))
@@ -20,4 +17,4 @@ unfolding bitOf
 returns-2 c = rw (← c .before .field .ensures, ne-eqb _ _ (c .if1 .left))
 
 pub floor-bit-spec : {M : Type 1} → statement M
-floor-bit-spec = tie.close (tie.spec field-requires returns returns-2)
+floor-bit-spec = tie.close (tie.spec (λ c κs. search needs) returns returns-2)

@@ -61,15 +61,4 @@ pub put-bits-spec : {M : Type 1} → statement M
 put-bits-spec =
     tie.close
     (tie.spec
-    Inv-loop
-    μ-loop
-    loop-holds
-    add-floor-bit
-    floor-bit-requires
-    cast-put
-    put-requires
-    add-j
-    loop-less
-    loop-again
-    same-length
-    returns)
+    Inv-loop μ-loop loop-holds add-floor-bit floor-bit-requires cast-put put-requires add-j loop-less loop-again same-length returns)

@@ -8,12 +8,9 @@ use Rattle.states.specs.Table.{bucketOf}
 use Rattle.states.proofs.bucket.Statement.{statement}
 use Rattle.states.proofs.bucket.Tie as tie
 
-mul-result : tie.Need-mul-result
-mul-result c = search needs
-
 returns : tie.Need-returns
 unfolding bucketOf
 returns c = (refl, mod-lt (c .args .s * 2654435761 / 1048576) (omega arith))
 
 pub bucket-spec : {M : Type 1} → statement M
-bucket-spec = tie.close (tie.spec mul-result returns)
+bucket-spec = tie.close (tie.spec (λ c. search needs) returns)

@@ -18,12 +18,6 @@ Inv-loop records heads s h next₀ next = (es : List Entry) → Stored records h
 abbrev μ-loop : tie.MeasureT-loop
 μ-loop records heads s h next₀ next = next
 
-bucket-requires : tie.Need-bucket-requires Inv-loop μ-loop
-bucket-requires c κs = search needs
-
-mul-next : tie.Need-mul-next Inv-loop μ-loop
-mul-next c = search needs
-
 shared-slice-read-next : tie.Need-shared-slice-read-next Inv-loop μ-loop
 shared-slice-read-next c = omega (arith, c .before .before .before .before .pre .1 .buckets, c .before .bucket .ensures .1)
 
@@ -73,22 +67,5 @@ pub known-spec : {M : Type 1} → statement M
 known-spec =
     tie.close
     (tie.spec
-    Inv-loop
-    μ-loop
-    bucket-requires
-    mul-next
-    shared-slice-read-next
-    cast-next
-    loop-holds
-    sub-at
-    mul-at
-    mul-if1
-    shared-slice-read-if1
-    returns
-    add-next
-    mul-next-2
-    shared-slice-read-next-2
-    cast-next-2
-    loop-less
-    loop-again
-    returns-2)
+    Inv-loop μ-loop (λ c κs. search needs) (λ c. search needs) shared-slice-read-next cast-next loop-holds sub-at mul-at mul-if1
+    shared-slice-read-if1 returns add-next mul-next-2 shared-slice-read-next-2 cast-next-2 loop-less loop-again returns-2)

@@ -15,23 +15,8 @@ returns c = Meets.lost (omega arith)
 known-requires : tie.Need-known-requires
 known-requires c κs = let s = c .before .before .before .before .before .pre .stored (omega arith) in (s .0, s .2)
 
-same-length : tie.Need-same-length
-same-length c = search needs
-
-same-length-2 : tie.Need-same-length-2
-same-length-2 c = search needs
-
 returns-2 : tie.Need-returns-2
 returns-2 c = Meets.again (omega arith) (λ es t. sym (c .before .known .ensures es t) ∙ c .if2 .taken)
-
-add-result : tie.Need-add-result
-add-result c = search needs
-
-same-length-3 : tie.Need-same-length-3
-same-length-3 c = search needs
-
-same-length-4 : tie.Need-same-length-4
-same-length-4 c = search needs
 
 returns-3 : tie.Need-returns-3
 returns-3 c = Meets.full (omega arith) (λ es t. sym (c .before .before .known .ensures es t) ∙ c .before .if2 .left)
@@ -40,15 +25,6 @@ add-requires : tie.Need-add-requires
 add-requires c κs =
     let s = c .before .before .before .before .before .before .before .before .before .before .pre .stored (omega arith) in
     (omega (arith, c .before .before .before .before .before .before .before .before .before .before .pre .quota-room), s .2 .buckets, omega (arith, c .before .before .before .before .before .before .before .before .before .before .pre .quota-small))
-
-add-result-2 : tie.Need-add-result-2
-add-result-2 c = search needs
-
-same-length-5 : tie.Need-same-length-5
-same-length-5 c = search needs
-
-same-length-6 : tie.Need-same-length-6
-same-length-6 c = search needs
 
 returns-4 : tie.Need-returns-4
 returns-4 c =
@@ -61,17 +37,5 @@ pub meet-spec : {M : Type 1} → statement M
 meet-spec =
     tie.close
     (tie.spec
-    returns
-    known-requires
-    same-length
-    same-length-2
-    returns-2
-    add-result
-    same-length-3
-    same-length-4
-    returns-3
-    add-requires
-    add-result-2
-    same-length-5
-    same-length-6
-    returns-4)
+    returns known-requires (λ c. search needs) (λ c. search needs) returns-2 (λ c. search needs) (λ c. search needs)
+    (λ c. search needs) returns-3 add-requires (λ c. search needs) (λ c. search needs) (λ c. search needs) returns-4)

@@ -84,17 +84,5 @@ pub cover-gates-spec : {M : Type 1} → statement M
 cover-gates-spec =
     tie.close
     (tie.spec
-    Inv-loop
-    μ-loop
-    loop-holds
-    mul-g
-    shared-slice-read-g
-    cast-g
-    mul-cover-gate
-    add-cover-gate
-    cover-gate-requires
-    add-k
-    loop-less
-    loop-again
-    same-length
-    returns)
+    Inv-loop μ-loop loop-holds mul-g shared-slice-read-g cast-g mul-cover-gate add-cover-gate cover-gate-requires add-k loop-less
+    loop-again same-length returns)

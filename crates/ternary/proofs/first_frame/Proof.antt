@@ -17,9 +17,6 @@ use borrow.Author.Needs.{needs}
 use Rattle.ternary.proofs.first_frame.Statement.{statement}
 use Rattle.ternary.proofs.first_frame.Tie as tie
 
-fill-requires : tie.Need-fill-requires
-fill-requires c κs = search needs
-
 put-line-requires : tie.Need-put-line-requires
 put-line-requires c κs =
     let F = c .before .before .before .fill in
@@ -30,15 +27,6 @@ put-line-requires c κs =
       small = λ i h. omega (arith, latches-apart R .below i h, S .pre .1, F .kept .0);
       inside = omega (arith, S .pre .2);
     }
-
-add-put-frame : tie.Need-add-put-frame
-add-put-frame c = search needs
-
-put-frame-requires : tie.Need-put-frame-requires
-put-frame-requires c κs = search needs
-
-same-length : tie.Need-same-length
-same-length c = search needs
 
 returns : tie.Need-returns
 returns c =
@@ -57,4 +45,4 @@ returns c =
 pub first-frame-spec : {M : Type 1} → statement M
 first-frame-spec =
     tie.close
-    (tie.spec fill-requires put-line-requires add-put-frame put-frame-requires same-length returns)
+    (tie.spec (λ c κs. search needs) put-line-requires (λ c. search needs) (λ c κs. search needs) (λ c. search needs) returns)

@@ -15,12 +15,6 @@ use borrow.Author.Needs.{needs}
 use Rattle.ternary.proofs.is_sure.Statement.{statement}
 use Rattle.ternary.proofs.is_sure.Tie as tie
 
-opposite-requires : tie.Need-opposite-requires
-opposite-requires c κs = search needs
-
-shared-slice-read-result : tie.Need-shared-slice-read-result
-shared-slice-read-result c = search needs
-
 returns : tie.Need-returns
 returns c =
     λ e w h.
@@ -31,4 +25,4 @@ returns c =
     (eqb-true (getD (S .args .can .now) r 0) 0 e)
 
 pub is-sure-spec : {M : Type 1} → statement M
-is-sure-spec = tie.close (tie.spec opposite-requires shared-slice-read-result returns)
+is-sure-spec = tie.close (tie.spec (λ c κs. search needs) (λ c. search needs) returns)

@@ -16,24 +16,6 @@ use borrow.Author.Needs.{needs}
 use Rattle.ternary.proofs.next_frame.Statement.{statement}
 use Rattle.ternary.proofs.next_frame.Tie as tie
 
-save-state-requires : tie.Need-save-state-requires
-save-state-requires c κs = search needs
-
-fill-requires : tie.Need-fill-requires
-fill-requires c κs = search needs
-
-put-state-requires : tie.Need-put-state-requires
-put-state-requires c κs = search needs
-
-put-frame-requires : tie.Need-put-frame-requires
-put-frame-requires c κs = search needs
-
-same-length : tie.Need-same-length
-same-length c = search needs
-
-same-length-2 : tie.Need-same-length-2
-same-length-2 c = search needs
-
 returns : tie.Need-returns
 returns c =
     λ u q st v w h e y.
@@ -52,10 +34,5 @@ pub next-frame-spec : {M : Type 1} → statement M
 next-frame-spec =
     tie.close
     (tie.spec
-    save-state-requires
-    fill-requires
-    put-state-requires
-    put-frame-requires
-    same-length
-    same-length-2
+    (λ c κs. search needs) (λ c κs. search needs) (λ c κs. search needs) (λ c κs. search needs) (λ c. search needs) (λ c. search needs)
     returns)

@@ -5,12 +5,6 @@ use borrow.Author.Needs.{needs}
 use Rattle.ternary.proofs.opposite.Statement.{statement}
 use Rattle.ternary.proofs.opposite.Tie as tie
 
-add-result : tie.Need-add-result
-add-result c = search needs
-
-sub-result : tie.Need-sub-result
-sub-result c = search needs
-
 returns : tie.Need-returns
 returns c = let a = c .before .args in opposite-even (a .lit) _ (c .if1 .taken) refl
 
@@ -18,4 +12,4 @@ returns-2 : tie.Need-returns-2
 returns-2 c = let a = c .before .args in opposite-odd (a .lit) _ (c .if1 .left) refl
 
 pub opposite-spec : {M : Type 1} → statement M
-opposite-spec = tie.close (tie.spec add-result sub-result returns returns-2)
+opposite-spec = tie.close (tie.spec (λ c. search needs) (λ c. search needs) returns returns-2)

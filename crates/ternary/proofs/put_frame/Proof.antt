@@ -17,9 +17,6 @@ use borrow.Author.Needs.{needs}
 use Rattle.ternary.proofs.put_frame.Statement.{statement}
 use Rattle.ternary.proofs.put_frame.Tie as tie
 
-slice-write-can : tie.Need-slice-write-can
-slice-write-can c = search needs
-
 put-line-requires : tie.Need-put-line-requires
 put-line-requires c κs =
     let S = c .before .before .before .before .before in
@@ -61,4 +58,4 @@ returns c =
 
 pub put-frame-spec : {M : Type 1} → statement M
 put-frame-spec =
-    tie.close (tie.spec slice-write-can put-line-requires cover-gates-requires same-length returns)
+    tie.close (tie.spec (λ c. search needs) put-line-requires cover-gates-requires same-length returns)

@@ -127,25 +127,5 @@ pub put-line-spec : {M : Type 1} → statement M
 put-line-spec =
     tie.close
     (tie.spec
-    Inv-loop
-    μ-loop
-    loop-holds
-    mul-v
-    add-v
-    mul-v-2
-    shared-slice-read-v
-    cast-v
-    add-byte
-    shared-slice-read-byte
-    unless-requires
-    mul-can
-    slice-write-can
-    unless-requires-2
-    mul-can-2
-    add-can
-    slice-write-can-2
-    add-i
-    loop-less
-    loop-again
-    same-length
-    returns)
+    Inv-loop μ-loop loop-holds mul-v add-v mul-v-2 shared-slice-read-v cast-v add-byte shared-slice-read-byte unless-requires mul-can
+    slice-write-can unless-requires-2 mul-can-2 add-can slice-write-can-2 add-i loop-less loop-again same-length returns)

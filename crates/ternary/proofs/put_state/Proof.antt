@@ -124,26 +124,5 @@ pub put-state-spec : {M : Type 1} → statement M
 put-state-spec =
     tie.close
     (tie.spec
-    Inv-loop
-    μ-loop
-    loop-holds
-    mul-v
-    add-v
-    mul-v-2
-    shared-slice-read-v
-    cast-v
-    mul-can
-    shared-slice-read-can
-    mul-can-2
-    slice-write-can
-    mul-can-3
-    add-can
-    shared-slice-read-can-2
-    mul-can-4
-    add-can-2
-    slice-write-can-2
-    add-j
-    loop-less
-    loop-again
-    same-length
-    returns)
+    Inv-loop μ-loop loop-holds mul-v add-v mul-v-2 shared-slice-read-v cast-v mul-can shared-slice-read-can mul-can-2 slice-write-can
+    mul-can-3 add-can shared-slice-read-can-2 mul-can-4 add-can-2 slice-write-can-2 add-j loop-less loop-again same-length returns)

@@ -131,25 +131,6 @@ pub save-state-spec : {M : Type 1} → statement M
 save-state-spec =
     tie.close
     (tie.spec
-    Inv-loop
-    μ-loop
-    loop-holds
-    mul-next
-    add-next
-    add-next-2
-    mul-next-2
-    shared-slice-read-next
-    cast-next
-    opposite-requires
-    shared-slice-read-state
-    mul-state
-    slice-write-state
-    shared-slice-read-state-2
-    mul-state-2
-    add-state
-    slice-write-state-2
-    add-j
-    loop-less
-    loop-again
-    same-length
-    returns)
+    Inv-loop μ-loop loop-holds mul-next add-next add-next-2 mul-next-2 shared-slice-read-next cast-next opposite-requires
+    shared-slice-read-state mul-state slice-write-state shared-slice-read-state-2 mul-state-2 add-state slice-write-state-2 add-j
+    loop-less loop-again same-length returns)

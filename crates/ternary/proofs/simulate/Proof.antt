@@ -203,28 +203,6 @@ pub simulate-spec : {M : Type 1} → statement M
 simulate-spec =
     tie.close
     (tie.spec
-    Inv-loop
-    μ-loop
-    add-width
-    starts-agree-requires
-    returns
-    add-at
-    first-frame-requires
-    loop-holds
-    surely-allowed-requires
-    same-length
-    same-length-2
-    returns-2
-    add-at-2
-    next-frame-requires
-    add-u
-    loop-less
-    loop-again
-    surely-allowed-requires-2
-    same-length-3
-    same-length-4
-    returns-3
-    surely-bad-requires
-    same-length-5
-    same-length-6
-    returns-4)
+    Inv-loop μ-loop add-width starts-agree-requires returns add-at first-frame-requires loop-holds surely-allowed-requires same-length
+    same-length-2 returns-2 add-at-2 next-frame-requires add-u loop-less loop-again surely-allowed-requires-2 same-length-3
+    same-length-4 returns-3 surely-bad-requires same-length-5 same-length-6 returns-4)

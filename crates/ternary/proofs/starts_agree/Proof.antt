@@ -105,22 +105,6 @@ pub starts-agree-spec : {M : Type 1} → statement M
 starts-agree-spec =
     tie.close
     (tie.spec
-    Inv-loop
-    μ-loop
-    loop-holds
-    mul-start-agrees
-    add-start-agrees
-    mul-start-agrees-2
-    shared-slice-read-start-agrees
-    mul-start-agrees-3
-    add-start-agrees-2
-    add-start-agrees-3
-    mul-start-agrees-4
-    shared-slice-read-start-agrees-2
-    shared-slice-read-start-agrees-3
-    start-agrees-requires
-    returns
-    add-j
-    loop-less
-    loop-again
-    returns-2)
+    Inv-loop μ-loop loop-holds mul-start-agrees add-start-agrees mul-start-agrees-2 shared-slice-read-start-agrees mul-start-agrees-3
+    add-start-agrees-2 add-start-agrees-3 mul-start-agrees-4 shared-slice-read-start-agrees-2 shared-slice-read-start-agrees-3
+    start-agrees-requires returns add-j loop-less loop-again returns-2)

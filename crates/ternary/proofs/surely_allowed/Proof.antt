@@ -94,16 +94,5 @@ pub surely-allowed-spec : {M : Type 1} → statement M
 surely-allowed-spec =
     tie.close
     (tie.spec
-    Inv-loop
-    μ-loop
-    loop-holds
-    add-is-sure
-    mul-is-sure
-    shared-slice-read-is-sure
-    cast-is-sure
-    is-sure-requires
-    returns
-    add-k
-    loop-less
-    loop-again
-    returns-2)
+    Inv-loop μ-loop loop-holds add-is-sure mul-is-sure shared-slice-read-is-sure cast-is-sure is-sure-requires returns add-k loop-less
+    loop-again returns-2)

@@ -42,9 +42,4 @@ pub surely-bad-spec : {M : Type 1} → statement M
 surely-bad-spec =
     tie.close
     (tie.spec
-    add-is-sure
-    mul-is-sure
-    shared-slice-read-is-sure
-    cast-is-sure
-    is-sure-requires
-    returns)
+    add-is-sure mul-is-sure shared-slice-read-is-sure cast-is-sure is-sure-requires returns)

@@ -6,15 +6,6 @@ use borrow.Author.Needs.{needs}
 use Rattle.toposort.proofs.advance.Statement.{statement}
 use Rattle.toposort.proofs.advance.Tie as tie
 
-sub-g : tie.Need-sub-g
-sub-g c = search needs
-
-mul-g : tie.Need-mul-g
-mul-g c = search needs
-
-slice-read-g : tie.Need-slice-read-g
-slice-read-g c = search needs
-
 cast-g : tie.Need-cast-g
 cast-g c =
     let S = c .before .before .before .before .before .before in
@@ -24,9 +15,6 @@ operand-requires : tie.Need-operand-requires
 operand-requires c κs =
     let S = c .before .before .before .before .before .before .before in
     (S .pre .0, (S .pre .1 .0 .pos-room, top-gate _ _ _ _ _ _ _ (S .pre .1 .0) (S .pre .1 .1)))
-
-enum-known-h : tie.Need-enum-known-h
-enum-known-h c = search needs
 
 push-requires : tie.Need-push-requires
 push-requires c κs =
@@ -40,12 +28,6 @@ push-requires c κs =
       S .pre .1 .0 .stack-room,
     )
 
-enum-told : tie.Need-enum-told
-enum-told c = search needs
-
-enum-told-2 : tie.Need-enum-told-2
-enum-told-2 c = search needs
-
 place-requires : tie.Need-place-requires
 place-requires c κs =
     let S = c .before .before .before .before .before .before .before .before .before .before .before .before in (
@@ -55,12 +37,6 @@ place-requires c κs =
       S .pre .1 .0 .pos-room,
       S .pre .1 .0 .order-room,
     )
-
-same-length : tie.Need-same-length
-same-length c = search needs
-
-same-length-2 : tie.Need-same-length-2
-same-length-2 c = search needs
 
 returns : tie.Need-returns
 returns c =
@@ -75,21 +51,12 @@ returns c =
           (n .1 left right o),
     )
 
-same-length-3 : tie.Need-same-length-3
-same-length-3 c = search needs
-
 returns-2 : tie.Need-returns-2
 returns-2 c =
     let K = c .before .before in
     let S = c .before .before .before .before .before .before .before .before .before .before in
     let n = rw (c .enum-told .given .1) at (K .operand .ensures) in
     (search-cycle _ _ _ _ _ _ _ (S .pre .1 .0) (S .pre .1 .1) (n .0 .0) (n .0 .1) (n .0 .2), λ left right o. tt)
-
-same-length-4 : tie.Need-same-length-4
-same-length-4 c = search needs
-
-same-length-5 : tie.Need-same-length-5
-same-length-5 c = search needs
 
 returns-3 : tie.Need-returns-3
 returns-3 c =
@@ -105,21 +72,6 @@ pub advance-spec : {M : Type 1} → statement M
 advance-spec =
     tie.close
     (tie.spec
-    sub-g
-    mul-g
-    slice-read-g
-    cast-g
-    operand-requires
-    enum-known-h
-    push-requires
-    enum-told
-    enum-told-2
-    place-requires
-    same-length
-    same-length-2
-    returns
-    same-length-3
-    returns-2
-    same-length-4
-    same-length-5
-    returns-3)
+    (λ c. search needs) (λ c. search needs) (λ c. search needs) cast-g operand-requires (λ c. search needs) push-requires
+    (λ c. search needs) (λ c. search needs) place-requires (λ c. search needs) (λ c. search needs) returns (λ c. search needs)
+    returns-2 (λ c. search needs) (λ c. search needs) returns-3)

@@ -8,26 +8,8 @@ use borrow.Author.Needs.{needs}
 use Rattle.toposort.proofs.look.Statement.{statement}
 use Rattle.toposort.proofs.look.Tie as tie
 
-cast-at : tie.Need-cast-at
-cast-at c = search needs
-
-mul-a : tie.Need-mul-a
-mul-a c = search needs
-
-shared-slice-read-a : tie.Need-shared-slice-read-a
-shared-slice-read-a c = search needs
-
 cast-a : tie.Need-cast-a
 cast-a c = omega (arith, c .shared-slice-known .given (c .before .before .args .v .0))
-
-returns : tie.Need-returns
-returns c = search needs
-
-sub-h : tie.Need-sub-h
-sub-h c = search needs
-
-sub-h-2 : tie.Need-sub-h-2
-sub-h-2 c = search needs
 
 mul-p : tie.Need-mul-p
 mul-p c = let S = c .before .before .before in omega (arith, S .pre .1 .1 (S .args .v .0))
@@ -61,16 +43,5 @@ pub look-spec : {M : Type 1} → statement M
 look-spec =
     tie.close
     (tie.spec
-    cast-at
-    mul-a
-    shared-slice-read-a
-    cast-a
-    returns
-    sub-h
-    sub-h-2
-    mul-p
-    shared-slice-read-p
-    cast-p
-    returns-2
-    returns-3
-    returns-4)
+    (λ c. search needs) (λ c. search needs) (λ c. search needs) cast-a (λ c. search needs) (λ c. search needs) (λ c. search needs)
+    mul-p shared-slice-read-p cast-p returns-2 returns-3 returns-4)

@@ -21,55 +21,10 @@ right-read : (c : tie.After-var2) →
     (3 * S .args .g + 2) 0 / 2)
 right-read c = ap (λ (v : Var). v .0) (c .var2 .ensures) ∙ ap (λ (l : Lit). l .0 .0) (c .before .from-word2 .ensures)
 
-mul-from-word : tie.Need-mul-from-word
-mul-from-word c = search needs
-
-add-from-word : tie.Need-add-from-word
-add-from-word c = search needs
-
-mul-from-word-2 : tie.Need-mul-from-word-2
-mul-from-word-2 c = search needs
-
-shared-slice-read-from-word : tie.Need-shared-slice-read-from-word
-shared-slice-read-from-word c = search needs
-
-from-word-requires : tie.Need-from-word-requires
-from-word-requires c κs = search needs
-
-var-requires : tie.Need-var-requires
-var-requires c κs = search needs
-
-mul-from-word-3 : tie.Need-mul-from-word-3
-mul-from-word-3 c = search needs
-
-add-from-word-2 : tie.Need-add-from-word-2
-add-from-word-2 c = search needs
-
-mul-from-word-4 : tie.Need-mul-from-word-4
-mul-from-word-4 c = search needs
-
-shared-slice-read-from-word-2 : tie.Need-shared-slice-read-from-word-2
-shared-slice-read-from-word-2 c = search needs
-
-from-word-requires-2 : tie.Need-from-word-requires-2
-from-word-requires-2 c κs = search needs
-
-var-requires-2 : tie.Need-var-requires-2
-var-requires-2 c κs = search needs
-
 look-requires : tie.Need-look-requires
 look-requires c κs =
     let S = c .before .before .before .before .before .before .before .before .before in
     (rw (left-read (c .before .before .before)) (S .pre .0 .left (S .args .g) (S .pre .1 .1)), (S .pre .1 .0, S .pre .0 .bound))
-
-enum-known-h : tie.Need-enum-known-h
-enum-known-h c = search needs
-
-enum-told : tie.Need-enum-told
-enum-told c = search needs
-
-enum-told-2 : tie.Need-enum-told-2
-enum-told-2 c = search needs
 
 look-requires-2 : tie.Need-look-requires-2
 look-requires-2 c κs =
@@ -113,23 +68,6 @@ pub operand-spec : {M : Type 1} → statement M
 operand-spec =
     tie.close
     (tie.spec
-    mul-from-word
-    add-from-word
-    mul-from-word-2
-    shared-slice-read-from-word
-    from-word-requires
-    var-requires
-    mul-from-word-3
-    add-from-word-2
-    mul-from-word-4
-    shared-slice-read-from-word-2
-    from-word-requires-2
-    var-requires-2
-    look-requires
-    enum-known-h
-    enum-told
-    enum-told-2
-    look-requires-2
-    returns
-    returns-2
-    returns-3)
+    (λ c. search needs) (λ c. search needs) (λ c. search needs) (λ c. search needs) (λ c κs. search needs) (λ c κs. search needs)
+    (λ c. search needs) (λ c. search needs) (λ c. search needs) (λ c. search needs) (λ c κs. search needs) (λ c κs. search needs)
+    look-requires (λ c. search needs) (λ c. search needs) (λ c. search needs) look-requires-2 returns returns-2 returns-3)

@@ -7,30 +7,6 @@ use borrow.Author.Needs.{needs}
 use Rattle.toposort.proofs.ordered.Statement.{statement}
 use Rattle.toposort.proofs.ordered.Tie as tie
 
-layout-of-requires : tie.Need-layout-of-requires
-layout-of-requires c κs = search needs
-
-mul-sort : tie.Need-mul-sort
-mul-sort c = search needs
-
-sub-sort : tie.Need-sub-sort
-sub-sort c = search needs
-
-part-sort-start : tie.Need-part-sort-start
-part-sort-start c = search needs
-
-part-sort-end : tie.Need-part-sort-end
-part-sort-end c = search needs
-
-add-sort : tie.Need-add-sort
-add-sort c = search needs
-
-slice-aggregate-sort : tie.Need-slice-aggregate-sort
-slice-aggregate-sort c = search needs
-
-slice-aggregate-sort-2 : tie.Need-slice-aggregate-sort-2
-slice-aggregate-sort-2 c = search needs
-
 sort-requires : tie.Need-sort-requires
 sort-requires c κs =
     let Q = c .before .before .before .before .before in
@@ -39,9 +15,6 @@ sort-requires c κs =
           (Q .layout-of .result) (Q .layout-of .ensures .0),
       ((omega arith, omega arith, omega arith), λ g l. getD-zeros 3072 g),
     )
-
-same-length : tie.Need-same-length
-same-length c = search needs
 
 returns : tie.Need-returns
 returns c =
@@ -55,14 +28,5 @@ pub ordered-spec : {M : Type 1} → statement M
 ordered-spec =
     tie.close
     (tie.spec
-    layout-of-requires
-    mul-sort
-    sub-sort
-    part-sort-start
-    part-sort-end
-    add-sort
-    slice-aggregate-sort
-    slice-aggregate-sort-2
-    sort-requires
-    same-length
-    returns)
+    (λ c κs. search needs) (λ c. search needs) (λ c. search needs) (λ c. search needs) (λ c. search needs) (λ c. search needs)
+    (λ c. search needs) (λ c. search needs) sort-requires (λ c. search needs) returns)

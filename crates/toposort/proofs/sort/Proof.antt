@@ -36,9 +36,6 @@ advance-requires c κs =
       (L .loop .inv .0 .search, c .before .before .before .if1 .taken),
     )
 
-enum-told : tie.Need-enum-told Inv-loop μ-loop
-enum-told c = search needs
-
 add-sp : tie.Need-add-sp Inv-loop μ-loop
 add-sp c =
     let A = c .before .before .before .before .before .before .before .before in
@@ -77,9 +74,6 @@ loop-again c =
       λ left right o. ap (placedFrom left right (S .args .m) (L .loop .s) (S .args .m - L .loop .s)) (n .1 left right o)
           ∙ L .loop .inv .4 left right o,
     )
-
-enum-told-2 : tie.Need-enum-told-2 Inv-loop μ-loop
-enum-told-2 c = search needs
 
 sub-sp : tie.Need-sub-sp Inv-loop μ-loop
 sub-sp c = omega arith
@@ -123,9 +117,6 @@ loop-again-2 c =
       λ left right o. ap (placedFrom left right (S .args .m) (L .loop .s) (S .args .m - L .loop .s)) (n .1 left right o)
           ∙ L .loop .inv .4 left right o,
     )
-
-enum-told-3 : tie.Need-enum-told-3 Inv-loop μ-loop
-enum-told-3 c = search needs
 
 same-length : tie.Need-same-length Inv-loop μ-loop
 same-length c =
@@ -240,34 +231,6 @@ pub sort-spec : {M : Type 1} → statement M
 sort-spec =
     tie.close
     (tie.spec
-    Inv-loop
-    μ-loop
-    loop-holds
-    advance-requires
-    enum-told
-    add-sp
-    loop-less
-    loop-again
-    enum-told-2
-    sub-sp
-    add-done
-    loop-less-2
-    loop-again-2
-    enum-told-3
-    same-length
-    same-length-2
-    same-length-3
-    returns
-    mul-if2
-    slice-read-if2
-    push-requires
-    add-sp-2
-    loop-less-3
-    loop-again-3
-    add-s
-    loop-less-4
-    loop-again-4
-    same-length-4
-    same-length-5
-    same-length-6
-    returns-2)
+    Inv-loop μ-loop loop-holds advance-requires (λ c. search needs) add-sp loop-less loop-again (λ c. search needs) sub-sp add-done
+    loop-less-2 loop-again-2 (λ c. search needs) same-length same-length-2 same-length-3 returns mul-if2 slice-read-if2 push-requires
+    add-sp-2 loop-less-3 loop-again-3 add-s loop-less-4 loop-again-4 same-length-4 same-length-5 same-length-6 returns-2)

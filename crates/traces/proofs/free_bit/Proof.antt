@@ -26,18 +26,6 @@ row-below free width j k n l = quotient-below (j - free) k width (omega (arith, 
 shared-slice-read-result : tie.Need-shared-slice-read-result
 shared-slice-read-result c = omega (arith, c .before .before .pre .0)
 
-sub-result : tie.Need-sub-result
-sub-result c = search needs
-
-sub-result-2 : tie.Need-sub-result-2
-sub-result-2 c = search needs
-
-cast-result : tie.Need-cast-result
-cast-result c = search needs
-
-shr-result : tie.Need-shr-result
-shr-result c = search needs
-
 returns : tie.Need-returns
 unfolding bit
 returns c = λ t x d l. start-free (c .before .before .args .width) (c .before .before .args .trace .now) (c .before .before .args .free) t x (c .before .before .args .j) d (c .before .if1 .taken)
@@ -81,19 +69,5 @@ pub free-bit-spec : {M : Type 1} → statement M
 free-bit-spec =
     tie.close
     (tie.spec
-    shared-slice-read-result
-    sub-result
-    sub-result-2
-    cast-result
-    shr-result
-    returns
-    div-u
-    rem-i
-    add-result
-    mul-result
-    shared-slice-read-result-2
-    sub-result-3
-    sub-result-4
-    cast-result-2
-    shr-result-2
-    returns-2)
+    shared-slice-read-result (λ c. search needs) (λ c. search needs) (λ c. search needs) (λ c. search needs) returns div-u rem-i
+    add-result mul-result shared-slice-read-result-2 sub-result-3 sub-result-4 cast-result-2 shr-result-2 returns-2)

@@ -62,14 +62,4 @@ pub put-trace-spec : {M : Type 1} → statement M
 put-trace-spec =
     tie.close
     (tie.spec
-    Inv-loop
-    μ-loop
-    loop-holds
-    free-bit-requires
-    mul-work
-    slice-write-work
-    add-j
-    loop-less
-    loop-again
-    same-length
-    returns)
+    Inv-loop μ-loop loop-holds free-bit-requires mul-work slice-write-work add-j loop-less loop-again same-length returns)

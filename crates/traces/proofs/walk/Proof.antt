@@ -110,30 +110,6 @@ pub walk-spec : {M : Type 1} → statement M
 walk-spec =
     tie.close
     (tie.spec
-    Inv-loop
-    μ-loop
-    cast-trace
-    add-trace
-    mul-trace
-    slice-write-trace
-    loop-holds
-    mul-at
-    add-trace-2
-    mul-trace-2
-    shared-slice-read-trace
-    mul-trace-3
-    slice-write-trace-2
-    add-i
-    mul-i
-    shared-slice-read-i
-    cast-i
-    sub-u
-    loop-less
-    loop-again
-    mul-trace-4
-    add-trace-3
-    mul-trace-5
-    shared-slice-read-trace-2
-    slice-write-trace-3
-    same-length
-    returns)
+    Inv-loop μ-loop cast-trace add-trace mul-trace slice-write-trace loop-holds mul-at add-trace-2 mul-trace-2 shared-slice-read-trace
+    mul-trace-3 slice-write-trace-2 add-i mul-i shared-slice-read-i cast-i sub-u loop-less loop-again mul-trace-4 add-trace-3
+    mul-trace-5 shared-slice-read-trace-2 slice-write-trace-3 same-length returns)

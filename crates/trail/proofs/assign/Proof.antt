@@ -10,18 +10,6 @@ returns : tie.Need-returns
 unfolding S.assigned
 returns c = rw (le-leb _ _ (c .if1 .taken)) (record { words = refl; state = refl })
 
-set-node-requires : tie.Need-set-node-requires
-set-node-requires c κs = search needs
-
-set-field-requires : tie.Need-set-field-requires
-set-field-requires c κs = search needs
-
-add-t12 : tie.Need-add-t12
-add-t12 c = search needs
-
-same-length : tie.Need-same-length
-same-length c = search needs
-
 returns-2 : tie.Need-returns-2
 unfolding S.assigned
 returns-2 c =
@@ -30,4 +18,4 @@ returns-2 c =
 
 pub assign-spec : {M : Type 1} → statement M
 assign-spec =
-    tie.close (tie.spec returns set-node-requires set-field-requires add-t12 same-length returns-2)
+    tie.close (tie.spec returns (λ c κs. search needs) (λ c κs. search needs) (λ c. search needs) (λ c. search needs) returns-2)

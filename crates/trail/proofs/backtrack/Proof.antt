@@ -5,18 +5,6 @@ use borrow.Author.Needs.{needs}
 use Rattle.trail.proofs.backtrack.Statement.{statement}
 use Rattle.trail.proofs.backtrack.Tie as tie
 
-take-back-requires : tie.Need-take-back-requires
-take-back-requires c κs = search needs
-
-smaller-requires : tie.Need-smaller-requires
-smaller-requires c κs = search needs
-
-smaller-requires-2 : tie.Need-smaller-requires-2
-smaller-requires-2 c κs = search needs
-
-same-length : tie.Need-same-length
-same-length c = search needs
-
 returns : tie.Need-returns
 unfolding S.backtracked
 returns c =
@@ -25,4 +13,4 @@ returns c =
 
 pub backtrack-spec : {M : Type 1} → statement M
 backtrack-spec =
-    tie.close (tie.spec take-back-requires smaller-requires smaller-requires-2 same-length returns)
+    tie.close (tie.spec (λ c κs. search needs) (λ c κs. search needs) (λ c κs. search needs) (λ c. search needs) returns)

@@ -10,18 +10,9 @@ returns : tie.Need-returns
 unfolding S.decided
 returns c = rw (le-leb _ _ (c .if1 .taken)) (record { words = refl; state = refl })
 
-add-t7 : tie.Need-add-t7
-add-t7 c = search needs
-
-assign-requires : tie.Need-assign-requires
-assign-requires c κs = search needs
-
-same-length : tie.Need-same-length
-same-length c = search needs
-
 returns-2 : tie.Need-returns-2
 unfolding S.decided
 returns-2 c = rw (lt-leb _ _ (c .before .before .before .before .before .if1 .left)) (c .before .before .assign .ensures)
 
 pub decide-spec : {M : Type 1} → statement M
-decide-spec = tie.close (tie.spec returns add-t7 assign-requires same-length returns-2)
+decide-spec = tie.close (tie.spec returns (λ c. search needs) (λ c κs. search needs) (λ c. search needs) returns-2)

@@ -23,12 +23,6 @@ loop-holds c = (refl, refl)
 sub-field : tie.Need-sub-field Inv-loop μ-loop
 sub-field c = omega arith
 
-field-requires : tie.Need-field-requires Inv-loop μ-loop
-field-requires c κs = search needs
-
-field-requires-2 : tie.Need-field-requires-2 Inv-loop μ-loop
-field-requires-2 c κs = search needs
-
 same-length : tie.Need-same-length Inv-loop μ-loop
 same-length c =
     c .before .before .before .before .before .before .loop .inv .0
@@ -40,9 +34,6 @@ returns c =
     let low = subst (λ (k : ℕ). k ≤ s .to) (c .before .field2 .ensures ∙ ap (λ (k : ℕ). M.field (l .work) (s .nodes) (k / 2) 6) (c .before .before .before .field .ensures)) (c .if1 .taken) in
     let all = sym (taken-stop (l .work) (s .nodes) (s .to) (l .left) (omega arith) low) ∙ l .inv .1 in
     record { words = ap (λ (t : Counted). t .words) all; count = ap (λ (t : Counted). t .count) all }
-
-set-field-requires : tie.Need-set-field-requires Inv-loop μ-loop
-set-field-requires c κs = search needs
 
 sub-left : tie.Need-sub-left Inv-loop μ-loop
 sub-left c = omega arith
@@ -74,17 +65,5 @@ pub take-back-spec : {M : Type 1} → statement M
 take-back-spec =
     tie.close
     (tie.spec
-    Inv-loop
-    μ-loop
-    loop-holds
-    sub-field
-    field-requires
-    field-requires-2
-    same-length
-    returns
-    set-field-requires
-    sub-left
-    loop-less
-    loop-again
-    same-length-2
-    returns-2)
+    Inv-loop μ-loop loop-holds sub-field (λ c κs. search needs) (λ c κs. search needs) same-length returns (λ c κs. search needs)
+    sub-left loop-less loop-again same-length-2 returns-2)

@@ -5,9 +5,6 @@ use borrow.Author.Needs.{needs}
 use Rattle.trail.proofs.value.Statement.{statement}
 use Rattle.trail.proofs.value.Tie as tie
 
-field-requires : tie.Need-field-requires
-field-requires c κs = search needs
-
 returns : tie.Need-returns
 unfolding S.value
 returns c = rw (← c .before .field .ensures, lt-ltb _ _ (c .if1 .taken))
@@ -21,4 +18,4 @@ unfolding S.value
 returns-3 c = rw (← c .before .before .field .ensures, le-ltb _ _ (c .before .if1 .left), ne-eqb _ _ (c .if2 .left))
 
 pub value-spec : {M : Type 1} → statement M
-value-spec = tie.close (tie.spec field-requires returns returns-2 returns-3)
+value-spec = tie.close (tie.spec (λ c κs. search needs) returns returns-2 returns-3)

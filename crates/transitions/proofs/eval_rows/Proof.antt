@@ -12,9 +12,6 @@ use borrow.Author.Needs.{needs}
 use Rattle.transitions.proofs.eval_rows.Statement.{statement}
 use Rattle.transitions.proofs.eval_rows.Tie as tie
 
-slice-write-values : tie.Need-slice-write-values
-slice-write-values c = search needs
-
 put-latches-requires : tie.Need-put-latches-requires
 put-latches-requires c κs = (c .before .before .before .before .before .pre .0 .held, (c .before .before .before .before .before .pre .0 .layout-of, (simp length-set (c .before .before .before .before .before .pre .0 .room), c .before .before .before .before .before .pre .1 .0, c .before .before .before .before .before .pre .1 .1)))
 
@@ -45,9 +42,4 @@ pub eval-rows-spec : {M : Type 1} → statement M
 eval-rows-spec =
     tie.close
     (tie.spec
-    slice-write-values
-    put-latches-requires
-    put-inputs-requires
-    eval-gates-requires
-    same-length
-    returns)
+    (λ c. search needs) put-latches-requires put-inputs-requires eval-gates-requires same-length returns)

@@ -42,9 +42,6 @@ mul-n-3 c = omega (arith, c .before .before .before .pre .0 (c .before .before .
 shared-slice-read-n-2 : tie.Need-shared-slice-read-n-2 Inv-loop μ-loop
 shared-slice-read-n-2 c = omega (arith, c .before .before .before .before .pre .0 (c .before .before .before .loop .i - 1) (omega arith))
 
-shr-n : tie.Need-shr-n Inv-loop μ-loop
-shr-n c = search needs
-
 add-n : tie.Need-add-n Inv-loop μ-loop
 add-n c = omega (arith, above-small (λ k. bit (getD (c .before .before .before .before .args .state .now) (getD (c .before .before .before .before .args .kept .now) k 0) 0) (c .before .before .before .before .args .p)) (length (c .before .before .before .before .args .kept .now)) (c .before .before .before .loop .i) (c .before .before .before .before .pre .1))
 
@@ -70,19 +67,5 @@ pub pack-spec : {M : Type 1} → statement M
 pack-spec =
     tie.close
     (tie.spec
-    Inv-loop
-    μ-loop
-    loop-holds
-    sub-i
-    mul-n
-    mul-n-2
-    shared-slice-read-n
-    cast-n
-    mul-n-3
-    shared-slice-read-n-2
-    shr-n
-    add-n
-    loop-less
-    loop-again
-    cast-result
-    returns)
+    Inv-loop μ-loop loop-holds sub-i mul-n mul-n-2 shared-slice-read-n cast-n mul-n-3 shared-slice-read-n-2 (λ c. search needs) add-n
+    loop-less loop-again cast-result returns)

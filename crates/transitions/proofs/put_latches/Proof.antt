@@ -115,25 +115,6 @@ pub put-latches-spec : {M : Type 1} → statement M
 put-latches-spec =
     tie.close
     (tie.spec
-    Inv-loop
-    μ-loop
-    loop-holds
-    mul-j
-    shared-slice-read-j
-    cast-j
-    mul-from-word
-    add-from-word
-    mul-from-word-2
-    shared-slice-read-from-word
-    from-word-requires
-    var-requires
-    cast-place
-    add-counting-word
-    counting-word-requires
-    mul-values
-    slice-write-values
-    add-i
-    loop-less
-    loop-again
-    same-length
-    returns)
+    Inv-loop μ-loop loop-holds mul-j shared-slice-read-j cast-j mul-from-word add-from-word mul-from-word-2 shared-slice-read-from-word
+    from-word-requires var-requires cast-place add-counting-word counting-word-requires mul-values slice-write-values add-i loop-less
+    loop-again same-length returns)

@@ -8,9 +8,6 @@ use Rattle.transitions.proofs.start_bit.Tie as tie
 equals-requires : tie.Need-equals-requires
 equals-requires c κs = tt
 
-shr-result : tie.Need-shr-result
-shr-result c = search needs
-
 returns : tie.Need-returns
 returns c = rw (sym (c .before .equals .ensures) ∙ c .if1 .taken) (bit-value (c .before .before .args .y) (c .before .before .args .k))
 
@@ -27,9 +24,4 @@ pub start-bit-spec : {M : Type 1} → statement M
 start-bit-spec =
     tie.close
     (tie.spec
-    equals-requires
-    shr-result
-    returns
-    is-true-requires
-    returns-2
-    returns-3)
+    equals-requires (λ c. search needs) returns is-true-requires returns-2 returns-3)

@@ -150,28 +150,6 @@ pub start-words-spec : {M : Type 1} → statement M
 start-words-spec =
     tie.close
     (tie.spec
-    Inv-loop
-    μ-loop
-    loop-holds
-    sub-j
-    mul-from-word
-    add-from-word
-    mul-from-word-2
-    shared-slice-read-from-word
-    from-word-requires
-    mul-from-word-3
-    add-from-word-2
-    add-from-word-3
-    mul-from-word-4
-    shared-slice-read-from-word-2
-    from-word-requires-2
-    start-bit-requires
-    mul-state
-    slice-write-state
-    free-start-requires
-    cast-left
-    add-left
-    loop-less
-    loop-again
-    same-length
-    returns)
+    Inv-loop μ-loop loop-holds sub-j mul-from-word add-from-word mul-from-word-2 shared-slice-read-from-word from-word-requires
+    mul-from-word-3 add-from-word-2 add-from-word-3 mul-from-word-4 shared-slice-read-from-word-2 from-word-requires-2
+    start-bit-requires mul-state slice-write-state free-start-requires cast-left add-left loop-less loop-again same-length returns)

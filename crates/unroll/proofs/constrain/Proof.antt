@@ -36,9 +36,6 @@ mul-from-word c = omega (arith, constraint-inside (c .before .before .before .be
 shared-slice-read-from-word : tie.Need-shared-slice-read-from-word Inv-loop μ-loop
 shared-slice-read-from-word c = omega (arith, constraint-inside (c .before .before .before .before .before .before .pre .0 .1) (c .before .before .loop .done) (omega arith))
 
-from-word-requires : tie.Need-from-word-requires Inv-loop μ-loop
-from-word-requires c κs = search needs
-
 edge-of-requires : tie.Need-edge-of-requires Inv-loop μ-loop
 edge-of-requires c κs =
     omega (arith, ap (λ (l : Lit). l .0 .0) (c .from-word .ensures), constraint-below (c .before .before .before .before .before .before .before .pre .0 .1) (c .before .before .before .loop .done) (omega arith))
@@ -84,17 +81,5 @@ pub constrain-spec : {M : Type 1} → statement M
 constrain-spec =
     tie.close
     (tie.spec
-    Inv-loop
-    μ-loop
-    loop-holds
-    add-from-word
-    mul-from-word
-    shared-slice-read-from-word
-    from-word-requires
-    edge-of-requires
-    make-requires
-    add-done
-    loop-less
-    loop-again
-    same-length
-    returns)
+    Inv-loop μ-loop loop-holds add-from-word mul-from-word shared-slice-read-from-word (λ c κs. search needs) edge-of-requires
+    make-requires add-done loop-less loop-again same-length returns)

@@ -7,26 +7,8 @@ use borrow.Author.Needs.{needs}
 use Rattle.unroll.proofs.edge_of.Statement.{statement}
 use Rattle.unroll.proofs.edge_of.Tie as tie
 
-var-requires : tie.Need-var-requires
-var-requires c κs = search needs
-
-cast-at : tie.Need-cast-at
-cast-at c = search needs
-
-mul-from-word : tie.Need-mul-from-word
-mul-from-word c = search needs
-
 shared-slice-read-from-word : tie.Need-shared-slice-read-from-word
 shared-slice-read-from-word c = omega (arith, ap (λ (v : Var). v .0) (c .before .before .var .ensures), c .before .before .before .before .pre)
-
-from-word-requires : tie.Need-from-word-requires
-from-word-requires c κs = search needs
-
-is-complement-requires : tie.Need-is-complement-requires
-is-complement-requires c κs = search needs
-
-complement-requires : tie.Need-complement-requires
-complement-requires c κs = search needs
 
 returns : tie.Need-returns
 returns c =
@@ -46,12 +28,5 @@ pub edge-of-spec : {M : Type 1} → statement M
 edge-of-spec =
     tie.close
     (tie.spec
-    var-requires
-    cast-at
-    mul-from-word
-    shared-slice-read-from-word
-    from-word-requires
-    is-complement-requires
-    complement-requires
-    returns
-    returns-2)
+    (λ c κs. search needs) (λ c. search needs) (λ c. search needs) shared-slice-read-from-word (λ c κs. search needs)
+    (λ c κs. search needs) (λ c κs. search needs) returns returns-2)

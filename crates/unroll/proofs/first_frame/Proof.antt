@@ -40,8 +40,4 @@ pub first-frame-spec : {M : Type 1} → statement M
 first-frame-spec =
     tie.close
     (tie.spec
-    put-first-requires
-    constrain-requires
-    same-length
-    same-length-2
-    returns)
+    put-first-requires constrain-requires same-length same-length-2 returns)

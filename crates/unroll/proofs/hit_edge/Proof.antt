@@ -18,9 +18,6 @@ mul-from-word c = let S = c .before .before .before in omega (arith, bad-inside 
 shared-slice-read-from-word : tie.Need-shared-slice-read-from-word
 shared-slice-read-from-word c = let S = c .before .before .before .before in omega (arith, bad-inside (S .pre .0 .1) (S .args .b) (S .pre .1 .1 .1))
 
-from-word-requires : tie.Need-from-word-requires
-from-word-requires c κs = search needs
-
 edge-of-requires : tie.Need-edge-of-requires
 edge-of-requires c κs =
     let S = c .before .before .before .before .before in
@@ -47,11 +44,4 @@ pub hit-edge-spec : {M : Type 1} → statement M
 hit-edge-spec =
     tie.close
     (tie.spec
-    add-from-word
-    mul-from-word
-    shared-slice-read-from-word
-    from-word-requires
-    edge-of-requires
-    make-requires
-    same-length
-    returns)
+    add-from-word mul-from-word shared-slice-read-from-word (λ c κs. search needs) edge-of-requires make-requires same-length returns)

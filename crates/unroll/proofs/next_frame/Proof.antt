@@ -46,9 +46,4 @@ pub next-frame-spec : {M : Type 1} → statement M
 next-frame-spec =
     tie.close
     (tie.spec
-    put-next-requires
-    constrain-requires
-    same-length
-    same-length-2
-    same-length-3
-    returns)
+    put-next-requires constrain-requires same-length same-length-2 same-length-3 returns)

@@ -38,15 +38,9 @@ mul-from-word-2 c = omega (arith, latches-inside (c .before .before .before .bef
 shared-slice-read-from-word : tie.Need-shared-slice-read-from-word Inv-loop μ-loop
 shared-slice-read-from-word c = omega (arith, latches-inside (c .before .before .before .before .before .before .pre .0 .1))
 
-from-word-requires : tie.Need-from-word-requires Inv-loop μ-loop
-from-word-requires c κs = search needs
-
 edge-of-requires : tie.Need-edge-of-requires Inv-loop μ-loop
 edge-of-requires c κs =
     omega (arith, ap (λ (l : Lit). l .0 .0) (c .from-word .ensures), next-below (c .before .before .before .before .before .before .before .pre .0 .1) (c .before .before .before .loop .j) (omega arith))
-
-word-requires : tie.Need-word-requires Inv-loop μ-loop
-word-requires c κs = search needs
 
 cast-state : tie.Need-cast-state Inv-loop μ-loop
 cast-state c = omega (arith, c .word .ensures, c .before .edge-of .ensures .1)
@@ -85,22 +79,6 @@ pub next-state-spec : {M : Type 1} → statement M
 next-state-spec =
     tie.close
     (tie.spec
-    Inv-loop
-    μ-loop
-    loop-holds
-    mul-from-word
-    add-from-word
-    add-from-word-2
-    mul-from-word-2
-    shared-slice-read-from-word
-    from-word-requires
-    edge-of-requires
-    word-requires
-    cast-state
-    mul-state
-    slice-write-state
-    add-j
-    loop-less
-    loop-again
-    same-length
-    returns)
+    Inv-loop μ-loop loop-holds mul-from-word add-from-word add-from-word-2 mul-from-word-2 shared-slice-read-from-word
+    (λ c κs. search needs) edge-of-requires (λ c κs. search needs) cast-state mul-state slice-write-state add-j loop-less loop-again
+    same-length returns)

@@ -49,9 +49,4 @@ pub put-first-spec : {M : Type 1} → statement M
 put-first-spec =
     tie.close
     (tie.spec
-    put-starts-requires
-    put-inputs-requires
-    put-gates-requires
-    same-length
-    same-length-2
-    returns)
+    put-starts-requires put-inputs-requires put-gates-requires same-length same-length-2 returns)

@@ -94,16 +94,5 @@ pub put-frames-spec : {M : Type 1} → statement M
 put-frames-spec =
     tie.close
     (tie.spec
-    Inv-loop
-    μ-loop
-    loop-holds
-    add-u
-    mul-next-frame
-    add-next-frame
-    next-frame-requires
-    loop-less
-    loop-again
-    same-length
-    same-length-2
-    same-length-3
-    returns)
+    Inv-loop μ-loop loop-holds add-u mul-next-frame add-next-frame next-frame-requires loop-less loop-again same-length same-length-2
+    same-length-3 returns)

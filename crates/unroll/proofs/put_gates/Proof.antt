@@ -62,12 +62,6 @@ put-gate-requires c κs =
       made-extensible (T .pre .1) (omega arith) (L .inv .3),
     )
 
-add-k : tie.Need-add-k Inv-loop μ-loop
-add-k c = search needs
-
-loop-less : tie.Need-loop-less Inv-loop μ-loop
-loop-less c = search needs
-
 loop-again : tie.Need-loop-again Inv-loop μ-loop
 loop-again c =
     let I = c .before .before .before .before .before .before .before .before in
@@ -104,18 +98,5 @@ pub put-gates-spec : {M : Type 1} → statement M
 put-gates-spec =
     tie.close
     (tie.spec
-    Inv-loop
-    μ-loop
-    loop-holds
-    mul-i
-    shared-slice-read-i
-    cast-i
-    mul-put-gate
-    add-put-gate
-    put-gate-requires
-    add-k
-    loop-less
-    loop-again
-    same-length
-    same-length-2
-    returns)
+    Inv-loop μ-loop loop-holds mul-i shared-slice-read-i cast-i mul-put-gate add-put-gate put-gate-requires (λ c. search needs)
+    (λ c. search needs) loop-again same-length same-length-2 returns)

@@ -35,17 +35,8 @@ mul-from-word c = let r = c .before .before .before .before .pre .0 .1 in omega 
 shared-slice-read-from-word : tie.Need-shared-slice-read-from-word Inv-loop μ-loop
 shared-slice-read-from-word c = let r = c .before .before .before .before .before .pre .0 .1 in omega (arith, inputs-inside (r .held) (r .layout-of))
 
-from-word-requires : tie.Need-from-word-requires Inv-loop μ-loop
-from-word-requires c κs = search needs
-
-var-requires : tie.Need-var-requires Inv-loop μ-loop
-var-requires c κs = search needs
-
 add-free-edge : tie.Need-add-free-edge Inv-loop μ-loop
 add-free-edge c = omega arith
-
-free-edge-requires : tie.Need-free-edge-requires Inv-loop μ-loop
-free-edge-requires c κs = search needs
 
 put-edge-requires : tie.Need-put-edge-requires Inv-loop μ-loop
 put-edge-requires c κs =
@@ -86,19 +77,5 @@ pub put-inputs-spec : {M : Type 1} → statement M
 put-inputs-spec =
     tie.close
     (tie.spec
-    Inv-loop
-    μ-loop
-    loop-holds
-    add-from-word
-    mul-from-word
-    shared-slice-read-from-word
-    from-word-requires
-    var-requires
-    add-free-edge
-    free-edge-requires
-    put-edge-requires
-    add-i
-    loop-less
-    loop-again
-    same-length
-    returns)
+    Inv-loop μ-loop loop-holds add-from-word mul-from-word shared-slice-read-from-word (λ c κs. search needs) (λ c κs. search needs)
+    add-free-edge (λ c κs. search needs) put-edge-requires add-i loop-less loop-again same-length returns)

@@ -60,11 +60,4 @@ pub put-next-spec : {M : Type 1} → statement M
 put-next-spec =
     tie.close
     (tie.spec
-    next-state-requires
-    put-state-requires
-    put-inputs-requires
-    put-gates-requires
-    same-length
-    same-length-2
-    same-length-3
-    returns)
+    next-state-requires put-state-requires put-inputs-requires put-gates-requires same-length same-length-2 same-length-3 returns)

@@ -38,20 +38,11 @@ mul-from-word-2 c = omega (arith, latches-inside (c .before .before .before .bef
 shared-slice-read-from-word : tie.Need-shared-slice-read-from-word Inv-loop μ-loop
 shared-slice-read-from-word c = omega (arith, latches-inside (c .before .before .before .before .before .before .pre .0 .1))
 
-from-word-requires : tie.Need-from-word-requires Inv-loop μ-loop
-from-word-requires c κs = search needs
-
-var-requires : tie.Need-var-requires Inv-loop μ-loop
-var-requires c κs = search needs
-
 mul-from-word-3 : tie.Need-mul-from-word-3 Inv-loop μ-loop
 mul-from-word-3 c = omega (arith, latches-few (c .before .before .before .before .before .before .before .before .before .pre .0 .1), c .before .before .before .before .before .before .before .before .before .pre .1)
 
 shared-slice-read-from-word-2 : tie.Need-shared-slice-read-from-word-2 Inv-loop μ-loop
 shared-slice-read-from-word-2 c = omega (arith, latches-few (c .before .before .before .before .before .before .before .before .before .before .pre .0 .1), c .before .before .before .before .before .before .before .before .before .before .pre .1)
-
-from-word-requires-2 : tie.Need-from-word-requires-2 Inv-loop μ-loop
-from-word-requires-2 c κs = search needs
 
 put-edge-requires : tie.Need-put-edge-requires Inv-loop μ-loop
 put-edge-requires c κs =
@@ -93,21 +84,6 @@ pub put-state-spec : {M : Type 1} → statement M
 put-state-spec =
     tie.close
     (tie.spec
-    Inv-loop
-    μ-loop
-    loop-holds
-    mul-from-word
-    add-from-word
-    mul-from-word-2
-    shared-slice-read-from-word
-    from-word-requires
-    var-requires
-    mul-from-word-3
-    shared-slice-read-from-word-2
-    from-word-requires-2
-    put-edge-requires
-    add-j
-    loop-less
-    loop-again
-    same-length
-    returns)
+    Inv-loop μ-loop loop-holds mul-from-word add-from-word mul-from-word-2 shared-slice-read-from-word (λ c κs. search needs)
+    (λ c κs. search needs) mul-from-word-3 shared-slice-read-from-word-2 (λ c κs. search needs) put-edge-requires add-j loop-less
+    loop-again same-length returns)

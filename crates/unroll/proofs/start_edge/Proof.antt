@@ -7,9 +7,6 @@ use Rattle.unroll.proofs.start_edge.Tie as tie
 equals-requires : tie.Need-equals-requires
 equals-requires c κs = tt
 
-free-edge-requires : tie.Need-free-edge-requires
-free-edge-requires c κs = search needs
-
 returns : tie.Need-returns
 returns c = rw (sym (c .before .before .equals .ensures) ∙ c .before .if1 .taken) (c .free-edge .ensures)
 
@@ -23,8 +20,4 @@ pub start-edge-spec : {M : Type 1} → statement M
 start-edge-spec =
     tie.close
     (tie.spec
-    equals-requires
-    free-edge-requires
-    returns
-    is-true-requires
-    returns-2)
+    equals-requires (λ c κs. search needs) returns is-true-requires returns-2)

@@ -7,9 +7,6 @@ use borrow.Author.Needs.{needs}
 use Rattle.unroll.proofs.unroll.Statement.{statement}
 use Rattle.unroll.proofs.unroll.Tie as tie
 
-add-free : tie.Need-add-free
-add-free c = search needs
-
 mul-free : tie.Need-mul-free
 mul-free c = omega (arith, room-enough (c .before .before .before .before .pre), c .before .before .before .before .pre .most)
 
@@ -19,28 +16,16 @@ add-free-2 c = omega (arith, room-enough (c .before .before .before .before .pre
 start-requires : tie.Need-start-requires
 start-requires c κs = start-enough (c .before .before .before .before .before .pre)
 
-slice-aggregate-first-frame : tie.Need-slice-aggregate-first-frame
-slice-aggregate-first-frame c = search needs
-
 first-frame-requires : tie.Need-first-frame-requires
 first-frame-requires c κs =
     let E = c .before .before .before .before .start in
     (c .before .before .before .before .before .before .before .before .before .before .pre .ready, first-fits (c .before .before .before .before .before .before .before .before .before .before .pre) (E .ensures .0) (E .ensures .1) _ (blank-zeros 4097))
-
-slice-aggregate-put-frames : tie.Need-slice-aggregate-put-frames
-slice-aggregate-put-frames c = search needs
-
-slice-aggregate-put-frames-2 : tie.Need-slice-aggregate-put-frames-2
-slice-aggregate-put-frames-2 c = search needs
 
 put-frames-requires : tie.Need-put-frames-requires
 put-frames-requires c κs =
     let E = c .before .before .before .before .before .before .before .before .before .before .before .start in
     let F = c .before .before .before .before .before .before .first-frame in
     (ready-with (c .before .before .before .before .before .before .before .before .before .before .before .before .before .before .before .before .before .pre .ready) (F .kept .1 .1 .1 .1 .1 .1 .0), (frames-fit (c .before .before .before .before .before .before .before .before .before .before .before .before .before .before .before .before .before .pre) (E .ensures .0) (E .ensures .1) (F .ensures), omega arith))
-
-slice-aggregate-hit-edge : tie.Need-slice-aggregate-hit-edge
-slice-aggregate-hit-edge c = search needs
 
 hit-edge-requires : tie.Need-hit-edge-requires
 hit-edge-requires c κs =
@@ -65,16 +50,5 @@ pub unroll-spec : {M : Type 1} → statement M
 unroll-spec =
     tie.close
     (tie.spec
-    add-free
-    mul-free
-    add-free-2
-    start-requires
-    slice-aggregate-first-frame
-    first-frame-requires
-    slice-aggregate-put-frames
-    slice-aggregate-put-frames-2
-    put-frames-requires
-    slice-aggregate-hit-edge
-    hit-edge-requires
-    same-length
-    returns)
+    (λ c. search needs) mul-free add-free-2 start-requires (λ c. search needs) first-frame-requires (λ c. search needs)
+    (λ c. search needs) put-frames-requires (λ c. search needs) hit-edge-requires same-length returns)

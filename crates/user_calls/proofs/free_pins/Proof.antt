@@ -42,12 +42,4 @@ pub free-pins-spec : {M : Type 1} → statement M
 free-pins-spec =
     tie.close
     (tie.spec
-    Inv-loop
-    μ-loop
-    loop-holds
-    slice-write-pins
-    add-i
-    loop-less
-    loop-again
-    same-length
-    returns)
+    Inv-loop μ-loop loop-holds slice-write-pins add-i loop-less loop-again same-length returns)

@@ -17,15 +17,6 @@ returns c = PinSet.stranger (omega arith)
 returns-2 : tie.Need-returns-2
 returns-2 c = PinSet.unknown (omega arith)
 
-test-requires : tie.Need-test-requires
-test-requires c κs = search needs
-
-enum-known-layout : tie.Need-enum-known-layout
-enum-known-layout c = search needs
-
-enum-told : tie.Need-enum-told
-enum-told c = search needs
-
 returns-3 : tie.Need-returns-3
 returns-3 c = PinSet.known (omega arith) (omega arith) (Operated.noCircuit (rw (c .enum-told .given .1) at (c .before .before .test .ensures)))
 
@@ -33,9 +24,6 @@ returns-4 : tie.Need-returns-4
 returns-4 c = let l = c .before .before in
     let h = rw (l .layout .given .1) at (l .before .before .test .ensures) in
     no-input (h .1) (h .0) (omega arith) (omega arith) (omega arith)
-
-mul-at : tie.Need-mul-at
-mul-at c = search needs
 
 add-at : tie.Need-add-at
 add-at c = let l = c .before .before in
@@ -47,15 +35,6 @@ returns-5 c = let l = c .before .before .before in
     let h = rw (l .layout .given .1) at (l .before .before .test .ensures) in
     no-byte (h .1) (h .0) (omega arith) (omega arith) (omega arith) (omega arith)
 
-cast-pins : tie.Need-cast-pins
-cast-pins c = search needs
-
-slice-write-pins : tie.Need-slice-write-pins
-slice-write-pins c = search needs
-
-same-length : tie.Need-same-length
-same-length c = search needs
-
 returns-6 : tie.Need-returns-6
 returns-6 c = let l = c .before .before .before in
     let h = rw (l .layout .given .1) at (l .before .before .test .ensures) in
@@ -65,17 +44,5 @@ pub set-pin-spec : {M : Type 1} → statement M
 set-pin-spec =
     tie.close
     (tie.spec
-    returns
-    returns-2
-    test-requires
-    enum-known-layout
-    enum-told
-    returns-3
-    returns-4
-    mul-at
-    add-at
-    returns-5
-    cast-pins
-    slice-write-pins
-    same-length
-    returns-6)
+    returns returns-2 (λ c κs. search needs) (λ c. search needs) (λ c. search needs) returns-3 returns-4 (λ c. search needs) add-at
+    returns-5 (λ c. search needs) (λ c. search needs) (λ c. search needs) returns-6)

@@ -8,11 +8,8 @@ use Rattle.user_preview.proofs.preview.Tie as tie
 returns : tie.Need-returns
 returns c = UserPreviewed.stranger (omega arith)
 
-preview-requires : tie.Need-preview-requires
-preview-requires c κs = search needs
-
 returns-2 : tie.Need-returns-2
 returns-2 c = UserPreviewed.known (omega arith) (c .preview .ensures)
 
 pub preview-spec : {M : Type 1} → statement M
-preview-spec = tie.close (tie.spec returns preview-requires returns-2)
+preview-spec = tie.close (tie.spec returns (λ c κs. search needs) returns-2)

@@ -43,10 +43,4 @@ pub replay-spec : {M : Type 1} → statement M
 replay-spec =
     tie.close
     (tie.spec
-    returns
-    own-bytes-requires
-    sub-replay-under
-    part-replay-under-start
-    part-replay-under-end
-    replay-under-requires
-    returns-2)
+    returns own-bytes-requires sub-replay-under part-replay-under-start part-replay-under-end replay-under-requires returns-2)

@@ -7,25 +7,10 @@ use Rattle.user_service.specs.Codes.{pinCode}
 use Rattle.user_service.proofs.yunverok_user_pin.Statement.{statement}
 use Rattle.user_service.proofs.yunverok_user_pin.Tie as tie
 
-set-pin-requires : tie.Need-set-pin-requires
-set-pin-requires c κs = search needs
-
-enum-told : tie.Need-enum-told
-enum-told c = search needs
-
-enum-known-n : tie.Need-enum-known-n
-enum-known-n c = search needs
-
-same-length : tie.Need-same-length
-same-length c = search needs
-
 returns : tie.Need-returns
 returns c =
     let w = c .before .before .before .before in
     record { answer = pinSaid (w .set-pin .result); met = w .set-pin .ensures; coded = sym (ap (λ (x : PinAnswer). pinCode (pinSaid x)) (c .enum-told .given .1)) }
-
-same-length-2 : tie.Need-same-length-2
-same-length-2 c = search needs
 
 returns-2 : tie.Need-returns-2
 returns-2 c =
@@ -34,4 +19,4 @@ returns-2 c =
 
 pub yunverok-user-pin-spec : {M : Type 1} → statement M
 yunverok-user-pin-spec =
-    tie.close (tie.spec set-pin-requires enum-told enum-known-n same-length returns same-length-2 returns-2)
+    tie.close (tie.spec (λ c κs. search needs) (λ c. search needs) (λ c. search needs) (λ c. search needs) returns (λ c. search needs) returns-2)

@@ -30,9 +30,6 @@ part-widen-under-end c = let a = c .before .before .before .before .before .befo
 widen-under-requires : tie.Need-widen-under-requires
 widen-under-requires c κs = tt
 
-same-length : tie.Need-same-length
-same-length c = search needs
-
 returns-2 : tie.Need-returns-2
 returns-2 c =
     let w = c .before .before in
@@ -47,11 +44,5 @@ pub widen-spec : {M : Type 1} → statement M
 widen-spec =
     tie.close
     (tie.spec
-    returns
-    own-bytes-requires
-    sub-widen-under
-    part-widen-under-start
-    part-widen-under-end
-    widen-under-requires
-    same-length
+    returns own-bytes-requires sub-widen-under part-widen-under-start part-widen-under-end widen-under-requires (λ c. search needs)
     returns-2)

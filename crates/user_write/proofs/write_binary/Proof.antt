@@ -5,12 +5,6 @@ use Rattle.users.specs.Users.{ForUser}
 use Rattle.user_write.proofs.write_binary.Statement.{statement}
 use Rattle.user_write.proofs.write_binary.Tie as tie
 
-write-binary-requires : tie.Need-write-binary-requires
-write-binary-requires c κs = search needs
-
-same-length : tie.Need-same-length
-same-length c = search needs
-
 returns : tie.Need-returns
 returns c = ForUser.known (omega arith) (c .before .before .write-binary .ensures)
 
@@ -18,4 +12,4 @@ returns-2 : tie.Need-returns-2
 returns-2 c = ForUser.stranger (omega arith)
 
 pub write-binary-spec : {M : Type 1} → statement M
-write-binary-spec = tie.close (tie.spec write-binary-requires same-length returns returns-2)
+write-binary-spec = tie.close (tie.spec (λ c κs. search needs) (λ c. search needs) returns returns-2)

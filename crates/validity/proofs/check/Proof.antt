@@ -32,9 +32,6 @@ seven n =
     uses-in _ (A .literals-right .last .1 .0) (six N .1)
     (rw (not-false (B .used-defined .result) (n .if2 .left)) at (B .used-defined .ensures))
 
-slice-aggregate-literals-right : tie.Need-slice-aggregate-literals-right
-slice-aggregate-literals-right c = search needs
-
 literals-right-requires : tie.Need-literals-right-requires
 literals-right-requires c κs =
     let S = c .before .before .before in
@@ -44,9 +41,6 @@ returns : tie.Need-returns
 returns c =
     let A = c .before .before in
     judged-six _ (rw (not-true (A .literals-right .result) (c .if1 .taken)) at (A .literals-right .ensures))
-
-slice-aggregate-used-defined : tie.Need-slice-aggregate-used-defined
-slice-aggregate-used-defined c = search needs
 
 used-defined-requires : tie.Need-used-defined-requires
 used-defined-requires c κs =
@@ -64,17 +58,11 @@ returns-2 c =
     (λ t. (rw (not-true (B .used-defined .result) (c .if2 .taken)) at (B .used-defined .ensures))
     (uses-out _ (A .literals-right .last .1 .0) (six N .1) t))
 
-slice-aggregate-ordered : tie.Need-slice-aggregate-ordered
-slice-aggregate-ordered c = search needs
-
 ordered-requires : tie.Need-ordered-requires
 ordered-requires c κs =
     let N = c .before .before .before .before .before in
     let S = N .before .before .before .before .before .before in
     (S .pre .0, (six N .0, (six N .1, S .pre .1)))
-
-same-length : tie.Need-same-length
-same-length c = search needs
 
 returns-3 : tie.Need-returns-3
 returns-3 c =
@@ -82,9 +70,6 @@ returns-3 c =
     let M = D .before .before .before in
     let N = M .before .before .before in
     judged-eight _ (six N .0) (seven M) (rw (not-true (D .ordered .result) (c .if3 .taken)) at (D .ordered .ensures))
-
-same-length-2 : tie.Need-same-length-2
-same-length-2 c = search needs
 
 returns-4 : tie.Need-returns-4
 returns-4 c =
@@ -98,15 +83,5 @@ pub check-spec : {M : Type 1} → statement M
 check-spec =
     tie.close
     (tie.spec
-    slice-aggregate-literals-right
-    literals-right-requires
-    returns
-    slice-aggregate-used-defined
-    used-defined-requires
-    returns-2
-    slice-aggregate-ordered
-    ordered-requires
-    same-length
-    returns-3
-    same-length-2
-    returns-4)
+    (λ c. search needs) literals-right-requires returns (λ c. search needs) used-defined-requires returns-2 (λ c. search needs)
+    ordered-requires (λ c. search needs) returns-3 (λ c. search needs) returns-4)

@@ -47,9 +47,6 @@ shared-slice-read-from-word : tie.Need-shared-slice-read-from-word Inv-loop μ-l
 shared-slice-read-from-word c = let L = c .before .before in c .before .before .before .before .before .pre .0 (L .loop .i)
     (c .before .loop-test .taken)
 
-from-word-requires : tie.Need-from-word-requires Inv-loop μ-loop
-from-word-requires c κs = search needs
-
 known-requires : tie.Need-known-requires Inv-loop μ-loop
 known-requires c κs =
     let h = c .before .before .before .before .before .before .pre .1 (c .before .before .before .loop .i)
@@ -81,17 +78,5 @@ pub all-known-spec : {M : Type 1} → statement M
 all-known-spec =
     tie.close
     (tie.spec
-    Inv-loop
-    μ-loop
-    loop-holds
-    mul-from-word
-    add-from-word
-    mul-from-word-2
-    shared-slice-read-from-word
-    from-word-requires
-    known-requires
-    returns
-    add-i
-    loop-less
-    loop-again
-    returns-2)
+    Inv-loop μ-loop loop-holds mul-from-word add-from-word mul-from-word-2 shared-slice-read-from-word (λ c κs. search needs)
+    known-requires returns add-i loop-less loop-again returns-2)

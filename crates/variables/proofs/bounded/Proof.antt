@@ -39,12 +39,6 @@ shared-slice-read-from-word : tie.Need-shared-slice-read-from-word Inv-loop μ-l
 shared-slice-read-from-word c = let L = c .before .before in c .before .before .before .before .pre (L .loop .i)
     (c .before .loop-test .taken)
 
-from-word-requires : tie.Need-from-word-requires Inv-loop μ-loop
-from-word-requires c κs = search needs
-
-var-requires : tie.Need-var-requires Inv-loop μ-loop
-var-requires c κs = search needs
-
 returns : tie.Need-returns Inv-loop μ-loop
 returns c = λ all. omega (
   arith,
@@ -74,17 +68,5 @@ pub bounded-spec : {M : Type 1} → statement M
 bounded-spec =
     tie.close
     (tie.spec
-    Inv-loop
-    μ-loop
-    loop-holds
-    mul-from-word
-    add-from-word
-    mul-from-word-2
-    shared-slice-read-from-word
-    from-word-requires
-    var-requires
-    returns
-    add-i
-    loop-less
-    loop-again
-    returns-2)
+    Inv-loop μ-loop loop-holds mul-from-word add-from-word mul-from-word-2 shared-slice-read-from-word (λ c κs. search needs)
+    (λ c κs. search needs) returns add-i loop-less loop-again returns-2)

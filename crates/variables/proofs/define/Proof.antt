@@ -41,9 +41,6 @@ shared-slice-read-from-word : tie.Need-shared-slice-read-from-word Inv-loop μ-l
 shared-slice-read-from-word c = let L = c .before .before in c .before .before .before .before .before .pre .inside (L .loop .i)
     (c .before .loop-test .taken)
 
-from-word-requires : tie.Need-from-word-requires Inv-loop μ-loop
-from-word-requires c κs = search needs
-
 cast-enter : tie.Need-cast-enter Inv-loop μ-loop
 cast-enter c = omega arith
 
@@ -112,22 +109,5 @@ pub define-spec : {M : Type 1} → statement M
 define-spec =
     tie.close
     (tie.spec
-    Inv-loop
-    μ-loop
-    loop-holds
-    mul-from-word
-    add-from-word
-    mul-from-word-2
-    shared-slice-read-from-word
-    from-word-requires
-    cast-enter
-    add-enter
-    add-enter-2
-    enter-requires
-    same-length
-    returns
-    add-i
-    loop-less
-    loop-again
-    same-length-2
-    returns-2)
+    Inv-loop μ-loop loop-holds mul-from-word add-from-word mul-from-word-2 shared-slice-read-from-word (λ c κs. search needs)
+    cast-enter add-enter add-enter-2 enter-requires same-length returns add-i loop-less loop-again same-length-2 returns-2)

@@ -6,28 +6,13 @@ use borrow.Author.Needs.{needs}
 use Rattle.variables.proofs.define_all.Statement.{statement}
 use Rattle.variables.proofs.define_all.Tie as tie
 
-shared-slice-read-base : tie.Need-shared-slice-read-base
-shared-slice-read-base c = search needs
-
-column-of-requires : tie.Need-column-of-requires
-column-of-requires c κs = search needs
-
 define-requires : tie.Need-define-requires
 define-requires c κs =
     let S = c .before .before .before .before .before in
     rw (c .column-of .ensures) (inputs-next (S .args .w .now) (S .pre .0) (S .args .table .now) (S .pre .1 .0) (S .pre .1 .1))
 
-same-length : tie.Need-same-length
-same-length c = search needs
-
 returns : tie.Need-returns
 returns c = let A = c .before .before .before in rw (not-true (A .define .result) (c .if1 .taken)) at (A .define .ensures)
-
-shared-slice-read-base-2 : tie.Need-shared-slice-read-base-2
-shared-slice-read-base-2 c = search needs
-
-column-of-requires-2 : tie.Need-column-of-requires-2
-column-of-requires-2 c κs = search needs
 
 define-requires-2 : tie.Need-define-requires-2
 define-requires-2 c κs =
@@ -42,21 +27,9 @@ define-requires-2 c κs =
     ) at
     (A .define .ensures)))
 
-same-length-2 : tie.Need-same-length-2
-same-length-2 c = search needs
-
 returns-2 : tie.Need-returns-2
 returns-2 c =
     let A = c .before .before .before in rw (not-true (A .define2 .result) (c .if2 .taken)) at (A .define2 .ensures)
-
-column-of-requires-3 : tie.Need-column-of-requires-3
-column-of-requires-3 c κs = search needs
-
-shared-slice-read-define : tie.Need-shared-slice-read-define
-shared-slice-read-define c = search needs
-
-add-define : tie.Need-add-define
-add-define c = search needs
 
 define-requires-3 : tie.Need-define-requires-3
 define-requires-3 c κs =
@@ -71,9 +44,6 @@ define-requires-3 c κs =
     ) at
     (A .define2 .ensures)))
 
-same-length-3 : tie.Need-same-length-3
-same-length-3 c = search needs
-
 returns-3 : tie.Need-returns-3
 returns-3 c = let A = c .before .before in rw (c .before .before .before .before .column-of3 .ensures) at (A .define3 .ensures)
 
@@ -81,19 +51,6 @@ pub define-all-spec : {M : Type 1} → statement M
 define-all-spec =
     tie.close
     (tie.spec
-    shared-slice-read-base
-    column-of-requires
-    define-requires
-    same-length
-    returns
-    shared-slice-read-base-2
-    column-of-requires-2
-    define-requires-2
-    same-length-2
-    returns-2
-    column-of-requires-3
-    shared-slice-read-define
-    add-define
-    define-requires-3
-    same-length-3
-    returns-3)
+    (λ c. search needs) (λ c κs. search needs) define-requires (λ c. search needs) returns (λ c. search needs) (λ c κs. search needs)
+    define-requires-2 (λ c. search needs) returns-2 (λ c κs. search needs) (λ c. search needs) (λ c. search needs) define-requires-3
+    (λ c. search needs) returns-3)

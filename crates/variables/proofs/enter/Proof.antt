@@ -7,16 +7,10 @@ use borrow.Author.Needs.{needs}
 use Rattle.variables.proofs.enter.Statement.{statement}
 use Rattle.variables.proofs.enter.Tie as tie
 
-is-constant-requires : tie.Need-is-constant-requires
-is-constant-requires c κs = search needs
-
 returns : tie.Need-returns
 returns c =
     let A = c .before .before .before .args in
     enters-constant (A .m .0) (A .label) (A .l) (A .table .now) (A .table .now) (sym (c .before .is-constant .ensures) ∙ c .if1 .taken)
-
-is-complement-requires : tie.Need-is-complement-requires
-is-complement-requires c κs = search needs
 
 returns-2 : tie.Need-returns-2
 returns-2 c =
@@ -24,20 +18,11 @@ returns-2 c =
     enters-complement (A .m .0) (A .label) (A .l) (A .table .now) (A .table .now)
     (sym (c .before .is-complement .ensures) ∙ c .if2 .taken)
 
-var-requires : tie.Need-var-requires
-var-requires c κs = search needs
-
 returns-3 : tie.Need-returns-3
 returns-3 c =
     let A = c .before .before .before .before .before .before .before .before .before .args in
     enters-beyond (A .m .0) (A .label) (A .l) (A .table .now) (A .table .now)
     (omega (arith, ap (λ (v : Var). v .0) (c .before .before .before .var .ensures)))
-
-cast-at : tie.Need-cast-at
-cast-at c = search needs
-
-mul-if4 : tie.Need-mul-if4
-mul-if4 c = search needs
 
 slice-read-if4 : tie.Need-slice-read-if4
 slice-read-if4 c = omega (
@@ -53,9 +38,6 @@ returns-4 c =
     let at = ap (λ (v : Var). v .0) (c .before .before .before .before .before .before .var .ensures) in
     enters-again (A .m .0) (A .label) (A .l) (A .table .now) (A .table .now) (λ z. c .if4 .taken (rw at z))
 
-mul-table : tie.Need-mul-table
-mul-table c = search needs
-
 slice-write-table : tie.Need-slice-write-table
 slice-write-table c = omega (
   arith,
@@ -63,9 +45,6 @@ slice-write-table c = omega (
       (c .before .before .before .before .before .before .var .ensures),
   c .before .before .before .before .before .before .before .before .before .before .before .before .pre,
 )
-
-same-length : tie.Need-same-length
-same-length c = search needs
 
 returns-5 : tie.Need-returns-5
 returns-5 c =
@@ -82,17 +61,5 @@ pub enter-spec : {M : Type 1} → statement M
 enter-spec =
     tie.close
     (tie.spec
-    is-constant-requires
-    returns
-    is-complement-requires
-    returns-2
-    var-requires
-    returns-3
-    cast-at
-    mul-if4
-    slice-read-if4
-    returns-4
-    mul-table
-    slice-write-table
-    same-length
-    returns-5)
+    (λ c κs. search needs) returns (λ c κs. search needs) returns-2 (λ c κs. search needs) returns-3 (λ c. search needs)
+    (λ c. search needs) slice-read-if4 returns-4 (λ c. search needs) slice-write-table (λ c. search needs) returns-5)

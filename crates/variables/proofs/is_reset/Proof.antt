@@ -3,12 +3,6 @@ use borrow.Author.Needs.{needs}
 use Rattle.variables.proofs.is_reset.Statement.{statement}
 use Rattle.variables.proofs.is_reset.Tie as tie
 
-is-constant-requires : tie.Need-is-constant-requires
-is-constant-requires c κs = search needs
-
-equals-requires : tie.Need-equals-requires
-equals-requires c κs = search needs
-
 returns : tie.Need-returns
 returns c = rw (c .before .is-constant .ensures, c .equals .ensures)
 
@@ -16,6 +10,4 @@ pub is-reset-spec : {M : Type 1} → statement M
 is-reset-spec =
     tie.close
     (tie.spec
-    is-constant-requires
-    equals-requires
-    returns)
+    (λ c κs. search needs) (λ c κs. search needs) returns)

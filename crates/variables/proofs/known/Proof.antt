@@ -8,21 +8,9 @@ use borrow.Author.Needs.{needs}
 use Rattle.variables.proofs.known.Statement.{statement}
 use Rattle.variables.proofs.known.Tie as tie
 
-is-constant-requires : tie.Need-is-constant-requires
-is-constant-requires c κs = search needs
-
 returns : tie.Need-returns
 returns c = known-constant (c .before .before .before .args .table .now) (c .before .before .before .args .l)
     (sym (c .before .is-constant .ensures) ∙ c .if1 .taken)
-
-var-requires : tie.Need-var-requires
-var-requires c κs = search needs
-
-cast-at : tie.Need-cast-at
-cast-at c = search needs
-
-mul-if2 : tie.Need-mul-if2
-mul-if2 c = search needs
 
 shared-slice-read-if2 : tie.Need-shared-slice-read-if2
 shared-slice-read-if2 c = omega (
@@ -50,11 +38,5 @@ pub known-spec : {M : Type 1} → statement M
 known-spec =
     tie.close
     (tie.spec
-    is-constant-requires
-    returns
-    var-requires
-    cast-at
-    mul-if2
-    shared-slice-read-if2
-    returns-2
+    (λ c κs. search needs) returns (λ c κs. search needs) (λ c. search needs) (λ c. search needs) shared-slice-read-if2 returns-2
     returns-3)

@@ -7,33 +7,15 @@ use borrow.Author.Needs.{needs}
 use Rattle.variables.proofs.literals_right.Statement.{statement}
 use Rattle.variables.proofs.literals_right.Tie as tie
 
-define-all-requires : tie.Need-define-all-requires
-define-all-requires c κs = search needs
-
-same-length : tie.Need-same-length
-same-length c = search needs
-
 returns : tie.Need-returns
 returns c =
     let A = c .before .before .before in
     λ right. (rw (not-true (A .define-all .result) (c .if1 .taken)) at (A .define-all .ensures)) (literals-definitions _ right)
 
-used-bounded-requires : tie.Need-used-bounded-requires
-used-bounded-requires c κs = search needs
-
-same-length-2 : tie.Need-same-length-2
-same-length-2 c = search needs
-
 returns-2 : tie.Need-returns-2
 returns-2 c =
     let A = c .before in
     λ right. (rw (not-true (A .used-bounded .result) (c .if2 .taken)) at (A .used-bounded .ensures)) (literals-used _ right)
-
-resets-requires : tie.Need-resets-requires
-resets-requires c κs = search needs
-
-same-length-3 : tie.Need-same-length-3
-same-length-3 c = search needs
 
 returns-3 : tie.Need-returns-3
 returns-3 c =
@@ -48,12 +30,5 @@ pub literals-right-spec : {M : Type 1} → statement M
 literals-right-spec =
     tie.close
     (tie.spec
-    define-all-requires
-    same-length
-    returns
-    used-bounded-requires
-    same-length-2
-    returns-2
-    resets-requires
-    same-length-3
-    returns-3)
+    (λ c κs. search needs) (λ c. search needs) returns (λ c κs. search needs) (λ c. search needs) returns-2 (λ c κs. search needs)
+    (λ c. search needs) returns-3)

@@ -32,9 +32,6 @@ tested c =
     ∙ ap₂ (λ (r l : ℕ). leb r 1 || eqb r l) (word-read (getD m (at + 2) 0) (c .before .from-word2 .ensures))
     (word-read (getD m at 0) (c .before .before .before .from-word .ensures))
 
-layout-of-requires : tie.Need-layout-of-requires Inv-loop μ-loop
-layout-of-requires c κs = search needs
-
 loop-holds : tie.Need-loop-holds Inv-loop μ-loop
 loop-holds c = (omega arith, λ k l. absurd (omega arith))
 
@@ -50,9 +47,6 @@ mul-from-word-2 c = omega arith
 shared-slice-read-from-word : tie.Need-shared-slice-read-from-word Inv-loop μ-loop
 shared-slice-read-from-word c = omega arith
 
-from-word-requires : tie.Need-from-word-requires Inv-loop μ-loop
-from-word-requires c κs = search needs
-
 mul-from-word-3 : tie.Need-mul-from-word-3 Inv-loop μ-loop
 mul-from-word-3 c = omega arith
 
@@ -67,12 +61,6 @@ mul-from-word-4 c = omega arith
 
 shared-slice-read-from-word-2 : tie.Need-shared-slice-read-from-word-2 Inv-loop μ-loop
 shared-slice-read-from-word-2 c = omega arith
-
-from-word-requires-2 : tie.Need-from-word-requires-2 Inv-loop μ-loop
-from-word-requires-2 c κs = search needs
-
-is-reset-requires : tie.Need-is-reset-requires Inv-loop μ-loop
-is-reset-requires c κs = search needs
 
 returns : tie.Need-returns Inv-loop μ-loop
 returns c =
@@ -103,24 +91,6 @@ pub resets-spec : {M : Type 1} → statement M
 resets-spec =
     tie.close
     (tie.spec
-    Inv-loop
-    μ-loop
-    layout-of-requires
-    loop-holds
-    mul-from-word
-    add-from-word
-    mul-from-word-2
-    shared-slice-read-from-word
-    from-word-requires
-    mul-from-word-3
-    add-from-word-2
-    add-from-word-3
-    mul-from-word-4
-    shared-slice-read-from-word-2
-    from-word-requires-2
-    is-reset-requires
-    returns
-    add-j
-    loop-less
-    loop-again
-    returns-2)
+    Inv-loop μ-loop (λ c κs. search needs) loop-holds mul-from-word add-from-word mul-from-word-2 shared-slice-read-from-word
+    (λ c κs. search needs) mul-from-word-3 add-from-word-2 add-from-word-3 mul-from-word-4 shared-slice-read-from-word-2
+    (λ c κs. search needs) (λ c κs. search needs) returns add-j loop-less loop-again returns-2)

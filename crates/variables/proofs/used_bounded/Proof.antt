@@ -13,12 +13,6 @@ use Rattle.variables.proofs.used_bounded.Tie as tie
 abbrev fits : List ℕ → ℕ → Type 0
 fits w l = l / 2 ≤ word w 0
 
-shared-slice-read-t4 : tie.Need-shared-slice-read-t4
-shared-slice-read-t4 c = search needs
-
-column-of-requires : tie.Need-column-of-requires
-column-of-requires c κs = search needs
-
 bounded-requires : tie.Need-bounded-requires
 bounded-requires c κs =
     let S = c .before .before .before in
@@ -30,9 +24,6 @@ returns c =
     let S = c .before .before .before .before .before in
     column-fails (S .args .w .now) (fits (S .args .w .now)) (c .before .before .column-of .ensures) (λ u. u .nexts)
     (A .bounded .result) (c .if1 .taken) (A .bounded .ensures)
-
-column-of-requires-2 : tie.Need-column-of-requires-2
-column-of-requires-2 c κs = search needs
 
 bounded-requires-2 : tie.Need-bounded-requires-2
 bounded-requires-2 c κs =
@@ -46,9 +37,6 @@ returns-2 c =
     column-fails (S .args .w .now) (fits (S .args .w .now)) (c .before .before .column-of2 .ensures) (λ u. u .roots)
     (A .bounded2 .result) (c .if2 .taken) (A .bounded2 .ensures)
 
-column-of-requires-3 : tie.Need-column-of-requires-3
-column-of-requires-3 c κs = search needs
-
 bounded-requires-3 : tie.Need-bounded-requires-3
 bounded-requires-3 c κs =
     let S = c .before .before .before .before .before .before .before .before .before in
@@ -60,9 +48,6 @@ returns-3 c =
     let S = c .before .before .before .before .before .before .before .before .before .before .before in
     column-fails (S .args .w .now) (fits (S .args .w .now)) (c .before .before .column-of3 .ensures) (λ u. u .lefts)
     (A .bounded3 .result) (c .if3 .taken) (A .bounded3 .ensures)
-
-column-of-requires-4 : tie.Need-column-of-requires-4
-column-of-requires-4 c κs = search needs
 
 bounded-requires-4 : tie.Need-bounded-requires-4
 bounded-requires-4 c κs =
@@ -90,16 +75,5 @@ pub used-bounded-spec : {M : Type 1} → statement M
 used-bounded-spec =
     tie.close
     (tie.spec
-    shared-slice-read-t4
-    column-of-requires
-    bounded-requires
-    returns
-    column-of-requires-2
-    bounded-requires-2
-    returns-2
-    column-of-requires-3
-    bounded-requires-3
-    returns-3
-    column-of-requires-4
-    bounded-requires-4
-    returns-4)
+    (λ c. search needs) (λ c κs. search needs) bounded-requires returns (λ c κs. search needs) bounded-requires-2 returns-2
+    (λ c κs. search needs) bounded-requires-3 returns-3 (λ c κs. search needs) bounded-requires-4 returns-4)

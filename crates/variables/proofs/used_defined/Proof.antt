@@ -8,9 +8,6 @@ use borrow.Author.Needs.{needs}
 use Rattle.variables.proofs.used_defined.Statement.{statement}
 use Rattle.variables.proofs.used_defined.Tie as tie
 
-column-of-requires : tie.Need-column-of-requires
-column-of-requires c κs = search needs
-
 all-known-requires : tie.Need-all-known-requires
 all-known-requires c κs =
     let S = c .before .before .before in
@@ -22,9 +19,6 @@ returns c =
     let S = c .before .before .before .before .before in
     column-fails (S .args .w .now) (Known (S .args .table .now)) (A .before .column-of .ensures) (λ u. u .nexts)
     (A .all-known .result) (c .if1 .taken) (A .all-known .ensures)
-
-column-of-requires-2 : tie.Need-column-of-requires-2
-column-of-requires-2 c κs = search needs
 
 all-known-requires-2 : tie.Need-all-known-requires-2
 all-known-requires-2 c κs =
@@ -38,9 +32,6 @@ returns-2 c =
     column-fails (S .args .w .now) (Known (S .args .table .now)) (A .before .column-of2 .ensures) (λ u. u .roots)
     (A .all-known2 .result) (c .if2 .taken) (A .all-known2 .ensures)
 
-column-of-requires-3 : tie.Need-column-of-requires-3
-column-of-requires-3 c κs = search needs
-
 all-known-requires-3 : tie.Need-all-known-requires-3
 all-known-requires-3 c κs =
     let S = c .before .before .before .before .before .before .before .before .before in
@@ -52,9 +43,6 @@ returns-3 c =
     let S = c .before .before .before .before .before .before .before .before .before .before .before in
     column-fails (S .args .w .now) (Known (S .args .table .now)) (A .before .column-of3 .ensures) (λ u. u .lefts)
     (A .all-known3 .result) (c .if3 .taken) (A .all-known3 .ensures)
-
-column-of-requires-4 : tie.Need-column-of-requires-4
-column-of-requires-4 c κs = search needs
 
 all-known-requires-4 : tie.Need-all-known-requires-4
 all-known-requires-4 c κs =
@@ -80,15 +68,5 @@ pub used-defined-spec : {M : Type 1} → statement M
 used-defined-spec =
     tie.close
     (tie.spec
-    column-of-requires
-    all-known-requires
-    returns
-    column-of-requires-2
-    all-known-requires-2
-    returns-2
-    column-of-requires-3
-    all-known-requires-3
-    returns-3
-    column-of-requires-4
-    all-known-requires-4
-    returns-4)
+    (λ c κs. search needs) all-known-requires returns (λ c κs. search needs) all-known-requires-2 returns-2 (λ c κs. search needs)
+    all-known-requires-3 returns-3 (λ c κs. search needs) all-known-requires-4 returns-4)

@@ -82,15 +82,4 @@ pub declarations-length-spec : {M : Type 1} → statement M
 declarations-length-spec =
     tie.close
     (tie.spec
-    Inv-loop
-    μ-loop
-    loop-holds
-    name-at-requires
-    digit-count-requires
-    add-total
-    add-total-2
-    add-k
-    sub-left
-    loop-less
-    loop-again
-    returns)
+    Inv-loop μ-loop loop-holds name-at-requires digit-count-requires add-total add-total-2 add-k sub-left loop-less loop-again returns)

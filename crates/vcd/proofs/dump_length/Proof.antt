@@ -12,16 +12,10 @@ use Rattle.vcd.proofs.dump_length.Lts as lts
 use Rattle.vcd.proofs.declarations_length.Reads as declarations-length-reads
 use Rattle.vcd.proofs.samples_length.Reads as samples-length-reads
 
-declarations-length-requires : tie.Need-declarations-length-requires
-declarations-length-requires c κs = search needs
-
 add-result : tie.Need-add-result
 add-result c =
     let S = c .before in
     omega (arith, c .declarations-length .ensures, declarations-most (nameIn (S .args .layout)) 0 (S .args .n), S .pre .0 .there, S .pre .0 .few)
-
-samples-length-requires : tie.Need-samples-length-requires
-samples-length-requires c κs = search needs
 
 add-result-2 : tie.Need-add-result-2
 add-result-2 c =
@@ -54,4 +48,4 @@ returns c =
 pub dump-length-spec : {M : Type 1} → statement M
 dump-length-spec =
     tie.close
-    (tie.spec declarations-length-requires add-result samples-length-requires add-result-2 returns)
+    (tie.spec (λ c κs. search needs) add-result (λ c κs. search needs) add-result-2 returns)

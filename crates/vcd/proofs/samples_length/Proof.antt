@@ -102,19 +102,5 @@ pub samples-length-spec : {M : Type 1} → statement M
 samples-length-spec =
     tie.close
     (tie.spec
-    Inv-loop
-    μ-loop
-    loop-holds
-    digit-count-requires
-    add-total
-    mul-total
-    add-total-2
-    add-total-3
-    add-t
-    sub-left
-    loop-less
-    loop-again
-    add-result
-    digit-count-requires-2
-    add-result-2
-    returns)
+    Inv-loop μ-loop loop-holds digit-count-requires add-total mul-total add-total-2 add-total-3 add-t sub-left loop-less loop-again
+    add-result digit-count-requires-2 add-result-2 returns)

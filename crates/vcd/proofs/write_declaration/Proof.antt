@@ -53,28 +53,10 @@ module _ (out : List ℕ) (at k : ℕ) (name : Name) (h : Room out at (declarati
       numbered : {e₃ : ℕ} {out₃ : List ℕ} → Placed out₂ e₂ (number name) e₃ out₃ → Rest out at (declaration k name) out₃ e₃ end
       numbered r = rest-more (number name) end h labelled r
 
-cast-first : tie.Need-cast-first
-cast-first c = search needs
-
-add-first : tie.Need-add-first
-add-first c = search needs
-
-cast-second : tie.Need-cast-second
-cast-second c = search needs
-
-add-second : tie.Need-add-second
-add-second c = search needs
-
-slice-aggregate-put : tie.Need-slice-aggregate-put
-slice-aggregate-put c = search needs
-
 put-requires : tie.Need-put-requires
 put-requires c κs =
     let a = c .before .before .before .args in
     word-room (a .out .now) (a .at) (a .k) (a .name) (c .before .before .before .pre .1)
-
-slice-aggregate-put-2 : tie.Need-slice-aggregate-put-2
-slice-aggregate-put-2 c = search needs
 
 put-requires-2 : tie.Need-put-requires-2
 put-requires-2 c κs =
@@ -86,17 +68,11 @@ put-ended-requires c κs =
     let a = c .before .before .before .before .before .before .before .before .before .before .before .before .args in
     number-room (a .out .now) (a .at) (a .k) (a .name) (c .before .before .before .before .before .before .before .before .before .before .before .before .pre .1) (c .before .before .before .before .before .before .before .before .put .ensures) (c .before .before .before .put2 .ensures)
 
-slice-aggregate-put-3 : tie.Need-slice-aggregate-put-3
-slice-aggregate-put-3 c = search needs
-
 put-requires-3 : tie.Need-put-requires-3
 put-requires-3 c κs =
     let a = c .before .before .before .before .before .before .before .before .before .before .before .before .before .before .before .before .before .args in
     last-room end (c .before .before .before .before .before .before .before .before .before .before .before .before .before .before .before .before .before .pre .1)
     (numbered (a .out .now) (a .at) (a .k) (a .name) (c .before .before .before .before .before .before .before .before .before .before .before .before .before .before .before .before .before .pre .1) (c .before .before .before .before .before .before .before .before .before .before .before .before .before .put .ensures) (c .before .before .before .before .before .before .before .before .put2 .ensures) (c .before .before .before .before .put-ended .ensures))
-
-same-length : tie.Need-same-length
-same-length c = search needs
 
 returns : tie.Need-returns
 returns c =
@@ -109,16 +85,5 @@ pub write-declaration-spec : {M : Type 1} → statement M
 write-declaration-spec =
     tie.close
     (tie.spec
-    cast-first
-    add-first
-    cast-second
-    add-second
-    slice-aggregate-put
-    put-requires
-    slice-aggregate-put-2
-    put-requires-2
-    put-ended-requires
-    slice-aggregate-put-3
-    put-requires-3
-    same-length
-    returns)
+    (λ c. search needs) (λ c. search needs) (λ c. search needs) (λ c. search needs) (λ c. search needs) put-requires
+    (λ c. search needs) put-requires-2 put-ended-requires (λ c. search needs) put-requires-3 (λ c. search needs) returns)

@@ -80,14 +80,4 @@ pub write-declarations-spec : {M : Type 1} → statement M
 write-declarations-spec =
     tie.close
     (tie.spec
-    Inv-loop
-    μ-loop
-    loop-holds
-    name-at-requires
-    write-declaration-requires
-    add-k
-    sub-left
-    loop-less
-    loop-again
-    same-length
-    returns)
+    Inv-loop μ-loop loop-holds name-at-requires write-declaration-requires add-k sub-left loop-less loop-again same-length returns)

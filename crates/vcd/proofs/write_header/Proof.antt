@@ -32,9 +32,6 @@ module _ (out : List ℕ) (at : ℕ) (name : ℕ → Name) (n : ℕ) (h : Room o
     declared : {e₂ : ℕ} {out₂ : List ℕ} → Placed out₁ e₁ (declarations name 0 n) e₂ out₂ → Rest out at (header name n) out₂ e₂ closing
     declared q = rest-more (declarations name 0 n) closing h opened q
 
-slice-aggregate-put : tie.Need-slice-aggregate-put
-slice-aggregate-put c = search needs
-
 put-requires : tie.Need-put-requires
 put-requires c κs =
     let a = c .before .before .before .args in
@@ -46,18 +43,12 @@ write-declarations-requires c κs =
     let a = S .args in
     (S .pre .0, declarations-room (a .out .now) (a .at) (nameIn (a .layout)) (a .n) (S .pre .1) (c .before .before .before .put .ensures))
 
-slice-aggregate-put-2 : tie.Need-slice-aggregate-put-2
-slice-aggregate-put-2 c = search needs
-
 put-requires-2 : tie.Need-put-requires-2
 put-requires-2 c κs =
     let S = c .before .before .before .before .before .before .before .before .before .before .before .before in
     let a = S .args in
     last-room closing (S .pre .1)
     (declared (a .out .now) (a .at) (nameIn (a .layout)) (a .n) (S .pre .1) (c .before .before .before .before .before .before .before .before .put .ensures) (c .before .before .before .before .write-declarations .ensures))
-
-same-length : tie.Need-same-length
-same-length c = search needs
 
 returns : tie.Need-returns
 returns c =
@@ -70,10 +61,4 @@ pub write-header-spec : {M : Type 1} → statement M
 write-header-spec =
     tie.close
     (tie.spec
-    slice-aggregate-put
-    put-requires
-    write-declarations-requires
-    slice-aggregate-put-2
-    put-requires-2
-    same-length
-    returns)
+    (λ c. search needs) put-requires write-declarations-requires (λ c. search needs) put-requires-2 (λ c. search needs) returns)

@@ -22,9 +22,6 @@ module _ (out : List ℕ) (at t : ℕ) (h : Room out at (timeMark t)) where
   unfolding timeMark
   marked p = rest-more (35 ∷ []) (numberText t 0) h (rest-start out at (timeMark t)) p
 
-slice-aggregate-put : tie.Need-slice-aggregate-put
-slice-aggregate-put c = search needs
-
 put-requires : tie.Need-put-requires
 put-requires c κs =
     let a = c .before .before .before .args in
@@ -35,9 +32,6 @@ put-ended-requires c κs =
     let a = c .before .before .before .before .before .before .before .args in
     last-room (numberText (a .t) 0) (c .before .before .before .before .before .before .before .pre) (marked (a .out .now) (a .at) (a .t) (c .before .before .before .before .before .before .before .pre) (c .before .before .before .put .ensures))
 
-same-length : tie.Need-same-length
-same-length c = search needs
-
 returns : tie.Need-returns
 returns c =
     let a = c .before .before .before .before .before .before .before .before .before .before .args in
@@ -45,4 +39,4 @@ returns c =
 
 pub write-time-spec : {M : Type 1} → statement M
 write-time-spec =
-    tie.close (tie.spec slice-aggregate-put put-requires put-ended-requires same-length returns)
+    tie.close (tie.spec (λ c. search needs) put-requires put-ended-requires (λ c. search needs) returns)

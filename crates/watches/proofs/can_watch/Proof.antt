@@ -9,12 +9,9 @@ returns : tie.Need-returns
 unfolding W.canWatch
 returns c = rw (eq-eqb _ _ (c .if1 .taken))
 
-value-requires : tie.Need-value-requires
-value-requires c κs = search needs
-
 returns-2 : tie.Need-returns-2
 unfolding W.canWatch
 returns-2 c = rw (← c .value .ensures, ne-eqb _ _ (c .before .if1 .left))
 
 pub can-watch-spec : {M : Type 1} → statement M
-can-watch-spec = tie.close (tie.spec returns value-requires returns-2)
+can-watch-spec = tie.close (tie.spec returns (λ c κs. search needs) returns-2)

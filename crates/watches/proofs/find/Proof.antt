@@ -21,12 +21,6 @@ loop-holds c =
 sub-left : tie.Need-sub-left Inv-loop μ-loop
 sub-left c = omega arith
 
-kept-literal-requires : tie.Need-kept-literal-requires Inv-loop μ-loop
-kept-literal-requires c κs = search needs
-
-can-watch-requires : tie.Need-can-watch-requires Inv-loop μ-loop
-can-watch-requires c κs = search needs
-
 returns : tie.Need-returns Inv-loop μ-loop
 returns c =
     let l = c .before .before .before .before .loop in
@@ -53,13 +47,4 @@ pub find-spec : {M : Type 1} → statement M
 find-spec =
     tie.close
     (tie.spec
-    Inv-loop
-    μ-loop
-    loop-holds
-    sub-left
-    kept-literal-requires
-    can-watch-requires
-    returns
-    loop-less
-    loop-again
-    returns-2)
+    Inv-loop μ-loop loop-holds sub-left (λ c κs. search needs) (λ c κs. search needs) returns loop-less loop-again returns-2)

@@ -5,18 +5,6 @@ use borrow.Author.Needs.{needs}
 use Rattle.watches.proofs.rewatch.Statement.{statement}
 use Rattle.watches.proofs.rewatch.Tie as tie
 
-following-requires : tie.Need-following-requires
-following-requires c κs = search needs
-
-link-requires : tie.Need-link-requires
-link-requires c κs = search needs
-
-attach-requires : tie.Need-attach-requires
-attach-requires c κs = search needs
-
-same-length : tie.Need-same-length
-same-length c = search needs
-
 returns : tie.Need-returns
 unfolding W.rewatched
 returns c =
@@ -27,4 +15,4 @@ returns c =
 
 pub rewatch-spec : {M : Type 1} → statement M
 rewatch-spec =
-    tie.close (tie.spec following-requires link-requires attach-requires same-length returns)
+    tie.close (tie.spec (λ c κs. search needs) (λ c κs. search needs) (λ c κs. search needs) (λ c. search needs) returns)

@@ -5,9 +5,6 @@ use borrow.Author.Needs.{needs}
 use Rattle.watches.proofs.side.Statement.{statement}
 use Rattle.watches.proofs.side.Tie as tie
 
-head-requires : tie.Need-head-requires
-head-requires c κs = search needs
-
 returns : tie.Need-returns
 unfolding W.side
 returns c = rw (← c .before .head .ensures, eq-eqb _ _ (c .if1 .taken))
@@ -17,4 +14,4 @@ unfolding W.side
 returns-2 c = rw (← c .before .head .ensures, ne-eqb _ _ (c .if1 .left))
 
 pub side-spec : {M : Type 1} → statement M
-side-spec = tie.close (tie.spec head-requires returns returns-2)
+side-spec = tie.close (tie.spec (λ c κs. search needs) returns returns-2)

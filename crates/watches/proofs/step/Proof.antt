@@ -21,16 +21,10 @@ returns-3 : tie.Need-returns-3
 unfolding W.stepped
 returns-3 c = rw (lt-leb _ _ (c .before .before .before .before .if1 .left), lt-leb _ _ (c .before .before .if2 .left), ne-eqb _ _ (c .if3 .taken)) (record { words = refl; state = refl })
 
-side-requires : tie.Need-side-requires
-side-requires c κs = search needs
-
 turn-requires : tie.Need-turn-requires
 turn-requires c κs =
     let s = c .before .before .before .before .before .before .before .before .before .before .before .args in
     (c .before .before .before .before .before .if2 .left, subst (λ (k : ℕ). k < 2) (sym (c .before .side .ensures)) (side-two (s .work .now) (s .net .words) (s .t .clause) (s .f)))
-
-same-length : tie.Need-same-length
-same-length c = search needs
 
 returns-4 : tie.Need-returns-4
 unfolding W.stepped
@@ -39,4 +33,4 @@ returns-4 c = rw (← c .before .before .before .before .side .ensures, lt-leb _
 pub step-spec : {M : Type 1} → statement M
 step-spec =
     tie.close
-    (tie.spec returns returns-2 returns-3 side-requires turn-requires same-length returns-4)
+    (tie.spec returns returns-2 returns-3 (λ c κs. search needs) turn-requires (λ c. search needs) returns-4)

@@ -30,9 +30,6 @@ returns c =
     let all = sym (walked-end (l .work) (s .net) (s .arena) (l .u) (s .f) (l .left) (c .if1 .taken)) ∙ l .inv .1 in
     record { words = ap (λ (k : Stood). k .words) all; state = ap (λ (k : Stood). k .state) all }
 
-step-requires : tie.Need-step-requires Inv-loop μ-loop
-step-requires c κs = search needs
-
 sub-left : tie.Need-sub-left Inv-loop μ-loop
 sub-left c = omega arith
 
@@ -62,14 +59,4 @@ pub walk-spec : {M : Type 1} → statement M
 walk-spec =
     tie.close
     (tie.spec
-    Inv-loop
-    μ-loop
-    loop-holds
-    same-length
-    returns
-    step-requires
-    sub-left
-    loop-less
-    loop-again
-    same-length-2
-    returns-2)
+    Inv-loop μ-loop loop-holds same-length returns (λ c κs. search needs) sub-left loop-less loop-again same-length-2 returns-2)

@@ -143,11 +143,5 @@ pub show-spec : {M : Type 1} → statement M
 show-spec =
     tie.close
     (tie.spec
-    wire-count-requires
-    dump-length-requires
-    returns
-    write-header-requires
-    block-count-requires
-    show-blocks-requires
-    same-length
+    wire-count-requires dump-length-requires returns write-header-requires block-count-requires show-blocks-requires same-length
     returns-2)

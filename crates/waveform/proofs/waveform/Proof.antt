@@ -17,18 +17,6 @@ use Rattle.waveform.proofs.Answers.{refuses, shown}
 use Rattle.waveform.proofs.waveform.Statement.{statement}
 use Rattle.waveform.proofs.waveform.Tie as tie
 
-slice-aggregate-held-in : tie.Need-slice-aggregate-held-in
-slice-aggregate-held-in c = search needs
-
-held-in-requires : tie.Need-held-in-requires
-held-in-requires c κs = search needs
-
-enum-known-layout : tie.Need-enum-known-layout
-enum-known-layout c = search needs
-
-enum-told : tie.Need-enum-told
-enum-told c = search needs
-
 returns : tie.Need-returns
 returns c = Operated.noCircuit (rw (c .enum-told .given .1) at (c .before .before .before .held-in .ensures))
 
@@ -52,31 +40,16 @@ module _ (r : tie.After-read-witness) where
   reading : WitnessRead (circuitIn m) text (r .read-witness .result)
   reading = r .read-witness .ensures (circuitIn m) (counts-of (holding .1) (holding .0))
 
-read-witness-requires : tie.Need-read-witness-requires
-read-witness-requires c κs = search needs
-
-enum-known-n : tie.Need-enum-known-n
-enum-known-n c = search needs
-
-enum-known-start : tie.Need-enum-known-start
-enum-known-start c = search needs
-
 -- a witness that was read
 placed : (k : tie.After-start)
     → (let r = k .before .before in Placed (circuitIn (m r)) (text r) (k .start .given .0 .0) (k .start .given .0 .1 .0))
 placed k = let r = k .before .before in subst (WitnessRead (circuitIn (m r)) (text r)) (k .start .given .1) (reading r)
-
-slice-aggregate-show : tie.Need-slice-aggregate-show
-slice-aggregate-show c = search needs
 
 sub-show : tie.Need-sub-show
 sub-show c = placed (c .before .before) .inside
 
 part-show-start : tie.Need-part-show-start
 part-show-start c = placed (c .before .before) .inside
-
-part-show-end : tie.Need-part-show-end
-part-show-end c = search needs
 
 show-requires : tie.Need-show-requires
 show-requires c κs =
@@ -93,9 +66,6 @@ returns-2 c =
     let r = c .before .before .before in
     refuses (circuitIn (m r)) (holding r .1) (S r .args .only) (text r) (S r .args .out .now) (c .before .n .given .0 .0)
     (subst (WitnessRead (circuitIn (m r)) (text r)) (c .before .n .given .1) (reading r))
-
-same-length : tie.Need-same-length
-same-length c = search needs
 
 returns-3 : tie.Need-returns-3
 returns-3 c =
@@ -115,19 +85,6 @@ pub waveform-spec : {M : Type 1} → statement M
 waveform-spec =
     tie.close
     (tie.spec
-    slice-aggregate-held-in
-    held-in-requires
-    enum-known-layout
-    enum-told
-    returns
-    read-witness-requires
-    enum-known-n
-    enum-known-start
-    slice-aggregate-show
-    sub-show
-    part-show-start
-    part-show-end
-    show-requires
-    returns-2
-    same-length
-    returns-3)
+    (λ c. search needs) (λ c κs. search needs) (λ c. search needs) (λ c. search needs) returns (λ c κs. search needs)
+    (λ c. search needs) (λ c. search needs) (λ c. search needs) sub-show part-show-start (λ c. search needs) show-requires returns-2
+    (λ c. search needs) returns-3)

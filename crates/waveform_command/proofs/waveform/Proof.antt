@@ -13,28 +13,10 @@ use Rattle.load.proofs.load.Reads as load-reads
 use Rattle.replies.proofs.refuse.Reads as refuse-reads
 use Rattle.waveform_command.proofs.waveform_loaded.Reads as waveform-loaded-reads
 
-load-requires : tie.Need-load-requires
-load-requires c κs = search needs
-
-enum-known-n : tie.Need-enum-known-n
-enum-known-n c = search needs
-
-refuse-requires : tie.Need-refuse-requires
-refuse-requires c κs = search needs
-
-enum-told : tie.Need-enum-told
-enum-told c = search needs
-
 waveform-loaded-requires : tie.Need-waveform-loaded-requires
 waveform-loaded-requires c κs =
     let h = stored (c .before .before .before .before .before .before .before .load .ensures) (ap answered (c .before .before .before .enum-told .given .1)) in
     (stored-in h, c .before .before .before .before .before .before .before .before .before .before .before .before .before .before .pre .2)
-
-same-length : tie.Need-same-length
-same-length c = search needs
-
-same-length-2 : tie.Need-same-length-2
-same-length-2 c = search needs
 
 returns : tie.Need-returns
 returns c =
@@ -46,15 +28,6 @@ returns c =
       waveform-refusal (a .m .now) (a .file .now) (s .pre .0) (a .only) (a .witness .now) (a .out .now) e (f .0) (f .1),
       loaded-words (l .load .ensures),
     )
-
-same-length-3 : tie.Need-same-length-3
-same-length-3 c = search needs
-
-same-length-4 : tie.Need-same-length-4
-same-length-4 c = search needs
-
-same-length-5 : tie.Need-same-length-5
-same-length-5 c = search needs
 
 returns-2 : tie.Need-returns-2
 returns-2 c =
@@ -69,15 +42,5 @@ pub waveform-spec : {M : Type 1} → statement M
 waveform-spec =
     tie.close
     (tie.spec
-    load-requires
-    enum-known-n
-    refuse-requires
-    enum-told
-    waveform-loaded-requires
-    same-length
-    same-length-2
-    returns
-    same-length-3
-    same-length-4
-    same-length-5
-    returns-2)
+    (λ c κs. search needs) (λ c. search needs) (λ c κs. search needs) (λ c. search needs) waveform-loaded-requires (λ c. search needs)
+    (λ c. search needs) returns (λ c. search needs) (λ c. search needs) (λ c. search needs) returns-2)

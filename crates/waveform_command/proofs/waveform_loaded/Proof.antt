@@ -10,31 +10,10 @@ use Rattle.waveform_command.proofs.waveform_loaded.Lts as lts
 use Rattle.replies.proofs.refuse.Reads as refuse-reads
 use Rattle.waveform.proofs.waveform.Reads as waveform-reads
 
-waveform-requires : tie.Need-waveform-requires
-waveform-requires c κs = search needs
-
-enum-known-n : tie.Need-enum-known-n
-enum-known-n c = search needs
-
-enum-known-n-2 : tie.Need-enum-known-n-2
-enum-known-n-2 c = search needs
-
-refuse-requires : tie.Need-refuse-requires
-refuse-requires c κs = search needs
-
-same-length : tie.Need-same-length
-same-length c = search needs
-
 returns : tie.Need-returns
 returns c =
     let s = c .before .before .before .before .before .before .before .before .before .before .before in
     waveform-shown (s .pre .0) (c .before .before .before .before .before .waveform .ensures) (s .args .line .now) (ap answered (c .before .n .given .1))
-
-same-length-2 : tie.Need-same-length-2
-same-length-2 c = search needs
-
-same-length-3 : tie.Need-same-length-3
-same-length-3 c = search needs
 
 returns-2 : tie.Need-returns-2
 returns-2 c =
@@ -46,12 +25,5 @@ pub waveform-loaded-spec : {M : Type 1} → statement M
 waveform-loaded-spec =
     tie.close
     (tie.spec
-    waveform-requires
-    enum-known-n
-    enum-known-n-2
-    refuse-requires
-    same-length
-    returns
-    same-length-2
-    same-length-3
-    returns-2)
+    (λ c κs. search needs) (λ c. search needs) (λ c. search needs) (λ c κs. search needs) (λ c. search needs) returns
+    (λ c. search needs) (λ c. search needs) returns-2)

@@ -12,8 +12,5 @@ slice-aggregate-show-with c = sym (length-replicate {A = ℕ} 1572928 0)
 show-with-requires : tie.Need-show-with-requires
 show-with-requires c κs = length-replicate {A = ℕ} 1572928 0
 
-returns : tie.Need-returns
-returns c = search needs
-
 pub show-files-spec : {M : Type 1} → statement M
-show-files-spec = tie.close (tie.spec slice-aggregate-show-with show-with-requires returns)
+show-files-spec = tie.close (tie.spec slice-aggregate-show-with show-with-requires (λ c. search needs))

@@ -19,25 +19,8 @@ returns c =
     let a = c .before .before .before .before .before .before .before .before .before .args in
     sym (true-T (allPass (shows (circuitIn (a .m .now)) (a .q .bad)) (a .body .now)) (c .before .every-completion .ensures (c .if2 .taken)))
 
-every-completion-requires-2 : tie.Need-every-completion-requires-2
-every-completion-requires-2 c κs = search needs
-
-same-length : tie.Need-same-length
-same-length c = search needs
-
-same-length-2 : tie.Need-same-length-2
-same-length-2 c = search needs
-
-returns-2 : tie.Need-returns-2
-returns-2 c = search needs
-
 pub every-hit-spec : {M : Type 1} → statement M
 every-hit-spec =
     tie.close
     (tie.spec
-    every-completion-requires
-    returns
-    every-completion-requires-2
-    same-length
-    same-length-2
-    returns-2)
+    every-completion-requires returns (λ c κs. search needs) (λ c. search needs) (λ c. search needs) (λ c. search needs))

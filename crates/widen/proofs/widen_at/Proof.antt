@@ -24,12 +24,6 @@ returns c =
       F .eithers-are,
     )
 
-slice-read-byte : tie.Need-slice-read-byte
-slice-read-byte c = search needs
-
-is-bit-requires : tie.Need-is-bit-requires
-is-bit-requires c κs = search needs
-
 returns-2 : tie.Need-returns-2
 returns-2 c =
     let S = c .before .before .before .before .before .before .before .before .before .before .before in
@@ -60,9 +54,6 @@ module _ (e : tie.Else2) where
 sub-body : tie.Need-sub-body
 sub-body c = bit-small (getD (w c) (S c .args .i) 0) (is-a-bit c)
 
-slice-write-body : tie.Need-slice-write-body
-slice-write-body c = search needs
-
 every-hit-requires : tie.Need-every-hit-requires
 every-hit-requires c κs =
     let e = c .before .before .before in
@@ -75,21 +66,6 @@ every-hit-requires c κs =
       ),
     )
 
-slice-write-body-2 : tie.Need-slice-write-body-2
-slice-write-body-2 c = search needs
-
-add-result : tie.Need-add-result
-add-result c = search needs
-
-same-length : tie.Need-same-length
-same-length c = search needs
-
-same-length-2 : tie.Need-same-length-2
-same-length-2 c = search needs
-
-same-length-3 : tie.Need-same-length-3
-same-length-3 c = search needs
-
 returns-3 : tie.Need-returns-3
 returns-3 c =
     let k = c .before .before .before .before .before in
@@ -98,18 +74,6 @@ returns-3 c =
       at-taken (p e) (w e) i (S e .pre .1 .1 .1) (is-a-bit e) (few e) (sym (c .if3 .taken) ∙ k .every-hit .ensures),
       taken-count (w e) i (97 - getD (w e) i 0) (S e .args .w .q .eithers) (is-a-bit e) (S e .pre .1 .1 .0 .eithers-are),
     )
-
-slice-write-body-3 : tie.Need-slice-write-body-3
-slice-write-body-3 c = search needs
-
-same-length-4 : tie.Need-same-length-4
-same-length-4 c = search needs
-
-same-length-5 : tie.Need-same-length-5
-same-length-5 c = search needs
-
-same-length-6 : tie.Need-same-length-6
-same-length-6 c = search needs
 
 returns-4 : tie.Need-returns-4
 returns-4 c =
@@ -124,21 +88,6 @@ pub widen-at-spec : {M : Type 1} → statement M
 widen-at-spec =
     tie.close
     (tie.spec
-    returns
-    slice-read-byte
-    is-bit-requires
-    returns-2
-    sub-body
-    slice-write-body
-    every-hit-requires
-    slice-write-body-2
-    add-result
-    same-length
-    same-length-2
-    same-length-3
-    returns-3
-    slice-write-body-3
-    same-length-4
-    same-length-5
-    same-length-6
-    returns-4)
+    returns (λ c. search needs) (λ c κs. search needs) returns-2 sub-body (λ c. search needs) every-hit-requires (λ c. search needs)
+    (λ c. search needs) (λ c. search needs) (λ c. search needs) (λ c. search needs) returns-3 (λ c. search needs) (λ c. search needs)
+    (λ c. search needs) (λ c. search needs) returns-4)

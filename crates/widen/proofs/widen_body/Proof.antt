@@ -161,18 +161,5 @@ pub widen-body-spec : {M : Type 1} → statement M
 widen-body-spec =
     tie.close
     (tie.spec
-    Inv-loop
-    μ-loop
-    rows-of-requires
-    loop-holds
-    sub-i
-    pin-of-requires
-    widen-at-requires
-    loop-less
-    loop-again
-    loop-less-2
-    loop-again-2
-    same-length
-    same-length-2
-    same-length-3
-    returns)
+    Inv-loop μ-loop rows-of-requires loop-holds sub-i pin-of-requires widen-at-requires loop-less loop-again loop-less-2 loop-again-2
+    same-length same-length-2 same-length-3 returns)

@@ -33,18 +33,6 @@ body-is k =
     ap (λ (o : List ℕ). take (length text - a .start) (drop (a .start) o)) (out-is k)
     ∙ body-of text (a .out .now) (a .start) (start k .pre .1 .0 .1)
 
-copy-requires : tie.Need-copy-requires
-copy-requires c κs = search needs
-
-sub-widen-alone : tie.Need-sub-widen-alone
-sub-widen-alone c = search needs
-
-part-widen-alone-start : tie.Need-part-widen-alone-start
-part-widen-alone-start c = search needs
-
-part-widen-alone-end : tie.Need-part-widen-alone-end
-part-widen-alone-end c = search needs
-
 widen-alone-requires : tie.Need-widen-alone-requires
 widen-alone-requires c κs =
     let k = c .before .before .before in
@@ -52,9 +40,6 @@ widen-alone-requires c κs =
     let a = S .args in
     let q = a .w .q in
     (S .pre .0, (S .pre .1 .0 .0, subst (Fits (circuitIn (a .m .now)) (q .bad) (q .frames) (q .eithers)) (sym (body-is k)) (S .pre .1 .1)))
-
-same-length : tie.Need-same-length
-same-length c = search needs
 
 returns : tie.Need-returns
 returns c =
@@ -72,10 +57,4 @@ pub widen-copy-spec : {M : Type 1} → statement M
 widen-copy-spec =
     tie.close
     (tie.spec
-    copy-requires
-    sub-widen-alone
-    part-widen-alone-start
-    part-widen-alone-end
-    widen-alone-requires
-    same-length
-    returns)
+    (λ c κs. search needs) (λ c. search needs) (λ c. search needs) (λ c. search needs) widen-alone-requires (λ c. search needs) returns)

@@ -40,9 +40,6 @@ agree-requires c κs =
     let r = c .before in
     inputs-few (S r .pre .0) (S r .pre .1 .1) (q r) (r .rows-of .result) (r .rows-of .ensures)
 
-same-length : tie.Need-same-length
-same-length c = search needs
-
 returns : tie.Need-returns
 returns c =
     let a = c .before in
@@ -58,18 +55,6 @@ agreed e =
     let r = a .before .before in
     all-agree (S r .pre .0) (S r .pre .1 .1) (q r) (r .rows-of .result) (r .rows-of .ensures) (a .agree .result) (a .agree .ensures)
     (not-false (a .agree .result) (e .if1 .left))
-
-every-hit-requires : tie.Need-every-hit-requires
-every-hit-requires c κs = search needs
-
-same-length-2 : tie.Need-same-length-2
-same-length-2 c = search needs
-
-same-length-3 : tie.Need-same-length-3
-same-length-3 c = search needs
-
-same-length-4 : tie.Need-same-length-4
-same-length-4 c = search needs
 
 returns-2 : tie.Need-returns-2
 returns-2 c =
@@ -91,15 +76,6 @@ widen-body-requires c κs =
       ),
     )
 
-same-length-5 : tie.Need-same-length-5
-same-length-5 c = search needs
-
-same-length-6 : tie.Need-same-length-6
-same-length-6 c = search needs
-
-same-length-7 : tie.Need-same-length-7
-same-length-7 c = search needs
-
 returns-3 : tie.Need-returns-3
 returns-3 c =
     let h = c .before .before .before .before .before .before .before .before .before .before .before .before .before .before .before in
@@ -114,17 +90,5 @@ pub widen-hits-spec : {M : Type 1} → statement M
 widen-hits-spec =
     tie.close
     (tie.spec
-    rows-of-requires
-    agree-requires
-    same-length
-    returns
-    every-hit-requires
-    same-length-2
-    same-length-3
-    same-length-4
-    returns-2
-    widen-body-requires
-    same-length-5
-    same-length-6
-    same-length-7
-    returns-3)
+    rows-of-requires agree-requires (λ c. search needs) returns (λ c κs. search needs) (λ c. search needs) (λ c. search needs)
+    (λ c. search needs) returns-2 widen-body-requires (λ c. search needs) (λ c. search needs) (λ c. search needs) returns-3)

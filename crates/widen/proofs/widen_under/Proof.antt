@@ -16,18 +16,6 @@ use borrow.Author.Needs.{needs}
 use Rattle.widen.proofs.widen_under.Statement.{statement}
 use Rattle.widen.proofs.widen_under.Tie as tie
 
-slice-aggregate-held-in : tie.Need-slice-aggregate-held-in
-slice-aggregate-held-in c = search needs
-
-held-in-requires : tie.Need-held-in-requires
-held-in-requires c κs = search needs
-
-enum-known-layout : tie.Need-enum-known-layout
-enum-known-layout c = search needs
-
-enum-told : tie.Need-enum-told
-enum-told c = search needs
-
 returns : tie.Need-returns
 returns c =
     Operated.noCircuit (rw (c .enum-told .given .1) at (c .before .before .before .held-in .ensures))
@@ -63,15 +51,6 @@ placed k = let r = k .before .before in subst (WitnessRead (circuitIn (m r)) (te
 few : (k : tie.After-start) → (let r = k .before .before in eithers (drop (k .start .given .0 .0) (text r)) ≤ 16)
 few k = omega (arith, placed k .fits .eithers-are, placed k .fits .few)
 
-read-witness-requires : tie.Need-read-witness-requires
-read-witness-requires c κs = search needs
-
-enum-known-n : tie.Need-enum-known-n
-enum-known-n c = search needs
-
-enum-known-start : tie.Need-enum-known-start
-enum-known-start c = search needs
-
 returns-2 : tie.Need-returns-2
 returns-2 c =
     let k = c .before .before in
@@ -79,9 +58,6 @@ returns-2 c =
     let q = k .start .given .0 .1 .0 in
     too-short (circuitIn (m r)) (holding r .1) (λ i. getD (S r .args .own .now) i 2) (text r) (out r) (q .bad)
     (drop (k .start .given .0 .0) (text r)) (placed k .reads) (few k) (omega (arith, c .if1 .taken))
-
-slice-aggregate-widen-copy : tie.Need-slice-aggregate-widen-copy
-slice-aggregate-widen-copy c = search needs
 
 widen-copy-requires : tie.Need-widen-copy-requires
 widen-copy-requires c κs =
@@ -97,9 +73,6 @@ returns-3 c =
     let r = c .before .before .before in
     refuses (circuitIn (m r)) (holding r .1) (λ i. getD (S r .args .own .now) i 2) (text r) (out r) (c .before .n .given .0 .0)
     (subst (WitnessRead (circuitIn (m r)) (text r)) (c .before .n .given .1) (reading r))
-
-same-length : tie.Need-same-length
-same-length c = search needs
 
 returns-4 : tie.Need-returns-4
 returns-4 c =
@@ -117,17 +90,5 @@ pub widen-under-spec : {M : Type 1} → statement M
 widen-under-spec =
     tie.close
     (tie.spec
-    slice-aggregate-held-in
-    held-in-requires
-    enum-known-layout
-    enum-told
-    returns
-    read-witness-requires
-    enum-known-n
-    enum-known-start
-    returns-2
-    slice-aggregate-widen-copy
-    widen-copy-requires
-    returns-3
-    same-length
-    returns-4)
+    (λ c. search needs) (λ c κs. search needs) (λ c. search needs) (λ c. search needs) returns (λ c κs. search needs)
+    (λ c. search needs) (λ c. search needs) returns-2 (λ c. search needs) widen-copy-requires returns-3 (λ c. search needs) returns-4)

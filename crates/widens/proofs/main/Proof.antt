@@ -47,16 +47,5 @@ pub main-spec : {M : Type 1} → statement M
 main-spec =
     tie.close
     (tie.spec
-    Inv-loop
-    μ-loop
-    arg-count-requires
-    loop-holds
-    mul-say-pair
-    add-say-pair
-    mul-say-pair-2
-    add-say-pair-2
-    say-pair-requires
-    add-k
-    loop-less
-    loop-again
-    returns)
+    Inv-loop μ-loop arg-count-requires loop-holds mul-say-pair add-say-pair mul-say-pair-2 add-say-pair-2 say-pair-requires add-k
+    loop-less loop-again returns)

@@ -5,14 +5,8 @@ use Rattle.witness.proofs.Rows.{nonzero-test}
 use Rattle.witness.proofs.bit_at.Statement.{statement}
 use Rattle.witness.proofs.bit_at.Tie as tie
 
-mul-result : tie.Need-mul-result
-mul-result c = search needs
-
-shared-slice-read-result : tie.Need-shared-slice-read-result
-shared-slice-read-result c = search needs
-
 returns : tie.Need-returns
 returns c = let a = c .before .args in nonzero-test (getD (a .words .now) (a .i) 0)
 
 pub bit-at-spec : {M : Type 1} → statement M
-bit-at-spec = tie.close (tie.spec mul-result shared-slice-read-result returns)
+bit-at-spec = tie.close (tie.spec (λ c. search needs) (λ c. search needs) returns)

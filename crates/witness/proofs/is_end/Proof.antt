@@ -9,25 +9,13 @@ use Rattle.witness.proofs.is_end.Tie as tie
 returns : tie.Need-returns
 returns c = let a = c .before .args in sym (not-end (a .text .now) (a .at) (λ e. omega arith))
 
-sub-if2 : tie.Need-sub-if2
-sub-if2 c = search needs
-
 returns-2 : tie.Need-returns-2
 returns-2 c = let a = c .before .before .args in sym (not-end (a .text .now) (a .at) (c .if2 .taken))
-
-shared-slice-read-if3 : tie.Need-shared-slice-read-if3
-shared-slice-read-if3 c = search needs
 
 returns-3 : tie.Need-returns-3
 returns-3 c =
     let a = c .before .before .before .before .args in
     sym (not-dot (a .text .now) (a .at) (c .before .before .if2 .left) (c .if3 .taken))
-
-add-result : tie.Need-add-result
-add-result c = search needs
-
-shared-slice-read-result : tie.Need-shared-slice-read-result
-shared-slice-read-result c = search needs
 
 returns-4 : tie.Need-returns-4
 returns-4 c =
@@ -35,4 +23,4 @@ returns-4 c =
     sym (dot (a .text .now) (a .at) (c .before .before .before .if2 .left) (c .before .if3 .left))
 
 pub is-end-spec : {M : Type 1} → statement M
-is-end-spec = tie.close (tie.spec returns sub-if2 returns-2 shared-slice-read-if3 returns-3 add-result shared-slice-read-result returns-4)
+is-end-spec = tie.close (tie.spec returns (λ c. search needs) returns-2 (λ c. search needs) returns-3 (λ c. search needs) (λ c. search needs) returns-4)

@@ -82,22 +82,5 @@ pub read-bits-spec : {M : Type 1} → statement M
 read-bits-spec =
     tie.close
     (tie.spec
-    Inv-loop
-    μ-loop
-    returns
-    sub-if2
-    returns-2
-    loop-holds
-    add-if3
-    shared-slice-read-if3
-    add-i
-    loop-less
-    loop-again
-    returns-3
-    returns-4
-    add-if5
-    shared-slice-read-if5
-    returns-5
-    add-t7
-    add-t5
-    returns-6)
+    Inv-loop μ-loop returns sub-if2 returns-2 loop-holds add-if3 shared-slice-read-if3 add-i loop-less loop-again returns-3 returns-4
+    add-if5 shared-slice-read-if5 returns-5 add-t7 add-t5 returns-6)

@@ -7,31 +7,16 @@ use Rattle.witness.proofs.read_heading.Tie as tie
 returns : tie.Need-returns
 returns c = no-answer (short (c .before .before .args .text .now) (c .if1 .taken))
 
-shared-slice-read-if2 : tie.Need-shared-slice-read-if2
-shared-slice-read-if2 c = search needs
-
 returns-2 : tie.Need-returns-2
 returns-2 c = let t = c .before .before in no-answer (no-one (t .before .before .args .text .now) (t .if1 .left) (c .if2 .taken))
 
-shared-slice-read-if3 : tie.Need-shared-slice-read-if3
-shared-slice-read-if3 c = search needs
-
 returns-3 : tie.Need-returns-3
 returns-3 c = let t = c .before .before .before .before in no-answer (no-feed (t .before .before .args .text .now) (t .if1 .left) (c .if3 .taken))
-
-shared-slice-read-if4 : tie.Need-shared-slice-read-if4
-shared-slice-read-if4 c = search needs
 
 returns-4 : tie.Need-returns-4
 returns-4 c =
     let t = c .before .before .before .before .before .before in
     no-answer (no-b (t .before .before .args .text .now) (t .if1 .left) (c .if4 .taken))
-
-read-number-requires : tie.Need-read-number-requires
-read-number-requires c κs = search needs
-
-enum-known-b : tie.Need-enum-known-b
-enum-known-b c = search needs
 
 returns-5 : tie.Need-returns-5
 returns-5 c =
@@ -55,14 +40,5 @@ pub read-heading-spec : {M : Type 1} → statement M
 read-heading-spec =
     tie.close
     (tie.spec
-    returns
-    shared-slice-read-if2
-    returns-2
-    shared-slice-read-if3
-    returns-3
-    shared-slice-read-if4
-    returns-4
-    read-number-requires
-    enum-known-b
-    returns-5
-    returns-6)
+    returns (λ c. search needs) returns-2 (λ c. search needs) returns-3 (λ c. search needs) returns-4 (λ c κs. search needs)
+    (λ c. search needs) returns-5 returns-6)

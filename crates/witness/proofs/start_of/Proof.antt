@@ -5,9 +5,6 @@ use borrow.Author.Needs.{needs}
 use Rattle.witness.proofs.start_of.Statement.{statement}
 use Rattle.witness.proofs.start_of.Tie as tie
 
-equals-requires : tie.Need-equals-requires
-equals-requires c κs = search needs
-
 bit-at-requires : tie.Need-bit-at-requires
 bit-at-requires c κs = c .before .before .before .pre (sym (c .before .equals .ensures) ∙ c .if1 .taken)
 
@@ -19,9 +16,6 @@ returns c =
     let e = sym (c .before .before .equals .ensures) ∙ c .before .if1 .taken in
     (rw e (c .bit-at .ensures), rw e)
 
-is-true-requires : tie.Need-is-true-requires
-is-true-requires c κs = search needs
-
 returns-2 : tie.Need-returns-2
 returns-2 c =
     let e = sym (c .before .before .equals .ensures) ∙ c .before .if1 .left in
@@ -31,9 +25,4 @@ pub start-of-spec : {M : Type 1} → statement M
 start-of-spec =
     tie.close
     (tie.spec
-    equals-requires
-    bit-at-requires
-    add-t7
-    returns
-    is-true-requires
-    returns-2)
+    (λ c κs. search needs) bit-at-requires add-t7 returns (λ c κs. search needs) returns-2)

@@ -18,9 +18,6 @@ use Rattle.witness.proofs.write_heading.Tie as tie
 room : (s : tie.Start) → Room (s .args .out .now) 0 (bytes "1\nb" ++ numberText (s .args .b) 0)
 room s = omega (arith, s .pre, heading-length (s .args .b), length-append (digits (s .args .b)) (bytes "\n"))
 
-slice-aggregate-put : tie.Need-slice-aggregate-put
-slice-aggregate-put c = search needs
-
 put-requires : tie.Need-put-requires
 put-requires c κs =
     let s = c .before .before .before in
@@ -31,9 +28,6 @@ put-ended-requires c κs =
     let w = c .before .before .before in
     let s = w .before .before .before .before in
     room-second (s .args .out .now) 0 (bytes "1\nb") (numberText (s .args .b) 0) (room s) (w .put .ensures)
-
-same-length : tie.Need-same-length
-same-length c = search needs
 
 returns : tie.Need-returns
 unfolding headingText
@@ -47,4 +41,4 @@ returns c =
     (p .past ∙ zero-add _, p .contents ∙ put-front o (bytes "1\nb" ++ n))
 
 pub write-heading-spec : {M : Type 1} → statement M
-write-heading-spec = tie.close (tie.spec slice-aggregate-put put-requires put-ended-requires same-length returns)
+write-heading-spec = tie.close (tie.spec (λ c. search needs) put-requires put-ended-requires (λ c. search needs) returns)

@@ -30,9 +30,6 @@ add-bit-at c = omega arith
 bit-at-requires : tie.Need-bit-at-requires Inv-loop μ-loop
 bit-at-requires c κs = omega arith
 
-byte-of-requires : tie.Need-byte-of-requires Inv-loop μ-loop
-byte-of-requires c κs = search needs
-
 slice-write-part : tie.Need-slice-write-part Inv-loop μ-loop
 slice-write-part c = omega arith
 
@@ -68,16 +65,5 @@ pub write-row-spec : {M : Type 1} → statement M
 write-row-spec =
     tie.close
     (tie.spec
-    Inv-loop
-    μ-loop
-    loop-holds
-    add-bit-at
-    bit-at-requires
-    byte-of-requires
-    slice-write-part
-    add-i
-    loop-less
-    loop-again
-    slice-write-part-2
-    same-length
-    returns)
+    Inv-loop μ-loop loop-holds add-bit-at bit-at-requires (λ c κs. search needs) slice-write-part add-i loop-less loop-again
+    slice-write-part-2 same-length returns)

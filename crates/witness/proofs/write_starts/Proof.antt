@@ -56,9 +56,6 @@ mul-from-word c = omega (arith, within c)
 shared-slice-read-from-word : tie.Need-shared-slice-read-from-word Inv-loop μ-loop
 shared-slice-read-from-word c = omega (arith, within (c .before))
 
-from-word-requires : tie.Need-from-word-requires Inv-loop μ-loop
-from-word-requires c κs = search needs
-
 add-from-word : tie.Need-add-from-word Inv-loop μ-loop
 add-from-word c = omega (arith, within (c .before .before))
 
@@ -67,9 +64,6 @@ mul-from-word-2 c = omega (arith, within (c .before .before))
 
 shared-slice-read-from-word-2 : tie.Need-shared-slice-read-from-word-2 Inv-loop μ-loop
 shared-slice-read-from-word-2 c = omega (arith, within (c .before .before .before))
-
-from-word-requires-2 : tie.Need-from-word-requires-2 Inv-loop μ-loop
-from-word-requires-2 c κs = search needs
 
 start-of-requires : tie.Need-start-of-requires Inv-loop μ-loop
 start-of-requires c κs =
@@ -84,9 +78,6 @@ start-of-requires c κs =
           (word-read (word (M l) (l .loop .at + 2)) (c .from-word2 .ensures)) e,
       fit l .bits,
     )
-
-byte-of-requires : tie.Need-byte-of-requires Inv-loop μ-loop
-byte-of-requires c κs = search needs
 
 slice-write-part : tie.Need-slice-write-part Inv-loop μ-loop
 slice-write-part c =
@@ -139,23 +130,6 @@ pub write-starts-spec : {M : Type 1} → statement M
 write-starts-spec =
     tie.close
     (tie.spec
-    Inv-loop
-    μ-loop
-    loop-holds
-    mul-from-word
-    shared-slice-read-from-word
-    from-word-requires
-    add-from-word
-    mul-from-word-2
-    shared-slice-read-from-word-2
-    from-word-requires-2
-    start-of-requires
-    byte-of-requires
-    slice-write-part
-    add-j
-    add-at
-    loop-less
-    loop-again
-    slice-write-part-2
-    same-length
-    returns)
+    Inv-loop μ-loop loop-holds mul-from-word shared-slice-read-from-word (λ c κs. search needs) add-from-word mul-from-word-2
+    shared-slice-read-from-word-2 (λ c κs. search needs) start-of-requires (λ c κs. search needs) slice-write-part add-j add-at
+    loop-less loop-again slice-write-part-2 same-length returns)

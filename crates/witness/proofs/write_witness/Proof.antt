@@ -246,33 +246,7 @@ pub write-witness-spec : {M : Type 1} → statement M
 write-witness-spec =
     tie.close
     (tie.spec
-    Inv-loop
-    μ-loop
-    write-heading-requires
-    sub-write-starts
-    part-write-starts-start
-    part-write-starts-end
-    write-starts-requires
-    add-rows
-    add-rows-2
-    loop-holds
-    add-offset
-    mul-offset
-    add-offset-2
-    sub-write-row
-    part-write-row-start
-    part-write-row-end
-    mul-write-row
-    add-write-row
-    write-row-requires
-    add-frame
-    loop-less
-    loop-again
-    add-end
-    mul-end
-    add-end-2
-    slice-write-out
-    add-out
-    slice-write-out-2
-    same-length
-    returns)
+    Inv-loop μ-loop write-heading-requires sub-write-starts part-write-starts-start part-write-starts-end write-starts-requires
+    add-rows add-rows-2 loop-holds add-offset mul-offset add-offset-2 sub-write-row part-write-row-start part-write-row-end
+    mul-write-row add-write-row write-row-requires add-frame loop-less loop-again add-end mul-end add-end-2 slice-write-out add-out
+    slice-write-out-2 same-length returns)

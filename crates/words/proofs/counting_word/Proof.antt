@@ -7,9 +7,6 @@ use Rattle.words.proofs.Bits.{bit-beyond, bit-none, bit-all, bit-tested
 use Rattle.words.proofs.counting_word.Statement.{statement}
 use Rattle.words.proofs.counting_word.Tie as tie
 
-pattern-requires : tie.Need-pattern-requires
-pattern-requires c κs = search needs
-
 returns : tie.Need-returns
 returns c =
     λ p h. let a = c .before .before .args in
@@ -20,9 +17,6 @@ returns-2 c =
     λ p h. let a = c .before .before .args in
     bit-none p
     ∙ sym (join-high 6 (a .block) p (a .k) h (omega arith) ∙ bit-beyond 64 (a .block) (a .k - 6) (c .before .before .fits .block .fits) (c .if2 .taken))
-
-shr-if3 : tie.Need-shr-if3
-shr-if3 c = search needs
 
 returns-3 : tie.Need-returns-3
 returns-3 c =
@@ -35,4 +29,4 @@ returns-4 c =
     bit-none p ∙ sym (join-high 6 (a .block) p (a .k) h (omega arith) ∙ bit-tested-not (a .block) (a .k - 6) (c .if3 .left))
 
 pub counting-word-spec : {M : Type 1} → statement M
-counting-word-spec = tie.close (tie.spec pattern-requires returns returns-2 shr-if3 returns-3 returns-4)
+counting-word-spec = tie.close (tie.spec (λ c κs. search needs) returns returns-2 (λ c. search needs) returns-3 returns-4)

@@ -18,9 +18,6 @@ loop-holds : tie.Need-loop-holds Inv-loop μ-loop
 unfolding Signature.draw
 loop-holds c = (omega arith, refl)
 
-step-requires : tie.Need-step-requires Inv-loop μ-loop
-step-requires c κs = search needs
-
 add-k : tie.Need-add-k Inv-loop μ-loop
 add-k c = omega arith
 
@@ -45,4 +42,4 @@ returns c =
     at .inv .1 ∙ ap Signature.draw e
 
 pub draw-spec : {M : Type 1} → statement M
-draw-spec = tie.close (tie.spec Inv-loop μ-loop loop-holds step-requires add-k loop-less loop-again returns)
+draw-spec = tie.close (tie.spec Inv-loop μ-loop loop-holds (λ c κs. search needs) add-k loop-less loop-again returns)

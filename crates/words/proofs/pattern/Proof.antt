@@ -35,12 +35,6 @@ module _ (c : lts.Start reads.Pre reads.Post) where
       equal-of-beq (bit (getD table j 0) p) (bit p j)
       (below-at 64 (right table j) (below-at 6 (λ j. everyBelow 64 (right table j)) tested j hj) p hp)
 
-mul-result : tie.Need-mul-result
-mul-result c = search needs
-
-array-read-result : tie.Need-array-read-result
-array-read-result c = search needs
-
 returns : tie.Need-returns
 returns c = λ p h. rule (c .before) (c .before .args .j) p (c .if1 .taken) h
 
@@ -48,4 +42,4 @@ returns-2 : tie.Need-returns-2
 returns-2 c = λ p h. bit-none p ∙ sym (bit-beyond 6 p (c .before .args .j) h (c .if1 .left))
 
 pub pattern-spec : {M : Type 1} → statement M
-pattern-spec = tie.close (tie.spec mul-result array-read-result returns returns-2)
+pattern-spec = tie.close (tie.spec (λ c. search needs) (λ c. search needs) returns returns-2)

@@ -18,21 +18,12 @@ drawn : (j p : ℕ) → 6 ≤ j → Signature.patternBit j p ≡ bit (Signature.
 unfolding Signature.patternBit
 drawn j p h = ap (λ (t : Bool). cond t (bit p j) (bit (Signature.draw (j - 5)) p)) (le-ltb j 6 h)
 
-sub-draw : tie.Need-sub-draw
-sub-draw c = search needs
-
-draw-requires : tie.Need-draw-requires
-draw-requires c κs = search needs
-
 returns : tie.Need-returns
 returns c =
     λ p h. ap (λ (x : ℕ). bit x p) (c .draw .ensures) ∙ sym (drawn (c .before .before .args .j) p (omega arith))
-
-pattern-requires : tie.Need-pattern-requires
-pattern-requires c κs = search needs
 
 returns-2 : tie.Need-returns-2
 returns-2 c = λ p h. c .pattern .ensures p h ∙ sym (counts (c .before .before .args .j) p (omega arith))
 
 pub pattern-word-spec : {M : Type 1} → statement M
-pattern-word-spec = tie.close (tie.spec sub-draw draw-requires returns pattern-requires returns-2)
+pattern-word-spec = tie.close (tie.spec (λ c. search needs) (λ c κs. search needs) returns (λ c κs. search needs) returns-2)

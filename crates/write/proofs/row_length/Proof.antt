@@ -19,9 +19,6 @@ abbrev μ-loop : tie.MeasureT-loop
 loop-holds : tie.Need-loop-holds Inv-loop μ-loop
 loop-holds c = (omega arith, omega arith)
 
-mul-digit-count : tie.Need-mul-digit-count Inv-loop μ-loop
-mul-digit-count c = search needs
-
 shared-slice-read-digit-count : tie.Need-shared-slice-read-digit-count Inv-loop μ-loop
 shared-slice-read-digit-count c = omega arith
 
@@ -61,16 +58,5 @@ pub row-length-spec : {M : Type 1} → statement M
 row-length-spec =
     tie.close
     (tie.spec
-    Inv-loop
-    μ-loop
-    loop-holds
-    mul-digit-count
-    shared-slice-read-digit-count
-    digit-count-requires
-    add-total
-    add-total-2
-    add-p
-    sub-left
-    loop-less
-    loop-again
-    returns)
+    Inv-loop μ-loop loop-holds (λ c. search needs) shared-slice-read-digit-count digit-count-requires add-total add-total-2 add-p
+    sub-left loop-less loop-again returns)

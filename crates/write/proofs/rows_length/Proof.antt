@@ -87,14 +87,4 @@ pub rows-length-spec : {M : Type 1} → statement M
 rows-length-spec =
     tie.close
     (tie.spec
-    Inv-loop
-    μ-loop
-    loop-holds
-    row-count-requires
-    row-length-requires
-    add-total
-    add-p
-    sub-left
-    loop-less
-    loop-again
-    returns)
+    Inv-loop μ-loop loop-holds row-count-requires row-length-requires add-total add-p sub-left loop-less loop-again returns)

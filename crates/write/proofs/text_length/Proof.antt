@@ -84,15 +84,5 @@ pub text-length-spec : {M : Type 1} → statement M
 text-length-spec =
     tie.close
     (tie.spec
-    Inv-loop
-    μ-loop
-    row-length-requires
-    add-total
-    loop-holds
-    section-at-requires
-    rows-length-requires
-    add-total-2
-    add-k
-    loop-less
-    loop-again
-    returns)
+    Inv-loop μ-loop row-length-requires add-total loop-holds section-at-requires rows-length-requires add-total-2 add-k loop-less
+    loop-again returns)

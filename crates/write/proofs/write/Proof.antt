@@ -6,15 +6,6 @@ use borrow.Author.Needs.{needs}
 use Rattle.write.proofs.write.Statement.{statement}
 use Rattle.write.proofs.write.Tie as tie
 
-test-requires : tie.Need-test-requires
-test-requires c κs = search needs
-
-enum-known-layout : tie.Need-enum-known-layout
-enum-known-layout c = search needs
-
-enum-told : tie.Need-enum-told
-enum-told c = search needs
-
 returns : tie.Need-returns
 returns c = Operated.noCircuit (rw (c .enum-told .given .1) at (c .before .before .test .ensures))
 
@@ -37,9 +28,6 @@ write-text-requires c κs =
     let t = rw (l .layout .given .1) at (l .before .before .test .ensures) in
     (t .1, t .0, omega (arith, c .before .before .text-length .ensures, c .before .if1 .left))
 
-same-length : tie.Need-same-length
-same-length c = search needs
-
 returns-3 : tie.Need-returns-3
 returns-3 c =
     let l = c .before .before .before .before .before .before .before in
@@ -52,12 +40,5 @@ pub write-spec : {M : Type 1} → statement M
 write-spec =
     tie.close
     (tie.spec
-    test-requires
-    enum-known-layout
-    enum-told
-    returns
-    text-length-requires
-    returns-2
-    write-text-requires
-    same-length
-    returns-3)
+    (λ c κs. search needs) (λ c. search needs) (λ c. search needs) returns text-length-requires returns-2 write-text-requires
+    (λ c. search needs) returns-3)

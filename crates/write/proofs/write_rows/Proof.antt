@@ -78,14 +78,4 @@ pub write-rows-spec : {M : Type 1} → statement M
 write-rows-spec =
     tie.close
     (tie.spec
-    Inv-loop
-    μ-loop
-    loop-holds
-    row-count-requires
-    put-row-requires
-    add-p
-    sub-left
-    loop-less
-    loop-again
-    same-length
-    returns)
+    Inv-loop μ-loop loop-holds row-count-requires put-row-requires add-p sub-left loop-less loop-again same-length returns)

@@ -76,9 +76,6 @@ left t =
     let s = entry l in
     rw (text-more (s .args .m .now) (s .args .layout) (l .loop .k) (t .loop-test .taken)) at (l .loop .inv .1)
 
-slice-aggregate-put : tie.Need-slice-aggregate-put Inv-loop μ-loop
-slice-aggregate-put c = search needs
-
 put-requires : tie.Need-put-requires Inv-loop μ-loop
 put-requires c κs =
     let s = c .before .before .before .before in
@@ -149,16 +146,5 @@ pub write-text-spec : {M : Type 1} → statement M
 write-text-spec =
     tie.close
     (tie.spec
-    Inv-loop
-    μ-loop
-    slice-aggregate-put
-    put-requires
-    put-row-requires
-    loop-holds
-    section-at-requires
-    write-rows-requires
-    add-k
-    loop-less
-    loop-again
-    same-length
-    returns)
+    Inv-loop μ-loop (λ c. search needs) put-requires put-row-requires loop-holds section-at-requires write-rows-requires add-k
+    loop-less loop-again same-length returns)

@@ -8,22 +8,10 @@ use Rattle.meaning.proofs.Lists.{getD-zeros}
 use Rattle.write_binary.proofs.encode.Statement.{statement}
 use Rattle.write_binary.proofs.encode.Tie as tie
 
-slice-aggregate-number-circuit : tie.Need-slice-aggregate-number-circuit
-slice-aggregate-number-circuit c = search needs
-
-slice-aggregate-number-circuit-2 : tie.Need-slice-aggregate-number-circuit-2
-slice-aggregate-number-circuit-2 c = search needs
-
 number-circuit-requires : tie.Need-number-circuit-requires
 number-circuit-requires c κs =
     let s = c .before .before .before .before in
     (s .pre .0, (s .pre .1, (length-replicate {A = ℕ} 4097 0, getD-zeros 4097, omega (arith, length-replicate {A = ℕ} 3072 0))))
-
-slice-aggregate-write-text : tie.Need-slice-aggregate-write-text
-slice-aggregate-write-text c = search needs
-
-slice-aggregate-write-text-2 : tie.Need-slice-aggregate-write-text-2
-slice-aggregate-write-text-2 c = search needs
 
 write-text-requires : tie.Need-write-text-requires
 write-text-requires c κs =
@@ -40,21 +28,9 @@ write-text-requires c κs =
       s .pre .2,
     )
 
-same-length : tie.Need-same-length
-same-length c = search needs
-
-returns : tie.Need-returns
-returns c = search needs
-
 pub encode-spec : {M : Type 1} → statement M
 encode-spec =
     tie.close
     (tie.spec
-    slice-aggregate-number-circuit
-    slice-aggregate-number-circuit-2
-    number-circuit-requires
-    slice-aggregate-write-text
-    slice-aggregate-write-text-2
-    write-text-requires
-    same-length
-    returns)
+    (λ c. search needs) (λ c. search needs) number-circuit-requires (λ c. search needs) (λ c. search needs) write-text-requires
+    (λ c. search needs) (λ c. search needs))

@@ -10,20 +10,8 @@ use Rattle.write_binary.proofs.Answers.{copied, text-short, too-long, f
 use Rattle.write_binary.proofs.write_binary.Statement.{statement}
 use Rattle.write_binary.proofs.write_binary.Tie as tie
 
-test-requires : tie.Need-test-requires
-test-requires c κs = search needs
-
-enum-known-p : tie.Need-enum-known-p
-enum-known-p c = search needs
-
-enum-told : tie.Need-enum-told
-enum-told c = search needs
-
 returns : tie.Need-returns
 returns c = Operated.noCircuit (rw (c .enum-told .given .1) at (c .before .before .test .ensures))
-
-slice-aggregate-encode : tie.Need-slice-aggregate-encode
-slice-aggregate-encode c = search needs
 
 encode-requires : tie.Need-encode-requires
 encode-requires c κs =
@@ -53,9 +41,6 @@ copy-requires c κs =
     let n = length-take-le (e .result) (e .last .1 .1 .0) (omega (arith, text-short (t .1), e .ensures .past, e .kept .1 .1 .0, length-replicate {A = ℕ} 24576 0)) in
     omega (arith, n, c .before .before .if1 .left)
 
-same-length : tie.Need-same-length
-same-length c = search needs
-
 returns-3 : tie.Need-returns-3
 returns-3 c =
     let t = rw (c .before .before .before .before .before .before .before .before .before .before .p .given .1) at (c .before .before .before .before .before .before .before .before .before .before .before .before .test .ensures) in
@@ -67,15 +52,5 @@ pub write-binary-spec : {M : Type 1} → statement M
 write-binary-spec =
     tie.close
     (tie.spec
-    test-requires
-    enum-known-p
-    enum-told
-    returns
-    slice-aggregate-encode
-    encode-requires
-    returns-2
-    array-share-prefix-text
-    slice-aggregate-copy
-    copy-requires
-    same-length
-    returns-3)
+    (λ c κs. search needs) (λ c. search needs) (λ c. search needs) returns (λ c. search needs) encode-requires returns-2
+    array-share-prefix-text slice-aggregate-copy copy-requires (λ c. search needs) returns-3)

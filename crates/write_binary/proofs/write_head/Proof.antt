@@ -55,9 +55,6 @@ cast-t15 c = omega (arith, c .before .before .before .before .before .before .be
 cast-t16 : tie.Need-cast-t16
 cast-t16 c = omega (arith, c .before .before .before .before .before .before .before .before .before .pre .0)
 
-slice-aggregate-put-row : tie.Need-slice-aggregate-put-row
-slice-aggregate-put-row c = search needs
-
 put-row-requires : tie.Need-put-row-requires
 put-row-requires c κs =
     let s = c .before .before .before .before .before .before .before .before .before .before .before in
@@ -83,20 +80,5 @@ pub write-head-spec : {M : Type 1} → statement M
 write-head-spec =
     tie.close
     (tie.spec
-    slice-write-out
-    slice-write-out-2
-    slice-write-out-3
-    slice-write-out-4
-    add-t8
-    add-t9
-    cast-t10
-    cast-t11
-    cast-t12
-    cast-t13
-    cast-t14
-    cast-t15
-    cast-t16
-    slice-aggregate-put-row
-    put-row-requires
-    same-length
-    returns)
+    slice-write-out slice-write-out-2 slice-write-out-3 slice-write-out-4 add-t8 add-t9 cast-t10 cast-t11 cast-t12 cast-t13 cast-t14
+    cast-t15 cast-t16 (λ c. search needs) put-row-requires same-length returns)

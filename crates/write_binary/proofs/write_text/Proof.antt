@@ -44,9 +44,6 @@ write-gates-requires c κs =
           (c .before .before .before .write-literals .ensures),
     )
 
-same-length : tie.Need-same-length
-same-length c = search needs
-
 returns : tie.Need-returns
 returns c =
     let s = c .before .before .before .before .before .before .before .before .before .before .before .before .before .before .before .before .before .before .before .before .before .before in
@@ -57,11 +54,5 @@ pub write-text-spec : {M : Type 1} → statement M
 write-text-spec =
     tie.close
     (tie.spec
-    write-head-requires
-    write-latches-requires
-    add-write-literals
-    add-write-literals-2
-    write-literals-requires
-    write-gates-requires
-    same-length
-    returns)
+    write-head-requires write-latches-requires add-write-literals add-write-literals-2 write-literals-requires write-gates-requires
+    (λ c. search needs) returns)

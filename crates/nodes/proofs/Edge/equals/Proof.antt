@@ -5,14 +5,8 @@ use borrow.Author.Needs.{needs}
 use Rattle.nodes.proofs.Edge.equals.Statement.{statement}
 use Rattle.nodes.proofs.Edge.equals.Tie as tie
 
-word-requires : tie.Need-word-requires
-word-requires c κs = search needs
-
-word-requires-2 : tie.Need-word-requires-2
-word-requires-2 c κs = search needs
-
 returns : tie.Need-returns
 returns c = ap₂ eqb (c .before .word .ensures) (c .word2 .ensures)
 
 pub equals-spec : {M : Type 1} → statement M
-equals-spec = tie.close (tie.spec word-requires word-requires-2 returns)
+equals-spec = tie.close (tie.spec (λ c κs. search needs) (λ c κs. search needs) returns)
