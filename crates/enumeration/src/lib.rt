@@ -35,7 +35,7 @@ struct Question {
     free: usize,
 }
 
-// 64 sequences, block after block, and how many of their free bits are left for the inputs from a frame on.
+// The number of a block of 64 sequences, and how many of their free bits are left for the inputs from a frame on.
 struct Block {
     number: u64,
     top: usize,

@@ -78,7 +78,7 @@ pub struct Two {
     pub failed: bool,
 }
 
-// Reads the files that arguments i and j name.
+// Reads the files that arguments i and j name. Where the first cannot be read the second is not, and its count is 0.
 pub fn read_two(i: usize, j: usize, first: &mut [u8], second: &mut [u8]) -> Two
     ensures { λ r. ⌜ Counts (r .first) (now (first .exit)) × Counts (r .second) (now (second .exit)) ⌝ }
 {

@@ -49,8 +49,8 @@ unfoldable pub closed : Circuit → ℕ → List ℕ → Bool
 closed c b ms =
     everyBelow (length (c .gates)) (λ i. closedAt ms (gateAt c i))
     && (everyBelow (length (c .latches)) (λ j. closedAt ms (asGate (latchAt c j)))
-    && (everyBelow 1 (λ i. marked ms (getD (c .bads) b 0)) && everyBelow (length (c .constraints))
-    (λ i. marked ms (getD (c .constraints) i 0))))
+    && (everyBelow 1 (λ i. marked ms (getD (c .bads) b 0))
+    && everyBelow (length (c .constraints)) (λ i. marked ms (getD (c .constraints) i 0))))
 
 -- rounds until the marks are closed, n at most
 unfoldable pub settle : ℕ → Circuit → ℕ → List ℕ → List ℕ

@@ -65,7 +65,7 @@ fn can_pair(p: Layout, q: Layout) -> bool
     (1 <= p.o) & (p.o <= 16) & (p.i == q.i) & (p.o == q.o)
 }
 
-// The first of the tests 17, 3 and 4 that fails. room is the words of the third memory.
+// The number of the first of the tests 17, 3 and 4 that fails, or that all pass. room is the words of the third memory.
 fn judge(p: Layout, q: Layout, room: usize) -> Ruling
     requires { ⌜ Small p × Small q ⌝ }
     ensures { λ r. ⌜ RulingIs p q room r ⌝ }

@@ -49,7 +49,7 @@ struct Query {
     block: u64,
 }
 
-// What the rows of a block are: the first with which the state hits, or 64, and those that break no constraint.
+// What is found of the rows of a block: the first with which the state hits, or 64, and those that break no constraint.
 struct Judged {
     first: u32,
     allowed: u64,
@@ -221,7 +221,7 @@ fn judge_rows(
     Judged { first, allowed }
 }
 
-// The word of the literal in word `at`.
+// The values, in 64 runs, of the literal that stands at `at`.
 fn literal_at(m: &[u32], at: usize, values: &[u64]) -> u64
     requires { ⌜ (at < length (now m)) × (var (word (now m) at) < length (now values)) ⌝ }
     ensures { λ r. ⌜ ((p : ℕ) → p < 64 → bit r p ≡ value (lane (now (values .entry)) p) (word (now (m .entry)) at)) ⌝ }

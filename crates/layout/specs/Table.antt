@@ -1,4 +1,4 @@
--- The sections of a circuit as a table: reader, writer and memory go through it. Assumes nothing.
+-- The sections of a circuit as a table, in the order of text form and of circuit memory. Assumes nothing.
 use mathlib.Core.Path.{_≡_}
 use mathlib.Core.List.{List, [], _∷_}
 use Prim.Native.Nat.{ℕ, _+_, _*_}
@@ -6,6 +6,7 @@ use lib.ListN.{getD}
 use Rattle.layout.specs.declared.Layout.{Layout}
 use Rattle.layout.specs.declared.Section.{Section}
 
+-- a section
 abbrev row : ℕ → ℕ → ℕ → ℕ → Section
 row at rows least most = record { at = at; rows = rows; least = least; most = most }
 

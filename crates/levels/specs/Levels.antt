@@ -23,6 +23,6 @@ joined Level.either v = Level.either
 abbrev pub after : ℕ → Level → Level → Level
 after block old new = cond (eqb block 0) new (joined old new)
 
--- the same of characters: that of both where they are equal, else `x`
+-- the same of characters: `new` in block 0; after it that of both where they are equal, else `x`
 abbrev pub afterByte : ℕ → ℕ → ℕ → ℕ
 afterByte block old new = cond (eqb block 0) new (cond (eqb old new) new 120)

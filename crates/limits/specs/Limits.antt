@@ -39,7 +39,7 @@ sizeOf p k = (k + 1) * (p .i + p .a + p .c + 1) + p .u + 1
 abbrev pub lengthOf : Layout → ℕ → ℕ → ℕ
 lengthOf p b k = 3 + length (digits b) + 1 + (p .l + 1) + (k + 1) * (p .i + 1) + 2
 
--- what is said of the tests
+-- a ruling as the answer of tests
 abbrev pub told : Ruling → Answer (Unit {0})
 told Accepted = gives tt
 told (Refused n) = refused n
@@ -52,7 +52,7 @@ pub record Within (p : Layout) (b k : ℕ) (budget : Bool) (room : ℕ) : Type 0
   pub small : sizeOf p k ≤ 65536
   pub words : 16 * sizeOf p k ≤ room
 
--- the first of the tests 10 to 12 that fails, of any circuit with these counts
+-- the number of the first of the tests 10 to 12 that fails, or that all pass, of any circuit with these counts
 pub record RulingIs (p : Layout) (b k : ℕ) (budget : Bool) (room : ℕ) (r : Ruling) : Type 0 where
   pub tests : (c : Circuit) → CountsOf c p → judge (boundTests c b k budget room) ≡ told r
   pub within : r ≡ Accepted → Within p b k budget room

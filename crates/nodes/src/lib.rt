@@ -4,28 +4,34 @@ ghost use mathlib.Core.Path.{_≡_};
 ghost use lib.Dec.{eqb};
 ghost use Rattle.nodes.specs.Edges.{wordEdge, edgeWord, opposite};
 
-// Words of a node's record, after the left operand, which is the first: the right operand; the signature, in two words; the node before
-// it in its bucket by operands, and by signature; the last node of the bucket that has the record's number, by operands, and by
-// signature; the values of a simulation, in two words; the mark, in whose place the number comes; and the candidate that has the
-// record's number. Nodes are one more than the node, or 0.
+// Words of a node's record, of which the first is the left operand. The right operand.
 pub const RIGHT: usize = 1;
 
+// The signature, in two words.
 pub const SIGNATURE: usize = 2;
 
+// One more than the node before it in its bucket by operands; 0 for none.
 pub const PAIR_BEFORE: usize = 4;
 
+// One more than the node before it in its bucket by signature; 0 for none.
 pub const SIGNATURE_BEFORE: usize = 5;
 
+// One more than the last node of the bucket by operands that has the record's number; 0 for none.
 pub const PAIR_LAST: usize = 6;
 
+// The same of the bucket by signature.
 pub const SIGNATURE_LAST: usize = 7;
 
+// The values of a simulation, in two words.
 pub const VALUES: usize = 8;
 
+// The mark of a cone.
 pub const MARK: usize = 10;
 
+// The number in the circuit that is written, which takes the mark's word when marks are no longer needed.
 pub const NUMBER: usize = 10;
 
+// The candidate that has the record's number.
 pub const CANDIDATE: usize = 11;
 
 // How many free bits a graph has, how many nodes it has now, and for how many there is room.
@@ -35,7 +41,7 @@ pub struct Graph {
     pub room: usize,
 }
 
-// A node, or its complement.
+// A node, or its complement. The word of an edge of a graph has 32 bits; that of another edge may have 33.
 pub struct Edge(pub Node, pub bool);
 
 impl Edge {

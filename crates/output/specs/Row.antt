@@ -6,7 +6,7 @@ use lib.Dec.{eqb}
 use lib.ListN.{getD}
 use Rattle.aiger.specs.Text.{digits}
 
--- the byte after a number that so many follow in its line: a line feed after the last, a space after each other
+-- the byte after a number, where `left` numbers follow it in its line: a line feed after the last, a space after each other
 abbrev pub ending : ℕ → ℕ
 ending left = cond (eqb left 0) 10 32
 
@@ -14,7 +14,7 @@ ending left = cond (eqb left 0) 10 32
 abbrev pub numberText : ℕ → ℕ → List ℕ
 numberText n left = digits n ++ ending left ∷ []
 
--- the line of n words from position p on
+-- the line of n words from position p on; no byte where n is 0
 unfoldable pub rowText : List ℕ → ℕ → ℕ → List ℕ
 rowText m p zero = []
 rowText m p (suc n) = numberText (getD m p 0) n ++ rowText m (suc p) n

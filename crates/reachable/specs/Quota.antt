@@ -1,6 +1,5 @@
 -- How many states a search by layers may meet. It depends on circuit, bad line and frame alone, so that a larger bound or budget
--- continues the
--- same search. Assumes nothing.
+-- continues the same search. Assumes nothing.
 use mathlib.Core.Bool.{cond, _&&_}
 use Prim.Native.Nat.{ℕ, _+_, _-_, _*_, _/_, _^_, min}
 use lib.Dec.{leb}
@@ -16,8 +15,7 @@ effort c =
     + (length (c .kept) + 8) * 2 ^ length (c .circuit .inputs)
 
 -- Up to 16 inputs, 32 latches that are kept and 16 free starts: as many states as fit in 16 words a unit of size, four words each, and as
--- the work for
--- them all is at most 40,000 and 128 for each unit; else none.
+-- the work for them all is at most 40,000 and 128 for each unit; else none.
 unfoldable pub quota : Part → ℕ → ℕ
 quota c t =
     cond (leb (length (c .circuit .inputs)) 16 && (leb (length (c .kept)) 32 && leb (freeStarts (c .circuit)) 16))

@@ -68,8 +68,8 @@ fn write_sample(
     write_values(m, layout, values, pass.wires, pass.block, out, next)
 }
 
-// Writes a sample for each frame, and the time mark that ends the last. values and state are scratch: what they hold afterwards is left
-// open.
+// Writes a sample for each frame, and the time mark that ends the last. After the first block, samples of some levels stand there. values
+// and state are scratch: what they hold afterwards is left open.
 pub fn write_samples(
     m: &[u32],
     layout: Layout,

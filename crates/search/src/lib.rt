@@ -38,7 +38,7 @@ fn is_budget(d: u64) -> bool
     (1 <= d) & (d <= 4294967296)
 }
 
-// The first of the tests 10 to 13 that fails. room is the words of working memory and len the bytes of output.
+// The number of the first of the tests 10 to 13 that fails, or that all pass. room is the words of working memory and len the bytes of output.
 pub fn judge(layout: Layout, b: u64, k: u64, d: u64, room: usize, len: usize) -> Ruling
     requires { ⌜ Limited layout ⌝ }
     ensures { λ r. ⌜ ((c : Circuit) → CountsOf c layout → judge (searchTests c b k d room len) ≡ told r) ⌝ }
@@ -53,7 +53,7 @@ pub fn judge(layout: Layout, b: u64, k: u64, d: u64, room: usize, len: usize) ->
     Ruling::Accepted
 }
 
-// The search of the frames from `start` on of a circuit that is ready, frame after frame.
+// The search of frames `start` to k of a circuit that is ready, frame after frame.
 fn search_from(
     m: &[u32],
     layout: Layout,

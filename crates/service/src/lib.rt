@@ -79,6 +79,7 @@ pub fn write_code(answer: WriteAnswer) -> u64
     }
 }
 
+// What fold answers, as one number.
 pub fn fold_code(answer: FoldAnswer) -> u64
     ensures { λ r. ⌜ r ≡ writeCode (fold.answered answer) ⌝ }
 {
@@ -88,6 +89,7 @@ pub fn fold_code(answer: FoldAnswer) -> u64
     }
 }
 
+// What widening answers, as one number.
 pub fn widen_code(answer: WidenAnswer) -> u64
     ensures { λ r. ⌜ r ≡ writeCode (widen.answered answer) ⌝ }
 {
@@ -97,6 +99,7 @@ pub fn widen_code(answer: WidenAnswer) -> u64
     }
 }
 
+// What waveform answers, as one number.
 pub fn waveform_code(answer: WaveformAnswer) -> u64
     ensures { λ r. ⌜ r ≡ writeCode (waveform.answered answer) ⌝ }
 {

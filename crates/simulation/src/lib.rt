@@ -446,8 +446,7 @@ fn scan_slots(
 }
 
 // The first hit of the root among the places of its support, with a budget of d places, none of which hits before place `from`. Where
-// there is
-// a first hit, its free bits are left at the front of working memory.
+// there is a first hit, its free bits are left at the front of working memory.
 pub fn first_hit(work: &mut [u32], g: Graph, root: Edge, from: u64, d: u64) -> Found
     requires { ⌜ Net (pairsOf (now work) g) (edgeWord root) (now work) g ⌝ }
     requires { ⌜ d ≤ 4294967296 ⌝ }

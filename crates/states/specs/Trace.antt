@@ -10,8 +10,8 @@ use Rattle.states.specs.Table.{field, Stored}
 unfoldable pub Trace : ℕ → List ℕ → ℕ → ℕ → ℕ → Type 0
 Trace rows records zero i z = z ≡ field records i 2
 Trace rows records (suc t) i z =
-    (field records i 1 < i) × (field records i 2 < rows) × ((y : ℕ) × Trace rows records t (field records i 1) y
-    × (z ≡ y * rows + field records i 2))
+    (field records i 1 < i) × (field records i 2 < rows)
+    × ((y : ℕ) × Trace rows records t (field records i 1) y × (z ≡ y * rows + field records i 2))
 
 -- the records from lo on, below n, are of the layer of frame t, and their traces are the places of the entries
 abbrev pub Placed : ℕ → ℕ → ℕ → ℕ → List ℕ → List Entry → Type 0
