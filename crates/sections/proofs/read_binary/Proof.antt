@@ -43,7 +43,7 @@ run2 : (n : tie.After-read-latches) (r : Rows) → n .read-latches .result ≡ r
 run2 n r e =
     let a = start2 n .args in
     subst (λ (v : ℕ). LatchesAt (a .s .now) (a .at) (a .p .l) v (a .limit) (words1 n) (a .p .latches) (words2 n) r) (n .before .before .variable .ensures)
-    (rw (← e) (n .read-latches .ensures))
+    (rw (← e) (n .read-latches .ensures .0))
 
 -- the place after the latches
 abbrev T2 : tie.After-read-rows → tie.After-at
@@ -64,7 +64,7 @@ size3 n = n .read-rows .kept .1 .1 .1 .1 .1 .1 .0 ∙ size2 (before3 n)
 run3 : (n : tie.After-read-rows) (r : Rows) → n .read-rows .result ≡ r
     → let a = start3 n .args in
     RowsAt (a .s .now) (T2 n .at .given .0 .0) 1 1 (a .p .o + a .p .b + a .p .c) (a .limit) (words2 (before3 n)) (a .p .outputs) (words3 n) r
-run3 n r e = rw (← e) (n .read-rows .ensures)
+run3 n r e = rw (← e) (n .read-rows .ensures .0)
 
 -- the place after the roots
 abbrev T3 : tie.After-read-gates → tie.After-at2
@@ -88,7 +88,7 @@ run4 : (n : tie.After-read-gates) (r : Gates) → n .read-gates .result ≡ r
 run4 n r e =
     let a = start4 n .args in
     subst (λ (v : ℕ). GatesAt (a .s .now) (T3 n .at2 .given .0 .0) (a .p .a) v (words3 (before4 n)) (a .p .gates) (words4 n) r) (n .before .before .variable2 .ensures)
-    (rw (← e) (n .read-gates .ensures))
+    (rw (← e) (n .read-gates .ensures .0))
 
 few : (i l a : ℕ) → i + l + a ≤ 4096 → 1 + i ≤ 10000
 few i l a h = omega arith

@@ -57,7 +57,7 @@ found n r e =
     let t = n .before .before .section-at .result in
     subst
     (RowsAt (a .s .now) (l .loop .next) (t .least) (t .most) (t .rows) (a .limit) (l .loop .words) (t .at)
-    (n .read-rows .last .1 .1 .1 .1 .1 .1 .0)) e (n .read-rows .ensures)
+    (n .read-rows .last .1 .1 .1 .1 .1 .1 .0)) e (n .read-rows .ensures .0)
 
 -- all sections are read
 all : (c : tie.After-loop Inv-loop μ-loop)
