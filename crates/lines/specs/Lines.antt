@@ -87,7 +87,8 @@ abbrev pub onLine : ℕ → Option (List ℕ × List ℕ) → (List ℕ → List
 onLine least none more = []
 onLine least (some r) more = cond (leb least (length (r .0))) (more (r .0) (r .1)) []
 
--- the words of the lines at the front of a text, at most n, up to one that is malformed or has too few numbers: what reading n lines stores
+-- the words of the lines at the front of a text, at most n, up to one that is malformed or has too few numbers: what reading n lines
+-- stores
 unfoldable pub rowsLeft : ℕ → ℕ → ℕ → ℕ → List ℕ → List ℕ
 rowsLeft least most limit zero f = []
 rowsLeft least most limit (suc n) f =

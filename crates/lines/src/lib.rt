@@ -101,7 +101,8 @@ pub fn read_line(
     }
 }
 
-// Reads n lines of least to most numbers, and stores each as most words from word from of out on. Those before a malformed line are stored.
+// Reads n lines of least to most numbers, and stores each as most words from word from of out on. Those before a malformed line are
+// stored.
 pub fn read_rows(
     s: &[u8],
     at: usize,

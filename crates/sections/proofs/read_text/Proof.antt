@@ -142,7 +142,8 @@ returns-3 c =
         circuit (a .s .now) (a .at) (a .p) (a .limit) (a .words .now) (s .pre .1 .0) (all e),
         body-made (a .s .now) (a .at) (a .p) (a .limit) (a .words .now) (s .pre .1 .0) (all e) t,
         drop (a .p .end) (e .before .loop .words),
-        stored (a .s .now) (a .at) (a .p) (a .limit) (a .words .now) (s .pre .1 .0) (all e) (omega (arith, s .pre .1 .1 .0)) (c .if2 .taken),
+        stored (a .s .now) (a .at) (a .p) (a .limit) (a .words .now) (s .pre .1 .0) (all e)
+            (omega (arith, s .pre .1 .1 .0)) (c .if2 .taken),
       ),
       past-kept (a .s .now) (a .at) (a .p) (a .limit) (a .words .now) (s .pre .1 .0) (all e) (s .pre .1 .1 .0) (c .if2 .taken),
     )
