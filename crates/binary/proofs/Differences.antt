@@ -15,7 +15,7 @@ use Rattle.aiger.specs.Binary.{difference, gateBy, gatesFrom}
 use Rattle.aiger.specs.Memory.{gateWords}
 use Rattle.lines.proofs.Storing.{sets-append}
 use Rattle.lines.proofs.Lines.{one-fewer}
-use Rattle.binary.specs.Sections.{GateRead, GatesRead}
+use Rattle.binary.specs.Sections.{GateRead, GatesRead, onGate, gatesLeft}
 
 -- ---- one gate
 
@@ -92,6 +92,31 @@ module _ (v k : ℕ) (f : List ℕ) (gs : List Gate) where
   unfolding gatesFrom
   gates-bad e = rw e
 
+-- what a text leaves, a gate at a time
+
+three : (g : Gate) → length (gateWords (g ∷ [])) ≡ 3
+unfolding gateWords
+three g = refl
+
+module _ (v k : ℕ) (f : List ℕ) where
+  left-more : (g : Gate) (r l : List ℕ) (to : ℕ) → gateBy (2 * v) f ≡ some (g, r)
+      → sets l to (gatesLeft v (suc k) f) ≡ sets (sets l to (gateWords (g ∷ []))) (to + 3) (gatesLeft (v + 1) k r)
+  unfolding gatesLeft
+  left-more g r l to e =
+      let words = gateWords (g ∷ []) in
+      ap (λ (o : Option (Gate × List ℕ)). sets l to (onGate o (λ h q. gateWords (h ∷ []) ++ gatesLeft (suc v) k q))) e
+      ∙ sym (sets-append l words (gatesLeft (suc v) k r) to)
+      ∙ ap (λ (n : ℕ). sets (sets l to words) (to + n) (gatesLeft (suc v) k r)) (three g)
+      ∙ ap (λ (u : ℕ). sets (sets l to words) (to + 3) (gatesLeft u k r)) (sym (add-one v))
+
+  left-bad : gateBy (2 * v) f ≡ none → gatesLeft v (suc k) f ≡ []
+  unfolding gatesLeft
+  left-bad e = rw e
+
+left-none : (v k : ℕ) (f : List ℕ) → k ≡ 0 → gatesLeft v k f ≡ []
+unfolding gatesLeft
+left-none v k f e = rw e
+
 -- some gates are read and stored, and `left` are left
 pub record Run (s : List ℕ) (at n v : ℕ) (before : List ℕ) (from : ℕ) (out : List ℕ) (next var to left : ℕ) : Type 0 where
   pub gates : List Gate
@@ -103,6 +128,7 @@ pub record Run (s : List ℕ) (at n v : ℕ) (before : List ℕ) (from : ℕ) (o
   pub room : to + left * 3 ≤ length before
   pub meaning : gatesFrom v n (drop at s) ≡ prefixed gates (gatesFrom var left (drop next s))
   pub contents : out ≡ sets before from (gateWords gates)
+  pub whole : sets before from (gatesLeft v n (drop at s)) ≡ sets out to (gatesLeft var left (drop next s))
 
 pub start : (s : List ℕ) (at n v : ℕ) (out : List ℕ) (from : ℕ) → at ≤ length s → from + n * 3 ≤ length out → v + n ≤ 10000
     → Run s at n v out from out at v from n
@@ -118,12 +144,16 @@ start s at n v out from inside room low =
       room = room;
       meaning = prefixed-none (gatesFrom v n (drop at s));
       contents = refl;
+      whole = refl;
     }
 
 module _ {s : List ℕ} {at n v : ℕ} {before : List ℕ} {from : ℕ} {out : List ℕ} {next var to left : ℕ}
     (run : Run s at n v before from out next var to left) where
   next-gate : 0 < left → gatesFrom v n (drop at s) ≡ prefixed (run .gates) (gatesFrom var (suc (left - 1)) (drop next s))
   next-gate h = run .meaning ∙ ap (λ (k : ℕ). prefixed (run .gates) (gatesFrom var k (drop next s))) (one-fewer left h)
+
+  next-words : 0 < left → sets before from (gatesLeft v n (drop at s)) ≡ sets out to (gatesLeft var (suc (left - 1)) (drop next s))
+  next-words h = run .whole ∙ ap (λ (k : ℕ). sets out to (gatesLeft var k (drop next s))) (one-fewer left h)
 
   pub room-here : 0 < left → to + 3 ≤ length out
   room-here h = omega (arith, run .room, run .kept)
@@ -149,10 +179,20 @@ module _ {s : List ℕ} {at n v : ℕ} {before : List ℕ} {from : ℕ} {out : L
         room = omega (arith, run .room);
         meaning = next-gate h ∙ gates-more var (left - 1) (drop next s) (run .gates) (r .gate) (drop after s) (r .meaning);
         contents = written;
+        whole =
+            next-words h ∙ left-more var (left - 1) (drop next s) (r .gate) (drop after s) out to (r .meaning)
+            ∙ ap (λ (l : List ℕ). sets l (to + 3) (gatesLeft (var + 1) (left - 1) (drop after s))) (sym (r .contents));
       }
 
   pub bad : 0 < left → gateBy (2 * var) (drop next s) ≡ none → gatesFrom v n (drop at s) ≡ none
   bad h b = next-gate h ∙ gates-bad var (left - 1) (drop next s) (run .gates) b
+
+  pub bad-left : (out' : List ℕ) → 0 < left → gateBy (2 * var) (drop next s) ≡ none → out' ≡ out
+      → out' ≡ sets before from (gatesLeft v n (drop at s))
+  bad-left out' h b e = e ∙ sym (next-words h ∙ ap (sets out to) (left-bad var (left - 1) (drop next s) b))
+
+  pub end-left : left ≤ 0 → out ≡ sets before from (gatesLeft v n (drop at s))
+  end-left h = sym (run .whole ∙ ap (sets out to) (left-none var left (drop next s) (omega arith)))
 
   ended : left ≤ 0 → prefixed (run .gates) (gatesFrom var left (drop next s)) ≡ some (run .gates, drop next s)
   unfolding gatesFrom

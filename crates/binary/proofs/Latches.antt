@@ -7,17 +7,17 @@ use Prim.Native.Nat.{ℕ, zero, suc, _+_, _-_, _*_, _≤_, _<_}
 use native.Mathlib.Numerals.{add-one}
 use native.Mathlib.Omega.{arith}
 use lib.Dec.{T}
-use lib.ListN.{length, getD, take, drop, set, length-append, length-set}
+use lib.ListN.{length, getD, take, drop, set, length-append, length-map, length-set}
 use lib.Seq.{sets, sets-eq, length-sets}
 use Rattle.aiger.specs.Lists.{every}
 use Rattle.aiger.specs.Text.{row, rows}
 use Rattle.aiger.specs.Binary.{latchesFrom}
 use Rattle.aiger.specs.Memory.{latchWords}
 use Rattle.aiger.proofs.Tests.{T-true, true-T, and-left, and-right}
-use Rattle.lines.specs.Lines.{padded, narrowed, within, NoLine, LineRead}
-use Rattle.lines.proofs.Storing.{every-snoc, sets-append, narrowed-all, padded-within}
-use Rattle.lines.proofs.Lines.{prefixed, prefixed-none, one-fewer, rows-more, rows-bad}
-use Rattle.binary.specs.Sections.{LatchesRead}
+use Rattle.lines.specs.Lines.{padded, narrowed, within, NoLine, LineRead, onLine}
+use Rattle.lines.proofs.Storing.{every-snoc, sets-append, narrowed-all, length-padded, padded-within}
+use Rattle.lines.proofs.Lines.{prefixed, prefixed-none, one-fewer, rows-more, rows-bad, line-more, line-bad}
+use Rattle.binary.specs.Sections.{LatchesRead, latchesLeft}
 
 abbrev words : ℕ → List (List ℕ) → List ℕ
 words v rs = latchWords (latchesFrom v rs)
@@ -44,6 +44,36 @@ two-words [] = refl
 two-words (x ∷ []) = refl
 two-words (x ∷ y ∷ r) = refl
 
+-- what a text leaves, a latch line at a time
+
+module _ (limit v k : ℕ) (f l : List ℕ) (to : ℕ) where
+  abbrev lineThen : List ℕ → List ℕ → List ℕ
+  lineThen r g = map (narrowed limit) (padded 2 r) ++ latchesLeft limit (suc v) k g
+
+  literal-first : sets l to (latchesLeft limit v (suc k) f) ≡ sets (set l to (2 * v)) (to + 1) (onLine 1 (row 2 f) lineThen)
+  unfolding latchesLeft
+  literal-first = rw (add-one to)
+
+  left-more : (r g : List ℕ) → row 2 f ≡ some (r, g) → 1 ≤ length r
+      → sets l to (latchesLeft limit v (suc k) f)
+      ≡ sets (sets (set l to (2 * v)) (to + 1) (map (narrowed limit) (padded 2 r))) (to + 3) (latchesLeft limit (v + 1) k g)
+  left-more r g e h =
+      let words = map (narrowed limit) (padded 2 r) in
+      let first = set l to (2 * v) in
+      let size : length words ≡ 2 = length-map (padded 2 r) (narrowed limit) ∙ length-padded 2 r in
+      let place : to + 1 + length words ≡ to + 3 = omega (arith, size) in
+      literal-first ∙ ap (sets first (to + 1)) (line-more 1 (row 2 f) lineThen r g e h)
+      ∙ sym (sets-append first words (latchesLeft limit (suc v) k g) (to + 1))
+      ∙ ap (λ (n : ℕ). sets (sets first (to + 1) words) n (latchesLeft limit (suc v) k g)) place
+      ∙ ap (λ (u : ℕ). sets (sets first (to + 1) words) (to + 3) (latchesLeft limit u k g)) (sym (add-one v))
+
+  left-bad : NoLine 1 (row 2 f) → sets l to (latchesLeft limit v (suc k) f) ≡ set l to (2 * v)
+  left-bad b = literal-first ∙ ap (sets (set l to (2 * v)) (to + 1)) (line-bad 1 (row 2 f) lineThen b)
+
+left-none : (limit v k : ℕ) (f : List ℕ) → k ≡ 0 → latchesLeft limit v k f ≡ []
+unfolding latchesLeft
+left-none limit v k f e = rw e
+
 -- some lines are read and stored, and `left` are left
 pub record Run (s : List ℕ) (at n v limit : ℕ) (before : List ℕ) (from : ℕ) (out : List ℕ) (next : ℕ) (fits : Bool) (var to left : ℕ) : Type 0 where
   pub lines : List (List ℕ)
@@ -57,6 +87,7 @@ pub record Run (s : List ℕ) (at n v limit : ℕ) (before : List ℕ) (from : �
   pub meaning : rows 1 2 n (drop at s) ≡ prefixed lines (rows 1 2 left (drop next s))
   pub tested : fits ≡ every (within limit) lines
   pub contents : fits ≡ true → out ≡ sets before from (words v lines)
+  pub whole : sets before from (latchesLeft limit v n (drop at s)) ≡ sets out to (latchesLeft limit var left (drop next s))
 
 pub start : (s : List ℕ) (at n v limit : ℕ) (out : List ℕ) (from : ℕ) → at ≤ length s → from + n * 3 ≤ length out → v + n ≤ 10000
     → Run s at n v limit out from out at true v from n
@@ -74,12 +105,17 @@ start s at n v limit out from inside room low =
       meaning = prefixed-none (rows 1 2 n (drop at s));
       tested = refl;
       contents = λ _. refl;
+      whole = refl;
     }
 
 module _ {s : List ℕ} {at n v limit : ℕ} {before : List ℕ} {from : ℕ} {out : List ℕ} {next : ℕ} {fits : Bool} {var to left : ℕ}
     (run : Run s at n v limit before from out next fits var to left) where
   next-line : 0 < left → rows 1 2 n (drop at s) ≡ prefixed (run .lines) (rows 1 2 (suc (left - 1)) (drop next s))
   next-line h = run .meaning ∙ ap (λ (k : ℕ). prefixed (run .lines) (rows 1 2 k (drop next s))) (one-fewer left h)
+
+  next-words : 0 < left
+      → sets before from (latchesLeft limit v n (drop at s)) ≡ sets out to (latchesLeft limit var (suc (left - 1)) (drop next s))
+  next-words h = run .whole ∙ ap (λ (k : ℕ). sets out to (latchesLeft limit var k (drop next s))) (one-fewer left h)
 
   pub room-here : 0 < left → to + 3 ≤ length out
   room-here h = omega (arith, run .room, run .kept)
@@ -107,6 +143,9 @@ module _ {s : List ℕ} {at n v limit : ℕ} {before : List ℕ} {from : ℕ} {o
         (sym (words-snoc v (run .lines) (r .line)
         ∙ ap (λ (k : ℕ). words v (run .lines) ++ (k ∷ getD (r .line) 0 0 ∷ getD (r .line) 1 0 ∷ [])) literal))
 
+    abbrev later : List ℕ
+    later = latchesLeft limit (var + 1) (left - 1) (drop after s)
+
     pub more : Run s at n v limit before from out' after (fits && ok) (var + 1) (to + 3) (left - 1)
     more =
         let size : length (run .lines ++ (r .line ∷ [])) ≡ length (run .lines) + 1 = length-append (run .lines) (r .line ∷ []) in
@@ -123,10 +162,21 @@ module _ {s : List ℕ} {at n v limit : ℕ} {before : List ℕ} {from : ℕ} {o
           meaning = next-line h ∙ rows-more 1 2 (left - 1) (drop next s) (run .lines) (r .line) (drop after s) (r .meaning) (r .enough);
           tested = rw (every-snoc (within limit) (run .lines) (r .line), run .tested, r .tested);
           contents = written;
+          whole =
+              next-words h ∙ left-more limit var (left - 1) (drop next s) out to (r .line) (drop after s) (r .meaning) (r .enough)
+              ∙ ap (λ (u : ℕ). sets (sets (set out to u) (to + 1) (map (narrowed limit) (padded 2 (r .line)))) (to + 3) later) (sym e)
+              ∙ ap (λ (l : List ℕ). sets l (to + 3) later) (sym (r .contents));
         }
 
   pub bad : 0 < left → NoLine 1 (row 2 (drop next s)) → rows 1 2 n (drop at s) ≡ none
   bad h b = next-line h ∙ rows-bad 1 2 (left - 1) (drop next s) (run .lines) b
+
+  pub bad-left : (out' : List ℕ) → 0 < left → NoLine 1 (row 2 (drop next s)) → out' ≡ set out to (2 * var)
+      → out' ≡ sets before from (latchesLeft limit v n (drop at s))
+  bad-left out' h b e = e ∙ sym (next-words h ∙ left-bad limit var (left - 1) (drop next s) out to b)
+
+  pub end-left : left ≤ 0 → out ≡ sets before from (latchesLeft limit v n (drop at s))
+  end-left h = sym (run .whole ∙ ap (sets out to) (left-none limit var left (drop next s) (omega arith)))
 
   ended : left ≤ 0 → prefixed (run .lines) (rows 1 2 left (drop next s)) ≡ some (run .lines, drop next s)
   unfolding rows

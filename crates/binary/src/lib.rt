@@ -6,8 +6,9 @@ ghost use mathlib.Core.Path.{_≡_};
 ghost use mathlib.Core.List.{_++_};
 ghost use Prim.Native.Nat.{_+_, _*_, _≤_};
 ghost use lib.ListN.{length, take, drop};
+ghost use lib.Seq.{sets};
 ghost use Rattle.aiger.specs.Binary.{implied};
-ghost use Rattle.binary.specs.Sections.{LatchesAt, GateAt, GatesAt};
+ghost use Rattle.binary.specs.Sections.{LatchesAt, latchesLeft, GateAt, GatesAt, gatesLeft};
 
 // Gates that are read: the position past them.
 pub enum Gates {
@@ -33,7 +34,7 @@ pub fn store_implied(out: &mut [u32], from: usize, v: u32, n: usize)
 }
 
 // Reads n latch lines, and stores each latch as three words from word from of out on: its literal, by the variables from v on, the next
-// literal, and the reset.
+// literal, and the reset. Those before a malformed line are stored, and the literal of the latch that has it.
 pub fn read_latches(
     s: &[u8],
     at: usize,
@@ -46,7 +47,8 @@ pub fn read_latches(
     requires { ⌜ at ≤ length (now s) ⌝ }
     requires { ⌜ from + n * 3 ≤ length (now out) ⌝ }
     requires { ⌜ v + n ≤ 10000 ⌝ }
-    ensures { λ r. ⌜ LatchesAt (now (s .entry)) at n v limit (now (out .entry)) from (now (out .exit)) r ⌝ }
+    ensures { λ r. ⌜ LatchesAt (now (s .entry)) at n v limit (now (out .entry)) from (now (out .exit)) r
+        × (now (out .exit) ≡ sets (now (out .entry)) from (latchesLeft limit v n (drop at (now (s .entry))))) ⌝ }
 {
     let mut next = at;
     let mut fits = true;
@@ -71,7 +73,7 @@ pub fn read_latches(
     Rows::Read(next, fits)
 }
 
-// Reads the gate with literal lit, and stores it as three words at word to of out.
+// Reads the gate with literal lit, and stores it as three words at word to of out. Of a malformed gate nothing is stored.
 fn read_gate(s: &[u8], at: usize, lit: u32, out: &mut [u32], to: usize) -> Gates
     requires { ⌜ to + 3 ≤ length (now out) ⌝ }
     ensures { λ r. ⌜ GateAt (now (s .entry)) at lit (now (out .entry)) to (now (out .exit)) r ⌝ }
@@ -98,12 +100,14 @@ fn read_gate(s: &[u8], at: usize, lit: u32, out: &mut [u32], to: usize) -> Gates
     Gates::Read(next)
 }
 
-// Reads n gates, of the variables from v on, and stores each as three words from word from of out on.
+// Reads n gates, of the variables from v on, and stores each as three words from word from of out on. Those before a malformed gate are
+// stored.
 pub fn read_gates(s: &[u8], at: usize, n: usize, v: u32, out: &mut [u32], from: usize) -> Gates
     requires { ⌜ at ≤ length (now s) ⌝ }
     requires { ⌜ from + n * 3 ≤ length (now out) ⌝ }
     requires { ⌜ v + n ≤ 10000 ⌝ }
-    ensures { λ r. ⌜ GatesAt (now (s .entry)) at n v (now (out .entry)) from (now (out .exit)) r ⌝ }
+    ensures { λ r. ⌜ GatesAt (now (s .entry)) at n v (now (out .entry)) from (now (out .exit)) r
+        × (now (out .exit) ≡ sets (now (out .entry)) from (gatesLeft v n (drop at (now (s .entry))))) ⌝ }
 {
     let mut next = at;
     let mut var = v;

@@ -13,7 +13,7 @@ use lib.Seq.{sets, sets-eq, length-sets, length-take-le}
 use Rattle.aiger.specs.Lists.{every}
 use Rattle.aiger.specs.Text.{row, rows, _>>=_, _>>_, when}
 use Rattle.aiger.proofs.Tests.{and, and-left, and-right, T-true}
-use Rattle.lines.specs.Lines.{RowRead, padded, flat, narrowed, within, Stored, NoLine, LineRead, RowsRead}
+use Rattle.lines.specs.Lines.{RowRead, padded, flat, narrowed, within, Stored, NoLine, LineRead, onLine, rowsLeft, RowsRead}
 use Rattle.lines.proofs.Storing.{every-append, every-snoc, map-append, sets-append, narrowed-all, length-padded, padded-take, padded-within, within-padded}
 
 -- one line
@@ -98,6 +98,38 @@ module _ (least most k : ℕ) (f : List ℕ) (rs : List (List ℕ)) where
       go none b = refl
       go (some r) b = rw (lt-leb least (length (r .0)) b)
 
+-- what a text leaves, a line at a time
+
+pub line-more : (least : ℕ) (o : Option (List ℕ × List ℕ)) (more : List ℕ → List ℕ → List ℕ) (r g : List ℕ)
+    → o ≡ some (r, g) → least ≤ length r → onLine least o more ≡ more r g
+line-more least o more r g e l = rw (e, le-leb least (length r) l)
+
+pub line-bad : (least : ℕ) (o : Option (List ℕ × List ℕ)) (more : List ℕ → List ℕ → List ℕ) → NoLine least o → onLine least o more ≡ []
+line-bad least none more b = refl
+line-bad least (some r) more b = rw (lt-leb least (length (r .0)) b)
+
+module _ (least most limit : ℕ) where
+  abbrev lineThen : ℕ → List ℕ → List ℕ → List ℕ
+  lineThen k r g = map (narrowed limit) (padded most r) ++ rowsLeft least most limit k g
+
+  left-more : (k : ℕ) (f r g l : List ℕ) (to : ℕ) → row most f ≡ some (r, g) → least ≤ length r
+      → sets l to (rowsLeft least most limit (suc k) f)
+      ≡ sets (sets l to (map (narrowed limit) (padded most r))) (to + most) (rowsLeft least most limit k g)
+  unfolding rowsLeft
+  left-more k f r g l to e h =
+      let words = map (narrowed limit) (padded most r) in
+      let size : length words ≡ most = length-map (padded most r) (narrowed limit) ∙ length-padded most r in
+      ap (sets l to) (line-more least (row most f) (lineThen k) r g e h) ∙ sym (sets-append l words (rowsLeft least most limit k g) to)
+      ∙ ap (λ (n : ℕ). sets (sets l to words) (to + n) (rowsLeft least most limit k g)) size
+
+  left-bad : (k : ℕ) (f : List ℕ) → NoLine least (row most f) → rowsLeft least most limit (suc k) f ≡ []
+  unfolding rowsLeft
+  left-bad k f b = line-bad least (row most f) (lineThen k) b
+
+  left-none : (k : ℕ) (f : List ℕ) → k ≡ 0 → rowsLeft least most limit k f ≡ []
+  unfolding rowsLeft
+  left-none k f e = rw e
+
 product : (k m : ℕ) → 0 < k → k * m ≡ (k - 1) * m + m
 product k m h = ap (λ (n : ℕ). n * m) (one-fewer k h) ∙ suc-mul (k - 1) m
 
@@ -112,6 +144,7 @@ pub record Run (s : List ℕ) (at least most n limit : ℕ) (before : List ℕ) 
   pub meaning : rows least most n (drop at s) ≡ prefixed lines (rows least most left (drop next s))
   pub tested : fits ≡ every (within limit) lines
   pub contents : out ≡ sets before from (map (narrowed limit) (flat most lines))
+  pub whole : sets before from (rowsLeft least most limit n (drop at s)) ≡ sets out to (rowsLeft least most limit left (drop next s))
 
 pub start : (s : List ℕ) (at least most n limit : ℕ) (out : List ℕ) (from : ℕ) → at ≤ length s → from + n * most ≤ length out
     → Run s at least most n limit out from out at true from n
@@ -127,12 +160,17 @@ start s at least most n limit out from inside room =
       meaning = prefixed-none (rows least most n (drop at s));
       tested = refl;
       contents = refl;
+      whole = refl;
     }
 
 module _ (s : List ℕ) (at least most n limit : ℕ) (before : List ℕ) (from : ℕ) (out : List ℕ) (next : ℕ) (fits : Bool) (to left : ℕ)
     (run : Run s at least most n limit before from out next fits to left) where
   next-line : 0 < left → rows least most n (drop at s) ≡ prefixed (run .lines) (rows least most (suc (left - 1)) (drop next s))
   next-line h = run .meaning ∙ ap (λ (k : ℕ). prefixed (run .lines) (rows least most k (drop next s))) (one-fewer left h)
+
+  next-words : 0 < left
+      → sets before from (rowsLeft least most limit n (drop at s)) ≡ sets out to (rowsLeft least most limit (suc (left - 1)) (drop next s))
+  next-words h = run .whole ∙ ap (λ (k : ℕ). sets out to (rowsLeft least most limit k (drop next s))) (one-fewer left h)
 
   pub room-here : 0 < left → to + most ≤ length out
   room-here h = omega (arith, product left most h, run .room, run .kept)
@@ -162,10 +200,20 @@ module _ (s : List ℕ) (at least most n limit : ℕ) (before : List ℕ) (from 
         meaning = next-line h ∙ rows-more least most (left - 1) (drop next s) (run .lines) line (drop after s) (r .meaning) (r .enough);
         tested = rw (every-snoc (within limit) (run .lines) line, run .tested, r .tested);
         contents = written;
+        whole =
+            next-words h ∙ left-more least most limit (left - 1) (drop next s) line (drop after s) out to (r .meaning) (r .enough)
+            ∙ ap (λ (l : List ℕ). sets l (to + most) (rowsLeft least most limit (left - 1) (drop after s))) (sym (r .contents));
       }
 
   pub bad : 0 < left → NoLine least (row most (drop next s)) → rows least most n (drop at s) ≡ none
   bad h b = next-line h ∙ rows-bad least most (left - 1) (drop next s) (run .lines) b
+
+  pub bad-left : (out' : List ℕ) → 0 < left → NoLine least (row most (drop next s)) → out' ≡ out
+      → out' ≡ sets before from (rowsLeft least most limit n (drop at s))
+  bad-left out' h b e = e ∙ sym (next-words h ∙ ap (sets out to) (left-bad least most limit (left - 1) (drop next s) b))
+
+  pub end-left : left ≤ 0 → out ≡ sets before from (rowsLeft least most limit n (drop at s))
+  end-left h = sym (run .whole ∙ ap (sets out to) (left-none least most limit left (drop next s) (omega arith)))
 
   ended : left ≤ 0 → prefixed (run .lines) (rows least most left (drop next s)) ≡ some (run .lines, drop next s)
   unfolding rows

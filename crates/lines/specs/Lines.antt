@@ -8,7 +8,7 @@ use lib.Dec.{leb}
 use lib.ListN.{length, getD, take, drop}
 use lib.Seq.{sets}
 use Rattle.aiger.specs.Lists.{every}
-use Rattle.aiger.specs.Text.{row, rows}
+use Rattle.aiger.specs.Text.{Token, spaced, ended, malformed, token, row, rows}
 use Rattle.lines.specs.declared.Row.{Row}
 use Rattle.lines.specs.declared.Row.the-variants as row-variants
 use Rattle.lines.specs.declared.Rows.{Rows}
@@ -27,6 +27,17 @@ pub record RowRead (s : List ℕ) (at most : ℕ) (before after : List ℕ) (cou
 abbrev pub RowAt : List ℕ → ℕ → ℕ → List ℕ → List ℕ → Row → Type 0
 RowAt s at most before after (row-variants.Read count next) = RowRead s at most before after count next
 RowAt s at most before after row-variants.Malformed = row most (drop at s) ≡ none
+
+-- the number that a token is, and what its line has after it
+abbrev pub numberThen : Token → (List ℕ → List ℕ) → List ℕ
+numberThen (spaced n f) more = n ∷ more f
+numberThen (ended n f) more = n ∷ []
+numberThen malformed more = []
+
+-- the numbers at the front of a line, at most `most`, up to one that is malformed: what reading the line stores
+unfoldable pub begun : ℕ → List ℕ → List ℕ
+begun zero f = []
+begun (suc most) f = numberThen (token f) (λ g. begun most g)
 
 -- exactly k numbers: those of r, then zeros
 unfoldable pub padded : ℕ → List ℕ → List ℕ
@@ -69,7 +80,19 @@ NoLine least (some r) = length (r .0) < least
 
 abbrev pub LineAt : List ℕ → ℕ → ℕ → ℕ → ℕ → List ℕ → ℕ → List ℕ → Rows → Type 0
 LineAt s at least most limit before from after (rows-variants.Read next fits) = LineRead s at least most limit before from after next fits
-LineAt s at least most limit before from after rows-variants.Malformed = NoLine least (row most (drop at s))
+LineAt s at least most limit before from after rows-variants.Malformed = NoLine least (row most (drop at s)) × (after ≡ before)
+
+-- what follows from a line of at least `least` numbers and the text after it, and nothing where there is none
+abbrev pub onLine : ℕ → Option (List ℕ × List ℕ) → (List ℕ → List ℕ → List ℕ) → List ℕ
+onLine least none more = []
+onLine least (some r) more = cond (leb least (length (r .0))) (more (r .0) (r .1)) []
+
+-- the words of the lines at the front of a text, at most n, up to one that is malformed or has too few numbers: what reading n lines
+-- stores
+unfoldable pub rowsLeft : ℕ → ℕ → ℕ → ℕ → List ℕ → List ℕ
+rowsLeft least most limit zero f = []
+rowsLeft least most limit (suc n) f =
+    onLine least (row most f) (λ r g. map (narrowed limit) (padded most r) ++ rowsLeft least most limit n g)
 
 -- n lines from `at` to `next`, tested, and stored from `from` on if every number is within the limit
 pub record RowsRead (s : List ℕ) (at least most n limit : ℕ) (before : List ℕ) (from : ℕ) (after : List ℕ) (next : ℕ) (fits : Bool)

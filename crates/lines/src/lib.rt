@@ -3,8 +3,9 @@ use numbers::Number;
 ghost use mathlib.Core.Path.{_≡_};
 ghost use Prim.Native.Nat.{_+_, _*_, _≤_};
 ghost use lib.ListN.{length, drop};
+ghost use lib.Seq.{sets};
 ghost use Rattle.aiger.specs.File.{isTail};
-ghost use Rattle.lines.specs.Lines.{RowAt, Stored, LineAt, RowsAt, narrowed};
+ghost use Rattle.lines.specs.Lines.{RowAt, begun, Stored, LineAt, RowsAt, rowsLeft, narrowed};
 
 // A line of numbers: how many there are, and the position past it.
 pub enum Row {
@@ -18,10 +19,11 @@ pub enum Rows {
     Malformed,
 }
 
-// Reads a line of 1 to most numbers into the front of buf.
+// Reads a line of 1 to most numbers into the front of buf. Of a malformed line, the numbers before the malformed place are left there.
 pub fn read_row(s: &[u8], at: usize, most: usize, buf: &mut [u64]) -> Row
     requires { ⌜ most ≤ length (now buf) ⌝ }
-    ensures { λ r. ⌜ RowAt (now (s .entry)) at most (now (buf .entry)) (now (buf .exit)) r ⌝ }
+    ensures { λ r. ⌜ RowAt (now (s .entry)) at most (now (buf .entry)) (now (buf .exit)) r
+        × (now (buf .exit) ≡ sets (now (buf .entry)) 0 (begun most (drop at (now (s .entry))))) ⌝ }
 {
     let mut count: usize = 0;
     let mut next = at;
@@ -72,7 +74,7 @@ fn store_words(words: &[u64], most: usize, limit: u32, out: &mut [u32], from: us
     fits
 }
 
-// Reads a line of least to most numbers, and stores it as most words, missing numbers as 0.
+// Reads a line of least to most numbers, and stores it as most words, missing numbers as 0. Of a malformed line nothing is stored.
 pub fn read_line(
     s: &[u8],
     at: usize,
@@ -99,7 +101,8 @@ pub fn read_line(
     }
 }
 
-// Reads n lines of least to most numbers, and stores each as most words from word from of out on.
+// Reads n lines of least to most numbers, and stores each as most words from word from of out on. Those before a malformed line are
+// stored.
 pub fn read_rows(
     s: &[u8],
     at: usize,
@@ -113,7 +116,8 @@ pub fn read_rows(
     requires { ⌜ at ≤ length (now s) ⌝ }
     requires { ⌜ most ≤ 3 ⌝ }
     requires { ⌜ from + n * most ≤ length (now out) ⌝ }
-    ensures { λ r. ⌜ RowsAt (now (s .entry)) at least most n limit (now (out .entry)) from (now (out .exit)) r ⌝ }
+    ensures { λ r. ⌜ RowsAt (now (s .entry)) at least most n limit (now (out .entry)) from (now (out .exit)) r
+        × (now (out .exit) ≡ sets (now (out .entry)) from (rowsLeft least most limit n (drop at (now (s .entry))))) ⌝ }
 {
     let mut next = at;
     let mut fits = true;

@@ -31,7 +31,7 @@ use Rattle.binary.proofs.Latches as latches
 use Rattle.binary.proofs.Differences as gates
 use Rattle.sections.specs.Sections.{headerAt}
 use Rattle.sections.proofs.Literals.{literals-within}
-use Rattle.sections.proofs.Lines.{Begins, short, rows-short, lines-length, run-fits, run-begins, flat-ones}
+use Rattle.sections.proofs.Lines.{Begins, short, rows-short, lines-length, run-fits, run-begins, past, run-past, flat-ones}
 use Rattle.sections.proofs.Parts.{headerIn, layout-header, unlike, not-so, two, moved}
 
 -- ---- one run of lines for two
@@ -275,6 +275,22 @@ module _ (s : List ℕ) (at : ℕ) (p : Layout) (limit : ℕ) (w : List ℕ) (q 
             ∙ ap (λ (xs : List ℕ). heading ++ made .inputs ++ ls ++ xs ++ gs) root-words
             ∙ regroup (heading ++ made .inputs ++ ls) (made .outputs) (made .bads) (made .constraints) gs in
             sym (take-append-drop (p .end) w4) ∙ ap (λ (xs : List ℕ). xs ++ drop (p .end) w4) whole
+
+        -- what stands past it stays
+        pub past-kept : contentEnd w ≤ length w → (f2 && f3) ≡ true → drop (contentEnd w) w4 ≡ drop (contentEnd w) w
+        past-kept l e =
+            let t = two f2 f3 e in
+            let h : p .end ≡ contentEnd w = omega (arith, q) in
+            let k1 = past w (implied 1 (p .i)) 7 (p .i) (p .end) r1 (implied-length 1 (p .i)) (omega (arith, q)) (omega (arith, h)) in
+            let ls = latchWords (made .latches) in
+            let many : length ls ≡ p .l * 3 =
+            omega (arith, latches.words-length (p .i + 1) (r2 .lines), latches-length (p .i + 1) (r2 .lines), many-latches) in
+            let k2 = past w1 ls (p .latches) (p .l * 3) (p .end) (r2 .contents (t .0)) many (omega (arith, q)) (omega (arith, h, k1 .1)) in
+            let k3 = run-past r3 (t .1) (p .end) (omega (arith, q)) (omega (arith, h, k1 .1, k2 .1)) in
+            let k4 =
+            past w3 (gateWords (made .gates)) (p .gates) (p .a * 3) (p .end) (r4 .contents)
+            (omega (arith, gates.words-length (r4 .gates), many-gates)) (omega (arith, q)) (omega (arith, h, k1 .1, k2 .1, k3 .1)) in
+            subst (λ (k : ℕ). drop k w4 ≡ drop k w) h (k4 .0 ∙ k3 .0 ∙ k2 .0 ∙ k1 .0)
 
         all-fit : limit ≡ 2 * p .m + 1 → literalsRight made ≡ true → (f2 && f3) ≡ true
         all-fit l e =

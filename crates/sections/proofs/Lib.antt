@@ -2,3 +2,4 @@ pub mod Lines
 pub mod Literals
 pub mod Parts
 pub mod Binary
+pub mod Clearing

@@ -3,11 +3,11 @@ use mathlib.Core.Path.{_≡_, refl, sym, ap, ap₂, _∙_, subst}
 use mathlib.Core.Bool.{Bool, true, _&&_}
 use mathlib.Core.List.{List, [], _∷_, _++_, map}
 use mathlib.Core.Option.{some}
-use Prim.Native.Nat.{ℕ, zero, suc, _+_, _*_, _≤_}
+use Prim.Native.Nat.{ℕ, zero, suc, _+_, _-_, _*_, _≤_}
 use native.Mathlib.Omega.{arith}
 use lib.Dec.{T, leb, leb→le, le→leb}
-use lib.ListN.{length, getD, take, drop, length-append}
-use lib.Seq.{take-at}
+use lib.ListN.{length, getD, take, drop, length-append, length-drop}
+use lib.Seq.{take-at, length-take-le, drop-append-add, drop-drop}
 use Rattle.aiger.specs.Lists.{every}
 use Rattle.aiger.specs.Text.{Token, spaced, ended, malformed, token, onToken, row, rows, when, _>>=_}
 use Rattle.aiger.specs.File.{first, latch, gate}
@@ -126,3 +126,27 @@ module _ {s : List ℕ} {at least most n limit : ℕ} {w : List ℕ} {from : ℕ
         size = size;
         words = ap (take (from + n * most)) e ∙ take-at (xs ++ flat most (r .lines)) (drop (from + n * most) w) (from + n * most) size;
       }
+
+-- m words ys are stored from `from` on: what stands from `end` on stays, and so does the number of words
+pub past : (w : List ℕ) {w₁ : List ℕ} (ys : List ℕ) (from m end : ℕ) → w₁ ≡ take from w ++ ys ++ drop (from + m) w → length ys ≡ m
+    → from + m ≤ end → end ≤ length w → (drop end w₁ ≡ drop end w) × (length w₁ ≡ length w)
+past w ys from m end e l h k =
+    let front : List ℕ = take from w ++ ys in
+    let size : length front ≡ from + m =
+    length-append (take from w) ys ∙ ap₂ (λ (a b : ℕ). a + b) (length-take-le from w (omega arith)) l in
+    let d = end - (from + m) in
+    let there : end ≡ length front + d = omega (arith, size) in
+    let back : from + m + d ≡ end = omega arith in (
+      ap (drop end) e ∙ ap (λ (j : ℕ). drop j (front ++ drop (from + m) w)) there ∙ drop-append-add front (drop (from + m) w) d
+          ∙ drop-drop d (from + m) w
+          ∙ ap (λ (j : ℕ). drop j w) back,
+      ap length e ∙ length-append front (drop (from + m) w) ∙ omega (arith, size, length-drop (from + m) w),
+    )
+
+-- and the words of a run of lines
+pub run-past : {s : List ℕ} {at least most n limit : ℕ} {w : List ℕ} {from : ℕ} {w₁ : List ℕ} {next : ℕ} {fits : Bool}
+    (r : RowsRead s at least most n limit w from w₁ next fits) → fits ≡ true → (end : ℕ) → from + n * most ≤ end → end ≤ length w
+    → (drop end w₁ ≡ drop end w) × (length w₁ ≡ length w)
+run-past {most = most} {n = n} {w = w} {from = from} r e end h k =
+    past w (flat most (r .lines)) from (n * most) end (r .contents e)
+    (length-flat most (r .lines) ∙ ap (λ (j : ℕ). j * most) (lines-length r)) h k

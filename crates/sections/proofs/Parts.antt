@@ -20,12 +20,22 @@ use Rattle.roundtrip.proofs.Content.{words-take}
 use Rattle.lines.specs.Lines.{flat, within, RowsRead}
 use Rattle.layout.specs.declared.Layout.{Layout}
 use Rattle.layout.specs.declared.Section.{Section}
+use Rattle.layout.specs.Words.{contentEnd}
 use Rattle.layout.specs.Layout.{PlacesOf}
 use Rattle.layout.specs.Table.{table, sectionAt, Chained}
 use Rattle.layout.proofs.Table.{chained, from-section}
 use Rattle.sections.specs.Sections.{headerAt}
 use Rattle.sections.proofs.Literals.{literals-within}
-use Rattle.sections.proofs.Lines.{Begins, lines-length, run-fits, run-begins, flat-ones, flat-latches, flat-gates}
+use Rattle.sections.proofs.Lines.{
+  Begins,
+  lines-length,
+  run-fits,
+  run-begins,
+  run-past,
+  flat-ones,
+  flat-latches,
+  flat-gates,
+}
 
 -- the counts of a layout
 abbrev pub headerIn : Layout → Header
@@ -125,6 +135,11 @@ abbrev stacked : List ℕ → List Section → Lines → List ℕ
 stacked xs [] ls = xs
 stacked xs (t ∷ ts) ls = stacked (xs ++ flat (t .most) (head ls)) ts (rest ls)
 
+-- they end where they start, or later
+chained-le : (ts : List Section) {start end : ℕ} → Chained ts start end → start ≤ end
+chained-le [] c = omega (arith, c)
+chained-le (t ∷ ts) c = omega (arith, chained-le ts (c .1))
+
 module _ {s : List ℕ} {limit n : ℕ} {w′ : List ℕ} {f′ : Bool} where
   abbrev lines : {ts : List Section} {at : ℕ} {w : List ℕ} {f : Bool} → Runs s limit n w′ f′ ts at w f → Lines
   lines done = []
@@ -156,6 +171,14 @@ module _ {s : List ℕ} {limit n : ℕ} {w′ : List ℕ} {f′ : Bool} where
   begins (more {t = t} {f = f} {f₁ = f₁} r q) e c b =
       begins q e (c .1)
       (moved (ap (λ (k : ℕ). k + t .rows * t .most) (c .0)) (run-begins r (two f f₁ (passed q e) .1) (moved (sym (c .0)) b)))
+
+  -- what stands past the last of them stays
+  past-all : {ts : List Section} {at : ℕ} {w : List ℕ} {f : Bool} → Runs s limit n w′ f′ ts at w f → f′ ≡ true
+      → (start end : ℕ) → Chained ts start end → end ≤ length w → drop end w′ ≡ drop end w
+  past-all done e start end c l = refl
+  past-all (more {t = t} {ts = ts} {f = f} {f₁ = f₁} r q) e start end c l =
+      let k = run-past r (two f f₁ (passed q e) .1) end (omega (arith, c .0, chained-le ts (c .1))) l in
+      past-all q e (start + t .rows * t .most) end (c .1) (omega (arith, k .1)) ∙ k .0
 
 -- ---- the whole text
 
@@ -217,6 +240,11 @@ module _ (s : List ℕ) (at : ℕ) (p : Layout) (limit : ℕ) (w : List ℕ) (q 
           flat-gates (head (rest c)),
         ) in
         sym (take-append-drop (p .end) w′) ∙ ap (λ (xs : List ℕ). xs ++ drop (p .end) w′) same
+
+    pub past-kept : contentEnd w ≤ length w → f′ ≡ true → drop (contentEnd w) w′ ≡ drop (contentEnd w) w
+    past-kept l e =
+        let h : p .end ≡ contentEnd w = omega (arith, q) in
+        subst (λ (k : ℕ). drop k w′ ≡ drop k w) h (past-all r e 7 (p .end) (chained p q) (omega (arith, h)))
 
     all-fit : limit ≡ 2 * p .m + 1 → literalsRight circuit ≡ true → f′ ≡ true
     all-fit l e =

@@ -3,11 +3,12 @@ use mathlib.Core.Path.{_≡_}
 use mathlib.Core.Bool.{Bool, false}
 use mathlib.Core.List.{List, _++_}
 use Prim.Native.Nat.{ℕ}
+use lib.ListN.{length, drop, replicate}
 use Rattle.aiger.specs.Circuit.{Circuit, literalsRight}
 use Rattle.aiger.specs.File.{Header}
 use Rattle.aiger.specs.Load.{refused, gives, sections}
 use Rattle.aiger.specs.Memory.{content}
-use Rattle.layout.specs.Words.{word}
+use Rattle.layout.specs.Words.{word, contentEnd}
 use Rattle.sections.specs.declared.Body.{Body}
 use Rattle.sections.specs.declared.Body.the-variants.{Read, Large, Malformed, Damaged}
 
@@ -23,3 +24,17 @@ BodyAt binary h g w Read = (c : Circuit) × (sections binary h g ≡ gives c) ×
 BodyAt binary h g w Large = (c : Circuit) × (sections binary h g ≡ gives c) × (literalsRight c ≡ false)
 BodyAt binary h g w Malformed = sections binary h g ≡ refused 5
 BodyAt binary h g w Damaged = sections binary h g ≡ refused 15
+
+-- where the sections are read, what they leave of the words w is, past the content, as it was
+abbrev pub PastKept : List ℕ → List ℕ → Body → Type 0
+PastKept w w₁ Read = drop (contentEnd w) w₁ ≡ drop (contentEnd w) w
+PastKept w w₁ Large = Unit {0}
+PastKept w w₁ Malformed = Unit {0}
+PastKept w w₁ Damaged = Unit {0}
+
+-- and else all words are 0
+abbrev pub WordsLeft : List ℕ → List ℕ → Body → Type 0
+WordsLeft w w₁ Read = PastKept w w₁ Read
+WordsLeft w w₁ Large = w₁ ≡ replicate (length w) 0
+WordsLeft w w₁ Malformed = w₁ ≡ replicate (length w) 0
+WordsLeft w w₁ Damaged = w₁ ≡ replicate (length w) 0

@@ -6,10 +6,10 @@ use lines::read_rows;
 ghost use mathlib.Core.Path.{_≡_};
 ghost use mathlib.Core.Bool.{true, false};
 ghost use Prim.Native.Nat.{_+_, _*_, _≤_};
-ghost use lib.ListN.{length, drop};
+ghost use lib.ListN.{length, drop, replicate};
 ghost use Rattle.layout.specs.Words.{word, contentEnd};
 ghost use Rattle.layout.specs.Layout.{PlacesOf};
-ghost use Rattle.sections.specs.Sections.{headerAt, BodyAt};
+ghost use Rattle.sections.specs.Sections.{headerAt, BodyAt, PastKept, WordsLeft};
 
 // The sections of a file: read and stored; read, with a number above the limit; a line or the tail malformed; or a gate of the binary form
 // damaged.
@@ -26,7 +26,8 @@ fn read_text(s: &[u8], at: usize, p: Layout, limit: u32, words: &mut [u32]) -> B
     requires { ⌜ PlacesOf (now words) p ⌝ }
     requires { ⌜ contentEnd (now words) ≤ length (now words) ⌝ }
     requires { ⌜ limit ≡ 2 * word (now words) 0 + 1 ⌝ }
-    ensures { λ r. ⌜ BodyAt false (headerAt (now (words .entry))) (drop at (now (s .entry))) (now (words .exit)) r ⌝ }
+    ensures { λ r. ⌜ BodyAt false (headerAt (now (words .entry))) (drop at (now (s .entry))) (now (words .exit)) r
+        × PastKept (now (words .entry)) (now (words .exit)) r ⌝ }
 {
     let mut next = at;
     let mut fit = true;
@@ -69,7 +70,8 @@ fn read_binary(s: &[u8], at: usize, p: Layout, limit: u32, words: &mut [u32]) ->
     requires { ⌜ contentEnd (now words) ≤ length (now words) ⌝ }
     requires { ⌜ limit ≡ 2 * word (now words) 0 + 1 ⌝ }
     requires { ⌜ (p .i + p .l + p .a ≤ 4096) × (p .o + p .b + p .c ≤ 96) ⌝ }
-    ensures { λ r. ⌜ BodyAt true (headerAt (now (words .entry))) (drop at (now (s .entry))) (now (words .exit)) r ⌝ }
+    ensures { λ r. ⌜ BodyAt true (headerAt (now (words .entry))) (drop at (now (s .entry))) (now (words .exit)) r
+        × PastKept (now (words .entry)) (now (words .exit)) r ⌝ }
 {
     binary::store_implied(words, 7, 1, p.i);
     let latch = variable(p.i + 1);
@@ -95,6 +97,34 @@ fn read_binary(s: &[u8], at: usize, p: Layout, limit: u32, words: &mut [u32]) ->
 }
 
 // Reads the sections after a header, in binary or text form, and stores their numbers after the counts, which words has.
+fn read_body(s: &[u8], at: usize, binary: bool, p: Layout, limit: u32, words: &mut [u32]) -> Body
+    requires { ⌜ at ≤ length (now s) ⌝ }
+    requires { ⌜ PlacesOf (now words) p ⌝ }
+    requires { ⌜ contentEnd (now words) ≤ length (now words) ⌝ }
+    requires { ⌜ limit ≡ 2 * word (now words) 0 + 1 ⌝ }
+    requires { ⌜ (p .i + p .l + p .a ≤ 4096) × (p .o + p .b + p .c ≤ 96) ⌝ }
+    ensures { λ r. ⌜ BodyAt binary (headerAt (now (words .entry))) (drop at (now (s .entry))) (now (words .exit)) r
+        × PastKept (now (words .entry)) (now (words .exit)) r ⌝ }
+{
+    if binary {
+        return read_binary(s, at, p, limit, words);
+    }
+    read_text(s, at, p, limit, words)
+}
+
+// Stores 0 in all words.
+fn clear(words: &mut [u32])
+    ensures { λ _. ⌜ now (words .exit) ≡ replicate (length (now (words .entry))) 0 ⌝ }
+{
+    let mut i: usize = 0;
+    while i < words.len() {
+        words[i] = 0;
+        i += 1;
+    }
+}
+
+// Reads the sections after a header, in binary or text form, and stores their numbers after the counts, which words has. Where it does
+// not answer Read, it leaves 0 in all words.
 pub fn read_sections(
     s: &[u8],
     at: usize,
@@ -108,10 +138,22 @@ pub fn read_sections(
     requires { ⌜ contentEnd (now words) ≤ length (now words) ⌝ }
     requires { ⌜ limit ≡ 2 * word (now words) 0 + 1 ⌝ }
     requires { ⌜ (p .i + p .l + p .a ≤ 4096) × (p .o + p .b + p .c ≤ 96) ⌝ }
-    ensures { λ r. ⌜ BodyAt binary (headerAt (now (words .entry))) (drop at (now (s .entry))) (now (words .exit)) r ⌝ }
+    ensures { λ r. ⌜ BodyAt binary (headerAt (now (words .entry))) (drop at (now (s .entry))) (now (words .exit)) r
+        × WordsLeft (now (words .entry)) (now (words .exit)) r ⌝ }
 {
-    if binary {
-        return read_binary(s, at, p, limit, words);
+    match read_body(s, at, binary, p, limit, words) {
+        Body::Read => Body::Read,
+        Body::Large => {
+            clear(words);
+            Body::Large
+        }
+        Body::Malformed => {
+            clear(words);
+            Body::Malformed
+        }
+        Body::Damaged => {
+            clear(words);
+            Body::Damaged
+        }
     }
-    read_text(s, at, p, limit, words)
 }

@@ -1,7 +1,7 @@
 -- `binary::read_gate` meets its contract. Assumes nothing.
 use native.Mathlib.Omega.{arith}
 use borrow.Author.Needs.{needs}
-use mathlib.Core.Path.{_≡_, subst}
+use mathlib.Core.Path.{_≡_, refl, subst}
 use Prim.Native.Nat.{_+_, _≤_}
 use lib.ListN.{length, set, length-set}
 use Rattle.differences.specs.Groups.{DifferenceAt}
@@ -35,35 +35,47 @@ found-2 n r e = subst (DifferenceAt (S (N (E n)) .args .s .now) (E n .first .giv
 returns : tie.Need-returns
 returns c =
     let n = c .before .before in
-    none-first (S n .args .s .now) (S n .args .at) (S n .args .lit) (found n _ (c .enum-told .given .1) .meaning)
+    (none-first (S n .args .s .now) (S n .args .at) (S n .args .lit) (found n _ (c .enum-told .given .1) .meaning), refl)
 
 returns-2 : tie.Need-returns-2
 returns-2 c =
     let t = c .before .before in
     let n = N t in
-    not-below (S n .args .s .now) (S n .args .at) (S n .args .lit) _ (t .first .given .0 .1 .0) (found n _ (t .first .given .1) .meaning) (c .if1 .taken)
+    let f = found n _ (t .first .given .1) .meaning in
+    (not-below (S n .args .s .now) (S n .args .at) (S n .args .lit) _ (t .first .given .0 .1 .0) f (c .if1 .taken), refl)
 
 returns-3 : tie.Need-returns-3
 returns-3 c =
     let t = c .before .before .before in
     let n = N t in
-    below-zero (S n .args .s .now) (S n .args .at) (S n .args .lit) _ (t .first .given .0 .1 .0) (found n _ (t .first .given .1) .meaning) (c .before .if1 .left) (c .if2 .taken)
+    let a = S n .args in
+    let f = found n _ (t .first .given .1) .meaning in
+    (below-zero (a .s .now) (a .at) (a .lit) _ (t .first .given .0 .1 .0) f (c .before .if1 .left) (c .if2 .taken), refl)
 
 returns-4 : tie.Need-returns-4
 returns-4 c =
     let q = c .before .before in
     let t = E q in
     let n = N t in
-    none-second (S n .args .s .now) (S n .args .at) (S n .args .lit) _ (t .first .given .0 .1 .0) (found n _ (t .first .given .1) .meaning) (q .before .before .if1 .left)
-    (q .before .if2 .left) (found-2 q _ (c .enum-told2 .given .1) .meaning)
+    let a = S n .args in
+    let f = found n _ (t .first .given .1) .meaning in (
+      none-second (a .s .now) (a .at) (a .lit) _ (t .first .given .0 .1 .0) f (q .before .before .if1 .left) (q .before .if2 .left)
+          (found-2 q _ (c .enum-told2 .given .1) .meaning),
+      refl,
+    )
 
 returns-5 : tie.Need-returns-5
 returns-5 c =
     let q = c .before .before .before .before in
     let t = E q in
     let n = N t in
-    below-zero-2 (S n .args .s .now) (S n .args .at) (S n .args .lit) _ (t .first .given .0 .1 .0) (found n _ (t .first .given .1) .meaning) (q .before .before .if1 .left)
-    (q .before .if2 .left) _ (c .before .before .second .given .0 .1 .0) (found-2 q _ (c .before .before .second .given .1) .meaning) (c .if3 .taken)
+    let a = S n .args in
+    let f = found n _ (t .first .given .1) .meaning in
+    let g = found-2 q _ (c .before .before .second .given .1) .meaning in (
+      below-zero-2 (a .s .now) (a .at) (a .lit) _ (t .first .given .0 .1 .0) f (q .before .before .if1 .left) (q .before .if2 .left) _
+          (c .before .before .second .given .0 .1 .0) g (c .if3 .taken),
+      refl,
+    )
 
 slice-write-out-2 : tie.Need-slice-write-out-2
 slice-write-out-2 c = simp length-set (omega arith)

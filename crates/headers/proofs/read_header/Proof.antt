@@ -35,7 +35,7 @@ room n = omega (arith, n .read-row .kept .1 .1 .1 .0)
 
 -- the answer of the call is the variant that the match found
 found : (n : tie.After-read-row) (r : Row) → n .read-row .result ≡ r → RowAt (S n) 4 9 (replicate 9 0) (list n) r
-found n r e = subst (RowAt (S n) 4 9 (replicate 9 0) (list n)) e (n .read-row .ensures)
+found n r e = subst (RowAt (S n) 4 9 (replicate 9 0) (list n)) e (n .read-row .ensures .0)
 
 returns : tie.Need-returns
 returns c =

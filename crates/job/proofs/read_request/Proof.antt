@@ -34,7 +34,7 @@ room n = omega (arith, n .read-row .kept .1 .1 .1 .0)
 
 -- the answer of the call is the variant that the match found
 found : (n : tie.After-read-row) (r : Row) → n .read-row .result ≡ r → RowAt (S n) 7 3 (replicate 3 0) (list n) r
-found n r e = subst (RowAt (S n) 7 3 (replicate 3 0) (list n)) e (n .read-row .ensures)
+found n r e = subst (RowAt (S n) 7 3 (replicate 3 0) (list n)) e (n .read-row .ensures .0)
 
 returns : tie.Need-returns
 returns c = let i = c .before in not-search (i .before .before .args .input .now) (sym (i .is-search .ensures) ∙ not-true (i .is-search .result) (c .if1 .taken))

@@ -1,5 +1,5 @@
 -- `lines::read_line` meets its contract: the line stands in a buffer of zeros, and its words are stored. Assumes nothing.
-use mathlib.Core.Path.{_≡_, subst}
+use mathlib.Core.Path.{_≡_, refl, subst}
 use mathlib.Core.List.{List}
 use Prim.Native.Nat.{ℕ, _≤_}
 use native.Mathlib.Omega.{arith}
@@ -24,12 +24,12 @@ found : (n : tie.After-read-row) (r : Row) → n .read-row .result ≡ r
     RowAt (a .s .now) (a .at) (a .most) (replicate 3 0) (words n) r
 found n r e =
     let a = n .before .before .before .before .args in
-    subst (RowAt (a .s .now) (a .at) (a .most) (replicate 3 0) (words n)) e (n .read-row .ensures)
+    subst (RowAt (a .s .now) (a .at) (a .most) (replicate 3 0) (words n)) e (n .read-row .ensures .0)
 
 returns : tie.Need-returns
 returns c =
     let n = c .before .before .before .before .before in
-    line-short _ _ _ _ _ (words n) _ _ (room n) (found n _ (c .before .before .count .given .1)) (c .if1 .taken)
+    (line-short _ _ _ _ _ (words n) _ _ (room n) (found n _ (c .before .before .count .given .1)) (c .if1 .taken), refl)
 
 returns-2 : tie.Need-returns-2
 returns-2 c =
@@ -42,7 +42,7 @@ returns-3 : tie.Need-returns-3
 returns-3 c =
     let n = c .before .before .before in
     let a = n .before .before .before .before .args in
-    line-malformed (a .s .now) (a .at) (a .least) (a .most) (found n _ (c .enum-told .given .1))
+    (line-malformed (a .s .now) (a .at) (a .least) (a .most) (found n _ (c .enum-told .given .1)), refl)
 
 pub read-line-spec : {M : Type 1} → statement M
 read-line-spec =

@@ -6,7 +6,7 @@ use native.Mathlib.Omega.{arith}
 use lib.ListN.{length-set}
 use Rattle.numbers.specs.Number.{NumberAt}
 use Rattle.numbers.specs.declared.Number.{Number}
-use Rattle.lines.proofs.Reading.{Reading, start, more, last, bad, long}
+use Rattle.lines.proofs.Reading.{Reading, start, more, last, last-left, bad, bad-left, long, long-left}
 use borrow.Author.Needs.{needs}
 use Rattle.lines.proofs.read_row.Statement.{statement}
 use Rattle.lines.proofs.read_row.Tie as tie
@@ -62,7 +62,9 @@ returns : tie.Need-returns Inv-loop μ-loop
 returns c =
     let n = c .before .before .before in
     let l = n .before .before in
-    last _ _ _ _ _ _ _ (l .loop .inv) _ _ (n .before .loop-test .taken) (found n _ (c .before .v2 .given .1))
+    let t = n .before .loop-test .taken in
+    let f = found n _ (c .before .v2 .given .1) in
+    (last _ _ _ _ _ _ _ (l .loop .inv) _ _ t f, last-left _ _ _ _ _ _ _ (l .loop .inv) _ _ t f)
 
 same-length-2 : tie.Need-same-length-2 Inv-loop μ-loop
 same-length-2 c = c .before .before .before .before .loop .inv .kept
@@ -70,13 +72,17 @@ same-length-2 c = c .before .before .before .before .loop .inv .kept
 returns-2 : tie.Need-returns-2 Inv-loop μ-loop
 returns-2 c =
     let n = c .before .before in
-    bad _ _ _ _ _ _ _ (n .before .before .loop .inv) (n .before .loop-test .taken) (found n _ (c .enum-told .given .1))
+    let l = n .before .before in
+    let t = n .before .loop-test .taken in
+    let f = found n _ (c .enum-told .given .1) in
+    (bad _ _ _ _ _ _ _ (l .loop .inv) t f, bad-left _ _ _ _ _ _ _ (l .loop .inv) t f)
 
 same-length-3 : tie.Need-same-length-3 Inv-loop μ-loop
 same-length-3 c = c .before .loop .inv .kept
 
 returns-3 : tie.Need-returns-3 Inv-loop μ-loop
-returns-3 c = long _ _ _ _ _ _ _ (c .before .loop .inv) (c .loop-test .left)
+returns-3 c =
+    (long _ _ _ _ _ _ _ (c .before .loop .inv) (c .loop-test .left), long-left _ _ _ _ _ _ _ (c .before .loop .inv) (c .loop-test .left))
 
 pub read-row-spec : {M : Type 1} → statement M
 read-row-spec =

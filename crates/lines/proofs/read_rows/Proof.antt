@@ -5,7 +5,7 @@ use native.Mathlib.Omega.{arith}
 use lib.ListN.{length}
 use Rattle.lines.specs.Lines.{LineAt}
 use Rattle.lines.specs.declared.Rows.{Rows}
-use Rattle.lines.proofs.Lines.{Run, start, more, bad, end, room-here}
+use Rattle.lines.proofs.Lines.{Run, start, more, bad, bad-left, end, end-left, room-here}
 use borrow.Author.Needs.{needs}
 use Rattle.lines.proofs.read_rows.Statement.{statement}
 use Rattle.lines.proofs.read_rows.Tie as tie
@@ -61,13 +61,19 @@ returns : tie.Need-returns Inv-loop μ-loop
 returns c =
     let n = c .before .before .before .before in
     let t = n .before .before in
-    bad _ _ _ _ _ _ _ _ _ _ _ _ _ (t .before .loop .inv) (t .loop-test .taken) (found n _ (c .enum-told .given .1))
+    let i = t .before .loop .inv in
+    let f = found n _ (c .enum-told .given .1) in (
+      bad _ _ _ _ _ _ _ _ _ _ _ _ _ i (t .loop-test .taken) (f .0),
+      bad-left _ _ _ _ _ _ _ _ _ _ _ _ _ i _ (t .loop-test .taken) (f .0) (f .1),
+    )
 
 same-length-2 : tie.Need-same-length-2 Inv-loop μ-loop
 same-length-2 c = c .before .loop .inv .kept
 
 returns-2 : tie.Need-returns-2 Inv-loop μ-loop
-returns-2 c = end _ _ _ _ _ _ _ _ _ _ _ _ _ (c .before .loop .inv) (c .loop-test .left)
+returns-2 c =
+    let i = c .before .loop .inv in
+    (end _ _ _ _ _ _ _ _ _ _ _ _ _ i (c .loop-test .left), end-left _ _ _ _ _ _ _ _ _ _ _ _ _ i (c .loop-test .left))
 
 pub read-rows-spec : {M : Type 1} → statement M
 read-rows-spec =

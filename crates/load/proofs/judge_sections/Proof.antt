@@ -45,7 +45,7 @@ found : (n : tie.After-read-sections) (r : Body) → n .read-sections .result �
 found n r e =
     let t = at n in
     subst (λ (h : Header). BodyAt (S t .args .binary) h (rest n) (lined n) r) (header-stored (S t .args .k) (W t) (drop 7 (S t .args .words .now)) (counts t))
-    (subst (BodyAt (S t .args .binary) (headerAt (W t)) (rest n) (lined n)) e (n .read-sections .ensures))
+    (subst (BodyAt (S t .args .binary) (headerAt (W t)) (rest n) (lined n)) e (n .read-sections .ensures .0))
 
 mul-read-sections : tie.Need-mul-read-sections
 mul-read-sections c =

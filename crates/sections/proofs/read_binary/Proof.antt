@@ -11,7 +11,7 @@ use Rattle.lines.specs.Lines.{RowsAt}
 use Rattle.lines.specs.declared.Rows.{Rows}
 use Rattle.binary.specs.Sections.{LatchesAt, GatesAt}
 use Rattle.binary.specs.declared.Gates.{Gates}
-use Rattle.sections.proofs.Binary.{bad-latches, bad-roots, bad-gates, bad-tail, made, body-made, stored, large}
+use Rattle.sections.proofs.Binary.{bad-latches, bad-roots, bad-gates, bad-tail, made, body-made, stored, past-kept, large}
 use Rattle.sections.proofs.read_binary.Statement.{statement}
 use Rattle.sections.proofs.read_binary.Tie as tie
 
@@ -43,7 +43,7 @@ run2 : (n : tie.After-read-latches) (r : Rows) → n .read-latches .result ≡ r
 run2 n r e =
     let a = start2 n .args in
     subst (λ (v : ℕ). LatchesAt (a .s .now) (a .at) (a .p .l) v (a .limit) (words1 n) (a .p .latches) (words2 n) r) (n .before .before .variable .ensures)
-    (rw (← e) (n .read-latches .ensures))
+    (rw (← e) (n .read-latches .ensures .0))
 
 -- the place after the latches
 abbrev T2 : tie.After-read-rows → tie.After-at
@@ -64,7 +64,7 @@ size3 n = n .read-rows .kept .1 .1 .1 .1 .1 .1 .0 ∙ size2 (before3 n)
 run3 : (n : tie.After-read-rows) (r : Rows) → n .read-rows .result ≡ r
     → let a = start3 n .args in
     RowsAt (a .s .now) (T2 n .at .given .0 .0) 1 1 (a .p .o + a .p .b + a .p .c) (a .limit) (words2 (before3 n)) (a .p .outputs) (words3 n) r
-run3 n r e = rw (← e) (n .read-rows .ensures)
+run3 n r e = rw (← e) (n .read-rows .ensures .0)
 
 -- the place after the roots
 abbrev T3 : tie.After-read-gates → tie.After-at2
@@ -88,7 +88,7 @@ run4 : (n : tie.After-read-gates) (r : Gates) → n .read-gates .result ≡ r
 run4 n r e =
     let a = start4 n .args in
     subst (λ (v : ℕ). GatesAt (a .s .now) (T3 n .at2 .given .0 .0) (a .p .a) v (words3 (before4 n)) (a .p .gates) (words4 n) r) (n .before .before .variable2 .ensures)
-    (rw (← e) (n .read-gates .ensures))
+    (rw (← e) (n .read-gates .ensures .0))
 
 few : (i l a : ℕ) → i + l + a ≤ 4096 → 1 + i ≤ 10000
 few i l a h = omega arith
@@ -103,7 +103,7 @@ returns c =
     let n = c .before .before .before .before in
     let s = start2 n in
     let a = s .args in
-    bad-latches (a .s .now) (a .at) (a .p) (a .limit) (a .words .now) (s .pre .1 .0) (run2 n _ (c .enum-told .given .1))
+    (bad-latches (a .s .now) (a .at) (a .p) (a .limit) (a .words .now) (s .pre .1 .0) (run2 n _ (c .enum-told .given .1)), tt)
 
 add-roots : tie.Need-add-roots
 add-roots c =
@@ -127,7 +127,9 @@ returns-2 c =
     let s = start3 n in
     let a = s .args in
     let m = before3 n in
-    bad-roots (a .s .now) (a .at) (a .p) (a .limit) (a .words .now) (s .pre .1 .0) (run1 m) (run2 m _ (T2 n .at .given .1)) (run3 n _ (c .enum-told2 .given .1))
+    let r2 = run2 m _ (T2 n .at .given .1) in
+    let r3 = run3 n _ (c .enum-told2 .given .1) in
+    (bad-roots (a .s .now) (a .at) (a .p) (a .limit) (a .words .now) (s .pre .1 .0) (run1 m) r2 r3, tt)
 
 add-variable-2 : tie.Need-add-variable-2
 add-variable-2 c = omega (arith, start3 (c .before .before .before .before .before .before) .pre .1 .1 .1 .1 .0)
@@ -157,8 +159,10 @@ returns-3 c =
     let a = s .args in
     let k = before4 n in
     let m = before3 k in
-    bad-gates (a .s .now) (a .at) (a .p) (a .limit) (a .words .now) (s .pre .1 .0) (run1 m) (run2 m _ (T2 k .at .given .1))
-    (run3 k _ (T3 n .at2 .given .1)) (run4 n _ (c .enum-told3 .given .1))
+    let r2 = run2 m _ (T2 k .at .given .1) in
+    let r3 = run3 k _ (T3 n .at2 .given .1) in
+    let r4 = run4 n _ (c .enum-told3 .given .1) in
+    (bad-gates (a .s .now) (a .at) (a .p) (a .limit) (a .words .now) (s .pre .1 .0) (run1 m) r2 r3 r4, tt)
 
 same-length-4 : tie.Need-same-length-4
 same-length-4 c = size4 (c .before .before .before .before .before .before .before)
@@ -174,7 +178,8 @@ returns-4 c =
     let r2 = run2 m _ (T2 k .at .given .1) in
     let r3 = run3 k _ (T3 n .at2 .given .1) in
     let r4 = run4 n _ (t .end .given .1) in
-    bad-tail (a .s .now) (a .at) (a .p) (a .limit) (a .words .now) (s .pre .1 .0) (run1 m) r2 r3 r4 (sym (c .before .is-tail .ensures) ∙ not-true _ (c .if1 .taken))
+    let e = sym (c .before .is-tail .ensures) ∙ not-true _ (c .if1 .taken) in
+    (bad-tail (a .s .now) (a .at) (a .p) (a .limit) (a .words .now) (s .pre .1 .0) (run1 m) r2 r3 r4 e, tt)
 
 same-length-5 : tie.Need-same-length-5
 same-length-5 c = size4 (c .before .before .before .before .before .before .before .before)
@@ -191,10 +196,14 @@ returns-5 c =
     let r3 = run3 k _ (T3 n .at2 .given .1) in
     let r4 = run4 n _ (t .end .given .1) in
     let e = sym (c .before .before .is-tail .ensures) ∙ not-false _ (c .before .if1 .left) in (
-      made (a .s .now) (a .at) (a .p) (a .limit) (a .words .now) (s .pre .1 .0) (run1 m) r2 r3 r4,
-      body-made (a .s .now) (a .at) (a .p) (a .limit) (a .words .now) (s .pre .1 .0) (run1 m) r2 r3 r4 e,
-      drop (a .p .end) (words4 n),
-      stored (a .s .now) (a .at) (a .p) (a .limit) (a .words .now) (s .pre .1 .0) (run1 m) r2 r3 r4 (omega (arith, s .pre .1 .1 .0)) (c .if2 .taken),
+      (
+        made (a .s .now) (a .at) (a .p) (a .limit) (a .words .now) (s .pre .1 .0) (run1 m) r2 r3 r4,
+        body-made (a .s .now) (a .at) (a .p) (a .limit) (a .words .now) (s .pre .1 .0) (run1 m) r2 r3 r4 e,
+        drop (a .p .end) (words4 n),
+        stored (a .s .now) (a .at) (a .p) (a .limit) (a .words .now) (s .pre .1 .0) (run1 m) r2 r3 r4
+            (omega (arith, s .pre .1 .1 .0)) (c .if2 .taken),
+      ),
+      past-kept (a .s .now) (a .at) (a .p) (a .limit) (a .words .now) (s .pre .1 .0) (run1 m) r2 r3 r4 (s .pre .1 .1 .0) (c .if2 .taken),
     )
 
 same-length-6 : tie.Need-same-length-6
@@ -212,9 +221,13 @@ returns-6 c =
     let r3 = run3 k _ (T3 n .at2 .given .1) in
     let r4 = run4 n _ (t .end .given .1) in
     let e = sym (c .before .before .is-tail .ensures) ∙ not-false _ (c .before .if1 .left) in (
-      made (a .s .now) (a .at) (a .p) (a .limit) (a .words .now) (s .pre .1 .0) (run1 m) r2 r3 r4,
-      body-made (a .s .now) (a .at) (a .p) (a .limit) (a .words .now) (s .pre .1 .0) (run1 m) r2 r3 r4 e,
-      large (a .s .now) (a .at) (a .p) (a .limit) (a .words .now) (s .pre .1 .0) (run1 m) r2 r3 r4 (omega (arith, s .pre .1 .0, s .pre .1 .1 .1 .0)) (c .if2 .left),
+      (
+        made (a .s .now) (a .at) (a .p) (a .limit) (a .words .now) (s .pre .1 .0) (run1 m) r2 r3 r4,
+        body-made (a .s .now) (a .at) (a .p) (a .limit) (a .words .now) (s .pre .1 .0) (run1 m) r2 r3 r4 e,
+        large (a .s .now) (a .at) (a .p) (a .limit) (a .words .now) (s .pre .1 .0) (run1 m) r2 r3 r4
+            (omega (arith, s .pre .1 .0, s .pre .1 .1 .1 .0)) (c .if2 .left),
+      ),
+      tt,
     )
 
 pub read-binary-spec : {M : Type 1} → statement M

@@ -19,6 +19,7 @@ use Rattle.sections.proofs.Parts.{
   circuit,
   body-made,
   stored,
+  past-kept,
   large,
   Reached,
   reached-none,
@@ -57,7 +58,7 @@ found n r e =
     let t = n .before .before .section-at .result in
     subst
     (RowsAt (a .s .now) (l .loop .next) (t .least) (t .most) (t .rows) (a .limit) (l .loop .words) (t .at)
-    (n .read-rows .last .1 .1 .1 .1 .1 .1 .0)) e (n .read-rows .ensures)
+    (n .read-rows .last .1 .1 .1 .1 .1 .1 .0)) e (n .read-rows .ensures .0)
 
 -- all sections are read
 all : (c : tie.After-loop Inv-loop μ-loop)
@@ -112,9 +113,10 @@ returns c =
     let l = w .before .before in
     let s = l .before .before .before in
     let a = s .args in
-    no-lines (a .s .now) (a .at) (a .p) (a .limit) (a .words .now) (s .pre .1 .0)
-    (reached-stops (l .loop .inv .1) (w .before .loop-test .taken) (w .section-at .result) (w .section-at .ensures)
-    (found n _ (c .enum-told .given .1)))
+    let stops =
+    reached-stops (l .loop .inv .1) (w .before .loop-test .taken) (w .section-at .result) (w .section-at .ensures)
+    (found n _ (c .enum-told .given .1)) in
+    (no-lines (a .s .now) (a .at) (a .p) (a .limit) (a .words .now) (s .pre .1 .0) stops, tt)
 
 same-length-2 : tie.Need-same-length-2 Inv-loop μ-loop
 same-length-2 c = c .before .before .before .loop .inv .1 .size
@@ -124,7 +126,8 @@ returns-2 c =
     let e = c .before .before in
     let s = e .before .before .before .before in
     let a = s .args in
-    no-tail (a .s .now) (a .at) (a .p) (a .limit) (a .words .now) (s .pre .1 .0) (all e) (tail (c .before) ∙ not-true _ (c .if1 .taken))
+    let t = tail (c .before) ∙ not-true _ (c .if1 .taken) in
+    (no-tail (a .s .now) (a .at) (a .p) (a .limit) (a .words .now) (s .pre .1 .0) (all e) t, tt)
 
 same-length-3 : tie.Need-same-length-3 Inv-loop μ-loop
 same-length-3 c = c .before .before .before .before .loop .inv .1 .size
@@ -133,12 +136,16 @@ returns-3 : tie.Need-returns-3 Inv-loop μ-loop
 returns-3 c =
     let e = c .before .before .before in
     let s = e .before .before .before .before in
-    let a = s .args in (
-      circuit (a .s .now) (a .at) (a .p) (a .limit) (a .words .now) (s .pre .1 .0) (all e),
-      body-made (a .s .now) (a .at) (a .p) (a .limit) (a .words .now) (s .pre .1 .0) (all e)
-          (tail (c .before .before) ∙ not-false _ (c .before .if1 .left)),
-      drop (a .p .end) (e .before .loop .words),
-      stored (a .s .now) (a .at) (a .p) (a .limit) (a .words .now) (s .pre .1 .0) (all e) (omega (arith, s .pre .1 .1 .0)) (c .if2 .taken),
+    let a = s .args in
+    let t = tail (c .before .before) ∙ not-false _ (c .before .if1 .left) in (
+      (
+        circuit (a .s .now) (a .at) (a .p) (a .limit) (a .words .now) (s .pre .1 .0) (all e),
+        body-made (a .s .now) (a .at) (a .p) (a .limit) (a .words .now) (s .pre .1 .0) (all e) t,
+        drop (a .p .end) (e .before .loop .words),
+        stored (a .s .now) (a .at) (a .p) (a .limit) (a .words .now) (s .pre .1 .0) (all e)
+            (omega (arith, s .pre .1 .1 .0)) (c .if2 .taken),
+      ),
+      past-kept (a .s .now) (a .at) (a .p) (a .limit) (a .words .now) (s .pre .1 .0) (all e) (s .pre .1 .1 .0) (c .if2 .taken),
     )
 
 same-length-4 : tie.Need-same-length-4 Inv-loop μ-loop
@@ -148,12 +155,15 @@ returns-4 : tie.Need-returns-4 Inv-loop μ-loop
 returns-4 c =
     let e = c .before .before .before in
     let s = e .before .before .before .before in
-    let a = s .args in (
-      circuit (a .s .now) (a .at) (a .p) (a .limit) (a .words .now) (s .pre .1 .0) (all e),
-      body-made (a .s .now) (a .at) (a .p) (a .limit) (a .words .now) (s .pre .1 .0) (all e)
-          (tail (c .before .before) ∙ not-false _ (c .before .if1 .left)),
-      large (a .s .now) (a .at) (a .p) (a .limit) (a .words .now) (s .pre .1 .0) (all e)
-          (omega (arith, s .pre .1 .0, s .pre .1 .1 .1)) (c .if2 .left),
+    let a = s .args in
+    let t = tail (c .before .before) ∙ not-false _ (c .before .if1 .left) in (
+      (
+        circuit (a .s .now) (a .at) (a .p) (a .limit) (a .words .now) (s .pre .1 .0) (all e),
+        body-made (a .s .now) (a .at) (a .p) (a .limit) (a .words .now) (s .pre .1 .0) (all e) t,
+        large (a .s .now) (a .at) (a .p) (a .limit) (a .words .now) (s .pre .1 .0) (all e)
+            (omega (arith, s .pre .1 .0, s .pre .1 .1 .1)) (c .if2 .left),
+      ),
+      tt,
     )
 
 pub read-text-spec : {M : Type 1} → statement M
