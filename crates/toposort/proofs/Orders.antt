@@ -20,7 +20,7 @@ use Rattle.columns.specs.Columns.{total}
 use Rattle.variables.specs.Table.{Entered}
 use Rattle.layout.specs.Order.{gateAt, Feeds, Ordered, driver, leftGate, rightGate, placedFrom, depthFirst}
 use Rattle.toposort.specs.Gates.{Edge, Reach, one, more, InOrder, Cyclic, Answered}
-use Rattle.toposort.specs.DepthFirst.{Linked, Operands, Arranged, Sorted}
+use Rattle.toposort.specs.DepthFirst.{Linked, Operands, Arranged, Tested}
 use Rattle.roundtrip.proofs.Lists.{upto-length, upto-get}
 use Rattle.columns.proofs.Parts.{gate-place}
 use Rattle.variables.proofs.Causes.{literals-used}
@@ -219,12 +219,18 @@ module _ (w : List ℕ) where
     pub linked-part : Linked (take (length w - p .gates) (drop (p .gates) w)) (p .i + p .l) (p .a) t
     linked-part = rw (part, q .i-is, q .l-is, q .a-is) (linked C right t E)
 
-    sorted : (pos order : List ℕ) (r : Bool) → Answered lits m pos order r → Arranged lits (word w 1 + word w 2) m t order r → Sorted c order r
-    sorted pos order true z a =
-        let L = linked C right t E in
-        (acyclic-order (word w 1 + word w 2) t L pos order z, ordered pos order z (a (leftGate c) (rightGate c) (operands-of (word w 1 + word w 2) t L)))
-    sorted pos order false z a = cyclic right z
+    sorted : (pos old order : List ℕ) (r : Bool) → Answered lits m pos order r → Arranged lits (word w 1 + word w 2) m t order r
+        → drop m order ≡ drop m old → Tested c old order r
+    sorted pos old order true z a k =
+        let L = linked C right t E in (
+          acyclic-order (word w 1 + word w 2) t L pos order z,
+          ordered pos order z (a (leftGate c) (rightGate c) (operands-of (word w 1 + word w 2) t L)),
+          rw gate-count k,
+        )
+    sorted pos old order false z a k = cyclic right z
 
-    pub sorted-part : (pos order : List ℕ) (r : Bool) → Answered (take (length w - p .gates) (drop (p .gates) w)) (p .a) pos order r
-        → Arranged (take (length w - p .gates) (drop (p .gates) w)) (p .i + p .l) (p .a) t order r → Sorted (circuitIn w) order r
-    sorted-part pos order r z a = sorted pos order r (rw (part, q .a-is) at z) (rw (part, q .i-is, q .l-is, q .a-is) at a)
+    pub sorted-part : (pos old order : List ℕ) (r : Bool) → Answered (take (length w - p .gates) (drop (p .gates) w)) (p .a) pos order r
+        → Arranged (take (length w - p .gates) (drop (p .gates) w)) (p .i + p .l) (p .a) t order r
+        → drop (p .a) order ≡ drop (p .a) old → Tested (circuitIn w) old order r
+    sorted-part pos old order r z a k =
+        sorted pos old order r (rw (part, q .a-is) at z) (rw (part, q .i-is, q .l-is, q .a-is) at a) (rw (q .a-is) at k)
