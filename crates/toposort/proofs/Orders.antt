@@ -1,14 +1,14 @@
 -- The gates in words are those of the circuit: an order of the ones is an order of the others, and so a cycle. Assumes nothing.
 use mathlib.Core.Path.{_≡_, refl, sym, ap, _∙_, subst}
 use mathlib.Core.Bool.{Bool, true, false}
-use mathlib.Core.List.{List, []}
+use mathlib.Core.List.{List, [], _++_}
 use mathlib.Core.Logic.{_⊎_, inl, inr, ⊎-elim}
 use mathlib.Core.Option.{none, some}
 use Prim.Native.Nat.{ℕ, _+_, _-_, _*_, _/_, _<_, _≤_}
 use native.Mathlib.Decide.{ℕ-discrete, decLe}
 use native.Mathlib.Omega.{arith}
 use lib.Dec.{T, eqb, eqb→eq}
-use lib.ListN.{length, getD, take, drop, length-drop}
+use lib.ListN.{length, getD, take, drop, length-drop, take-append-drop}
 use lib.Seq.{getD-drop, take-all}
 use Rattle.aiger.specs.Circuit.{Circuit, Gate, var, literalsRight, acyclic}
 use Rattle.meaning.proofs.Cycles.{ranked, stuck-at}
@@ -28,6 +28,11 @@ use Rattle.variables.proofs.Causes.{literals-used}
 -- the part of a slice from a on
 rest : (w : List ℕ) (a : ℕ) → take (length w - a) (drop a w) ≡ drop a w
 rest w a = take-all (length w - a) (drop a w) (omega (arith, length-drop a w))
+
+-- an order of evaluation, with the words after it as they were, is a function of the circuit and of what was there
+pub order-is : {c : Circuit} (old : List ℕ) {order : List ℕ} → Ordered c order
+    → drop (length (c .gates)) order ≡ drop (length (c .gates)) old → order ≡ depthFirst c ++ drop (length (c .gates)) old
+order-is {c} old {order} o k = sym (take-append-drop (length (c .gates)) order) ∙ (λ i. o .chosen i ++ k i)
 
 -- the first edge of a way
 first-edge : (lits : List ℕ) (m : ℕ) {g h : ℕ} → Reach lits m g h → (k : ℕ) × Edge lits m g k × ((k ≡ h) ⊎ Reach lits m k h)
