@@ -3,7 +3,7 @@ use mathlib.Core.Path.{_≡_}
 use mathlib.Core.Bool.{Bool, true, false}
 use mathlib.Core.List.{List}
 use Prim.Native.Nat.{ℕ, _≤_, _<_}
-use lib.ListN.{length}
+use lib.ListN.{length, drop, replicate}
 use Rattle.aiger.specs.File.{countsFit, headerOf}
 use Rattle.aiger.specs.Load.{needed}
 use Rattle.aiger.specs.Memory.{Holds}
@@ -44,3 +44,8 @@ Tested m Nothing = HoldsNone m
 abbrev pub HeldIs : List ℕ → List ℕ → Held → Type 0
 HeldIs m order (Circuit p) = LayoutOf m p × Holds m (circuitIn m) × Ordered (circuitIn m) order
 HeldIs m order Nothing = HoldsNone m
+
+-- the order is after the circuit's gates as it was, where there is a circuit; else it is all 0
+abbrev pub Leaves : List ℕ → List ℕ → List ℕ → Held → Type 0
+Leaves m old order (Circuit p) = drop (length (circuitIn m .gates)) order ≡ drop (length (circuitIn m .gates)) old
+Leaves m old order Nothing = order ≡ replicate (length old) 0

@@ -6,7 +6,7 @@ ghost use mathlib.Core.Path.{_≡_};
 ghost use Prim.Native.Nat.{_≤_};
 ghost use lib.ListN.{length};
 ghost use Rattle.layout.specs.Layout.{PlacesOf};
-ghost use Rattle.circuit.specs.Held.{Zeros, Shaped, Says, Tested, HeldIs, countsIn};
+ghost use Rattle.circuit.specs.Held.{Zeros, Shaped, Says, Tested, HeldIs, Leaves, countsIn};
 
 // What a memory holds: a circuit, which stands as the layout says, or none.
 pub enum Held {
@@ -61,16 +61,21 @@ fn is_shaped(m: &[u32], p: Layout) -> bool
     are_zeros(m, p.end, needed)
 }
 
-// The circuit that m holds; order then gives its gates in an order of evaluation.
+// The circuit that m holds; order then begins with its gates in an order of evaluation, and is after them as it was. Where m holds none,
+// order is all 0.
 pub fn held_in(m: &[u32], order: &mut [u32]) -> Held
     requires { ⌜ 3072 ≤ length (now order) ⌝ }
-    ensures { λ r. ⌜ HeldIs (now (m .entry)) (now (order .exit)) r ⌝ }
+    ensures { λ r. ⌜
+        HeldIs (now (m .entry)) (now (order .exit)) r × Leaves (now (m .entry)) (now (order .entry)) (now (order .exit)) r
+        ⌝ }
 {
     if m.len() < 264 {
+        variables::clear(order);
         return Held::Nothing;
     }
     let p = layout::layout_of(m);
     if !is_shaped(m, p) {
+        variables::clear(order);
         return Held::Nothing;
     }
     match validity::check(m, order) {

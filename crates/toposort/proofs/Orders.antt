@@ -1,14 +1,14 @@
 -- The gates in words are those of the circuit: an order of the ones is an order of the others, and so a cycle. Assumes nothing.
 use mathlib.Core.Path.{_≡_, refl, sym, ap, _∙_, subst}
 use mathlib.Core.Bool.{Bool, true, false}
-use mathlib.Core.List.{List, []}
+use mathlib.Core.List.{List, [], _++_}
 use mathlib.Core.Logic.{_⊎_, inl, inr, ⊎-elim}
 use mathlib.Core.Option.{none, some}
 use Prim.Native.Nat.{ℕ, _+_, _-_, _*_, _/_, _<_, _≤_}
 use native.Mathlib.Decide.{ℕ-discrete, decLe}
 use native.Mathlib.Omega.{arith}
 use lib.Dec.{T, eqb, eqb→eq}
-use lib.ListN.{length, getD, take, drop, length-drop}
+use lib.ListN.{length, getD, take, drop, length-drop, take-append-drop}
 use lib.Seq.{getD-drop, take-all}
 use Rattle.aiger.specs.Circuit.{Circuit, Gate, var, literalsRight, acyclic}
 use Rattle.meaning.proofs.Cycles.{ranked, stuck-at}
@@ -20,7 +20,7 @@ use Rattle.columns.specs.Columns.{total}
 use Rattle.variables.specs.Table.{Entered}
 use Rattle.layout.specs.Order.{gateAt, Feeds, Ordered, driver, leftGate, rightGate, placedFrom, depthFirst}
 use Rattle.toposort.specs.Gates.{Edge, Reach, one, more, InOrder, Cyclic, Answered}
-use Rattle.toposort.specs.DepthFirst.{Linked, Operands, Arranged, Sorted}
+use Rattle.toposort.specs.DepthFirst.{Linked, Operands, Arranged, Tested}
 use Rattle.roundtrip.proofs.Lists.{upto-length, upto-get}
 use Rattle.columns.proofs.Parts.{gate-place}
 use Rattle.variables.proofs.Causes.{literals-used}
@@ -28,6 +28,11 @@ use Rattle.variables.proofs.Causes.{literals-used}
 -- the part of a slice from a on
 rest : (w : List ℕ) (a : ℕ) → take (length w - a) (drop a w) ≡ drop a w
 rest w a = take-all (length w - a) (drop a w) (omega (arith, length-drop a w))
+
+-- an order of evaluation, with the words after it as they were, is a function of the circuit and of what was there
+pub order-is : {c : Circuit} (old : List ℕ) {order : List ℕ} → Ordered c order
+    → drop (length (c .gates)) order ≡ drop (length (c .gates)) old → order ≡ depthFirst c ++ drop (length (c .gates)) old
+order-is {c} old {order} o k = sym (take-append-drop (length (c .gates)) order) ∙ (λ i. o .chosen i ++ k i)
 
 -- the first edge of a way
 first-edge : (lits : List ℕ) (m : ℕ) {g h : ℕ} → Reach lits m g h → (k : ℕ) × Edge lits m g k × ((k ≡ h) ⊎ Reach lits m k h)
@@ -219,12 +224,18 @@ module _ (w : List ℕ) where
     pub linked-part : Linked (take (length w - p .gates) (drop (p .gates) w)) (p .i + p .l) (p .a) t
     linked-part = rw (part, q .i-is, q .l-is, q .a-is) (linked C right t E)
 
-    sorted : (pos order : List ℕ) (r : Bool) → Answered lits m pos order r → Arranged lits (word w 1 + word w 2) m t order r → Sorted c order r
-    sorted pos order true z a =
-        let L = linked C right t E in
-        (acyclic-order (word w 1 + word w 2) t L pos order z, ordered pos order z (a (leftGate c) (rightGate c) (operands-of (word w 1 + word w 2) t L)))
-    sorted pos order false z a = cyclic right z
+    sorted : (pos old order : List ℕ) (r : Bool) → Answered lits m pos order r → Arranged lits (word w 1 + word w 2) m t order r
+        → drop m order ≡ drop m old → Tested c old order r
+    sorted pos old order true z a k =
+        let L = linked C right t E in (
+          acyclic-order (word w 1 + word w 2) t L pos order z,
+          ordered pos order z (a (leftGate c) (rightGate c) (operands-of (word w 1 + word w 2) t L)),
+          rw gate-count k,
+        )
+    sorted pos old order false z a k = cyclic right z
 
-    pub sorted-part : (pos order : List ℕ) (r : Bool) → Answered (take (length w - p .gates) (drop (p .gates) w)) (p .a) pos order r
-        → Arranged (take (length w - p .gates) (drop (p .gates) w)) (p .i + p .l) (p .a) t order r → Sorted (circuitIn w) order r
-    sorted-part pos order r z a = sorted pos order r (rw (part, q .a-is) at z) (rw (part, q .i-is, q .l-is, q .a-is) at a)
+    pub sorted-part : (pos old order : List ℕ) (r : Bool) → Answered (take (length w - p .gates) (drop (p .gates) w)) (p .a) pos order r
+        → Arranged (take (length w - p .gates) (drop (p .gates) w)) (p .i + p .l) (p .a) t order r
+        → drop (p .a) order ≡ drop (p .a) old → Tested (circuitIn w) old order r
+    sorted-part pos old order r z a k =
+        sorted pos old order r (rw (part, q .a-is) at z) (rw (part, q .i-is, q .l-is, q .a-is) at a) (rw (q .a-is) at k)

@@ -6,7 +6,7 @@ use mathlib.Core.List.{List, []}
 use mathlib.Core.Option.{Option, none, some}
 use Prim.Native.Nat.{ℕ, zero, suc, _+_, _-_, _*_, _/_, _<_, _≤_}
 use lib.Dec.{T, eqb}
-use lib.ListN.{length, getD, take}
+use lib.ListN.{length, getD, take, drop, replicate}
 use Rattle.aiger.specs.Circuit.{Circuit, acyclic}
 use Rattle.layout.specs.Order.{Ordered, completed, placedFrom}
 use Rattle.toposort.specs.Gates.{Edge, Cyclic}
@@ -117,7 +117,12 @@ Arranged lits base m table order true =
     (left right : ℕ → Option ℕ) → Operands lits base m table left right → take m order ≡ placedFrom left right m 0 m []
 Arranged lits base m table order false = Unit {0}
 
--- cause 8 does not refuse, and there is an order of evaluation; or it does
-abbrev pub Sorted : Circuit → List ℕ → Bool → Type 0
-Sorted c order true = T (acyclic c) × Ordered c order
-Sorted c order false = T (acyclic c) → ⊥
+-- cause 8 does not refuse, there is an order of evaluation, and the words after it are as they were; or it does
+abbrev pub Tested : Circuit → List ℕ → List ℕ → Bool → Type 0
+Tested c old order true = T (acyclic c) × Ordered c order × (drop (length (c .gates)) order ≡ drop (length (c .gates)) old)
+Tested c old order false = T (acyclic c) → ⊥
+
+-- the same, and where it refuses every word is 0
+abbrev pub Sorted : Circuit → List ℕ → List ℕ → Bool → Type 0
+Sorted c old order true = T (acyclic c) × Ordered c order × (drop (length (c .gates)) order ≡ drop (length (c .gates)) old)
+Sorted c old order false = (T (acyclic c) → ⊥) × (order ≡ replicate (length old) 0)

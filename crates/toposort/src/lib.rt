@@ -7,14 +7,15 @@ ghost use mathlib.Core.Path.{_≡_};
 ghost use mathlib.Core.Option.{Option};
 ghost use Prim.Native.Nat.{ℕ, _+_, _<_, _≤_};
 ghost use lib.Dec.{T};
-ghost use lib.ListN.{length, getD, set};
+ghost use lib.ListN.{length, getD, set, drop};
 ghost use Rattle.aiger.specs.Circuit.{literalsRight};
 ghost use Rattle.layout.specs.Words.{circuitIn};
 ghost use Rattle.layout.specs.Layout.{Counted};
 ghost use Rattle.columns.specs.Columns.{total};
 ghost use Rattle.variables.specs.Table.{Entered};
 ghost use Rattle.toposort.specs.Gates.{Answered};
-ghost use Rattle.toposort.specs.DepthFirst.{Linked, Looked, OperandOf, Operands, Next, Search, Stepped, Continues, Arranged, Sorted};
+ghost use Rattle.toposort.specs.DepthFirst.{Linked, Looked, OperandOf, Operands, Next, Search, Stepped, Continues};
+ghost use Rattle.toposort.specs.DepthFirst.{Arranged, Tested, Sorted};
 
 // A gate that is not met; one on the stack; or one in the order, or none.
 enum Visit {
@@ -122,6 +123,7 @@ fn advance(
         → Operands (now (lits .entry)) (gates .base) (gates .m) (now (table .entry)) left right
         → Continues left right (gates .m) (now (order .entry)) (now (stack .entry)) (now (order .exit)) (now (stack .exit)) (at .sp)
         (at .done) r)
+        × (drop (gates .m) (now (order .exit)) ≡ drop (gates .m) (now (order .entry)))
         ⌝ }
 {
     let base = gates.base;
@@ -158,6 +160,7 @@ fn sort(
     ensures { λ r. ⌜
         Answered (now (lits .entry)) m (now (pos .exit)) (now (order .exit)) r
         × Arranged (now (lits .entry)) base m (now (table .entry)) (now (order .exit)) r
+        × (drop m (now (order .exit)) ≡ drop m (now (order .entry)))
         ⌝ }
 {
     let mut s = 0;
@@ -191,17 +194,32 @@ fn sort(
     true
 }
 
-// Cause 8: true where there is none. order then has an order of evaluation.
-pub fn ordered(w: &[u32], table: &[u32], order: &mut [u32]) -> bool
+// Whether there is no cause 8. order then has an order of evaluation; the words after it are as they were.
+fn test_order(w: &[u32], table: &[u32], order: &mut [u32]) -> bool
     requires { ⌜ Counted (now w) ⌝ }
     requires { ⌜ T (literalsRight (circuitIn (now w))) ⌝ }
     requires { ⌜ Entered (now w) (total (now w)) (now table) ⌝ }
     requires { ⌜ 3072 ≤ length (now order) ⌝ }
-    ensures { λ r. ⌜ Sorted (circuitIn (now (w .entry))) (now (order .exit)) r ⌝ }
+    ensures { λ r. ⌜ Tested (circuitIn (now (w .entry))) (now (order .entry)) (now (order .exit)) r ⌝ }
 {
     let p = layout::layout_of(w);
     let at = p.gates;
     let mut pos = [0u32; 3072];
     let mut stack = [0u32; 3072];
     sort(&w[at..], table, p.i + p.l, p.a, &mut pos, order, &mut stack)
+}
+
+// Cause 8: true where there is none. order then has an order of evaluation, and the words after it are as they were; else order is all 0.
+pub fn ordered(w: &[u32], table: &[u32], order: &mut [u32]) -> bool
+    requires { ⌜ Counted (now w) ⌝ }
+    requires { ⌜ T (literalsRight (circuitIn (now w))) ⌝ }
+    requires { ⌜ Entered (now w) (total (now w)) (now table) ⌝ }
+    requires { ⌜ 3072 ≤ length (now order) ⌝ }
+    ensures { λ r. ⌜ Sorted (circuitIn (now (w .entry))) (now (order .entry)) (now (order .exit)) r ⌝ }
+{
+    if test_order(w, table, order) {
+        return true;
+    }
+    variables::clear(order);
+    false
 }

@@ -2,6 +2,7 @@
 use mathlib.Core.Path.{_≡_}
 use mathlib.Core.List.{List}
 use Prim.Native.Nat.{ℕ}
+use lib.ListN.{length, drop, replicate}
 use Rattle.aiger.specs.Circuit.{Circuit, literalsRight, usedDefined, acyclic}
 use Rattle.aiger.specs.Load.{Answer, refused, gives, test, _>>_}
 use Rattle.layout.specs.Order.{Ordered}
@@ -16,3 +17,8 @@ judged c = test 6 (literalsRight c) >> test 7 (usedDefined c) >> test 8 (acyclic
 abbrev pub Checks : Circuit → List ℕ → Checked → Type 0
 Checks c order Right = (judged c ≡ gives tt) × Ordered c order
 Checks c order (Refused n) = judged c ≡ refused n
+
+-- the order is after the circuit's gates as it was, where no cause refuses; else it is all 0
+abbrev pub Leaves : Circuit → List ℕ → List ℕ → Checked → Type 0
+Leaves c old order Right = drop (length (c .gates)) order ≡ drop (length (c .gates)) old
+Leaves c old order (Refused n) = order ≡ replicate (length old) 0

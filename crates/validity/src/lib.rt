@@ -3,7 +3,7 @@ ghost use Prim.Native.Nat.{_≤_};
 ghost use lib.ListN.{length};
 ghost use Rattle.layout.specs.Words.{circuitIn};
 ghost use Rattle.layout.specs.Layout.{Counted};
-ghost use Rattle.validity.specs.Validity.{Checks};
+ghost use Rattle.validity.specs.Validity.{Checks, Leaves};
 
 // Refused has the number of the cause.
 pub enum Checked {
@@ -11,17 +11,23 @@ pub enum Checked {
     Refused(u32),
 }
 
-// The first cause from 6 to 8 that refuses the circuit of w; or none, and the gates in an order of evaluation.
+// The first cause from 6 to 8 that refuses the circuit of w, and order is then all 0; or none, and order begins with the gates in an order
+// of evaluation, and is after them as it was.
 pub fn check(w: &[u32], order: &mut [u32]) -> Checked
     requires { ⌜ Counted (now w) ⌝ }
     requires { ⌜ 3072 ≤ length (now order) ⌝ }
-    ensures { λ r. ⌜ Checks (circuitIn (now (w .entry))) (now (order .exit)) r ⌝ }
+    ensures { λ r. ⌜
+        Checks (circuitIn (now (w .entry))) (now (order .exit)) r
+        × Leaves (circuitIn (now (w .entry))) (now (order .entry)) (now (order .exit)) r
+        ⌝ }
 {
     let mut table = [0u32; 4097];
     if !variables::literals_right(w, &mut table) {
+        variables::clear(order);
         return Checked::Refused(6);
     }
     if !variables::used_defined(w, &table) {
+        variables::clear(order);
         return Checked::Refused(7);
     }
     if !toposort::ordered(w, &table, order) {

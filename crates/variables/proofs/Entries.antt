@@ -8,9 +8,10 @@ use Prim.Native.Nat.{ℕ, _+_, _*_, _-_, _/_, _<_, _≤_}
 use native.Mathlib.Decide.{ℕ-discrete}
 use native.Mathlib.Omega.{arith}
 use lib.Dec.{leb}
-use lib.ListN.{length, getD, set, length-set}
+use lib.ListN.{length, getD, set, replicate, length-set, length-replicate}
+use lib.Seq.{ext-getD}
 use borrow.Author.Tests.{leb-true, leb-false}
-use Rattle.meaning.proofs.Lists.{getD-set}
+use Rattle.meaning.proofs.Lists.{getD-set, getD-zeros}
 use Rattle.literals.specs.declared.Lit.{Lit}
 use Rattle.literals.specs.Literal.{wordOf}
 use Rattle.literals.proofs.Words.{word-var}
@@ -133,3 +134,36 @@ known-not t l at q e z k =
 
 pub known-there : (t : List ℕ) (l : Lit) (at : ℕ) → at ≡ l .0 .0 → (getD t at 0 ≡ 0 → ⊥) → Known t (wordOf l)
 known-there t l at q n = λ z. absurd (n (ap (λ (x : ℕ). getD t x 0) (q ∙ sym (word-var l)) ∙ z))
+
+-- ---- words that are 0
+
+-- the word at k becomes v, which is 0
+pub zeros-more : (t : List ℕ) (k v : ℕ) → ((i : ℕ) → i < k → getD t i 0 ≡ 0) → k < length t → v ≡ 0
+    → (i : ℕ) → i < k + 1 → getD (set t k v) i 0 ≡ 0
+zeros-more t k v z l e i h = ⊎-elim (λ r. r .1 ∙ e) (λ r. r .1 ∙ z i (less (r .0))) (getD-set t k v i l)
+  where
+    less : (i ≡ k → ⊥) → i < k
+    less n = omega arith
+
+pub zeros-all : (t : List ℕ) (n : ℕ) → length t ≡ n → ((i : ℕ) → i < length t → getD t i 0 ≡ 0) → t ≡ replicate n 0
+zeros-all t n e z = ext-getD 0 t (replicate n 0) (e ∙ sym (length-replicate {A = ℕ} n 0)) (λ i l. z i l ∙ sym (getD-zeros n i))
+
+-- words that were 0 and are cleared are as they were
+pub cleared-same : (old : List ℕ) {n : ℕ} {new : List ℕ} → ((v : ℕ) → getD old v 0 ≡ 0) → n ≡ length old → new ≡ replicate n 0 → new ≡ old
+cleared-same old {n} z e s = s ∙ sym (zeros-all old n (sym e) (λ i l. z i))
+
+-- the table is a function of the definitions
+pub entered-same : {w : List ℕ} {n : ℕ} {t u : List ℕ} → Entered w n t → Entered w n u → length t ≡ length u → t ≡ u
+entered-same {w} {n} {t} {u} E F e = ext-getD 0 t u e (λ v l. go v (ℕ-discrete (getD t v 0) 0) (ℕ-discrete (getD u v 0) 0))
+  where
+    -- what one table has at v, the other has
+    there : {a b : List ℕ} → Entered w n a → Entered w n b → (v : ℕ) → (getD a v 0 ≡ 0 → ⊥) → getD a v 0 ≡ getD b v 0
+    there {a} {b} A B v f =
+        let i : ℕ = getD a v 0 - 1 in
+        let q = A .only v i (omega arith) in
+        omega (arith, B .has i (q .0), ap (λ (x : ℕ). getD b x 0) (q .1))
+
+    go : (v : ℕ) → Dec (getD t v 0 ≡ 0) → Dec (getD u v 0 ≡ 0) → getD t v 0 ≡ getD u v 0
+    go v (yes a) (yes b) = a ∙ sym b
+    go v (no a) d = there E F v a
+    go v (yes a) (no b) = sym (there F E v b)

@@ -16,7 +16,7 @@ use Rattle.columns.specs.declared.Role.{Role}
 use Rattle.columns.specs.declared.Role.the-variants.{Input, Latch, Gate, Next, Root, Left, Right}
 use Rattle.columns.specs.Columns.{at, Each, columnOf, total, definition, Used}
 use Rattle.columns.proofs.Parts.{inside, input-place, latch-place, gate-place}
-use Rattle.variables.specs.Table.{Says, Entered, Defining, Resets, Literals}
+use Rattle.variables.specs.Table.{Says, Entered, Defining, Resets, Tested}
 use Rattle.variables.proofs.Entries.{entered-none, entered-right}
 use Rattle.variables.proofs.Causes.{used-map, literals-in, literals-used, literals-resets}
 
@@ -57,7 +57,7 @@ module _ (w : List ℕ) (P : ℕ → Type 0) {c : Column} (s : c ≡ columnOf w 
 
 -- ---- cause 6
 
-pub literals-all : (w t : List ℕ) → Entered w (total w) t → Used w (λ l. l / 2 ≤ word w 0) → (r : Bool) → Says r (Resets w) → Literals w t r
+pub literals-all : (w t : List ℕ) → Entered w (total w) t → Used w (λ l. l / 2 ≤ word w 0) → (r : Bool) → Says r (Resets w) → Tested w t r
 literals-all w t E u true h = (literals-in w (entered-right w (total w) t E) u h, E)
 literals-all w t E u false h = λ right. h (literals-resets w right)
 

@@ -59,9 +59,14 @@ Resets w =
     → T (leb (word w (latchesAt w + 3 * j + 2)) 1 || eqb (word w (latchesAt w + 3 * j + 2)) (word w (latchesAt w + 3 * j)))
 
 -- cause 6 does not refuse, and all definitions are in the table; or it does
-abbrev pub Literals : List ℕ → List ℕ → Bool → Type 0
-Literals w table true = T (literalsRight (circuitIn w)) × Entered w (total w) table
-Literals w table false = T (literalsRight (circuitIn w)) → ⊥
+abbrev pub Tested : List ℕ → List ℕ → Bool → Type 0
+Tested w table true = T (literalsRight (circuitIn w)) × Entered w (total w) table
+Tested w table false = T (literalsRight (circuitIn w)) → ⊥
+
+-- the same, and where it refuses the table is as it was. Where it does not, what is entered says each word of the table.
+abbrev pub Literals : List ℕ → List ℕ → List ℕ → Bool → Type 0
+Literals w old table true = T (literalsRight (circuitIn w)) × Entered w (total w) table
+Literals w old table false = (T (literalsRight (circuitIn w)) → ⊥) × (table ≡ old)
 
 -- a literal's variable is 0 or in the table
 abbrev pub Known : List ℕ → ℕ → Type 0

@@ -9,12 +9,12 @@ ghost use mathlib.Core.Path.{_≡_};
 ghost use mathlib.Core.Bool.{_||_};
 ghost use Prim.Native.Nat.{ℕ, _+_, _/_, _<_, _≤_};
 ghost use lib.Dec.{leb, eqb};
-ghost use lib.ListN.{length, getD};
+ghost use lib.ListN.{length, getD, replicate};
 ghost use Rattle.literals.specs.Literal.{wordOf};
 ghost use Rattle.layout.specs.Words.{word};
 ghost use Rattle.layout.specs.Layout.{Counted};
 ghost use Rattle.columns.specs.Columns.{Inside, Each, Used, total};
-ghost use Rattle.variables.specs.Table.{Says, Known, Defining, Enters, Defined, Resets, Literals};
+ghost use Rattle.variables.specs.Table.{Says, Known, Defining, Enters, Defined, Resets, Tested, Literals};
 
 // Enters the variable of a literal under a label; m is the greatest variable. False where the literal cannot define one, or where the
 // table has it already.
@@ -141,12 +141,12 @@ fn resets(w: &[u32]) -> bool
     true
 }
 
-// Cause 6: true where there is none. Every definition is then in the table.
-pub fn literals_right(w: &[u32], table: &mut [u32]) -> bool
+// Whether there is no cause 6. Every definition is then in the table; else some may be.
+fn test_literals(w: &[u32], table: &mut [u32]) -> bool
     requires { ⌜ Counted (now w) ⌝ }
     requires { ⌜ word (now w) 0 < length (now table) ⌝ }
     requires { ⌜ ((v : ℕ) → getD (now table) v 0 ≡ 0) ⌝ }
-    ensures { λ r. ⌜ Literals (now (w .entry)) (now (table .exit)) r ⌝ }
+    ensures { λ r. ⌜ Tested (now (w .entry)) (now (table .exit)) r ⌝ }
 {
     if !define_all(w, table) {
         return false;
@@ -155,6 +155,31 @@ pub fn literals_right(w: &[u32], table: &mut [u32]) -> bool
         return false;
     }
     resets(w)
+}
+
+// Stores 0 in every word.
+pub fn clear(words: &mut [u32])
+    ensures { λ _. ⌜ now (words .exit) ≡ replicate (length (now (words .entry))) 0 ⌝ }
+{
+    let mut k = 0;
+    while k < words.len() {
+        words[k] = 0;
+        k += 1;
+    }
+}
+
+// Cause 6: true where there is none. Every definition is then in the table; else the table is as it was, all 0.
+pub fn literals_right(w: &[u32], table: &mut [u32]) -> bool
+    requires { ⌜ Counted (now w) ⌝ }
+    requires { ⌜ word (now w) 0 < length (now table) ⌝ }
+    requires { ⌜ ((v : ℕ) → getD (now table) v 0 ≡ 0) ⌝ }
+    ensures { λ r. ⌜ Literals (now (w .entry)) (now (table .entry)) (now (table .exit)) r ⌝ }
+{
+    if test_literals(w, table) {
+        return true;
+    }
+    clear(table);
+    false
 }
 
 // Whether the variable of a literal is 0 or in the table.

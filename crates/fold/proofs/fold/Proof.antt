@@ -9,19 +9,19 @@ use Rattle.fold.proofs.fold.Statement.{statement}
 use Rattle.fold.proofs.fold.Tie as tie
 
 returns : tie.Need-returns
-returns c = Operated.noCircuit (rw (c .enum-told .given .1) at (c .before .before .before .held-in .ensures))
+returns c = Operated.noCircuit (rw (c .enum-told .given .1) at (c .before .before .before .held-in .ensures .0))
 
 judge-requires : tie.Need-judge-requires
 judge-requires c κs =
     let l = c .before in
-    let h = rw (l .layout .given .1) at (l .before .before .before .held-in .ensures) in
+    let h = rw (l .layout .given .1) at (l .before .before .before .held-in .ensures .0) in
     limited (h .1) (h .0)
 
 returns-2 : tie.Need-returns-2
 returns-2 c =
     let r = c .before .before .before in
     let l = r .before .before in
-    let h = rw (l .layout .given .1) at (l .before .before .before .held-in .ensures) in
+    let h = rw (l .layout .given .1) at (l .before .before .before .held-in .ensures .0) in
     refused-with (h .1) (rw (c .before .n .given .1) at (r .judge .ensures _ (counts-of (h .1) (h .0))))
 
 fold-frame-requires : tie.Need-fold-frame-requires
@@ -30,7 +30,7 @@ fold-frame-requires c κs =
     let r = t .before .before in
     let l = r .before .before in
     let n = l .before .before .before in
-    let h = rw (l .layout .given .1) at (n .held-in .ensures) in
+    let h = rw (l .layout .given .1) at (n .held-in .ensures .0) in
     fits (h .1) (h .0) (h .2) (omega (arith, n .held-in .kept .1 .0)) (h .0 .u-is)
     (rw (t .enum-told2 .given .1) at (r .judge .ensures _ (counts-of (h .1) (h .0))))
 
@@ -40,7 +40,7 @@ returns-3 c =
     let t = s .before .before .before .before in
     let r = t .before .before in
     let l = r .before .before in
-    let h = rw (l .layout .given .1) at (l .before .before .before .held-in .ensures) in
+    let h = rw (l .layout .given .1) at (l .before .before .before .held-in .ensures .0) in
     written-with (h .1) (rw (t .enum-told2 .given .1) at (r .judge .ensures _ (counts-of (h .1) (h .0)))) (s .fold-frame .ensures)
 
 pub fold-spec : {M : Type 1} → statement M

@@ -14,7 +14,8 @@ use Rattle.validity.proofs.check.Reads as check-reads
 -- the answer of the check is the variant that the match found
 found : (n : tie.After-check) (r : Checked) → n .check .result ≡ r
     → Checks (circuitIn (n .before .before .before .before .args .words .now)) (n .check .last .1 .0) r
-found n r e = subst (Checks (circuitIn (n .before .before .before .before .args .words .now)) (n .check .last .1 .0)) e (n .check .ensures)
+found n r e =
+    subst (Checks (circuitIn (n .before .before .before .before .args .words .now)) (n .check .last .1 .0)) e (n .check .ensures .0)
 
 returns : tie.Need-returns
 returns c = accepts-refused _ (found (c .before .before .before .before .before) _ (c .before .n .given .1))

@@ -9,19 +9,19 @@ use Rattle.search.proofs.search.Statement.{statement}
 use Rattle.search.proofs.search.Tie as tie
 
 returns : tie.Need-returns
-returns c = Operated.noCircuit (rw (c .enum-told .given .1) at (c .before .before .before .held-in .ensures))
+returns c = Operated.noCircuit (rw (c .enum-told .given .1) at (c .before .before .before .held-in .ensures .0))
 
 judge-requires : tie.Need-judge-requires
 judge-requires c κs =
     let l = c .before in
-    let h = rw (l .layout .given .1) at (l .before .before .before .held-in .ensures) in
+    let h = rw (l .layout .given .1) at (l .before .before .before .held-in .ensures .0) in
     limited (h .1) (h .0)
 
 returns-2 : tie.Need-returns-2
 returns-2 c =
     let r = c .before .before .before in
     let l = r .before .before in
-    let h = rw (l .layout .given .1) at (l .before .before .before .held-in .ensures) in
+    let h = rw (l .layout .given .1) at (l .before .before .before .held-in .ensures .0) in
     refused-with (h .1) (rw (c .before .n .given .1) at (r .judge .ensures _ (counts-of (h .1) (h .0))))
 
 search-frames-requires : tie.Need-search-frames-requires
@@ -30,7 +30,7 @@ search-frames-requires c κs =
     let r = t .before .before in
     let l = r .before .before in
     let n = l .before .before .before in
-    let h = rw (l .layout .given .1) at (n .held-in .ensures) in
+    let h = rw (l .layout .given .1) at (n .held-in .ensures .0) in
     fits (h .1) (h .0) (h .2) (omega (arith, n .held-in .kept .1 .0))
     (rw (t .enum-told2 .given .1) at (r .judge .ensures _ (counts-of (h .1) (h .0))))
 
@@ -40,7 +40,7 @@ returns-3 c =
     let t = s .before .before .before .before in
     let r = t .before .before in
     let l = r .before .before in
-    let h = rw (l .layout .given .1) at (l .before .before .before .held-in .ensures) in
+    let h = rw (l .layout .given .1) at (l .before .before .before .held-in .ensures .0) in
     answered-with (h .1) (rw (t .enum-told2 .given .1) at (r .judge .ensures _ (counts-of (h .1) (h .0)))) (s .search-frames .ensures)
 
 pub search-spec : {M : Type 1} → statement M

@@ -1,7 +1,9 @@
 -- `advance` meets its contract: each arm keeps the search's invariant, or the stack is a cycle.
 -- Assumes nothing.
 use Rattle.toposort.proofs.Runs.{counts, search-room, search-push, top-gate, search-cycle, top-edge, search-place, search-deeper, search-placed}
+use mathlib.Core.Path.{refl}
 use native.Mathlib.Omega.{arith}
+use lib.Seq.{drop-set-lt}
 use borrow.Author.Needs.{needs}
 use Rattle.toposort.proofs.advance.Statement.{statement}
 use Rattle.toposort.proofs.advance.Tie as tie
@@ -49,6 +51,7 @@ returns c =
       λ left right o.
           search-deeper left right _ _ _ _ _ _ _ (S .pre .1 .0) (S .pre .1 .1) _ (n .0 .0 .0) (n .0 .1) _ (A .push .ensures .1)
           (n .1 left right o),
+      refl,
     )
 
 returns-2 : tie.Need-returns-2
@@ -56,7 +59,7 @@ returns-2 c =
     let K = c .before .before in
     let S = c .before .before .before .before .before .before .before .before .before .before in
     let n = rw (c .enum-told .given .1) at (K .operand .ensures) in
-    (search-cycle _ _ _ _ _ _ _ (S .pre .1 .0) (S .pre .1 .1) (n .0 .0) (n .0 .1) (n .0 .2), λ left right o. tt)
+    (search-cycle _ _ _ _ _ _ _ (S .pre .1 .0) (S .pre .1 .1) (n .0 .0) (n .0 .1) (n .0 .2), λ left right o. tt, refl)
 
 returns-3 : tie.Need-returns-3
 returns-3 c =
@@ -66,6 +69,9 @@ returns-3 c =
     let n = rw (c .before .before .before .before .before .before .before .enum-told2 .given .1) at (K .operand .ensures) in (
       search-place _ _ _ _ _ _ _ (S .pre .1 .0) (S .pre .1 .1) _ _ (A .place .ensures .0) (A .place .ensures .1) (n .0),
       λ left right o. search-placed left right _ _ _ _ _ _ _ (S .pre .1 .0) (S .pre .1 .1) _ (A .place .ensures .1) (n .1 left right o),
+      rw (A .place .ensures .1)
+          (drop-set-lt (S .args .gates .m) (S .args .order .now) (S .args .at .done) _
+          (omega (arith, counts _ _ _ _ _ _ _ (S .pre .1 .0), S .pre .1 .1))),
     )
 
 pub advance-spec : {M : Type 1} → statement M

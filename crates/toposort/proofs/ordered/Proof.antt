@@ -1,32 +1,26 @@
--- `ordered` meets its contract: the table of definitions links variables to gates, and the gates in words are the circuit's.
--- Assumes nothing.
-use Rattle.toposort.proofs.Orders.{linked-part, sorted-part}
-use Rattle.meaning.proofs.Lists.{getD-zeros}
-use native.Mathlib.Omega.{arith}
+-- `ordered` meets its contract: where cause 8 refuses, the order is cleared. Assumes nothing.
+use mathlib.Core.Path.{ap, _∙_}
+use mathlib.Core.List.{List}
+use Prim.Native.Nat.{ℕ}
+use lib.ListN.{replicate}
 use borrow.Author.Needs.{needs}
 use Rattle.toposort.proofs.ordered.Statement.{statement}
 use Rattle.toposort.proofs.ordered.Tie as tie
 
-sort-requires : tie.Need-sort-requires
-sort-requires c κs =
-    let Q = c .before .before .before .before .before in
-    let S = Q .before .before .before .before in (
-      linked-part (S .args .w .now) (S .pre .0) (S .pre .1 .0) (S .args .table .now) (S .pre .1 .1 .0)
-          (Q .layout-of .result) (Q .layout-of .ensures .0),
-      ((omega arith, omega arith, omega arith), λ g l. getD-zeros 3072 g),
-    )
-
 returns : tie.Need-returns
-returns c =
-    let A = c .before .before .before .before in
-    let Q = A .before .before .before .before .before .before in
-    let S = Q .before .before .before .before in
-    sorted-part (S .args .w .now) (S .pre .0) (S .pre .1 .0) (S .args .table .now) (S .pre .1 .1 .0)
-    (Q .layout-of .result) (Q .layout-of .ensures .0) _ _ (A .sort .result) (A .sort .ensures .0) (A .sort .ensures .1)
+returns c = rw (c .if1 .taken) at (c .before .before .before .test-order .ensures)
+
+returns-2 : tie.Need-returns-2
+returns-2 c =
+    let D = c .before .before in
+    let E = D .before .before in
+    let A = E .before .before .before in (
+      rw (E .if1 .left) at (A .test-order .ensures),
+      D .clear .ensures ∙ ap {B = List ℕ} (λ (n : ℕ). replicate n 0) (A .test-order .kept .1 .1 .0),
+    )
 
 pub ordered-spec : {M : Type 1} → statement M
 ordered-spec =
     tie.close
     (tie.spec
-    (λ c κs. search needs) (λ c. search needs) (λ c. search needs) (λ c. search needs) (λ c. search needs) (λ c. search needs)
-    (λ c. search needs) (λ c. search needs) sort-requires (λ c. search needs) returns)
+    (λ c κs. search needs) (λ c. search needs) returns (λ c κs. search needs) (λ c. search needs) returns-2)

@@ -1,7 +1,7 @@
 -- `sort` meets its contract. The loop's invariant is `Run`. The measure falls since each turn passes a gate, meets one or places one.
 -- Assumes nothing.
 use Rattle.toposort.proofs.Runs.{Run, Planned, counts, search-push, run-start, run-skip, run-step, run-end, planned-start, planned-skip, planned-push, planned-end}
-use lib.ListN.{length}
+use lib.ListN.{length, drop}
 use native.Mathlib.Omega.{arith}
 use Prim.Native.Nat.{_+_, _*_, _-_}
 use mathlib.Core.Path.{_≡_, refl, ap, _∙_}
@@ -13,7 +13,7 @@ use Rattle.toposort.proofs.sort.Tie as tie
 abbrev Inv-loop : tie.InvT-loop
 Inv-loop lits table base m pos₀ order₀ stack₀ s₀ sp₀ done₀ pos order stack s sp done =
     Run lits m pos order stack s sp done × (length pos ≡ length pos₀) × (length order ≡ length order₀) × (length stack ≡ length stack₀)
-    × Planned lits base m table order stack s sp done
+    × Planned lits base m table order stack s sp done × (drop m order ≡ drop m order₀)
 
 abbrev μ-loop : tie.MeasureT-loop
 μ-loop lits table base m pos₀ order₀ stack₀ s₀ sp₀ done₀ pos order stack s sp done = 3 * m - (2 * done + sp + s)
@@ -27,6 +27,7 @@ loop-holds c =
       refl,
       refl,
       planned-start (S .args .lits .now) (S .args .base) (S .args .m) (S .args .table .now) (S .args .order .now) (S .args .stack .now),
+      refl,
     )
 
 advance-requires : tie.Need-advance-requires Inv-loop μ-loop
@@ -73,6 +74,7 @@ loop-again c =
       A .advance .kept .1 .1 .1 .1 .1 .0 ∙ L .loop .inv .3,
       λ left right o. ap (placedFrom left right (S .args .m) (L .loop .s) (S .args .m - L .loop .s)) (n .1 left right o)
           ∙ L .loop .inv .4 left right o,
+      n .2 ∙ L .loop .inv .5,
     )
 
 sub-sp : tie.Need-sub-sp Inv-loop μ-loop
@@ -116,6 +118,7 @@ loop-again-2 c =
       A .advance .kept .1 .1 .1 .1 .1 .0 ∙ L .loop .inv .3,
       λ left right o. ap (placedFrom left right (S .args .m) (L .loop .s) (S .args .m - L .loop .s)) (n .1 left right o)
           ∙ L .loop .inv .4 left right o,
+      n .2 ∙ L .loop .inv .5,
     )
 
 same-length : tie.Need-same-length Inv-loop μ-loop
@@ -139,7 +142,8 @@ same-length-3 c =
 returns : tie.Need-returns Inv-loop μ-loop
 returns c =
     let n = rw (c .enum-told3 .given .1) at (c .before .before .before .before .before .before .before .before .advance .ensures) in
-    (n .0, tt)
+    let L = c .before .before .before .before .before .before .before .before .before .before .before .before .before .before in
+    (n .0, tt, n .2 ∙ L .loop .inv .5)
 
 mul-if2 : tie.Need-mul-if2 Inv-loop μ-loop
 mul-if2 c = omega arith
@@ -189,6 +193,7 @@ loop-again-3 c =
       L .loop .inv .2,
       A .push .kept .1 .0 ∙ L .loop .inv .3,
       planned-push _ _ _ _ _ _ _ _ (L .loop .inv .0) _ _ (L .loop .inv .4) sm empty new _ (A .push .ensures .1),
+      L .loop .inv .5,
     )
 
 add-s : tie.Need-add-s Inv-loop μ-loop
@@ -209,6 +214,7 @@ loop-again-4 c =
       L .loop .inv .3,
       planned-skip _ _ _ _ _ _ _ _ (L .loop .inv .0) _ _ (L .loop .inv .4) (c .before .before .before .loop-test .taken)
           (c .before .before .if1 .left) (c .if2 .left),
+      L .loop .inv .5,
     )
 
 same-length-4 : tie.Need-same-length-4 Inv-loop μ-loop
@@ -225,6 +231,7 @@ returns-2 c =
     let L = c .before in (
       run-end _ _ _ _ _ _ _ _ (L .loop .inv .0) (c .loop-test .left),
       planned-end _ _ _ _ _ _ _ _ (L .loop .inv .0) _ _ (L .loop .inv .4) (c .loop-test .left),
+      L .loop .inv .5,
     )
 
 pub sort-spec : {M : Type 1} → statement M

@@ -8,7 +8,7 @@ use lib.Dec.{T}
 use Rattle.aiger.specs.Circuit.{usedDefined}
 use Rattle.meaning.proofs.Lists.{getD-zeros}
 use Rattle.layout.specs.Words.{circuitIn}
-use Rattle.variables.specs.Table.{Literals}
+use Rattle.variables.specs.Table.{Tested}
 use Rattle.variables.proofs.Causes.{uses-in, uses-out}
 use Rattle.variables.proofs.Wholes.{used-room}
 use Rattle.validity.proofs.Judging.{judged-six, judged-seven, judged-eight, judged-right}
@@ -17,7 +17,7 @@ use Rattle.validity.proofs.check.Tie as tie
 
 -- where cause 6 did not refuse
 six : (n : tie.Else1)
-    → Literals (n .before .before .before .before .before .before .args .w .now) (n .before .before .literals-right .last .1 .0) true
+    → Tested (n .before .before .before .before .before .before .args .w .now) (n .before .before .literals-right .last .1 .0) true
 six n =
     let A = n .before .before in
     rw (not-false (A .literals-right .result) (n .if1 .left)) at (A .literals-right .ensures)
@@ -39,8 +39,12 @@ literals-right-requires c κs =
 
 returns : tie.Need-returns
 returns c =
-    let A = c .before .before in
-    judged-six _ (rw (not-true (A .literals-right .result) (c .if1 .taken)) at (A .literals-right .ensures))
+    let D = c .before .before in
+    let T1 = D .before .before in
+    let A = T1 .before .before in (
+      judged-six _ ((rw (not-true (A .literals-right .result) (T1 .if1 .taken)) at (A .literals-right .ensures)) .0),
+      D .clear .ensures,
+    )
 
 used-defined-requires : tie.Need-used-defined-requires
 used-defined-requires c κs =
@@ -51,12 +55,16 @@ used-defined-requires c κs =
 
 returns-2 : tie.Need-returns-2
 returns-2 c =
-    let B = c .before in
+    let D = c .before .before in
+    let T2 = D .before .before in
+    let B = T2 .before in
     let N = B .before .before in
-    let A = N .before .before in
-    judged-seven _ (six N .0)
-    (λ t. (rw (not-true (B .used-defined .result) (c .if2 .taken)) at (B .used-defined .ensures))
-    (uses-out _ (A .literals-right .last .1 .0) (six N .1) t))
+    let A = N .before .before in (
+      judged-seven _ (six N .0)
+          (λ t. (rw (not-true (B .used-defined .result) (T2 .if2 .taken)) at (B .used-defined .ensures))
+          (uses-out _ (A .literals-right .last .1 .0) (six N .1) t)),
+      D .clear2 .ensures,
+    )
 
 ordered-requires : tie.Need-ordered-requires
 ordered-requires c κs =
@@ -69,7 +77,8 @@ returns-3 c =
     let D = c .before .before .before in
     let M = D .before .before .before in
     let N = M .before .before .before in
-    judged-eight _ (six N .0) (seven M) (rw (not-true (D .ordered .result) (c .if3 .taken)) at (D .ordered .ensures))
+    let eight = rw (not-true (D .ordered .result) (c .if3 .taken)) at (D .ordered .ensures) in
+    (judged-eight _ (six N .0) (seven M) (eight .0), eight .1)
 
 returns-4 : tie.Need-returns-4
 returns-4 c =
@@ -77,11 +86,12 @@ returns-4 c =
     let M = D .before .before .before in
     let N = M .before .before .before in
     let eight = rw (not-false (D .ordered .result) (c .if3 .left)) at (D .ordered .ensures) in
-    (judged-right _ (six N .0) (seven M) (eight .0), eight .1)
+    ((judged-right _ (six N .0) (seven M) (eight .0), eight .1), eight .2)
 
 pub check-spec : {M : Type 1} → statement M
 check-spec =
     tie.close
     (tie.spec
-    (λ c. search needs) literals-right-requires returns (λ c. search needs) used-defined-requires returns-2 (λ c. search needs)
-    ordered-requires (λ c. search needs) returns-3 (λ c. search needs) returns-4)
+    (λ c. search needs) literals-right-requires (λ c κs. search needs) (λ c. search needs) returns (λ c. search needs)
+    used-defined-requires (λ c κs. search needs) (λ c. search needs) returns-2 (λ c. search needs) ordered-requires (λ c. search needs)
+    returns-3 (λ c. search needs) returns-4)

@@ -1,34 +1,24 @@
--- `literals_right` meets its contract: its three passes are the tests of cause 6.
--- Assumes nothing.
-use Rattle.variables.proofs.Wholes.{literals-all}
-use Rattle.variables.proofs.Causes.{literals-definitions, literals-used}
-use borrow.Author.Tests.{not-true, not-false}
+-- `literals_right` meets its contract: where cause 6 refuses, the table is cleared, and it was so before. Assumes nothing.
 use borrow.Author.Needs.{needs}
+use Rattle.variables.proofs.Entries.{cleared-same}
 use Rattle.variables.proofs.literals_right.Statement.{statement}
 use Rattle.variables.proofs.literals_right.Tie as tie
 
 returns : tie.Need-returns
-returns c =
-    let A = c .before .before .before in
-    λ right. (rw (not-true (A .define-all .result) (c .if1 .taken)) at (A .define-all .ensures)) (literals-definitions _ right)
+returns c = rw (c .if1 .taken) at (c .before .before .before .test-literals .ensures)
 
 returns-2 : tie.Need-returns-2
 returns-2 c =
-    let A = c .before in
-    λ right. (rw (not-true (A .used-bounded .result) (c .if2 .taken)) at (A .used-bounded .ensures)) (literals-used _ right)
-
-returns-3 : tie.Need-returns-3
-returns-3 c =
-    let A = c .before .before .before .before .before .before in
-    let B = c .before .before in
-    literals-all _ (A .define-all .last .1 .0)
-    (rw (not-false (A .define-all .result) (c .before .before .before .if1 .left)) at (A .define-all .ensures))
-    (rw (not-false (B .used-bounded .result) (c .before .if2 .left)) at (B .used-bounded .ensures))
-    (c .resets .result) (c .resets .ensures)
+    let D = c .before .before in
+    let E = D .before .before in
+    let A = E .before .before .before in
+    let S = A .before .before .before .before in (
+      rw (E .if1 .left) at (A .test-literals .ensures),
+      cleared-same (S .args .table .now) (S .pre .1 .1) (A .test-literals .kept .1 .0) (D .clear .ensures),
+    )
 
 pub literals-right-spec : {M : Type 1} → statement M
 literals-right-spec =
     tie.close
     (tie.spec
-    (λ c κs. search needs) (λ c. search needs) returns (λ c κs. search needs) (λ c. search needs) returns-2 (λ c κs. search needs)
-    (λ c. search needs) returns-3)
+    (λ c κs. search needs) (λ c. search needs) returns (λ c κs. search needs) (λ c. search needs) returns-2)

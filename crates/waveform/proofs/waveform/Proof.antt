@@ -18,7 +18,7 @@ use Rattle.waveform.proofs.waveform.Statement.{statement}
 use Rattle.waveform.proofs.waveform.Tie as tie
 
 returns : tie.Need-returns
-returns c = Operated.noCircuit (rw (c .enum-told .given .1) at (c .before .before .before .held-in .ensures))
+returns c = Operated.noCircuit (rw (c .enum-told .given .1) at (c .before .before .before .held-in .ensures .0))
 
 -- after reading: the circuit that is held, and what was read
 module _ (r : tie.After-read-witness) where
@@ -35,7 +35,7 @@ module _ (r : tie.After-read-witness) where
   h = r .before .before .before .before .before
 
   holding : HeldIs m (h .held-in .last .1 .0) (held.Circuit (r .before .before .layout .given .0 .0))
-  holding = subst (HeldIs m (h .held-in .last .1 .0)) (r .before .before .layout .given .1) (h .held-in .ensures)
+  holding = subst (HeldIs m (h .held-in .last .1 .0)) (r .before .before .layout .given .1) (h .held-in .ensures .0)
 
   reading : WitnessRead (circuitIn m) text (r .read-witness .result)
   reading = r .read-witness .ensures (circuitIn m) (counts-of (holding .1) (holding .0))
