@@ -19,6 +19,11 @@ word-bound d = (
   omega (arith, d .earlier, d .larger, d .stored .sized .nodes, d .stored .sized .room),
 )
 
+-- and so do those of operands
+pub operands-bound : {work : List ℕ} {g : Graph} {a b : ℕ} → Operands work g a b → (a < 2 ^ 32) × (b < 2 ^ 32)
+operands-bound d =
+    (omega (arith, d .left, d .stored .sized .nodes, d .stored .sized .room), omega (arith, d .right, d .stored .sized .nodes, d .stored .sized .room))
+
 pub operands-swapped : {work : List ℕ} {g : Graph} {a b : ℕ} → Operands work g a b → Operands work g b a
 operands-swapped o = record { stored = o .stored; room = o .room; left = o .right; right = o .left }
 

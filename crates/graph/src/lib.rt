@@ -13,6 +13,9 @@ ghost use Rattle.nodes.specs.Store.{pairsOf};
 ghost use Rattle.nodes.specs.Edges.{edgeWord};
 ghost use Rattle.graph.specs.Stored.{Stored, emptyGraph, Enough, Operands, Conjoined, Proper, New, Twinless};
 
+// An edge as its word.
+struct Packed(u32);
+
 // A graph, and an edge of it.
 pub struct Made {
     pub graph: Graph,
@@ -111,13 +114,24 @@ fn make_ordered(work: &mut [u32], g: Graph, left: Edge, right: Edge) -> Made
     }
 }
 
+// The same of edges as words. It is called for every gate of a frame: a word is passed as one value, an edge as two.
+fn make_packed(work: &mut [u32], g: Graph, left: Packed, right: Packed) -> Made
+    requires { ⌜ Operands (now work) g (left .0) (right .0) ⌝ }
+    requires { ⌜ right .0 ≤ left .0 ⌝ }
+    ensures { λ r. ⌜ Conjoined (now (work .entry)) (now (work .exit)) g (left .0) (right .0) r ⌝ }
+{
+    make_ordered(work, g, Edge::from_word(left.0), Edge::from_word(right.0))
+}
+
 // The conjunction of two edges.
 pub fn make(work: &mut [u32], g: Graph, a: Edge, b: Edge) -> Made
     requires { ⌜ Operands (now work) g (edgeWord a) (edgeWord b) ⌝ }
     ensures { λ r. ⌜ Conjoined (now (work .entry)) (now (work .exit)) g (edgeWord a) (edgeWord b) r ⌝ }
 {
-    if a.word() < b.word() {
-        return make_ordered(work, g, b, a);
+    let p = a.word() as u32;
+    let q = b.word() as u32;
+    if p < q {
+        return make_packed(work, g, Packed(q), Packed(p));
     }
-    make_ordered(work, g, a, b)
+    make_packed(work, g, Packed(p), Packed(q))
 }
