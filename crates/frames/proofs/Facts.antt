@@ -1,10 +1,11 @@
 -- What a circuit in memory says of the memory's words: counts, where each part stands, and the variables' bounds. Assumes nothing.
-use mathlib.Core.Path.{_≡_, refl, sym, ap, _∙_, subst}
+use mathlib.Core.Path.{_≡_, refl, sym, ap, ap₂, _∙_, subst}
 use mathlib.Core.List.{List, Memᴰ·append-left, List·Memᴰ}
 use Prim.Native.Nat.{ℕ, _+_, _*_, _≤_, _<_}
 use native.Mathlib.Omega.{arith}
 use lib.Dec.{T, leb, leb→le}
-use lib.ListN.{length, getD, length-map, List·getD-map}
+use lib.ListN.{length, getD, drop, length-map, length-drop, List·getD-map}
+use lib.Seq.{getD-drop}
 use Rattle.aiger.specs.Circuit.{Circuit, Latch, Gate, var, defined, used, literalTests, literalsRight, usedDefined, acyclic}
 use Rattle.aiger.specs.Memory.{Holds}
 use Rattle.aiger.proofs.Tests.{T-true, all-at}
@@ -92,6 +93,28 @@ module _ {m : List ℕ} (h : Holds m (circuitIn m)) where
   known-small v (input i l e) = omega (arith, defined-small _ (input-in c i l))
   known-small v (latch j l e) = omega (arith, defined-small _ (latch-in c j l))
   known-small v (gate i l e) = omega (arith, defined-small _ (gate-in c i l))
+
+-- ---- the words of a part of the memory are those of the memory
+module _ (m : List ℕ) (from : ℕ) where
+  rest-word : (i k : ℕ) → word (drop from m) (i + k) ≡ word m (from + i + k)
+  rest-word i k = let e : from + (i + k) ≡ from + i + k = omega arith in getD-drop from m (i + k) 0 ∙ ap (word m) e
+
+  rest-first : (i : ℕ) → word (drop from m) i ≡ word m (from + i)
+  rest-first i = getD-drop from m i 0
+
+  pub rest-gate : (i : ℕ) → gateIn (drop from m) i ≡ gateIn m (from + i)
+  rest-gate i =
+      ap (λ (x : ℕ). record { lit = x; left = word (drop from m) (i + 1); right = word (drop from m) (i + 2) }) (rest-first i)
+      ∙ ap₂ (λ (x y : ℕ). record { lit = word m (from + i); left = x; right = y }) (rest-word i 1) (rest-word i 2)
+
+  pub rest-room : (i count : ℕ) → GateRoom m (from + i) count → GateRoom (drop from m) i count
+  rest-room i count g =
+      record {
+        inside = omega (arith, g .inside, length-drop from m);
+        lit = subst (λ (x : ℕ). var x < count) (sym (rest-first i)) (g .lit);
+        left = subst (λ (x : ℕ). var x < count) (sym (rest-word i 1)) (g .left);
+        right = subst (λ (x : ℕ). var x < count) (sym (rest-word i 2)) (g .right);
+      }
 
 -- ---- a circuit that is ready
 module _ {m : List ℕ} {layout : Layout} {order : List ℕ} {count : ℕ} (r : Ready m layout order count) where

@@ -41,10 +41,11 @@ pub fn eval_gates(m: &[u32], layout: Layout, order: &[u32], values: &mut [u64])
 {
     let count = layout.a;
     let gates = layout.gates;
+    let table = &m[gates..];
     let mut k = 0;
     while k < count {
         let g = order[k] as usize;
-        eval_gate(m, gates + 3 * g, values);
+        eval_gate(table, 3 * g, values);
         k += 1;
     }
 }
@@ -78,7 +79,7 @@ pub fn bad_word(m: &[u32], layout: Layout, order: &[u32], b: usize, values: &[u6
 }
 
 // The words of the next literals.
-pub fn next_state(m: &[u32], layout: Layout, values: &[u64], state: &mut [u64])
+fn next_state(m: &[u32], layout: Layout, values: &[u64], state: &mut [u64])
     requires { ⌜ (layout .latches + 3 * layout .l ≤ length (now m)) × (layout .l ≤ length (now state)) ⌝ }
     requires { ⌜ ((j : ℕ) → j < layout .l → var (word (now m) (layout .latches + 3 * j + 1)) < length (now values)) ⌝ }
     ensures { λ _. ⌜
