@@ -2,8 +2,8 @@
 use mathlib.Core.Path.{_≡_, refl, sym, ap, ap₂, _∙_}
 use mathlib.Core.Bool.{Bool, true, false, _&&_}
 use mathlib.Core.List.{List}
-use Prim.Native.Nat.{ℕ, _+_, _*_, _/_, _≤_, _<_}
-use native.Mathlib.Nat.{mod-lt}
+use Prim.Native.Nat.{ℕ, _+_, _*_, _/_, _≤_, _<_, _%_}
+use native.Mathlib.Nat.{mul-le-mul-right}
 use native.Mathlib.Decide.{ℕ-discrete}
 use native.Mathlib.Omega.{arith}
 use borrow.Author.Tests.{leb-true, eqb-true, le-leb, lt-leb, eq-eqb, ne-eqb}
@@ -25,9 +25,13 @@ and-second : (a b : Bool) → (a && b) ≡ true → b ≡ true
 and-second true b h = h
 and-second false b h = absurd (let z : _≡_ {A = ℕ} 0 1 = cc in omega arith)
 
+-- a part of 2^32 that is less than all of it gives less than all of n
+pub part-below : (x n : ℕ) → x < 4294967296 → 0 < n → x * n / 4294967296 < n
+part-below x n l h = omega (arith, mul-le-mul-right {m = x} {n = 4294967295} n (omega arith))
+
 pub bucketOf-lt : (room left right : ℕ) → 0 < room → bucketOf room left right < room
 unfolding bucketOf
-bucketOf-lt room left right h = mod-lt ((left * 1327217885 + right * 889516853) / 65536) h
+bucketOf-lt room left right h = part-below ((left * 1327217885 + right * 889516853) % 4294967296) room (omega arith) h
 
 module _ (work : List ℕ) (g : Graph) where
   pub pair-gate : (left right k : ℕ) → isPair work g left right k ≡ true → g .free + 1 ≤ k

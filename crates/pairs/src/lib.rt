@@ -6,7 +6,7 @@ use nodes::PAIR_BEFORE;
 use nodes::PAIR_LAST;
 use nodes::RIGHT;
 ghost use mathlib.Core.Path.{_≡_};
-ghost use Prim.Native.Nat.{_+_, _*_, _<_, _^_};
+ghost use Prim.Native.Nat.{_+_, _*_, _<_, _^_, _≤_};
 ghost use lib.ListN.{length};
 ghost use Rattle.nodes.specs.Store.{field, oneMore};
 ghost use Rattle.nodes.specs.Edges.{edgeWord};
@@ -23,12 +23,12 @@ pub enum Lookup {
 
 // The bucket of a pair of operands.
 fn bucket(room: usize, left: Edge, right: Edge) -> usize
-    requires { ⌜ 0 < room ⌝ }
+    requires { ⌜ (0 < room) × (room ≤ 65536) ⌝ }
     requires { ⌜ (edgeWord left < 2 ^ 32) × (edgeWord right < 2 ^ 32) ⌝ }
     ensures { λ r. ⌜ (r ≡ bucketOf room (edgeWord left) (edgeWord right)) × (r < room) ⌝ }
 {
     let sum = left.word() * 1327217885 + right.word() * 889516853;
-    (sum / 65536 % (room as u64)) as usize
+    (sum % 4294967296 * (room as u64) / 4294967296) as usize
 }
 
 // Word f of the record of node k.

@@ -10,7 +10,7 @@ use Rattle.pairs.proofs.append_pair.Statement.{statement}
 use Rattle.pairs.proofs.append_pair.Tie as tie
 
 bucket-requires : tie.Need-bucket-requires
-bucket-requires c κs = let s = c .before in (omega (arith, s .pre .0 .room), s .pre .1)
+bucket-requires c κs = let s = c .before in ((omega (arith, s .pre .0 .room), s .pre .0 .sized .room), s .pre .1)
 
 cast-work : tie.Need-cast-work
 cast-work c = omega (arith, c .word .ensures, c .before .before .before .pre .1 .0)

@@ -24,7 +24,7 @@ walk : (c : tie.In-loop Inv-loop μ-loop)
 walk c = c .before .loop .inv (c .before .before .before .before .before .args .g) (c .before .before .before .before .before .pre .0) refl
 
 bucket-requires : tie.Need-bucket-requires Inv-loop μ-loop
-bucket-requires c κs = let s = c .before in (omega (arith, s .pre .0 .sized .leaves, s .pre .0 .sized .nodes), s .pre .1)
+bucket-requires c κs = let s = c .before in ((omega (arith, s .pre .0 .sized .leaves, s .pre .0 .sized .nodes), s .pre .0 .sized .room), s .pre .1)
 
 word-requires : tie.Need-word-requires Inv-loop μ-loop
 word-requires c κs = omega arith
