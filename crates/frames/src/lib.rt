@@ -34,7 +34,18 @@ fn eval_gate(m: &[u32], at: usize, values: &mut [u64])
     values[place] = x & y;
 }
 
-// Evaluates all gates, where the constant, the inputs and the latches have their words.
+// Evaluates the gate that stands at place k of the order, where the table begins with the first gate.
+fn eval_place(table: &[u32], order: &[u32], k: usize, values: &mut [u64])
+    requires { ⌜ (k < length (now order)) × (getD (now order) k 0 < 3072) ⌝ }
+    requires { ⌜ GateRoom (now table) (3 * getD (now order) k 0) (length (now values)) ⌝ }
+    ensures { λ _. ⌜ Gated (gateIn (now (table .entry)) (3 * getD (now (order .entry)) k 0)) (now (values .entry)) (now (values .exit)) ⌝ }
+{
+    let g = order[k] as usize;
+    eval_gate(table, 3 * g, values);
+}
+
+// Evaluates all gates, where the constant, the inputs and the latches have their words. A turn of the loop is two gates, since counting
+// costs a seventh of a gate.
 pub fn eval_gates(m: &[u32], layout: Layout, order: &[u32], values: &mut [u64])
     requires { ⌜ Ready (now m) layout (now order) (length (now values)) ⌝ }
     ensures { λ _. ⌜ Evaluated (circuitIn (now (m .entry))) (now (values .entry)) (now (values .exit)) ⌝ }
@@ -43,10 +54,13 @@ pub fn eval_gates(m: &[u32], layout: Layout, order: &[u32], values: &mut [u64])
     let gates = layout.gates;
     let table = &m[gates..];
     let mut k = 0;
-    while k < count {
-        let g = order[k] as usize;
-        eval_gate(table, 3 * g, values);
-        k += 1;
+    while k + 1 < count {
+        eval_place(table, order, k, values);
+        eval_place(table, order, k + 1, values);
+        k += 2;
+    }
+    if k < count {
+        eval_place(table, order, k, values);
     }
 }
 
@@ -116,7 +130,7 @@ fn put_state(m: &[u32], layout: Layout, state: &[u64], values: &mut [u64])
     }
 }
 
-// Gives each latch the word of its next literal, all of them read before the first is written. state is scratch.
+// Gives each latch the word of its next literal, all of them read before the first is written. What state holds afterwards is left open.
 pub fn advance(m: &[u32], layout: Layout, order: &[u32], values: &mut [u64], state: &mut [u64])
     requires { ⌜ Ready (now m) layout (now order) (length (now values)) ⌝ }
     requires { ⌜ 1024 ≤ length (now state) ⌝ }

@@ -1,5 +1,5 @@
 -- `frames::eval_gates` meets its contract. Assumes nothing.
-use mathlib.Core.Path.{_≡_, sym, subst, _∙_}
+use mathlib.Core.Path.{_≡_, refl, sym, subst, _∙_}
 use mathlib.Core.List.{List}
 use Prim.Native.Nat.{ℕ, _+_, _-_, _*_, _≤_, _<_}
 use native.Mathlib.Omega.{arith}
@@ -22,31 +22,40 @@ Inv-loop m order values₀ count gates table k₀ values k = (k ≤ count) × Up
 abbrev μ-loop : tie.MeasureT-loop
 μ-loop m order values₀ count gates table k₀ values k = count - k
 
--- before the loop: the entry
+-- the entry, before a turn
 abbrev first : tie.At-loop Inv-loop μ-loop → tie.Start Inv-loop μ-loop
 first c = c .before .before .before .before .before
 
--- in a turn: the gate that the order names, and that each gate can be evaluated
-module _ (c : tie.In-loop Inv-loop μ-loop) where
-  abbrev S : tie.Start Inv-loop μ-loop
-  S = first (c .before)
+-- the gate at place k of the order: it can be evaluated, and then one gate more is
+module _ (c : tie.At-loop Inv-loop μ-loop) (k : ℕ) (l : k < first c .args .layout .a) where
+  abbrev m : List ℕ
+  m = first c .args .m .now
 
-  abbrev g : ℕ
-  g = getD (S .args .order .now) (c .before .loop .k) 0
+  abbrev order : List ℕ
+  order = first c .args .order .now
 
   abbrev table : List ℕ
-  table = drop (S .args .layout .gates) (S .args .m .now)
+  table = drop (first c .args .layout .gates) m
 
-  named : g < S .args .layout .a
-  named = omega (arith, gates-are (S .pre), S .pre .ordered .gate (c .before .loop .k) (omega (arith, gates-are (S .pre))))
+  abbrev g : ℕ
+  g = getD order k 0
 
-  room : GateRoom table (3 * g) (length (c .before .loop .values))
-  room =
-      rest-room (S .args .m .now) (S .args .layout .gates) (3 * g) _
-      (subst (GateRoom (S .args .m .now) (S .args .layout .gates + 3 * g)) (sym (c .before .loop .inv .1 .size)) (gate-room (S .pre) g named))
+  named : g < first c .args .layout .a
+  named = omega (arith, gates-are (first c .pre), first c .pre .ordered .gate k (omega (arith, gates-are (first c .pre))))
 
-  place : gateIn table (3 * g) ≡ gateAt (circuitIn (S .args .m .now)) g
-  place = rest-gate (S .args .m .now) (S .args .layout .gates) (3 * g) ∙ sym (gate-place (S .pre) g named)
+  room : (values : List ℕ) → length values ≡ length (first c .args .values .now) → GateRoom table (3 * g) (length values)
+  room values e =
+      rest-room m (first c .args .layout .gates) (3 * g) _
+      (subst (GateRoom m (first c .args .layout .gates + 3 * g)) (sym e) (gate-room (first c .pre) g named))
+
+  place : gateIn table (3 * g) ≡ gateAt (circuitIn m) g
+  place = rest-gate m (first c .args .layout .gates) (3 * g) ∙ sym (gate-place (first c .pre) g named)
+
+  more : (mid after : List ℕ) → length after ≡ length mid → Upto (circuitIn m) order k (first c .args .values .now) mid
+      → Gated (gateIn table (3 * g)) mid after → Upto (circuitIn m) order (k + 1) (first c .args .values .now) after
+  more mid after size u e =
+      upto-more (right (first c .pre .held)) (first c .pre .ordered) k (omega (arith, gates-are (first c .pre))) _ mid after size u
+      (subst (λ (y : Gate). Gated y mid after) place e)
 
 mul-table : tie.Need-mul-table Inv-loop μ-loop
 mul-table c =
@@ -67,52 +76,105 @@ loop-holds c =
       take-rest (S .args .m .now) (S .args .layout .gates),
     )
 
-mul-g : tie.Need-mul-g Inv-loop μ-loop
-mul-g c = omega (arith, gates-few (S c .pre))
+add-loop : tie.Need-add-loop Inv-loop μ-loop
+add-loop c = omega (arith, gates-few (first c .pre), c .loop .inv .0)
 
-shared-slice-read-g : tie.Need-shared-slice-read-g Inv-loop μ-loop
-shared-slice-read-g c = omega (arith, gates-few (S (c .before) .pre), S (c .before) .pre .ranks)
+-- what the gate at place k needs, where the table is as it was and the values are so many
+asks : (c : tie.At-loop Inv-loop μ-loop) (k : ℕ) → k < first c .args .layout .a → (values : List ℕ)
+    → length values ≡ length (first c .args .values .now) → (t : List ℕ) → t ≡ drop (first c .args .layout .gates) (first c .args .m .now)
+    → ((k < length (first c .args .order .now)) × (getD (first c .args .order .now) k 0 < 3072))
+    × GateRoom t (3 * getD (first c .args .order .now) k 0) (length values)
+asks c k l values e t z = (
+  (omega (arith, gates-few (first c .pre), first c .pre .ranks), omega (arith, named c k l, gates-few (first c .pre))),
+  subst (λ (u : List ℕ). GateRoom u (3 * getD (first c .args .order .now) k 0) (length values)) (sym z) (room c k l values e),
+)
 
-cast-g : tie.Need-cast-g Inv-loop μ-loop
-cast-g c = omega (arith, named (c .before), gates-few (S (c .before) .pre))
+eval-place-requires : tie.Need-eval-place-requires Inv-loop μ-loop
+eval-place-requires c κs =
+    let a = c .before .before in
+    asks a (a .loop .k) (omega (arith, c .before .loop-test .taken)) (a .loop .values) (a .loop .inv .1 .size) _ (a .loop .inv .2)
 
-mul-eval-gate : tie.Need-mul-eval-gate Inv-loop μ-loop
-mul-eval-gate c = omega (arith, named (c .before), gates-few (S (c .before) .pre))
+-- after the first gate of a turn
+module _ (e : tie.After-eval-place Inv-loop μ-loop) where
+  abbrev A : tie.At-loop Inv-loop μ-loop
+  A = e .before .before .before
 
-eval-gate-requires : tie.Need-eval-gate-requires Inv-loop μ-loop
-eval-gate-requires c κs =
-    let I = c .before .before in
-    subst (λ (t : List ℕ). GateRoom t (3 * g I) (length (I .before .loop .values))) (sym (I .before .loop .inv .2)) (room I)
+  abbrev now : List ℕ
+  now = e .eval-place .last .1 .1 .1 .0
+
+  low : A .loop .k + 1 < first A .args .layout .a
+  low = e .before .before .loop-test .taken
+
+  one : Upto (circuitIn (first A .args .m .now)) (first A .args .order .now) (A .loop .k + 1) (first A .args .values .now) now
+  one =
+      more A (A .loop .k) (omega (arith, low)) (A .loop .values) now (e .eval-place .kept .1 .1 .1 .0) (A .loop .inv .1)
+      (subst (λ (t : List ℕ). Gated (gateIn t (3 * getD (first A .args .order .now) (A .loop .k) 0)) (A .loop .values) now) (A .loop .inv .2) (e .eval-place .ensures))
+
+eval-place-requires-2 : tie.Need-eval-place-requires-2 Inv-loop μ-loop
+eval-place-requires-2 c κs =
+    let e = c .before .before .before in
+    asks (A e) (A e .loop .k + 1) (low e) (now e) (one e .size) _ (A e .loop .inv .2)
 
 loop-again : tie.Need-loop-again Inv-loop μ-loop
 loop-again c =
-    let I = c .before .before .before .before .before in
-    let L = I .before .loop in
-    let T = S I in
-    let r = T .pre in
-    let E = c .before .before .eval-gate in
-    let x = subst (λ (t : List ℕ). gateIn t (3 * g I) ≡ gateAt (circuitIn (T .args .m .now)) (g I)) (sym (L .inv .2)) (place I) in (
-      omega arith,
-      upto-more (right (r .held)) (r .ordered) (L .k) (omega (arith, gates-are r)) (T .args .values .now) (L .values) (E .last .1 .1 .0)
-          (E .kept .1 .1 .0) (L .inv .1) (subst (λ (y : Gate). Gated y (L .values) (E .last .1 .1 .0)) x (E .ensures)),
-      L .inv .2,
+    let f = c .before .before in
+    let e = f .before .before .before .before in
+    let a = A e in
+    let after = f .eval-place2 .last .1 .1 .1 .0 in
+    let l : a .loop .k + 1 + 1 ≡ a .loop .k + 2 = omega arith in (
+      omega (arith, low e),
+      subst (λ (k : ℕ). Upto (circuitIn (first a .args .m .now)) (first a .args .order .now) k (first a .args .values .now) after) l
+          (more a (a .loop .k + 1) (low e) (now e) after (f .eval-place2 .kept .1 .1 .1 .0) (one e)
+          (subst (λ (t : List ℕ). Gated (gateIn t (3 * getD (first a .args .order .now) (a .loop .k + 1) 0)) (now e) after) (a .loop .inv .2)
+          (f .eval-place2 .ensures))),
+      a .loop .inv .2,
     )
 
+eval-place-requires-3 : tie.Need-eval-place-requires-3 Inv-loop μ-loop
+eval-place-requires-3 c κs =
+    let a = c .before .before .before in
+    asks a (a .loop .k) (c .before .if1 .taken) (a .loop .values) (a .loop .inv .1 .size) _ (a .loop .inv .2)
+
+-- all gates, where so many are evaluated
+ended : (c : tie.At-loop Inv-loop μ-loop) (k : ℕ) (after : List ℕ) → k ≡ first c .args .layout .a
+    → Upto (circuitIn (first c .args .m .now)) (first c .args .order .now) k (first c .args .values .now) after
+    → Upto (circuitIn (first c .args .m .now)) (first c .args .order .now) (length (circuitIn (first c .args .m .now) .gates)) (first c .args .values .now) after
+ended c k after e u =
+    subst (λ (n : ℕ). Upto (circuitIn (first c .args .m .now)) (first c .args .order .now) n (first c .args .values .now) after)
+    (e ∙ gates-are (first c .pre)) u
+
+-- after the gate that is left over
+module _ (f : tie.After-eval-place3 Inv-loop μ-loop) where
+  abbrev B : tie.At-loop Inv-loop μ-loop
+  B = f .before .before .before .before
+
+  last-one : Upto (circuitIn (first B .args .m .now)) (first B .args .order .now) (B .loop .k + 1) (first B .args .values .now) (f .eval-place3 .last .1 .1 .1 .0)
+  last-one =
+      more B (B .loop .k) (f .before .before .if1 .taken) (B .loop .values) _ (f .eval-place3 .kept .1 .1 .1 .0) (B .loop .inv .1)
+      (subst (λ (t : List ℕ). Gated (gateIn t (3 * getD (first B .args .order .now) (B .loop .k) 0)) (B .loop .values) (f .eval-place3 .last .1 .1 .1 .0)) (B .loop .inv .2) (f .eval-place3 .ensures))
+
 same-length : tie.Need-same-length Inv-loop μ-loop
-same-length c = c .before .loop .inv .1 .size
+same-length c = last-one (c .before .before) .size
 
 returns : tie.Need-returns Inv-loop μ-loop
 returns c =
-    let L = c .before .loop in
-    let T = first (c .before) in
-    let m = T .args .m .now in
-    let e : L .k ≡ length (circuitIn m .gates) = omega (arith, gates-are (T .pre)) in
-    upto-end (right (T .pre .held)) (T .pre .ordered)
-    (subst (λ (k : ℕ). Upto (circuitIn m) (T .args .order .now) k (T .args .values .now) (L .values)) e (L .inv .1))
+    let f = c .before .before in
+    let a = B f in
+    let e : a .loop .k + 1 ≡ first a .args .layout .a = omega arith in
+    upto-end (right (first a .pre .held)) (first a .pre .ordered) (ended a _ _ e (last-one f))
+
+same-length-2 : tie.Need-same-length-2 Inv-loop μ-loop
+same-length-2 c = c .before .before .loop .inv .1 .size
+
+returns-2 : tie.Need-returns-2 Inv-loop μ-loop
+returns-2 c =
+    let a = c .before .before in
+    let e : a .loop .k ≡ first a .args .layout .a = omega arith in
+    upto-end (right (first a .pre .held)) (first a .pre .ordered) (ended a _ _ e (a .loop .inv .1))
 
 pub eval-gates-spec : {M : Type 1} → statement M
 eval-gates-spec =
     tie.close
     (tie.spec
-    Inv-loop μ-loop mul-table sub-table part-table-start (λ c. search needs) loop-holds mul-g shared-slice-read-g cast-g mul-eval-gate
-    eval-gate-requires (λ c. search needs) (λ c. search needs) loop-again same-length returns)
+    Inv-loop μ-loop mul-table sub-table part-table-start (λ c. search needs) loop-holds add-loop eval-place-requires (λ c. search needs)
+    eval-place-requires-2 (λ c. search needs) (λ c. search needs) loop-again eval-place-requires-3 same-length returns same-length-2 returns-2)
