@@ -1,6 +1,7 @@
 // The sections of a binary AIGER file that differ from those of the text form: inputs without lines, latch lines without the latch's
 // literal, and gates by differences.
 use differences::Difference;
+use lines::Form;
 use lines::Rows;
 ghost use mathlib.Core.Path.{_≡_};
 ghost use mathlib.Core.List.{_++_};
@@ -57,7 +58,12 @@ pub fn read_latches(
     let mut left = n;
     while 0 < left {
         out[to] = 2 * var;
-        match lines::read_line(s, next, 1, 2, limit, out, to + 1) {
+        let form = Form {
+            least: 1,
+            most: 2,
+            limit,
+        };
+        match lines::read_line(s, next, form, out, to + 1) {
             Rows::Read(after, ok) => {
                 next = after;
                 fits = fits & ok;

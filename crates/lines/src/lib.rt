@@ -19,6 +19,13 @@ pub enum Rows {
     Malformed,
 }
 
+// The form of a line: how many numbers it has at least and at most, and the limit of each.
+pub struct Form {
+    pub least: usize,
+    pub most: usize,
+    pub limit: u32,
+}
+
 // Reads a line of 1 to most numbers into the front of buf. Of a malformed line, the numbers before the malformed place are left there.
 pub fn read_row(s: &[u8], at: usize, most: usize, buf: &mut [u64]) -> Row
     requires { ⌜ most ≤ length (now buf) ⌝ }
@@ -74,61 +81,44 @@ fn store_words(words: &[u64], most: usize, limit: u32, out: &mut [u32], from: us
     fits
 }
 
-// Reads a line of least to most numbers, and stores it as most words, missing numbers as 0. Of a malformed line nothing is stored.
-pub fn read_line(
-    s: &[u8],
-    at: usize,
-    least: usize,
-    most: usize,
-    limit: u32,
-    out: &mut [u32],
-    from: usize,
-) -> Rows
-    requires { ⌜ most ≤ 3 ⌝ }
-    requires { ⌜ from + most ≤ length (now out) ⌝ }
-    ensures { λ r. ⌜ LineAt (now (s .entry)) at least most limit (now (out .entry)) from (now (out .exit)) r ⌝ }
+// Reads a line of a form, and stores it as the form's most words, missing numbers as 0. Of a malformed line nothing is stored.
+pub fn read_line(s: &[u8], at: usize, form: Form, out: &mut [u32], from: usize) -> Rows
+    requires { ⌜ form .most ≤ 3 ⌝ }
+    requires { ⌜ from + form .most ≤ length (now out) ⌝ }
+    ensures { λ r. ⌜ LineAt (now (s .entry)) at (form .least) (form .most) (form .limit) (now (out .entry)) from (now (out .exit)) r ⌝ }
 {
     let mut words = [0u64; 3];
-    match read_row(s, at, most, &mut words) {
+    match read_row(s, at, form.most, &mut words) {
         Row::Read(count, next) => {
-            if count < least {
+            if count < form.least {
                 return Rows::Malformed;
             }
-            let fits = store_words(&words, most, limit, out, from);
+            let fits = store_words(&words, form.most, form.limit, out, from);
             Rows::Read(next, fits)
         }
         Row::Malformed => Rows::Malformed,
     }
 }
 
-// Reads n lines of least to most numbers, and stores each as most words from word from of out on. Those before a malformed line are
-// stored.
-pub fn read_rows(
-    s: &[u8],
-    at: usize,
-    least: usize,
-    most: usize,
-    n: usize,
-    limit: u32,
-    out: &mut [u32],
-    from: usize,
-) -> Rows
+// Reads n lines of a form, and stores each as the form's most words from word from of out on. Those before a malformed line are stored.
+pub fn read_rows(s: &[u8], at: usize, n: usize, form: Form, out: &mut [u32], from: usize) -> Rows
     requires { ⌜ at ≤ length (now s) ⌝ }
-    requires { ⌜ most ≤ 3 ⌝ }
-    requires { ⌜ from + n * most ≤ length (now out) ⌝ }
-    ensures { λ r. ⌜ RowsAt (now (s .entry)) at least most n limit (now (out .entry)) from (now (out .exit)) r
-        × (now (out .exit) ≡ sets (now (out .entry)) from (rowsLeft least most limit n (drop at (now (s .entry))))) ⌝ }
+    requires { ⌜ form .most ≤ 3 ⌝ }
+    requires { ⌜ from + n * form .most ≤ length (now out) ⌝ }
+    ensures { λ r. ⌜ RowsAt (now (s .entry)) at (form .least) (form .most) n (form .limit) (now (out .entry)) from (now (out .exit)) r
+        × (now (out .exit)
+        ≡ sets (now (out .entry)) from (rowsLeft (form .least) (form .most) (form .limit) n (drop at (now (s .entry))))) ⌝ }
 {
     let mut next = at;
     let mut fits = true;
     let mut to = from;
     let mut left = n;
     while 0 < left {
-        match read_line(s, next, least, most, limit, out, to) {
+        match read_line(s, next, form, out, to) {
             Rows::Read(after, ok) => {
                 next = after;
                 fits = fits & ok;
-                to += most;
+                to += form.most;
                 left -= 1;
             }
             Rows::Malformed => {

@@ -2,148 +2,58 @@
 -- stored. Assumes nothing.
 use mathlib.Core.Path.{_≡_, refl, sym, ap, ap₂, _∙_, subst}
 use mathlib.Core.Bool.{Bool, true, false, _&&_}
-use mathlib.Core.List.{List, [], _∷_, _++_, map, append-assoc}
-use mathlib.Core.Option.{Option, none, some}
-use Prim.Native.Nat.{ℕ, zero, suc, _+_, _*_, _≤_}
+use mathlib.Core.List.{List, [], _∷_, _++_, map}
+use mathlib.Core.Option.{none}
+use Prim.Native.Nat.{ℕ, suc, _+_, _*_, _≤_}
 use native.Mathlib.Omega.{arith}
 use lib.Dec.{T, leb, leb→le}
 use lib.ListN.{length, getD, take, drop, length-append, length-map, take-append-drop}
-use lib.Seq.{take-at}
+use lib.Seq.{take-at, slice}
 use Rattle.aiger.specs.Lists.{every}
-use Rattle.aiger.specs.Text.{row, rows, when, _>>=_, _>>_}
+use Rattle.aiger.specs.Text.{rows}
 use Rattle.aiger.specs.Circuit.{Circuit, Gate, literalsRight}
 use Rattle.aiger.specs.File.{Header, isTail, first}
 use Rattle.aiger.specs.Binary.{implied, latchesFrom, gatesFrom}
 use Rattle.aiger.specs.Load as load
-use Rattle.aiger.specs.Load.{Answer, refused, gives, read, binaryBody, sections}
+use Rattle.aiger.specs.Load.{Answer, refused, gives, read, test, binaryBody, sections}
 use Rattle.aiger.specs.Write.{countRow}
 use Rattle.aiger.specs.Memory.{content, latchWords, gateWords}
-use Rattle.aiger.proofs.Tests.{and, and-left, and-right, T-true, true-T}
-use Rattle.roundtrip.proofs.LoadValid.{some-bind, some-same, rows-length, implied-length, latches-length, gates-length}
+use Rattle.aiger.proofs.Tests.{and, and-left, and-right, true-T}
+use Rattle.roundtrip.proofs.LoadValid.{rows-length, implied-length, latches-length, gates-length}
 use Rattle.roundtrip.proofs.Content.{words-take}
 use Rattle.layout.specs.Words.{contentEnd}
 use Rattle.layout.specs.declared.Layout.{Layout}
 use Rattle.layout.specs.Layout.{PlacesOf}
-use Rattle.lines.specs.Lines.{padded, flat, within, RowsRead}
-use Rattle.lines.proofs.Storing.{every-append, within-padded}
+use Rattle.layout.specs.Table.{table, Chained}
+use Rattle.lines.specs.Lines.{flat, within}
+use Rattle.lines.proofs.Storing.{within-padded}
 use Rattle.binary.specs.Sections.{LatchesRead, GatesRead}
 use Rattle.binary.proofs.Latches as latches
 use Rattle.binary.proofs.Differences as gates
 use Rattle.sections.specs.Sections.{headerAt}
+use Rattle.sections.specs.Spans.{Runs, Stops}
 use Rattle.sections.proofs.Literals.{literals-within}
-use Rattle.sections.proofs.Lines.{Begins, short, rows-short, lines-length, run-fits, run-begins, past, run-past, flat-ones}
-use Rattle.sections.proofs.Parts.{headerIn, layout-header, unlike, not-so, two, moved}
-
--- ---- one run of lines for two
-
-abbrev Run : Type 0
-Run = List (List ℕ) × List ℕ
-
--- a run with rows before it, and with one row before it
-abbrev led : List (List ℕ) → Run → Option Run
-led rs q = some (rs ++ q .0, q .1)
-
-abbrev consed : List ℕ → Run → Option Run
-consed r q = some (r ∷ q .0, q .1)
-
--- a run after another
-abbrev after : Option Run → (List ℕ → Option Run) → Option Run
-after o f = o >>= λ r. f (r .1) >>= led (r .0)
-
-after-none : (o : Option Run) → o ≡ (o >>= led [])
-after-none none = refl
-after-none (some q) = refl
-
-after-one : (r : List ℕ) (o : Option Run) (f : List ℕ → Option Run)
-    → (after o f >>= consed r) ≡ after (o >>= consed r) f
-after-one r none f = refl
-after-one r (some q) f = go (f (q .1))
-  where
-    go : (p : Option Run) → ((p >>= led (q .0)) >>= consed r) ≡ (p >>= led (r ∷ q .0))
-    go none = refl
-    go (some x) = refl
-
-rows-step : (least most a b : ℕ) (g : List ℕ → Option Run) (o : Option (List ℕ × List ℕ))
-    → ((f : List ℕ) → g f ≡ after (rows least most a f) (rows least most b))
-    → (o >>= λ r. when (leb least (length (r .0))) >> (g (r .1) >>= consed (r .0)))
-    ≡ after (o >>= λ r. when (leb least (length (r .0))) >> (rows least most a (r .1) >>= consed (r .0))) (rows least most b)
-rows-step least most a b g none k = refl
-rows-step least most a b g (some r) k = go (leb least (length (r .0)))
-  where
-    go : (t : Bool)
-        → (when t >> (g (r .1) >>= consed (r .0)))
-        ≡ after (when t >> (rows least most a (r .1) >>= consed (r .0))) (rows least most b)
-    go true = rw (k (r .1)) (after-one (r .0) (rows least most a (r .1)) (rows least most b))
-    go false = refl
-
-rows-add : (least most a b n : ℕ) (f : List ℕ) → n ≡ a + b → rows least most n f ≡ after (rows least most a f) (rows least most b)
-unfolding rows
-rows-add least most zero b n f e =
-    let z : n ≡ b = omega arith in
-    rw z (after-none (rows least most b f))
-rows-add least most (suc a) b n f e =
-    let z : n ≡ suc (a + b) = omega arith in
-    rw z (rows-step least most a b (rows least most (a + b)) (row most f) (λ g. rows-add least most a b (a + b) g refl))
-
--- three runs of one literal a line
-pub record Roots (o b c : ℕ) (f : List ℕ) (ls : List (List ℕ)) (g : List ℕ) : Type 0 where
-  pub x : Run
-  pub y : Run
-  pub z : Run
-  pub x-is : rows 1 1 o f ≡ some x
-  pub y-is : rows 1 1 b (x .1) ≡ some y
-  pub z-is : rows 1 1 c (y .1) ≡ some z
-  pub all : x .0 ++ y .0 ++ z .0 ≡ ls
-  pub rest : z .1 ≡ g
-
-roots : (o b c : ℕ) (f : List ℕ) (ls : List (List ℕ)) (g : List ℕ) → rows 1 1 (o + b + c) f ≡ some (ls, g) → Roots o b c f ls g
-roots o b c f ls g e =
-    let p = some-bind (rows 1 1 (o + b) f) _ (ls, g) (sym (rows-add 1 1 (o + b) c (o + b + c) f refl) ∙ e) in
-    let q = some-bind (rows 1 1 c (p .0 .1)) _ (ls, g) (p .2) in
-    let r = some-bind (rows 1 1 o f) _ (p .0) (sym (rows-add 1 1 o b (o + b) f refl) ∙ p .1) in
-    let t = some-bind (rows 1 1 b (r .0 .1)) _ (p .0) (r .2) in
-    let i : _≡_ {A = Run} (r .0 .0 ++ t .0 .0, t .0 .1) (p .0) = some-same (t .2) in
-    let j : _≡_ {A = Run} (p .0 .0 ++ q .0 .0, q .0 .1) (ls, g) = some-same (q .2) in
-    record {
-      x = r .0;
-      y = t .0;
-      z = q .0;
-      x-is = r .1;
-      y-is = t .1;
-      z-is = ap (λ (h : Run). rows 1 1 c (h .1)) i ∙ q .1;
-      all = ap (λ (h : Run). h .0 ++ q .0 .0) i ∙ ap (λ (h : Run). h .0) j;
-      rest = ap (λ (h : Run). h .1) j;
-    }
-
--- where the run is malformed, one of the three is
-roots-none : {A : Type 0} (o b c : ℕ) (f : List ℕ) (k : Run → Run → Run → Answer A) → rows 1 1 (o + b + c) f ≡ none
-    → load._>>=_ (read 5 (rows 1 1 o f)) (λ x. load._>>=_ (read 5 (rows 1 1 b (x .1))) (λ y. load._>>=_ (read 5 (rows 1 1 c (y .1))) (λ z. k x y z)))
-    ≡ refused 5
-roots-none {A} o b c f k e = go (rows 1 1 o f) whole
-  where
-    whole : after (after (rows 1 1 o f) (rows 1 1 b)) (rows 1 1 c) ≡ none
-    whole =
-        ap (λ (r : Option Run). after r (rows 1 1 c)) (sym (rows-add 1 1 o b (o + b) f refl)) ∙ sym (rows-add 1 1 (o + b) c (o + b + c) f refl) ∙ e
-
-    last : (x y : Run) (w : Option Run) → (w >>= led (x .0 ++ y .0)) ≡ none
-        → load._>>=_ (read 5 w) (λ z. k x y z) ≡ refused 5
-    last x y none h = refl
-    last x y (some z) h = let z : _≡_ {A = ℕ} 0 1 = cc in absurd (omega arith)
-
-    middle : (x : Run) (w : Option Run) → after (w >>= led (x .0)) (rows 1 1 c) ≡ none
-        → load._>>=_ (read 5 w) (λ y. load._>>=_ (read 5 (rows 1 1 c (y .1))) (λ z. k x y z)) ≡ refused 5
-    middle x none h = refl
-    middle x (some y) h = last x y (rows 1 1 c (y .1)) h
-
-    go : (w : Option Run) → after (after w (rows 1 1 b)) (rows 1 1 c) ≡ none
-        → load._>>=_ (read 5 w) (λ x. load._>>=_ (read 5 (rows 1 1 b (x .1))) (λ y. load._>>=_ (read 5 (rows 1 1 c (y .1))) (λ z. k x y z)))
-        ≡ refused 5
-    go none h = refl
-    go (some x) h = middle x (rows 1 1 b (x .1)) h
-
-first-append : (xs ys : List (List ℕ)) → map first (xs ++ ys) ≡ map first xs ++ map first ys
-first-append [] ys = refl
-first-append (x ∷ xs) ys = rw (first-append xs ys)
+use Rattle.sections.proofs.Lines.{Begins, short, rows-short, past, flat-ones}
+use Rattle.sections.proofs.Parts.{
+  headerIn,
+  layout-header,
+  unlike,
+  not-so,
+  two,
+  moved,
+  Lines,
+  head,
+  rest,
+  answer,
+  stopped,
+  lines,
+  answered,
+  stacked,
+  counted,
+  fits,
+  begins,
+  past-all,
+}
 
 -- ---- words after words, and what they say of the lines
 
@@ -186,39 +96,50 @@ module _ (s : List ℕ) (at : ℕ) (p : Layout) (limit : ℕ) (w : List ℕ) (q 
 
   module _ {w1 : List ℕ} (r1 : w1 ≡ take 7 w ++ implied 1 (p .i) ++ drop (7 + p .i) w) {w2 : List ℕ} {a2 : ℕ} {f2 : Bool}
       (r2 : LatchesRead s at (p .l) (p .i + 1) limit w1 (p .latches) w2 a2 f2) where
-    pub bad-roots : rows 1 1 (p .o + p .b + p .c) (drop a2 s) ≡ none → sections true (headerAt w) (drop at s) ≡ refused 5
-    unfolding binaryBody
-    bad-roots e = same-body ∙ rw (r2 .meaning) (roots-none (p .o) (p .b) (p .c) (drop a2 s) _ e)
+    -- the circuit with these lines and gates
+    abbrev circuit : Lines → List Gate → Circuit
+    circuit ls gs =
+        record {
+          maxVar = p .m;
+          inputs = implied 1 (p .i);
+          latches = latchesFrom (p .i + 1) (r2 .lines);
+          outputs = map first (head ls);
+          bads = map first (head (rest ls));
+          constraints = map first (head (rest (rest ls)));
+          gates = gs;
+        }
 
-    module _ {w3 : List ℕ} {a3 : ℕ} {f3 : Bool} (r3 : RowsRead s a2 1 1 (p .o + p .b + p .c) limit w2 (p .outputs) w3 a3 f3) where
-      pub parts : Roots (p .o) (p .b) (p .c) (drop a2 s) (r3 .lines) (drop a3 s)
-      parts = roots (p .o) (p .b) (p .c) (drop a2 s) (r3 .lines) (drop a3 s) (r3 .meaning)
+    -- the gates and the tail, after these lines
+    abbrev ends : Lines → List ℕ → Answer Circuit
+    ends ls f =
+        load._>>=_ (read 15 (gatesFrom (p .i + p .l + 1) (p .a) f))
+        (λ g. load._>>_ (test 5 (isTail (g .1))) (gives (circuit ls (g .0))))
+
+    -- the outputs, bad lines and constraints, and what follows them
+    after-latches : sections true (headerAt w) (drop at s) ≡ answer (slice 2 5 (table p)) ends (drop a2 s)
+    unfolding binaryBody
+    after-latches = same-body ∙ rw (r2 .meaning)
+
+    pub bad-lines : Stops s (slice 2 5 (table p)) a2 → sections true (headerAt w) (drop at s) ≡ refused 5
+    bad-lines h = after-latches ∙ stopped h ends
+
+    module _ {w3 : List ℕ} {a3 : ℕ} {f3 : Bool} (r3 : Runs s limit a3 w3 f3 (slice 2 5 (table p)) a2 w2 true) where
+      after-lines : sections true (headerAt w) (drop at s) ≡ ends (lines r3) (drop a3 s)
+      after-lines = after-latches ∙ answered r3 ends
 
       pub bad-gates : gatesFrom (p .i + p .l + 1) (p .a) (drop a3 s) ≡ none → sections true (headerAt w) (drop at s) ≡ refused 15
-      unfolding binaryBody
-      bad-gates e = same-body ∙ rw (r2 .meaning, parts .x-is, parts .y-is, parts .z-is, parts .rest, e)
+      bad-gates e = after-lines ∙ rw e
 
       module _ {w4 : List ℕ} {a4 : ℕ} (r4 : GatesRead s a3 (p .a) (p .i + p .l + 1) w3 (p .gates) w4 a4) where
         pub bad-tail : isTail (drop a4 s) ≡ false → sections true (headerAt w) (drop at s) ≡ refused 5
-        unfolding binaryBody
-        bad-tail e = same-body ∙ rw (r2 .meaning, parts .x-is, parts .y-is, parts .z-is, parts .rest, r4 .meaning, e)
+        bad-tail e = after-lines ∙ rw (r4 .meaning, e)
 
         -- the circuit that the sections make
         abbrev pub made : Circuit
-        made =
-            record {
-              maxVar = p .m;
-              inputs = implied 1 (p .i);
-              latches = latchesFrom (p .i + 1) (r2 .lines);
-              outputs = map first (parts .x .0);
-              bads = map first (parts .y .0);
-              constraints = map first (parts .z .0);
-              gates = r4 .gates;
-            }
+        made = circuit (lines r3) (r4 .gates)
 
         pub body-made : isTail (drop a4 s) ≡ true → sections true (headerAt w) (drop at s) ≡ gives made
-        unfolding binaryBody
-        body-made e = same-body ∙ rw (r2 .meaning, parts .x-is, parts .y-is, parts .z-is, parts .rest, r4 .meaning, e)
+        body-made e = after-lines ∙ rw (r4 .meaning, e)
 
         many-latches : length (made .latches) ≡ p .l
         many-latches =
@@ -230,25 +151,19 @@ module _ (s : List ℕ) (at : ℕ) (p : Layout) (limit : ℕ) (w : List ℕ) (q 
         heads : 7 ≤ length w → take 7 w ≡ made .maxVar ∷ countRow made
         heads h =
             let i : length (made .inputs) ≡ p .i = implied-length 1 (p .i) in
-            let o : length (made .outputs) ≡ p .o =
-            length-map (parts .x .0) first ∙ rows-length 1 1 (p .o) (drop a2 s) (parts .x) (parts .x-is) in
-            let b : length (made .bads) ≡ p .b =
-            length-map (parts .y .0) first ∙ rows-length 1 1 (p .b) (parts .x .1) (parts .y) (parts .y-is) in
-            let c : length (made .constraints) ≡ p .c =
-            length-map (parts .z .0) first ∙ rows-length 1 1 (p .c) (parts .y .1) (parts .z) (parts .z-is) in
+            let k = counted r3 in
+            let ls = lines r3 in
+            let o : length (made .outputs) ≡ p .o = length-map (head ls) first ∙ k .0 in
+            let b : length (made .bads) ≡ p .b = length-map (head (rest ls)) first ∙ k .1 .0 in
+            let c : length (made .constraints) ≡ p .c = length-map (head (rest (rest ls))) first ∙ k .1 .1 .0 in
             sym (words-take w 0 7 h)
             ∙ (λ t.
             sym (q .m-is) t ∷ (sym (q .i-is) ∙ sym i) t ∷ (sym (q .l-is) ∙ sym many-latches) t ∷ (sym (q .o-is) ∙ sym o) t
             ∷ (sym (q .a-is) ∙ sym many-gates) t ∷ (sym (q .b-is) ∙ sym b) t ∷ (sym (q .c-is) ∙ sym c) t ∷ [])
 
-        -- the words of the outputs, bad lines and constraints
-        root-words : flat 1 (r3 .lines) ≡ made .outputs ++ made .bads ++ made .constraints
-        root-words =
-            flat-ones (r3 .lines) ∙ ap (map first) (sym (parts .all)) ∙ first-append (parts .x .0 ++ parts .y .0) (parts .z .0)
-            ∙ ap (λ (xs : List ℕ). xs ++ made .constraints) (first-append (parts .x .0) (parts .y .0))
-
-        regroup : (a o b c g : List ℕ) → a ++ (o ++ b ++ c) ++ g ≡ a ++ o ++ b ++ c ++ g
-        regroup a o b c g = simp append-assoc
+        -- where the outputs, bad lines and constraints stand
+        lines-chained : Chained (slice 2 5 (table p)) (p .outputs) (p .gates)
+        lines-chained = (refl, (omega (arith, q), (omega (arith, q), omega (arith, q))))
 
         -- the words that were stored are its content
         pub stored : 7 ≤ length w → (f2 && f3) ≡ true → w4 ≡ content made ++ drop (p .end) w4
@@ -265,15 +180,16 @@ module _ (s : List ℕ) (at : ℕ) (p : Layout) (limit : ℕ) (w : List ℕ) (q 
             moved (omega (arith, q))
             (put-begins ls (drop (p .latches + p .l * 3) w1) (p .l * 3) b1 (r2 .contents (t .0))
             (omega (arith, latches.words-length (p .i + 1) (r2 .lines), latches-length (p .i + 1) (r2 .lines), many-latches))) in
-            let b3 : Begins w3 (p .gates) (heading ++ made .inputs ++ ls ++ flat 1 (r3 .lines)) =
-            moved (omega (arith, q)) (run-begins r3 (t .1) b2) in
-            let b4 : Begins w4 (p .end) (heading ++ made .inputs ++ ls ++ flat 1 (r3 .lines) ++ gs) =
+            let xs = heading ++ made .inputs ++ ls in
+            let os = stacked xs (slice 2 5 (table p)) (lines r3) in
+            let b3 : Begins w3 (p .gates) os = begins r3 (t .1) lines-chained b2 in
+            let b4 : Begins w4 (p .end) (os ++ gs) =
             moved (omega (arith, q))
-            (put-begins gs (drop (p .gates + p .a * 3) w3) (p .a * 3) b3 (r4 .contents) (omega (arith, gates.words-length (r4 .gates), many-gates))) in
-            let whole : take (p .end) w4 ≡ content made =
-            b4 .words
-            ∙ ap (λ (xs : List ℕ). heading ++ made .inputs ++ ls ++ xs ++ gs) root-words
-            ∙ regroup (heading ++ made .inputs ++ ls) (made .outputs) (made .bads) (made .constraints) gs in
+            (put-begins gs (drop (p .gates + p .a * 3) w3) (p .a * 3) b3 (r4 .contents)
+            (omega (arith, gates.words-length (r4 .gates), many-gates))) in
+            let lines-are : os ≡ xs ++ made .outputs ++ made .bads ++ made .constraints =
+            rw (flat-ones (head (lines r3)), flat-ones (head (rest (lines r3))), flat-ones (head (rest (rest (lines r3))))) in
+            let whole : take (p .end) w4 ≡ content made = b4 .words ∙ ap (λ (ys : List ℕ). ys ++ gs) lines-are in
             sym (take-append-drop (p .end) w4) ∙ ap (λ (xs : List ℕ). xs ++ drop (p .end) w4) whole
 
         -- what stands past it stays
@@ -286,7 +202,8 @@ module _ (s : List ℕ) (at : ℕ) (p : Layout) (limit : ℕ) (w : List ℕ) (q 
             let many : length ls ≡ p .l * 3 =
             omega (arith, latches.words-length (p .i + 1) (r2 .lines), latches-length (p .i + 1) (r2 .lines), many-latches) in
             let k2 = past w1 ls (p .latches) (p .l * 3) (p .end) (r2 .contents (t .0)) many (omega (arith, q)) (omega (arith, h, k1 .1)) in
-            let k3 = run-past r3 (t .1) (p .end) (omega (arith, q)) (omega (arith, h, k1 .1, k2 .1)) in
+            let k3 =
+            past-all r3 (t .1) (p .outputs) (p .gates) lines-chained (p .end) (omega (arith, q)) (omega (arith, h, k1 .1, k2 .1)) in
             let k4 =
             past w3 (gateWords (made .gates)) (p .gates) (p .a * 3) (p .end) (r4 .contents)
             (omega (arith, gates.words-length (r4 .gates), many-gates)) (omega (arith, q)) (omega (arith, h, k1 .1, k2 .1, k3 .1)) in
@@ -300,16 +217,12 @@ module _ (s : List ℕ) (at : ℕ) (p : Layout) (limit : ℕ) (w : List ℕ) (q 
             let few = rows-short 1 2 (p .l) (drop at s) (r2 .lines, drop a2 s) (r2 .meaning) in
             let a : T (within limit (latchWords (made .latches))) = low (latchWords (made .latches)) (v .latches) in
             let t2 : f2 ≡ true = r2 .tested ∙ true-T (every (within limit) (r2 .lines)) (latches-fit limit (p .i + 1) (r2 .lines) few a) in
-            let o : T (within limit (made .outputs)) = low (made .outputs) (v .outputs) in
-            let b : T (within limit (made .bads)) = low (made .bads) (v .bads) in
-            let c : T (within limit (made .constraints)) = low (made .constraints) (v .constraints) in
-            let fits : ℕ → Bool = λ x. leb x limit in
-            let ob : T (within limit (made .outputs ++ made .bads)) =
-            rw (every-append fits (made .outputs) (made .bads)) (and (within limit (made .outputs)) (within limit (made .bads)) o b) in
-            let obc : T (within limit (made .outputs ++ made .bads ++ made .constraints)) =
-            rw (every-append fits (made .outputs ++ made .bads) (made .constraints))
-            (and (within limit (made .outputs ++ made .bads)) (within limit (made .constraints)) ob c) in
-            let t3 : f3 ≡ true = run-fits r3 (rw root-words obc) in
+            let ones : (ls : List (List ℕ)) → T (within (2 * p .m + 1) (map first ls)) → T (within limit (flat 1 ls)) =
+            λ ls i. rw (flat-ones ls) (low (map first ls) i) in
+            let ls = lines r3 in
+            let t3 : f3 ≡ true =
+            fits r3 refl
+            (ones (head ls) (v .outputs), (ones (head (rest ls)) (v .bads), (ones (head (rest (rest ls))) (v .constraints), tt))) in
             rw (t2, t3)
 
         -- a number above the limit is a literal that is not right

@@ -1,30 +1,33 @@
--- The sections of a file in text form, read one after the other by the table of sections: the circuit that they make, and that its content
--- is what was stored. Assumes nothing.
+-- Sections read one after the other by the table of sections; those of a file in text form: the circuit that they make, and that its
+-- content is what was stored. Assumes nothing.
 use mathlib.Core.Path.{_≡_, refl, sym, ap, _∙_, subst}
 use mathlib.Core.Bool.{Bool, true, false, _&&_}
 use mathlib.Core.List.{List, [], _∷_, _++_, map}
 use mathlib.Core.Option.{Option, none, some}
-use Prim.Native.Nat.{ℕ, suc, _+_, _*_, _≤_, _<_}
-use native.Mathlib.Numerals.{add-one}
+use Prim.Native.Nat.{ℕ, zero, suc, _+_, _*_, _≤_, _<_}
 use native.Mathlib.Omega.{arith}
 use lib.Dec.{T}
-use lib.ListN.{length, take, drop, length-map, take-append-drop}
+use lib.ListN.{length, getD, take, drop, length-map, take-append-drop}
 use Rattle.aiger.specs.Text.{rows, when, _>>=_, _>>_}
 use Rattle.aiger.specs.Circuit.{Circuit, literalsRight}
 use Rattle.aiger.specs.File.{Header, isTail, body, first, latch, gate}
-use Rattle.aiger.specs.Load.{refused, gives, read, sections}
+use Rattle.aiger.specs.Load as load
+use Rattle.aiger.specs.Load.{Answer, refused, gives, read, sections}
 use Rattle.aiger.specs.Write.{countRow}
 use Rattle.aiger.specs.Memory.{content}
 use Rattle.aiger.proofs.Tests.{and-left, and-right, T-true, true-T}
 use Rattle.roundtrip.proofs.Content.{words-take}
-use Rattle.lines.specs.Lines.{flat, within, RowsRead}
+use Rattle.lines.specs.Lines.{flat, within}
 use Rattle.layout.specs.declared.Layout.{Layout}
 use Rattle.layout.specs.declared.Section.{Section}
 use Rattle.layout.specs.Words.{contentEnd}
 use Rattle.layout.specs.Layout.{PlacesOf}
 use Rattle.layout.specs.Table.{table, sectionAt, Chained}
-use Rattle.layout.proofs.Table.{chained, from-section}
+use Rattle.layout.proofs.Table.{chained}
 use Rattle.sections.specs.Sections.{headerAt}
+use Rattle.sections.specs.Spans.{sectionEnd, Runs, Stops}
+use Rattle.sections.specs.Spans.Runs.{done, more}
+use Rattle.sections.specs.Spans.Stops.{here, later}
 use Rattle.sections.proofs.Literals.{literals-within}
 use Rattle.sections.proofs.Lines.{
   Begins,
@@ -70,15 +73,15 @@ moved {w} {xs} e b = subst (λ (j : ℕ). Begins w j xs) e b
 
 -- ---- the lines of all sections
 
-abbrev Lines : Type 0
+abbrev pub Lines : Type 0
 Lines = List (List (List ℕ))
 
 -- those of the first section, and of the others
-abbrev head : Lines → List (List ℕ)
+abbrev pub head : Lines → List (List ℕ)
 head [] = []
 head (l ∷ ls) = l
 
-abbrev rest : Lines → Lines
+abbrev pub rest : Lines → Lines
 rest [] = []
 rest (l ∷ ls) = ls
 
@@ -109,29 +112,42 @@ abbrev parse : List Section → (Lines → List ℕ → Option Circuit) → List
 parse [] k f = k [] f
 parse (t ∷ ts) k f = rows (t .least) (t .most) (t .rows) f >>= λ q. parse ts (λ ls. k (q .0 ∷ ls)) (q .1)
 
--- one of them is malformed, whatever is made of the lines
-abbrev Stops : List Section → List ℕ → Type 0
-Stops ts f = (k : Lines → List ℕ → Option Circuit) → parse ts k f ≡ none
+-- the same, 5 where a line is malformed
+abbrev pub answer : List Section → (Lines → List ℕ → Answer Circuit) → List ℕ → Answer Circuit
+answer [] k f = k [] f
+answer (t ∷ ts) k f = load._>>=_ (read 5 (rows (t .least) (t .most) (t .rows) f)) (λ q. answer ts (λ ls. k (q .0 ∷ ls)) (q .1))
 
--- the sections were read from `at` on into w, where what stood before them passed the test f: they end at n, and leave w′ and the test f′
-pub data Runs (s : List ℕ) (limit n : ℕ) (w′ : List ℕ) (f′ : Bool) : List Section → ℕ → List ℕ → Bool → Type 0 where
-  done : Runs s limit n w′ f′ [] n w′ f′
-  more : {t : Section} {ts : List Section} {at : ℕ} {w : List ℕ} {f : Bool} {w₁ : List ℕ} {a₁ : ℕ} {f₁ : Bool}
-      → RowsRead s at (t .least) (t .most) (t .rows) limit w (t .at) w₁ a₁ f₁ → Runs s limit n w′ f′ ts a₁ w₁ (f && f₁)
-      → Runs s limit n w′ f′ (t ∷ ts) at w f
+parse-answer : (ts : List Section) (k : Lines → List ℕ → Option Circuit) (f : List ℕ)
+    → read 5 (parse ts k f) ≡ answer ts (λ ls g. read 5 (k ls g)) f
+parse-answer [] k f = refl
+parse-answer (t ∷ ts) k f = go (rows (t .least) (t .most) (t .rows) f) (λ q. parse-answer ts (λ ls. k (q .0 ∷ ls)) (q .1))
+  where
+    go : (o : Option (List (List ℕ) × List ℕ))
+        → ((q : List (List ℕ) × List ℕ)
+        → read 5 (parse ts (λ ls. k (q .0 ∷ ls)) (q .1)) ≡ answer ts (λ ls g. read 5 (k (q .0 ∷ ls) g)) (q .1))
+        → read 5 (o >>= λ q. parse ts (λ ls. k (q .0 ∷ ls)) (q .1))
+        ≡ load._>>=_ (read 5 o) (λ q. answer ts (λ ls g. read 5 (k (q .0 ∷ ls) g)) (q .1))
+    go none h = refl
+    go (some q) h = h q
+
+-- one of them has a malformed line
+pub stopped : {s : List ℕ} {ts : List Section} {at : ℕ} → Stops s ts at → (k : Lines → List ℕ → Answer Circuit)
+    → answer ts k (drop at s) ≡ refused 5
+stopped (here e) k = rw e
+stopped (later ls next e q) k = rw e (stopped q (λ m. k (ls ∷ m)))
 
 -- so many lines as the table says
-abbrev Counted : List Section → Lines → Type 0
+abbrev pub Counted : List Section → Lines → Type 0
 Counted [] ls = Unit {0}
 Counted (t ∷ ts) ls = (length (head ls) ≡ t .rows) × Counted ts (rest ls)
 
 -- no word is above the limit
-abbrev AllWithin : ℕ → List Section → Lines → Type 0
+abbrev pub AllWithin : ℕ → List Section → Lines → Type 0
 AllWithin limit [] ls = Unit {0}
 AllWithin limit (t ∷ ts) ls = T (within limit (flat (t .most) (head ls))) × AllWithin limit ts (rest ls)
 
 -- the words of the sections, after others
-abbrev stacked : List ℕ → List Section → Lines → List ℕ
+abbrev pub stacked : List ℕ → List Section → Lines → List ℕ
 stacked xs [] ls = xs
 stacked xs (t ∷ ts) ls = stacked (xs ++ flat (t .most) (head ls)) ts (rest ls)
 
@@ -140,17 +156,31 @@ chained-le : (ts : List Section) {start end : ℕ} → Chained ts start end → 
 chained-le [] c = omega (arith, c)
 chained-le (t ∷ ts) c = omega (arith, chained-le ts (c .1))
 
+-- each of them ends there, or before
+chained-end : (ts : List Section) (start end : ℕ) → Chained ts start end → (k : ℕ) (d : Section) → k < length ts
+    → sectionEnd (getD ts k d) ≤ end
+chained-end [] start end c k d h = absurd (omega arith)
+chained-end (t ∷ ts) start end c zero d h = omega (arith, c .0, chained-le ts (c .1))
+chained-end (t ∷ ts) start end c (suc k) d h = chained-end ts (start + t .rows * t .most) end (c .1) k d (omega arith)
+
+pub section-end : (p : Layout) (k : ℕ) → k < 6 → Chained (table p) 7 (p .end) → sectionEnd (sectionAt p k) ≤ p .end
+section-end p k h c = chained-end (table p) 7 (p .end) c k _ h
+
 module _ {s : List ℕ} {limit n : ℕ} {w′ : List ℕ} {f′ : Bool} where
-  abbrev lines : {ts : List Section} {at : ℕ} {w : List ℕ} {f : Bool} → Runs s limit n w′ f′ ts at w f → Lines
+  abbrev pub lines : {ts : List Section} {at : ℕ} {w : List ℕ} {f : Bool} → Runs s limit n w′ f′ ts at w f → Lines
   lines done = []
   lines (more r q) = r .lines ∷ lines q
 
-  parsed : {ts : List Section} {at : ℕ} {w : List ℕ} {f : Bool} (r : Runs s limit n w′ f′ ts at w f) (k : Lines → List ℕ → Option Circuit)
-      → parse ts k (drop at s) ≡ k (lines r) (drop n s)
-  parsed done k = refl
-  parsed (more r q) k = rw (r .meaning) (parsed q (λ ls. k (r .lines ∷ ls)))
+  pub answered : {ts : List Section} {at : ℕ} {w : List ℕ} {f : Bool} (r : Runs s limit n w′ f′ ts at w f)
+      (k : Lines → List ℕ → Answer Circuit) → answer ts k (drop at s) ≡ k (lines r) (drop n s)
+  answered done k = refl
+  answered (more r q) k = rw (r .meaning) (answered q (λ ls. k (r .lines ∷ ls)))
 
-  counted : {ts : List Section} {at : ℕ} {w : List ℕ} {f : Bool} (r : Runs s limit n w′ f′ ts at w f) → Counted ts (lines r)
+  pub runs-inside : {ts : List Section} {at : ℕ} {w : List ℕ} {f : Bool} → Runs s limit n w′ f′ ts at w f → at ≤ length s → n ≤ length s
+  runs-inside done h = h
+  runs-inside (more r q) h = runs-inside q (r .inside)
+
+  pub counted : {ts : List Section} {at : ℕ} {w : List ℕ} {f : Bool} (r : Runs s limit n w′ f′ ts at w f) → Counted ts (lines r)
   counted done = tt
   counted (more r q) = (lines-length r, counted q)
 
@@ -159,26 +189,28 @@ module _ {s : List ℕ} {limit n : ℕ} {w′ : List ℕ} {f′ : Bool} where
   passed done e = e
   passed (more {f = f} {f₁ = f₁} r q) e = two f f₁ (passed q e) .0
 
-  fits : {ts : List Section} {at : ℕ} {w : List ℕ} {f : Bool} (r : Runs s limit n w′ f′ ts at w f) → f ≡ true → AllWithin limit ts (lines r)
-      → f′ ≡ true
+  pub fits : {ts : List Section} {at : ℕ} {w : List ℕ} {f : Bool} (r : Runs s limit n w′ f′ ts at w f) → f ≡ true
+      → AllWithin limit ts (lines r) → f′ ≡ true
   fits done e a = e
   fits (more r q) e a = fits q (rw (e, run-fits r (a .0))) (a .1)
 
   -- each section's words stand after those before
-  begins : {ts : List Section} {at : ℕ} {w : List ℕ} {f : Bool} (r : Runs s limit n w′ f′ ts at w f) → f′ ≡ true
+  pub begins : {ts : List Section} {at : ℕ} {w : List ℕ} {f : Bool} (r : Runs s limit n w′ f′ ts at w f) → f′ ≡ true
       → {start end : ℕ} {xs : List ℕ} → Chained ts start end → Begins w start xs → Begins w′ end (stacked xs ts (lines r))
   begins done e c b = moved c b
   begins (more {t = t} {f = f} {f₁ = f₁} r q) e c b =
       begins q e (c .1)
       (moved (ap (λ (k : ℕ). k + t .rows * t .most) (c .0)) (run-begins r (two f f₁ (passed q e) .1) (moved (sym (c .0)) b)))
 
-  -- what stands past the last of them stays
-  past-all : {ts : List Section} {at : ℕ} {w : List ℕ} {f : Bool} → Runs s limit n w′ f′ ts at w f → f′ ≡ true
-      → (start end : ℕ) → Chained ts start end → end ≤ length w → drop end w′ ≡ drop end w
-  past-all done e start end c l = refl
-  past-all (more {t = t} {ts = ts} {f = f} {f₁ = f₁} r q) e start end c l =
-      let k = run-past r (two f f₁ (passed q e) .1) end (omega (arith, c .0, chained-le ts (c .1))) l in
-      past-all q e (start + t .rows * t .most) end (c .1) (omega (arith, k .1)) ∙ k .0
+  -- what stands past the last of them stays, and so does the number of words
+  pub past-all : {ts : List Section} {at : ℕ} {w : List ℕ} {f : Bool} → Runs s limit n w′ f′ ts at w f → f′ ≡ true
+      → (start end : ℕ) → Chained ts start end → (past : ℕ) → end ≤ past → past ≤ length w
+      → (drop past w′ ≡ drop past w) × (length w′ ≡ length w)
+  past-all done e start end c past h l = (refl, refl)
+  past-all (more {t = t} {ts = ts} {f = f} {f₁ = f₁} r q) e start end c past h l =
+      let k = run-past r (two f f₁ (passed q e) .1) past (omega (arith, c .0, chained-le ts (c .1))) l in
+      let m = past-all q e (start + t .rows * t .most) end (c .1) past h (omega (arith, k .1)) in
+      (m .0 ∙ k .0, m .1 ∙ k .1)
 
 -- ---- the whole text
 
@@ -187,12 +219,12 @@ module _ (s : List ℕ) (at : ℕ) (p : Layout) (limit : ℕ) (w : List ℕ) (q 
   unfolding body sections
   same-body = ap (λ (h : Header). sections false h (drop at s)) (layout-header p q)
 
-  pub no-lines : Stops (table p) (drop at s) → sections false (headerAt w) (drop at s) ≡ refused 5
-  no-lines h = same-body ∙ ap (read 5) (h (finish (p .m)))
+  pub no-lines : Stops s (table p) at → sections false (headerAt w) (drop at s) ≡ refused 5
+  no-lines h = same-body ∙ parse-answer (table p) (finish (p .m)) (drop at s) ∙ stopped h (λ ls g. read 5 (finish (p .m) ls g))
 
   module _ {n : ℕ} {w′ : List ℕ} {f′ : Bool} (r : Runs s limit n w′ f′ (table p) at w true) where
     whole : sections false (headerAt w) (drop at s) ≡ read 5 (finish (p .m) (lines r) (drop n s))
-    whole = same-body ∙ ap (read 5) (parsed r (finish (p .m)))
+    whole = same-body ∙ parse-answer (table p) (finish (p .m)) (drop at s) ∙ answered r (λ ls g. read 5 (finish (p .m) ls g))
 
     pub no-tail : isTail (drop n s) ≡ false → sections false (headerAt w) (drop at s) ≡ refused 5
     no-tail e = whole ∙ rw e
@@ -244,7 +276,7 @@ module _ (s : List ℕ) (at : ℕ) (p : Layout) (limit : ℕ) (w : List ℕ) (q 
     pub past-kept : contentEnd w ≤ length w → f′ ≡ true → drop (contentEnd w) w′ ≡ drop (contentEnd w) w
     past-kept l e =
         let h : p .end ≡ contentEnd w = omega (arith, q) in
-        subst (λ (k : ℕ). drop k w′ ≡ drop k w) h (past-all r e 7 (p .end) (chained p q) (omega (arith, h)))
+        subst (λ (k : ℕ). drop k w′ ≡ drop k w) h (past-all r e 7 (p .end) (chained p q) (p .end) (omega arith) (omega (arith, h)) .0)
 
     all-fit : limit ≡ 2 * p .m + 1 → literalsRight circuit ≡ true → f′ ≡ true
     all-fit l e =
@@ -271,45 +303,3 @@ module _ (s : List ℕ) (at : ℕ) (p : Layout) (limit : ℕ) (w : List ℕ) (q 
     -- a number above the limit is a literal that is not right
     pub large : limit ≡ 2 * p .m + 1 → f′ ≡ false → literalsRight circuit ≡ false
     large l e = not-so (literalsRight circuit) (λ t. unlike (sym e ∙ all-fit l t))
-
--- ---- section after section
-
--- the first k sections are read: where the others stop all do, and where they are read all are
-pub record Reached (s : List ℕ) (at : ℕ) (p : Layout) (limit : ℕ) (w : List ℕ) (k next : ℕ) (fit : Bool) (w₁ : List ℕ) : Type 0 where
-  pub inside : next ≤ length s
-  pub size : length w₁ ≡ length w
-  pub stops : Stops (drop k (table p)) (drop next s) → Stops (table p) (drop at s)
-  pub runs : (n : ℕ) (w′ : List ℕ) (f′ : Bool) → Runs s limit n w′ f′ (drop k (table p)) next w₁ fit
-      → Runs s limit n w′ f′ (table p) at w true
-
-pub reached-none : (s : List ℕ) (at : ℕ) (p : Layout) (limit : ℕ) (w : List ℕ) → at ≤ length s → Reached s at p limit w 0 at true w
-reached-none s at p limit w h = record { inside = h; size = refl; stops = λ x. x; runs = λ n w′ f′ r. r }
-
-module _ {s : List ℕ} {at : ℕ} {p : Layout} {limit : ℕ} {w : List ℕ} {k next : ℕ} {fit : Bool} {w₁ : List ℕ}
-    (r : Reached s at p limit w k next fit w₁) (h : k < 6)
-  where
-    -- section k is read
-    pub reached-more : (t : Section) → t ≡ sectionAt p k → {w₂ : List ℕ} {after : ℕ} {ok : Bool}
-        → RowsRead s next (t .least) (t .most) (t .rows) limit w₁ (t .at) w₂ after ok → length w₂ ≡ length w₁
-        → Reached s at p limit w (k + 1) after (fit && ok) w₂
-    reached-more t e q l =
-        let d : drop k (table p) ≡ t ∷ drop (suc k) (table p) = from-section p k h ∙ rw e in
-        rw (add-one k)
-        (record {
-          inside = q .inside;
-          size = l ∙ r .size;
-          stops = λ x. r .stops (rw d (λ c. rw (q .meaning) (x (λ ls. c (q .lines ∷ ls)))));
-          runs = λ n w′ f′ y. r .runs n w′ f′ (rw d (Runs.more q y));
-        })
-
-    -- it is malformed
-    pub reached-stops : (t : Section) → t ≡ sectionAt p k → rows (t .least) (t .most) (t .rows) (drop next s) ≡ none
-        → Stops (table p) (drop at s)
-    reached-stops t e q =
-        let d : drop k (table p) ≡ t ∷ drop (suc k) (table p) = from-section p k h ∙ rw e in
-        r .stops (rw d (λ c. rw q))
-
--- all sections are read
-pub reached-all : {s : List ℕ} {at : ℕ} {p : Layout} {limit : ℕ} {w : List ℕ} {k next : ℕ} {fit : Bool} {w₁ : List ℕ}
-    → Reached s at p limit w k next fit w₁ → k ≡ 6 → Runs s limit next w₁ fit (table p) at w true
-reached-all {next = next} {fit = fit} {w₁ = w₁} r e = r .runs next w₁ fit (rw e Runs.done)

@@ -1,15 +1,18 @@
 // The sections of an AIGER file after its header, in text form and in binary form, read into words as circuit memory has them.
 use binary::Gates;
 use layout::Layout;
+use lines::Form;
 use lines::Rows;
-use lines::read_rows;
 ghost use mathlib.Core.Path.{_≡_};
 ghost use mathlib.Core.Bool.{true, false};
-ghost use Prim.Native.Nat.{_+_, _*_, _≤_};
-ghost use lib.ListN.{length, drop, replicate};
+ghost use Prim.Native.Nat.{_+_, _*_, _≤_, _<_};
+ghost use lib.ListN.{length, drop};
+ghost use lib.Seq.{slice};
 ghost use Rattle.layout.specs.Words.{word, contentEnd};
 ghost use Rattle.layout.specs.Layout.{PlacesOf};
+ghost use Rattle.layout.specs.Table.{table, sectionAt, Chained};
 ghost use Rattle.sections.specs.Sections.{headerAt, BodyAt, PastKept, WordsLeft};
+ghost use Rattle.sections.specs.Spans.{sectionEnd, SectionAt, SpanAt};
 
 // The sections of a file: read and stored; read, with a number above the limit; a line or the tail malformed; or a gate of the binary form
 // damaged.
@@ -18,6 +21,77 @@ pub enum Body {
     Large,
     Malformed,
     Damaged,
+}
+
+// Reads the lines of section k of the table, and stores their numbers where it begins. A call with constants for each form of a line: the
+// compiler then makes a loop for that form alone.
+fn read_section(s: &[u8], at: usize, p: Layout, k: usize, limit: u32, words: &mut [u32]) -> Rows
+    requires { ⌜ at ≤ length (now s) ⌝ }
+    requires { ⌜ k < 6 ⌝ }
+    requires { ⌜ sectionEnd (sectionAt p k) ≤ length (now words) ⌝ }
+    ensures { λ r. ⌜ SectionAt (now (s .entry)) at (sectionAt p k) limit (now (words .entry)) (now (words .exit)) r ⌝ }
+{
+    let t = layout::section_at(p, k);
+    let least = t.least;
+    match least {
+        1 => {
+            let form = Form {
+                least: 1,
+                most: 1,
+                limit,
+            };
+            lines::read_rows(s, at, t.rows, form, words, t.at)
+        }
+        2 => {
+            let form = Form {
+                least: 2,
+                most: 3,
+                limit,
+            };
+            lines::read_rows(s, at, t.rows, form, words, t.at)
+        }
+        _ => {
+            let form = Form {
+                least: 3,
+                most: 3,
+                limit,
+            };
+            lines::read_rows(s, at, t.rows, form, words, t.at)
+        }
+    }
+}
+
+// Reads the lines of the sections of the table from section first up to section end, one after the other, and stores their numbers.
+fn read_span(
+    s: &[u8],
+    at: usize,
+    p: Layout,
+    first: usize,
+    end: usize,
+    limit: u32,
+    words: &mut [u32],
+) -> Rows
+    requires { ⌜ at ≤ length (now s) ⌝ }
+    requires { ⌜ (first ≤ end) × (end ≤ 6) ⌝ }
+    requires { ⌜ Chained (table p) 7 (p .end) × (p .end ≤ length (now words)) ⌝ }
+    ensures { λ r. ⌜ SpanAt (now (s .entry)) at (slice first end (table p)) limit (now (words .entry)) (now (words .exit)) r ⌝ }
+{
+    let mut next = at;
+    let mut fit = true;
+    let mut k = first;
+    while k < end {
+        match read_section(s, next, p, k, limit, words) {
+            Rows::Read(after, ok) => {
+                next = after;
+                fit = fit & ok;
+                k += 1;
+            }
+            Rows::Malformed => {
+                return Rows::Malformed;
+            }
+        }
+    }
+    Rows::Read(next, fit)
 }
 
 // Reads the lines after a header in text form, section after section, and stores their numbers after the counts, which words has.
@@ -29,23 +103,10 @@ fn read_text(s: &[u8], at: usize, p: Layout, limit: u32, words: &mut [u32]) -> B
     ensures { λ r. ⌜ BodyAt false (headerAt (now (words .entry))) (drop at (now (s .entry))) (now (words .exit)) r
         × PastKept (now (words .entry)) (now (words .exit)) r ⌝ }
 {
-    let mut next = at;
-    let mut fit = true;
-    let mut k: usize = 0;
-    while k < 6 {
-        let t = layout::section_at(p, k);
-        match read_rows(s, next, t.least, t.most, t.rows, limit, words, t.at) {
-            Rows::Read(after, ok) => {
-                next = after;
-                fit = fit & ok;
-                k += 1;
-            }
-            Rows::Malformed => {
-                return Body::Malformed;
-            }
-        }
-    }
-    if !lines::is_tail(s, next) {
+    let Rows::Read(end, fit) = read_span(s, at, p, 0, 6, limit, words) else {
+        return Body::Malformed;
+    };
+    if !lines::is_tail(s, end) {
         return Body::Malformed;
     }
     if fit {
@@ -62,8 +123,7 @@ fn variable(n: usize) -> u32
     n as u32
 }
 
-// Reads what follows a header in binary form, and stores it after the counts, which words has. Outputs, bad lines and constraints are one
-// run of lines.
+// Reads what follows a header in binary form, section after section, and stores it after the counts, which words has.
 fn read_binary(s: &[u8], at: usize, p: Layout, limit: u32, words: &mut [u32]) -> Body
     requires { ⌜ at ≤ length (now s) ⌝ }
     requires { ⌜ PlacesOf (now words) p ⌝ }
@@ -73,24 +133,26 @@ fn read_binary(s: &[u8], at: usize, p: Layout, limit: u32, words: &mut [u32]) ->
     ensures { λ r. ⌜ BodyAt true (headerAt (now (words .entry))) (drop at (now (s .entry))) (now (words .exit)) r
         × PastKept (now (words .entry)) (now (words .exit)) r ⌝ }
 {
-    binary::store_implied(words, 7, 1, p.i);
+    let i = layout::section_at(p, 0);
+    binary::store_implied(words, i.at, 1, i.rows);
+    let l = layout::section_at(p, 1);
     let latch = variable(p.i + 1);
-    let Rows::Read(at, latches) = binary::read_latches(s, at, p.l, latch, limit, words, p.latches)
+    let Rows::Read(at, latches_fit) = binary::read_latches(s, at, l.rows, latch, limit, words, l.at)
     else {
         return Body::Malformed;
     };
-    let roots = p.o + p.b + p.c;
-    let Rows::Read(at, fit) = read_rows(s, at, 1, 1, roots, limit, words, p.outputs) else {
+    let Rows::Read(at, lines_fit) = read_span(s, at, p, 2, 5, limit, words) else {
         return Body::Malformed;
     };
+    let g = layout::section_at(p, 5);
     let gate = variable(p.i + p.l + 1);
-    let Gates::Read(end) = binary::read_gates(s, at, p.a, gate, words, p.gates) else {
+    let Gates::Read(end) = binary::read_gates(s, at, g.rows, gate, words, g.at) else {
         return Body::Damaged;
     };
     if !lines::is_tail(s, end) {
         return Body::Malformed;
     }
-    if latches & fit {
+    if latches_fit & lines_fit {
         return Body::Read;
     }
     Body::Large
@@ -110,17 +172,6 @@ fn read_body(s: &[u8], at: usize, binary: bool, p: Layout, limit: u32, words: &m
         return read_binary(s, at, p, limit, words);
     }
     read_text(s, at, p, limit, words)
-}
-
-// Stores 0 in all words.
-fn clear(words: &mut [u32])
-    ensures { λ _. ⌜ now (words .exit) ≡ replicate (length (now (words .entry))) 0 ⌝ }
-{
-    let mut i: usize = 0;
-    while i < words.len() {
-        words[i] = 0;
-        i += 1;
-    }
 }
 
 // Reads the sections after a header, in binary or text form, and stores their numbers after the counts, which words has. Where it does
@@ -144,15 +195,15 @@ pub fn read_sections(
     match read_body(s, at, binary, p, limit, words) {
         Body::Read => Body::Read,
         Body::Large => {
-            clear(words);
+            variables::clear(words);
             Body::Large
         }
         Body::Malformed => {
-            clear(words);
+            variables::clear(words);
             Body::Malformed
         }
         Body::Damaged => {
-            clear(words);
+            variables::clear(words);
             Body::Damaged
         }
     }

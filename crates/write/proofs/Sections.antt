@@ -1,6 +1,6 @@
 -- The sections of a held circuit, by the table of sections: they stand in the memory, and their texts, one after the other, are what write
 -- gives. Assumes nothing.
-use mathlib.Core.Path.{_≡_, ap, _∙_}
+use mathlib.Core.Path.{_≡_, ap, _∙_, subst}
 use mathlib.Core.List.{List, [], _∷_, _++_, map, append-assoc, append-nil}
 use Prim.Native.Nat.{ℕ, zero, suc, _+_, _*_, _≤_, _<_}
 use native.Mathlib.Nat.{mul-suc}
@@ -22,13 +22,21 @@ use Rattle.roundtrip.proofs.Content.{content-length}
 use Rattle.roundtrip.proofs.Holding.{held-valid, content-fits}
 use Rattle.output.specs.Row.{rowText}
 use Rattle.output.proofs.Row.{row-line}
-use Rattle.write.specs.Rows.{rowsText, RowsIn}
+use Rattle.write.specs.Rows.{rowsText, RowsIn, sectionText, SectionIn}
 use Rattle.write.proofs.Rows.{rows-literals, rows-latches, rows-gates}
 
--- the text of a section, and of sections one after the other
-abbrev pub sectionText : List ℕ → Section → List ℕ
-sectionText m t = rowsText (t .least) (t .most) m (t .at) (t .rows)
+-- a section in the memory whose lines have three numbers at least has lines of three
+module _ {m : List ℕ} (t : Section) (i : SectionIn m t) (e : t .least ≡ 3) where
+  three : t .most ≡ 3
+  three = omega (arith, e, i .0 .wide, i .1)
 
+  pub three-in : RowsIn m (t .at) (t .rows) 3
+  three-in = subst (λ (k : ℕ). RowsIn m (t .at) (t .rows) k) three (i .0)
+
+  pub three-text : sectionText m t ≡ rowsText 3 3 m (t .at) (t .rows)
+  three-text = λ j. rowsText (e j) (three j) m (t .at) (t .rows)
+
+-- the text of sections one after the other
 abbrev pub sectionsText : List ℕ → List Section → List ℕ
 sectionsText m [] = []
 sectionsText m (t ∷ ts) = sectionText m t ++ sectionsText m ts
@@ -68,7 +76,7 @@ module _ {m : List ℕ} {p : Layout} (h : Holds m (circuitIn m)) (l : LayoutOf m
   pub head-inside : 7 ≤ length m
   head-inside = omega (arith, end-inside)
 
-  pub section-rows : (k : ℕ) → k < 6 → let t = sectionAt p k in RowsIn m (t .at) (t .rows) (t .most) × (t .least ≤ t .most)
+  pub section-rows : (k : ℕ) → k < 6 → SectionIn m (sectionAt p k)
   section-rows k b =
       let t = sectionAt p k in
       let i : Inside t (length m) = section-inside p k b (places l) end-inside in

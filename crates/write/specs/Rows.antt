@@ -6,6 +6,7 @@ use lib.Dec.{eqb}
 use lib.ListN.{length}
 use Rattle.output.specs.Row.{rowText}
 use Rattle.layout.specs.Words.{word}
+use Rattle.layout.specs.declared.Section.{Section}
 
 -- how many of the `most` words at p their line has: `least` where the last is 0
 abbrev pub rowCount : ℕ → ℕ → List ℕ → ℕ → ℕ
@@ -22,3 +23,11 @@ pub record RowsIn (m : List ℕ) (p n most : ℕ) : Type 0 where
   pub few : n ≤ 65536
   pub some-word : 0 < most
   pub wide : most ≤ 3
+
+-- the text of a section
+abbrev pub sectionText : List ℕ → Section → List ℕ
+sectionText m t = rowsText (t .least) (t .most) m (t .at) (t .rows)
+
+-- a section stands in the memory
+abbrev pub SectionIn : List ℕ → Section → Type 0
+SectionIn m t = RowsIn m (t .at) (t .rows) (t .most) × (t .least ≤ t .most)

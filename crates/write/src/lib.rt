@@ -1,6 +1,7 @@
 // The text of the circuit that a circuit memory holds: its length, and the text at the front of an output.
 use circuit::Held;
 use layout::Layout;
+use layout::Section;
 ghost use mathlib.Core.Path.{_≡_};
 ghost use Prim.Native.Nat.{_+_, _≤_, _<_};
 ghost use lib.ListN.{length};
@@ -11,7 +12,7 @@ ghost use Rattle.layout.specs.Words.{circuitIn};
 ghost use Rattle.layout.specs.Layout.{LayoutOf};
 ghost use Rattle.output.specs.Output.{Room, Placed};
 ghost use Rattle.output.specs.Row.{rowText};
-ghost use Rattle.write.specs.Rows.{rowCount, rowsText, RowsIn};
+ghost use Rattle.write.specs.Rows.{rowCount, rowsText, RowsIn, sectionText, SectionIn};
 ghost use Rattle.write.specs.Answer.{answered};
 
 // The length of the text, or the number of the refusal.
@@ -63,6 +64,18 @@ fn rows_length(m: &[u32], first: usize, n: usize, least: usize, most: usize) -> 
     total
 }
 
+// The length of the lines of a section. Gates, which most lines are, have a call with constants: the compiler then makes a loop for them
+// alone.
+fn section_length(m: &[u32], t: Section) -> usize
+    requires { ⌜ SectionIn (now m) t ⌝ }
+    ensures { λ r. ⌜ r ≡ length (sectionText (now (m .entry)) t) ⌝ }
+{
+    if t.least == 3 {
+        return rows_length(m, t.at, t.rows, 3, 3);
+    }
+    rows_length(m, t.at, t.rows, t.least, t.most)
+}
+
 // The length of the text of the circuit in m.
 fn text_length(m: &[u32], layout: Layout) -> usize
     requires { ⌜ Holds (now m) (circuitIn (now m)) × LayoutOf (now m) layout ⌝ }
@@ -72,7 +85,7 @@ fn text_length(m: &[u32], layout: Layout) -> usize
     let mut k: usize = 0;
     while k < 6 {
         let t = layout::section_at(layout, k);
-        total += rows_length(m, t.at, t.rows, t.least, t.most);
+        total += section_length(m, t);
         k += 1;
     }
     total
@@ -103,6 +116,17 @@ fn write_rows(
     end
 }
 
+// Writes the lines of a section, gates by a call with constants here too.
+fn write_section(m: &[u32], t: Section, out: &mut [u8], at: usize) -> usize
+    requires { ⌜ SectionIn (now m) t × Room (now out) at (sectionText (now m) t) ⌝ }
+    ensures { λ r. ⌜ Placed (now (out .entry)) at (sectionText (now (m .entry)) t) r (now (out .exit)) ⌝ }
+{
+    if t.least == 3 {
+        return write_rows(m, t.at, t.rows, 3, 3, out, at);
+    }
+    write_rows(m, t.at, t.rows, t.least, t.most, out, at)
+}
+
 // Writes the text of the circuit in m at the front of out.
 fn write_text(m: &[u32], layout: Layout, out: &mut [u8])
     requires { ⌜ Holds (now m) (circuitIn (now m)) × LayoutOf (now m) layout × (length (write (circuitIn (now m))) ≤ length (now out)) ⌝ }
@@ -113,7 +137,7 @@ fn write_text(m: &[u32], layout: Layout, out: &mut [u8])
     let mut k: usize = 0;
     while k < 6 {
         let t = layout::section_at(layout, k);
-        end = write_rows(m, t.at, t.rows, t.least, t.most, out, end);
+        end = write_section(m, t, out, end);
         k += 1;
     }
 }

@@ -11,7 +11,8 @@ use Rattle.binary.proofs.read_latches.Statement.{statement}
 use Rattle.binary.proofs.read_latches.Tie as tie
 
 abbrev Inv-loop : tie.InvT-loop
-Inv-loop s at n v limit out₀ from next₀ fits₀ var₀ to₀ left₀ out next fits var to left = Run s at n v limit out₀ from out next fits var to left
+Inv-loop s at n v limit out₀ from next₀ fits₀ var₀ to₀ left₀ out next fits var to left =
+    Run s at n v limit out₀ from out next fits var to left
 
 abbrev μ-loop : tie.MeasureT-loop
 μ-loop s at n v limit out₀ from next₀ fits₀ var₀ to₀ left₀ out next fits var to left = left
@@ -27,12 +28,14 @@ here t = room-here (t .before .loop .inv) (t .loop-test .taken)
 found : (n : tie.After-read-line Inv-loop μ-loop) (r : Rows) → n .read-line .result ≡ r
     → let l = G n in
     let a = l .before .before .before .args in
-    LineAt (a .s .now) (l .loop .next) 1 2 (a .limit) (set (l .loop .out) (l .loop .to) (2 * l .loop .var)) (l .loop .to + 1) (n .read-line .last .1 .1 .1 .1 .1 .0) r
+    LineAt (a .s .now) (l .loop .next) 1 2 (a .limit) (set (l .loop .out) (l .loop .to) (2 * l .loop .var)) (l .loop .to + 1)
+    (n .read-line .last .1 .1 .1 .0) r
 found n r e =
     let l = G n in
     let a = l .before .before .before .args in
-    subst (LineAt (a .s .now) (l .loop .next) 1 2 (a .limit) (set (l .loop .out) (l .loop .to) (2 * l .loop .var)) (l .loop .to + 1) (n .read-line .last .1 .1 .1 .1 .1 .0)) e
-    (n .read-line .ensures)
+    subst
+    (LineAt (a .s .now) (l .loop .next) 1 2 (a .limit) (set (l .loop .out) (l .loop .to) (2 * l .loop .var)) (l .loop .to + 1)
+    (n .read-line .last .1 .1 .1 .0)) e (n .read-line .ensures)
 
 loop-holds : tie.Need-loop-holds Inv-loop μ-loop
 loop-holds c = start _ _ _ _ _ _ _ (c .before .before .pre .0) (c .before .before .pre .1 .0) (c .before .before .pre .1 .1)
@@ -73,7 +76,7 @@ loop-again c =
 same-length : tie.Need-same-length Inv-loop μ-loop
 same-length c =
     let n = c .before .before .before .before in
-    n .read-line .kept .1 .1 .1 .1 .1 .0 ∙ length-set (G n .loop .out) (G n .loop .to) (2 * G n .loop .var) ∙ G n .loop .inv .kept
+    n .read-line .kept .1 .1 .1 .0 ∙ length-set (G n .loop .out) (G n .loop .to) (2 * G n .loop .var) ∙ G n .loop .inv .kept
 
 returns : tie.Need-returns Inv-loop μ-loop
 returns c =

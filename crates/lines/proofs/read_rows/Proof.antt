@@ -11,24 +11,29 @@ use Rattle.lines.proofs.read_rows.Statement.{statement}
 use Rattle.lines.proofs.read_rows.Tie as tie
 
 abbrev Inv-loop : tie.InvT-loop
-Inv-loop s at least most n limit out₀ from next₀ fits₀ to₀ left₀ out next fits to left = Run s at least most n limit out₀ from out next fits to left
+Inv-loop s at n form out₀ from next₀ fits₀ to₀ left₀ out next fits to left =
+    Run s at (form .least) (form .most) n (form .limit) out₀ from out next fits to left
 
 abbrev μ-loop : tie.MeasureT-loop
-μ-loop s at least most n limit out₀ from next₀ fits₀ to₀ left₀ out next fits to left = left
+μ-loop s at n form out₀ from next₀ fits₀ to₀ left₀ out next fits to left = left
 
 -- there is room for a line more
-here : (t : tie.In-loop Inv-loop μ-loop) → t .before .loop .to + t .before .before .before .before .args .most ≤ length (t .before .loop .out)
+here : (t : tie.In-loop Inv-loop μ-loop)
+    → t .before .loop .to + t .before .before .before .before .args .form .most ≤ length (t .before .loop .out)
 here t = room-here _ _ _ _ _ _ _ _ _ _ _ _ _ (t .before .loop .inv) (t .loop-test .taken)
 
 -- the answer of the call is the variant that the match found
 found : (n : tie.After-read-line Inv-loop μ-loop) (r : Rows) → n .read-line .result ≡ r
     → let l = n .before .before .before in
     let a = l .before .before .before .args in
-    LineAt (a .s .now) (l .loop .next) (a .least) (a .most) (a .limit) (l .loop .out) (l .loop .to) (n .read-line .last .1 .1 .1 .1 .1 .0) r
+    let f = a .form in
+    LineAt (a .s .now) (l .loop .next) (f .least) (f .most) (f .limit) (l .loop .out) (l .loop .to) (n .read-line .last .1 .1 .1 .0) r
 found n r e =
     let l = n .before .before .before in
     let a = l .before .before .before .args in
-    subst (LineAt (a .s .now) (l .loop .next) (a .least) (a .most) (a .limit) (l .loop .out) (l .loop .to) (n .read-line .last .1 .1 .1 .1 .1 .0)) e
+    let f = a .form in
+    subst
+    (LineAt (a .s .now) (l .loop .next) (f .least) (f .most) (f .limit) (l .loop .out) (l .loop .to) (n .read-line .last .1 .1 .1 .0)) e
     (n .read-line .ensures)
 
 loop-holds : tie.Need-loop-holds Inv-loop μ-loop
@@ -38,7 +43,7 @@ read-line-requires : tie.Need-read-line-requires Inv-loop μ-loop
 read-line-requires c κs = (omega arith, here (c .before))
 
 add-to : tie.Need-add-to Inv-loop μ-loop
-add-to c = omega (arith, here (c .before .before .before .before .before .before .before))
+add-to c = omega (arith, here (c .before .before .before .before .before .before .before .before))
 
 sub-left : tie.Need-sub-left Inv-loop μ-loop
 sub-left c = omega arith
@@ -48,14 +53,14 @@ loop-less c = omega arith
 
 loop-again : tie.Need-loop-again Inv-loop μ-loop
 loop-again c =
-    let n = c .before .before .before .before .before in
+    let n = c .before .before .before .before .before .before in
     let t = n .before .before in
-    more _ _ _ _ _ _ _ _ _ _ _ _ _ (t .before .loop .inv) _ _ _ (t .loop-test .taken) (found n _ (c .before .after .given .1))
+    more _ _ _ _ _ _ _ _ _ _ _ _ _ (t .before .loop .inv) _ _ _ (t .loop-test .taken) (found n _ (c .before .before .after .given .1))
 
 same-length : tie.Need-same-length Inv-loop μ-loop
 same-length c =
     let n = c .before .before .before .before in
-    n .read-line .kept .1 .1 .1 .1 .1 .0 ∙ n .before .before .before .loop .inv .kept
+    n .read-line .kept .1 .1 .1 .0 ∙ n .before .before .before .loop .inv .kept
 
 returns : tie.Need-returns Inv-loop μ-loop
 returns c =

@@ -9,7 +9,8 @@ use Rattle.aiger.specs.Write.{write}
 use Rattle.layout.specs.Words.{circuitIn}
 use Rattle.layout.specs.Table.{table, sectionAt}
 use Rattle.layout.specs.declared.Section.{Section}
-use Rattle.write.proofs.Sections.{sectionText, sectionsText, text-longer, head-inside, section-rows, text-size, text-small}
+use Rattle.write.specs.Rows.{sectionText}
+use Rattle.write.proofs.Sections.{sectionsText, text-longer, head-inside, section-rows, text-size, text-small}
 use Rattle.write.proofs.text_length.Statement.{statement}
 use Rattle.write.proofs.text_length.Tie as tie
 
@@ -20,10 +21,10 @@ abbrev μ-loop : tie.MeasureT-loop
 μ-loop m p total₀ k₀ total k = 6 - k
 
 -- section k, and those after it
-counted : (c : tie.After-rows-length Inv-loop μ-loop)
+counted : (c : tie.After-section-length Inv-loop μ-loop)
     → let l = c .before .before .before in
     let a = l .before .before .before .args in
-    c .rows-length .result + length (sectionsText (a .m .now) (drop (l .loop .k + 1) (table (a .layout))))
+    c .section-length .result + length (sectionsText (a .m .now) (drop (l .loop .k + 1) (table (a .layout))))
     ≡ length (sectionsText (a .m .now) (drop (l .loop .k) (table (a .layout))))
 counted c =
     let l = c .before .before .before in
@@ -31,7 +32,7 @@ counted c =
     rw (add-one (l .loop .k))
     (omega (
       arith,
-      c .rows-length .ensures,
+      c .section-length .ensures,
       ap (λ (t : Section). length (sectionText (a .m .now) t)) (c .before .section-at .ensures),
       text-longer (a .m .now) (a .layout) (l .loop .k) (c .before .before .loop-test .taken),
     ))
@@ -52,8 +53,8 @@ loop-holds c =
 section-at-requires : tie.Need-section-at-requires Inv-loop μ-loop
 section-at-requires c κs = c .loop-test .taken
 
-rows-length-requires : tie.Need-rows-length-requires Inv-loop μ-loop
-rows-length-requires c κs =
+section-length-requires : tie.Need-section-length-requires Inv-loop μ-loop
+section-length-requires c κs =
     let l = c .before .before in
     let s = l .before .before .before in
     rw (c .section-at .ensures) (section-rows (s .pre .0) (s .pre .1) (l .loop .k) (c .before .loop-test .taken))
@@ -84,5 +85,5 @@ pub text-length-spec : {M : Type 1} → statement M
 text-length-spec =
     tie.close
     (tie.spec
-    Inv-loop μ-loop row-length-requires add-total loop-holds section-at-requires rows-length-requires add-total-2 add-k loop-less
+    Inv-loop μ-loop row-length-requires add-total loop-holds section-at-requires section-length-requires add-total-2 add-k loop-less
     loop-again returns)

@@ -13,7 +13,8 @@ use Rattle.layout.specs.Table.{table, sectionAt}
 use Rattle.output.specs.Output.{Room, Placed}
 use Rattle.output.specs.Row.{rowText}
 use Rattle.output.proofs.Output.{Rest, put-front, placed-length, rest-start, rest-room, rest-more, rest-end, last-room, last-placed}
-use Rattle.write.proofs.Sections.{sectionText, sectionsText, text-more, head-inside, section-rows, text-parts}
+use Rattle.write.specs.Rows.{sectionText}
+use Rattle.write.proofs.Sections.{sectionsText, text-more, head-inside, section-rows, text-parts}
 use borrow.Author.Needs.{needs}
 use Rattle.write.proofs.write_text.Statement.{statement}
 use Rattle.write.proofs.write_text.Tie as tie
@@ -95,8 +96,8 @@ loop-holds c =
 section-at-requires : tie.Need-section-at-requires Inv-loop μ-loop
 section-at-requires c κs = c .loop-test .taken
 
-write-rows-requires : tie.Need-write-rows-requires Inv-loop μ-loop
-write-rows-requires c κs =
+write-section-requires : tie.Need-write-section-requires Inv-loop μ-loop
+write-section-requires c κs =
     let w = c .before in
     let t = w .before in
     let s = entry (t .before) in
@@ -104,7 +105,7 @@ write-rows-requires c κs =
     let r = section-rows (s .pre .0) (s .pre .1) k (t .loop-test .taken) in
     let u = sectionText (s .args .m .now) (sectionAt (s .args .layout) k) in
     rw (w .section-at .ensures)
-    (r .0, r .1, rest-room u (from s (suc k)) (sections-room (start (t .before))) (left t))
+    (r, rest-room u (from s (suc k)) (sections-room (start (t .before))) (left t))
 
 add-k : tie.Need-add-k Inv-loop μ-loop
 add-k c = omega (arith, c .before .before .before .before .before .loop-test .taken)
@@ -122,7 +123,7 @@ loop-again c =
       omega (arith, t .loop-test .taken),
       rw (add-one k)
           (rest-more (sectionText (s .args .m .now) (sectionAt (s .args .layout) k)) (from s (suc k)) (sections-room (start (t .before)))
-          (left t) (rw (g .section-at .ensures) at (w .write-rows .ensures))),
+          (left t) (rw (g .section-at .ensures) at (w .write-section .ensures))),
     )
 
 -- all is written
@@ -146,5 +147,5 @@ pub write-text-spec : {M : Type 1} → statement M
 write-text-spec =
     tie.close
     (tie.spec
-    Inv-loop μ-loop (λ c. search needs) put-requires put-row-requires loop-holds section-at-requires write-rows-requires add-k
+    Inv-loop μ-loop (λ c. search needs) put-requires put-row-requires loop-holds section-at-requires write-section-requires add-k
     loop-less loop-again same-length returns)
