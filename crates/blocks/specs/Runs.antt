@@ -10,13 +10,14 @@ use Rattle.aiger.specs.Circuit.{Circuit, var}
 use Rattle.aiger.specs.Frames.{Run}
 use Rattle.aiger.specs.Witness.{readRun}
 use Rattle.completions.specs.Either.{eithers, completion, shows}
-use Rattle.layout.specs.Words.{word}
+use Rattle.layout.specs.Words.{word, circuitIn}
 use Rattle.layout.specs.declared.Layout.{Layout}
 use Rattle.meaning.specs.Frame.{inputAt, latchAt, Valuation}
-use Rattle.frames.specs.Lanes.{lane, Apart}
+use Rattle.frames.specs.Lanes.{lane, Apart, Ready}
 use Rattle.witness.specs.Line.{values}
 use Rattle.completions.specs.Forms.{SameForm}
 use Rattle.blocks.specs.declared.Column.{Column}
+use Rattle.blocks.specs.declared.Instance.{Instance}
 
 -- variable i of a column
 abbrev pub columnVar : List ℕ → Column → ℕ → ℕ
@@ -70,6 +71,13 @@ pub record Fits (c : Circuit) (b frames count : ℕ) (body : List ℕ) : Type 0 
   pub inside : length (c .latches) + 1 + frames * (length (c .inputs) + 1) ≤ length body
   pub eithers-are : count ≡ eithers body
   pub few : count ≤ 16
+
+-- a question that can be asked of a body: the circuit is ready to be evaluated with `count` words, its bad line is there, and the body
+-- was read
+pub record Posed (m order : List ℕ) (w : Instance) (body : List ℕ) (count : ℕ) : Type 0 where
+  pub ready : Ready m (w .layout) order count
+  pub bad : w .q .bad < word m 5
+  pub fits : Fits (circuitIn m) (w .q .bad) (w .q .frames) (w .q .eithers) body
 
 -- whether a body shows a hit, or does not where that is wanted
 abbrev pub wanted : Circuit → ℕ → Bool → List ℕ → Bool

@@ -26,7 +26,7 @@ put-line-requires c κs =
 same-length : tie.Need-same-length
 same-length c =
     let S = c .before .before .before .before .before .before .before .before in
-    c .before .before .put-line .kept .1 .1 .1 .1 .1 .1 .0 ∙ length-set (S .args .values .now) 0 0
+    c .before .before .put-line .kept .1 .1 .1 .1 .0 ∙ length-set (S .args .values .now) 0 0
 
 returns : tie.Need-returns
 returns c =
@@ -35,7 +35,7 @@ returns c =
     let W = c .before .before .put-line in
     let a = S .args in
     let e : 0 + a .layout .l + 1 ≡ a .layout .l + 1 = omega arith in (
-      started R (a .body .now) (a .block) (set (a .values .now) 0 0) (W .last .1 .1 .1 .1 .1 .1 .0) (getD-set-same (a .values .now) 0 0 0 (omega (arith, R .room))) (W .ensures .0),
+      started R (a .body .now) (a .block) (set (a .values .now) 0 0) (W .last .1 .1 .1 .1 .0) (getD-set-same (a .values .now) 0 0 0 (omega (arith, R .room))) (W .ensures .0),
       W .ensures .1 ∙ ap (λ (n : ℕ). eithers (take n (a .body .now))) e,
     )
 
