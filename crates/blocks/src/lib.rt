@@ -169,7 +169,7 @@ pub fn put_starts(
     requires { ⌜ Ready (now m) layout (now order) (length (now values)) ⌝ }
     requires { ⌜ layout .l < length (now body) ⌝ }
     ensures { λ r. ⌜
-        Started (circuitIn (now (m .entry))) (now (body .entry)) block (now (values .exit))
+        Started (circuitIn (now (m .entry))) (now (body .entry)) block (now (values .entry)) (now (values .exit))
         × (r ≡ eithers (take (layout .l + 1) (now (body .entry))))
         ⌝ }
 {
