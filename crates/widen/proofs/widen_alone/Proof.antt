@@ -6,7 +6,7 @@ use Rattle.widen.proofs.widen_alone.Tie as tie
 widen-hits-requires : tie.Need-widen-hits-requires
 widen-hits-requires c κs =
     let S = c .before .before .before .before .before .before .before in
-    (S .pre .0, ((S .pre .1 .0, search needs), S .pre .1 .1))
+    (S .pre, search needs)
 
 pub widen-alone-spec : {M : Type 1} → statement M
 widen-alone-spec =

@@ -19,7 +19,7 @@ use Rattle.widen.proofs.widen_hits.Statement.{statement}
 use Rattle.widen.proofs.widen_hits.Tie as tie
 
 rows-of-requires : tie.Need-rows-of-requires
-rows-of-requires c κs = let S = c .before .before .before .before .before .before .before .before in rows-fit (S .pre .0) (S .pre .1 .1)
+rows-of-requires c κs = let S = c .before .before .before .before .before .before .before .before in rows-fit (S .pre .0 .ready) (S .pre .0 .fits)
 
 -- after the rows: the entry, the pins and the test of completions
 module _ (r : tie.After-rows-of) where
@@ -38,13 +38,13 @@ module _ (r : tie.After-rows-of) where
 agree-requires : tie.Need-agree-requires
 agree-requires c κs =
     let r = c .before in
-    inputs-few (S r .pre .0) (S r .pre .1 .1) (q r) (r .rows-of .result) (r .rows-of .ensures)
+    inputs-few (S r .pre .0 .ready) (S r .pre .0 .fits) (q r) (r .rows-of .result) (r .rows-of .ensures)
 
 returns : tie.Need-returns
 returns c =
     let a = c .before in
     let r = a .before .before in
-    stays-apart (S r .pre .0) (S r .pre .1 .1) (q r) (r .rows-of .result) (r .rows-of .ensures) (a .agree .result) (a .agree .ensures)
+    stays-apart (S r .pre .0 .ready) (S r .pre .0 .fits) (q r) (r .rows-of .result) (r .rows-of .ensures) (a .agree .result) (a .agree .ensures)
     (not-true (a .agree .result) (c .if1 .taken))
 
 -- where all bytes agree the plain test is the test under pins
@@ -53,7 +53,7 @@ agreed : (e : tie.Else1) → (let r = e .before .before .before in allPass (p r)
 agreed e =
     let a = e .before in
     let r = a .before .before in
-    all-agree (S r .pre .0) (S r .pre .1 .1) (q r) (r .rows-of .result) (r .rows-of .ensures) (a .agree .result) (a .agree .ensures)
+    all-agree (S r .pre .0 .ready) (S r .pre .0 .fits) (q r) (r .rows-of .result) (r .rows-of .ensures) (a .agree .result) (a .agree .ensures)
     (not-false (a .agree .result) (e .if1 .left))
 
 returns-2 : tie.Need-returns-2
@@ -68,11 +68,16 @@ widen-body-requires c κs =
     let h = c .before .before .before .before .before .before .before .before in
     let e = h .before .before .before .before in
     let r = e .before .before .before in
-    let E = h .every-hit in (
-      ready-with (S r .pre .0) (omega (arith, E .kept .1 .1 .1 .1 .1 .0, S r .pre .0 .room)),
+    let E = h .every-hit in
+    let P = S r .pre .0 in (
+      record {
+        ready = ready-with (P .ready) (omega (arith, E .kept .1 .1 .1 .1 .0, P .ready .room));
+        bad = P .bad;
+        fits = P .fits;
+      },
       (
-        (S r .pre .1 .0 .0, omega (arith, E .kept .1 .1 .1 .1 .1 .1 .0, S r .pre .1 .0 .1)),
-        (S r .pre .1 .1, T-true (agreed e ∙ sym (E .ensures) ∙ not-false (E .result) (c .before .before .before .if2 .left))),
+        omega (arith, E .kept .1 .1 .1 .1 .1 .0, S r .pre .1),
+        T-true (agreed e ∙ sym (E .ensures) ∙ not-false (E .result) (c .before .before .before .if2 .left)),
       ),
     )
 
