@@ -88,7 +88,18 @@ pub fn write_samples(
     let mut t: u32 = 0;
     let mut left = pass.frames;
     while 0 < left {
-        seen = blocks::put_frame(m, layout, order, body, Cursor { at: row, seen, block }, values);
+        seen = blocks::put_frame(
+            m,
+            layout,
+            order,
+            body,
+            Cursor {
+                at: row,
+                seen,
+                block,
+            },
+            values,
+        );
         end = write_sample(m, values, pass, t, out, end);
         frames::advance(m, layout, order, values, state);
         row += width;
