@@ -237,21 +237,21 @@ abbrev Refusal : Reading → Type 0
 Refusal (reading.Read start w) = ⊥
 Refusal (reading.Refused n) = Unit {0}
 
-module _ {m text old order : List ℕ} where
+module _ {m text old order : List ℕ} {r : Reading} (z : HeldRead m text old order r) where
   -- a refusal: there is no circuit, or a test of the text refuses
   pub refusal-read : (P : ℕ → Type 0) → (HoldsNone m → P 9)
       → ((n : ℕ) → Holds m (circuitIn m) → judge (eitherTests (circuitIn m) text) ≡ refused n → P n)
-      → {n : ℕ} → HeldRead m text old order (reading.Refused n) → P n
-  refusal-read P f g {n} r = go (r .held) (r .held-is) (r .read)
+      → {n : ℕ} → r ≡ reading.Refused n → P n
+  refusal-read P f g {n} e = go (z .held) (z .held-is) (subst (ReadIn m text (z .held)) e (z .read))
     where
       go : (h : Held) → HeldIs m order h → ReadIn m text h (reading.Refused n) → P n
       go (held.Circuit p) i e = g n (i .1) e
       go held.Nothing i e = subst P (sym (ap cause e)) (f i)
 
   -- a witness: what is asked of its body
-  pub posed-read : {start : ℕ} {w : Instance} → 3072 ≤ length order → HeldRead m text old order (reading.Read start w)
+  pub posed-read : 3072 ≤ length order → {start : ℕ} {w : Instance} → r ≡ reading.Read start w
       → Posed m order w (drop start text) 4097 × Placed (circuitIn m) text start (w .q)
-  posed-read {start} {w} l r = go (r .held) (r .held-is) (r .read)
+  posed-read l {start} {w} e = go (z .held) (z .held-is) (subst (ReadIn m text (z .held)) e (z .read))
     where
       go : (h : Held) → HeldIs m order h → ReadIn m text h (reading.Read start w)
           → Posed m order w (drop start text) 4097 × Placed (circuitIn m) text start (w .q)

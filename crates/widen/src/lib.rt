@@ -129,17 +129,8 @@ fn widen_body(
 }
 
 // Widens a body where every completion hits and obeys the pins; else it stays.
-fn widen_hits(
-    m: &[u32],
-    order: &[u32],
-    w: Instance,
-    own: &[u8],
-    body: &mut [u8],
-    values: &mut [u64],
-    state: &mut [u64],
-)
-    requires { ⌜ Posed (now m) (now order) w (now body) (length (now values)) ⌝ }
-    requires { ⌜ 1024 ≤ length (now state) ⌝ }
+fn widen_hits(m: &[u32], order: &[u32], w: Instance, own: &[u8], body: &mut [u8])
+    requires { ⌜ Posed (now m) (now order) w (now body) 4097 ⌝ }
     ensures { λ _. ⌜
         now (body .exit) ≡ widened (pinnedShows (circuitIn (now (m .entry))) (λ i. getD (now (own .entry)) i 2) (w .q .bad))
         (now (body .entry))
@@ -151,23 +142,12 @@ fn widen_hits(
     if !pinned_runs::agree(rows, own, body, false) {
         return;
     }
-    if !every_hit(m, order, w, body, values, state) {
-        return;
-    }
-    widen_body(m, order, w, own, body, values, state);
-}
-
-// The same, with memory of its own for the words.
-fn widen_alone(m: &[u32], order: &[u32], w: Instance, own: &[u8], body: &mut [u8])
-    requires { ⌜ Posed (now m) (now order) w (now body) 4097 ⌝ }
-    ensures { λ _. ⌜
-        now (body .exit) ≡ widened (pinnedShows (circuitIn (now (m .entry))) (λ i. getD (now (own .entry)) i 2) (w .q .bad))
-        (now (body .entry))
-        ⌝ }
-{
     let mut values = [0u64; 4097];
     let mut state = [0u64; 1024];
-    widen_hits(m, order, w, own, body, &mut values, &mut state);
+    if !every_hit(m, order, w, body, &mut values, &mut state) {
+        return;
+    }
+    widen_body(m, order, w, own, body, &mut values, &mut state);
 }
 
 // Copies a witness, whose body begins at `start`, to the front of out and widens the copy.
@@ -193,7 +173,7 @@ fn widen_copy(
 {
     let end = text.len();
     bytes::copy(text, out);
-    widen_alone(m, order, w, own, &mut out[start..end]);
+    widen_hits(m, order, w, own, &mut out[start..end]);
 }
 
 // Widening under pins: own has a byte for each input, and an input without one is free.

@@ -33,8 +33,8 @@ body-is k =
     ap (λ (o : List ℕ). take (length text - a .start) (drop (a .start) o)) (out-is k)
     ∙ body-of text (a .out .now) (a .start) (start k .pre .1 .0)
 
-widen-alone-requires : tie.Need-widen-alone-requires
-widen-alone-requires c κs =
+widen-hits-requires : tie.Need-widen-hits-requires
+widen-hits-requires c κs =
     let k = c .before .before .before in
     let S = start k in
     let a = S .args in
@@ -48,7 +48,7 @@ returns c =
     let p : List ℕ → Bool = pinnedShows (circuitIn (a .m .now)) (λ i. getD (a .own .now) i 2) (a .w .q .bad) in
     let text : List ℕ = a .text .now in
     let body : List ℕ = drop (a .start) text in
-    ap₂ (putMid (a .start) (length text - a .start)) (out-is k) (w .widen-alone .ensures ∙ ap (widened p) (body-is k))
+    ap₂ (putMid (a .start) (length text - a .start)) (out-is k) (w .widen-hits .ensures ∙ ap (widened p) (body-is k))
     ∙ body-put text (a .out .now) (widened p body) (a .start) (start k .pre .1 .0)
     (widened-wider p body .size ∙ length-drop (a .start) text)
 
@@ -56,4 +56,4 @@ pub widen-copy-spec : {M : Type 1} → statement M
 widen-copy-spec =
     tie.close
     (tie.spec
-    (λ c κs. search needs) (λ c. search needs) (λ c. search needs) (λ c. search needs) widen-alone-requires (λ c. search needs) returns)
+    (λ c κs. search needs) (λ c. search needs) (λ c. search needs) (λ c. search needs) widen-hits-requires (λ c. search needs) returns)

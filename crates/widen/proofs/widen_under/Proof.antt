@@ -1,5 +1,5 @@
 -- `widen::widen_under` meets its contract: each answer by what was read of the text. Assumes nothing.
-use mathlib.Core.Path.{refl, subst}
+use mathlib.Core.Path.{refl}
 use mathlib.Core.List.{List}
 use Prim.Native.Nat.{ℕ, _≤_}
 use native.Mathlib.Omega.{arith}
@@ -10,53 +10,41 @@ use Rattle.completions.specs.Either.{eithers}
 use Rattle.layout.specs.Words.{circuitIn}
 use Rattle.blocks.specs.Runs.{Posed}
 use Rattle.pinned_runs.specs.Obeys.{PinnedWidened}
-use Rattle.replay.specs.Texts.{Placed, HeldRead}
+use Rattle.replay.specs.Texts.{Placed}
 use Rattle.replay.proofs.Answers.{refusal-read, posed-read}
 use Rattle.widen.proofs.Outputs.{refuses, too-short, widens}
 use borrow.Author.Needs.{needs}
 use Rattle.widen.proofs.widen_under.Statement.{statement}
 use Rattle.widen.proofs.widen_under.Tie as tie
 
--- after reading: the entry, the pins, and the order that is left
-module _ (r : tie.After-read-held) where
-  abbrev S : tie.Start
-  S = r .before .before .before .before .before .before
+abbrev pin : tie.Start → ℕ → ℕ
+pin S i = getD (S .args .own .now) i 2
 
+-- a witness that was read: what is asked of its body
+module _ (k : tie.After-start) where
   abbrev m : List ℕ
-  m = S .args .m .now
+  m = k .before .before .before .before .before .before .before .before .before .args .m .now
 
   abbrev text : List ℕ
-  text = S .args .text .now
+  text = k .before .before .before .before .before .before .before .before .before .args .text .now
 
-  abbrev out : List ℕ
-  out = S .args .out .now
+  abbrev body : List ℕ
+  body = drop (k .start .given .0 .0) text
 
-  abbrev pin : ℕ → ℕ
-  pin i = getD (S .args .own .now) i 2
+  read : (let w = k .start .given .0 .1 .0 in
+      Posed m (k .before .before .before .read-held .last .1 .1 .0) w body 4097 × Placed (circuitIn m) text (k .start .given .0 .0) (w .q))
+  read = posed-read (k .before .before .before .read-held .ensures) (search needs) (k .start .given .1)
 
-  abbrev order : List ℕ
-  order = r .read-held .last .1 .1 .0
-
--- a witness that was read
-read : (k : tie.After-start)
-    → (let r = k .before .before .before in
-    let start = k .start .given .0 .0 in
-    let w = k .start .given .0 .1 .0 in
-    Posed (m r) (order r) w (drop start (text r)) 4097 × Placed (circuitIn (m r)) (text r) start (w .q))
-read k =
-    let r = k .before .before .before in
-    posed-read (search needs) (subst (HeldRead (m r) (text r) _ (order r)) (k .start .given .1) (r .read-held .ensures))
-
-few : (k : tie.After-start) → (let r = k .before .before .before in eithers (drop (k .start .given .0 .0) (text r)) ≤ 16)
-few k = let P = read k .1 in omega (arith, P .fits .eithers-are, P .fits .few)
+  few : eithers body ≤ 16
+  few = omega (arith, read .1 .fits .eithers-are, read .1 .fits .few)
 
 returns : tie.Need-returns
 returns c =
     let k = c .before .before in
-    let r = k .before .before .before in
+    let S = k .before .before .before .before .before .before .before .before .before in
     let P = read k in
-    too-short (circuitIn (m r)) (P .0 .ready .held) (pin r) (text r) (out r) (k .start .given .0 .1 .0 .q .bad)
-    (drop (k .start .given .0 .0) (text r)) (P .1 .reads) (few k) (omega (arith, c .if1 .taken))
+    too-short (circuitIn (m k)) (P .0 .ready .held) (pin S) (text k) (S .args .out .now) (k .start .given .0 .1 .0 .q .bad) (body k)
+    (P .1 .reads) (few k) (omega (arith, c .if1 .taken))
 
 widen-copy-requires : tie.Need-widen-copy-requires
 widen-copy-requires c κs =
@@ -66,22 +54,21 @@ widen-copy-requires c κs =
 
 returns-2 : tie.Need-returns-2
 returns-2 c =
-    let r = c .before .before .before .before in
-    refusal-read (λ (n : ℕ). PinnedWidened (m r) (pin r) (text r) (out r) (refused n) (out r)) Operated.noCircuit
-    (λ n h e. refuses (circuitIn (m r)) h (pin r) (text r) (out r) n e)
-    (subst (HeldRead (m r) (text r) _ (order r)) (c .before .n .given .1) (r .read-held .ensures))
+    let S = c .before .before .before .before .before .before .before .before .before .before in
+    let a = S .args in
+    refusal-read (c .before .before .before .before .read-held .ensures)
+    (λ (n : ℕ). PinnedWidened (a .m .now) (pin S) (a .text .now) (a .out .now) (refused n) (a .out .now)) Operated.noCircuit
+    (λ n h e. refuses (circuitIn (a .m .now)) h (pin S) (a .text .now) (a .out .now) n e) (c .before .n .given .1)
 
 returns-3 : tie.Need-returns-3
 returns-3 c =
-    let w = c .before .before in
     let e = c .before .before .before .before .before in
     let k = e .before .before in
-    let r = k .before .before .before in
-    let start = k .start .given .0 .0 in
+    let S = k .before .before .before .before .before .before .before .before .before in
     let P = read k in
-    widens (circuitIn (m r)) (P .0 .ready .held) (pin r) (text r) (out r) (k .start .given .0 .1 .0 .q .bad) (drop start (text r))
-    (P .1 .reads) (few k) (omega (arith, e .if1 .left)) start (P .1 .inside)
-    refl (length (text r)) refl _ (w .widen-copy .ensures)
+    widens (circuitIn (m k)) (P .0 .ready .held) (pin S) (text k) (S .args .out .now) (k .start .given .0 .1 .0 .q .bad) (body k)
+    (P .1 .reads) (few k) (omega (arith, e .if1 .left)) (k .start .given .0 .0) (P .1 .inside)
+    refl (length (text k)) refl _ (c .before .before .widen-copy .ensures)
 
 pub widen-under-spec : {M : Type 1} → statement M
 widen-under-spec =
