@@ -7,7 +7,8 @@ use native.Mathlib.Nat.{suc-mul, mul-le-mul-left, mul-le-mul-right}
 use native.Mathlib.Omega.{arith}
 use lib.Bits.{bitAnd}
 use lib.Dec.{eqb}
-use lib.ListN.{length, getD}
+use lib.ListN.{length, getD, set}
+use lib.Seq.{getD-set-same, getD-set-other}
 use Rattle.aiger.specs.Bits.{bit}
 use Rattle.aiger.specs.Circuit.{Circuit, var}
 use Rattle.aiger.specs.Frames.{Run, state, constrained, allowed, hits}
@@ -95,27 +96,37 @@ module _ {m : List ℕ} {layout : Layout} {order : List ℕ} {count : ℕ} (R : 
 
   -- ---- one frame
 
-  pub frame-given : (text : List ℕ) (at block : ℕ) (before filled after : List ℕ)
-      → Given (λ i. var (word m (7 + 1 * i))) (lineBit text at block) (layout .i) before filled → Evaluated c filled after → FrameGiven c text at block before after
-  frame-given text at block before filled after g v p h st z ls =
-      v .values p h (values (completion (block * 64 + p) text) at (length (c .inputs))) st
-      (record {
-        constant = ap (λ (w : ℕ). bit w p) (g .others 0 input-nonzero) ∙ z;
-        input = λ i l.
-            let k : i < layout .i = omega (arith, inputs-are (R .held) (R .layout-of)) in
-            ap (lane filled p) (sym (input-place i k)) ∙ g .new i k p h ∙ sym (value-at (completion (block * 64 + p) text) at (length (c .inputs)) i l);
-        latch = λ j l.
-            ap (λ (w : ℕ). bit w p)
-            (g .others (var (latchAt c j .lit))
-            (λ i k e. input-latch c (right (R .held)) i j (omega (arith, inputs-are (R .held) (R .layout-of))) l (sym (input-place i k) ∙ e)))
-            ∙ ls j l;
-      })
+  module _ (text : List ℕ) (at block : ℕ) (before filled after : List ℕ)
+      (g : Given (λ i. var (word m (7 + 1 * i))) (lineBit text at block) (layout .i) before filled) (e : Evaluated c filled after) where
+    -- what is no input's variable
+    kept : (v : ℕ) → ((i : ℕ) → i < length (c .inputs) → var (inputAt c i) ≡ v → ⊥) → (p : ℕ) → lane filled p v ≡ lane before p v
+    kept v n p =
+        ap (λ (w : ℕ). bit w p)
+        (g .others v (λ i k z. n i (omega (arith, inputs-are (R .held) (R .layout-of))) (sym (input-place i k) ∙ z)))
+
+    pub frame-given : FrameGiven c text at block before after
+    frame-given =
+        record {
+          valued = λ p h st z ls.
+              e .values p h (values (completion (block * 64 + p) text) at (length (c .inputs))) st
+              (record {
+                constant = ap (λ (w : ℕ). bit w p) (g .others 0 input-nonzero) ∙ z;
+                input = λ i l.
+                    let k : i < layout .i = omega (arith, inputs-are (R .held) (R .layout-of)) in
+                    ap (lane filled p) (sym (input-place i k)) ∙ g .new i k p h
+                    ∙ sym (value-at (completion (block * 64 + p) text) at (length (c .inputs)) i l);
+                latch = λ j l. kept (var (latchAt c j .lit)) (λ i k. input-latch c (right (R .held)) i j k l) p ∙ ls j l;
+              });
+          others = λ p h v n k. e .others p h v k ∙ kept v n p;
+        }
 
   -- ---- the start
 
-  pub started : (body : List ℕ) (block : ℕ) (cleared words : List ℕ) → getD cleared 0 0 ≡ 0
-      → Given (λ j. var (word m (layout .latches + 3 * j))) (lineBit body 0 block) (layout .l) cleared words → Started c body block words
-  started body block cleared words z g =
+  pub started : (body : List ℕ) (block : ℕ) (before words : List ℕ) → 0 < length before
+      → Given (λ j. var (word m (layout .latches + 3 * j))) (lineBit body 0 block) (layout .l) (set before 0 0) words
+      → Started c body block before words
+  started body block before words n g =
+      let z : getD (set before 0 0) 0 0 ≡ 0 = getD-set-same before 0 0 0 n in
       record {
         constant = λ p. ap (λ (w : ℕ). bit w p) (g .others 0 latch-nonzero ∙ z) ∙ bit-none p;
         latches = λ p h.
@@ -126,6 +137,10 @@ module _ {m : List ℕ} {layout : Layout} {order : List ℕ} {count : ℕ} (R : 
                   ap (lane words p) (latch-var (R .held) (R .layout-of) j k) ∙ g .new j k p h
                   ∙ sym (value-at (laneText body block p) 0 (length (c .latches)) j l);
             };
+        others = λ v n k.
+            g .others v
+            (λ j l e. k j (omega (arith, latches-are R)) (latch-var (R .held) (R .layout-of) j l ∙ e))
+            ∙ getD-set-other before 0 v 0 0 n;
       }
 
   module _ (body : List ℕ) (block frames : ℕ) where
@@ -138,12 +153,12 @@ module _ {m : List ℕ} {layout : Layout} {order : List ℕ} {count : ℕ} (R : 
         ap (λ (p : ℕ). values u p (length (c .inputs))) w ∙ sym (q .row-is t h)
 
     -- frame 0
-    pub valued-start : (at : ℕ) (begun words : List ℕ) → 1 ≤ frames → at ≡ layout .l + 1 → Started c body block begun → FrameGiven c body at block begun words
+    pub valued-start : (at : ℕ) {entry : List ℕ} (begun words : List ℕ) → 1 ≤ frames → at ≡ layout .l + 1 → Started c body block entry begun → FrameGiven c body at block begun words
         → Valued m body block frames 0 words
     valued-start at begun words h e s g p l r q =
         let z : at ≡ layout .l + 1 + 0 * (layout .i + 1) = omega arith in
         subst (λ (row : List Bool). Valuation c row (state c r 0) (lane words p)) (row-at (laneText body block p) r q 0 at (omega arith) z)
-        (g p l (state c r 0) (s .constant p)
+        (g .valued p l (state c r 0) (s .constant p)
         (λ j k. s .latches p l .latch j k ∙ ap (λ (st : List Bool). getD st j false) (sym (q .start-is) ∙ sym (state-start c r))))
 
     -- the frame after t
@@ -152,11 +167,11 @@ module _ {m : List ℕ} {layout : Layout} {order : List ℕ} {count : ℕ} (R : 
     valued-next t at old moved words h e w d g p l r q =
         let v = w p l r q in
         subst (λ (row : List Bool). Valuation c row (state c r (suc t)) (lane words p)) (row-at (laneText body block p) r q (suc t) at h e)
-        (g p l (state c r (suc t)) (next-constant (right (R .held)) (known (R .held)) (no-cycle (R .held)) r t d p l v)
+        (g .valued p l (state c r (suc t)) (next-constant (right (R .held)) (known (R .held)) (no-cycle (R .held)) r t d p l v)
         (next-latch (right (R .held)) (known (R .held)) (no-cycle (R .held)) r t d p l v))
 
     -- the completions that start as the resets say and are allowed at frame t: at frame 0, and at the frame after t
-    pub left-start : (agree left : ℕ) (begun words : List ℕ) → Started c body block begun
+    pub left-start : (agree left : ℕ) {entry : List ℕ} (begun words : List ℕ) → Started c body block entry begun
         → ((p : ℕ) → p < 64 → (start : List Bool) → Latches c start (lane begun p) → bit agree p ≡ agrees (c .latches) start)
         → Valued m body block frames 0 words → Constrained c agree words left → Left m body block frames 0 left
     left-start agree left begun words s a w h p l r q =

@@ -13,11 +13,11 @@ ghost use Rattle.aiger.specs.Frames.{Run, hits};
 ghost use Rattle.aiger.specs.Witness.{agrees};
 ghost use Rattle.completions.specs.Either.{isEither, eithers, completion, allPass};
 ghost use Rattle.literals.specs.Literal.{wordOf};
-ghost use Rattle.layout.specs.Words.{word, circuitIn};
+ghost use Rattle.layout.specs.Words.{circuitIn};
 ghost use Rattle.completions.specs.Forms.{completed};
 ghost use Rattle.frames.specs.Lanes.{lane, Ready};
 ghost use Rattle.enumeration.specs.Blocks.{Given};
-ghost use Rattle.blocks.specs.Runs.{columnVar, lineBit, Line, Latches, Started, RunAt, FrameGiven, Fits, wanted};
+ghost use Rattle.blocks.specs.Runs.{columnVar, lineBit, Line, Latches, Started, RunAt, FrameGiven, Posed, wanted};
 
 // Where the literals of a line of bits stand in circuit memory: count of them, step words apart.
 struct Column {
@@ -31,6 +31,19 @@ pub struct Question {
     pub bad: usize,
     pub frames: usize,
     pub eithers: usize,
+}
+
+// A question about a circuit: where its parts stand in memory, and what is asked.
+pub struct Instance {
+    pub layout: Layout,
+    pub q: Question,
+}
+
+// A line of bits of a body in a block of completions: where it stands, and how many `x` stand before it.
+pub struct Cursor {
+    pub at: usize,
+    pub seen: usize,
+    pub block: u64,
 }
 
 // 1 for `x`, else 0.
@@ -54,28 +67,21 @@ fn bit_word(byte: u8, k: usize, block: u64) -> u64
     }
 }
 
-// Gives each variable of a column its bit of the line at `at`, before which `seen` x stand. The answer is the number of x up to the
-// line's end.
-fn put_line(
-    m: &[u32],
-    column: Column,
-    text: &[u8],
-    at: usize,
-    seen: usize,
-    block: u64,
-    values: &mut [u64],
-) -> usize
-    requires { ⌜ Line (now m) column (now text) at seen (length (now values)) ⌝ }
+// Gives each variable of a column its bit of the line at the cursor. The answer is the number of x up to the line's end.
+fn put_line(m: &[u32], column: Column, text: &[u8], cursor: Cursor, values: &mut [u64]) -> usize
+    requires { ⌜ Line (now m) column (now text) (cursor .at) (cursor .seen) (length (now values)) ⌝ }
     ensures { λ r. ⌜
-        Given (columnVar (now (m .entry)) column) (lineBit (now (text .entry)) at block) (column .count) (now (values .entry))
-        (now (values .exit))
-        × (r ≡ eithers (take (at + column .count + 1) (now (text .entry))))
+        Given (columnVar (now (m .entry)) column) (lineBit (now (text .entry)) (cursor .at) (cursor .block)) (column .count)
+        (now (values .entry)) (now (values .exit))
+        × (r ≡ eithers (take (cursor .at + column .count + 1) (now (text .entry))))
         ⌝ }
 {
     let first = column.first;
     let step = column.step;
     let count = column.count;
-    let mut k = seen;
+    let at = cursor.at;
+    let block = cursor.block;
+    let mut k = cursor.seen;
     let mut i = 0;
     while i < count {
         let v = Lit::from_word(m[first + step * i]).var();
@@ -125,23 +131,20 @@ fn agree_word(m: &[u32], layout: Layout, order: &[u32], values: &[u64]) -> u64
     agree
 }
 
-// Gives the inputs the row at `at`, before which `seen` x stand, and evaluates the gates. The answer is the number of x up to the row's
-// end.
+// Gives the inputs the row at the cursor and evaluates the gates. The answer is the number of x up to the row's end.
 pub fn put_frame(
     m: &[u32],
     layout: Layout,
     order: &[u32],
     text: &[u8],
-    at: usize,
-    seen: usize,
-    block: u64,
+    row: Cursor,
     values: &mut [u64],
 ) -> usize
     requires { ⌜ Ready (now m) layout (now order) (length (now values)) ⌝ }
-    requires { ⌜ (at + layout .i < length (now text)) × (seen ≡ eithers (take at (now text))) ⌝ }
+    requires { ⌜ (row .at + layout .i < length (now text)) × (row .seen ≡ eithers (take (row .at) (now text))) ⌝ }
     ensures { λ r. ⌜
-        FrameGiven (circuitIn (now (m .entry))) (now (text .entry)) at block (now (values .entry)) (now (values .exit))
-        × (r ≡ eithers (take (at + layout .i + 1) (now (text .entry))))
+        FrameGiven (circuitIn (now (m .entry))) (now (text .entry)) (row .at) (row .block) (now (values .entry)) (now (values .exit))
+        × (r ≡ eithers (take (row .at + layout .i + 1) (now (text .entry))))
         ⌝ }
 {
     let inputs = Column {
@@ -149,7 +152,7 @@ pub fn put_frame(
         step: 1,
         count: layout.i,
     };
-    let next = put_line(m, inputs, text, at, seen, block, values);
+    let next = put_line(m, inputs, text, row, values);
     frames::eval_gates(m, layout, order, values);
     next
 }
@@ -166,7 +169,7 @@ pub fn put_starts(
     requires { ⌜ Ready (now m) layout (now order) (length (now values)) ⌝ }
     requires { ⌜ layout .l < length (now body) ⌝ }
     ensures { λ r. ⌜
-        Started (circuitIn (now (m .entry))) (now (body .entry)) block (now (values .exit))
+        Started (circuitIn (now (m .entry))) (now (body .entry)) block (now (values .entry)) (now (values .exit))
         × (r ≡ eithers (take (layout .l + 1) (now (body .entry))))
         ⌝ }
 {
@@ -176,36 +179,42 @@ pub fn put_starts(
         step: 3,
         count: layout.l,
     };
-    put_line(m, latches, body, 0, 0, block, values)
+    let line = Cursor {
+        at: 0,
+        seen: 0,
+        block,
+    };
+    put_line(m, latches, body, line, values)
 }
 
 // Which completions of a block start as the resets say and hit in their last frame. The frames after one by which none is left that starts
 // so and breaks no constraint are not evaluated.
 fn block_word(
     m: &[u32],
-    layout: Layout,
     order: &[u32],
-    q: Question,
+    w: Instance,
     body: &[u8],
     block: u64,
     values: &mut [u64],
     state: &mut [u64],
 ) -> u64
-    requires { ⌜ Ready (now m) layout (now order) (length (now values)) ⌝ }
-    requires { ⌜ (q .bad < word (now m) 5) × (1024 ≤ length (now state)) ⌝ }
-    requires { ⌜ Fits (circuitIn (now m)) (q .bad) (q .frames) (q .eithers) (now body) ⌝ }
+    requires { ⌜ Posed (now m) (now order) w (now body) (length (now values)) ⌝ }
+    requires { ⌜ 1024 ≤ length (now state) ⌝ }
     ensures { λ x. ⌜
-        ((p : ℕ) → p < 64 → (r : Run) → RunAt (circuitIn (now (m .entry))) (completion (block * 64 + p) (now (body .entry))) (q .frames) r
+        ((p : ℕ) → p < 64 → (r : Run)
+        → RunAt (circuitIn (now (m .entry))) (completion (block * 64 + p) (now (body .entry))) (w .q .frames) r
         → bit x p ≡ (agrees (circuitIn (now (m .entry)) .latches) (r .start)
-        && hits (circuitIn (now (m .entry))) (q .bad) r (q .frames - 1)))
+        && hits (circuitIn (now (m .entry))) (w .q .bad) r (w .q .frames - 1)))
         ⌝ }
 {
+    let layout = w.layout;
+    let q = w.q;
     let width = layout.i + 1;
     let frames = q.frames;
     let mut seen = put_starts(m, layout, order, body, block, values);
     let agree = agree_word(m, layout, order, values);
     let mut at = layout.l + 1;
-    seen = put_frame(m, layout, order, body, at, seen, block, values);
+    seen = put_frame(m, layout, order, body, Cursor { at, seen, block }, values);
     let mut left = frames::constrain(m, layout, order, agree, values);
     let mut u = 1;
     while u < frames {
@@ -214,7 +223,7 @@ fn block_word(
         }
         frames::advance(m, layout, order, values, state);
         at += width;
-        seen = put_frame(m, layout, order, body, at, seen, block, values);
+        seen = put_frame(m, layout, order, body, Cursor { at, seen, block }, values);
         left = frames::constrain(m, layout, order, left, values);
         u += 1;
     }
@@ -239,24 +248,23 @@ pub fn block_count(n: usize) -> u64
 // Whether every completion of a body shows a hit, or, where hits are not wanted, whether none does.
 pub fn every_completion(
     m: &[u32],
-    layout: Layout,
     order: &[u32],
-    q: Question,
+    w: Instance,
     body: &[u8],
     want: bool,
     values: &mut [u64],
     state: &mut [u64],
 ) -> bool
-    requires { ⌜ Ready (now m) layout (now order) (length (now values)) ⌝ }
-    requires { ⌜ (q .bad < word (now m) 5) × (1024 ≤ length (now state)) ⌝ }
-    requires { ⌜ Fits (circuitIn (now m)) (q .bad) (q .frames) (q .eithers) (now body) ⌝ }
-    ensures { λ r. ⌜ r ≡ allPass (wanted (circuitIn (now (m .entry))) (q .bad) want) (now (body .entry)) ⌝ }
+    requires { ⌜ Posed (now m) (now order) w (now body) (length (now values)) ⌝ }
+    requires { ⌜ 1024 ≤ length (now state) ⌝ }
+    ensures { λ r. ⌜ r ≡ allPass (wanted (circuitIn (now (m .entry))) (w .q .bad) want) (now (body .entry)) ⌝ }
 {
+    let q = w.q;
     let blocks = block_count(q.eithers);
     let goal = all_bits(want);
     let mut block = 0;
     while block < blocks {
-        let word = block_word(m, layout, order, q, body, block, values, state);
+        let word = block_word(m, order, w, body, block, values, state);
         if words::first_difference(word, goal) < 64 {
             return false;
         }

@@ -22,6 +22,7 @@ use Rattle.simulation.specs.Store.{Net, hitAt}
 use Rattle.simulation.specs.Found.{NoHit}
 use Rattle.solver.specs.Solved.{FloorLeft}
 use Rattle.resume.specs.Resume.{before, marked, placeOf, Spread}
+use Rattle.resume.proofs.Turns.{spread-bits}
 use Rattle.resume.proofs.Places.{before-same, before-most, before-less, before-more}
 use Rattle.decision.specs.Reach.{endOf}
 use Rattle.decision.specs.Decided.{Scannable, Resumable, Stopped}
@@ -87,10 +88,12 @@ module _ {work : List ℕ} {g : Graph} {root : ℕ} (net : Net (pairsOf work g) 
   place-is x bits f =
       before-same (marked work) (inCone (g .free) (pairsOf work g) root) (λ j. nonzero (getD bits j 0)) (freeBit (g .free) x) (g .free) mark-is f
 
-  pub spread-is : (y : ℕ) (bits : List ℕ) → Spread work y (g .free) bits → FreeBits (g .free) (spread (support (g .free) (pairsOf work g) root) (g .free) y) bits
+  pub spread-is : (y : ℕ) {old : List ℕ} (bits : List ℕ) → Spread work y (g .free) old bits
+      → FreeBits (g .free) (spread (support (g .free) (pairsOf work g) root) (g .free) y) bits
   spread-is y bits f =
       subst (λ (z : ℕ). FreeBits (g .free) z bits)
-      (spread-same (λ i. marked work (g .free - i)) (support (g .free) (pairsOf work g) root) (λ i. mark-is (g .free - i) (omega arith)) (g .free) y) f
+      (spread-same (λ i. marked work (g .free - i)) (support (g .free) (pairsOf work g) root) (λ i. mark-is (g .free - i) (omega arith)) (g .free) y)
+      (spread-bits f)
 
   -- no place before the floor hits
   pub scannable-from : (D x : ℕ) (bits : List ℕ) (from : ℕ) → D ≤ 4294967296 → FloorLeft (g .free) (pairsOf work g) root x bits

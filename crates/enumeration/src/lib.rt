@@ -3,10 +3,10 @@ use layout::Layout;
 use literals::Lit;
 ghost use mathlib.Core.Path.{_≡_};
 ghost use mathlib.Core.Bool.{cond};
-ghost use Prim.Native.Nat.{ℕ, _+_, _*_, _^_, _≤_, _<_, min};
-ghost use lib.Dec.{eqb, leb};
+ghost use Prim.Native.Nat.{ℕ, _+_, _*_, _≤_, _<_};
+ghost use lib.Dec.{eqb};
 ghost use lib.ListN.{length};
-ghost use Rattle.aiger.specs.Bits.{nonzero, bit};
+ghost use Rattle.aiger.specs.Bits.{bit};
 ghost use Rattle.aiger.specs.Circuit.{var};
 ghost use Rattle.aiger.specs.Frames.{freeBits, freeStarts, freeBit};
 ghost use Rattle.aiger.specs.Search.{reaches};
@@ -187,40 +187,6 @@ fn block_hits(
     left & frames::bad_word(m, layout, order, q.b, values)
 }
 
-// The smaller of 2 to the power n and d.
-fn tries(n: usize, d: u64) -> u64
-    requires { ⌜ d ≤ 4294967296 ⌝ }
-    ensures { λ r. ⌜ r ≡ min (2 ^ n) d ⌝ }
-{
-    if 32 < n {
-        return d;
-    }
-    let all = 1u64 << n;
-    if all < d { all } else { d }
-}
-
-// Whether a budget of d covers 2 to the power n sequences.
-fn covers(n: usize, d: u64) -> bool
-    requires { ⌜ d ≤ 4294967296 ⌝ }
-    ensures { λ r. ⌜ r ≡ leb (2 ^ n) d ⌝ }
-{
-    if 32 < n {
-        return false;
-    }
-    1u64 << n <= d
-}
-
-// Bit k of x.
-fn bit_of(x: u64, k: usize) -> u32
-    ensures { λ r. ⌜ nonzero r ≡ bit x k ⌝ }
-{
-    if 63 < k {
-        return 0;
-    }
-    let y = x >> k;
-    (y % 2) as u32
-}
-
 // Writes the free bits of sequence x.
 fn put_free(x: u64, n: usize, free: &mut [u32])
     requires { ⌜ n ≤ length (now free) ⌝ }
@@ -228,7 +194,7 @@ fn put_free(x: u64, n: usize, free: &mut [u32])
 {
     let mut j = 0;
     while j < n {
-        free[j] = bit_of(x, n - (j + 1));
+        free[j] = places::bit_of(x, n - (j + 1));
         j += 1;
     }
 }
@@ -293,13 +259,13 @@ pub fn first_hit(
 {
     let free = layout.u;
     let n = free + layout.i * (t + 1);
-    let total = tries(n, d);
+    let total = places::tries(n, d);
     let x = first_below(m, layout, order, Question { b, t, n, free }, total);
     if x < total {
         put_free(x, n, work);
         return Frame::Hit;
     }
-    if covers(n, d) {
+    if places::covers(n, d) {
         Frame::Clear
     } else {
         Frame::Spent

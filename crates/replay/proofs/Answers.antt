@@ -11,7 +11,7 @@ use lib.ListN.{length, take, drop, length-drop}
 use lib.Seq.{take-all}
 use Rattle.aiger.specs.Circuit.{Circuit}
 use Rattle.aiger.specs.Load.{Answer, refused, gives}
-use Rattle.aiger.specs.Operations.{judge, Operated}
+use Rattle.aiger.specs.Operations.{judge, Operated, HoldsNone}
 use Rattle.aiger.specs.Memory.{Holds}
 use Rattle.aiger.specs.Witness.{Witness, bits, bitRows, readRun}
 use Rattle.completions.specs.Either.{heading, eithers, completion, allPass, nonePasses, Verdict, verdict, shows, readEither}
@@ -27,8 +27,14 @@ use Rattle.completions.specs.Forms.{SameForm}
 use Rattle.completions.proofs.Completions.{completes}
 use Rattle.completions.proofs.Forms.{completes-form}
 use Rattle.witness.specs.Line.{values}
-use Rattle.blocks.specs.Runs.{RunAt, BodyRead, Fits}
-use Rattle.replay.specs.Texts.{CountsOf, RowsAt, Counted, malformed, wellFormed, Framed}
+use Rattle.blocks.specs.Runs.{RunAt, BodyRead, Fits, Posed}
+use Rattle.blocks.specs.declared.Instance.{Instance}
+use Rattle.circuit.specs.Held.{HeldIs}
+use Rattle.circuit.specs.declared.Held.{Held}
+use Rattle.circuit.specs.declared.Held.the-variants as held
+use Rattle.replay.specs.Texts.{CountsOf, RowsAt, Counted, malformed, wellFormed, Framed, Placed, ReadIn, HeldRead}
+use Rattle.replay.specs.declared.Reading.{Reading}
+use Rattle.replay.specs.declared.Reading.the-variants as reading
 use Rattle.replay.specs.declared.Rows.{Rows}
 use Rattle.replay.specs.declared.Rows.the-variants.{Read, Malformed}
 pub use Rattle.roundtrip.proofs.Lists.{take-rest as rest-is}
@@ -219,3 +225,42 @@ module _ {m : List ℕ} {layout : Layout} (held : Holds m (circuitIn m)) (a : La
 
   pub bad-word : {b : ℕ} → b < length (circuitIn m .bads) → b < word m 5
   bad-word l = omega (arith, bad-count m)
+
+-- ---- a witness of the circuit that is held
+
+-- the number of a refusal
+abbrev cause : Reading → ℕ
+cause (reading.Read start w) = 0
+cause (reading.Refused n) = n
+
+abbrev Refusal : Reading → Type 0
+Refusal (reading.Read start w) = ⊥
+Refusal (reading.Refused n) = Unit {0}
+
+module _ {m text old order : List ℕ} {r : Reading} (z : HeldRead m text old order r) where
+  -- a refusal: there is no circuit, or a test of the text refuses
+  pub refusal-read : (P : ℕ → Type 0) → (HoldsNone m → P 9)
+      → ((n : ℕ) → Holds m (circuitIn m) → judge (eitherTests (circuitIn m) text) ≡ refused n → P n)
+      → {n : ℕ} → r ≡ reading.Refused n → P n
+  refusal-read P f g {n} e = go (z .held) (z .held-is) (subst (ReadIn m text (z .held)) e (z .read))
+    where
+      go : (h : Held) → HeldIs m order h → ReadIn m text h (reading.Refused n) → P n
+      go (held.Circuit p) i e = g n (i .1) e
+      go held.Nothing i e = subst P (sym (ap cause e)) (f i)
+
+  -- a witness: what is asked of its body
+  pub posed-read : 3072 ≤ length order → {start : ℕ} {w : Instance} → r ≡ reading.Read start w
+      → Posed m order w (drop start text) 4097 × Placed (circuitIn m) text start (w .q)
+  posed-read l {start} {w} e = go (z .held) (z .held-is) (subst (ReadIn m text (z .held)) e (z .read))
+    where
+      go : (h : Held) → HeldIs m order h → ReadIn m text h (reading.Read start w)
+          → Posed m order w (drop start text) 4097 × Placed (circuitIn m) text start (w .q)
+      go (held.Circuit p) i e = (
+        record {
+          ready = subst (λ (y : Layout). Ready m y order 4097) (sym (e .0)) (ready-of (i .1) (i .0) (i .2) l);
+          bad = bad-word (i .1) (i .0) (e .1 .bad);
+          fits = e .1 .fits;
+        },
+        e .1,
+      )
+      go held.Nothing i e = absurd (subst Refusal (sym e) tt)

@@ -4,7 +4,8 @@ use mathlib.Core.List.{List}
 use Prim.Native.Nat.{ℕ}
 use Rattle.aiger.specs.Circuit.{Circuit}
 use Rattle.aiger.specs.Load.{Answer, refused, gives}
-use Rattle.completions.specs.Either.{Verdict, all, no, mixed, shows, verdict}
+use Rattle.completions.specs.Either.{eithers, Verdict, all, no, mixed, shows, verdict}
+use Rattle.blocks.specs.declared.Instance.{Instance}
 use Rattle.pinned_runs.specs.Obeys.{pinnedShows}
 use Rattle.pinned_runs.specs.Places.{pinAt, demoted, Settled}
 use Rattle.replay.specs.declared.ReplayAnswer.{ReplayAnswer}
@@ -15,6 +16,11 @@ answered All = gives all
 answered No = gives no
 answered Mixed = gives mixed
 answered (Refused n) = refused n
+
+-- the same question of a body whose `x` are counted
+abbrev pub counted : Instance → List ℕ → Instance
+counted w body =
+    record { layout = w .layout; q = record { bad = w .q .bad; frames = w .q .frames; eithers = eithers body } }
 
 -- r is the verdict on a body
 abbrev pub Judged : Circuit → ℕ → List ℕ → ReplayAnswer → Type 0

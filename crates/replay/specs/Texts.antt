@@ -11,10 +11,15 @@ use Rattle.aiger.specs.Witness.{readRun, bitRows}
 use Rattle.aiger.specs.Operations.{judge}
 use Rattle.completions.specs.Either.{readEither}
 use Rattle.completions.specs.Operations.{eitherTests}
+use Rattle.layout.specs.Words.{circuitIn}
 use Rattle.layout.specs.declared.Layout.{Layout}
 use Rattle.witness.specs.Line.{values}
 use Rattle.blocks.specs.Runs.{BodyRead, Fits}
 use Rattle.blocks.specs.declared.Question.{Question}
+use Rattle.blocks.specs.declared.Instance.{Instance}
+use Rattle.circuit.specs.Held.{HeldIs, Leaves}
+use Rattle.circuit.specs.declared.Held.{Held}
+use Rattle.circuit.specs.declared.Held.the-variants as held
 use Rattle.replay.specs.declared.Rows.{Rows}
 use Rattle.replay.specs.declared.Rows.the-variants.{Read, Malformed}
 use Rattle.replay.specs.declared.Reading.{Reading}
@@ -56,6 +61,19 @@ pub record Placed (c : Circuit) (text : List ℕ) (start : ℕ) (q : Question) :
   pub reads : readEither c text ≡ some (q .bad, drop start text)
   pub fits : Fits c (q .bad) (q .frames) (q .eithers) (drop start text)
 
-abbrev pub WitnessRead : Circuit → List ℕ → Reading → Type 0
-WitnessRead c text (reading.Read start q) = Placed c text start q
-WitnessRead c text (reading.Refused n) = judge (eitherTests c text) ≡ refused n
+-- what is read of a text as a witness of a circuit with this layout
+abbrev pub WitnessRead : Circuit → Layout → List ℕ → Reading → Type 0
+WitnessRead c layout text (reading.Read start w) = (w .layout ≡ layout) × Placed c text start (w .q)
+WitnessRead c layout text (reading.Refused n) = judge (eitherTests c text) ≡ refused n
+
+-- the same of a circuit that a memory holds; 9 where it holds none
+abbrev pub ReadIn : List ℕ → List ℕ → Held → Reading → Type 0
+ReadIn m text (held.Circuit layout) r = WitnessRead (circuitIn m) layout text r
+ReadIn m text held.Nothing r = r ≡ reading.Refused 9
+
+-- what the memory holds, the order of evaluation that is left, and what is read
+pub record HeldRead (m text old order : List ℕ) (r : Reading) : Type 0 where
+  pub held : Held
+  pub held-is : HeldIs m order held
+  pub leaves : Leaves m old order held
+  pub read : ReadIn m text held r

@@ -1,4 +1,5 @@
 // Replay: whether the completions of a witness start as the resets say and hit in their last frame.
+use blocks::Instance;
 use blocks::Question;
 use circuit::Held;
 use layout::Layout;
@@ -6,21 +7,20 @@ use witness::Bits;
 use witness::Heading;
 ghost use mathlib.Core.Path.{_≡_};
 ghost use mathlib.Core.List.{List};
-ghost use Prim.Native.Nat.{ℕ, _≤_, _<_};
+ghost use Prim.Native.Nat.{ℕ, _≤_};
 ghost use lib.ListN.{length, getD, drop};
 ghost use Rattle.aiger.specs.Lists.{same};
 ghost use Rattle.aiger.specs.Text.{bytes};
 ghost use Rattle.aiger.specs.Circuit.{Circuit};
 ghost use Rattle.completions.specs.Either.{eithers};
 ghost use Rattle.completions.specs.Operations.{EitherReplayed};
-ghost use Rattle.layout.specs.Words.{word, circuitIn};
+ghost use Rattle.layout.specs.Words.{circuitIn};
 ghost use Rattle.completions.specs.Forms.{isSymbol, SameForm};
 ghost use Rattle.witness.specs.Line.{LineAt};
-ghost use Rattle.frames.specs.Lanes.{Ready};
-ghost use Rattle.blocks.specs.Runs.{Fits};
+ghost use Rattle.blocks.specs.Runs.{Posed};
 ghost use Rattle.pinned_runs.specs.Obeys.{PinnedReplayed};
-ghost use Rattle.replay.specs.Answer.{answered, Judged, demotedAnswer, SettledJudged, JudgedUnder};
-ghost use Rattle.replay.specs.Texts.{CountsOf, Counted, FramesRead, WitnessRead};
+ghost use Rattle.replay.specs.Answer.{answered, counted, Judged, demotedAnswer, SettledJudged, JudgedUnder};
+ghost use Rattle.replay.specs.Texts.{CountsOf, Counted, FramesRead, WitnessRead, HeldRead};
 
 // What replay answers.
 pub enum ReplayAnswer {
@@ -38,7 +38,7 @@ enum Rows {
 
 // A witness that was read: where its body, the lines after line `b`, begins, and what is asked of it.
 pub enum Reading {
-    Read(usize, Question),
+    Read(usize, Instance),
     Refused(u32),
 }
 
@@ -141,8 +141,8 @@ fn count_eithers(text: &[u8]) -> usize
 }
 
 // Reads a witness of a circuit with this layout.
-pub fn read_witness(layout: Layout, text: &[u8]) -> Reading
-    ensures { λ r. ⌜ ((c : Circuit) → CountsOf c layout → WitnessRead c (now (text .entry)) r) ⌝ }
+fn read_witness(layout: Layout, text: &[u8]) -> Reading
+    ensures { λ r. ⌜ ((c : Circuit) → CountsOf c layout → WitnessRead c layout (now (text .entry)) r) ⌝ }
 {
     let Heading::Read(b, start) = witness::read_heading(text) else {
         return Reading::Refused(14);
@@ -158,50 +158,55 @@ pub fn read_witness(layout: Layout, text: &[u8]) -> Reading
     if 16 < eithers {
         return Reading::Refused(16);
     }
-    Reading::Read(
-        start,
-        Question {
-            bad: b as usize,
-            frames,
-            eithers,
-        },
-    )
+    let q = Question {
+        bad: b as usize,
+        frames,
+        eithers,
+    };
+    Reading::Read(start, Instance { layout, q })
+}
+
+// Reads a witness of the circuit that m holds; order then begins with its gates in an order of evaluation.
+pub fn read_held(m: &[u32], text: &[u8], order: &mut [u32]) -> Reading
+    requires { ⌜ 3072 ≤ length (now order) ⌝ }
+    ensures { λ r. ⌜ HeldRead (now (m .entry)) (now (text .entry)) (now (order .entry)) (now (order .exit)) r ⌝ }
+{
+    let Held::Circuit(layout) = circuit::held_in(m, order) else {
+        return Reading::Refused(9);
+    };
+    read_witness(layout, text)
 }
 
 // Whether all completions of a body show a hit, none, or some.
 fn judge(
     m: &[u32],
-    layout: Layout,
     order: &[u32],
-    q: Question,
+    w: Instance,
     body: &[u8],
     values: &mut [u64],
     state: &mut [u64],
 ) -> ReplayAnswer
-    requires { ⌜ Ready (now m) layout (now order) (length (now values)) ⌝ }
-    requires { ⌜ (q .bad < word (now m) 5) × (1024 ≤ length (now state)) ⌝ }
-    requires { ⌜ Fits (circuitIn (now m)) (q .bad) (q .frames) (q .eithers) (now body) ⌝ }
-    ensures { λ r. ⌜ Judged (circuitIn (now (m .entry))) (q .bad) (now (body .entry)) r ⌝ }
+    requires { ⌜ Posed (now m) (now order) w (now body) (length (now values)) ⌝ }
+    requires { ⌜ 1024 ≤ length (now state) ⌝ }
+    ensures { λ r. ⌜ Judged (circuitIn (now (m .entry))) (w .q .bad) (now (body .entry)) r ⌝ }
 {
-    if blocks::every_completion(m, layout, order, q, body, true, values, state) {
+    if blocks::every_completion(m, order, w, body, true, values, state) {
         return ReplayAnswer::All;
     }
-    if blocks::every_completion(m, layout, order, q, body, false, values, state) {
+    if blocks::every_completion(m, order, w, body, false, values, state) {
         return ReplayAnswer::No;
     }
     ReplayAnswer::Mixed
 }
 
 // The same, with memory of its own for the words.
-fn judge_alone(m: &[u32], layout: Layout, order: &[u32], q: Question, body: &[u8]) -> ReplayAnswer
-    requires { ⌜ Ready (now m) layout (now order) 4097 ⌝ }
-    requires { ⌜ q .bad < word (now m) 5 ⌝ }
-    requires { ⌜ Fits (circuitIn (now m)) (q .bad) (q .frames) (q .eithers) (now body) ⌝ }
-    ensures { λ r. ⌜ Judged (circuitIn (now (m .entry))) (q .bad) (now (body .entry)) r ⌝ }
+fn judge_alone(m: &[u32], order: &[u32], w: Instance, body: &[u8]) -> ReplayAnswer
+    requires { ⌜ Posed (now m) (now order) w (now body) 4097 ⌝ }
+    ensures { λ r. ⌜ Judged (circuitIn (now (m .entry))) (w .q .bad) (now (body .entry)) r ⌝ }
 {
     let mut values = [0u64; 4097];
     let mut state = [0u64; 1024];
-    judge(m, layout, order, q, body, &mut values, &mut state)
+    judge(m, order, w, body, &mut values, &mut state)
 }
 
 // What an answer becomes where some completions differ from a pin.
@@ -217,12 +222,12 @@ fn demote(answer: ReplayAnswer) -> ReplayAnswer
 }
 
 // Judges a body whose `x` are to be counted.
-fn judge_counted(m: &[u32], layout: Layout, order: &[u32], q: Question, body: &[u8]) -> ReplayAnswer
-    requires { ⌜ Ready (now m) layout (now order) 4097 ⌝ }
-    requires { ⌜ q .bad < word (now m) 5 ⌝ }
-    requires { ⌜ Fits (circuitIn (now m)) (q .bad) (q .frames) (eithers (now body)) (now body) ⌝ }
-    ensures { λ r. ⌜ Judged (circuitIn (now (m .entry))) (q .bad) (now (body .entry)) r ⌝ }
+fn judge_counted(m: &[u32], order: &[u32], w: Instance, body: &[u8]) -> ReplayAnswer
+    requires { ⌜ Posed (now m) (now order) (counted w (now body)) (now body) 4097 ⌝ }
+    ensures { λ r. ⌜ Judged (circuitIn (now (m .entry))) (w .q .bad) (now (body .entry)) r ⌝ }
 {
+    let layout = w.layout;
+    let q = w.q;
     let bad = q.bad;
     let frames = q.frames;
     let eithers = count_eithers(body);
@@ -231,74 +236,58 @@ fn judge_counted(m: &[u32], layout: Layout, order: &[u32], q: Question, body: &[
         frames,
         eithers,
     };
-    judge_alone(m, layout, order, next, body)
+    judge_alone(m, order, Instance { layout, q: next }, body)
 }
 
 // Judges a body by a copy with the pin's bit for each `x` that is held.
 fn judge_copy(
     m: &[u32],
-    layout: Layout,
     order: &[u32],
-    q: Question,
+    w: Instance,
     own: &[u8],
     body: &[u8],
     copy: &mut [u8],
 ) -> ReplayAnswer
-    requires { ⌜ Ready (now m) layout (now order) 4097 ⌝ }
-    requires { ⌜ (q .bad < word (now m) 5) × (length (now body) ≤ length (now copy)) ⌝ }
-    requires { ⌜ Fits (circuitIn (now m)) (q .bad) (q .frames) (q .eithers) (now body) ⌝ }
+    requires { ⌜ Posed (now m) (now order) w (now body) 4097 ⌝ }
+    requires { ⌜ length (now body) ≤ length (now copy) ⌝ }
     ensures { λ r. ⌜
-        SettledJudged (circuitIn (now (m .entry))) (λ i. getD (now (own .entry)) i 2) (q .bad) (q .frames) (now (body .entry)) r
+        SettledJudged (circuitIn (now (m .entry))) (λ i. getD (now (own .entry)) i 2) (w .q .bad) (w .q .frames) (now (body .entry)) r
         ⌝ }
 {
+    let layout = w.layout;
+    let q = w.q;
     let end = body.len();
     let rows = pinned_runs::rows_of(layout, q.frames);
     pinned_runs::copy_settled(rows, own, body, copy);
-    judge_counted(m, layout, order, q, &copy[0..end])
+    judge_counted(m, order, w, &copy[0..end])
 }
 
 // The same, with memory of its own for the copy.
-fn judge_settled(
-    m: &[u32],
-    layout: Layout,
-    order: &[u32],
-    q: Question,
-    own: &[u8],
-    body: &[u8],
-) -> ReplayAnswer
-    requires { ⌜ Ready (now m) layout (now order) 4097 ⌝ }
-    requires { ⌜ q .bad < word (now m) 5 ⌝ }
-    requires { ⌜ Fits (circuitIn (now m)) (q .bad) (q .frames) (q .eithers) (now body) ⌝ }
+fn judge_settled(m: &[u32], order: &[u32], w: Instance, own: &[u8], body: &[u8]) -> ReplayAnswer
+    requires { ⌜ Posed (now m) (now order) w (now body) 4097 ⌝ }
     ensures { λ r. ⌜
-        SettledJudged (circuitIn (now (m .entry))) (λ i. getD (now (own .entry)) i 2) (q .bad) (q .frames) (now (body .entry)) r
+        SettledJudged (circuitIn (now (m .entry))) (λ i. getD (now (own .entry)) i 2) (w .q .bad) (w .q .frames) (now (body .entry)) r
         ⌝ }
 {
     let mut copy = [0u8; 66825];
-    judge_copy(m, layout, order, q, own, body, &mut copy)
+    judge_copy(m, order, w, own, body, &mut copy)
 }
 
 // Whether all completions of a body show a hit that obeys the pins, none, or some.
-fn judge_under(
-    m: &[u32],
-    layout: Layout,
-    order: &[u32],
-    q: Question,
-    own: &[u8],
-    body: &[u8],
-) -> ReplayAnswer
-    requires { ⌜ Ready (now m) layout (now order) 4097 ⌝ }
-    requires { ⌜ q .bad < word (now m) 5 ⌝ }
-    requires { ⌜ Fits (circuitIn (now m)) (q .bad) (q .frames) (q .eithers) (now body) ⌝ }
-    ensures { λ r. ⌜ JudgedUnder (circuitIn (now (m .entry))) (λ i. getD (now (own .entry)) i 2) (q .bad) (now (body .entry)) r ⌝ }
+fn judge_under(m: &[u32], order: &[u32], w: Instance, own: &[u8], body: &[u8]) -> ReplayAnswer
+    requires { ⌜ Posed (now m) (now order) w (now body) 4097 ⌝ }
+    ensures { λ r. ⌜ JudgedUnder (circuitIn (now (m .entry))) (λ i. getD (now (own .entry)) i 2) (w .q .bad) (now (body .entry)) r ⌝ }
 {
+    let layout = w.layout;
+    let q = w.q;
     let rows = pinned_runs::rows_of(layout, q.frames);
     if !pinned_runs::agree(rows, own, body, true) {
         return ReplayAnswer::No;
     }
     if pinned_runs::agree(rows, own, body, false) {
-        return judge_alone(m, layout, order, q, body);
+        return judge_alone(m, order, w, body);
     }
-    demote(judge_settled(m, layout, order, q, own, body))
+    demote(judge_settled(m, order, w, own, body))
 }
 
 // Replay under pins: own has a byte for each input, and an input without one is free.
@@ -306,12 +295,9 @@ pub fn replay_under(m: &[u32], own: &[u8], text: &[u8]) -> ReplayAnswer
     ensures { λ r. ⌜ PinnedReplayed (now (m .entry)) (λ i. getD (now (own .entry)) i 2) (now (text .entry)) (answered r) ⌝ }
 {
     let mut order = [0u32; 3072];
-    let Held::Circuit(layout) = circuit::held_in(m, &mut order) else {
-        return ReplayAnswer::Refused(9);
-    };
-    match read_witness(layout, text) {
+    match read_held(m, text, &mut order) {
         Reading::Refused(n) => ReplayAnswer::Refused(n),
-        Reading::Read(start, q) => judge_under(m, layout, &order, q, own, &text[start..]),
+        Reading::Read(start, w) => judge_under(m, &order, w, own, &text[start..]),
     }
 }
 

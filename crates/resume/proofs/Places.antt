@@ -11,6 +11,7 @@ use Rattle.aiger.specs.Bits.{nonzero, odd, bit}
 use Rattle.aiger.specs.Frames.{freeBit}
 use Rattle.support.specs.Counting.{after, rank, spread}
 use Rattle.support.proofs.Counting.{spread-mono, gather, gather-lt, gather-le}
+use Rattle.places.proofs.Digits.{parity}
 use Rattle.resume.specs.Resume.{before}
 
 gather-same : (s t : ℕ → Bool) → ((i : ℕ) → s i ≡ t i) → (n x : ℕ) → gather s n x ≡ gather t n x
@@ -21,13 +22,6 @@ gather-same s t e (suc n) x =
     let b = gather (after t) n (x / 2) in
     ap (λ (c : Bool). cond c (2 * a + x % 2) a) (e 0)
     ∙ ap (λ (c : ℕ). cond (t 0) (2 * c + x % 2) c) (gather-same (after s) (after t) (λ i. e (suc i)) n (x / 2))
-
-parity : (u : ℕ) → _≡_ {A = ℕ} (cond (odd u) 1 0) (u % 2)
-parity u = go (u % 2) (omega arith)
-  where
-    go : (r : ℕ) → r < 2 → _≡_ {A = ℕ} (cond (nonzero r) 1 0) r
-    go zero h = refl
-    go (suc r) h = omega arith
 
 -- the places before a sequence are its bits at the nodes that count
 before-gather : (s : ℕ → Bool) (n x v : ℕ) → v ≤ n → before s (freeBit n x) v ≡ gather (λ i. s (v - i)) v (x / 2 ^ (n - v))

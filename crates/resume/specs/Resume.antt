@@ -3,7 +3,7 @@
 use mathlib.Core.Path.{_≡_}
 use mathlib.Core.Bool.{Bool, cond}
 use mathlib.Core.List.{List}
-use Prim.Native.Nat.{ℕ, zero, suc, _+_, _-_, _*_, _<_}
+use Prim.Native.Nat.{ℕ, zero, suc, _+_, _-_, _*_, _≤_, _<_}
 use lib.ListN.{getD}
 use Rattle.aiger.specs.Bits.{nonzero}
 use Rattle.aiger.specs.Frames.{freeBit}
@@ -23,6 +23,12 @@ marked work v = nonzero (field work v 10)
 abbrev pub placeOf : List ℕ → List ℕ → ℕ → ℕ
 placeOf work bits n = before (marked work) (λ j. nonzero (getD bits j 0)) n
 
--- the bits are those of the sequence at place y, by the marks
-abbrev pub Spread : List ℕ → ℕ → ℕ → List ℕ → Type 0
-Spread work y n bits = (j : ℕ) → j < n → nonzero (getD bits j 0) ≡ freeBit n (spread (λ i. marked work (n - i)) n y) j
+-- the first n words are those of `from`; the others are as before
+pub record Copied (from : List ℕ) (n : ℕ) (before after : List ℕ) : Type 0 where
+  pub new : (j : ℕ) → j < n → getD after j 0 ≡ getD from j 0
+  pub others : (j : ℕ) → n ≤ j → getD after j 0 ≡ getD before j 0
+
+-- the first n words are the bits of the sequence at place y, by the marks; the others are as before
+pub record Spread (work : List ℕ) (y n : ℕ) (before after : List ℕ) : Type 0 where
+  pub new : (j : ℕ) → j < n → getD after j 0 ≡ cond (freeBit n (spread (λ i. marked work (n - i)) n y) j) 1 0
+  pub others : (j : ℕ) → n ≤ j → getD after j 0 ≡ getD before j 0

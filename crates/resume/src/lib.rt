@@ -3,16 +3,16 @@
 use nodes::Graph;
 ghost use mathlib.Core.Path.{_≡_};
 ghost use mathlib.Core.Bool.{cond, _&&_};
-ghost use Prim.Native.Nat.{ℕ, _+_, _*_, _≤_, _<_, min};
-ghost use lib.ListN.{length, getD};
+ghost use Prim.Native.Nat.{_+_, _*_, _≤_, min};
+ghost use lib.ListN.{length};
 ghost use Rattle.aiger.specs.Bits.{nonzero, bit};
 ghost use Rattle.nodes.specs.Store.{Sized};
-ghost use Rattle.resume.specs.Resume.{placeOf, Spread};
+ghost use Rattle.resume.specs.Resume.{placeOf, Copied, Spread};
 
 // Copies the first n words.
 pub fn copy_bits(from: &[u32], n: usize, to: &mut [u32])
     requires { ⌜ (n ≤ length (now from)) × (n ≤ length (now to)) ⌝ }
-    ensures { λ r. ⌜ ((j : ℕ) → j < n → getD (now (to .exit)) j 0 ≡ getD (now (from .entry)) j 0) ⌝ }
+    ensures { λ r. ⌜ Copied (now (from .entry)) n (now (to .entry)) (now (to .exit)) ⌝ }
 {
     let mut i = 0;
     while i < n {
@@ -54,12 +54,12 @@ pub fn place_of(work: &[u32], g: Graph, bits: &[u32]) -> u64
 
 // Bit r of y, if the mark is not 0.
 fn marked_bit(y: u64, mark: u32, r: usize) -> u32
-    ensures { λ n. ⌜ nonzero n ≡ (nonzero mark && bit y r) ⌝ }
+    ensures { λ n. ⌜ n ≡ cond (nonzero mark && bit y r) 1 0 ⌝ }
 {
     if mark == 0 {
         return 0;
     }
-    simulation::bit_of(y, r)
+    places::bit_of(y, r)
 }
 
 // One more, if the mark is not 0.
@@ -74,7 +74,7 @@ fn next_rank(r: usize, mark: u32) -> usize
 pub fn spread_bits(work: &[u32], g: Graph, y: u64, bits: &mut [u32])
     requires { ⌜ Sized g (length (now work)) ⌝ }
     requires { ⌜ g .free ≤ length (now bits) ⌝ }
-    ensures { λ r. ⌜ Spread (now (work .entry)) y (g .free) (now (bits .exit)) ⌝ }
+    ensures { λ r. ⌜ Spread (now (work .entry)) y (g .free) (now (bits .entry)) (now (bits .exit)) ⌝ }
 {
     let free = g.free;
     let mut r = 0;

@@ -88,8 +88,8 @@ pub record Latched (c : Circuit) (r : Run) (t : ℕ) (w : ℕ → Bool) : Type 0
 abbrev pub AllLatched : Circuit → (ℕ → Run) → ℕ → List ℕ → Type 0
 AllLatched c r t words = (p : ℕ) → p < 64 → Latched c (r p) t (lane words p)
 
-pub all-started : (c : Circuit) (body : List ℕ) (block frames : ℕ) (r : ℕ → Run) (words : List ℕ) → RunsOf c body block frames r
-    → Started c body block words → AllLatched c r 0 words
+pub all-started : (c : Circuit) (body : List ℕ) (block frames : ℕ) (r : ℕ → Run) {before : List ℕ} (words : List ℕ)
+    → RunsOf c body block frames r → Started c body block before words → AllLatched c r 0 words
 all-started c body block frames r words q s p h =
     record {
       constant = s .constant p;
@@ -128,7 +128,7 @@ module _ {m : List ℕ} {layout : Layout} {order : List ℕ} {count : ℕ} (R : 
   valued t at old words h e k g p l =
       subst (λ (row : List Bool). Valuation c row (state c (r p) t) (lane words p))
       (row-at R body block frames (completion (block * 64 + p) body) (r p) (q p l) t at h e)
-      (g p l (state c (r p) t) (k p l .constant) (k p l .latch))
+      (g .valued p l (state c (r p) t) (k p l .constant) (k p l .latch))
 
   latched : (t : ℕ) (words moved : List ℕ) → Valued t words → Advanced c words moved → AllLatched c r (suc t) moved
   latched t words moved v d p l =

@@ -1,5 +1,6 @@
 // The samples of a block of completions, written over those of the blocks before it: a wire has 0 or 1 where all completions so far have
 // it, else x.
+use blocks::Cursor;
 use layout::Layout;
 ghost use mathlib.Core.Path.{_≡_};
 ghost use Prim.Native.Nat.{ℕ, _+_, _*_, _≤_, _<_};
@@ -10,8 +11,10 @@ ghost use Rattle.output.specs.Output.{Room};
 ghost use Rattle.vcd.specs.Text.{valueLines, sample};
 ghost use Rattle.samples.specs.Passes.{levelIn, low, Rewritten, Wired, PassFits, Sampled, SamplesLeft};
 
-// One pass over the samples: how many wires are shown, how many frames there are, the block, and where the samples begin.
+// One pass over the samples: where the parts of the circuit stand, how many wires are shown, how many frames there are, the block, and
+// where the samples begin.
 pub struct Pass {
+    pub layout: Layout,
     pub wires: usize,
     pub frames: usize,
     pub block: u64,
@@ -49,21 +52,14 @@ fn write_values(
 }
 
 // Writes time mark t and the levels after it.
-fn write_sample(
-    m: &[u32],
-    layout: Layout,
-    values: &[u64],
-    pass: Pass,
-    t: u32,
-    out: &mut [u8],
-    at: usize,
-) -> usize
-    requires { ⌜ Wired (now m) layout (length (now values)) (pass .wires) × Room (now out) at (sample low (pass .wires) t) ⌝ }
+fn write_sample(m: &[u32], values: &[u64], pass: Pass, t: u32, out: &mut [u8], at: usize) -> usize
+    requires { ⌜ Wired (now m) (pass .layout) (length (now values)) (pass .wires) × Room (now out) at (sample low (pass .wires) t) ⌝ }
     ensures { λ r. ⌜
         Rewritten (λ f. sample f (pass .wires) t) (pass .block) (levelIn (now (m .entry)) (now (values .entry)))
         (now (out .entry)) at r (now (out .exit))
         ⌝ }
 {
+    let layout = pass.layout;
     let next = vcd::write_time(out, at, t);
     write_values(m, layout, values, pass.wires, pass.block, out, next)
 }
@@ -72,7 +68,6 @@ fn write_sample(
 // and state are scratch: what they hold afterwards is left open.
 pub fn write_samples(
     m: &[u32],
-    layout: Layout,
     order: &[u32],
     body: &[u8],
     pass: Pass,
@@ -80,19 +75,32 @@ pub fn write_samples(
     values: &mut [u64],
     state: &mut [u64],
 ) -> usize
-    requires { ⌜ Ready (now m) layout (now order) (length (now values)) × (1024 ≤ length (now state)) ⌝ }
+    requires { ⌜ Ready (now m) (pass .layout) (now order) (length (now values)) × (1024 ≤ length (now state)) ⌝ }
     requires { ⌜ PassFits (now m) (now body) pass (now out) × Sampled (pass .block) (pass .at) (pass .wires) (pass .frames) (now out) ⌝ }
     ensures { λ x. ⌜ SamplesLeft (circuitIn (now (m .entry))) (now (body .entry)) pass (now (out .entry)) x (now (out .exit)) ⌝ }
 {
+    let layout = pass.layout;
+    let block = pass.block;
     let width = layout.i + 1;
-    let mut seen = blocks::put_starts(m, layout, order, body, pass.block, values);
+    let mut seen = blocks::put_starts(m, layout, order, body, block, values);
     let mut end = pass.at;
     let mut row = layout.l + 1;
     let mut t: u32 = 0;
     let mut left = pass.frames;
     while 0 < left {
-        seen = blocks::put_frame(m, layout, order, body, row, seen, pass.block, values);
-        end = write_sample(m, layout, values, pass, t, out, end);
+        seen = blocks::put_frame(
+            m,
+            layout,
+            order,
+            body,
+            Cursor {
+                at: row,
+                seen,
+                block,
+            },
+            values,
+        );
+        end = write_sample(m, values, pass, t, out, end);
         frames::advance(m, layout, order, values, state);
         row += width;
         t += 1;

@@ -3,11 +3,11 @@
 use nodes::Edge;
 use nodes::Graph;
 ghost use mathlib.Core.Path.{_≡_};
-ghost use mathlib.Core.Bool.{cond, false};
+ghost use mathlib.Core.Bool.{false};
 ghost use Prim.Native.Nat.{ℕ, _+_, _*_, _/_, _^_, _≤_, _<_, min};
-ghost use lib.Dec.{T, leb};
+ghost use lib.Dec.{T};
 ghost use lib.ListN.{length, getD};
-ghost use Rattle.aiger.specs.Bits.{nonzero, bit};
+ghost use Rattle.aiger.specs.Bits.{bit};
 ghost use Rattle.aiger.specs.Frames.{value};
 ghost use Rattle.nodes.specs.Store.{pairsOf};
 ghost use Rattle.nodes.specs.Edges.{edgeWord};
@@ -334,17 +334,6 @@ fn clear_front(work: &mut [u32], n: usize)
     }
 }
 
-// Bit k of x.
-pub fn bit_of(x: u64, k: usize) -> u32
-    ensures { λ r. ⌜ nonzero r ≡ bit x k ⌝ }
-{
-    if 63 < k {
-        return 0;
-    }
-    let y = x >> k;
-    (y % 2) as u32
-}
-
 // Gives the free bits of the first count slots the bits of y, free bit j in word j.
 fn put_bits(work: &mut [u32], slots: &[u32], count: usize, y: u64)
     requires { ⌜ Slotted (length (now work)) (now slots) count ⌝ }
@@ -354,32 +343,9 @@ fn put_bits(work: &mut [u32], slots: &[u32], count: usize, y: u64)
     let mut k = 0;
     while k < count {
         let v = slots[k] as usize;
-        work[v - 1] = bit_of(y, k);
+        work[v - 1] = places::bit_of(y, k);
         k += 1;
     }
-}
-
-// The smaller of 2 to the power n and d.
-fn tries(n: usize, d: u64) -> u64
-    requires { ⌜ d ≤ 4294967296 ⌝ }
-    ensures { λ r. ⌜ r ≡ min (2 ^ n) d ⌝ }
-{
-    if 32 < n {
-        return d;
-    }
-    let all = 1u64 << n;
-    if all < d { all } else { d }
-}
-
-// Whether d places cover n bits.
-fn covers(n: usize, d: u64) -> bool
-    requires { ⌜ d ≤ 4294967296 ⌝ }
-    ensures { λ r. ⌜ r ≡ leb (2 ^ n) d ⌝ }
-{
-    if 32 < n {
-        return false;
-    }
-    1u64 << n <= d
 }
 
 // How many slots r free bits take.
@@ -423,7 +389,7 @@ fn scan_slots(
 {
     let mut firsts = [0u32; 32];
     let free = g.free;
-    let total = tries(r, d);
+    let total = places::tries(r, d);
     let count = slot_count(r);
     let start = whole_blocks(from);
     fill_firsts(work, g, slots, count, &mut firsts);
@@ -438,7 +404,7 @@ fn scan_slots(
         put_bits(work, slots, count, y);
         return Found::Hit;
     }
-    if covers(r, d) {
+    if places::covers(r, d) {
         Found::Clear
     } else {
         Found::Spent

@@ -1,7 +1,6 @@
 // Widening: `x` in a witness wherever every completion still hits, from the last bit to the first, until there are 16.
+use blocks::Instance;
 use blocks::Question;
-use circuit::Held;
-use layout::Layout;
 use replay::Reading;
 ghost use mathlib.Core.Path.{_≡_};
 ghost use mathlib.Core.List.{_++_};
@@ -11,9 +10,8 @@ ghost use lib.ListN.{length, getD, take, drop};
 ghost use Rattle.completions.specs.Either.{eithers, isBit, allPass, shows, widenAt, widenBelow, widened};
 ghost use Rattle.aiger.specs.Operations.{front};
 ghost use Rattle.completions.specs.Operations.{Widened};
-ghost use Rattle.layout.specs.Words.{word, circuitIn};
-ghost use Rattle.frames.specs.Lanes.{Ready};
-ghost use Rattle.blocks.specs.Runs.{Fits};
+ghost use Rattle.layout.specs.Words.{circuitIn};
+ghost use Rattle.blocks.specs.Runs.{Posed};
 ghost use Rattle.pinned_runs.specs.Obeys.{pinnedShows, PinnedWidened};
 ghost use Rattle.widen.specs.Answer.{answered};
 
@@ -21,12 +19,6 @@ ghost use Rattle.widen.specs.Answer.{answered};
 pub enum WidenAnswer {
     Length(usize),
     Refused(u32),
-}
-
-// A question about a circuit: where its parts stand, and what is asked.
-struct Instance {
-    layout: Layout,
-    q: Question,
 }
 
 // Whether a byte is a bit.
@@ -39,24 +31,24 @@ fn is_bit(byte: u8) -> bool
 // Whether every completion of a body hits. Where there is more than one block of them, a three-valued pass may see it at once.
 fn every_hit(
     m: &[u32],
-    layout: Layout,
     order: &[u32],
-    q: Question,
+    w: Instance,
     body: &[u8],
     values: &mut [u64],
     state: &mut [u64],
 ) -> bool
-    requires { ⌜ Ready (now m) layout (now order) (length (now values)) ⌝ }
-    requires { ⌜ (q .bad < word (now m) 5) × (1024 ≤ length (now state)) ⌝ }
-    requires { ⌜ Fits (circuitIn (now m)) (q .bad) (q .frames) (q .eithers) (now body) ⌝ }
-    ensures { λ r. ⌜ r ≡ allPass (shows (circuitIn (now (m .entry))) (q .bad)) (now (body .entry)) ⌝ }
+    requires { ⌜ Posed (now m) (now order) w (now body) (length (now values)) ⌝ }
+    requires { ⌜ 1024 ≤ length (now state) ⌝ }
+    ensures { λ r. ⌜ r ≡ allPass (shows (circuitIn (now (m .entry))) (w .q .bad)) (now (body .entry)) ⌝ }
 {
+    let layout = w.layout;
+    let q = w.q;
     if 6 < q.eithers {
         if ternary::every_completion(m, layout, order, q, body) {
             return true;
         }
     }
-    blocks::every_completion(m, layout, order, q, body, true, values, state)
+    blocks::every_completion(m, order, w, body, true, values, state)
 }
 
 // Puts `x` in place of byte i of a body all of whose completions hit, where it is a bit, every completion still hits, and there are fewer
@@ -70,16 +62,14 @@ fn widen_at(
     values: &mut [u64],
     state: &mut [u64],
 ) -> usize
-    requires { ⌜ Ready (now m) (w .layout) (now order) (length (now values)) ⌝ }
-    requires { ⌜ (w .q .bad < word (now m) 5) × (1024 ≤ length (now state)) × (i < length (now body)) ⌝ }
-    requires { ⌜ Fits (circuitIn (now m)) (w .q .bad) (w .q .frames) (w .q .eithers) (now body) ⌝ }
+    requires { ⌜ Posed (now m) (now order) w (now body) (length (now values)) ⌝ }
+    requires { ⌜ (1024 ≤ length (now state)) × (i < length (now body)) ⌝ }
     requires { ⌜ T (allPass (shows (circuitIn (now m)) (w .q .bad)) (now body)) ⌝ }
     ensures { λ r. ⌜
         (now (body .exit) ≡ widenAt (shows (circuitIn (now (m .entry))) (w .q .bad)) (now (body .entry)) i)
         × (r ≡ eithers (now (body .exit)))
         ⌝ }
 {
-    let layout = w.layout;
     let q = w.q;
     let count = q.eithers;
     if 15 < count {
@@ -90,7 +80,7 @@ fn widen_at(
         return count;
     }
     body[i] = 97 - byte;
-    if every_hit(m, layout, order, q, body, values, state) {
+    if every_hit(m, order, w, body, values, state) {
         body[i] = b'x';
         return count + 1;
     }
@@ -108,9 +98,8 @@ fn widen_body(
     values: &mut [u64],
     state: &mut [u64],
 )
-    requires { ⌜ Ready (now m) (w .layout) (now order) (length (now values)) ⌝ }
-    requires { ⌜ (w .q .bad < word (now m) 5) × (1024 ≤ length (now state)) ⌝ }
-    requires { ⌜ Fits (circuitIn (now m)) (w .q .bad) (w .q .frames) (w .q .eithers) (now body) ⌝ }
+    requires { ⌜ Posed (now m) (now order) w (now body) (length (now values)) ⌝ }
+    requires { ⌜ 1024 ≤ length (now state) ⌝ }
     requires { ⌜ T (allPass (pinnedShows (circuitIn (now m)) (λ i. getD (now own) i 2) (w .q .bad)) (now body)) ⌝ }
     ensures { λ _. ⌜
         now (body .exit)
@@ -140,18 +129,8 @@ fn widen_body(
 }
 
 // Widens a body where every completion hits and obeys the pins; else it stays.
-fn widen_hits(
-    m: &[u32],
-    order: &[u32],
-    w: Instance,
-    own: &[u8],
-    body: &mut [u8],
-    values: &mut [u64],
-    state: &mut [u64],
-)
-    requires { ⌜ Ready (now m) (w .layout) (now order) (length (now values)) ⌝ }
-    requires { ⌜ (w .q .bad < word (now m) 5) × (1024 ≤ length (now state)) ⌝ }
-    requires { ⌜ Fits (circuitIn (now m)) (w .q .bad) (w .q .frames) (w .q .eithers) (now body) ⌝ }
+fn widen_hits(m: &[u32], order: &[u32], w: Instance, own: &[u8], body: &mut [u8])
+    requires { ⌜ Posed (now m) (now order) w (now body) 4097 ⌝ }
     ensures { λ _. ⌜
         now (body .exit) ≡ widened (pinnedShows (circuitIn (now (m .entry))) (λ i. getD (now (own .entry)) i 2) (w .q .bad))
         (now (body .entry))
@@ -163,26 +142,12 @@ fn widen_hits(
     if !pinned_runs::agree(rows, own, body, false) {
         return;
     }
-    if !every_hit(m, layout, order, q, body, values, state) {
-        return;
-    }
-    widen_body(m, order, w, own, body, values, state);
-}
-
-// The same, with memory of its own for the words.
-fn widen_alone(m: &[u32], layout: Layout, order: &[u32], q: Question, own: &[u8], body: &mut [u8])
-    requires { ⌜ Ready (now m) layout (now order) 4097 ⌝ }
-    requires { ⌜ q .bad < word (now m) 5 ⌝ }
-    requires { ⌜ Fits (circuitIn (now m)) (q .bad) (q .frames) (q .eithers) (now body) ⌝ }
-    ensures { λ _. ⌜
-        now (body .exit) ≡ widened (pinnedShows (circuitIn (now (m .entry))) (λ i. getD (now (own .entry)) i 2) (q .bad))
-        (now (body .entry))
-        ⌝ }
-{
     let mut values = [0u64; 4097];
     let mut state = [0u64; 1024];
-    let w = Instance { layout, q };
-    widen_hits(m, order, w, own, body, &mut values, &mut state);
+    if !every_hit(m, order, w, body, &mut values, &mut state) {
+        return;
+    }
+    widen_body(m, order, w, own, body, &mut values, &mut state);
 }
 
 // Copies a witness, whose body begins at `start`, to the front of out and widens the copy.
@@ -195,9 +160,8 @@ fn widen_copy(
     text: &[u8],
     out: &mut [u8],
 )
-    requires { ⌜ Ready (now m) (w .layout) (now order) 4097 ⌝ }
-    requires { ⌜ (w .q .bad < word (now m) 5) × (start ≤ length (now text)) × (length (now text) ≤ length (now out)) ⌝ }
-    requires { ⌜ Fits (circuitIn (now m)) (w .q .bad) (w .q .frames) (w .q .eithers) (drop start (now text)) ⌝ }
+    requires { ⌜ Posed (now m) (now order) w (drop start (now text)) 4097 ⌝ }
+    requires { ⌜ (start ≤ length (now text)) × (length (now text) ≤ length (now out)) ⌝ }
     ensures { λ _. ⌜
         now (out .exit)
         ≡ front
@@ -207,11 +171,9 @@ fn widen_copy(
         (now (out .entry))
         ⌝ }
 {
-    let layout = w.layout;
-    let q = w.q;
     let end = text.len();
     bytes::copy(text, out);
-    widen_alone(m, layout, order, q, own, &mut out[start..end]);
+    widen_hits(m, order, w, own, &mut out[start..end]);
 }
 
 // Widening under pins: own has a byte for each input, and an input without one is free.
@@ -222,16 +184,12 @@ pub fn widen_under(m: &[u32], own: &[u8], text: &[u8], out: &mut [u8]) -> WidenA
         ⌝ }
 {
     let mut order = [0u32; 3072];
-    let Held::Circuit(layout) = circuit::held_in(m, &mut order) else {
-        return WidenAnswer::Refused(9);
-    };
-    match replay::read_witness(layout, text) {
+    match replay::read_held(m, text, &mut order) {
         Reading::Refused(n) => WidenAnswer::Refused(n),
-        Reading::Read(start, q) => {
+        Reading::Read(start, w) => {
             if out.len() < text.len() {
                 return WidenAnswer::Refused(13);
             }
-            let w = Instance { layout, q };
             widen_copy(m, &order, w, start, own, text, out);
             WidenAnswer::Length(text.len())
         }

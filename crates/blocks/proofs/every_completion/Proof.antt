@@ -15,16 +15,16 @@ use Rattle.blocks.proofs.every_completion.Statement.{statement}
 use Rattle.blocks.proofs.every_completion.Tie as tie
 
 abbrev Inv-loop : tie.InvT-loop
-Inv-loop m layout order q body want values₀ state₀ blocks goal block₀ values state block =
+Inv-loop m order w body want values₀ state₀ blocks goal block₀ values state block =
     (block ≤ blocks) × (length values ≡ length values₀) × (length state ≡ length state₀)
-    × ((v : ℕ) → v < block * 64 → T (wanted (circuitIn m) (q .bad) want (completion v body)))
+    × ((v : ℕ) → v < block * 64 → T (wanted (circuitIn m) (w .q .bad) want (completion v body)))
 
 abbrev μ-loop : tie.MeasureT-loop
-μ-loop m layout order q body want values₀ state₀ blocks goal block₀ values state block = blocks - block
+μ-loop m order w body want values₀ state₀ blocks goal block₀ values state block = blocks - block
 
 -- the entry, from the loop's head
 abbrev start : tie.At-loop Inv-loop μ-loop → tie.Start Inv-loop μ-loop
-start l = l .before .before .before .before .before .before .before .before
+start l = l .before .before .before .before .before .before .before .before .before
 
 -- the word of a block, the wanted one, and where they first differ
 module _ (k : tie.After-first-difference Inv-loop μ-loop) where
@@ -41,7 +41,7 @@ module _ (k : tie.After-first-difference Inv-loop μ-loop) where
   S = start head
 
 block-count-requires : tie.Need-block-count-requires Inv-loop μ-loop
-block-count-requires c κs = c .before .before .before .before .before .pre .1 .1 .few
+block-count-requires c κs = c .before .before .before .before .before .before .pre .0 .fits .few
 
 all-bits-requires : tie.Need-all-bits-requires Inv-loop μ-loop
 all-bits-requires c κs = tt
@@ -54,22 +54,25 @@ block-word-requires : tie.Need-block-word-requires Inv-loop μ-loop
 block-word-requires c κs =
     let l = c .before .before .before in
     let S = start l in
-    (ready-with (S .pre .0) (omega (arith, l .loop .inv .1, S .pre .0 .room)), ((S .pre .1 .0 .0, omega (arith, l .loop .inv .2, S .pre .1 .0 .1)), S .pre .1 .1))
+    let P = S .pre .0 in (
+      record { ready = ready-with (P .ready) (omega (arith, l .loop .inv .1, P .ready .room)); bad = P .bad; fits = P .fits },
+      omega (arith, l .loop .inv .2, S .pre .1),
+    )
 
 first-difference-requires : tie.Need-first-difference-requires Inv-loop μ-loop
 first-difference-requires c κs = tt
 
 same-length : tie.Need-same-length Inv-loop μ-loop
-same-length c = let k = c .before in done k .block-word .kept .1 .1 .1 .1 .1 .1 .0 ∙ head k .loop .inv .1
+same-length c = let k = c .before in done k .block-word .kept .1 .1 .1 .1 .1 .0 ∙ head k .loop .inv .1
 
 same-length-2 : tie.Need-same-length-2 Inv-loop μ-loop
-same-length-2 c = let k = c .before in done k .block-word .kept .1 .1 .1 .1 .1 .1 .1 .0 ∙ head k .loop .inv .2
+same-length-2 c = let k = c .before in done k .block-word .kept .1 .1 .1 .1 .1 .1 .0 ∙ head k .loop .inv .2
 
 returns : tie.Need-returns Inv-loop μ-loop
 returns c =
     let k = c .before in
     let a = S k .args in
-    refuted (circuitIn (a .m .now)) (a .q .bad) (a .q .frames) (a .q .eithers) (a .body .now) (S k .pre .1 .1) (a .want) (head k .loop .block)
+    refuted (circuitIn (a .m .now)) (a .w .q .bad) (a .w .q .frames) (a .w .q .eithers) (a .body .now) (S k .pre .0 .fits) (a .want) (head k .loop .block)
     (done k .block-word .result) (head k .before .all-bits .result) (k .first-difference .result) (done k .block-word .ensures)
     (head k .before .all-bits .ensures) (k .first-difference .ensures) (c .if1 .taken)
 
@@ -84,9 +87,9 @@ loop-again c =
     let k = c .before in
     let a = S k .args in (
       omega (arith, turn k .loop-test .taken),
-      done k .block-word .kept .1 .1 .1 .1 .1 .1 .0 ∙ head k .loop .inv .1,
-      done k .block-word .kept .1 .1 .1 .1 .1 .1 .1 .0 ∙ head k .loop .inv .2,
-      before-more (circuitIn (a .m .now)) (a .q .bad) (a .q .frames) (a .q .eithers) (a .body .now) (S k .pre .1 .1) (a .want) (head k .loop .block)
+      done k .block-word .kept .1 .1 .1 .1 .1 .0 ∙ head k .loop .inv .1,
+      done k .block-word .kept .1 .1 .1 .1 .1 .1 .0 ∙ head k .loop .inv .2,
+      before-more (circuitIn (a .m .now)) (a .w .q .bad) (a .w .q .frames) (a .w .q .eithers) (a .body .now) (S k .pre .0 .fits) (a .want) (head k .loop .block)
           (done k .block-word .result) (head k .before .all-bits .result) (k .first-difference .result) (done k .block-word .ensures)
           (head k .before .all-bits .ensures) (k .first-difference .ensures) (c .if1 .left) (head k .loop .inv .3),
     )
@@ -102,8 +105,8 @@ returns-2 c =
     let l = c .before in
     let S = start l in
     let a = S .args in
-    before-all (circuitIn (a .m .now)) (a .q .bad) (a .q .frames) (a .q .eithers) (a .body .now) (S .pre .1 .1) (a .want) (l .loop .block)
-    (omega (arith, blocks-enough (a .q .eithers), l .before .before .block-count .ensures, c .loop-test .left)) (l .loop .inv .3)
+    before-all (circuitIn (a .m .now)) (a .w .q .bad) (a .w .q .frames) (a .w .q .eithers) (a .body .now) (S .pre .0 .fits) (a .want) (l .loop .block)
+    (omega (arith, blocks-enough (a .w .q .eithers), l .before .before .block-count .ensures, c .loop-test .left)) (l .loop .inv .3)
 
 pub every-completion-spec : {M : Type 1} → statement M
 every-completion-spec =

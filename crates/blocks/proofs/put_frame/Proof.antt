@@ -24,12 +24,12 @@ eval-gates-requires : tie.Need-eval-gates-requires
 eval-gates-requires c κs =
     let S = c .before .before .before .before .before .before .before .before .before in
     let W = c .before .before .before .put-line in
-    ready-with (S .pre .0) (omega (arith, W .kept .1 .1 .1 .1 .1 .1 .0, S .pre .0 .room))
+    ready-with (S .pre .0) (omega (arith, W .kept .1 .1 .1 .1 .0, S .pre .0 .room))
 
 same-length : tie.Need-same-length
 same-length c =
     let W = c .before .before .before .before .before .before .put-line in
-    c .before .before .eval-gates .kept .1 .1 .1 .0 ∙ W .kept .1 .1 .1 .1 .1 .1 .0
+    c .before .before .eval-gates .kept .1 .1 .1 .0 ∙ W .kept .1 .1 .1 .1 .0
 
 returns : tie.Need-returns
 returns c =
@@ -37,7 +37,7 @@ returns c =
     let W = c .before .before .before .before .before .before .put-line in
     let E = c .before .before .eval-gates in
     let a = S .args in (
-      frame-given (S .pre .0) (a .text .now) (a .at) (a .block) (a .values .now) (W .last .1 .1 .1 .1 .1 .1 .0) (E .last .1 .1 .1 .0) (W .ensures .0) (E .ensures),
+      frame-given (S .pre .0) (a .text .now) (a .row .at) (a .row .block) (a .values .now) (W .last .1 .1 .1 .1 .0) (E .last .1 .1 .1 .0) (W .ensures .0) (E .ensures),
       W .ensures .1,
     )
 

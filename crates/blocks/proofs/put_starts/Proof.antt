@@ -3,8 +3,7 @@ use mathlib.Core.Path.{_≡_, refl, ap, _∙_}
 use Prim.Native.Nat.{ℕ, _+_, _*_, _<_}
 use native.Mathlib.Omega.{arith}
 use borrow.Author.Needs.{needs}
-use lib.ListN.{take, set, length-set}
-use lib.Seq.{getD-set-same}
+use lib.ListN.{take, length-set}
 use Rattle.completions.specs.Either.{eithers}
 use Rattle.frames.proofs.Facts.{latches-inside, latches-apart}
 use Rattle.frames.proofs.Facts.{ready-with}
@@ -26,7 +25,7 @@ put-line-requires c κs =
 same-length : tie.Need-same-length
 same-length c =
     let S = c .before .before .before .before .before .before .before .before in
-    c .before .before .put-line .kept .1 .1 .1 .1 .1 .1 .0 ∙ length-set (S .args .values .now) 0 0
+    c .before .before .put-line .kept .1 .1 .1 .1 .0 ∙ length-set (S .args .values .now) 0 0
 
 returns : tie.Need-returns
 returns c =
@@ -35,7 +34,7 @@ returns c =
     let W = c .before .before .put-line in
     let a = S .args in
     let e : 0 + a .layout .l + 1 ≡ a .layout .l + 1 = omega arith in (
-      started R (a .body .now) (a .block) (set (a .values .now) 0 0) (W .last .1 .1 .1 .1 .1 .1 .0) (getD-set-same (a .values .now) 0 0 0 (omega (arith, R .room))) (W .ensures .0),
+      started R (a .body .now) (a .block) (a .values .now) (W .last .1 .1 .1 .1 .0) (omega (arith, R .room)) (W .ensures .0),
       W .ensures .1 ∙ ap (λ (n : ℕ). eithers (take n (a .body .now))) e,
     )
 

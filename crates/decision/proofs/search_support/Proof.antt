@@ -35,7 +35,7 @@ floor-in n =
     let a = s .args in
     let C = circuitIn (now (a .m)) in
     floor-copied C (a .b) (a .t) (a .d) (n .before .before .before .held .result) (now (a .work)) (n .copy-bits .last .1 .1 .0)
-    (omega (arith, copied n, bits-within C (a .t) (a .t) (omega arith), s .pre .1 .1 .1)) (n .copy-bits .ensures) (s .pre .1 .1 .0)
+    (omega (arith, copied n, bits-within C (a .t) (a .t) (omega arith), s .pre .1 .1 .1)) (n .copy-bits .ensures .new) (s .pre .1 .1 .0)
 
 size-requires : tie.Need-size-requires
 size-requires c κs =

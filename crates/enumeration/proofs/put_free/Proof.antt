@@ -7,6 +7,7 @@ use lib.ListN.{length, getD, length-set}
 use Rattle.aiger.specs.Bits.{nonzero}
 use Rattle.aiger.specs.Frames.{freeBit}
 use Rattle.frames.proofs.Stores.{next-more}
+use Rattle.places.proofs.Digits.{digit-is}
 use Rattle.enumeration.proofs.put_free.Statement.{statement}
 use Rattle.enumeration.proofs.put_free.Tie as tie
 
@@ -46,7 +47,8 @@ loop-again c =
     let L = c .before .before .loop in (
       omega arith,
       length-set (L .free) _ _ ∙ L .inv .1,
-      next-more (λ i w. nonzero w ≡ freeBit (S .args .n) (S .args .x) i) (L .free) (L .j) (c .bit-of .result) (omega arith) (L .inv .2) (c .bit-of .ensures),
+      next-more (λ i w. nonzero w ≡ freeBit (S .args .n) (S .args .x) i) (L .free) (L .j) (c .bit-of .result) (omega arith)
+          (L .inv .2) (digit-is (c .bit-of .result) _ (c .bit-of .ensures)),
     )
 
 same-length : tie.Need-same-length Inv-loop μ-loop

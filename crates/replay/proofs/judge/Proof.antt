@@ -18,14 +18,19 @@ returns : tie.Need-returns
 returns c =
     let k = c .before .before .before .before .before in
     let a = start k .args in
-    ap gives (verdict-all (shows (circuitIn (a .m .now)) (a .q .bad)) (a .body .now) (sym (c .if1 .taken) ∙ k .every-completion .ensures))
+    ap gives (verdict-all (shows (circuitIn (a .m .now)) (a .w .q .bad)) (a .body .now) (sym (c .if1 .taken) ∙ k .every-completion .ensures))
 
 every-completion-requires-2 : tie.Need-every-completion-requires-2
 every-completion-requires-2 c κs =
     let k = c .before .before .before .before .before .before .before in
-    let S = start k in (
-      ready-with (S .pre .0) (omega (arith, k .every-completion .kept .1 .1 .1 .1 .1 .1 .0, S .pre .0 .room)),
-      ((S .pre .1 .0 .0, omega (arith, k .every-completion .kept .1 .1 .1 .1 .1 .1 .1 .0, S .pre .1 .0 .1)), S .pre .1 .1),
+    let S = start k in
+    let P = S .pre .0 in (
+      record {
+        ready = ready-with (P .ready) (omega (arith, k .every-completion .kept .1 .1 .1 .1 .1 .0, P .ready .room));
+        bad = P .bad;
+        fits = P .fits;
+      },
+      omega (arith, k .every-completion .kept .1 .1 .1 .1 .1 .1 .0, S .pre .1),
     )
 
 returns-2 : tie.Need-returns-2
@@ -34,7 +39,7 @@ returns-2 c =
     let o = j .before .before .before in
     let k = o .before .before .before .before .before in
     let a = start k .args in
-    let p = shows (circuitIn (a .m .now)) (a .q .bad) in
+    let p = shows (circuitIn (a .m .now)) (a .w .q .bad) in
     ap gives
     (verdict-no p (a .body .now) (sym (o .if1 .left) ∙ k .every-completion .ensures)
     (sym (c .if2 .taken) ∙ j .every-completion2 .ensures ∙ sym (none-is p (a .body .now))))
@@ -45,7 +50,7 @@ returns-3 c =
     let o = j .before .before .before in
     let k = o .before .before .before .before .before in
     let a = start k .args in
-    let p = shows (circuitIn (a .m .now)) (a .q .bad) in
+    let p = shows (circuitIn (a .m .now)) (a .w .q .bad) in
     ap gives
     (verdict-mixed p (a .body .now) (sym (o .if1 .left) ∙ k .every-completion .ensures)
     (sym (c .if2 .left) ∙ j .every-completion2 .ensures ∙ sym (none-is p (a .body .now))))

@@ -6,7 +6,7 @@ use Rattle.replay.proofs.judge_alone.Tie as tie
 judge-requires : tie.Need-judge-requires
 judge-requires c κs =
     let S = c .before .before .before .before .before in
-    (S .pre .0, ((S .pre .1 .0, search needs), S .pre .1 .1))
+    (S .pre, search needs)
 
 pub judge-alone-spec : {M : Type 1} → statement M
 judge-alone-spec =

@@ -15,18 +15,18 @@ use Rattle.replay.proofs.judge_copy.Statement.{statement}
 use Rattle.replay.proofs.judge_copy.Tie as tie
 
 rows-of-requires : tie.Need-rows-of-requires
-rows-of-requires c κs = let S = c .before .before .before .before .before in rows-fit (S .pre .0) (S .pre .1 .1)
+rows-of-requires c κs = let S = c .before .before .before .before .before .before .before in rows-fit (S .pre .0 .ready) (S .pre .0 .fits)
 
 copy-settled-requires : tie.Need-copy-settled-requires
 copy-settled-requires c κs =
     let r = c .before in
-    let S = r .before .before .before .before .before .before in
-    (inputs-few (S .pre .0) (S .pre .1 .1) (λ i. getD (S .args .own .now) i 2) (r .rows-of .result) (r .rows-of .ensures), S .pre .1 .0 .1)
+    let S = r .before .before .before .before .before .before .before .before in
+    (inputs-few (S .pre .0 .ready) (S .pre .0 .fits) (λ i. getD (S .args .own .now) i 2) (r .rows-of .result) (r .rows-of .ensures), S .pre .1)
 
 -- the copy: the body with the pins' bits
 module _ (k : tie.After-copy-settled) where
   abbrev S : tie.Start
-  S = k .before .before .before .before .before .before .before .before
+  S = k .before .before .before .before .before .before .before .before .before .before
 
   abbrev body : List ℕ
   body = S .args .body .now
@@ -37,14 +37,14 @@ module _ (k : tie.After-copy-settled) where
   abbrev copied : List ℕ
   copied = take (length body) (k .copy-settled .last .1 .1 .1 .0)
 
-  settled : Settled (pinAt (circuitIn (S .args .m .now)) q (S .args .q .frames)) body copied
+  settled : Settled (pinAt (circuitIn (S .args .m .now)) q (S .args .w .q .frames)) body copied
   settled =
       let r = k .before .before in
       subst (λ (P : ℕ → ℕ). Settled P body copied)
-      (pins-are (S .pre .0) (S .pre .1 .1) q (r .rows-of .result) (r .rows-of .ensures)) (k .copy-settled .ensures .0)
+      (pins-are (S .pre .0 .ready) (S .pre .0 .fits) q (r .rows-of .result) (r .rows-of .ensures)) (k .copy-settled .ensures .0)
 
   long : length body ≤ length (k .copy-settled .last .1 .1 .1 .0)
-  long = omega (arith, k .copy-settled .kept .1 .1 .1 .0, S .pre .1 .0 .1)
+  long = omega (arith, k .copy-settled .kept .1 .1 .1 .0, S .pre .1)
 
   -- the part of the copy that is judged
   part-is : take (length body - 0) (k .copy-settled .last .1 .1 .1 .0) ≡ copied
@@ -57,14 +57,15 @@ judge-counted-requires : tie.Need-judge-counted-requires
 judge-counted-requires c κs =
     let k = c .before .before .before .before in
     let s = S k in
-    let a = s .args in (
-      s .pre .0,
-      (
-        s .pre .1 .0 .0,
-        subst (λ (w : List ℕ). Fits (circuitIn (a .m .now)) (a .q .bad) (a .q .frames) (eithers w) w) (sym (part-is k))
-            (settled-fits (s .pre .0) (s .pre .1 .1) (q k) (settled k)),
-      ),
-    )
+    let a = s .args in
+    let P = s .pre .0 in
+    record {
+      ready = P .ready;
+      bad = P .bad;
+      fits =
+          subst (λ (u : List ℕ). Fits (circuitIn (a .m .now)) (a .w .q .bad) (a .w .q .frames) (eithers u) u) (sym (part-is k))
+          (settled-fits (P .ready) (P .fits) (q k) (settled k));
+    }
 
 returns : tie.Need-returns
 returns c =
@@ -73,7 +74,7 @@ returns c =
     record {
       text = copied k;
       settled = settled k;
-      judged = subst (λ (w : List ℕ). Judged (circuitIn (a .m .now)) (a .q .bad) w (c .judge-counted .result)) (part-is k) (c .judge-counted .ensures);
+      judged = subst (λ (w : List ℕ). Judged (circuitIn (a .m .now)) (a .w .q .bad) w (c .judge-counted .result)) (part-is k) (c .judge-counted .ensures);
     }
 
 pub judge-copy-spec : {M : Type 1} → statement M

@@ -12,9 +12,16 @@ count-eithers-requires c κs = tt
 
 judge-alone-requires : tie.Need-judge-alone-requires
 judge-alone-requires c κs =
-    let S = c .before .before .before .before in
+    let S = c .before .before .before .before .before .before in
     let a = S .args in
-    (S .pre .0, (S .pre .1 .0, subst (λ (n : ℕ). Fits (circuitIn (a .m .now)) (a .q .bad) (a .q .frames) n (a .body .now)) (sym (c .count-eithers .ensures)) (S .pre .1 .1)))
+    let P = S .pre in
+    record {
+      ready = P .ready;
+      bad = P .bad;
+      fits =
+          subst (λ (n : ℕ). Fits (circuitIn (a .m .now)) (a .w .q .bad) (a .w .q .frames) n (a .body .now)) (sym (c .count-eithers .ensures))
+          (P .fits);
+    }
 
 returns : tie.Need-returns
 returns c = c .judge-alone .ensures

@@ -12,12 +12,9 @@ slice-aggregate-judge-copy c = sym (length-replicate {A = ℕ} 66825 0)
 
 judge-copy-requires : tie.Need-judge-copy-requires
 judge-copy-requires c κs =
-    let S = c .before .before .before .before .before in (
-      S .pre .0,
-      (
-        (S .pre .1 .0, subst (λ (n : ℕ). length (S .args .body .now) ≤ n) (sym (length-replicate {A = ℕ} 66825 0)) (body-short (S .pre .0) (S .pre .1 .1))),
-        S .pre .1 .1,
-      ),
+    let P = c .before .before .before .before .before .pre in (
+      P,
+      subst (λ (n : ℕ). length (c .before .before .before .before .before .args .body .now) ≤ n) (sym (length-replicate {A = ℕ} 66825 0)) (body-short (P .ready) (P .fits)),
     )
 
 returns : tie.Need-returns

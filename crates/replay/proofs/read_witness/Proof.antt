@@ -1,5 +1,5 @@
 -- `replay::read_witness` meets its contract. Assumes nothing.
-use mathlib.Core.Path.{_≡_, sym, ap, _∙_, subst}
+use mathlib.Core.Path.{_≡_, refl, sym, ap, _∙_, subst}
 use mathlib.Core.List.{List}
 use mathlib.Core.Option.{some}
 use Prim.Native.Nat.{ℕ, _-_, _<_}
@@ -94,15 +94,17 @@ returns-5 : tie.Need-returns-5
 returns-5 c = λ d k.
     let n = c .before in
     let b : bad (h (r n)) < length (d .bads) = omega (arith, below n, k .bads) in
-    let z = framed n (completion 0 (body (r n))) (zero-form (body (r n))) .reads d (k .latches) (k .inputs) (bad (h (r n))) b in
-    record {
-      inside = headed (h (r n)) .1 .inside;
-      bad = b;
-      reads = was-read d (text (h (r n))) (bad (h (r n))) (body (r n)) (headed (h (r n)) .0) _ (z .reads);
-      fits =
-          body-fits d (bad (h (r n))) (S (h (r n)) .args .layout .l) (S (h (r n)) .args .layout .i) (frames n) (n .count-eithers .result) (body (r n))
-          (k .latches) (k .inputs) b (framed n) (counted n) (omega (arith, c .if2 .left));
-    }
+    let z = framed n (completion 0 (body (r n))) (zero-form (body (r n))) .reads d (k .latches) (k .inputs) (bad (h (r n))) b in (
+      refl,
+      record {
+        inside = headed (h (r n)) .1 .inside;
+        bad = b;
+        reads = was-read d (text (h (r n))) (bad (h (r n))) (body (r n)) (headed (h (r n)) .0) _ (z .reads);
+        fits =
+            body-fits d (bad (h (r n))) (S (h (r n)) .args .layout .l) (S (h (r n)) .args .layout .i) (frames n) (n .count-eithers .result) (body (r n))
+            (k .latches) (k .inputs) b (framed n) (counted n) (omega (arith, c .if2 .left));
+      },
+    )
 
 pub read-witness-spec : {M : Type 1} → statement M
 read-witness-spec =

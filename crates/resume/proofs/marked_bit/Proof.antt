@@ -5,7 +5,6 @@ use Rattle.resume.proofs.marked_bit.Statement.{statement}
 use Rattle.resume.proofs.marked_bit.Tie as tie
 use Rattle.resume.proofs.marked_bit.Reads as reads
 use Rattle.resume.proofs.marked_bit.Lts as lts
-use Rattle.simulation.proofs.bit_of.Reads as bit-of-reads
 
 returns-2 : tie.Need-returns-2
 returns-2 c = rw (is-some (c .before .before .args .mark) (c .before .if1 .left)) (c .bit-of .ensures)

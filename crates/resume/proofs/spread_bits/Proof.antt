@@ -14,7 +14,7 @@ use Rattle.resume.proofs.marked_bit.Reads as marked-bit-reads
 use Rattle.resume.proofs.next_rank.Reads as next-rank-reads
 
 abbrev Inv-loop : tie.InvT-loop
-Inv-loop work y bits₀ free r₀ left₀ bits r left = (length bits ≡ length bits₀) × Spreading work y free bits r left
+Inv-loop work y bits₀ free r₀ left₀ bits r left = (length bits ≡ length bits₀) × Spreading work y free bits₀ bits r left
 
 abbrev μ-loop : tie.MeasureT-loop
 μ-loop work y bits₀ free r₀ left₀ bits r left = left
@@ -57,13 +57,13 @@ loop-again c =
     let s = c .before .before .before .before .before .before .before in
     let l = c .before .before .before .before .loop in
     let b = c .before .marked-bit in
-    (length-set (l .bits) (l .left - 1) (b .result) ∙ l .inv .0, spreading-more (now (s .args .work)) (s .args .y) (s .args .g .free) (l .bits) (l .r) (l .left) (b .result) (c .next-rank .result) (l .inv .1) (omega arith) (omega (arith, s .pre .1, l .inv .0)) (b .ensures) (c .next-rank .ensures))
+    (length-set (l .bits) (l .left - 1) (b .result) ∙ l .inv .0, spreading-more (now (s .args .work)) (s .args .y) (s .args .g .free) (now (s .args .bits)) (l .bits) (l .r) (l .left) (b .result) (c .next-rank .result) (l .inv .1) (omega arith) (omega (arith, s .pre .1, l .inv .0)) (b .ensures) (c .next-rank .ensures))
 
 same-length : tie.Need-same-length Inv-loop μ-loop
 same-length c = c .before .loop .inv .0
 
 returns : tie.Need-returns Inv-loop μ-loop
-returns c = λ j h. c .before .loop .inv .1 .done j (omega arith) h
+returns c = let p = c .before .loop .inv .1 in record { new = λ j h. p .done j (omega arith) h; others = p .others }
 
 pub spread-bits-spec : {M : Type 1} → statement M
 spread-bits-spec =

@@ -44,14 +44,14 @@ module _ (out : List ℕ) (at n t : ℕ) (h : Room out at (sample low n t)) wher
 
 write-time-requires : tie.Need-write-time-requires
 write-time-requires c κs =
-    let S = c .before .before .before .before in
+    let S = c .before .before .before .before .before in
     let a = S .args in
     mark-room (a .out .now) (a .at) (a .pass .wires) (a .t) (S .pre .1)
 
 write-values-requires : tie.Need-write-values-requires
 write-values-requires c κs =
     let w = c .before .before .before in
-    let S = w .before .before .before .before .before in
+    let S = w .before .before .before .before .before .before in
     let a = S .args in
     (S .pre .0, values-room (a .out .now) (a .at) (a .pass .wires) (a .t) (S .pre .1) (w .write-time .ensures) (w .write-time .kept .0))
 
@@ -59,7 +59,7 @@ returns : tie.Need-returns
 returns c =
     let v = c .before .before in
     let w = v .before .before .before .before in
-    let S = w .before .before .before .before .before in
+    let S = w .before .before .before .before .before .before in
     let a = S .args in
     both (a .out .now) (a .at) (a .pass .wires) (a .t) (S .pre .1) (w .write-time .ensures) (a .pass .block)
     (levelIn (a .m .now) (a .values .now))

@@ -28,7 +28,7 @@ abbrev size : ℕ → ℕ → ℕ → ℕ
 size n t left = length (samples (λ _. low) n t left)
 
 abbrev Inv-loop : tie.InvT-loop
-Inv-loop m layout order body pass out₀ values₀ state₀ width seen₀ end₀ row₀ t₀ left₀ out values state seen end row t left =
+Inv-loop m order body pass out₀ values₀ state₀ layout block width seen₀ end₀ row₀ t₀ left₀ out values state seen end row t left =
     (t + left ≡ left₀) × (row ≡ row₀ + t * width) × (seen ≡ eithers (take row body)) × (length out ≡ length out₀)
     × (length values ≡ length values₀)
     × (length state ≡ length state₀) × (word m 0 < length values) × (end + size (pass .wires) t left ≡ end₀ + size (pass .wires) 0 left₀)
@@ -37,20 +37,20 @@ Inv-loop m layout order body pass out₀ values₀ state₀ width seen₀ end₀
     → Turn (circuitIn m) r (pass .block) left₀ out₀ end₀ (pass .wires) old t left values out end)
 
 abbrev μ-loop : tie.MeasureT-loop
-μ-loop m layout order body pass out₀ values₀ state₀ width seen₀ end₀ row₀ t₀ left₀ out values state seen end row t left = left
+μ-loop m order body pass out₀ values₀ state₀ layout block width seen₀ end₀ row₀ t₀ left₀ out values state seen end row t left = left
 
 -- the entry
 module _ (S : tie.Start Inv-loop μ-loop) where
   abbrev m : List ℕ
   m = S .args .m .now
 
-  abbrev R : Ready (S .args .m .now) (S .args .layout) (S .args .order .now) (length (S .args .values .now))
+  abbrev R : Ready (S .args .m .now) (S .args .pass .layout) (S .args .order .now) (length (S .args .values .now))
   R = S .pre .0 .0
 
   abbrev F : PassFits (S .args .m .now) (S .args .body .now) (S .args .pass) (S .args .out .now)
   F = S .pre .1 .0
 
-  within : S .args .layout .l + 1 + S .args .pass .frames * (S .args .layout .i + 1) ≤ length (S .args .body .now)
+  within : S .args .pass .layout .l + 1 + S .args .pass .frames * (S .args .pass .layout .i + 1) ≤ length (S .args .body .now)
   within = rw (latches-are R, inputs-are (R .held) (R .layout-of)) (F .inside)
 
   space : (f : ℕ → ℕ → Level) → Room (S .args .out .now) (S .args .pass .at) (samples f (S .args .pass .wires) 0 (S .args .pass .frames))
@@ -59,7 +59,7 @@ module _ (S : tie.Start Inv-loop μ-loop) where
 -- where the loop begins a turn
 module _ (c : tie.At-loop Inv-loop μ-loop) where
   abbrev S₀ : tie.Start Inv-loop μ-loop
-  S₀ = c .before .before .before .before .before .before .before .before .before .before .before .before .before
+  S₀ = c .before .before .before .before .before .before .before .before .before .before .before .before .before .before
 
   turn : let a = S₀ .args in (r : ℕ → Run) → RunsOf (circuitIn (a .m .now)) (a .body .now) (a .pass .block) (a .pass .frames) r
       → (old : ℕ → ℕ → Level)
@@ -79,31 +79,31 @@ module _ (n : tie.In-loop Inv-loop μ-loop) where
   abbrev A : tie.At-loop Inv-loop μ-loop
   A = n .before
 
-  fits : A .loop .row + S₀ A .args .layout .i + 1 ≤ length (S₀ A .args .body .now)
+  fits : A .loop .row + S₀ A .args .pass .layout .i + 1 ≤ length (S₀ A .args .body .now)
   fits =
       let a = S₀ A .args in
       let L = A .loop in
-      let f = row-fits (a .pass .frames) (L .t) (a .layout .i + 1) (omega (arith, L .inv .0, n .loop-test .taken)) in
+      let f = row-fits (a .pass .frames) (L .t) (a .pass .layout .i + 1) (omega (arith, L .inv .0, n .loop-test .taken)) in
       omega (arith, f, within (S₀ A), L .inv .1)
 
 add-width : tie.Need-add-width Inv-loop μ-loop
 add-width c =
-    let S = c .before .before .before .before .before .before .before in
+    let S = c .before .before .before .before .before .before .before .before in
     omega (arith, inputs-few (R S .held) (R S .layout-of))
 
 put-starts-requires : tie.Need-put-starts-requires Inv-loop μ-loop
 put-starts-requires c κs =
-    let S = c .before .before .before .before .before .before .before .before in
+    let S = c .before .before .before .before .before .before .before .before .before in
     (R S, omega (arith, within S))
 
 add-row : tie.Need-add-row Inv-loop μ-loop
 add-row c =
-    let S = c .before .before .before .before .before .before .before .before .before .before .before .before in
+    let S = c .before .before .before .before .before .before .before .before .before .before .before .before .before in
     omega (arith, within S)
 
 loop-holds : tie.Need-loop-holds Inv-loop μ-loop
 loop-holds c =
-    let S = c .before .before .before .before .before .before .before .before .before .before .before .before in
+    let S = c .before .before .before .before .before .before .before .before .before .before .before .before .before in
     let p = c .before .before .before in
     let a = S .args in (
       omega arith,
@@ -133,7 +133,7 @@ write-sample-requires c κs =
       record {
         held = R S .held;
         layout-of = R S .layout-of;
-        room = omega (arith, g .put-frame .kept .1 .1 .1 .1 .1 .1 .1 .0, L .inv .6);
+        room = omega (arith, g .put-frame .kept .1 .1 .1 .1 .1 .0, L .inv .6);
         wires = F S .wires;
       },
       omega (arith, L .inv .7, L .inv .3, F S .room, samples-length (λ _. low) w (L .t) (L .left) (n .loop-test .taken)),
@@ -145,7 +145,7 @@ advance-requires c κs =
     let n = g .before .before in
     let S = S₀ (A n) in
     let L = A n .loop in
-    (ready-with (R S) (omega (arith, g .put-frame .kept .1 .1 .1 .1 .1 .1 .1 .0, L .inv .6)), omega (arith, L .inv .5, S .pre .0 .1))
+    (ready-with (R S) (omega (arith, g .put-frame .kept .1 .1 .1 .1 .1 .0, L .inv .6)), omega (arith, L .inv .5, S .pre .0 .1))
 
 -- the end of a turn
 module _ (d : tie.After-advance Inv-loop μ-loop) where
@@ -162,8 +162,8 @@ add-row-2 : tie.Need-add-row-2 Inv-loop μ-loop
 add-row-2 c =
     let k = c .before .before .before .before .before .before .before .before .before .before .before .before .before .before .before .before .before in
     let L = k .loop in
-    let S = k .before .before .before .before .before .before .before .before .before .before .before .before .before in
-    let f : L .row + S .args .layout .i + 1 ≤ length (S .args .body .now) = fits (N (c .before .before .before .before)) in
+    let S = k .before .before .before .before .before .before .before .before .before .before .before .before .before .before in
+    let f : L .row + S .args .pass .layout .i + 1 ≤ length (S .args .body .now) = fits (N (c .before .before .before .before)) in
     omega (arith, f)
 
 add-t : tie.Need-add-t Inv-loop μ-loop
@@ -188,18 +188,18 @@ loop-again c =
     let W = w d .write-sample in
     let D = d .advance in
     let I = n .loop-test .taken in
-    let e : L .row + a .layout .i + 1 ≡ L .row + (a .layout .i + 1) = omega arith in (
+    let e : L .row + a .pass .layout .i + 1 ≡ L .row + (a .pass .layout .i + 1) = omega arith in (
       omega (arith, L .inv .0, I),
-      omega (arith, row-next (L .t) (a .layout .i + 1), L .inv .1),
+      omega (arith, row-next (L .t) (a .pass .layout .i + 1), L .inv .1),
       P .ensures .1 ∙ ap (λ (k : ℕ). eithers (take k (a .body .now))) e,
-      W .kept .1 .1 .1 .1 .1 .0 ∙ L .inv .3,
-      D .kept .1 .1 .1 .0 ∙ P .kept .1 .1 .1 .1 .1 .1 .1 .0 ∙ L .inv .4,
+      W .kept .1 .1 .1 .1 .0 ∙ L .inv .3,
+      D .kept .1 .1 .1 .0 ∙ P .kept .1 .1 .1 .1 .1 .0 ∙ L .inv .4,
       D .kept .1 .1 .1 .1 .0 ∙ L .inv .5,
-      omega (arith, D .kept .1 .1 .1 .0, P .kept .1 .1 .1 .1 .1 .1 .1 .0, L .inv .6),
+      omega (arith, D .kept .1 .1 .1 .0, P .kept .1 .1 .1 .1 .1 .0, L .inv .6),
       omega (arith, W .ensures .past, L .inv .7, samples-length (λ _. low) (a .pass .wires) (L .t) (L .left) I),
       λ r q old s k.
           turn-next (R S) (a .body .now) (a .pass .block) (a .pass .frames) r q (a .out .now) (a .pass .at) (a .pass .wires) old
-          (space S (mixed (circuitIn (a .m .now)) r (a .pass .block) old)) (P .last .1 .1 .1 .1 .1 .1 .1 .0) (L .inv .8 r q old s k) I
+          (space S (mixed (circuitIn (a .m .now)) r (a .pass .block) old)) (P .last .1 .1 .1 .1 .1 .0) (L .inv .8 r q old s k) I
           (L .inv .0) (L .inv .1) (P .ensures .0)
           (D .last .1 .1 .1 .0) (W .ensures) (D .ensures),
     )

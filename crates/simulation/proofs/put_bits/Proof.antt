@@ -4,13 +4,13 @@ use native.Mathlib.Omega.{arith}
 use lib.ListN.{length, getD, length-set}
 use denote.Ref.{now}
 use Rattle.simulation.specs.Store.{BitsPut}
+use Rattle.places.proofs.Digits.{digit-is}
 use Rattle.simulation.proofs.Blocks.{bits-none, bits-more}
 use borrow.Author.Needs.{needs}
 use Rattle.simulation.proofs.put_bits.Statement.{statement}
 use Rattle.simulation.proofs.put_bits.Tie as tie
 use Rattle.simulation.proofs.put_bits.Reads as reads
 use Rattle.simulation.proofs.put_bits.Lts as lts
-use Rattle.simulation.proofs.bit_of.Reads as bit-of-reads
 
 abbrev Inv-loop : tie.InvT-loop
 Inv-loop work₀ slots count y k₀ work k = (k ≤ count) × (length work ≡ length work₀) × BitsPut work₀ work slots k y
@@ -56,7 +56,8 @@ loop-again c =
       omega arith,
       length-set (l .work) (v - 1) (c .bit-of .result) ∙ l .inv .1,
       bits-more (now (s .args .work)) (l .work) (now (s .args .slots)) (l .k) (s .args .y) (c .bit-of .result) (s .pre .1 (l .k) (omega arith))
-          (omega (arith, s .pre .0 .inside (l .k) (omega arith), l .inv .1)) (λ i j h u. s .pre .0 .differ i j h (omega arith)) (λ i h. s .pre .1 i (omega arith)) (c .bit-of .ensures) (l .inv .2),
+          (omega (arith, s .pre .0 .inside (l .k) (omega arith), l .inv .1)) (λ i j h u. s .pre .0 .differ i j h (omega arith)) (λ i h. s .pre .1 i (omega arith))
+          (digit-is (c .bit-of .result) _ (c .bit-of .ensures)) (l .inv .2),
     )
 
 same-length : tie.Need-same-length Inv-loop μ-loop

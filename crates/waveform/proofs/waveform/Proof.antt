@@ -1,90 +1,73 @@
 -- `waveform::waveform` meets its contract: each answer by what was read and by the length of the text. Assumes nothing.
-use mathlib.Core.Path.{_≡_, sym, _∙_, subst}
+use mathlib.Core.Path.{sym, subst}
 use mathlib.Core.List.{List}
 use Prim.Native.Nat.{ℕ}
 use native.Mathlib.Omega.{arith}
 use borrow.Author.Needs.{needs}
 use lib.ListN.{drop}
+use Rattle.aiger.specs.Load.{refused}
 use Rattle.aiger.specs.Operations.{Operated}
 use Rattle.layout.specs.Words.{circuitIn}
-use Rattle.blocks.specs.Runs.{Fits}
-use Rattle.circuit.specs.Held.{HeldIs}
-use Rattle.circuit.specs.declared.Held.the-variants as held
-use Rattle.replay.specs.Texts.{WitnessRead, Placed}
-use Rattle.replay.proofs.Answers.{rest-is, counts-of, ready-of}
+use Rattle.blocks.specs.Runs.{Posed}
+use Rattle.replay.specs.Texts.{Placed}
+use Rattle.replay.proofs.Answers.{rest-is, refusal-read, posed-read}
+use Rattle.waveform.specs.Waveform.{Waveformed}
 use Rattle.waveform.specs.Blocks.{ShownAs}
 use Rattle.waveform.proofs.Answers.{refuses, shown}
 use Rattle.waveform.proofs.waveform.Statement.{statement}
 use Rattle.waveform.proofs.waveform.Tie as tie
 
-returns : tie.Need-returns
-returns c = Operated.noCircuit (rw (c .enum-told .given .1) at (c .before .before .before .held-in .ensures .0))
-
--- after reading: the circuit that is held, and what was read
-module _ (r : tie.After-read-witness) where
-  abbrev S : tie.Start
-  S = r .before .before .before .before .before .before .before .before .before .before
-
-  abbrev m : List ℕ
-  m = S .args .m .now
+-- a witness that was read: what is asked of its body
+module _ (k : tie.After-start) where
+  abbrev H : tie.After-read-held
+  H = k .before .before .before
 
   abbrev text : List ℕ
-  text = S .args .text .now
+  text = k .before .before .before .before .before .before .before .before .args .text .now
 
-  abbrev h : tie.After-held-in
-  h = r .before .before .before .before .before
-
-  holding : HeldIs m (h .held-in .last .1 .0) (held.Circuit (r .before .before .layout .given .0 .0))
-  holding = subst (HeldIs m (h .held-in .last .1 .0)) (r .before .before .layout .given .1) (h .held-in .ensures .0)
-
-  reading : WitnessRead (circuitIn m) text (r .read-witness .result)
-  reading = r .read-witness .ensures (circuitIn m) (counts-of (holding .1) (holding .0))
-
--- a witness that was read
-placed : (k : tie.After-start)
-    → (let r = k .before .before in Placed (circuitIn (m r)) (text r) (k .start .given .0 .0) (k .start .given .0 .1 .0))
-placed k = let r = k .before .before in subst (WitnessRead (circuitIn (m r)) (text r)) (k .start .given .1) (reading r)
+  read : (let w = k .start .given .0 .1 .0 in
+      let m = k .before .before .before .before .before .before .before .before .args .m .now in
+      Posed m (H .read-held .last .1 .1 .0) w (drop (k .start .given .0 .0) text) 4097 × Placed (circuitIn m) text (k .start .given .0 .0) (w .q))
+  read = posed-read (H .read-held .ensures) (search needs) (k .start .given .1)
 
 sub-show : tie.Need-sub-show
-sub-show c = placed (c .before .before) .inside
+sub-show c = read (c .before .before) .1 .inside
 
 part-show-start : tie.Need-part-show-start
-part-show-start c = placed (c .before .before) .inside
+part-show-start c = read (c .before .before) .1 .inside
 
 show-requires : tie.Need-show-requires
 show-requires c κs =
     let k = c .before .before .before .before in
-    let r = k .before .before in
-    let q = k .start .given .0 .1 .0 in
-    let t = holding r in (
-      ready-of (t .1) (t .0) (t .2) (search needs),
-      subst (Fits (circuitIn (m r)) (q .bad) (q .frames) (q .eithers)) (sym (rest-is (text r) (k .start .given .0 .0))) (placed k .fits),
-    )
+    subst (λ (u : List ℕ). Posed (c .before .before .before .before .before .before .before .before .before .before .before .before .args .m .now) (H k .read-held .last .1 .1 .0) (k .start .given .0 .1 .0) u 4097)
+    (sym (rest-is (text k) (k .start .given .0 .0))) (read k .0)
+
+returns : tie.Need-returns
+returns c =
+    let a = c .before .before .before .before .before .before .before .before .before .args in
+    let m = a .m .now in
+    refusal-read (c .before .before .before .before .read-held .ensures)
+    (λ (n : ℕ). Waveformed m (a .only) (a .text .now) (a .out .now) (refused n) (a .out .now)) Operated.noCircuit
+    (λ n h e. refuses (circuitIn m) h (a .only) (a .text .now) (a .out .now) n e) (c .before .n .given .1)
 
 returns-2 : tie.Need-returns-2
 returns-2 c =
-    let r = c .before .before .before in
-    refuses (circuitIn (m r)) (holding r .1) (S r .args .only) (text r) (S r .args .out .now) (c .before .n .given .0 .0)
-    (subst (WitnessRead (circuitIn (m r)) (text r)) (c .before .n .given .1) (reading r))
-
-returns-3 : tie.Need-returns-3
-returns-3 c =
     let s = c .before .before in
     let k = s .before .before .before .before .before in
-    let r = k .before .before in
-    let q = k .start .given .0 .1 .0 in
+    let a = k .before .before .before .before .before .before .before .before .args in
+    let d = circuitIn (a .m .now) in
+    let q = k .start .given .0 .1 .0 .q in
     let start = k .start .given .0 .0 in
-    let a = S r .args in
-    let out′ = s .show .last .1 .1 .1 .1 .1 .1 .0 in
-    shown (circuitIn (m r)) (holding r .1) (a .only) (text r) (a .out .now) (q .bad) (drop start (text r)) (placed k .reads)
-    (omega (arith, placed k .fits .eithers-are, placed k .fits .few)) (s .show .result) out′
-    (subst (λ (w : List ℕ). ShownAs (circuitIn (m r)) (a .only) (q .bad, w) (a .out .now) (s .show .result) out′) (rest-is (text r) start)
+    let P = read k in
+    let out′ = s .show .last .1 .1 .1 .1 .1 .0 in
+    shown d (P .0 .ready .held) (a .only) (text k) (a .out .now) (q .bad) (drop start (text k)) (P .1 .reads)
+    (omega (arith, P .1 .fits .eithers-are, P .1 .fits .few)) (s .show .result) out′
+    (subst (λ (u : List ℕ). ShownAs d (a .only) (q .bad, u) (a .out .now) (s .show .result) out′) (rest-is (text k) start)
     (s .show .ensures))
 
 pub waveform-spec : {M : Type 1} → statement M
 waveform-spec =
     tie.close
     (tie.spec
-    (λ c. search needs) (λ c κs. search needs) (λ c. search needs) (λ c. search needs) returns (λ c κs. search needs)
-    (λ c. search needs) (λ c. search needs) (λ c. search needs) sub-show part-show-start (λ c. search needs) show-requires returns-2
-    (λ c. search needs) returns-3)
+    (λ c. search needs) (λ c κs. search needs) (λ c. search needs) (λ c. search needs) (λ c. search needs) sub-show part-show-start
+    (λ c. search needs) show-requires returns (λ c. search needs) returns-2)

@@ -15,22 +15,22 @@ use Rattle.waveform.proofs.write_blocks.Statement.{statement}
 use Rattle.waveform.proofs.write_blocks.Tie as tie
 
 abbrev Inv-loop : tie.InvT-loop
-Inv-loop m layout order body all out₀ values₀ state₀ block₀ out values state block =
+Inv-loop m order body all out₀ values₀ state₀ layout block₀ out values state block =
     (block ≤ all .block) × (length out ≡ length out₀) × (length values ≡ length values₀) × (length state ≡ length state₀)
     × ((b : ℕ) → Bodies (circuitIn m) b (all .frames) body
     → Passed (circuitIn m) b body out₀ (all .at) (all .wires) (all .frames) block out)
     × Sampled block (all .at) (all .wires) (all .frames) out
 
 abbrev μ-loop : tie.MeasureT-loop
-μ-loop m layout order body all out₀ values₀ state₀ block₀ out values state block = all .block - block
+μ-loop m order body all out₀ values₀ state₀ layout block₀ out values state block = all .block - block
 
 -- the entry, from the loop's head
 abbrev start : tie.At-loop Inv-loop μ-loop → tie.Start Inv-loop μ-loop
-start l = l .before .before .before .before .before .before .before
+start l = l .before .before .before .before .before .before .before .before
 
 loop-holds : tie.Need-loop-holds Inv-loop μ-loop
 loop-holds c =
-    let a = c .before .before .before .before .before .before .args in (
+    let a = c .before .before .before .before .before .before .before .args in (
       omega arith,
       refl,
       refl,
@@ -68,11 +68,11 @@ loop-again c =
     let l = head w in
     let S = start l in
     let a = S .args in
-    let pass : Pass = record { wires = a .all .wires; frames = a .all .frames; block = l .loop .block; at = a .all .at } in (
+    let pass : Pass = record { layout = a .all .layout; wires = a .all .wires; frames = a .all .frames; block = l .loop .block; at = a .all .at } in (
       omega (arith, test w .if1 .taken),
-      w .write-samples .kept .1 .1 .1 .1 .1 .0 ∙ l .loop .inv .1,
-      w .write-samples .kept .1 .1 .1 .1 .1 .1 .0 ∙ l .loop .inv .2,
-      w .write-samples .kept .1 .1 .1 .1 .1 .1 .1 .0 ∙ l .loop .inv .3,
+      w .write-samples .kept .1 .1 .1 .1 .0 ∙ l .loop .inv .1,
+      w .write-samples .kept .1 .1 .1 .1 .1 .0 ∙ l .loop .inv .2,
+      w .write-samples .kept .1 .1 .1 .1 .1 .1 .0 ∙ l .loop .inv .3,
       λ b B.
           passed-more (circuitIn (a .m .now)) b (a .body .now) (a .out .now) pass B (l .loop .inv .4 b B)
           (omega (arith, l .loop .inv .1, S .pre .1 .room)) (w .write-samples .ensures),

@@ -11,13 +11,14 @@ use Rattle.widen.proofs.every_hit.Tie as tie
 
 every-completion-requires : tie.Need-every-completion-requires
 every-completion-requires c κs =
-    let S = c .before .before .before .before .before .before .before in
-    (ready-with (S .pre .0) (omega (arith, counts (S .pre .0 .held) .maxVar, top-is (S .args .m .now))), S .pre .1 .0 .0, S .pre .1 .1)
+    let S = c .before .before .before .before .before .before .before .before .before in
+    let P = S .pre .0 in
+    (ready-with (P .ready) (omega (arith, counts (P .ready .held) .maxVar, top-is (S .args .m .now))), P .bad, P .fits)
 
 returns : tie.Need-returns
 returns c =
-    let a = c .before .before .before .before .before .before .before .before .before .args in
-    sym (true-T (allPass (shows (circuitIn (a .m .now)) (a .q .bad)) (a .body .now)) (c .before .every-completion .ensures (c .if2 .taken)))
+    let a = c .before .before .before .before .before .before .before .before .before .before .before .args in
+    sym (true-T (allPass (shows (circuitIn (a .m .now)) (a .w .q .bad)) (a .body .now)) (c .before .every-completion .ensures (c .if2 .taken)))
 
 pub every-hit-spec : {M : Type 1} → statement M
 every-hit-spec =

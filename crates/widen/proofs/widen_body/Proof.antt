@@ -41,10 +41,10 @@ abbrev p : tie.After-rows-of Inv-loop μ-loop → List ℕ → Bool
 p r = pinnedShows (circuitIn (start r .args .m .now)) (q r) (start r .args .w .q .bad)
 
 rows-of-requires : tie.Need-rows-of-requires Inv-loop μ-loop
-rows-of-requires c κs = let S = c .before .before .before .before .before .before .before .before in rows-fit (S .pre .0) (S .pre .1 .1 .0)
+rows-of-requires c κs = let S = c .before .before .before .before .before .before .before .before in rows-fit (S .pre .0 .ready) (S .pre .0 .fits)
 
 loop-holds : tie.Need-loop-holds Inv-loop μ-loop
-loop-holds c = let S = start c in (omega arith, refl, refl, refl, refl, S .pre .1 .1 .0, S .pre .1 .1 .1)
+loop-holds c = let S = start c in (omega arith, refl, refl, refl, refl, S .pre .0 .fits, S .pre .1 .1)
 
 sub-i : tie.Need-sub-i Inv-loop μ-loop
 sub-i c = omega (arith, c .loop-test .taken)
@@ -53,7 +53,7 @@ pin-of-requires : tie.Need-pin-of-requires Inv-loop μ-loop
 pin-of-requires c κs =
     let r = c .before .before in
     let S = start r in
-    inputs-few (S .pre .0) (S .pre .1 .1 .0) (q r) (r .rows-of .result) (r .rows-of .ensures)
+    inputs-few (S .pre .0 .ready) (S .pre .0 .fits) (q r) (r .rows-of .result) (r .rows-of .ensures)
 
 -- a byte that is free
 module _ (t : tie.Then1 Inv-loop μ-loop) where
@@ -71,7 +71,7 @@ module _ (t : tie.Then1 Inv-loop μ-loop) where
   free =
       let S = start r in
       let k = t .before .pin-of in
-      at-free (S .pre .0) (l .loop .inv .5) (q r) (r .rows-of .result) (r .rows-of .ensures) (l .loop .inv .6) (l .loop .i - 1)
+      at-free (S .pre .0 .ready) (l .loop .inv .5) (q r) (r .rows-of .result) (r .rows-of .ensures) (l .loop .inv .6) (l .loop .i - 1)
       (k .result) (k .ensures) (t .if1 .taken)
 
 widen-at-requires : tie.Need-widen-at-requires Inv-loop μ-loop
@@ -79,15 +79,12 @@ widen-at-requires c κs =
     let t = c .before .before .before in
     let N = n t in
     let L = l t in
-    let S = start (r t) in (
-      ready-with (S .pre .0) (omega (arith, L .loop .inv .2, S .pre .0 .room)),
+    let S = start (r t) in
+    let P = S .pre .0 in (
+      record { ready = ready-with (P .ready) (omega (arith, L .loop .inv .2, P .ready .room)); bad = P .bad; fits = L .loop .inv .5 },
       (
-        (S .pre .1 .0 .0, omega (arith, L .loop .inv .3, S .pre .1 .0 .1), omega (arith, N .loop-test .taken, L .loop .inv .0)),
-        (
-          L .loop .inv .5,
-          all-plain (S .pre .0) (L .loop .inv .5) (q (r t)) (r t .rows-of .result) (r t .rows-of .ensures)
-              (L .loop .inv .6),
-        ),
+        (omega (arith, L .loop .inv .3, S .pre .1 .0), omega (arith, N .loop-test .taken, L .loop .inv .0)),
+        all-plain (P .ready) (L .loop .inv .5) (q (r t)) (r t .rows-of .result) (r t .rows-of .ensures) (L .loop .inv .6),
       ),
     )
 
@@ -131,7 +128,7 @@ loop-again-2 c =
     let k = c .before .pin-of in
     let j : ℕ = L .loop .i - 1 in
     let z : widenAt (p R) (L .loop .body) j ≡ L .loop .body =
-    at-held (S .pre .0) (L .loop .inv .5) (q R) (R .rows-of .result) (R .rows-of .ensures) (L .loop .inv .6) j (k .result) (k .ensures)
+    at-held (S .pre .0 .ready) (L .loop .inv .5) (q R) (R .rows-of .result) (R .rows-of .ensures) (L .loop .inv .6) j (k .result) (k .ensures)
     (omega (arith, c .if1 .left)) in (
       omega (arith, L .loop .inv .0),
       L .loop .inv .1,

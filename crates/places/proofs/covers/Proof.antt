@@ -1,4 +1,4 @@
--- `enumeration::covers` meets its contract. Assumes nothing.
+-- `places::covers` meets its contract. Assumes nothing.
 use mathlib.Core.Path.{sym, ap}
 use Prim.Native.Nat.{ℕ, _^_}
 use native.Mathlib.Omega.{arith}
@@ -6,8 +6,8 @@ use borrow.Author.Tests.{lt-leb}
 use lib.Dec.{leb}
 use lib.Pow.{pow-mono}
 use borrow.Author.Needs.{needs}
-use Rattle.enumeration.proofs.covers.Statement.{statement}
-use Rattle.enumeration.proofs.covers.Tie as tie
+use Rattle.places.proofs.covers.Statement.{statement}
+use Rattle.places.proofs.covers.Tie as tie
 
 returns : tie.Need-returns
 returns c = sym (lt-leb (2 ^ c .before .args .n) (c .before .args .d) (omega (arith, pow-mono (c .if1 .taken))))

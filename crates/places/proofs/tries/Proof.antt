@@ -1,9 +1,9 @@
--- `enumeration::tries` meets its contract. Assumes nothing.
+-- `places::tries` meets its contract. Assumes nothing.
 use native.Mathlib.Omega.{arith}
 use lib.Pow.{pow-mono}
 use borrow.Author.Needs.{needs}
-use Rattle.enumeration.proofs.tries.Statement.{statement}
-use Rattle.enumeration.proofs.tries.Tie as tie
+use Rattle.places.proofs.tries.Statement.{statement}
+use Rattle.places.proofs.tries.Tie as tie
 
 returns : tie.Need-returns
 returns c = omega (arith, pow-mono (c .if1 .taken))
