@@ -38,8 +38,8 @@ pub fn write_latches(
     let mut p = first;
     let mut left = n;
     while 0 < left {
-        let next = renumber::rename(names, m[p + 1]);
-        let reset = renumber::rename(names, m[p + 2]);
+        let next = renumber::rename_word(names, m[p + 1]);
+        let reset = renumber::rename_word(names, m[p + 2]);
         end = write_latch(next, reset, out, end);
         p += 3;
         left -= 1;
@@ -65,7 +65,7 @@ pub fn write_literals(
     let mut p = first;
     let mut left = n;
     while 0 < left {
-        end = output::put_ended(out, end, renumber::rename(names, m[p]), 0);
+        end = output::put_ended(out, end, renumber::rename_word(names, m[p]), 0);
         p += 1;
         left -= 1;
     }
@@ -116,9 +116,9 @@ pub fn write_gates(
     let mut j: usize = 0;
     while j < count {
         let p = first + 3 * order[j] as usize;
-        let lit = renumber::rename(names, m[p]);
-        let left = renumber::rename(names, m[p + 1]);
-        let right = renumber::rename(names, m[p + 2]);
+        let lit = renumber::rename_word(names, m[p]);
+        let left = renumber::rename_word(names, m[p + 1]);
+        let right = renumber::rename_word(names, m[p + 2]);
         end = write_gate(lit, left, right, out, end);
         j += 1;
     }

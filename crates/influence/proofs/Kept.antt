@@ -8,8 +8,8 @@ use native.Mathlib.Numerals.{add-one}
 use native.Mathlib.Decide.{decLt, ℕ-discrete}
 use native.Mathlib.Omega.{arith}
 use lib.Dec.{T}
-use lib.ListN.{length, getD, set, take, length-append, length-set, List·getD-append}
-use lib.Seq.{getD-at, take-suc-set}
+use lib.ListN.{length, getD, set, take, drop, length-append, length-set, List·getD-append}
+use lib.Seq.{getD-at, take-suc-set, drop-set-lt, drop-drop}
 use Rattle.aiger.proofs.Tests.{T-true}
 use Rattle.influence.specs.Cone.{keptBelow}
 
@@ -88,22 +88,33 @@ module _ (p : ℕ → Bool) where
   unfolding keptBelow
   kept-out n e = sym (ap (λ (q : Bool). cond q (keptBelow p n ++ (n ∷ [])) (keptBelow p n)) e)
 
--- a list that is written one number after the other, each where its test passes
-pub kept-step : (p : ℕ → Bool) (n j : ℕ) (ks ks′ : List ℕ) (n′ : ℕ) (t : Bool) → t ≡ p j → n ≤ j → n < length ks → take n ks ≡ keptBelow p j
-    → ((t ≡ true) × (ks′ ≡ set ks n j) × (n′ ≡ n + 1)) ⊎ ((t ≡ false) × (ks′ ≡ ks) × (n′ ≡ n))
-    → (n′ ≤ j + 1) × (length ks′ ≡ length ks) × (take n′ ks′ ≡ keptBelow p (j + 1))
-kept-step p n j ks ks′ n′ t e l h k (inl (a, b, d)) = (
-  omega arith,
-  ap length b ∙ length-set ks n j,
-  ap₂ take (d ∙ add-one n) b ∙ take-suc-set ks n j h ∙ ap (λ (xs : List ℕ). xs ++ (j ∷ [])) k ∙ kept-in p j (sym e ∙ a)
-      ∙ ap (keptBelow p) (sym (add-one j)),
-)
-kept-step p n j ks ks′ n′ t e l h k (inr (a, b, d)) = (
-  omega arith,
-  ap length b,
-  ap₂ take d b ∙ k ∙ kept-out p j (sym e ∙ a) ∙ ap (keptBelow p) (sym (add-one j)),
-)
+-- a list that is written one number after the other over `old`, each where its test passes: the first n words are those numbers, and the
+-- others are as they were
+pub record Listing (p : ℕ → Bool) (j : ℕ) (old : List ℕ) (n : ℕ) (ks : List ℕ) : Type 0 where
+  pub few : n ≤ j
+  pub size : length ks ≡ length old
+  pub front : take n ks ≡ keptBelow p j
+  pub rest : drop n ks ≡ drop n old
 
-pub kept-none : (p : ℕ → Bool) (ks : List ℕ) → take 0 ks ≡ keptBelow p 0
+pub list-step : (p : ℕ → Bool) (n j : ℕ) (old ks ks′ : List ℕ) (n′ : ℕ) (t : Bool) → t ≡ p j → n < length ks → Listing p j old n ks
+    → ((t ≡ true) × (ks′ ≡ set ks n j) × (n′ ≡ n + 1)) ⊎ ((t ≡ false) × (ks′ ≡ ks) × (n′ ≡ n)) → Listing p (j + 1) old n′ ks′
+list-step p n j old ks ks′ n′ t e h k (inl (a, b, d)) =
+    record {
+      few = omega (arith, k .few);
+      size = ap length b ∙ length-set ks n j ∙ k .size;
+      front = ap₂ take (d ∙ add-one n) b ∙ take-suc-set ks n j h ∙ ap (λ (xs : List ℕ). xs ++ (j ∷ [])) (k .front) ∙ kept-in p j (sym e ∙ a)
+          ∙ ap (keptBelow p) (sym (add-one j));
+      rest = ap₂ drop d b ∙ drop-set-lt (n + 1) ks n j (omega arith) ∙ sym (drop-drop 1 n ks) ∙ ap (drop 1) (k .rest) ∙ drop-drop 1 n old
+          ∙ ap (λ (i : ℕ). drop i old) (sym d);
+    }
+list-step p n j old ks ks′ n′ t e h k (inr (a, b, d)) =
+    record {
+      few = omega (arith, k .few);
+      size = ap length b ∙ k .size;
+      front = ap₂ take d b ∙ k .front ∙ kept-out p j (sym e ∙ a) ∙ ap (keptBelow p) (sym (add-one j));
+      rest = ap₂ drop d b ∙ k .rest ∙ ap (λ (i : ℕ). drop i old) (sym d);
+    }
+
+pub list-start : (p : ℕ → Bool) (ks : List ℕ) → Listing p 0 ks 0 ks
 unfolding keptBelow
-kept-none p ks = refl
+list-start p ks = record { few = omega arith; size = refl; front = refl; rest = refl }

@@ -1,17 +1,21 @@
 -- Marks, step by step. Assumes nothing.
 use mathlib.Core.Path.{_≡_, refl, sym, ap, ap₂, _∙_, subst}
-use mathlib.Core.Bool.{Bool, true, false, cond, _&&_, and-false}
+use mathlib.Core.Bool.{Bool, true, false, not, cond, _&&_, and-false}
 use mathlib.Core.List.{List}
 use Prim.Native.Nat.{ℕ, zero, suc, _+_, _-_, _≤_, _<_}
 use native.Mathlib.Numerals.{add-one}
 use native.Mathlib.Decide.{ℕ-discrete}
 use native.Mathlib.Omega.{arith}
+use borrow.Author.Tests.{ne-eqb}
+use lib.Dec.{eqb}
 use lib.ListN.{length, getD, set, length-set}
 use Rattle.aiger.specs.Lists.{everyBelow}
 use Rattle.aiger.specs.Bits.{nonzero}
 use Rattle.aiger.specs.Circuit.{Circuit, Gate, var}
+use Rattle.literals.specs.Literal.{literal}
+use Rattle.literals.specs.declared.Var.{Var}
 use Rattle.influence.specs.Cone.{marked, mark, markBelow, reach, reachDown, closedAt, closed, spread, settle}
-pub use Rattle.aiger.proofs.Tests.{nonzero-true as a-mark, nonzero-false as no-mark, below-same}
+pub use Rattle.aiger.proofs.Tests.{below-same}
 
 -- one literal more
 pub mark-more : (f : ℕ → ℕ) (n : ℕ) (ms now : List ℕ) → now ≡ markBelow f n ms → mark (f n) now ≡ markBelow f (n + 1) ms
@@ -31,12 +35,29 @@ unfolding markBelow
 mark-same f g zero ms h = refl
 mark-same f g (suc n) ms h = ap₂ mark (h n (omega arith)) (mark-same f g n ms (λ i l. h i (omega arith)))
 
--- the operands of one gate
-pub reach-not : (g : Gate) (ms : List ℕ) → getD ms (var (g .lit)) 0 ≡ 0 → ms ≡ reach g ms
-reach-not g ms e = sym (ap (λ (q : Bool). cond q (mark (g .right) (mark (g .left) ms)) ms) (no-mark (getD ms (var (g .lit)) 0) e))
+-- ---- variables that are read from words
 
-pub reach-all : (g : Gate) (ms : List ℕ) → (getD ms (var (g .lit)) 0 ≡ 0 → ⊥) → mark (g .right) (mark (g .left) ms) ≡ reach g ms
-reach-all g ms h = sym (ap (λ (q : Bool). cond q (mark (g .right) (mark (g .left) ms)) ms) (a-mark (getD ms (var (g .lit)) 0) h))
+-- whether the variable of a literal is marked, and the marks with its own
+pub var-marked : (ms : List ℕ) (w : ℕ) {v : Var} {t : Bool} → v ≡ literal w .0 → t ≡ nonzero (getD ms (v .0) 0) → t ≡ marked ms w
+var-marked ms w e h = h ∙ ap (λ (v : Var). nonzero (getD ms (v .0) 0)) e
+
+pub var-mark : (ms : List ℕ) (w : ℕ) {v : Var} {out : List ℕ} → v ≡ literal w .0 → out ≡ set ms (v .0) 1 → out ≡ mark w ms
+var-mark ms w e h = h ∙ ap (λ (v : Var). set ms (v .0) 1) e
+
+pub var-below : (w count : ℕ) {v : Var} → v ≡ literal w .0 → var w < count → v .0 < count
+var-below w count e h = omega (arith, ap (λ (v : Var). v .0) e)
+
+-- the code's test of a mark
+pub mark-test : (x : ℕ) → not (eqb x 0) ≡ nonzero x
+mark-test zero = refl
+mark-test (suc x) = ap not (ne-eqb (suc x) 0 (λ e. omega arith))
+
+-- the operands of one gate
+pub reach-not : (g : Gate) (ms : List ℕ) → marked ms (g .lit) ≡ false → ms ≡ reach g ms
+reach-not g ms e = sym (ap (λ (q : Bool). cond q (mark (g .right) (mark (g .left) ms)) ms) e)
+
+pub reach-all : (g : Gate) (ms : List ℕ) → marked ms (g .lit) ≡ true → mark (g .right) (mark (g .left) ms) ≡ reach g ms
+reach-all g ms h = sym (ap (λ (q : Bool). cond q (mark (g .right) (mark (g .left) ms)) ms) h)
 
 -- one gate more
 pub down-more : (f : ℕ → Gate) (k : ℕ) (ms : List ℕ) → 0 < k → reachDown f k ms ≡ reachDown f (k - 1) (reach (f (k - 1)) ms)
@@ -55,27 +76,15 @@ down-same f g (suc n) ms h =
     ap (λ (x : Gate). reachDown f n (reach x ms)) (h n (omega arith)) ∙ down-same f g n (reach (g n) ms) (λ i l. h i (omega arith))
 
 -- ---- tests
-pub closed-not : (ms : List ℕ) (g : Gate) → getD ms (var (g .lit)) 0 ≡ 0 → true ≡ closedAt ms g
-closed-not ms g e =
-    sym (ap (λ (q : Bool). cond q (marked ms (g .left) && marked ms (g .right)) true) (no-mark (getD ms (var (g .lit)) 0) e))
+pub closed-not : (ms : List ℕ) (g : Gate) → marked ms (g .lit) ≡ false → true ≡ closedAt ms g
+closed-not ms g e = sym (ap (λ (q : Bool). cond q (marked ms (g .left) && marked ms (g .right)) true) e)
 
-closed-by : (ms : List ℕ) (g : Gate) (x y : Bool) → (getD ms (var (g .lit)) 0 ≡ 0 → ⊥) → marked ms (g .left) ≡ x → marked ms (g .right) ≡ y
-    → closedAt ms g ≡ (x && y)
-closed-by ms g x y h e f =
-    ap (λ (q : Bool). cond q (marked ms (g .left) && marked ms (g .right)) true) (a-mark (getD ms (var (g .lit)) 0) h) ∙ ap₂ (λ (a b : Bool). a && b) e f
+pub closed-right : (ms : List ℕ) (g : Gate) (x : Bool) → marked ms (g .lit) ≡ true → marked ms (g .left) ≡ x
+    → (x && marked ms (g .right)) ≡ closedAt ms g
+closed-right ms g x h e = sym (ap₂ (λ (q y : Bool). cond q (y && marked ms (g .right)) true) h e)
 
-pub closed-left : (ms : List ℕ) (g : Gate) → (getD ms (var (g .lit)) 0 ≡ 0 → ⊥) → getD ms (var (g .left)) 0 ≡ 0 → false ≡ closedAt ms g
-closed-left ms g h e = sym (closed-by ms g false (marked ms (g .right)) h (no-mark (getD ms (var (g .left)) 0) e) refl)
-
-pub closed-right : (ms : List ℕ) (g : Gate) → (getD ms (var (g .lit)) 0 ≡ 0 → ⊥) → (getD ms (var (g .left)) 0 ≡ 0 → ⊥) → getD ms (var (g .right)) 0 ≡ 0
-    → false ≡ closedAt ms g
-closed-right ms g h e f =
-    sym (closed-by ms g true false h (a-mark (getD ms (var (g .left)) 0) e) (no-mark (getD ms (var (g .right)) 0) f))
-
-pub closed-both : (ms : List ℕ) (g : Gate) → (getD ms (var (g .lit)) 0 ≡ 0 → ⊥) → (getD ms (var (g .left)) 0 ≡ 0 → ⊥) → (getD ms (var (g .right)) 0 ≡ 0 → ⊥)
-    → true ≡ closedAt ms g
-closed-both ms g h e f =
-    sym (closed-by ms g true true h (a-mark (getD ms (var (g .left)) 0) e) (a-mark (getD ms (var (g .right)) 0) f))
+pub closed-left : (ms : List ℕ) (g : Gate) → marked ms (g .lit) ≡ true → marked ms (g .left) ≡ false → false ≡ closedAt ms g
+closed-left ms g h e = closed-right ms g false h e
 
 -- a test of all numbers below n
 pub below-more : (p : ℕ → Bool) (n : ℕ) → everyBelow n p ≡ true → p n ≡ true → everyBelow (n + 1) p ≡ true

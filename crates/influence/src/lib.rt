@@ -1,11 +1,14 @@
 // The latches in the cone of influence of a bad line: marks spread from the bad line and the constraints through gates and latches.
 use layout::Layout;
+use literals::Lit;
+use literals::Var;
 ghost use mathlib.Core.Path.{_≡_};
 ghost use mathlib.Core.Bool.{_||_};
 ghost use Prim.Native.Nat.{ℕ, _+_, _*_, _≤_, _<_};
-ghost use lib.ListN.{length, take};
+ghost use lib.ListN.{length, getD, set, take, drop};
 ghost use Rattle.aiger.specs.Lists.{everyBelow};
 ghost use Rattle.aiger.specs.Bits.{nonzero};
+ghost use Rattle.literals.specs.Literal.{literal};
 ghost use Rattle.layout.specs.Words.{word, circuitIn};
 ghost use Rattle.meaning.specs.Frame.{latchAt};
 ghost use Rattle.frames.specs.Lanes.{Ready};
@@ -26,6 +29,32 @@ ghost use Rattle.influence.specs.Cone.{
   Literals,
 };
 
+// The variable of the literal at a position.
+fn var_at(m: &[u32], at: usize) -> Var
+    requires { ⌜ at < length (now m) ⌝ }
+    ensures { λ r. ⌜ r ≡ literal (word (now (m .entry)) at) .0 ⌝ }
+{
+    Lit::from_word(m[at]).var()
+}
+
+// Marks a variable.
+fn mark(marks: &mut [u32], v: Var)
+    requires { ⌜ v .0 < length (now marks) ⌝ }
+    ensures { λ _. ⌜ now (marks .exit) ≡ set (now (marks .entry)) (v .0) 1 ⌝ }
+{
+    let at = v.0 as usize;
+    marks[at] = 1;
+}
+
+// Whether a variable is marked.
+fn is_marked(marks: &[u32], v: Var) -> bool
+    requires { ⌜ v .0 < length (now marks) ⌝ }
+    ensures { λ r. ⌜ r ≡ nonzero (getD (now (marks .entry)) (v .0) 0) ⌝ }
+{
+    let at = v.0 as usize;
+    marks[at] != 0
+}
+
 // Marks the variables of n literals from `at` on.
 fn mark_words(m: &[u32], at: usize, n: usize, marks: &mut [u32])
     requires { ⌜ Literals (now m) at n (length (now marks)) ⌝ }
@@ -33,8 +62,7 @@ fn mark_words(m: &[u32], at: usize, n: usize, marks: &mut [u32])
 {
     let mut i = 0;
     while i < n {
-        let v = (m[at + i] / 2) as usize;
-        marks[v] = 1;
+        mark(marks, var_at(m, at + i));
         i += 1;
     }
 }
@@ -44,14 +72,14 @@ fn reach(m: &[u32], at: usize, last: usize, marks: &mut [u32])
     requires { ⌜ Room (now m) at last (length (now marks)) ⌝ }
     ensures { λ _. ⌜ now (marks .exit) ≡ reach (gateBy (now (m .entry)) at last) (now (marks .entry)) ⌝ }
 {
-    let v = (m[at] / 2) as usize;
-    let x = (m[at + 1] / 2) as usize;
-    let y = (m[at + last] / 2) as usize;
-    if marks[v] == 0 {
+    let v = var_at(m, at);
+    let x = var_at(m, at + 1);
+    let y = var_at(m, at + last);
+    if !is_marked(marks, v) {
         return;
     }
-    marks[x] = 1;
-    marks[y] = 1;
+    mark(marks, x);
+    mark(marks, y);
 }
 
 // The same of n gates from `at` on, the last one first.
@@ -80,19 +108,16 @@ fn is_closed(m: &[u32], at: usize, last: usize, marks: &[u32]) -> bool
     requires { ⌜ Room (now m) at last (length (now marks)) ⌝ }
     ensures { λ r. ⌜ r ≡ closedAt (now (marks .entry)) (gateBy (now (m .entry)) at last) ⌝ }
 {
-    let v = (m[at] / 2) as usize;
-    let x = (m[at + 1] / 2) as usize;
-    let y = (m[at + last] / 2) as usize;
-    if marks[v] == 0 {
+    let v = var_at(m, at);
+    let x = var_at(m, at + 1);
+    let y = var_at(m, at + last);
+    if !is_marked(marks, v) {
         return true;
     }
-    if marks[x] == 0 {
+    if !is_marked(marks, x) {
         return false;
     }
-    if marks[y] == 0 {
-        return false;
-    }
-    true
+    is_marked(marks, y)
 }
 
 // The same of n gates from `at` on.
@@ -117,8 +142,7 @@ fn are_marked(m: &[u32], at: usize, n: usize, marks: &[u32]) -> bool
 {
     let mut i = 0;
     while i < n {
-        let v = (m[at + i] / 2) as usize;
-        if marks[v] == 0 {
+        if !is_marked(marks, var_at(m, at + i)) {
             return false;
         }
         i += 1;
@@ -155,20 +179,7 @@ fn settle(m: &[u32], layout: Layout, order: &[u32], b: usize, marks: &mut [u32])
     }
 }
 
-// Whether a latch with this mark is kept, where all are or those that are marked.
-fn is_kept(all: bool, mark: u32) -> bool
-    ensures { λ r. ⌜ r ≡ (all || nonzero mark) ⌝ }
-{
-    if all {
-        return true;
-    }
-    if mark == 0 {
-        return false;
-    }
-    true
-}
-
-// Lists the latches that are marked, or all of them.
+// Lists the latches that are marked, or all of them; the words after them stay.
 fn keep(
     m: &[u32],
     layout: Layout,
@@ -182,6 +193,7 @@ fn keep(
     ensures { λ r. ⌜
         (r ≤ layout .l) × (take r (now (kept .exit)) ≡ keptBelow (λ j. all
         || marked (now (marks .entry)) (latchAt (circuitIn (now (m .entry))) j .lit)) (layout .l))
+        × (drop r (now (kept .exit)) ≡ drop r (now (kept .entry)))
         ⌝ }
 {
     let latches = layout.latches;
@@ -189,8 +201,8 @@ fn keep(
     let mut n = 0;
     let mut j = 0;
     while j < count {
-        let v = (m[latches + 3 * j] / 2) as usize;
-        if is_kept(all, marks[v]) {
+        let marked = is_marked(marks, var_at(m, latches + 3 * j));
+        if all | marked {
             kept[n] = j as u32;
             n += 1;
         }
@@ -200,11 +212,14 @@ fn keep(
 }
 
 // Lists the latches in the cone of influence of bad line b, or all latches where the marks do not settle, by their places in the file;
-// answers how many there are.
+// answers how many there are. The words after them stay.
 pub fn kept_latches(m: &[u32], layout: Layout, order: &[u32], b: usize, kept: &mut [u32]) -> usize
     requires { ⌜ Ready (now m) layout (now order) 4097 ⌝ }
     requires { ⌜ (b < word (now m) 5) × (1024 ≤ length (now kept)) ⌝ }
-    ensures { λ r. ⌜ (r ≤ layout .l) × (take r (now (kept .exit)) ≡ keptLatches (circuitIn (now (m .entry))) b) ⌝ }
+    ensures { λ r. ⌜
+        (r ≤ layout .l) × (take r (now (kept .exit)) ≡ keptLatches (circuitIn (now (m .entry))) b)
+        × (drop r (now (kept .exit)) ≡ drop r (now (kept .entry)))
+        ⌝ }
 {
     let mut marks = [0u32; 4097];
     mark_words(m, layout.bads + b, 1, &mut marks);

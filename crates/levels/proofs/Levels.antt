@@ -5,8 +5,9 @@ use Prim.Native.Nat.{ℕ, zero, suc, _+_, _-_, _%_, _^_, _≤_, _<_}
 use native.Mathlib.Decide.{decLt}
 use native.Mathlib.Omega.{arith}
 use borrow.Author.Tests.{eq-eqb, ne-eqb}
+use mir.Val.{boolByte}
 use lib.Dec.{T, eqb}
-use Rattle.aiger.specs.Bits.{nonzero, odd, bit}
+use Rattle.aiger.specs.Bits.{bit}
 use Rattle.aiger.specs.Lists.{everyBelow}
 use Rattle.aiger.proofs.Tests.{and-left, and-right, and, true-T, T-true, not-both, below-at, below-all}
 use Rattle.words.proofs.Bits.{bit-none, bit-all, bits-equal}
@@ -110,21 +111,19 @@ over-joined n m p h k =
 -- ---- the level of a word
 
 module _ (x : ℕ) where
-  -- the values of a literal with sign d of a variable with word x
-  abbrev pub signed : ℕ → ℕ → Bool
-  signed d p = cond (nonzero d) (not (bit x p)) (bit x p)
+  -- the values of a literal with sign b of a variable with word x
+  abbrev pub signed : Bool → ℕ → Bool
+  signed b p = cond b (not (bit x p)) (bit x p)
 
-  pub zero-word : (d : ℕ) → d < 2 → x ≡ 0 → 48 + d ≡ levelByte (levelOver 64 (signed d))
+  pub zero-word : (b : Bool) → x ≡ 0 → 48 + boolByte b ≡ levelByte (levelOver 64 (signed b))
   unfolding levelByte
-  zero-word zero h e = ap levelByte (sym (over-low 64 (signed 0) (omega arith) (λ p l. rw e (bit-none p))))
-  zero-word (suc zero) h e = ap levelByte (sym (over-high 64 (signed 1) (λ p l. rw e (ap not (bit-none p)))))
-  zero-word (suc (suc d)) h e = absurd (omega arith)
+  zero-word false e = ap levelByte (sym (over-low 64 (signed false) (omega arith) (λ p l. rw e (bit-none p))))
+  zero-word true e = ap levelByte (sym (over-high 64 (signed true) (λ p l. rw e (ap not (bit-none p)))))
 
-  pub full-word : (d : ℕ) → d < 2 → x ≡ 18446744073709551615 → 49 - d ≡ levelByte (levelOver 64 (signed d))
+  pub full-word : (b : Bool) → x ≡ 18446744073709551615 → 49 - boolByte b ≡ levelByte (levelOver 64 (signed b))
   unfolding levelByte
-  full-word zero h e = ap levelByte (sym (over-high 64 (signed 0) (λ p l. rw e (bit-all 64 p l))))
-  full-word (suc zero) h e = ap levelByte (sym (over-low 64 (signed 1) (omega arith) (λ p l. rw e (ap not (bit-all 64 p l)))))
-  full-word (suc (suc d)) h e = absurd (omega arith)
+  full-word false e = ap levelByte (sym (over-high 64 (signed false) (λ p l. rw e (bit-all 64 p l))))
+  full-word true e = ap levelByte (sym (over-low 64 (signed true) (omega arith) (λ p l. rw e (ap not (bit-all 64 p l)))))
 
   not-false : (b : Bool) → T (not b) → b ≡ false
   not-false true t = absurd t
@@ -143,12 +142,12 @@ module _ (x : ℕ) where
   twice true = refl
   twice false = refl
 
-  pub other-word : (d : ℕ) → x < 2 ^ 64 → (x ≡ 0 → ⊥) → (x ≡ 18446744073709551615 → ⊥) → 120 ≡ levelByte (levelOver 64 (signed d))
+  pub other-word : (b : Bool) → x < 2 ^ 64 → (x ≡ 0 → ⊥) → (x ≡ 18446744073709551615 → ⊥) → 120 ≡ levelByte (levelOver 64 (signed b))
   unfolding levelByte
-  other-word zero h n k = ap levelByte (sym (over-either 64 (signed 0) (no-zeros h k) (no-ones h n)))
-  other-word (suc d) h n k =
+  other-word false h n k = ap levelByte (sym (over-either 64 (signed false) (no-zeros h k) (no-ones h n)))
+  other-word true h n k =
       ap levelByte
-      (sym (over-either 64 (signed (suc d)) (no-ones h n)
+      (sym (over-either 64 (signed true) (no-ones h n)
       (λ t. no-zeros h k (below-all 64 (bit x) (λ p l. subst T (twice (bit x p)) (below-at 64 (λ v. not (not (bit x v))) t p l))))))
 
 -- ---- the level after a block, by its character

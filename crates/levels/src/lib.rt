@@ -1,11 +1,13 @@
 // The level of a wire over 64 runs and over blocks of them: 0 or 1 where all runs have it, else x.
 use layout::Layout;
+use literals::Lit;
 ghost use mathlib.Core.Path.{_≡_};
 ghost use mathlib.Core.Bool.{not, cond};
 ghost use Prim.Native.Nat.{_<_};
 ghost use lib.ListN.{length};
-ghost use Rattle.aiger.specs.Bits.{odd, bit};
+ghost use Rattle.aiger.specs.Bits.{bit};
 ghost use Rattle.aiger.specs.Memory.{Holds};
+ghost use Rattle.literals.specs.Literal.{literal};
 ghost use Rattle.layout.specs.Words.{circuitIn};
 ghost use Rattle.layout.specs.Layout.{LayoutOf};
 ghost use Rattle.vcd.specs.Text.{levelByte};
@@ -16,27 +18,27 @@ ghost use Rattle.levels.specs.Levels.{levelOver, afterByte};
 const OWN: usize = 0;
 
 // The literal of wire k: inputs, latches, and then outputs, bad lines and constraints, which stand one after the other.
-pub fn literal_at(m: &[u32], layout: Layout, k: usize) -> u32
+pub fn literal_at(m: &[u32], layout: Layout, k: usize) -> Lit
     requires { ⌜ Holds (now m) (circuitIn (now m)) × LayoutOf (now m) layout × (k < length (literals (circuitIn (now m)))) ⌝ }
-    ensures { λ r. ⌜ r ≡ literalAt (circuitIn (now (m .entry))) k ⌝ }
+    ensures { λ r. ⌜ r ≡ literal (literalAt (circuitIn (now (m .entry))) k) ⌝ }
 {
     if k < layout.i {
-        return m[7 + k];
+        return Lit::from_word(m[7 + k]);
     }
     let j = k - layout.i;
     if j < layout.l {
         let latch = layout.latches + 3 * j + OWN;
-        return m[latch];
+        return Lit::from_word(m[latch]);
     }
     let at = layout.outputs + (j - layout.l);
-    m[at]
+    Lit::from_word(m[at])
 }
 
 // The character of the literal l of a variable with this word, over its 64 runs.
-pub fn level_of(word: u64, l: u32) -> u8
-    ensures { λ r. ⌜ r ≡ levelByte (levelOver 64 (λ p. cond (odd l) (not (bit word p)) (bit word p))) ⌝ }
+pub fn level_of(word: u64, l: Lit) -> u8
+    ensures { λ r. ⌜ r ≡ levelByte (levelOver 64 (λ p. cond (l .1) (not (bit word p)) (bit word p))) ⌝ }
 {
-    let sign = (l % 2) as u8;
+    let sign = l.1 as u8;
     if word == 0 {
         return b'0' + sign;
     }

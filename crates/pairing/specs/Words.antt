@@ -13,6 +13,10 @@ use Rattle.layout.specs.declared.Layout.{Layout}
 use Rattle.joined.specs.Joined.{complement}
 use Rattle.renumber.specs.Names.{Within, under, Named}
 
+-- the three words of a gate
+abbrev pub gateWord : ℕ → ℕ → ℕ → ℕ → ℕ
+gateWord lit left right j = getD (lit ∷ left ∷ right ∷ []) j 0
+
 -- the nine words of the gates of a pair
 abbrev pub pairWord : ℕ → ℕ → ℕ → ℕ → ℕ
 pairWord v p q j = getD (2 * v ∷ p ∷ complement q ∷ 2 * (v + 1) ∷ complement p ∷ q ∷ 2 * (v + 2) ∷ (2 * v + 1) ∷ (2 * (v + 1) + 1) ∷ []) j 0

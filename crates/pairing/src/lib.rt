@@ -1,5 +1,7 @@
 // The words of the joined circuit, section by section.
 use layout::Layout;
+use literals::Lit;
+use literals::Var;
 use renumber::rename;
 use renumber::rename_words;
 ghost use mathlib.Core.Path.{_≡_};
@@ -8,10 +10,12 @@ ghost use lib.ListN.{length};
 ghost use Rattle.aiger.specs.Load.{needed};
 ghost use Rattle.aiger.specs.Memory.{image};
 ghost use Rattle.aiger.specs.Operations.{front};
+ghost use Rattle.literals.specs.Literal.{wordOf};
 ghost use Rattle.layout.specs.Words.{word, circuitIn};
-ghost use Rattle.joined.specs.Joined.{complement, joined};
+ghost use Rattle.joined.specs.Joined.{joined};
 ghost use Rattle.renumber.specs.Names.{Put, Within, under};
 ghost use Rattle.pairing.specs.Words.{
+  gateWord,
   pairWord,
   pairsWord,
   Small,
@@ -34,29 +38,21 @@ fn put_inputs(m: &mut [u32], n: usize)
 {
     let mut i: usize = 0;
     while i < n {
-        m[7 + i] = 2 * (i as u32 + 1);
+        m[7 + i] = Lit(Var(i as u32 + 1), false).word() as u32;
         i += 1;
     }
 }
 
 // Writes the bad lines of n pairs, whose first gate has the variable v.
-fn put_bads(m: &mut [u32], to: usize, n: usize, v: u32)
-    requires { ⌜ (n ≤ 16) × (v ≤ 4096) × (to + n ≤ length (now m)) ⌝ }
-    ensures { λ _. ⌜ Put to (λ j. 2 * (v + 3 * j + 2) + 1) n (now (m .entry)) (now (m .exit)) ⌝ }
+fn put_bads(m: &mut [u32], to: usize, n: usize, v: Var)
+    requires { ⌜ (n ≤ 16) × (v .0 ≤ 4096) × (to + n ≤ length (now m)) ⌝ }
+    ensures { λ _. ⌜ Put to (λ j. 2 * (v .0 + 3 * j + 2) + 1) n (now (m .entry)) (now (m .exit)) ⌝ }
 {
     let mut j: usize = 0;
     while j < n {
-        m[to + j] = 2 * (v + 3 * j as u32 + 2) + 1;
+        m[to + j] = Lit(Var(v.0 + 3 * j as u32 + 2), true).word() as u32;
         j += 1;
     }
-}
-
-// The complement of a literal.
-fn opposite(l: u32) -> u32
-    requires { ⌜ l ≤ 8193 ⌝ }
-    ensures { λ r. ⌜ (r ≡ complement l) × (r ≤ 8193) ⌝ }
-{
-    2 * (l / 2) + (1 - l % 2)
 }
 
 // Writes the first n of some words to m from `to` on.
@@ -71,31 +67,39 @@ fn copy_words(from: &[u32], n: usize, m: &mut [u32], to: usize)
     }
 }
 
-// Writes the three gates of outputs p and q from `to` on; the first has the variable v.
-fn put_pair(m: &mut [u32], to: usize, v: u32, p: u32, q: u32)
-    requires { ⌜ (v ≤ 5000) × (p ≤ 8193) × (q ≤ 8193) × (to + 9 ≤ length (now m)) ⌝ }
-    ensures { λ _. ⌜ Put to (pairWord v p q) 9 (now (m .entry)) (now (m .exit)) ⌝ }
+// Writes the words of a gate from `to` on.
+fn put_gate(m: &mut [u32], to: usize, lit: Lit, left: Lit, right: Lit)
+    requires { ⌜ (wordOf lit ≤ 10005) × (wordOf left ≤ 10005) × (wordOf right ≤ 10005) × (to + 3 ≤ length (now m)) ⌝ }
+    ensures { λ _. ⌜ Put to (gateWord (wordOf lit) (wordOf left) (wordOf right)) 3 (now (m .entry)) (now (m .exit)) ⌝ }
 {
-    let row = [
-        2 * v,
-        p,
-        opposite(q),
-        2 * (v + 1),
-        opposite(p),
-        q,
-        2 * (v + 2),
-        2 * v + 1,
-        2 * (v + 1) + 1,
-    ];
-    copy_words(&row, 9, m, to);
+    let row = [lit.word() as u32, left.word() as u32, right.word() as u32];
+    copy_words(&row, 3, m, to);
+}
+
+// Writes the three gates of outputs p and q from `to` on; the first has the variable v.
+fn put_pair(m: &mut [u32], to: usize, v: Var, p: Lit, q: Lit)
+    requires { ⌜ (v .0 ≤ 5000) × (wordOf p ≤ 8193) × (wordOf q ≤ 8193) × (to + 9 ≤ length (now m)) ⌝ }
+    ensures { λ _. ⌜ Put to (pairWord (v .0) (wordOf p) (wordOf q)) 9 (now (m .entry)) (now (m .exit)) ⌝ }
+{
+    let first = Lit(v, false);
+    let second = Lit(Var(v.0 + 1), false);
+    put_gate(m, to, first, p, q.complement());
+    put_gate(m, to + 3, second, p.complement(), q);
+    put_gate(
+        m,
+        to + 6,
+        Lit(Var(v.0 + 2), false),
+        first.complement(),
+        second.complement(),
+    );
 }
 
 // The variable of the first gate of the pairs.
-fn pairs_var(p: Layout, q: Layout) -> u32
+fn pairs_var(p: Layout, q: Layout) -> Var
     requires { ⌜ Small p × Small q ⌝ }
-    ensures { λ r. ⌜ r ≡ pairsVar p q ⌝ }
+    ensures { λ r. ⌜ r .0 ≡ pairsVar p q ⌝ }
 {
-    (p.i + p.l + q.l + p.a + q.a + 1) as u32
+    Var((p.i + p.l + q.l + p.a + q.a + 1) as u32)
 }
 
 // Where the bad lines begin.
@@ -156,9 +160,9 @@ fn put_pairs(
     let from = q.outputs;
     let mut j: usize = 0;
     while j < n {
-        let x = rename(first, a[at + j]);
-        let y = rename(second, b[from + j]);
-        put_pair(m, to + 9 * j, v + 3 * j as u32, x, y);
+        let x = rename(first, Lit::from_word(a[at + j]));
+        let y = rename(second, Lit::from_word(b[from + j]));
+        put_pair(m, to + 9 * j, Var(v.0 + 3 * j as u32), x, y);
         j += 1;
     }
 }

@@ -1,10 +1,14 @@
 // The words of a pinned circuit, from the words of the circuit and a user's pins.
 use layout::Layout;
+use literals::Lit;
+use literals::Var;
 ghost use mathlib.Core.Path.{_≡_};
 ghost use mathlib.Core.Bool.{cond};
 ghost use mathlib.Core.List.{map};
-ghost use Prim.Native.Nat.{ℕ, _+_, _/_, _≤_, _<_};
+ghost use Prim.Native.Nat.{ℕ, _+_, _≤_, _<_};
 ghost use lib.ListN.{length, getD, set};
+ghost use Rattle.aiger.specs.Circuit.{var};
+ghost use Rattle.literals.specs.Literal.{literal, wordOf};
 ghost use Rattle.layout.specs.Words.{word, column, circuitIn};
 ghost use Rattle.pins.specs.Pins.{isHeld, pinsOf, pinOf, constantOf, kept};
 ghost use Rattle.pinning.specs.Steps.{stored, heads, PinFits, Pinned};
@@ -22,32 +26,32 @@ pub fn pin_at(pins: &[u8], user: usize, i: usize) -> u8
 }
 
 // Literal l, or the constant that it is, where the table gives the pins of the variables.
-fn tie(table: &[u8], l: u32) -> u32
-    ensures { λ r. ⌜ r ≡ constantOf (getD (now (table .entry)) (l / 2) 2) l ⌝ }
+fn tie(table: &[u8], l: Lit) -> Lit
+    ensures { λ r. ⌜ r ≡ literal (constantOf (getD (now (table .entry)) (l .0 .0) 2) (wordOf l)) ⌝ }
 {
-    let v = (l / 2) as usize;
+    let v = l.0.0 as usize;
     if table.len() <= v {
         return l;
     }
     let p = table[v];
     if p < 2 {
-        return (p as u32 + l % 2) % 2;
+        return Lit(Var(0), l.1 != (p == 1));
     }
     l
 }
 
 // The variable of the literal at a position.
-fn variable_at(m: &[u32], at: usize) -> usize
+fn variable_at(m: &[u32], at: usize) -> Var
     requires { ⌜ at < length (now m) ⌝ }
-    ensures { λ r. ⌜ r ≡ word (now (m .entry)) at / 2 ⌝ }
+    ensures { λ r. ⌜ r ≡ literal (word (now (m .entry)) at) .0 ⌝ }
 {
-    (m[at] / 2) as usize
+    Lit::from_word(m[at]).var()
 }
 
 // Enters the pins of the inputs into a table of pins by variable.
 fn enter_pins(m: &[u32], inputs: usize, pins: &[u8], user: usize, table: &mut [u8])
     requires { ⌜ (user ≤ 1) × (inputs ≤ 256) × (7 + inputs ≤ length (now m)) ⌝ }
-    requires { ⌜ ((i : ℕ) → i < inputs → word (now m) (7 + i) / 2 < length (now table)) ⌝ }
+    requires { ⌜ ((i : ℕ) → i < inputs → var (word (now m) (7 + i)) < length (now table)) ⌝ }
     requires { ⌜ ((v : ℕ) → getD (now table) v 2 ≡ 2) ⌝ }
     ensures { λ _. ⌜
         ((v : ℕ) → getD (now (table .exit)) v 2 ≡ pinOf (pinsOf (now (pins .entry)) user) 0 (column (now (m .entry)) 7 1 inputs) v)
@@ -57,21 +61,23 @@ fn enter_pins(m: &[u32], inputs: usize, pins: &[u8], user: usize, table: &mut [u
     while 0 < i {
         i -= 1;
         let v = variable_at(m, 7 + i);
-        table[v] = pin_at(pins, user, i);
+        let place = v.0 as usize;
+        table[place] = pin_at(pins, user, i);
     }
 }
 
 // Stores l at a position where its pin leaves it free. The answer is the position past it.
-fn keep_one(words: &mut [u32], at: usize, l: u32, pin: u8) -> usize
-    requires { ⌜ at < length (now words) ⌝ }
+fn keep_one(words: &mut [u32], at: usize, l: Lit, pin: u8) -> usize
+    requires { ⌜ (at < length (now words)) × (wordOf l < 4294967296) ⌝ }
     ensures { λ r. ⌜
-        (now (words .exit) ≡ cond (isHeld pin) (now (words .entry)) (set (now (words .entry)) at l)) × (r ≡ cond (isHeld pin) at (at + 1))
+        (now (words .exit) ≡ cond (isHeld pin) (now (words .entry)) (set (now (words .entry)) at (wordOf l)))
+        × (r ≡ cond (isHeld pin) at (at + 1))
         ⌝ }
 {
     if pin < 2 {
         return at;
     }
-    words[at] = l;
+    words[at] = l.word() as u32;
     at + 1
 }
 
@@ -86,7 +92,7 @@ fn keep_inputs(m: &[u32], inputs: usize, pins: &[u8], user: usize, words: &mut [
     let mut at: usize = 7;
     let mut i: usize = 0;
     while i < inputs {
-        at = keep_one(words, at, m[7 + i], pin_at(pins, user, i));
+        at = keep_one(words, at, Lit::from_word(m[7 + i]), pin_at(pins, user, i));
         i += 1;
     }
     at
@@ -111,12 +117,12 @@ fn copy_tied(m: &[u32], from: usize, n: usize, table: &[u8], words: &mut [u32], 
     requires { ⌜ (from + n ≤ length (now m)) × (at + n ≤ length (now words)) ⌝ }
     ensures { λ _. ⌜
         now (words .exit)
-        ≡ stored (now (words .entry)) at (map (λ l. constantOf (getD (now (table .entry)) (l / 2) 2) l) (column (now (m .entry)) from 1 n))
+        ≡ stored (now (words .entry)) at (map (λ l. constantOf (getD (now (table .entry)) (var l) 2) l) (column (now (m .entry)) from 1 n))
         ⌝ }
 {
     let mut j: usize = 0;
     while j < n {
-        words[at + j] = tie(table, m[from + j]);
+        words[at + j] = tie(table, Lit::from_word(m[from + j])).word() as u32;
         j += 1;
     }
 }

@@ -6,6 +6,8 @@ use lib.Dec.{T}
 use lib.ListN.{length}
 use Rattle.aiger.specs.Lists.{member}
 use Rattle.aiger.specs.Circuit.{Circuit, var, defined}
+use Rattle.literals.specs.Literal.{signed}
+use Rattle.literals.specs.declared.Lit.{Lit}
 use Rattle.layout.specs.Words.{word}
 use Rattle.frames.specs.Lanes.{Stored}
 use Rattle.joined.specs.Joined.{numberOf, literalUnder}
@@ -18,9 +20,12 @@ Put to f n before after = Stored (λ j. to + j) f n before after
 abbrev pub Within : List ℕ → ℕ → ℕ → List ℕ → Type 0
 Within m at n names = (j : ℕ) → j < n → (var (word m (at + j)) < length names) × (word names (var (word m (at + j))) ≤ 4096)
 
--- the literal under the numbers in the table
+-- a literal under the numbers in the table: as a word, and as a literal
 abbrev pub under : List ℕ → ℕ → ℕ
 under names l = literalUnder (word names) l
+
+abbrev pub named : List ℕ → Lit → Lit
+named names l = signed (word names (l .0 .0)) (l .1)
 
 -- the table has the number of each variable that is 0 or defined
 abbrev pub Named : Circuit → ℕ → ℕ → List ℕ → Type 0

@@ -1,14 +1,17 @@
 // New numbers of variables: tables of them, and literals under them.
 use layout::Layout;
+use literals::Lit;
+use literals::Var;
 ghost use mathlib.Core.Path.{_≡_};
 ghost use Prim.Native.Nat.{ℕ, _+_, _*_, _≤_, _<_};
 ghost use lib.ListN.{length};
 ghost use Rattle.aiger.specs.Circuit.{var};
 ghost use Rattle.aiger.specs.Memory.{Holds};
+ghost use Rattle.literals.specs.Literal.{wordOf};
 ghost use Rattle.layout.specs.Layout.{LayoutOf};
 ghost use Rattle.layout.specs.Words.{word, circuitIn};
 ghost use Rattle.frames.specs.Lanes.{Apart, Stored};
-ghost use Rattle.renumber.specs.Names.{Put, Within, under, Named};
+ghost use Rattle.renumber.specs.Names.{Put, Within, under, named, Named};
 
 // Gives the variables of n inputs, which stand from 7 on, numbers from 1 on.
 pub fn number_inputs(m: &[u32], n: usize, names: &mut [u32])
@@ -18,8 +21,9 @@ pub fn number_inputs(m: &[u32], n: usize, names: &mut [u32])
 {
     let mut j: usize = 0;
     while j < n {
-        let v = (m[7 + j] / 2) as usize;
-        names[v] = 1 + j as u32;
+        let v = Lit::from_word(m[7 + j]).var();
+        let place = v.0 as usize;
+        names[place] = 1 + j as u32;
         j += 1;
     }
 }
@@ -32,8 +36,9 @@ pub fn number_triples(m: &[u32], at: usize, n: usize, first: u32, names: &mut [u
 {
     let mut j: usize = 0;
     while j < n {
-        let v = (m[at + 3 * j] / 2) as usize;
-        names[v] = first + j as u32;
+        let v = Lit::from_word(m[at + 3 * j]).var();
+        let place = v.0 as usize;
+        names[place] = first + j as u32;
         j += 1;
     }
 }
@@ -51,12 +56,20 @@ pub fn number_all(m: &[u32], p: Layout, latch: u32, gate: u32, names: &mut [u32]
 }
 
 // The literal under the numbers of the table.
-pub fn rename(names: &[u32], l: u32) -> u32
-    requires { ⌜ (var l < length (now names)) × (word (now names) (var l) ≤ 4096) ⌝ }
-    ensures { λ r. ⌜ (r ≡ under (now (names .entry)) l) × (r ≤ 8193) ⌝ }
+pub fn rename(names: &[u32], l: Lit) -> Lit
+    requires { ⌜ (l .0 .0 < length (now names)) × (word (now names) (l .0 .0) ≤ 4096) ⌝ }
+    ensures { λ r. ⌜ (r ≡ named (now (names .entry)) l) × (wordOf r ≤ 8193) ⌝ }
 {
-    let v = (l / 2) as usize;
-    2 * names[v] + l % 2
+    let v = l.0.0 as usize;
+    Lit(Var(names[v]), l.1)
+}
+
+// The same of the literal that a word stands for, as a word.
+pub fn rename_word(names: &[u32], w: u32) -> u32
+    requires { ⌜ (var w < length (now names)) × (word (now names) (var w) ≤ 4096) ⌝ }
+    ensures { λ r. ⌜ (r ≡ under (now (names .entry)) w) × (r ≤ 8193) ⌝ }
+{
+    rename(names, Lit::from_word(w)).word() as u32
 }
 
 // Writes n literals from `at` on, under the numbers of the table, to m from `to` on.
@@ -67,7 +80,7 @@ pub fn rename_words(from: &[u32], at: usize, n: usize, names: &[u32], m: &mut [u
 {
     let mut j: usize = 0;
     while j < n {
-        m[to + j] = rename(names, from[at + j]);
+        m[to + j] = rename_word(names, from[at + j]);
         j += 1;
     }
 }

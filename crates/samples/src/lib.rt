@@ -41,7 +41,7 @@ fn write_values(
     let mut left = n;
     while 0 < left {
         let l = levels::literal_at(m, layout, k);
-        let v = (l / 2) as usize;
+        let v = l.0.0 as usize;
         let new = levels::level_of(values[v], l);
         let level = levels::joined(block, out[end], new);
         end = vcd::write_value(out, end, k, level);

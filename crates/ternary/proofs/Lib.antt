@@ -1,3 +1,4 @@
+pub mod Entries
 pub mod Covering
 pub mod Frames
 pub mod Simulation

@@ -19,16 +19,6 @@ pub record Allows (byte : ℕ) (b : Bool) : Type 0 where
   pub true-one : T b → byte ≡ 48 → ⊥
   pub false-one : T (not b) → byte ≡ 49 → ⊥
 
--- the two entries that were saved for latch j are 1 where its value b asks for it
-pub record Saved (state : List ℕ) (j : ℕ) (b : Bool) : Type 0 where
-  pub one : T b → getD state (2 * j) 0 ≡ 1
-  pub none : T (not b) → getD state (2 * j + 1) 0 ≡ 1
-
--- the complement of a literal
-pub record Opposite (l r : ℕ) : Type 0 where
-  pub same-var : var r ≡ var l
-  pub flips : (w : ℕ → Bool) → value w r ≡ not (value w l)
-
 -- a gate's words stand at `at`, and `size` entries hold its literals
 pub record Room (m : List ℕ) (at size : ℕ) : Type 0 where
   pub inside : at + 2 < length m
@@ -45,7 +35,3 @@ pub record LineRoom (m : List ℕ) (column : Column) (text : List ℕ) (at size 
   pub words : (i : ℕ) → i < column .count → column .first + column .step * i < length m
   pub small : (i : ℕ) → i < column .count → 2 * columnVar m column i + 1 < size
   pub inside : at + column .count ≤ length text
-
--- w has the conjunction of the operands for the gate whose words stand at `at`
-abbrev pub gateHolds : List ℕ → ℕ → (ℕ → Bool) → Type 0
-gateHolds m at w = w (var (word m at)) ≡ (value w (word m (at + 1)) && value w (word m (at + 2)))

@@ -41,41 +41,41 @@ mul-p-2 c = omega (arith, c .before .before .before .before .before .before .bef
 add-p : tie.Need-add-p Inv-loop μ-loop
 add-p c = omega (arith, c .before .before .before .before .before .before .before .pre .0 .inside, c .before .before .before .before .before .before .before .pre .0 .places (c .before .before .loop .j) (c .before .loop-test .taken))
 
-mul-rename : tie.Need-mul-rename Inv-loop μ-loop
-mul-rename c = omega (arith, c .before .before .before .before .before .before .before .pre .0 .inside, c .before .before .before .before .before .before .before .pre .0 .places (c .before .before .loop .j) (c .before .loop-test .taken))
+mul-rename-word : tie.Need-mul-rename-word Inv-loop μ-loop
+mul-rename-word c = omega (arith, c .before .before .before .before .before .before .before .pre .0 .inside, c .before .before .before .before .before .before .before .pre .0 .places (c .before .before .loop .j) (c .before .loop-test .taken))
 
-shared-slice-read-rename : tie.Need-shared-slice-read-rename Inv-loop μ-loop
-shared-slice-read-rename c = omega (arith, c .before .before .before .before .before .before .before .before .pre .0 .inside, c .before .before .before .before .before .before .before .before .pre .0 .places (c .before .before .before .loop .j) (c .before .before .loop-test .taken))
+shared-slice-read-rename-word : tie.Need-shared-slice-read-rename-word Inv-loop μ-loop
+shared-slice-read-rename-word c = omega (arith, c .before .before .before .before .before .before .before .before .pre .0 .inside, c .before .before .before .before .before .before .before .before .pre .0 .places (c .before .before .before .loop .j) (c .before .before .loop-test .taken))
 
-rename-requires : tie.Need-rename-requires Inv-loop μ-loop
-rename-requires c κs =
+rename-word-requires : tie.Need-rename-word-requires Inv-loop μ-loop
+rename-word-requires c κs =
     let g = c .before .before .before .before .before .before .before .before .pre .0 in
     let j = c .before .before .before .loop .j in
     g .within (3 * word (c .before .before .before .before .before .before .before .before .args .order .now) j) (omega (arith, g .places j (c .before .before .loop-test .taken)))
 
-add-rename : tie.Need-add-rename Inv-loop μ-loop
-add-rename c = omega (arith, c .before .before .before .before .before .before .before .before .before .pre .0 .inside, c .before .before .before .before .before .before .before .before .before .pre .0 .places (c .before .before .before .before .loop .j) (c .before .before .before .loop-test .taken))
+add-rename-word : tie.Need-add-rename-word Inv-loop μ-loop
+add-rename-word c = omega (arith, c .before .before .before .before .before .before .before .before .before .pre .0 .inside, c .before .before .before .before .before .before .before .before .before .pre .0 .places (c .before .before .before .before .loop .j) (c .before .before .before .loop-test .taken))
 
-mul-rename-2 : tie.Need-mul-rename-2 Inv-loop μ-loop
-mul-rename-2 c = omega (arith, c .before .before .before .before .before .before .before .before .before .pre .0 .inside, c .before .before .before .before .before .before .before .before .before .pre .0 .places (c .before .before .before .before .loop .j) (c .before .before .before .loop-test .taken))
+mul-rename-word-2 : tie.Need-mul-rename-word-2 Inv-loop μ-loop
+mul-rename-word-2 c = omega (arith, c .before .before .before .before .before .before .before .before .before .pre .0 .inside, c .before .before .before .before .before .before .before .before .before .pre .0 .places (c .before .before .before .before .loop .j) (c .before .before .before .loop-test .taken))
 
-shared-slice-read-rename-2 : tie.Need-shared-slice-read-rename-2 Inv-loop μ-loop
-shared-slice-read-rename-2 c = omega (arith, c .before .before .before .before .before .before .before .before .before .before .pre .0 .inside, c .before .before .before .before .before .before .before .before .before .before .pre .0 .places (c .before .before .before .before .before .loop .j) (c .before .before .before .before .loop-test .taken))
+shared-slice-read-rename-word-2 : tie.Need-shared-slice-read-rename-word-2 Inv-loop μ-loop
+shared-slice-read-rename-word-2 c = omega (arith, c .before .before .before .before .before .before .before .before .before .before .pre .0 .inside, c .before .before .before .before .before .before .before .before .before .before .pre .0 .places (c .before .before .before .before .before .loop .j) (c .before .before .before .before .loop-test .taken))
 
-rename-requires-2 : tie.Need-rename-requires-2 Inv-loop μ-loop
-rename-requires-2 c κs = operand-within (c .before .before .before .before .before .before .before .before .before .before .pre .0) (c .before .before .before .before .before .loop .j) (c .before .before .before .before .loop-test .taken) 1 (omega arith)
+rename-word-requires-2 : tie.Need-rename-word-requires-2 Inv-loop μ-loop
+rename-word-requires-2 c κs = operand-within (c .before .before .before .before .before .before .before .before .before .before .pre .0) (c .before .before .before .before .before .loop .j) (c .before .before .before .before .loop-test .taken) 1 (omega arith)
 
-add-rename-2 : tie.Need-add-rename-2 Inv-loop μ-loop
-add-rename-2 c = omega (arith, c .before .before .before .before .before .before .before .before .before .before .before .pre .0 .inside, c .before .before .before .before .before .before .before .before .before .before .before .pre .0 .places (c .before .before .before .before .before .before .loop .j) (c .before .before .before .before .before .loop-test .taken))
+add-rename-word-2 : tie.Need-add-rename-word-2 Inv-loop μ-loop
+add-rename-word-2 c = omega (arith, c .before .before .before .before .before .before .before .before .before .before .before .pre .0 .inside, c .before .before .before .before .before .before .before .before .before .before .before .pre .0 .places (c .before .before .before .before .before .before .loop .j) (c .before .before .before .before .before .loop-test .taken))
 
-mul-rename-3 : tie.Need-mul-rename-3 Inv-loop μ-loop
-mul-rename-3 c = omega (arith, c .before .before .before .before .before .before .before .before .before .before .before .pre .0 .inside, c .before .before .before .before .before .before .before .before .before .before .before .pre .0 .places (c .before .before .before .before .before .before .loop .j) (c .before .before .before .before .before .loop-test .taken))
+mul-rename-word-3 : tie.Need-mul-rename-word-3 Inv-loop μ-loop
+mul-rename-word-3 c = omega (arith, c .before .before .before .before .before .before .before .before .before .before .before .pre .0 .inside, c .before .before .before .before .before .before .before .before .before .before .before .pre .0 .places (c .before .before .before .before .before .before .loop .j) (c .before .before .before .before .before .loop-test .taken))
 
-shared-slice-read-rename-3 : tie.Need-shared-slice-read-rename-3 Inv-loop μ-loop
-shared-slice-read-rename-3 c = omega (arith, c .before .before .before .before .before .before .before .before .before .before .before .before .pre .0 .inside, c .before .before .before .before .before .before .before .before .before .before .before .before .pre .0 .places (c .before .before .before .before .before .before .before .loop .j) (c .before .before .before .before .before .before .loop-test .taken))
+shared-slice-read-rename-word-3 : tie.Need-shared-slice-read-rename-word-3 Inv-loop μ-loop
+shared-slice-read-rename-word-3 c = omega (arith, c .before .before .before .before .before .before .before .before .before .before .before .before .pre .0 .inside, c .before .before .before .before .before .before .before .before .before .before .before .before .pre .0 .places (c .before .before .before .before .before .before .before .loop .j) (c .before .before .before .before .before .before .loop-test .taken))
 
-rename-requires-3 : tie.Need-rename-requires-3 Inv-loop μ-loop
-rename-requires-3 c κs = operand-within (c .before .before .before .before .before .before .before .before .before .before .before .before .pre .0) (c .before .before .before .before .before .before .before .loop .j) (c .before .before .before .before .before .before .loop-test .taken) 2 (omega arith)
+rename-word-requires-3 : tie.Need-rename-word-requires-3 Inv-loop μ-loop
+rename-word-requires-3 c κs = operand-within (c .before .before .before .before .before .before .before .before .before .before .before .before .pre .0) (c .before .before .before .before .before .before .before .loop .j) (c .before .before .before .before .before .before .loop-test .taken) 2 (omega arith)
 
 write-gate-requires : tie.Need-write-gate-requires Inv-loop μ-loop
 write-gate-requires c κs =
@@ -86,9 +86,9 @@ write-gate-requires c κs =
     let order = s .args .order .now in
     let j = l .loop .j in
     let t = c .before .before .before .before .before .before .before .before .loop-test .taken in
-    let e₀ = c .before .before .before .before .before .rename .ensures .0 in
-    let e₁ = c .before .before .before .rename2 .ensures .0 in
-    let e₂ = c .before .rename3 .ensures .0 in (
+    let e₀ = c .before .before .before .before .before .rename-word .ensures .0 in
+    let e₁ = c .before .before .before .rename-word2 .ensures .0 in
+    let e₂ = c .before .rename-word3 .ensures .0 in (
       omega (arith, e₀, e₁, s .pre .0 .left j t),
       omega (arith, e₀, e₂, s .pre .0 .right j t),
       rw (e₀, e₁, e₂)
@@ -116,7 +116,7 @@ loop-again c =
       rest-more (gateText (sorted (gateUnderAt names m (s .args .first + 3 * word order j))))
           (gateBytes names m (s .args .first) order (j + 1) (s .args .count - (j + 1))) (s .pre .1)
           (rw (gates-from names m (s .args .first) order j (s .args .count) t) at (l .loop .inv .1))
-          (rw (c .before .before .before .before .before .before .before .before .rename .ensures .0, c .before .before .before .before .before .before .rename2 .ensures .0, c .before .before .before .before .rename3 .ensures .0) at (c .before .before .write-gate .ensures)),
+          (rw (c .before .before .before .before .before .before .before .before .rename-word .ensures .0, c .before .before .before .before .before .before .rename-word2 .ensures .0, c .before .before .before .before .rename-word3 .ensures .0) at (c .before .before .write-gate .ensures)),
     )
 
 same-length : tie.Need-same-length Inv-loop μ-loop
@@ -132,6 +132,6 @@ pub write-gates-spec : {M : Type 1} → statement M
 write-gates-spec =
     tie.close
     (tie.spec
-    Inv-loop μ-loop loop-holds mul-p shared-slice-read-p cast-p mul-p-2 add-p mul-rename shared-slice-read-rename rename-requires
-    add-rename mul-rename-2 shared-slice-read-rename-2 rename-requires-2 add-rename-2 mul-rename-3 shared-slice-read-rename-3
-    rename-requires-3 write-gate-requires add-j loop-less loop-again same-length returns)
+    Inv-loop μ-loop loop-holds mul-p shared-slice-read-p cast-p mul-p-2 add-p mul-rename-word shared-slice-read-rename-word rename-word-requires
+    add-rename-word mul-rename-word-2 shared-slice-read-rename-word-2 rename-word-requires-2 add-rename-word-2 mul-rename-word-3 shared-slice-read-rename-word-3
+    rename-word-requires-3 write-gate-requires add-j loop-less loop-again same-length returns)

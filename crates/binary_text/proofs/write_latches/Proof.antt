@@ -22,23 +22,23 @@ abbrev μ-loop : tie.MeasureT-loop
 loop-holds : tie.Need-loop-holds Inv-loop μ-loop
 loop-holds c = let s = c .before .before .before in (s .pre .0, s .pre .1, rest-start (s .args .out .now) (s .args .at) _)
 
-add-rename : tie.Need-add-rename Inv-loop μ-loop
-add-rename c = omega arith
+add-rename-word : tie.Need-add-rename-word Inv-loop μ-loop
+add-rename-word c = omega arith
 
-shared-slice-read-rename : tie.Need-shared-slice-read-rename Inv-loop μ-loop
-shared-slice-read-rename c = omega arith
+shared-slice-read-rename-word : tie.Need-shared-slice-read-rename-word Inv-loop μ-loop
+shared-slice-read-rename-word c = omega arith
 
-rename-requires : tie.Need-rename-requires Inv-loop μ-loop
-rename-requires c κs = c .before .before .loop .inv .1 1 (omega (arith, c .before .loop-test .taken))
+rename-word-requires : tie.Need-rename-word-requires Inv-loop μ-loop
+rename-word-requires c κs = c .before .before .loop .inv .1 1 (omega (arith, c .before .loop-test .taken))
 
-add-rename-2 : tie.Need-add-rename-2 Inv-loop μ-loop
-add-rename-2 c = omega arith
+add-rename-word-2 : tie.Need-add-rename-word-2 Inv-loop μ-loop
+add-rename-word-2 c = omega arith
 
-shared-slice-read-rename-2 : tie.Need-shared-slice-read-rename-2 Inv-loop μ-loop
-shared-slice-read-rename-2 c = omega arith
+shared-slice-read-rename-word-2 : tie.Need-shared-slice-read-rename-word-2 Inv-loop μ-loop
+shared-slice-read-rename-word-2 c = omega arith
 
-rename-requires-2 : tie.Need-rename-requires-2 Inv-loop μ-loop
-rename-requires-2 c κs = c .before .before .before .before .loop .inv .1 2 (omega (arith, c .before .before .before .loop-test .taken))
+rename-word-requires-2 : tie.Need-rename-word-requires-2 Inv-loop μ-loop
+rename-word-requires-2 c κs = c .before .before .before .before .loop .inv .1 2 (omega (arith, c .before .before .before .loop-test .taken))
 
 write-latch-requires : tie.Need-write-latch-requires Inv-loop μ-loop
 write-latch-requires c κs =
@@ -48,7 +48,7 @@ write-latch-requires c κs =
     let names = s .args .names .now in
     let p = l .loop .p in
     let n = l .loop .left in
-    rw (c .before .before .before .rename .ensures .0, c .before .rename2 .ensures .0)
+    rw (c .before .before .before .rename-word .ensures .0, c .before .rename-word2 .ensures .0)
     (rest-room (latchLine (under names (word m (p + 1))) (under names (word m (p + 2)))) (latchLines names m (p + 3) (n - 1)) (s .pre .2)
     (rw (latches-more names m p n (c .before .before .before .before .before .loop-test .taken)) at (l .loop .inv .2)))
 
@@ -74,7 +74,7 @@ loop-again c =
       within-from m p (3 * n) names 3 (3 * (n - 1)) (omega (arith, t)) (l .loop .inv .1),
       rest-more (latchLine (under names (word m (p + 1))) (under names (word m (p + 2)))) (latchLines names m (p + 3) (n - 1)) (s .pre .2)
           (rw (latches-more names m p n t) at (l .loop .inv .2))
-          (rw (c .before .before .before .before .before .before .rename .ensures .0, c .before .before .before .before .rename2 .ensures .0) at (c .before .before .write-latch .ensures)),
+          (rw (c .before .before .before .before .before .before .rename-word .ensures .0, c .before .before .before .before .rename-word2 .ensures .0) at (c .before .before .write-latch .ensures)),
     )
 
 same-length : tie.Need-same-length Inv-loop μ-loop
@@ -90,5 +90,5 @@ pub write-latches-spec : {M : Type 1} → statement M
 write-latches-spec =
     tie.close
     (tie.spec
-    Inv-loop μ-loop loop-holds add-rename (λ c. search needs) shared-slice-read-rename rename-requires add-rename-2 (λ c. search needs)
-    shared-slice-read-rename-2 rename-requires-2 write-latch-requires add-p sub-left loop-less loop-again same-length returns)
+    Inv-loop μ-loop loop-holds add-rename-word (λ c. search needs) shared-slice-read-rename-word rename-word-requires add-rename-word-2 (λ c. search needs)
+    shared-slice-read-rename-word-2 rename-word-requires-2 write-latch-requires add-p sub-left loop-less loop-again same-length returns)

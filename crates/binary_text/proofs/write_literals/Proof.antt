@@ -25,11 +25,11 @@ abbrev μ-loop : tie.MeasureT-loop
 loop-holds : tie.Need-loop-holds Inv-loop μ-loop
 loop-holds c = let s = c .before .before .before in (s .pre .0, s .pre .1, rest-start (s .args .out .now) (s .args .at) _)
 
-shared-slice-read-rename : tie.Need-shared-slice-read-rename Inv-loop μ-loop
-shared-slice-read-rename c = omega arith
+shared-slice-read-rename-word : tie.Need-shared-slice-read-rename-word Inv-loop μ-loop
+shared-slice-read-rename-word c = omega arith
 
-rename-requires : tie.Need-rename-requires Inv-loop μ-loop
-rename-requires c κs =
+rename-word-requires : tie.Need-rename-word-requires Inv-loop μ-loop
+rename-word-requires c κs =
     let l = c .before .before .before in
     within-here (c .before .before .before .before .before .before .before .args .m .now) (l .loop .p) (l .loop .left) (c .before .before .before .before .before .before .before .args .names .now) (c .before .before .loop-test .taken) (l .loop .inv .1)
 
@@ -41,7 +41,7 @@ put-ended-requires c κs =
     let names = s .args .names .now in
     let p = l .loop .p in
     let n = l .loop .left in
-    rw (c .rename .ensures .0)
+    rw (c .rename-word .ensures .0)
     (rest-room (numberText (under names (word m p)) 0) (literalLines names m (p + 1) (n - 1)) (s .pre .2)
     (rw (literals-more names m p n (c .before .before .before .loop-test .taken)) at (l .loop .inv .2)))
 
@@ -66,7 +66,7 @@ loop-again c =
       omega (arith, l .loop .inv .0, t),
       within-from m p n names 1 (n - 1) (omega (arith, t)) (l .loop .inv .1),
       rest-more (numberText (under names (word m p)) 0) (literalLines names m (p + 1) (n - 1)) (s .pre .2)
-          (rw (literals-more names m p n t) at (l .loop .inv .2)) (rw (c .before .before .before .rename .ensures .0) at (c .before .before .put-ended .ensures)),
+          (rw (literals-more names m p n t) at (l .loop .inv .2)) (rw (c .before .before .before .rename-word .ensures .0) at (c .before .before .put-ended .ensures)),
     )
 
 same-length : tie.Need-same-length Inv-loop μ-loop
@@ -82,5 +82,5 @@ pub write-literals-spec : {M : Type 1} → statement M
 write-literals-spec =
     tie.close
     (tie.spec
-    Inv-loop μ-loop loop-holds (λ c. search needs) shared-slice-read-rename rename-requires put-ended-requires add-p sub-left loop-less
+    Inv-loop μ-loop loop-holds (λ c. search needs) shared-slice-read-rename-word rename-word-requires put-ended-requires add-p sub-left loop-less
     loop-again same-length returns)

@@ -14,29 +14,58 @@ use Rattle.influence.proofs.kept_latches.Statement.{statement}
 use Rattle.influence.proofs.kept_latches.Tie as tie
 
 add-mark-words : tie.Need-add-mark-words
-add-mark-words c = omega (arith, bad-inside (c .before .before .before .before .pre .0) (c .before .before .before .before .args .b) (c .before .before .before .before .pre .1 .0))
+add-mark-words c = let s = c .before .before .before .before in omega (arith, bad-inside (s .pre .0) (s .args .b) (s .pre .1 .0))
 
 mark-words-requires : tie.Need-mark-words-requires
-mark-words-requires c κs = bad-literals (ready-with (c .before .before .before .before .before .pre .0) (omega (arith, c .before .before .before .before .before .pre .0 .room))) (c .before .before .before .before .before .args .b) (c .before .before .before .before .before .pre .1 .0)
+mark-words-requires c κs =
+    let s = c .before .before .before .before .before in
+    bad-literals (ready-with (s .pre .0) (omega (arith, s .pre .0 .room))) (s .args .b) (s .pre .1 .0)
 
 mark-words-requires-2 : tie.Need-mark-words-requires-2
-mark-words-requires-2 c κs = constraint-literals (ready-with (c .before .before .before .before .before .before .before .before .pre .0) (omega (arith, c .before .before .mark-words .kept .1 .1 .1 .0, c .before .before .before .before .before .before .before .before .pre .0 .room)))
+mark-words-requires-2 c κs =
+    let s = c .before .before .before .before .before .before .before .before in
+    let one = c .before .before .mark-words .kept .1 .1 .1 .0 in
+    constraint-literals (ready-with (s .pre .0) (omega (arith, one, s .pre .0 .room)))
 
 settle-requires : tie.Need-settle-requires
-settle-requires c κs = (ready-with (c .before .before .before .before .before .before .before .before .before .before .before .pre .0) (omega (arith, c .before .before .mark-words2 .kept .1 .1 .1 .0, c .before .before .before .before .before .mark-words .kept .1 .1 .1 .0, c .before .before .before .before .before .before .before .before .before .before .before .pre .0 .room)), c .before .before .before .before .before .before .before .before .before .before .before .pre .1 .0)
+settle-requires c κs =
+    let s = c .before .before .before .before .before .before .before .before .before .before .before in
+    let one = c .before .before .before .before .before .mark-words .kept .1 .1 .1 .0 in
+    let two = c .before .before .mark-words2 .kept .1 .1 .1 .0 in
+    (ready-with (s .pre .0) (omega (arith, two, one, s .pre .0 .room)), s .pre .1 .0)
 
 is-settled-requires : tie.Need-is-settled-requires
-is-settled-requires c κs = (ready-with (c .before .before .before .before .before .before .before .before .before .before .before .before .before .before .pre .0) (omega (arith, c .before .before .settle .kept .1 .1 .1 .1 .0, c .before .before .before .before .before .mark-words2 .kept .1 .1 .1 .0, c .before .before .before .before .before .before .before .before .mark-words .kept .1 .1 .1 .0, c .before .before .before .before .before .before .before .before .before .before .before .before .before .before .pre .0 .room)), c .before .before .before .before .before .before .before .before .before .before .before .before .before .before .pre .1 .0)
+is-settled-requires c κs =
+    let s = c .before .before .before .before .before .before .before .before .before .before .before .before .before .before in
+    let one = c .before .before .before .before .before .before .before .before .mark-words .kept .1 .1 .1 .0 in
+    let two = c .before .before .before .before .before .mark-words2 .kept .1 .1 .1 .0 in
+    let three = c .before .before .settle .kept .1 .1 .1 .1 .0 in
+    (ready-with (s .pre .0) (omega (arith, three, two, one, s .pre .0 .room)), s .pre .1 .0)
 
 keep-requires : tie.Need-keep-requires
-keep-requires c κs = (ready-with (c .before .before .before .before .before .before .before .before .before .before .before .before .before .before .before .before .before .pre .0) (omega (arith, c .before .before .before .before .before .settle .kept .1 .1 .1 .1 .0, c .before .before .before .before .before .before .before .before .mark-words2 .kept .1 .1 .1 .0, c .before .before .before .before .before .before .before .before .before .before .before .mark-words .kept .1 .1 .1 .0, c .before .before .before .before .before .before .before .before .before .before .before .before .before .before .before .before .before .pre .0 .room)), c .before .before .before .before .before .before .before .before .before .before .before .before .before .before .before .before .before .pre .1 .1)
+keep-requires c κs =
+    let s = c .before .before .before .before .before .before .before .before .before .before .before .before .before .before .before .before .before in
+    let one = c .before .before .before .before .before .before .before .before .before .before .before .mark-words .kept .1 .1 .1 .0 in
+    let two = c .before .before .before .before .before .before .before .before .mark-words2 .kept .1 .1 .1 .0 in
+    let three = c .before .before .before .before .before .settle .kept .1 .1 .1 .1 .0 in
+    (ready-with (s .pre .0) (omega (arith, three, two, one, s .pre .0 .room)), s .pre .1 .1)
 
 returns : tie.Need-returns
 returns c =
-    let C = circuitIn (c .before .before .before .before .before .before .before .before .before .before .before .before .before .before .before .before .before .before .before .before .args .m .now) in
-    let ms = c .before .before .before .before .before .before .before .before .settle .last .1 .1 .1 .1 .0 in
-    let e = marks-are (c .before .before .before .before .before .before .before .before .before .before .before .before .before .before .before .before .before .before .before .before .pre .0) (c .before .before .before .before .before .before .before .before .before .before .before .before .before .before .before .before .before .before .before .before .args .b) (c .before .before .before .before .before .before .before .before .before .before .before .before .before .before .before .before .before .before .before .before .pre .1 .0) (c .before .before .before .before .before .before .before .before .before .before .before .before .before .before .mark-words .last .1 .1 .1 .0) (c .before .before .before .before .before .before .before .before .before .before .before .mark-words2 .last .1 .1 .1 .0) ms (c .before .before .before .before .before .before .before .before .before .before .before .before .before .before .mark-words .ensures) (c .before .before .before .before .before .before .before .before .before .before .before .mark-words2 .ensures) (c .before .before .before .before .before .before .before .before .settle .ensures) in
-    (c .before .before .keep .ensures .0, c .before .before .keep .ensures .1 ∙ kept-are (c .before .before .before .before .before .before .before .before .before .before .before .before .before .before .before .before .before .before .before .before .pre .0) (c .before .before .before .before .before .before .before .before .before .before .before .before .before .before .before .before .before .before .before .before .args .b) (c .before .before .before .before .before .before .before .before .before .before .before .before .before .before .before .before .before .before .before .before .pre .1 .0) ms (c .before .before .before .before .before .is-settled .result) e (c .before .before .before .before .before .is-settled .ensures))
+    let s = c .before .before .before .before .before .before .before .before .before .before .before .before .before .before .before .before .before .before .before .before in
+    let one = c .before .before .before .before .before .before .before .before .before .before .before .before .before .before .mark-words in
+    let two = c .before .before .before .before .before .before .before .before .before .before .before .mark-words2 in
+    let three = c .before .before .before .before .before .before .before .before .settle in
+    let four = c .before .before .before .before .before .is-settled in
+    let k = c .before .before .keep in
+    let ms = three .last .1 .1 .1 .1 .0 in
+    let e =
+    marks-are (s .pre .0) (s .args .b) (s .pre .1 .0) (one .last .1 .1 .1 .0) (two .last .1 .1 .1 .0) ms (one .ensures) (two .ensures)
+    (three .ensures) in (
+      k .ensures .0,
+      k .ensures .1 ∙ kept-are (s .pre .0) (s .args .b) (s .pre .1 .0) ms (four .result) e (four .ensures),
+      k .ensures .2,
+    )
 
 pub kept-latches-spec : {M : Type 1} → statement M
 kept-latches-spec =

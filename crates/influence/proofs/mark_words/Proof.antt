@@ -1,11 +1,11 @@
 -- `influence::mark_words` meets its contract. The loop's invariant: the first i literals are marked. Assumes nothing.
-use mathlib.Core.Path.{_≡_, refl, sym, ap, _∙_, subst}
-use Prim.Native.Nat.{ℕ, _+_, _-_, _*_, _≤_, _<_}
+use mathlib.Core.Path.{_≡_, refl, sym, ap, _∙_}
+use Prim.Native.Nat.{ℕ, _+_, _-_, _≤_}
 use native.Mathlib.Omega.{arith}
-use lib.ListN.{length, length-set}
+use lib.ListN.{length}
 use Rattle.layout.specs.Words.{word}
 use Rattle.influence.specs.Cone.{markBelow}
-use Rattle.influence.proofs.Marks.{mark-none, mark-more}
+use Rattle.influence.proofs.Marks.{mark-none, mark-more, var-mark, var-below}
 use borrow.Author.Needs.{needs}
 use Rattle.influence.proofs.mark_words.Statement.{statement}
 use Rattle.influence.proofs.mark_words.Tie as tie
@@ -17,25 +17,24 @@ abbrev μ-loop : tie.MeasureT-loop
 μ-loop m at n marks₀ i₀ marks i = n - i
 
 loop-holds : tie.Need-loop-holds Inv-loop μ-loop
-loop-holds c = (omega arith, refl, mark-none (λ k. word (c .args .m .now) (c .args .at + k)) (c .args .marks .now))
+loop-holds c = let a = c .before .before .args in (omega arith, refl, mark-none (λ k. word (a .m .now) (a .at + k)) (a .marks .now))
 
-add-v : tie.Need-add-v Inv-loop μ-loop
-add-v c = omega (arith, c .before .before .pre (c .before .loop .i) (omega arith) .0, c .before .before .pre (c .before .loop .i) (omega arith) .1)
+add-var-at : tie.Need-add-var-at Inv-loop μ-loop
+add-var-at c =
+    let s = c .before .before .before .before .before in
+    omega (arith, s .pre (c .before .before .loop .i) (omega arith) .0)
 
-mul-v : tie.Need-mul-v Inv-loop μ-loop
-mul-v c = omega (arith, c .before .before .pre (c .before .loop .i) (omega arith) .0, c .before .before .pre (c .before .loop .i) (omega arith) .1)
+var-at-requires : tie.Need-var-at-requires Inv-loop μ-loop
+var-at-requires c κs =
+    let s = c .before .before .before .before .before in
+    s .pre (c .before .before .loop .i) (omega arith) .0
 
-shared-slice-read-v : tie.Need-shared-slice-read-v Inv-loop μ-loop
-shared-slice-read-v c = omega (arith, c .before .before .before .pre (c .before .before .loop .i) (omega arith) .0, c .before .before .before .pre (c .before .before .loop .i) (omega arith) .1)
-
-cast-v : tie.Need-cast-v Inv-loop μ-loop
-cast-v c = omega (arith, c .before .before .before .pre (c .before .before .loop .i) (omega arith) .0, c .before .before .before .pre (c .before .before .loop .i) (omega arith) .1)
-
-mul-marks : tie.Need-mul-marks Inv-loop μ-loop
-mul-marks c = omega (arith, c .before .before .before .pre (c .before .before .loop .i) (omega arith) .0, c .before .before .before .pre (c .before .before .loop .i) (omega arith) .1)
-
-slice-write-marks : tie.Need-slice-write-marks Inv-loop μ-loop
-slice-write-marks c = omega (arith, c .before .before .before .pre (c .before .before .loop .i) (omega arith) .0, c .before .before .before .pre (c .before .before .loop .i) (omega arith) .1)
+mark-requires : tie.Need-mark-requires Inv-loop μ-loop
+mark-requires c κs =
+    let s = c .before .before .before .before .before .before in
+    let l = c .before .before .before .loop in
+    let w = word (s .args .m .now) (s .args .at + l .i) in
+    var-below w (length (l .marks)) (c .var-at .ensures) (omega (arith, l .inv .1, s .pre (l .i) (omega arith) .1))
 
 add-i : tie.Need-add-i Inv-loop μ-loop
 add-i c = omega arith
@@ -44,19 +43,28 @@ loop-less : tie.Need-loop-less Inv-loop μ-loop
 loop-less c = omega arith
 
 loop-again : tie.Need-loop-again Inv-loop μ-loop
-loop-again c = (omega arith, length-set (c .before .before .loop .marks) _ _ ∙ c .before .before .loop .inv .1, mark-more (λ k. word (c .before .before .before .args .m .now) (c .before .before .before .args .at + k)) (c .before .before .loop .i) (c .before .before .before .args .marks .now) (c .before .before .loop .marks) (c .before .before .loop .inv .2))
+loop-again c =
+    let a = c .before .before .before .before .before .before .before .before .before .args in
+    let l = c .before .before .before .before .before .before .loop in
+    let k = c .before .before .mark in
+    let w : ℕ → ℕ = λ i. word (a .m .now) (a .at + i) in (
+      omega arith,
+      k .kept .0 ∙ l .inv .1,
+      var-mark (l .marks) (w (l .i)) (c .before .before .before .var-at .ensures) (k .ensures) ∙ mark-more w (l .i) (a .marks .now) (l .marks) (l .inv .2),
+    )
 
 same-length : tie.Need-same-length Inv-loop μ-loop
 same-length c = c .before .loop .inv .1
 
 returns : tie.Need-returns Inv-loop μ-loop
 returns c =
-    let e : c .before .loop .i ≡ c .before .before .args .n = omega arith in
-    c .before .loop .inv .2 ∙ ap (λ (k : ℕ). markBelow (λ j. word (c .before .before .args .m .now) (c .before .before .args .at + j)) k (c .before .before .args .marks .now)) e
+    let a = c .before .before .before .before .args in
+    let l = c .before .loop in
+    let e : l .i ≡ a .n = omega arith in
+    l .inv .2 ∙ ap (λ (k : ℕ). markBelow (λ j. word (a .m .now) (a .at + j)) k (a .marks .now)) e
 
 pub mark-words-spec : {M : Type 1} → statement M
 mark-words-spec =
     tie.close
     (tie.spec
-    Inv-loop μ-loop loop-holds add-v mul-v shared-slice-read-v cast-v mul-marks slice-write-marks add-i loop-less loop-again
-    same-length returns)
+    Inv-loop μ-loop loop-holds add-var-at var-at-requires mark-requires add-i loop-less loop-again same-length returns)

@@ -1,4 +1,4 @@
--- `join::put_inputs` meets its contract. Assumes nothing.
+-- `pairing::put_inputs` meets its contract. Assumes nothing.
 use mathlib.Core.Path.{_≡_, refl, sym, _∙_, subst}
 use mathlib.Core.List.{List}
 use Prim.Native.Nat.{ℕ, _+_, _-_, _*_, _≤_}
@@ -10,6 +10,7 @@ use Rattle.frames.specs.Lanes.{Stored}
 use Rattle.frames.proofs.Stores.{stored-start, stored-more}
 use Rattle.renumber.specs.Names.{Put, under}
 use Rattle.renumber.proofs.Runs.{put-more, stored-all}
+use borrow.Author.Needs.{needs}
 use Rattle.pairing.proofs.put_inputs.Statement.{statement}
 use Rattle.pairing.proofs.put_inputs.Tie as tie
 
@@ -22,20 +23,20 @@ abbrev μ-loop : tie.MeasureT-loop
 loop-holds : tie.Need-loop-holds Inv-loop μ-loop
 loop-holds c = (omega arith, refl, stored-start _ _ _)
 
+cast-t6 : tie.Need-cast-t6 Inv-loop μ-loop
+cast-t6 c = omega arith
+
+add-t7 : tie.Need-add-t7 Inv-loop μ-loop
+add-t7 c = omega arith
+
 cast-m : tie.Need-cast-m Inv-loop μ-loop
-cast-m c = omega arith
+cast-m c = omega (arith, c .word .ensures)
 
 add-m : tie.Need-add-m Inv-loop μ-loop
 add-m c = omega arith
 
 mul-m : tie.Need-mul-m Inv-loop μ-loop
 mul-m c = omega arith
-
-add-m-2 : tie.Need-add-m-2 Inv-loop μ-loop
-add-m-2 c = omega arith
-
-mul-m-2 : tie.Need-mul-m-2 Inv-loop μ-loop
-mul-m-2 c = omega arith
 
 slice-write-m : tie.Need-slice-write-m Inv-loop μ-loop
 slice-write-m c = omega arith
@@ -47,17 +48,27 @@ loop-less : tie.Need-loop-less Inv-loop μ-loop
 loop-less c = omega arith
 
 loop-again : tie.Need-loop-again Inv-loop μ-loop
-loop-again c = let L = c .before .loop in let S = c .before .before in
-    (omega arith, length-set (L .m) _ _ ∙ L .inv .1, put-more 7 (λ k. 2 * (k + 1)) (S .args .n) (L .i) (S .args .m .now) (L .m) (L .inv .1) (omega arith) (omega arith) (L .inv .2) _ refl)
+loop-again c =
+    let L = c .before .before .loop in
+    let S = c .before .before .before .before in (
+      omega arith,
+      length-set (L .m) _ _ ∙ L .inv .1,
+      put-more 7 (λ k. 2 * (k + 1)) (S .args .n) (L .i) (S .args .m .now) (L .m) (L .inv .1) (omega arith) (omega arith) (L .inv .2) _
+          (omega (arith, c .word .ensures)),
+    )
 
 same-length : tie.Need-same-length Inv-loop μ-loop
 same-length c = c .before .loop .inv .1
 
 returns : tie.Need-returns Inv-loop μ-loop
-returns c = let L = c .before .loop in let S = c .before .before in stored-all (λ i. 7 + i) (λ k. 2 * (k + 1)) (S .args .m .now) (L .m) (omega arith) (L .inv .2)
+returns c =
+    let L = c .before .loop in
+    let S = c .before .before .before in
+    stored-all (λ i. 7 + i) (λ k. 2 * (k + 1)) (S .args .m .now) (L .m) (omega arith) (L .inv .2)
 
 pub put-inputs-spec : {M : Type 1} → statement M
 put-inputs-spec =
     tie.close
     (tie.spec
-    Inv-loop μ-loop loop-holds cast-m add-m mul-m add-m-2 mul-m-2 slice-write-m add-i loop-less loop-again same-length returns)
+    Inv-loop μ-loop loop-holds cast-t6 add-t7 (λ c κs. search needs) cast-m add-m mul-m slice-write-m add-i loop-less loop-again
+    same-length returns)

@@ -1,30 +1,52 @@
--- `join::put_pair` meets its contract. Assumes nothing.
-use mathlib.Core.Path.{_≡_, ap₂, subst}
-use mathlib.Core.List.{List, [], _∷_}
-use Prim.Native.Nat.{ℕ, _+_, _*_}
+-- `pairing::put_pair` meets its contract. Assumes nothing.
+use mathlib.Core.Path.{refl}
+use native.Mathlib.Omega.{arith}
 use borrow.Author.Needs.{needs}
-use Rattle.layout.specs.Words.{word}
-use Rattle.renumber.specs.Names.{Put}
+use Rattle.pairing.proofs.Pairs.{complement-small, pair-put}
 use Rattle.pairing.proofs.put_pair.Statement.{statement}
 use Rattle.pairing.proofs.put_pair.Tie as tie
-use Rattle.pairing.proofs.put_pair.Reads as reads
-use Rattle.pairing.proofs.put_pair.Lts as lts
-use Rattle.pairing.proofs.copy_words.Reads as copy-words-reads
-use Rattle.pairing.proofs.opposite.Reads as opposite-reads
+
+put-gate-requires : tie.Need-put-gate-requires
+put-gate-requires c κs =
+    let s = c .before .before .before .before in (
+      omega (arith, s .pre .0),
+      omega (arith, s .pre .1),
+      omega (arith, complement-small (s .args .q) (c .complement .ensures) (s .pre .2)),
+      omega (arith, s .pre .3),
+    )
+
+put-gate-requires-2 : tie.Need-put-gate-requires-2
+put-gate-requires-2 c κs =
+    let s = c .before .before .before .before .before .before .before .before .before in (
+      omega (arith, s .pre .0),
+      omega (arith, complement-small (s .args .p) (c .complement2 .ensures) (s .pre .1)),
+      omega (arith, s .pre .2),
+      omega (arith, s .pre .3, c .before .before .before .before .put-gate .kept .0),
+    )
+
+put-gate-requires-3 : tie.Need-put-gate-requires-3
+put-gate-requires-3 c κs =
+    let s = c .before .before .before .before .before .before .before .before .before .before .before .before .before .before .before .before in (
+      omega (arith, s .pre .0),
+      rw (c .before .complement3 .ensures) (omega (arith, s .pre .0)),
+      rw (c .complement4 .ensures) (omega (arith, s .pre .0)),
+      omega (arith, s .pre .3, c .before .before .before .before .before .before .before .before .before .before .before .put-gate .kept .0, c .before .before .before .before .before .before .put-gate2 .kept .0),
+    )
 
 returns : tie.Need-returns
 returns c =
-    let S = c .before .before .before .before .before .before .before .before in
-    let v = S .args .v in
-    let row : ℕ → ℕ → List ℕ =
-    λ x y. 2 * v ∷ S .args .p ∷ x ∷ 2 * (v + 1) ∷ y ∷ S .args .q ∷ 2 * (v + 2) ∷ (2 * v + 1) ∷ (2 * (v + 1) + 1) ∷ [] in
-    subst (λ (r : List ℕ). Put (S .args .to) (word r) 9 (S .args .m .now) (c .before .before .copy-words .last .1 .1 .0))
-    (ap₂ row (c .before .before .before .before .before .before .opposite .ensures .0) (c .before .before .before .before .before .opposite2 .ensures .0)) (c .before .before .copy-words .ensures)
+    let a = c .before .before .before .before .before .before .before .before .before .before .before .before .before .before .before .before .before .before .before .args in
+    let one = c .before .before .before .before .before .before .before .before .before .before .before .before .before .before .put-gate in
+    let two = c .before .before .before .before .before .before .before .before .before .put-gate2 in
+    let three = c .before .before .put-gate3 in
+    pair-put (a .to) (a .v .0) (a .p) (a .q) (c .before .before .before .before .before .before .before .before .before .before .complement2 .ensures) (c .before .before .before .before .before .before .before .before .before .before .before .before .before .before .before .complement .ensures)
+    (c .before .before .before .before .complement3 .ensures) (c .before .before .before .complement4 .ensures) (a .m .now) (one .last .0) (two .last .0) (three .last .0)
+    (one .ensures) (two .ensures) (three .ensures)
 
 pub put-pair-spec : {M : Type 1} → statement M
 put-pair-spec =
     tie.close
     (tie.spec
-    (λ c. search needs) (λ c κs. search needs) (λ c. search needs) (λ c. search needs) (λ c κs. search needs) (λ c. search needs)
-    (λ c. search needs) (λ c. search needs) (λ c. search needs) (λ c. search needs) (λ c. search needs) (λ c. search needs)
-    (λ c. search needs) (λ c κs. search needs) (λ c. search needs) returns)
+    (λ c. search needs) (λ c κs. search needs) put-gate-requires (λ c. search needs) (λ c κs. search needs) put-gate-requires-2
+    (λ c. search needs) (λ c. search needs) (λ c κs. search needs) (λ c κs. search needs) put-gate-requires-3 (λ c. search needs)
+    returns)

@@ -1,13 +1,15 @@
 -- `pinning::variable_at` meets its contract. Assumes nothing.
-use native.Mathlib.Omega.{arith}
+use mathlib.Core.Path.{ap, _∙_}
+use Rattle.literals.specs.declared.Lit.{Lit}
 use borrow.Author.Needs.{needs}
 use Rattle.pinning.proofs.variable_at.Statement.{statement}
 use Rattle.pinning.proofs.variable_at.Tie as tie
-use Rattle.pinning.proofs.variable_at.Reads as reads
-use Rattle.pinning.proofs.variable_at.Lts as lts
 
-cast-result : tie.Need-cast-result
-cast-result c = omega (arith, c .shared-slice-known .given (c .before .args .at))
+returns : tie.Need-returns
+returns c = c .var .ensures ∙ ap (λ (l : Lit). l .0) (c .before .from-word .ensures)
 
 pub variable-at-spec : {M : Type 1} → statement M
-variable-at-spec = tie.close (tie.spec (λ c. search needs) (λ c. search needs) cast-result (λ c. search needs))
+variable-at-spec =
+    tie.close
+    (tie.spec
+    (λ c. search needs) (λ c. search needs) (λ c κs. search needs) (λ c κs. search needs) returns)

@@ -22,17 +22,17 @@ abbrev μ-loop : tie.MeasureT-loop
 loop-holds : tie.Need-loop-holds Inv-loop μ-loop
 loop-holds c = (omega arith, refl, stored-start _ _ _)
 
-add-rename : tie.Need-add-rename Inv-loop μ-loop
-add-rename c = omega arith
+add-rename-word : tie.Need-add-rename-word Inv-loop μ-loop
+add-rename-word c = omega arith
 
-mul-rename : tie.Need-mul-rename Inv-loop μ-loop
-mul-rename c = omega arith
+mul-rename-word : tie.Need-mul-rename-word Inv-loop μ-loop
+mul-rename-word c = omega arith
 
-shared-slice-read-rename : tie.Need-shared-slice-read-rename Inv-loop μ-loop
-shared-slice-read-rename c = omega arith
+shared-slice-read-rename-word : tie.Need-shared-slice-read-rename-word Inv-loop μ-loop
+shared-slice-read-rename-word c = omega arith
 
-rename-requires : tie.Need-rename-requires Inv-loop μ-loop
-rename-requires c κs = c .before .before .before .before .before .before .pre .1 (c .before .before .loop .j) (omega arith)
+rename-word-requires : tie.Need-rename-word-requires Inv-loop μ-loop
+rename-word-requires c κs = c .before .before .before .before .before .before .pre .1 (c .before .before .loop .j) (omega arith)
 
 add-m : tie.Need-add-m Inv-loop μ-loop
 add-m c = omega arith
@@ -51,7 +51,7 @@ loop-less c = omega arith
 
 loop-again : tie.Need-loop-again Inv-loop μ-loop
 loop-again c = let L = c .before .before .before .loop in let S = c .before .before .before .before .before .before .before in
-    (omega arith, length-set (L .m) _ _ ∙ L .inv .1, put-more (S .args .to) (λ i. under (S .args .names .now) (word (S .args .from .now) (S .args .at + i))) (S .args .n) (L .j) (S .args .m .now) (L .m) (L .inv .1) (omega arith) (omega arith) (L .inv .2) _ (c .rename .ensures .0))
+    (omega arith, length-set (L .m) _ _ ∙ L .inv .1, put-more (S .args .to) (λ i. under (S .args .names .now) (word (S .args .from .now) (S .args .at + i))) (S .args .n) (L .j) (S .args .m .now) (L .m) (L .inv .1) (omega arith) (omega arith) (L .inv .2) _ (c .rename-word .ensures .0))
 
 same-length : tie.Need-same-length Inv-loop μ-loop
 same-length c = c .before .loop .inv .1
@@ -65,5 +65,5 @@ pub rename-words-spec : {M : Type 1} → statement M
 rename-words-spec =
     tie.close
     (tie.spec
-    Inv-loop μ-loop loop-holds add-rename mul-rename shared-slice-read-rename rename-requires add-m mul-m slice-write-m add-j loop-less
+    Inv-loop μ-loop loop-holds add-rename-word mul-rename-word shared-slice-read-rename-word rename-word-requires add-m mul-m slice-write-m add-j loop-less
     loop-again same-length returns)

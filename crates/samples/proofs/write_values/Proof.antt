@@ -2,13 +2,11 @@
 -- those that stood there before stand there still. The measure is the number of wires left. Assumes nothing.
 use mathlib.Core.Path.{_≡_, refl, ap, _∙_}
 use mathlib.Core.Bool.{not, cond}
-use Prim.Native.Nat.{ℕ, _+_, _-_, _*_, _/_, _≤_, _<_}
+use Prim.Native.Nat.{ℕ, _+_, _-_, _*_, _≤_, _<_}
 use native.Mathlib.Omega.{arith}
 use borrow.Author.Needs.{needs}
 use lib.ListN.{length, getD}
-use Rattle.aiger.specs.Bits.{odd, bit}
-use Rattle.aiger.specs.Circuit.{var}
-use Rattle.aiger.specs.Frames.{value}
+use Rattle.literals.specs.declared.Lit.{Lit}
 use Rattle.frames.specs.Lanes.{lane}
 use Rattle.vcd.specs.Text.{Level, levelByte, valueLines}
 use Rattle.vcd.proofs.Parts.{values-length, with-length}
@@ -46,11 +44,11 @@ module _ (n : tie.In-loop Inv-loop μ-loop) where
   inside = omega (arith, there, n .before .loop .inv .1, n .before .loop .inv .2, S .pre .1)
 
 -- the word of the wire's variable
-word-inside : (c : tie.After-literal-at Inv-loop μ-loop) → (c .literal-at .result / 2 < length (S (c .before) .args .values .now))
+word-inside : (c : tie.After-literal-at Inv-loop μ-loop) → (c .literal-at .result .0 .0 < length (S (c .before) .args .values .now))
 word-inside c =
     let n = c .before in
     let w = W n in
-    omega (arith, ap var (c .literal-at .ensures), wire-small (w .held) (w .layout-of) (n .before .loop .k), w .room)
+    omega (arith, ap (λ (l : Lit). l .0 .0) (c .literal-at .ensures), wire-small (w .held) (w .layout-of) (n .before .loop .k), w .room)
 
 loop-holds : tie.Need-loop-holds Inv-loop μ-loop
 loop-holds c =
@@ -66,45 +64,46 @@ literal-at-requires : tie.Need-literal-at-requires Inv-loop μ-loop
 literal-at-requires c κs = (W c .held, W c .layout-of, omega (arith, there c, W c .wires))
 
 mul-level-of : tie.Need-mul-level-of Inv-loop μ-loop
-mul-level-of c = omega (arith, word-inside c)
+mul-level-of c = omega (arith, word-inside (c .before))
 
 shared-slice-read-level-of : tie.Need-shared-slice-read-level-of Inv-loop μ-loop
-shared-slice-read-level-of c = word-inside (c .before)
+shared-slice-read-level-of c = word-inside (c .before .before)
 
 level-of-requires : tie.Need-level-of-requires Inv-loop μ-loop
 level-of-requires c κs = tt
 
 slice-read-joined : tie.Need-slice-read-joined Inv-loop μ-loop
-slice-read-joined c = omega (arith, inside (c .before .before .before .before))
+slice-read-joined c = omega (arith, inside (c .before .before .before .before .before))
 
 joined-requires : tie.Need-joined-requires Inv-loop μ-loop
 joined-requires c κs = tt
 
 write-value-requires : tie.Need-write-value-requires Inv-loop μ-loop
-write-value-requires c κs = let n = c .before .before .before .before .before .before in (few n, inside n)
+write-value-requires c κs = let n = c .before .before .before .before .before .before .before in (few n, inside n)
 
 add-k : tie.Need-add-k Inv-loop μ-loop
-add-k c = omega (arith, few (c .before .before .before .before .before .before .before .before .before))
+add-k c = omega (arith, few (c .before .before .before .before .before .before .before .before .before .before))
 
 sub-left : tie.Need-sub-left Inv-loop μ-loop
-sub-left c = omega (arith, c .before .before .before .before .before .before .before .before .before .loop-test .taken)
+sub-left c = omega (arith, c .before .before .before .before .before .before .before .before .before .before .loop-test .taken)
 
 loop-less : tie.Need-loop-less Inv-loop μ-loop
-loop-less c = omega (arith, c .before .before .before .before .before .before .before .before .before .loop-test .taken)
+loop-less c = omega (arith, c .before .before .before .before .before .before .before .before .before .before .loop-test .taken)
 
 loop-again : tie.Need-loop-again Inv-loop μ-loop
 loop-again c =
     let w = c .before .before in
-    let j = w .before .before in
-    let v = j .before .before in
-    let i = v .before .before in
-    let n = i .before in
+    let j = c .before .before .before .before in
+    let v = c .before .before .before .before .before .before in
+    let i = c .before .before .before .before .before .before .before .before .before in
+    let n = c .before .before .before .before .before .before .before .before .before .before in
     let a = S n .args in
     let L = n .before .loop in
     let new = levelIn (a .m .now) (a .values .now) in
     let e : v .level-of .result ≡ levelByte (new (L .k)) =
     v .level-of .ensures
-    ∙ ap (λ (l : ℕ). levelByte (levelOver 64 (λ p. value (lane (a .values .now) p) l))) (i .literal-at .ensures) in (
+    ∙ ap (λ (l : Lit). levelByte (levelOver 64 (λ p. cond (l .1) (not (lane (a .values .now) p (l .0 .0))) (lane (a .values .now) p (l .0 .0)))))
+    (i .literal-at .ensures) in (
       omega (arith, L .inv .0, n .loop-test .taken),
       omega (arith, L .inv .1, w .write-value .ensures .past, with-length (L .k) (j .joined .result)),
       w .write-value .kept .0 ∙ L .inv .2,

@@ -1,39 +1,74 @@
 -- `ternary::cover_gate` meets its contract. Assumes nothing.
-use mathlib.Core.Path.{_≡_, refl, sym, ap, _∙_, subst}
-use mathlib.Core.Bool.{Bool}
-use mathlib.Core.List.{List}
-use Prim.Native.Nat.{ℕ, _+_, _-_, _*_, _≤_, _<_}
+use mathlib.Core.Path.{_≡_, ap, _∙_}
+use Prim.Native.Nat.{ℕ, _+_}
 use native.Mathlib.Omega.{arith}
-use lib.Dec.{T}
-use lib.ListN.{length, getD, set, length-set}
-use Rattle.aiger.specs.Circuit.{var}
-use Rattle.aiger.specs.Frames.{value}
+use Rattle.literals.specs.declared.Lit.{Lit}
+use Rattle.literals.specs.declared.Var.{Var}
 use Rattle.layout.specs.Words.{word}
-use Rattle.ternary.proofs.Covering.{gate-covers}
+use Rattle.ternary.specs.Entries.{conjunction}
+use Rattle.ternary.proofs.Entries.{read-word, put-word}
 use borrow.Author.Needs.{needs}
 use Rattle.ternary.proofs.cover_gate.Statement.{statement}
 use Rattle.ternary.proofs.cover_gate.Tie as tie
 
+add-from-word : tie.Need-add-from-word
+add-from-word c = let s = c .before .before .before in omega (arith, s .pre .inside)
+
+mul-from-word : tie.Need-mul-from-word
+mul-from-word c = let s = c .before .before .before in omega (arith, s .pre .inside)
+
+shared-slice-read-from-word : tie.Need-shared-slice-read-from-word
+shared-slice-read-from-word c = let s = c .before .before .before .before in omega (arith, s .pre .inside)
+
+read-requires : tie.Need-read-requires
+read-requires c κs =
+    let s = c .before .before .before .before .before in
+    omega (arith, ap (λ (l : Lit). l .0 .0) (c .from-word .ensures), s .pre .left)
+
+add-from-word-2 : tie.Need-add-from-word-2
+add-from-word-2 c = let s = c .before .before .before .before .before .before .before in omega (arith, s .pre .inside)
+
+mul-from-word-2 : tie.Need-mul-from-word-2
+mul-from-word-2 c = let s = c .before .before .before .before .before .before .before in omega (arith, s .pre .inside)
+
+shared-slice-read-from-word-2 : tie.Need-shared-slice-read-from-word-2
+shared-slice-read-from-word-2 c = let s = c .before .before .before .before .before .before .before .before in omega (arith, s .pre .inside)
+
+read-requires-2 : tie.Need-read-requires-2
+read-requires-2 c κs =
+    let s = c .before .before .before .before .before .before .before .before .before in
+    omega (arith, ap (λ (l : Lit). l .0 .0) (c .from-word2 .ensures), s .pre .right)
+
+mul-from-word-3 : tie.Need-mul-from-word-3
+mul-from-word-3 c = let s = c .before .before .before .before .before .before .before .before .before .before .before in omega (arith, s .pre .inside)
+
+shared-slice-read-from-word-3 : tie.Need-shared-slice-read-from-word-3
+shared-slice-read-from-word-3 c = let s = c .before .before .before .before .before .before .before .before .before .before .before .before in omega (arith, s .pre .inside)
+
+put-requires : tie.Need-put-requires
+put-requires c κs =
+    let s = c .before .before .before .before .before .before .before .before .before .before .before .before .before .before .before in
+    let v = ap (λ (v : Var). v .0) (c .before .var .ensures) ∙ ap (λ (l : Lit). l .0 .0) (c .before .before .from-word3 .ensures) in
+    omega (arith, v, s .pre .lit)
+
+same-length : tie.Need-same-length
+same-length c = c .before .before .put .kept .0
+
 returns : tie.Need-returns
 returns c =
-    λ w e h.
-    let o2 = c .before .before .before .before .before .before in
-    let o1 = o2 .before in
-    let S = o1 .before .before .before .before .before .before in
-    let a = S .args in
-    let m : List ℕ = a .m .now in
-    let p = S .pre in
-    gate-covers (a .can .now) w h (var (word m (a .at))) (word m (a .at + 1)) (word m (a .at + 2)) (o1 .opposite .result) (o2 .opposite2 .result)
-    (c .before .before .before .both .result) (c .one-of .result) e (omega (arith, p .left)) (omega (arith, p .right))
-    (omega (arith, p .left, o1 .opposite .ensures .same-var)) (omega (arith, p .right, o2 .opposite2 .ensures .same-var)) (o1 .opposite .ensures) (o2 .opposite2 .ensures)
-    (c .before .before .before .both .ensures) (c .one-of .ensures)
+    let a = c .before .before .before .before .before .before .before .before .before .before .before .before .before .before .before .before .before .before .args in
+    let m = a .m .now in
+    let can = a .can .now in
+    let x = read-word can (word m (a .at + 1)) (c .before .before .before .before .before .before .before .before .before .before .before .before .before .from-word .ensures) (c .before .before .before .before .before .before .before .before .before .before .before .before .read .ensures) in
+    let y = read-word can (word m (a .at + 2)) (c .before .before .before .before .before .before .before .before .before .from-word2 .ensures) (c .before .before .before .before .before .before .before .before .read2 .ensures) in
+    let both = c .before .before .before .conjunction .ensures in
+    put-word can (word m (a .at)) (c .before .before .before .before .before .from-word3 .ensures) (c .before .before .before .before .var .ensures) (both ∙ (λ i. conjunction (x i) (y i)))
+    (c .before .before .put .ensures)
 
 pub cover-gate-spec : {M : Type 1} → statement M
 cover-gate-spec =
     tie.close
     (tie.spec
-    (λ c. search needs) (λ c. search needs) (λ c. search needs) (λ c. search needs) (λ c. search needs) (λ c. search needs)
-    (λ c. search needs) (λ c. search needs) (λ c. search needs) (λ c. search needs) (λ c. search needs) (λ c κs. search needs)
-    (λ c κs. search needs) (λ c. search needs) (λ c. search needs) (λ c κs. search needs) (λ c. search needs) (λ c. search needs)
-    (λ c κs. search needs) (λ c. search needs) (λ c. search needs) (λ c. search needs) (λ c. search needs) (λ c. search needs)
-    (λ c. search needs) returns)
+    add-from-word mul-from-word shared-slice-read-from-word (λ c κs. search needs) read-requires add-from-word-2 mul-from-word-2
+    shared-slice-read-from-word-2 (λ c κs. search needs) read-requires-2 mul-from-word-3 shared-slice-read-from-word-3
+    (λ c κs. search needs) (λ c κs. search needs) (λ c κs. search needs) put-requires same-length returns)

@@ -1,26 +1,18 @@
 -- `ternary::fill` meets its contract. Assumes nothing.
-use mathlib.Core.Path.{_≡_, refl, sym, ap, _∙_, subst}
-use mathlib.Core.Bool.{Bool}
-use mathlib.Core.List.{List}
-use Prim.Native.Nat.{ℕ, _+_, _-_, _*_, _≤_, _<_}
+use mathlib.Core.Path.{_≡_, refl, _∙_}
+use Prim.Native.Nat.{ℕ, _-_, _≤_, _<_}
 use native.Mathlib.Omega.{arith}
-use lib.Dec.{T}
-use lib.ListN.{length, getD, set, length-set}
-use Rattle.aiger.specs.Circuit.{var}
-use Rattle.aiger.specs.Frames.{value}
-use Rattle.layout.specs.Words.{word}
-use Rattle.ternary.proofs.Covering.{filled-step}
+use lib.ListN.{length, getD, length-set}
+use Rattle.ternary.proofs.Entries.{filled-step, filled}
 use borrow.Author.Needs.{needs}
 use Rattle.ternary.proofs.fill.Statement.{statement}
 use Rattle.ternary.proofs.fill.Tie as tie
 
 abbrev Inv-loop : tie.InvT-loop
-Inv-loop can₀ i₀ can i =
-    (i ≤ length can) × (length can ≡ length can₀) × ((l : ℕ) → l < i → getD can l 0 ≡ 1)
+Inv-loop can₀ i₀ can i = (i ≤ length can) × (length can ≡ length can₀) × ((l : ℕ) → l < i → getD can l 0 ≡ 1)
 
 abbrev μ-loop : tie.MeasureT-loop
-μ-loop can₀ i₀ can i =
-    length can₀ - i
+μ-loop can₀ i₀ can i = length can₀ - i
 
 loop-holds : tie.Need-loop-holds Inv-loop μ-loop
 loop-holds c = (omega arith, refl, λ l h. absurd (omega arith))
@@ -44,7 +36,9 @@ same-length : tie.Need-same-length Inv-loop μ-loop
 same-length c = c .before .loop .inv .1
 
 returns : tie.Need-returns Inv-loop μ-loop
-returns c = λ w. record { may = λ l h t. c .before .loop .inv .2 l (omega arith) }
+returns c =
+    let l = c .before .loop in
+    filled (length (c .before .before .args .can .now)) (l .can) (l .inv .1) (λ k h. l .inv .2 k (omega arith))
 
 pub fill-spec : {M : Type 1} → statement M
 fill-spec =

@@ -1,18 +1,12 @@
 -- `ternary::put_frame` meets its contract. Assumes nothing.
-use mathlib.Core.Path.{_≡_, refl, sym, ap, _∙_, subst}
-use mathlib.Core.Bool.{Bool, true, false, cond, _&&_, _||_}
+use mathlib.Core.Path.{_≡_, ap, _∙_}
 use mathlib.Core.List.{List}
-use Prim.Native.Nat.{ℕ, _+_, _-_, _*_, _≤_, _<_}
+use Prim.Native.Nat.{ℕ, _+_, _*_}
 use native.Mathlib.Omega.{arith}
-use borrow.Author.Tests.{eqb-true, not-true, not-false}
-use lib.Dec.{T, eqb}
-use lib.ListN.{length, getD, set, length-set}
-use Rattle.aiger.specs.Circuit.{var}
-use Rattle.aiger.specs.Frames.{value}
-use Rattle.layout.specs.Words.{word, circuitIn}
+use lib.ListN.{length, length-set}
+use Rattle.layout.specs.Words.{word}
 use Rattle.frames.proofs.Places.{inputs-inside, input-small}
-use Rattle.ternary.specs.Cover.{Allows}
-use Rattle.ternary.proofs.Frames.{constant-covers, gates-hold, input-is, line-allows}
+use Rattle.ternary.proofs.Frames.{frame-is}
 use borrow.Author.Needs.{needs}
 use Rattle.ternary.proofs.put_frame.Statement.{statement}
 use Rattle.ternary.proofs.put_frame.Tie as tie
@@ -32,30 +26,22 @@ put-line-requires c κs =
 
 cover-gates-requires : tie.Need-cover-gates-requires
 cover-gates-requires c κs =
-    let L = c .before .before .before .put-line in
     let S = c .before .before .before .before .before .before .before .before .before in
-    (S .pre .0, omega (arith, L .kept .1 .1 .1 .1 .0, length-set (S .args .can .now) 0 0, S .pre .1))
+    (S .pre .0, omega (arith, c .before .before .before .put-line .kept .1 .1 .1 .1 .0, length-set (S .args .can .now) 0 0, S .pre .1))
 
 same-length : tie.Need-same-length
 same-length c =
-    let G = c .before .before .cover-gates in
-    let p = c .before .before .before .before .before .before in
-    let S = p .before .before .before .before .before .before in
-    G .kept .1 .1 .1 .0 ∙ p .put-line .kept .1 .1 .1 .1 .0 ∙ length-set (S .args .can .now) 0 0
+    c .before .before .cover-gates .kept .1 .1 .1 .0 ∙ c .before .before .before .before .before .before .put-line .kept .1 .1 .1 .1 .0 ∙ length-set (c .before .before .before .before .before .before .before .before .before .before .before .before .args .can .now) 0 0
 
 returns : tie.Need-returns
 returns c =
-    λ u q st w f h.
-    let G = c .before .before .cover-gates in
-    let p = c .before .before .before .before .before .before in
-    let S = p .before .before .before .before .before .before in
-    let a = S .args in
-    let R = S .pre .0 in
-    G .ensures w (gates-hold R f)
-    (p .put-line .ensures w
-    (λ i k. subst (Allows (getD (a .body .now) (a .at + i) 0)) (sym (input-is R f i k)) (line-allows (a .body .now) u q (a .at) (a .layout .i) i k))
-    (constant-covers (a .can .now) w (f .constant) h))
+    let S = c .before .before .before .before .before .before .before .before .before .before .before .before in
+    let line = c .before .before .before .before .before .before .put-line in
+    frame-is (S .pre .0) (S .args .body .now) (S .args .at) (S .args .can .now) (line .last .1 .1 .1 .1 .0) (line .ensures)
+    (c .before .before .cover-gates .ensures)
 
 pub put-frame-spec : {M : Type 1} → statement M
 put-frame-spec =
-    tie.close (tie.spec (λ c. search needs) put-line-requires cover-gates-requires same-length returns)
+    tie.close
+    (tie.spec
+    (λ c. search needs) put-line-requires cover-gates-requires same-length returns)

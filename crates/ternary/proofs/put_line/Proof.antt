@@ -1,117 +1,90 @@
--- `ternary::put_line` meets its contract. Assumes nothing.
-use mathlib.Core.Path.{_≡_, refl, sym, ap, _∙_, subst}
-use mathlib.Core.Bool.{Bool}
+-- `ternary::put_line` meets its contract. The loop's invariant: the first i variables have their entries. Assumes nothing.
+use mathlib.Core.Path.{_≡_, refl, ap, _∙_}
 use mathlib.Core.List.{List}
 use Prim.Native.Nat.{ℕ, _+_, _-_, _*_, _≤_, _<_}
 use native.Mathlib.Omega.{arith}
-use lib.Dec.{T}
-use lib.ListN.{length, getD, set, length-set}
+use lib.ListN.{length}
 use Rattle.aiger.specs.Circuit.{var}
-use Rattle.aiger.specs.Frames.{value}
+use Rattle.literals.specs.declared.Lit.{Lit}
+use Rattle.literals.specs.declared.Var.{Var}
 use Rattle.layout.specs.Words.{word}
-use Rattle.ternary.specs.Cover.{Covers, Allows}
-use Rattle.ternary.proofs.Covering.{put-entries}
+use Rattle.ternary.specs.Entries.{lineOf, putBelow}
+use Rattle.ternary.proofs.Entries.{below-none, below-more, put-word}
 use borrow.Author.Needs.{needs}
 use Rattle.ternary.proofs.put_line.Statement.{statement}
 use Rattle.ternary.proofs.put_line.Tie as tie
 
 abbrev Inv-loop : tie.InvT-loop
 Inv-loop m text at can₀ first step count i₀ can i =
-    (i ≤ count) × (length can ≡ length can₀)
-    × ((w : ℕ → Bool) → ((j : ℕ) → j < i → Allows (getD text (at + j) 0) (w (var (word m (first + step * j))))) → Covers can₀ w → Covers can w)
+    (i ≤ count) × (length can ≡ length can₀) × (can ≡ putBelow (λ j. var (word m (first + step * j))) (lineOf text at) i can₀)
 
 abbrev μ-loop : tie.MeasureT-loop
-μ-loop m text at can₀ first step count i₀ can i =
-    count - i
+μ-loop m text at can₀ first step count i₀ can i = count - i
 
--- the entry, from the loop's head
-abbrev start : tie.At-loop Inv-loop μ-loop → tie.Start Inv-loop μ-loop
-start l = l .before .before .before .before
-
+-- in a turn: where the word of the variable and the byte stand
 module _ (n : tie.In-loop Inv-loop μ-loop) where
   abbrev S : tie.Start Inv-loop μ-loop
-  S = start (n .before)
+  S = n .before .before .before .before .before
 
   abbrev i : ℕ
   i = n .before .loop .i
 
+  abbrev w : ℕ
+  w = word (S .args .m .now) (S .args .column .first + S .args .column .step * i)
+
   inside : S .args .column .first + S .args .column .step * i < length (S .args .m .now)
   inside = S .pre .words i (omega (arith, n .loop-test .taken))
 
-  abbrev v : ℕ
-  v = var (word (S .args .m .now) (S .args .column .first + S .args .column .step * i))
-
-  small : 2 * v + 1 < length (n .before .loop .can)
+  small : 2 * var w + 1 < length (n .before .loop .can)
   small = omega (arith, S .pre .small i (omega (arith, n .loop-test .taken)), n .before .loop .inv .1)
 
   row : S .args .at + i < length (S .args .text .now)
   row = omega (arith, S .pre .inside, n .loop-test .taken)
 
 loop-holds : tie.Need-loop-holds Inv-loop μ-loop
-loop-holds c = (omega arith, refl, λ w e h. h)
+loop-holds c =
+    let a = c .before .before .before .args in
+    (omega arith, refl, below-none (λ j. var (word (a .m .now) (a .column .first + a .column .step * j))) (lineOf (a .text .now) (a .at)) (a .can .now))
 
-mul-v : tie.Need-mul-v Inv-loop μ-loop
-mul-v c = omega (arith, inside c)
+mul-from-word : tie.Need-mul-from-word Inv-loop μ-loop
+mul-from-word c = omega (arith, inside c)
 
-add-v : tie.Need-add-v Inv-loop μ-loop
-add-v c = omega (arith, inside c)
+add-from-word : tie.Need-add-from-word Inv-loop μ-loop
+add-from-word c = omega (arith, inside c)
 
-mul-v-2 : tie.Need-mul-v-2 Inv-loop μ-loop
-mul-v-2 c = omega (arith, inside c)
+mul-from-word-2 : tie.Need-mul-from-word-2 Inv-loop μ-loop
+mul-from-word-2 c = omega (arith, inside c)
 
-shared-slice-read-v : tie.Need-shared-slice-read-v Inv-loop μ-loop
-shared-slice-read-v c = omega (arith, inside (c .before))
+shared-slice-read-from-word : tie.Need-shared-slice-read-from-word Inv-loop μ-loop
+shared-slice-read-from-word c = inside (c .before)
 
-cast-v : tie.Need-cast-v Inv-loop μ-loop
-cast-v c = omega (arith, small (c .before))
+add-from-byte : tie.Need-add-from-byte Inv-loop μ-loop
+add-from-byte c = omega (arith, row (c .before .before .before .before))
 
-add-byte : tie.Need-add-byte Inv-loop μ-loop
-add-byte c = omega (arith, row (c .before))
+shared-slice-read-from-byte : tie.Need-shared-slice-read-from-byte Inv-loop μ-loop
+shared-slice-read-from-byte c = row (c .before .before .before .before .before)
 
-shared-slice-read-byte : tie.Need-shared-slice-read-byte Inv-loop μ-loop
-shared-slice-read-byte c = omega (arith, row (c .before .before))
-
-unless-requires : tie.Need-unless-requires Inv-loop μ-loop
-unless-requires c κs = tt
-
-mul-can : tie.Need-mul-can Inv-loop μ-loop
-mul-can c = omega (arith, small (c .before .before .before))
-
-slice-write-can : tie.Need-slice-write-can Inv-loop μ-loop
-slice-write-can c = omega (arith, small (c .before .before .before))
-
-unless-requires-2 : tie.Need-unless-requires-2 Inv-loop μ-loop
-unless-requires-2 c κs = tt
-
-mul-can-2 : tie.Need-mul-can-2 Inv-loop μ-loop
-mul-can-2 c = omega (arith, small (c .before .before .before .before))
-
-add-can : tie.Need-add-can Inv-loop μ-loop
-add-can c = omega (arith, small (c .before .before .before .before))
-
-slice-write-can-2 : tie.Need-slice-write-can-2 Inv-loop μ-loop
-slice-write-can-2 c =
-    let n = c .before .before .before .before in
-    omega (arith, small n, length-set (n .before .loop .can) (2 * v n) (c .before .unless .result))
+put-requires : tie.Need-put-requires Inv-loop μ-loop
+put-requires c κs =
+    let v = ap (λ (v : Var). v .0) (c .before .before .before .var .ensures) ∙ ap (λ (l : Lit). l .0 .0) (c .before .before .before .before .from-word .ensures) in
+    omega (arith, v, small (c .before .before .before .before .before .before))
 
 add-i : tie.Need-add-i Inv-loop μ-loop
-add-i c = omega (arith, row (c .before .before .before .before))
+add-i c = omega (arith, row (c .before .before .before .before .before .before .before .before .before))
 
 loop-less : tie.Need-loop-less Inv-loop μ-loop
-loop-less c = let n = c .before .before .before .before in omega (arith, n .loop-test .taken)
+loop-less c = omega (arith, c .before .before .before .before .before .before .before .before .before .loop-test .taken)
 
 loop-again : tie.Need-loop-again Inv-loop μ-loop
 loop-again c =
-    let n = c .before .before .before .before in
-    let l = n .before in
-    let one = c .before .unless .result in
-    let none = c .unless2 .result in (
-      omega (arith, n .loop-test .taken),
-      length-set (set (l .loop .can) (2 * v n) one) (2 * v n + 1) none ∙ length-set (l .loop .can) (2 * v n) one ∙ l .loop .inv .1,
-      λ w a h.
-          put-entries (l .loop .can) w (v n) one none (l .loop .inv .2 w (λ j b. a j (omega arith)) h)
-          (λ t. c .before .unless .ensures (a (i n) (omega arith) .true-one t))
-          (λ t. c .unless2 .ensures (a (i n) (omega arith) .false-one t)),
+    let a = c .before .before .before .before .before .before .before .before .before .before .before .before .before .before .args in
+    let l = c .before .before .before .before .before .before .before .before .before .before .loop in
+    let k = c .before .before .put in
+    let p : ℕ → ℕ = λ j. var (word (a .m .now) (a .column .first + a .column .step * j)) in (
+      omega (arith, c .before .before .before .before .before .before .before .before .before .loop-test .taken),
+      k .kept .0 ∙ l .inv .1,
+      put-word (l .can) (w (c .before .before .before .before .before .before .before .before .before)) (c .before .before .before .before .before .before .before .from-word .ensures) (c .before .before .before .before .before .before .var .ensures) (c .before .before .before .from-byte .ensures) (k .ensures)
+          ∙ below-more p (lineOf (a .text .now) (a .at)) (l .i) (a .can .now) (l .can) (l .inv .2),
     )
 
 same-length : tie.Need-same-length Inv-loop μ-loop
@@ -119,13 +92,16 @@ same-length c = c .before .loop .inv .1
 
 returns : tie.Need-returns Inv-loop μ-loop
 returns c =
-    λ w a h.
-    let l = c .before in
-    l .loop .inv .2 w (λ j b. a j (omega (arith, l .loop .inv .0))) h
+    let a = c .before .before .before .before .before .args in
+    let l = c .before .loop in
+    let e : l .i ≡ a .column .count = omega (arith, l .inv .0, c .loop-test .left) in
+    let p : ℕ → ℕ = λ j. var (word (a .m .now) (a .column .first + a .column .step * j)) in
+    l .inv .2 ∙ ap (λ (k : ℕ). putBelow p (lineOf (a .text .now) (a .at)) k (a .can .now)) e
 
 pub put-line-spec : {M : Type 1} → statement M
 put-line-spec =
     tie.close
     (tie.spec
-    Inv-loop μ-loop loop-holds mul-v add-v mul-v-2 shared-slice-read-v cast-v add-byte shared-slice-read-byte unless-requires mul-can
-    slice-write-can unless-requires-2 mul-can-2 add-can slice-write-can-2 add-i loop-less loop-again same-length returns)
+    Inv-loop μ-loop loop-holds mul-from-word add-from-word mul-from-word-2 shared-slice-read-from-word (λ c κs. search needs)
+    (λ c κs. search needs) add-from-byte shared-slice-read-from-byte (λ c κs. search needs) put-requires add-i loop-less loop-again
+    same-length returns)

@@ -1,27 +1,20 @@
--- `ternary::simulate` meets its contract. The loop's invariant: after frame u - 1 the entries cover the values of that frame in every
--- completion, and no frame before it breaks a constraint in any. The measure is how many frames are left. Assumes nothing.
+-- `ternary::simulate` meets its contract. The loop's invariant: the entries are those after frame u - 1,
+-- and every constraint is sure in the frames before it. The measure is how many frames are left. Assumes nothing.
 use mathlib.Core.Path.{_≡_, refl, sym, ap, ap₂, _∙_, subst}
 use mathlib.Core.Bool.{Bool, true, false}
 use mathlib.Core.List.{List}
 use Prim.Native.Nat.{ℕ, suc, _+_, _-_, _*_, _≤_, _<_}
 use native.Mathlib.Omega.{arith}
-use borrow.Author.Tests.{not-false}
-use lib.Dec.{T}
+use borrow.Author.Tests.{not-true, not-false}
 use lib.ListN.{length, getD}
 use Rattle.aiger.specs.Lists.{everyBelow}
-use Rattle.aiger.specs.Frames.{Run, state, constrained}
 use Rattle.layout.specs.Words.{circuitIn}
-use Rattle.meaning.proofs.Values.{frameAt}
-use Rattle.completions.specs.Forms.{Completes}
 use Rattle.frames.proofs.Facts.{latches-are}
 use Rattle.frames.proofs.Places.{inputs-are}
-use Rattle.witness.specs.Line.{values}
-use Rattle.witness.proofs.Lines.{values-length}
-use Rattle.blocks.specs.Runs.{RunAt}
 use Rattle.blocks.proofs.Runs.{row-fits, row-next}
-use Rattle.ternary.specs.Cover.{Covers, Allows}
-use Rattle.ternary.proofs.Frames.{line-allows, never}
-use Rattle.ternary.proofs.Simulation.{frame-values, first-values, next-state, frame-allowed, every-hit}
+use Rattle.ternary.specs.Entries.{rowAt, entriesAt, sure, sureBelow, seesHit}
+use Rattle.ternary.proofs.Entries.{every-more}
+use Rattle.ternary.proofs.Frames.{entries-next, sees-start, sees-frame, sees-last}
 use borrow.Author.Needs.{needs}
 use Rattle.ternary.proofs.simulate.Statement.{statement}
 use Rattle.ternary.proofs.simulate.Tie as tie
@@ -29,12 +22,11 @@ use Rattle.ternary.proofs.simulate.Tie as tie
 abbrev Inv-loop : tie.InvT-loop
 Inv-loop m layout order q body can₀ state₀ width frames at₀ u₀ can state at u =
     (1 ≤ u) × (u ≤ frames) × (at ≡ layout .l + 1 + (u - 1) * (layout .i + 1)) × (length can ≡ length can₀) × (length state ≡ length state₀)
-    × ((x : List ℕ) → Completes body x → (r : Run) → RunAt (circuitIn m) x frames r → Covers can (frameAt (circuitIn m) r (u - 1)))
-    × ((x : List ℕ) → Completes body x → (r : Run) → RunAt (circuitIn m) x frames r → T (everyBelow (u - 1) (constrained (circuitIn m) r)))
+    × (can ≡ entriesAt (length can₀) (circuitIn m) order body (u - 1))
+    × (everyBelow (u - 1) (λ t. sureBelow (circuitIn m) (entriesAt (length can₀) (circuitIn m) order body t)) ≡ true)
 
 abbrev μ-loop : tie.MeasureT-loop
-μ-loop m layout order q body can₀ state₀ width frames at₀ u₀ can state at u =
-    frames - u
+μ-loop m layout order q body can₀ state₀ width frames at₀ u₀ can state at u = frames - u
 
 -- row k lies within the body
 row-inside : (s : tie.Start Inv-loop μ-loop) (k : ℕ) → k < s .args .q .frames
@@ -42,10 +34,12 @@ row-inside : (s : tie.Start Inv-loop μ-loop) (k : ℕ) → k < s .args .q .fram
 row-inside s k h =
     let R = s .pre .0 in
     let F = s .pre .4 in
+    let n = s .args .q .frames in
+    let C = circuitIn (s .args .m .now) in
     let w : ℕ = s .args .layout .i + 1 in
-    let e : s .args .layout .l + 1 + s .args .q .frames * w ≡ length (circuitIn (s .args .m .now) .latches) + 1 + s .args .q .frames * (length (circuitIn (s .args .m .now) .inputs) + 1) =
-    ap₂ (λ (a b : ℕ). a + 1 + s .args .q .frames * (b + 1)) (latches-are R) (inputs-are (R .held) (R .layout-of)) in
-    omega (arith, F .inside, row-fits (s .args .q .frames) k w h)
+    let e : s .args .layout .l + 1 + n * w ≡ length (C .latches) + 1 + n * (length (C .inputs) + 1) =
+    ap₂ (λ (a b : ℕ). a + 1 + n * (b + 1)) (latches-are R) (inputs-are (R .held) (R .layout-of)) in
+    omega (arith, F .inside, row-fits n k w h)
 
 -- the entry, from the loop's head
 abbrev start : tie.At-loop Inv-loop μ-loop → tie.Start Inv-loop μ-loop
@@ -68,6 +62,21 @@ module _ (n : tie.In-loop Inv-loop μ-loop) where
   next-inside : l .loop .at + (S .args .layout .i + 1) + (S .args .layout .i + 1) ≤ length (S .args .body .now)
   next-inside = omega (arith, next-at, row-inside S (l .loop .u) (omega (arith, n .loop-test .taken)))
 
+  next-row : l .loop .at + (S .args .layout .i + 1) ≡ rowAt (circuitIn (S .args .m .now)) (suc (l .loop .u - 1))
+  next-row =
+      let R = S .pre .0 in
+      let o : l .loop .u ≡ suc (l .loop .u - 1) = omega (arith, l .loop .inv .0) in
+      next-at ∙ ap (λ (k : ℕ). S .args .layout .l + 1 + k * (S .args .layout .i + 1)) o
+      ∙ ap₂ (λ (a b : ℕ). a + 1 + suc (l .loop .u - 1) * (b + 1)) (latches-are R) (inputs-are (R .held) (R .layout-of))
+
+-- what the entries are at the loop's head, for as many as there were at the entry
+module _ (l : tie.At-loop Inv-loop μ-loop) where
+  size : length (l .before .before .before .first-frame .last .1 .1 .1 .1 .0) ≡ length (l .before .before .before .before .before .before .before .before .before .before .before .before .before .before .args .can .now)
+  size = l .before .before .before .first-frame .kept .1 .1 .1 .1 .0
+
+  room : 8194 ≤ length (l .loop .can)
+  room = omega (arith, l .loop .inv .3, size, l .before .before .before .before .before .before .before .before .before .before .before .before .before .before .pre .2)
+
 add-width : tie.Need-add-width Inv-loop μ-loop
 add-width c = let s = c .before .before .before .before .before .before in omega (arith, row-inside s 0 (s .pre .4 .some-frame))
 
@@ -77,7 +86,11 @@ starts-agree-requires c κs =
     (s .pre .0, omega (arith, row-inside s 0 (s .pre .4 .some-frame)))
 
 returns : tie.Need-returns Inv-loop μ-loop
-returns c = λ e. never e
+returns c =
+    let a = c .before .before .before .before .before .before .before .before .args in
+    let k = c .before .starts-agree in
+    sees-start (length (a .can .now)) (circuitIn (a .m .now)) (a .order .now) (a .q .bad) (a .q .frames) (a .body .now)
+    (sym (k .ensures) ∙ not-true (k .result) (c .if1 .taken))
 
 add-at : tie.Need-add-at Inv-loop μ-loop
 add-at c = let s = c .before .before .before .before .before .before .before .before .before in omega (arith, row-inside s 0 (s .pre .4 .some-frame))
@@ -90,27 +103,37 @@ first-frame-requires c κs =
 loop-holds : tie.Need-loop-holds Inv-loop μ-loop
 loop-holds c =
     let s = c .before .before .before .before .before .before .before .before .before .before .before .before .before in
-    let F = s .pre .4 in (
+    let a = s .args in
+    let k = c .before .before .first-frame in
+    let n = sym (k .kept .1 .1 .1 .1 .0) in (
       omega arith,
-      F .some-frame,
+      s .pre .4 .some-frame,
       omega arith,
       refl,
       refl,
-      λ x q r p. c .before .before .first-frame .ensures x q (frameAt (circuitIn (s .args .m .now)) r 0) (first-values (s .pre .0) p (s .args .layout .l + 1) (F .some-frame) refl),
-      λ x q r p. tt,
+      k .ensures ∙ ap (λ (z : ℕ). entriesAt z (circuitIn (a .m .now)) (a .order .now) (a .body .now) 0) n,
+      refl,
     )
 
 surely-allowed-requires : tie.Need-surely-allowed-requires Inv-loop μ-loop
-surely-allowed-requires c κs = let s = c .before .before .before .before .before .before .before .before .before .before .before .before .before .before .before .before in (s .pre .0, omega (arith, c .before .before .loop .inv .3, c .before .before .before .before .before .first-frame .kept .1 .1 .1 .1 .0, s .pre .2))
+surely-allowed-requires c κs = (c .before .before .before .before .before .before .before .before .before .before .before .before .before .before .before .before .pre .0, room (c .before .before))
 
 same-length : tie.Need-same-length Inv-loop μ-loop
-same-length c = c .before .before .before .before .loop .inv .3 ∙ c .before .before .before .before .before .before .before .first-frame .kept .1 .1 .1 .1 .0
+same-length c = c .before .before .before .before .loop .inv .3 ∙ size (c .before .before .before .before)
 
 same-length-2 : tie.Need-same-length-2 Inv-loop μ-loop
 same-length-2 c = c .before .before .before .before .loop .inv .4
 
 returns-2 : tie.Need-returns-2 Inv-loop μ-loop
-returns-2 c = λ e. never e
+returns-2 c =
+    let a = c .before .before .before .before .before .before .before .before .before .before .before .before .before .before .before .before .before .before .args in
+    let C = circuitIn (a .m .now) in
+    let L = c .before .before .before .before .loop in
+    let k = c .before .surely-allowed in
+    let n = length (c .before .before .before .before .before .before .before .first-frame .last .1 .1 .1 .1 .0) in
+    sees-frame n C (a .order .now) (a .q .bad) (a .q .frames) (a .body .now) (L .u - 1) (omega (arith, c .before .before .before .loop-test .taken))
+    (ap (sureBelow C) (sym (L .inv .5)) ∙ sym (k .ensures) ∙ not-true (k .result) (c .if2 .taken))
+    ∙ ap (λ (z : ℕ). seesHit z C (a .order .now) (a .q .bad) (a .q .frames) (a .body .now)) (size (c .before .before .before .before))
 
 add-at-2 : tie.Need-add-at-2 Inv-loop μ-loop
 add-at-2 c = omega (arith, next-inside (c .before .before .before), c .before .before .before .before .before .before .before .before .before .before .before .before .before .before .before .before .before .before .good)
@@ -118,7 +141,7 @@ add-at-2 c = omega (arith, next-inside (c .before .before .before), c .before .b
 next-frame-requires : tie.Need-next-frame-requires Inv-loop μ-loop
 next-frame-requires c κs =
     let s = c .before .before .before .before .before .before .before .before .before .before .before .before .before .before .before .before .before .before .before .before in
-    (s .pre .0, omega (arith, c .before .before .before .before .before .before .loop .inv .3, c .before .before .before .before .before .before .before .before .before .first-frame .kept .1 .1 .1 .1 .0, s .pre .2), omega (arith, c .before .before .before .before .before .before .loop .inv .4, s .pre .3), omega (arith, next-inside (c .before .before .before .before .before)))
+    (s .pre .0, room (c .before .before .before .before .before .before), omega (arith, c .before .before .before .before .before .before .loop .inv .4, s .pre .3), omega (arith, next-inside (c .before .before .before .before .before)))
 
 add-u : tie.Need-add-u Inv-loop μ-loop
 add-u c = omega (arith, c .before .before .before .before .before .before .before .before .before .before .loop-test .taken, c .before .before .before .before .before .before .before .before .before .before .before .before .before .before .before .before .before .before .before .before .before .before .before .before .before .good)
@@ -129,80 +152,81 @@ loop-less c = omega (arith, c .before .before .before .before .before .before .b
 loop-again : tie.Need-loop-again Inv-loop μ-loop
 loop-again c =
     let n = c .before .before .before .before .before .before .before .before .before .before in
-    let s = c .before .before .before .before .before .before .before .before .before .before .before .before .before .before .before .before .before .before .before .before .before .before .before .before .before in
+    let a = c .before .before .before .before .before .before .before .before .before .before .before .before .before .before .before .before .before .before .before .before .before .before .before .before .before .args in
+    let C = circuitIn (a .m .now) in
     let L = c .before .before .before .before .before .before .before .before .before .before .before .loop in
     let N = c .before .before .before .before .next-frame in
-    let A = c .before .before .before .before .before .before .before .before .surely-allowed in
-    let C = circuitIn (s .args .m .now) in
+    let k = c .before .before .before .before .before .before .before .before .surely-allowed in
+    let count = length (c .before .before .before .before .before .before .before .before .before .before .before .before .before .before .first-frame .last .1 .1 .1 .1 .0) in
     let v : ℕ = L .u in
     let e : suc (v - 1) ≡ v + 1 - 1 = omega (arith, L .inv .0) in
     let z : v + 1 - 1 ≡ v = omega arith in
     let y : v - 1 + 1 ≡ v + 1 - 1 = omega (arith, L .inv .0) in
-    let o : suc (v - 1) ≡ v = omega (arith, L .inv .0) in (
+    let entries = entriesAt count C (a .order .now) (a .body .now) in (
       omega arith,
-      omega (arith, c .before .before .before .before .before .before .before .before .before .before .loop-test .taken),
-      next-at n ∙ ap (λ (j : ℕ). s .args .layout .l + 1 + j * (s .args .layout .i + 1)) (sym z),
+      omega (arith, n .loop-test .taken),
+      next-at n ∙ ap (λ (j : ℕ). a .layout .l + 1 + j * (a .layout .i + 1)) (sym z),
       N .kept .1 .1 .1 .1 .1 .0 ∙ L .inv .3,
       N .kept .1 .1 .1 .1 .1 .1 .0 ∙ L .inv .4,
-      λ x q r p.
-          subst (λ (t : ℕ). Covers (N .last .1 .1 .1 .1 .1 .0) (frameAt C r t)) e
-          (N .ensures x q (state C r (suc (v - 1))) (frameAt C r (v - 1)) (frameAt C r (suc (v - 1))) (L .inv .5 x q r p) (next-state (s .pre .0) p (v - 1))
-          (frame-values (s .pre .0) p (suc (v - 1)) _ (omega (arith, c .before .before .before .before .before .before .before .before .before .before .loop-test .taken)) (next-at n ∙ ap (λ (j : ℕ). s .args .layout .l + 1 + j * (s .args .layout .i + 1)) (sym o)))),
-      λ x q r p.
-          subst (λ (t : ℕ). T (everyBelow t (constrained C r))) y
-          (frame-allowed (s .pre .0) r (v - 1) (L .inv .6 x q r p)
-          (A .ensures (not-false (A .result) (c .before .before .before .before .before .before .before .if2 .left)) (frameAt C r (v - 1)) (L .inv .5 x q r p))),
+      entries-next count C (a .order .now) (a .body .now) (v - 1) (L .at + (a .layout .i + 1)) (L .can) (L .inv .5) (next-row n) (N .ensures .0)
+          ∙ ap entries e,
+      ap (λ (t : ℕ). everyBelow t (λ u. sureBelow C (entries u))) (sym y)
+          ∙ every-more (λ u. sureBelow C (entries u)) (v - 1) (L .inv .6)
+          (ap (sureBelow C) (sym (L .inv .5)) ∙ sym (k .ensures) ∙ not-false (k .result) (c .before .before .before .before .before .before .before .if2 .left)),
     )
 
 surely-allowed-requires-2 : tie.Need-surely-allowed-requires-2 Inv-loop μ-loop
-surely-allowed-requires-2 c κs = let s = c .before .before .before .before .before .before .before .before .before .before .before .before .before .before .before .before in (s .pre .0, omega (arith, c .before .before .loop .inv .3, c .before .before .before .before .before .first-frame .kept .1 .1 .1 .1 .0, s .pre .2))
+surely-allowed-requires-2 c κs = (c .before .before .before .before .before .before .before .before .before .before .before .before .before .before .before .before .pre .0, room (c .before .before))
 
 same-length-3 : tie.Need-same-length-3 Inv-loop μ-loop
-same-length-3 c = c .before .before .before .before .loop .inv .3 ∙ c .before .before .before .before .before .before .before .first-frame .kept .1 .1 .1 .1 .0
+same-length-3 c = c .before .before .before .before .loop .inv .3 ∙ size (c .before .before .before .before)
 
 same-length-4 : tie.Need-same-length-4 Inv-loop μ-loop
 same-length-4 c = c .before .before .before .before .loop .inv .4
 
 returns-3 : tie.Need-returns-3 Inv-loop μ-loop
-returns-3 c = λ e. never e
+returns-3 c =
+    let a = c .before .before .before .before .before .before .before .before .before .before .before .before .before .before .before .before .before .before .args in
+    let C = circuitIn (a .m .now) in
+    let L = c .before .before .before .before .loop in
+    let k = c .before .surely-allowed2 in
+    let n = length (c .before .before .before .before .before .before .before .first-frame .last .1 .1 .1 .1 .0) in
+    sees-frame n C (a .order .now) (a .q .bad) (a .q .frames) (a .body .now) (L .u - 1) (omega (arith, L .inv .0, L .inv .1))
+    (ap (sureBelow C) (sym (L .inv .5)) ∙ sym (k .ensures) ∙ not-true (k .result) (c .if3 .taken))
+    ∙ ap (λ (z : ℕ). seesHit z C (a .order .now) (a .q .bad) (a .q .frames) (a .body .now)) (size (c .before .before .before .before))
 
 surely-bad-requires : tie.Need-surely-bad-requires Inv-loop μ-loop
-surely-bad-requires c κs = let s = c .before .before .before .before .before .before .before .before .before .before .before .before .before .before .before .before .before .before .before in (s .pre .0, s .pre .1, omega (arith, c .before .before .before .before .before .loop .inv .3, c .before .before .before .before .before .before .before .before .first-frame .kept .1 .1 .1 .1 .0, s .pre .2))
+surely-bad-requires c κs = let s = c .before .before .before .before .before .before .before .before .before .before .before .before .before .before .before .before .before .before .before in (s .pre .0, s .pre .1, room (c .before .before .before .before .before))
 
 same-length-5 : tie.Need-same-length-5 Inv-loop μ-loop
-same-length-5 c = c .before .before .before .before .before .before .loop .inv .3 ∙ c .before .before .before .before .before .before .before .before .before .first-frame .kept .1 .1 .1 .1 .0
+same-length-5 c = c .before .before .before .before .before .before .loop .inv .3 ∙ size (c .before .before .before .before .before .before)
 
 same-length-6 : tie.Need-same-length-6 Inv-loop μ-loop
 same-length-6 c = c .before .before .before .before .before .before .loop .inv .4
 
 returns-4 : tie.Need-returns-4 Inv-loop μ-loop
 returns-4 c =
-    λ e.
-    let s = c .before .before .before .before .before .before .before .before .before .before .before .before .before .before .before .before .before .before .before .before in
-    let a = s .args in
-    let L = c .before .before .before .before .before .before .loop in
-    let A = c .before .before .before .before .before .before .before .before .before .before .before .before .before .starts-agree in
-    let B = c .before .before .before .surely-allowed2 in
+    let a = c .before .before .before .before .before .before .before .before .before .before .before .before .before .before .before .before .before .before .before .before .args in
     let C = circuitIn (a .m .now) in
-    let n : L .u ≡ a .q .frames = omega (arith, c .before .before .before .before .before .loop-test .left, L .inv .1) in
-    every-hit (s .pre .0) (a .q .bad) (a .q .frames) (a .q .eithers) (a .body .now) (s .pre .4)
-    (λ x q.
-    A .ensures (not-false (A .result) (c .before .before .before .before .before .before .before .before .before .before .before .before .if1 .left)) (values x 0 (a .layout .l))
-    (λ j k.
-    let z : 0 + j ≡ j = omega arith in
-    subst (λ (i : ℕ). Allows (getD (a .body .now) i 0) (getD (values x 0 (a .layout .l)) j false)) z (line-allows (a .body .now) x q 0 (a .layout .l) j k))
-    (values-length x 0 (a .layout .l)))
-    (λ x q r p.
-    let w = subst (λ (t : ℕ). Covers (L .can) (frameAt C r (t - 1))) n (L .inv .5 x q r p) in (
-      frame-allowed (s .pre .0) r (a .q .frames - 1) (subst (λ (t : ℕ). T (everyBelow (t - 1) (constrained C r))) n (L .inv .6 x q r p))
-          (B .ensures (not-false (B .result) (c .before .before .if3 .left)) (frameAt C r (a .q .frames - 1)) w),
-      c .surely-bad .ensures e (frameAt C r (a .q .frames - 1)) w,
-    ))
+    let L = c .before .before .before .before .before .before .loop in
+    let first = c .before .before .before .before .before .before .before .before .before .before .before .before .before .starts-agree in
+    let k = c .before .before .before .surely-allowed2 in
+    let n = length (c .before .before .before .before .before .before .before .before .before .first-frame .last .1 .1 .1 .1 .0) in
+    let entries = entriesAt n C (a .order .now) (a .body .now) in
+    let last : L .u - 1 ≡ a .q .frames - 1 = omega (arith, c .before .before .before .before .before .loop-test .left, L .inv .1) in
+    let all : L .u - 1 + 1 ≡ a .q .frames = omega (arith, c .before .before .before .before .before .loop-test .left, L .inv .0, L .inv .1) in
+    let told = L .inv .5 ∙ ap entries last in
+    sees-last n C (a .order .now) (a .q .bad) (a .q .frames) (a .body .now) (sym (first .ensures) ∙ not-false (first .result) (c .before .before .before .before .before .before .before .before .before .before .before .before .if1 .left))
+    (ap (λ (t : ℕ). everyBelow t (λ u. sureBelow C (entries u))) (sym all)
+    ∙ every-more (λ u. sureBelow C (entries u)) (L .u - 1) (L .inv .6)
+    (ap (sureBelow C) (sym (L .inv .5)) ∙ sym (k .ensures) ∙ not-false (k .result) (c .before .before .if3 .left)))
+    (c .surely-bad .ensures ∙ ap (λ (can : List ℕ). sure can (getD (C .bads) (a .q .bad) 0)) told)
+    ∙ ap (λ (z : ℕ). seesHit z C (a .order .now) (a .q .bad) (a .q .frames) (a .body .now)) (size (c .before .before .before .before .before .before))
 
 pub simulate-spec : {M : Type 1} → statement M
 simulate-spec =
     tie.close
     (tie.spec
-    Inv-loop μ-loop add-width starts-agree-requires returns add-at first-frame-requires loop-holds surely-allowed-requires same-length
-    same-length-2 returns-2 add-at-2 next-frame-requires add-u loop-less loop-again surely-allowed-requires-2 same-length-3
-    same-length-4 returns-3 surely-bad-requires same-length-5 same-length-6 returns-4)
+    Inv-loop μ-loop add-width starts-agree-requires returns add-at first-frame-requires loop-holds surely-allowed-requires
+    same-length same-length-2 returns-2 add-at-2 next-frame-requires add-u loop-less loop-again surely-allowed-requires-2
+    same-length-3 same-length-4 returns-3 surely-bad-requires same-length-5 same-length-6 returns-4)

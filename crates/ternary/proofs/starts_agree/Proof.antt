@@ -1,19 +1,18 @@
--- `ternary::starts_agree` meets its contract. Assumes nothing.
-use mathlib.Core.Path.{_≡_, refl, sym, ap, _∙_, subst}
-use mathlib.Core.Bool.{Bool, true, false, cond, _&&_, _||_}
-use mathlib.Core.List.{List}
+-- `ternary::starts_agree` meets its contract. The loop's invariant: the first j start values agree. Assumes nothing.
+use mathlib.Core.Path.{_≡_, refl, sym, ap, _∙_}
+use mathlib.Core.Bool.{Bool, true}
 use Prim.Native.Nat.{ℕ, _+_, _-_, _*_, _≤_, _<_}
 use native.Mathlib.Omega.{arith}
-use borrow.Author.Tests.{eqb-true, not-true, not-false}
-use lib.Dec.{T, eqb}
-use lib.ListN.{length, getD, set, length-set}
-use Rattle.aiger.specs.Circuit.{var}
-use Rattle.aiger.specs.Frames.{value}
+use borrow.Author.Tests.{not-true, not-false}
+use lib.ListN.{length, getD}
+use Rattle.aiger.specs.Lists.{everyBelow}
+use Rattle.aiger.specs.Circuit.{Latch}
+use Rattle.literals.proofs.Words.{word-read}
 use Rattle.layout.specs.Words.{word, circuitIn}
-use borrow.Author.Count.{below-more}
-use Rattle.frames.proofs.Facts.{latches-inside}
-use Rattle.ternary.specs.Cover.{Allows}
-use Rattle.ternary.proofs.Frames.{agrees-words, never}
+use Rattle.meaning.specs.Frame.{latchAt}
+use Rattle.frames.proofs.Facts.{latches-are, latches-inside, latch-place}
+use Rattle.ternary.specs.Entries.{startAgrees}
+use Rattle.ternary.proofs.Entries.{every-more, every-fails}
 use borrow.Author.Needs.{needs}
 use Rattle.ternary.proofs.starts_agree.Statement.{statement}
 use Rattle.ternary.proofs.starts_agree.Tie as tie
@@ -21,13 +20,12 @@ use Rattle.ternary.proofs.starts_agree.Tie as tie
 abbrev Inv-loop : tie.InvT-loop
 Inv-loop m order body count latches j₀ j =
     (j ≤ count)
-    × ((bs : List Bool) → ((i : ℕ) → i < count → Allows (getD body i 0) (getD bs i false)) → (i : ℕ) → i < j
-    → T (eqb (word m (latches + 3 * i + 2)) (word m (latches + 3 * i)) || eqb (word m (latches + 3 * i + 2)) (cond (getD bs i false) 1 0)))
+    × (everyBelow j (λ i. startAgrees (latchAt (circuitIn m) i .lit) (latchAt (circuitIn m) i .reset) (getD body i 0)) ≡ true)
 
 abbrev μ-loop : tie.MeasureT-loop
-μ-loop m order body count latches j₀ j =
-    count - j
+μ-loop m order body count latches j₀ j = count - j
 
+-- in a turn: where the words of the latch and its byte stand
 module _ (n : tie.In-loop Inv-loop μ-loop) where
   abbrev S : tie.Start Inv-loop μ-loop
   S = n .before .before .before .before .before
@@ -39,72 +37,97 @@ module _ (n : tie.In-loop Inv-loop μ-loop) where
   row = omega (arith, S .pre .1, n .loop-test .taken)
 
 loop-holds : tie.Need-loop-holds Inv-loop μ-loop
-loop-holds c = (omega arith, λ bs a i h. absurd (omega arith))
+loop-holds c = (omega arith, refl)
 
-mul-start-agrees : tie.Need-mul-start-agrees Inv-loop μ-loop
-mul-start-agrees c = omega (arith, inside c)
+mul-from-word : tie.Need-mul-from-word Inv-loop μ-loop
+mul-from-word c = omega (arith, inside c)
 
-add-start-agrees : tie.Need-add-start-agrees Inv-loop μ-loop
-add-start-agrees c = omega (arith, inside c)
+add-from-word : tie.Need-add-from-word Inv-loop μ-loop
+add-from-word c = omega (arith, inside c)
 
-mul-start-agrees-2 : tie.Need-mul-start-agrees-2 Inv-loop μ-loop
-mul-start-agrees-2 c = omega (arith, inside c)
+mul-from-word-2 : tie.Need-mul-from-word-2 Inv-loop μ-loop
+mul-from-word-2 c = omega (arith, inside c)
+
+shared-slice-read-from-word : tie.Need-shared-slice-read-from-word Inv-loop μ-loop
+shared-slice-read-from-word c = omega (arith, inside (c .before))
+
+mul-from-word-3 : tie.Need-mul-from-word-3 Inv-loop μ-loop
+mul-from-word-3 c = omega (arith, inside (c .before .before))
+
+add-from-word-2 : tie.Need-add-from-word-2 Inv-loop μ-loop
+add-from-word-2 c = omega (arith, inside (c .before .before))
+
+add-from-word-3 : tie.Need-add-from-word-3 Inv-loop μ-loop
+add-from-word-3 c = omega (arith, inside (c .before .before))
+
+mul-from-word-4 : tie.Need-mul-from-word-4 Inv-loop μ-loop
+mul-from-word-4 c = omega (arith, inside (c .before .before))
+
+shared-slice-read-from-word-2 : tie.Need-shared-slice-read-from-word-2 Inv-loop μ-loop
+shared-slice-read-from-word-2 c = omega (arith, inside (c .before .before .before))
 
 shared-slice-read-start-agrees : tie.Need-shared-slice-read-start-agrees Inv-loop μ-loop
-shared-slice-read-start-agrees c = omega (arith, inside (c .before))
+shared-slice-read-start-agrees c = row (c .before .before .before .before .before)
 
-mul-start-agrees-3 : tie.Need-mul-start-agrees-3 Inv-loop μ-loop
-mul-start-agrees-3 c = omega (arith, inside (c .before))
-
-add-start-agrees-2 : tie.Need-add-start-agrees-2 Inv-loop μ-loop
-add-start-agrees-2 c = omega (arith, inside (c .before))
-
-add-start-agrees-3 : tie.Need-add-start-agrees-3 Inv-loop μ-loop
-add-start-agrees-3 c = omega (arith, inside (c .before))
-
-mul-start-agrees-4 : tie.Need-mul-start-agrees-4 Inv-loop μ-loop
-mul-start-agrees-4 c = omega (arith, inside (c .before))
-
-shared-slice-read-start-agrees-2 : tie.Need-shared-slice-read-start-agrees-2 Inv-loop μ-loop
-shared-slice-read-start-agrees-2 c = omega (arith, inside (c .before .before))
-
-shared-slice-read-start-agrees-3 : tie.Need-shared-slice-read-start-agrees-3 Inv-loop μ-loop
-shared-slice-read-start-agrees-3 c = omega (arith, row (c .before .before .before))
-
-start-agrees-requires : tie.Need-start-agrees-requires Inv-loop μ-loop
-start-agrees-requires c κs = tt
+-- whether the latch's start value agrees
+told : (c : tie.After-start-agrees Inv-loop μ-loop)
+    → (let a = c .before .before .before .before .before .before .before .before .before .before .before .args in
+    let j = c .before .before .before .before .before .before .before .loop .j in
+    let x = latchAt (circuitIn (a .m .now)) j in
+    c .start-agrees .result ≡ startAgrees (x .lit) (x .reset) (getD (a .body .now) j 0))
+told c =
+    let s = c .before .before .before .before .before .before .before .before .before .before .before in
+    let a = s .args in
+    let n = c .before .before .before .before .before .before in
+    let j = c .before .before .before .before .before .before .before .loop .j in
+    let place = sym (latch-place (s .pre .0) j (omega (arith, n .loop-test .taken))) in
+    let own = word-read (word (a .m .now) (a .layout .latches + 3 * j)) (c .before .before .before .before .from-word .ensures) ∙ ap (λ (x : Latch). x .lit) place in
+    let reset =
+    word-read (word (a .m .now) (a .layout .latches + 3 * j + 2)) (c .before .before .from-word2 .ensures) ∙ ap (λ (x : Latch). x .reset) place in
+    c .start-agrees .ensures ∙ (λ i. startAgrees (own i) (reset i) (getD (a .body .now) j 0))
 
 returns : tie.Need-returns Inv-loop μ-loop
-returns c = λ e bs a l. never e
+returns c =
+    let s = c .before .before .before .before .before .before .before .before .before .before .before .before in
+    let a = s .args in
+    let j = c .before .before .before .before .before .before .before .before .loop .j in
+    let k = c .before in
+    let C = circuitIn (a .m .now) in
+    let below : j < length (C .latches) = omega (arith, latches-are (s .pre .0), c .before .before .before .before .before .before .before .loop-test .taken) in
+    sym (every-fails (λ i. startAgrees (latchAt C i .lit) (latchAt C i .reset) (getD (a .body .now) i 0)) (length (C .latches)) j below
+    (sym (told k) ∙ not-true (k .start-agrees .result) (c .if1 .taken)))
 
 add-j : tie.Need-add-j Inv-loop μ-loop
-add-j c = omega (arith, row (c .before .before .before .before .before))
+add-j c = omega (arith, row (c .before .before .before .before .before .before .before))
 
 loop-less : tie.Need-loop-less Inv-loop μ-loop
-loop-less c = let n = c .before .before .before .before .before in omega (arith, n .loop-test .taken)
+loop-less c = omega (arith, c .before .before .before .before .before .before .before .loop-test .taken)
 
 loop-again : tie.Need-loop-again Inv-loop μ-loop
 loop-again c =
-    let n = c .before .before .before .before .before in
-    let l = n .before in
-    let A = c .before .start-agrees in (
-      omega (arith, n .loop-test .taken),
-      λ bs a.
-          below-more _ (l .loop .j) (l .loop .inv .1 bs a)
-          (A .ensures (not-false (A .result) (c .if1 .left)) (getD bs (l .loop .j) false) (a (l .loop .j) (omega (arith, n .loop-test .taken)))),
+    let a = c .before .before .before .before .before .before .before .before .before .before .before .before .args in
+    let l = c .before .before .before .before .before .before .before .before .loop in
+    let k = c .before in
+    let C = circuitIn (a .m .now) in (
+      omega (arith, c .before .before .before .before .before .before .before .loop-test .taken),
+      every-more (λ i. startAgrees (latchAt C i .lit) (latchAt C i .reset) (getD (a .body .now) i 0)) (l .j) (l .inv .1)
+          (sym (told k) ∙ not-false (k .start-agrees .result) (c .if1 .left)),
     )
 
 returns-2 : tie.Need-returns-2 Inv-loop μ-loop
 returns-2 c =
-    λ e bs a l.
-    let h = c .before in
-    let S = h .before .before .before .before in
-    agrees-words (S .pre .0) bs l (λ j k. h .loop .inv .1 bs a j (omega (arith, c .loop-test .left)))
+    let s = c .before .before .before .before .before in
+    let a = s .args in
+    let l = c .before .loop in
+    let C = circuitIn (a .m .now) in
+    let p : ℕ → Bool = λ i. startAgrees (latchAt C i .lit) (latchAt C i .reset) (getD (a .body .now) i 0) in
+    let e : l .j ≡ length (C .latches) = omega (arith, latches-are (s .pre .0), l .inv .0, c .loop-test .left) in
+    sym (ap (λ (z : ℕ). everyBelow z p) (sym e) ∙ l .inv .1)
 
 pub starts-agree-spec : {M : Type 1} → statement M
 starts-agree-spec =
     tie.close
     (tie.spec
-    Inv-loop μ-loop loop-holds mul-start-agrees add-start-agrees mul-start-agrees-2 shared-slice-read-start-agrees mul-start-agrees-3
-    add-start-agrees-2 add-start-agrees-3 mul-start-agrees-4 shared-slice-read-start-agrees-2 shared-slice-read-start-agrees-3
-    start-agrees-requires returns add-j loop-less loop-again returns-2)
+    Inv-loop μ-loop loop-holds mul-from-word add-from-word mul-from-word-2 shared-slice-read-from-word (λ c κs. search needs)
+    mul-from-word-3 add-from-word-2 add-from-word-3 mul-from-word-4 shared-slice-read-from-word-2 (λ c κs. search needs)
+    shared-slice-read-start-agrees (λ c κs. search needs) returns add-j loop-less loop-again returns-2)

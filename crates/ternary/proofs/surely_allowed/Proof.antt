@@ -1,36 +1,33 @@
--- `ternary::surely_allowed` meets its contract. Assumes nothing.
-use mathlib.Core.Path.{_≡_, subst}
-use mathlib.Core.Bool.{Bool}
-use Prim.Native.Nat.{ℕ, _+_, _-_, _≤_, _<_}
+-- `ternary::surely_allowed` meets its contract. The loop's invariant: the first k constraints are sure. Assumes nothing.
+use mathlib.Core.Path.{_≡_, refl, sym, ap, _∙_}
+use mathlib.Core.Bool.{Bool, true}
+use Prim.Native.Nat.{ℕ, _+_, _-_, _*_, _≤_, _<_}
 use native.Mathlib.Omega.{arith}
-use borrow.Author.Tests.{not-false}
-use lib.Dec.{T}
-use lib.ListN.{length}
-use Rattle.aiger.specs.Circuit.{var}
-use Rattle.aiger.specs.Frames.{value}
+use borrow.Author.Tests.{not-true, not-false}
+use lib.ListN.{length, getD}
 use Rattle.aiger.specs.Lists.{everyBelow}
-use Rattle.layout.specs.Words.{word}
-use Rattle.frames.proofs.Facts.{constraint-inside, constraint-below}
-use Rattle.frames.proofs.Hits.{constrained-end}
-use Rattle.ternary.specs.Cover.{Covers}
-use Rattle.ternary.proofs.Frames.{every-more, never}
+use Rattle.aiger.specs.Circuit.{var}
+use Rattle.literals.specs.declared.Lit.{Lit}
+use Rattle.literals.proofs.Words.{word-read}
+use Rattle.layout.specs.Words.{word, circuitIn}
+use Rattle.frames.proofs.Facts.{constraints-are, constraint-place, constraint-inside, constraint-below}
+use Rattle.ternary.specs.Entries.{sure}
+use Rattle.ternary.proofs.Entries.{every-more, every-fails}
+use borrow.Author.Needs.{needs}
 use Rattle.ternary.proofs.surely_allowed.Statement.{statement}
 use Rattle.ternary.proofs.surely_allowed.Tie as tie
 
 abbrev Inv-loop : tie.InvT-loop
 Inv-loop m order can count constraints k₀ k =
-    (k ≤ count) × ((w : ℕ → Bool) → Covers can w → T (everyBelow k (λ j. value w (word m (constraints + j)))))
+    (k ≤ count) × (everyBelow k (λ i. sure can (getD (circuitIn m .constraints) i 0)) ≡ true)
 
 abbrev μ-loop : tie.MeasureT-loop
 μ-loop m order can count constraints k₀ k = count - k
 
--- the entry, from the loop's head
-abbrev start : tie.At-loop Inv-loop μ-loop → tie.Start Inv-loop μ-loop
-start l = l .before .before .before .before
-
+-- in a turn: where the constraint stands
 module _ (n : tie.In-loop Inv-loop μ-loop) where
   abbrev S : tie.Start Inv-loop μ-loop
-  S = start (n .before)
+  S = n .before .before .before .before .before
 
   few : n .before .loop .k < S .args .layout .c
   few = omega (arith, n .loop-test .taken)
@@ -42,57 +39,69 @@ module _ (n : tie.In-loop Inv-loop μ-loop) where
   small = constraint-below (S .pre .0) (n .before .loop .k) few
 
 loop-holds : tie.Need-loop-holds Inv-loop μ-loop
-loop-holds c = (omega arith, λ w h. tt)
+loop-holds c = (omega arith, refl)
 
-add-is-sure : tie.Need-add-is-sure Inv-loop μ-loop
-add-is-sure c = omega (arith, inside (c))
+add-from-word : tie.Need-add-from-word Inv-loop μ-loop
+add-from-word c = omega (arith, inside c)
 
-mul-is-sure : tie.Need-mul-is-sure Inv-loop μ-loop
-mul-is-sure c = omega (arith, inside (c))
+mul-from-word : tie.Need-mul-from-word Inv-loop μ-loop
+mul-from-word c = omega (arith, inside c)
 
-shared-slice-read-is-sure : tie.Need-shared-slice-read-is-sure Inv-loop μ-loop
-shared-slice-read-is-sure c = omega (arith, inside (c .before))
-
-cast-is-sure : tie.Need-cast-is-sure Inv-loop μ-loop
-cast-is-sure c = omega (arith, small (c .before))
+shared-slice-read-from-word : tie.Need-shared-slice-read-from-word Inv-loop μ-loop
+shared-slice-read-from-word c = inside (c .before)
 
 is-sure-requires : tie.Need-is-sure-requires Inv-loop μ-loop
 is-sure-requires c κs =
-    let n = c .before in
-    (omega (arith, small n, S n .pre .1), omega (arith, small n))
+    let s = c .before .before .before .before .before .before .before in
+    omega (arith, ap (λ (l : Lit). l .0 .0) (c .from-word .ensures), small (c .before .before), s .pre .1)
+
+-- whether constraint k is sure
+told : (c : tie.After-is-sure Inv-loop μ-loop)
+    → (let a = c .before .before .before .before .before .before .before .before .args in c .is-sure .result ≡ sure (a .can .now) (getD (circuitIn (a .m .now) .constraints) (c .before .before .before .before .loop .k) 0))
+told c =
+    let s = c .before .before .before .before .before .before .before .before in
+    let a = s .args in
+    let k = c .before .before .before .before .loop .k in
+    let own = word-read (word (a .m .now) (a .layout .constraints + k)) (c .before .from-word .ensures) in
+    c .is-sure .ensures ∙ ap (sure (a .can .now)) (own ∙ sym (constraint-place (s .pre .0) k (few (c .before .before .before))))
 
 returns : tie.Need-returns Inv-loop μ-loop
-returns c = λ e w h. never e
+returns c =
+    let s = c .before .before .before .before .before .before .before .before .before in
+    let a = s .args in
+    let k = c .before in
+    let cs = circuitIn (a .m .now) .constraints in
+    sym (every-fails (λ i. sure (a .can .now) (getD cs i 0)) (length cs) (c .before .before .before .before .before .loop .k) (omega (arith, constraints-are (s .pre .0), few (c .before .before .before .before)))
+    (sym (told k) ∙ not-true (k .is-sure .result) (c .if1 .taken)))
 
 add-k : tie.Need-add-k Inv-loop μ-loop
-add-k c = omega (arith, inside (c .before .before .before))
+add-k c = omega (arith, inside (c .before .before .before .before))
 
 loop-less : tie.Need-loop-less Inv-loop μ-loop
-loop-less c = omega (arith, c .before .before .before .loop-test .taken)
+loop-less c = omega (arith, c .before .before .before .before .loop-test .taken)
 
 loop-again : tie.Need-loop-again Inv-loop μ-loop
 loop-again c =
-    let n = c .before .before .before in
-    let L = c .before .before .before .before .loop in
-    let A = c .before .is-sure in (
-      omega (arith, c .before .before .before .loop-test .taken),
-      λ w h.
-          every-more (L .k) (λ j. value w (word (S n .args .m .now) (S n .args .layout .constraints + j))) (L .inv .1 w h)
-          (A .ensures (not-false (A .result) (c .if1 .left)) w h),
+    let a = c .before .before .before .before .before .before .before .before .before .args in
+    let l = c .before .before .before .before .before .loop in
+    let k = c .before in (
+      omega (arith, c .before .before .before .before .loop-test .taken),
+      every-more (λ i. sure (a .can .now) (getD (circuitIn (a .m .now) .constraints) i 0)) (l .k) (l .inv .1)
+          (sym (told k) ∙ not-false (k .is-sure .result) (c .if1 .left)),
     )
 
 returns-2 : tie.Need-returns-2 Inv-loop μ-loop
 returns-2 c =
-    λ e w h.
-    let L = c .before .loop in
-    let a = c .before .before .before .before .before .args in
-    let p : ℕ → Bool = λ j. value w (word (a .m .now) (a .layout .constraints + j)) in
-    let n : L .k ≡ a .layout .c = omega (arith, c .loop-test .left, L .inv .0) in
-    subst T (constrained-end (c .before .before .before .before .before .pre .0) w) (subst (λ (k : ℕ). T (everyBelow k p)) n (L .inv .1 w h))
+    let s = c .before .before .before .before .before in
+    let a = s .args in
+    let l = c .before .loop in
+    let cs = circuitIn (a .m .now) .constraints in
+    let e : l .k ≡ length cs = omega (arith, constraints-are (s .pre .0), l .inv .0, c .loop-test .left) in
+    sym (ap (λ (z : ℕ). everyBelow z (λ i. sure (a .can .now) (getD cs i 0))) (sym e) ∙ l .inv .1)
 
 pub surely-allowed-spec : {M : Type 1} → statement M
 surely-allowed-spec =
     tie.close
     (tie.spec
-    Inv-loop μ-loop loop-holds add-is-sure mul-is-sure shared-slice-read-is-sure cast-is-sure is-sure-requires returns add-k loop-less
-    loop-again returns-2)
+    Inv-loop μ-loop loop-holds add-from-word mul-from-word shared-slice-read-from-word (λ c κs. search needs) is-sure-requires
+    returns add-k loop-less loop-again returns-2)
