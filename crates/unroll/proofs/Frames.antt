@@ -31,7 +31,8 @@ use Rattle.nodes.specs.declared.Edge.{Edge}
 use Rattle.nodes.proofs.Laws.{edge-false, edge-true, word-node, nodes-pairsOf}
 use Rattle.graph.specs.Stored.{Stored}
 use Rattle.graph.specs.declared.Made.{Made}
-use Rattle.unroll.specs.Map.{Written, latchVar, inputVar, startWord, nextWord, inputWord, Blank, Edges, mapped, Valued, Allowed, Extensible, Grown, Agrees, GatesMapped, ConstrainedMapped, Framed, HitMapped, FramesFit}
+use Rattle.unroll.specs.Map.{Written, latchVar, inputVar, startWord, nextWord, inputWord, Blank, Edges, mapped}
+use Rattle.unroll.specs.Map.{Valued, Allowed, Extensible, Grown, Agrees, GatesMapped, ConstrainedMapped, Framed, HitMapped, FramesFit}
 use Rattle.unroll.proofs.Edges.{literal-edge, free-node, start-node, literal-value, free-value, start-value}
 use Rattle.unroll.proofs.Stores.{written-edges}
 use Rattle.unroll.proofs.Facts.{input-nonzero, latch-nonzero, product-next, product-le}
@@ -241,7 +242,8 @@ module _ {m : List ℕ} {layout : Layout} {order : List ℕ} {count : ℕ} (r : 
       }
 
   -- one frame more
-  pub framed-next : (first : ℕ) {work mid last map after : List ℕ} {before : Made} {h : Graph} {made : Made} → NextMapped (circuitIn m) (before .graph .free) first work (before .graph) map mid h after
+  pub framed-next : (first : ℕ) {work mid last map after : List ℕ} {before : Made} {h : Graph} {made : Made}
+      → NextMapped (circuitIn m) (before .graph .free) first work (before .graph) map mid h after
       → ConstrainedMapped (circuitIn m) (before .edge) (h .free) mid h after last made → (t u room : ℕ) → u < t
       → first ≡ freeStarts (circuitIn m) + length (circuitIn m .inputs) * (u + 1) → Framed (circuitIn m) t u (before .graph .free) room work before map
       → Framed (circuitIn m) t (u + 1) (before .graph .free) room last made after

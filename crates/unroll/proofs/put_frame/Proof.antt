@@ -14,8 +14,9 @@ put-gates-requires c κs =
 
 constrain-requires : tie.Need-constrain-requires
 constrain-requires c κs =
-    let S = c .before .before .before .before .before .before .before .before .before .before .before .before .before in
-    let P = c .before .before .before .before .before .before .put-gates in
+    let g = c .before .before .before .before .before .before in
+    let S = g .before .before .before .before .before .before .before in
+    let P = g .put-gates in
     let u = P .ensures in
     let x = S .pre .1 .0 in (
       (S .args .order .now, ready-with (S .pre .0) (P .kept .1 .1 .1 .1 .1 .0)),
@@ -30,7 +31,9 @@ constrain-requires c κs =
     )
 
 same-length : tie.Need-same-length
-same-length c = c .before .before .constrain .kept .0 ∙ c .before .before .before .before .before .before .before .before .before .put-gates .kept .0
+same-length c =
+    let k = c .before .before in
+    k .constrain .kept .0 ∙ k .before .before .before .before .before .before .before .put-gates .kept .0
 
 same-length-2 : tie.Need-same-length-2
 same-length-2 c = c .before .before .before .before .before .before .before .before .before .put-gates .kept .1 .1 .1 .1 .1 .0

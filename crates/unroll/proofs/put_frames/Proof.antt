@@ -40,25 +40,25 @@ add-put-leaves c =
     let z = F .framed .stored .sized in
     omega (arith, row-within (S .args .layout .i) (c .before .loop .u) (S .args .t) (omega arith), F .bits, z .leaves, z .nodes, z .room)
 
-slice-aggregate-put-leaves : tie.Need-slice-aggregate-put-leaves Inv-loop μ-loop
-slice-aggregate-put-leaves c = search needs
-
 put-leaves-requires : tie.Need-put-leaves-requires Inv-loop μ-loop
 put-leaves-requires c κs =
     let S = c .before .before .before .before .before .before .before .before in
     let L = c .before .before .before .loop in
     let F = S .pre .1 in
-    let z = F .framed .stored .sized in (
+    let z = F .framed .stored .sized in
+    let w = row-within (S .args .layout .i) (L .u) (S .args .t) (omega arith) in (
       (S .args .order .now, ready-with (S .pre .0) (L .inv .2)),
-      (omega (arith, row-within (S .args .layout .i) (L .u) (S .args .t) (omega arith), F .bits, z .leaves, z .nodes, z .room), omega (arith, L .inv .3)),
+      (omega (arith, w, F .bits, z .leaves, z .nodes, z .room), omega (arith, L .inv .3)),
     )
 
 put-frame-requires : tie.Need-put-frame-requires Inv-loop μ-loop
 put-frame-requires c κs =
-    let S = c .before .before .before .before .before .before .before .before .before .before .before .before .before .before in
-    let L = c .before .before .before .before .before .before .before .before .before .loop in
+    let p = c .before .before .before .before .before in
+    let l = p .before .before .before .before in
+    let S = l .before .before .before .before .before in
+    let L = l .loop in
     let F = S .pre .1 in
-    let P = c .before .before .before .before .before .put-leaves in
+    let P = p .put-leaves in
     let v = P .ensures in
     let h : L .u + 1 ≤ S .args .t = omega (arith, c .before .before .before .before .before .before .before .before .loop-test .taken) in
     let x = frame-room (S .pre .0) F h (L .inv .4) in (
@@ -68,7 +68,8 @@ put-frame-requires c κs =
           stored = x .stored;
           room = x .room;
           edges =
-              moved-edges (S .pre .0) (v .state) (v .next) (v .latches) _ (v .inputs) (L .made .graph) (x .stored .sized .leaves)
+              moved-edges (S .pre .0) (v .state) (v .next) (v .latches) _ (v .inputs) (L .made .graph)
+              (x .stored .sized .leaves)
               (omega (arith, row-within (S .args .layout .i) (L .u) (S .args .t) h, F .bits, L .inv .4 .free)) (x .edges);
         },
         L .inv .4 .node,
@@ -80,24 +81,29 @@ loop-less c = omega arith
 
 loop-again : tie.Need-loop-again Inv-loop μ-loop
 loop-again c =
-    let S = c .before .before .before .before .before .before .before .before .before .before .before .before .before .before .before .before .before .before .before in
-    let L = c .before .before .before .before .before .before .before .before .before .before .before .before .before .before .loop in
-    let G = c .before .before .before .before .before .before .before .before .before .before .put-leaves in
-    let P = c .before .before .before .before .put-frame in
+    let p = c .before .before .before .before in
+    let g = p .before .before .before .before .before .before in
+    let l = g .before .before .before .before in
+    let S = l .before .before .before .before .before in
+    let L = l .loop in
+    let G = g .put-leaves in
+    let P = p .put-frame in
     let r = S .pre .0 in
+    let room = S .args .first .graph .room in
     let C = circuitIn (S .args .m .now) in
     let f = L .inv .4 in
     let v = G .ensures in
-    let l : L .u + 1 ≤ S .args .t = omega (arith, c .before .before .before .before .before .before .before .before .before .before .before .before .before .loop-test .taken) in (
-      l,
+    let w = g .before .before .before in
+    let less : L .u + 1 ≤ S .args .t = omega (arith, w .loop-test .taken) in (
+      less,
       P .kept .0 ∙ L .inv .1,
       P .kept .1 .1 .1 .1 .1 .0 ∙ G .kept .1 .1 .1 .1 .0 ∙ L .inv .2,
       G .kept .1 .1 .1 .0 ∙ L .inv .3,
-      subst (λ (n : ℕ). Framed C (S .args .t) (L .u + 1) n (S .args .first .graph .room) (P .last .0) (P .result) (P .last .1 .1 .1 .1 .1 .0)) (f .free)
-          (framed-next r _ (next-mapped r (v .state) (v .next) (v .latches) _ (v .inputs) (P .ensures .gates)) (P .ensures .constraints) (S .args .t)
-          (L .u) (S .args .first .graph .room) (omega arith)
+      subst (λ (n : ℕ). Framed C (S .args .t) (L .u + 1) n room (P .last .0) (P .result) (P .last .1 .1 .1 .1 .1 .0)) (f .free)
+          (framed-next r _ (next-mapped r (v .state) (v .next) (v .latches) _ (v .inputs) (P .ensures .gates))
+          (P .ensures .constraints) (S .args .t) (L .u) room (omega (arith, less))
           (ap₂ (λ (s i : ℕ). s + i * (L .u + 1)) (r .layout-of .u-is) (inputs-are (r .held) (r .layout-of)))
-          (subst (λ (n : ℕ). Framed C (S .args .t) (L .u) n (S .args .first .graph .room) (L .work) (L .made) (L .map)) (sym (f .free)) f)),
+          (subst (λ (n : ℕ). Framed C (S .args .t) (L .u) n room (L .work) (L .made) (L .map)) (sym (f .free)) f)),
     )
 
 same-length : tie.Need-same-length Inv-loop μ-loop
@@ -110,12 +116,14 @@ returns : tie.Need-returns Inv-loop μ-loop
 returns c =
     let S = c .before .before .before .before .before .before in
     let L = c .before .loop in
+    let C = circuitIn (S .args .m .now) in
+    let g = S .args .first .graph in
     let e : L .u ≡ S .args .t = omega arith in
-    subst (λ (u : ℕ). Framed (circuitIn (S .args .m .now)) (S .args .t) u (S .args .first .graph .free) (S .args .first .graph .room) (L .work) (L .made) (L .map)) e (L .inv .4)
+    subst (λ (u : ℕ). Framed C (S .args .t) u (g .free) (g .room) (L .work) (L .made) (L .map)) e (L .inv .4)
 
 pub put-frames-spec : {M : Type 1} → statement M
 put-frames-spec =
     tie.close
     (tie.spec
-    Inv-loop μ-loop loop-holds add-u mul-put-leaves add-put-leaves slice-aggregate-put-leaves put-leaves-requires put-frame-requires loop-less
+    Inv-loop μ-loop loop-holds add-u mul-put-leaves add-put-leaves (λ c. search needs) put-leaves-requires put-frame-requires loop-less
     loop-again same-length same-length-2 returns)

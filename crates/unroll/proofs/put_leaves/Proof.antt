@@ -21,13 +21,23 @@ same-length : tie.Need-same-length
 same-length c = c .before .before .before .before .before .before .before .before .before .before .before .next-state .kept .1 .1 .1 .0
 
 same-length-2 : tie.Need-same-length-2
-same-length-2 c = c .before .before .put-inputs .kept .1 .1 .1 .0 ∙ c .before .before .before .before .before .before .put-state .kept .1 .1 .1 .0
+same-length-2 c =
+    let q = c .before .before in
+    let p = q .before .before .before .before in
+    q .put-inputs .kept .1 .1 .1 .0 ∙ p .put-state .kept .1 .1 .1 .0
 
 returns : tie.Need-returns
 returns c =
-    let N = c .before .before .before .before .before .before .before .before .before .before .before .next-state in
-    let P = c .before .before .before .before .before .before .put-state in
-    record { state = N .last .1 .1 .1 .0; moved = P .last .1 .1 .1 .0; next = N .ensures; latches = P .ensures; inputs = c .before .before .put-inputs .ensures }
+    let q = c .before .before in
+    let p = q .before .before .before .before in
+    let n = p .before .before .before .before .before in
+    record {
+      state = n .next-state .last .1 .1 .1 .0;
+      moved = p .put-state .last .1 .1 .1 .0;
+      next = n .next-state .ensures;
+      latches = p .put-state .ensures;
+      inputs = q .put-inputs .ensures;
+    }
 
 pub put-leaves-spec : {M : Type 1} → statement M
 put-leaves-spec =

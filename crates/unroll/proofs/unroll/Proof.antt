@@ -24,30 +24,48 @@ first-frame-requires c κs =
 
 put-frames-requires : tie.Need-put-frames-requires
 put-frames-requires c κs =
-    let S = c .before .before .before .before .before .before .before .before .before .before .before .before .before .before .before .before .before in
-    let E = c .before .before .before .before .before .before .before .before .before .before .start in
-    let F = c .before .before .before .before .before .first-frame in
+    let f = c .before .before .before .before .before in
+    let e = f .before .before .before .before .before in
+    let S = e .before .before .before .before .before .before .before in
+    let E = e .start in
+    let F = f .first-frame in
     (ready-with (S .pre .ready) (F .kept .1 .1 .1 .1 .1 .0), frames-fit (S .pre) (E .ensures .0) (E .ensures .1) (F .ensures))
 
 hit-edge-requires : tie.Need-hit-edge-requires
 hit-edge-requires c κs =
-    let S = c .before .before .before .before .before .before .before .before .before .before .before .before .before .before .before .before .before .before .before .before .before .before .before in
-    let E = c .before .before .before .before .before .before .before .before .before .before .before .before .before .before .before .before .start in
-    let F = c .before .before .before .before .before .before .before .before .before .before .before .first-frame in
-    let G = c .before .before .before .before .before .put-frames in (
+    let g = c .before .before .before .before .before in
+    let f = g .before .before .before .before .before .before in
+    let e = f .before .before .before .before .before in
+    let S = e .before .before .before .before .before .before .before in
+    let E = e .start in
+    let F = f .first-frame in
+    let G = g .put-frames in (
       (S .args .order .now, ready-with (S .pre .ready) (G .kept .1 .1 .1 .1 .1 .1 .0 ∙ F .kept .1 .1 .1 .1 .1 .0)),
-      (hit-fits (S .pre) (E .ensures .0) (E .ensures .1) (F .ensures) (G .ensures), (hit-node (S .pre) (E .ensures .0) (E .ensures .1) (F .ensures) (G .ensures), S .pre .bad)),
+      (
+        hit-fits (S .pre) (E .ensures .0) (E .ensures .1) (F .ensures) (G .ensures),
+        (hit-node (S .pre) (E .ensures .0) (E .ensures .1) (F .ensures) (G .ensures), S .pre .bad),
+      ),
     )
 
 same-length : tie.Need-same-length
 same-length c =
-    c .before .before .hit-edge .kept .0 ∙ c .before .before .before .before .before .before .before .before .put-frames .kept .0 ∙ c .before .before .before .before .before .before .before .before .before .before .before .before .before .before .first-frame .kept .0 ∙ c .before .before .before .before .before .before .before .before .before .before .before .before .before .before .before .before .before .before .before .start .kept .0
+    let h = c .before .before in
+    let g = h .before .before .before .before .before .before in
+    let f = g .before .before .before .before .before .before in
+    let e = f .before .before .before .before .before in
+    h .hit-edge .kept .0 ∙ g .put-frames .kept .0 ∙ f .first-frame .kept .0 ∙ e .start .kept .0
 
 returns : tie.Need-returns
 returns c =
-    let E = c .before .before .before .before .before .before .before .before .before .before .before .before .before .before .before .before .before .before .before .start in
-    let H = c .before .before .hit-edge in
-    unrolled (c .before .before .before .before .before .before .before .before .before .before .before .before .before .before .before .before .before .before .before .before .before .before .before .before .before .before .pre) (E .ensures .0) (E .ensures .1) (c .before .before .before .before .before .before .before .before .before .before .before .before .before .before .first-frame .ensures) (c .before .before .before .before .before .before .before .before .put-frames .ensures) (H .last .0) (H .result) (H .ensures)
+    let h = c .before .before in
+    let g = h .before .before .before .before .before .before in
+    let f = g .before .before .before .before .before .before in
+    let e = f .before .before .before .before .before in
+    let S = e .before .before .before .before .before .before .before in
+    let E = e .start in
+    let H = h .hit-edge in
+    unrolled (S .pre) (E .ensures .0) (E .ensures .1) (f .first-frame .ensures) (g .put-frames .ensures)
+    (H .last .0) (H .result) (H .ensures)
 
 pub unroll-spec : {M : Type 1} → statement M
 unroll-spec =
