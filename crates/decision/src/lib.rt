@@ -118,7 +118,7 @@ fn prepare(m: &[u32], layout: Layout, order: &[u32], b: usize, t: usize, work: &
     ensures { λ r. ⌜ Prepared (circuitIn (now (m .entry))) b t (now (work .exit)) r ⌝ }
 {
     let room = limits::size(layout, t);
-    let made = unroll::unroll(work, m, layout, order, b, t, layout.u, room);
+    let made = unroll::unroll(work, m, layout, order, b, t, room);
     let graph = made.graph;
     let root = made.edge;
     cone::mark(work, graph, root);

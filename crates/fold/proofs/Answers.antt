@@ -7,7 +7,7 @@ use native.Mathlib.Omega.{arith}
 use lib.Dec.{leb}
 use lib.ListN.{length}
 use Rattle.aiger.specs.Load.{refused, gives}
-use Rattle.aiger.specs.Frames.{freeStarts, size}
+use Rattle.aiger.specs.Frames.{size}
 use Rattle.aiger.specs.Memory.{Holds}
 use Rattle.aiger.specs.Operations.{need, judge, Operated, Folded, foldTests}
 use Rattle.layout.specs.Words.{circuitIn}
@@ -26,10 +26,9 @@ module _ {m : List ℕ} (held : Holds m (circuitIn m)) {b t : ℕ} {work out : L
   refused-with e = Operated.refuses (circuitIn m) held e
 
   -- where all tests pass, the frame can be folded
-  pub fits : {p : Layout} {order : List ℕ} {starts : ℕ} → LayoutOf m p → Ordered (circuitIn m) order → 3072 ≤ length order
-      → starts ≡ freeStarts (circuitIn m)
-      → judge (foldTests (circuitIn m) b t (length work) (length out)) ≡ gives tt → FoldFits m p order b t starts work out
-  fits a o l s e =
+  pub fits : {p : Layout} {order : List ℕ} → LayoutOf m p → Ordered (circuitIn m) order → 3072 ≤ length order
+      → judge (foldTests (circuitIn m) b t (length work) (length out)) ≡ gives tt → FoldFits m p order b t work out
+  fits a o l e =
       let N = 24 * size (circuitIn m) t + 64 in
       let both = passed (circuitIn m) b t true (length work) (need 13 (leb N (length out)) ∷ []) e in
       let q = both .0 in
@@ -37,7 +36,6 @@ module _ {m : List ℕ} (held : Holds m (circuitIn m)) {b t : ℕ} {work out : L
         ready = record { held = held; layout-of = a; ordered = o; ranks = l; room = omega (arith, counts held .maxVar, top-is m) };
         bad = omega (arith, q .bad, bad-count m);
         last = q .bound;
-        starts-are = s;
         small = q .small;
         words = q .words;
         output = length-enough N (length out) (both .1);

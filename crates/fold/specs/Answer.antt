@@ -6,7 +6,7 @@ use lib.Dec.{T}
 use lib.ListN.{length}
 use Rattle.aiger.specs.Circuit.{Circuit}
 use Rattle.aiger.specs.Load.{Answer, refused, gives}
-use Rattle.aiger.specs.Frames.{freeStarts, size}
+use Rattle.aiger.specs.Frames.{size}
 use Rattle.aiger.specs.Fold.{folds}
 use Rattle.aiger.specs.Write.{write}
 use Rattle.layout.specs.Words.{word, circuitIn}
@@ -23,11 +23,10 @@ answered (Length n) = gives n
 answered (Refused n) = refused n
 
 -- a circuit that is ready, and memory and output for its fold
-pub record FoldFits (m : List ℕ) (p : Layout) (order : List ℕ) (b t starts : ℕ) (work out : List ℕ) : Type 0 where
+pub record FoldFits (m : List ℕ) (p : Layout) (order : List ℕ) (b t : ℕ) (work out : List ℕ) : Type 0 where
   pub ready : Ready m p order 4097
   pub bad : b < word m 5
   pub last : t ≤ 255
-  pub starts-are : starts ≡ freeStarts (circuitIn m)
   pub small : size (circuitIn m) t ≤ 65536
   pub words : 16 * size (circuitIn m) t ≤ length work
   pub output : 24 * size (circuitIn m) t + 64 ≤ length out

@@ -152,22 +152,21 @@ pub fn judge(layout: Layout, b: u64, t: u64, room: usize, len: usize) -> Ruling
     Ruling::Accepted
 }
 
-// Folds frame t of a circuit that is ready. starts is the number of latches with a free start.
+// Folds frame t of a circuit that is ready.
 fn fold_frame(
     m: &[u32],
     layout: Layout,
     order: &[u32],
     b: usize,
     t: usize,
-    starts: usize,
     work: &mut [u32],
     out: &mut [u8],
 ) -> usize
-    requires { ⌜ FoldFits (now m) layout (now order) b t starts (now work) (now out) ⌝ }
+    requires { ⌜ FoldFits (now m) layout (now order) b t (now work) (now out) ⌝ }
     ensures { λ r. ⌜ FoldShown (circuitIn (now (m .entry))) b t (now (out .entry)) r (now (out .exit)) ⌝ }
 {
     let room = limits::size(layout, t);
-    let made = unroll::unroll(work, m, layout, order, b, t, starts, room);
+    let made = unroll::unroll(work, m, layout, order, b, t, room);
     let graph = made.graph;
     let root = made.edge;
     cone::mark(work, graph, root);
@@ -188,15 +187,6 @@ pub fn fold(m: &[u32], b: u64, t: u64, work: &mut [u32], out: &mut [u8]) -> Fold
     if let Ruling::Refused(n) = judge(layout, b, t, work.len(), out.len()) {
         return FoldAnswer::Refused(n);
     }
-    let length = fold_frame(
-        m,
-        layout,
-        &order,
-        b as usize,
-        t as usize,
-        layout.u,
-        work,
-        out,
-    );
+    let length = fold_frame(m, layout, &order, b as usize, t as usize, work, out);
     FoldAnswer::Length(length)
 }

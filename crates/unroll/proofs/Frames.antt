@@ -31,13 +31,29 @@ use Rattle.nodes.specs.declared.Edge.{Edge}
 use Rattle.nodes.proofs.Laws.{edge-false, edge-true, word-node, nodes-pairsOf}
 use Rattle.graph.specs.Stored.{Stored}
 use Rattle.graph.specs.declared.Made.{Made}
-use Rattle.unroll.specs.Map.{Written, latchVar, inputVar, startWord, nextWord, inputWord, Blank, Edges, mapped, Valued, Allowed, Extensible, GatesMapped, FirstMapped, NextMapped, ConstrainedMapped, Framed, FrameNext, HitMapped, FramesFit}
+use Rattle.unroll.specs.Map.{Written, latchVar, inputVar, startWord, nextWord, inputWord, Blank, Edges, mapped}
+use Rattle.unroll.specs.Map.{Valued, Allowed, Extensible, Grown, Agrees, GatesMapped, ConstrainedMapped, Framed, HitMapped, FramesFit}
 use Rattle.unroll.proofs.Edges.{literal-edge, free-node, start-node, literal-value, free-value, start-value}
 use Rattle.unroll.proofs.Stores.{written-edges}
 use Rattle.unroll.proofs.Facts.{input-nonzero, latch-nonzero, product-next, product-le}
 use Rattle.unroll.proofs.Growth.{mapped-kept}
-use Rattle.unroll.specs.Chosen.{leavesMade, moving, firstMade, nextMade, framesMade}
+use Rattle.unroll.specs.Chosen.{Mapping, leavesMade, moving, firstMade, nextMade, framesMade}
 use Rattle.unroll.proofs.Follows.{next-words, leaves-follow, first-follows, framing-first, framing-next}
+
+-- the gates of frame 0
+pub record FirstMapped (c : Circuit) (n : ℕ) (work : List ℕ) (g : Graph) (last : List ℕ) (h : Graph) (after : List ℕ) : Type 0 where
+  pub grown : Grown n (length (c .gates)) work g last h
+  pub edges : Edges h after
+  pub values : (t : ℕ) → n ≡ freeBits c t → Valued c t 0 n last h after
+  pub follows : pairsOf work g ≡ [] → Agrees (firstMade c n) last h after
+
+-- the gates of the frame after u, where its first input has free bit `first`
+pub record NextMapped (c : Circuit) (n first : ℕ) (work : List ℕ) (g : Graph) (map last : List ℕ) (h : Graph) (after : List ℕ) : Type 0 where
+  pub grown : Grown n (length (c .gates)) work g last h
+  pub edges : Edges h after
+  pub values : (t u : ℕ) → n ≡ freeBits c t → u < t → first ≡ freeStarts c + length (c .inputs) * (u + 1) → Valued c t u n work g map
+      → Valued c t (u + 1) n last h after
+  pub follows : (s : Mapping) → Agrees s work g map → Agrees (nextMade c n first s) last h after
 
 module _ {m : List ℕ} {layout : Layout} {order : List ℕ} {count : ℕ} (r : Ready m layout order count) where
   -- ---- the inputs
@@ -226,8 +242,11 @@ module _ {m : List ℕ} {layout : Layout} {order : List ℕ} {count : ℕ} (r : 
       }
 
   -- one frame more
-  pub framed-next : (first : ℕ) {work mid last map after : List ℕ} {before : Made} {h : Graph} {made : Made} → NextMapped (circuitIn m) (before .graph .free) first work (before .graph) map mid h after
-      → ConstrainedMapped (circuitIn m) (before .edge) (h .free) mid h after last made → FrameNext (circuitIn m) first work before map last made after
+  pub framed-next : (first : ℕ) {work mid last map after : List ℕ} {before : Made} {h : Graph} {made : Made}
+      → NextMapped (circuitIn m) (before .graph .free) first work (before .graph) map mid h after
+      → ConstrainedMapped (circuitIn m) (before .edge) (h .free) mid h after last made → (t u room : ℕ) → u < t
+      → first ≡ freeStarts (circuitIn m) + length (circuitIn m .inputs) * (u + 1) → Framed (circuitIn m) t u (before .graph .free) room work before map
+      → Framed (circuitIn m) t (u + 1) (before .graph .free) room last made after
   framed-next first {work = work} {mid = mid} {last = last} {map = map} {after = after} {before = before} {h = h} {made = made} s k′ t u room less at f =
       let c = circuitIn m in
       let n = before .graph .free in
@@ -254,7 +273,7 @@ module _ {m : List ℕ} {layout : Layout} {order : List ℕ} {count : ℕ} (r : 
       }
 
   -- there is room for the next frame
-  pub frame-room : {t u starts : ℕ} {work last after : List ℕ} {start made : Made} {map : List ℕ} → FramesFit m layout t starts work start map → u + 1 ≤ t
+  pub frame-room : {t u : ℕ} {work last after : List ℕ} {start made : Made} {map : List ℕ} → FramesFit m layout t work start map → u + 1 ≤ t
       → Framed (circuitIn m) t u (start .graph .free) (start .graph .room) last made after → Extensible (layout .a + layout .c) last (made .graph) after
   frame-room {t} {u} f l w =
       let a = length (circuitIn m .gates) + length (circuitIn m .constraints) in

@@ -28,30 +28,30 @@ blank-zeros zero v = refl
 blank-zeros (suc n) zero = refl
 blank-zeros (suc n) (suc v) = blank-zeros n v
 
-module _ {work m : List ℕ} {layout : Layout} {order : List ℕ} {b t starts room : ℕ} (f : UnrollFits work m layout order b t starts room) where
-  free-is : starts + layout .i * (t + 1) ≡ freeBits (circuitIn m) t
-  free-is = bits-are (circuitIn m) t (f .starts-are) (inputs-are (f .ready .held) (f .ready .layout-of))
+module _ {work m : List ℕ} {layout : Layout} {order : List ℕ} {b t room : ℕ} (f : UnrollFits work m layout order b t room) where
+  free-is : layout .u + layout .i * (t + 1) ≡ freeBits (circuitIn m) t
+  free-is = bits-are (circuitIn m) t (f .ready .layout-of .u-is) (inputs-are (f .ready .held) (f .ready .layout-of))
 
   -- the free bits, the gates and constraints of each frame, and the bad line
-  pub room-enough : starts + layout .i * (t + 1) + 1 + (layout .a + layout .c) * (t + 1) + 1 ≤ room
+  pub room-enough : layout .u + layout .i * (t + 1) + 1 + (layout .a + layout .c) * (t + 1) + 1 ≤ room
   room-enough =
       let e : layout .a + layout .c ≡ length (circuitIn m .gates) + length (circuitIn m .constraints) = omega (arith, gates-are (f .ready), constraints-are (f .ready)) in
       omega (arith, free-is, size-enough (circuitIn m) t, f .room-is, ap (λ (k : ℕ). k * (t + 1)) e)
 
-  pub start-enough : Enough (starts + layout .i * (t + 1)) room (length work)
+  pub start-enough : Enough (layout .u + layout .i * (t + 1)) room (length work)
   start-enough = record { leaves = omega (arith, room-enough); most = f .most; held = f .held }
 
-  module _ {first : List ℕ} {e : Graph} (empty : e ≡ emptyGraph (starts + layout .i * (t + 1)) room) (s : Stored first e) where
-    nodes-are : e .nodes ≡ starts + layout .i * (t + 1) + 1
+  module _ {first : List ℕ} {e : Graph} (empty : e ≡ emptyGraph (layout .u + layout .i * (t + 1)) room) (s : Stored first e) where
+    nodes-are : e .nodes ≡ layout .u + layout .i * (t + 1) + 1
     nodes-are = ap (λ (g : Graph). g .nodes) empty
 
-    free-are : e .free ≡ starts + layout .i * (t + 1)
+    free-are : e .free ≡ layout .u + layout .i * (t + 1)
     free-are = ap (λ (g : Graph). g .free) empty
 
     room-are : e .room ≡ room
     room-are = ap (λ (g : Graph). g .room) empty
 
-    pub first-fits : (map : List ℕ) → Blank map → FirstFits m layout starts first e map
+    pub first-fits : (map : List ℕ) → Blank map → FirstFits layout first e map
     first-fits map z =
         record {
           blank = z;
@@ -60,7 +60,6 @@ module _ {work m : List ℕ} {layout : Layout} {order : List ℕ} {b t starts ro
             room = omega (arith, nodes-are, room-are, room-enough, product-le (layout .a + layout .c) {u = 1} {t = t + 1} (omega arith));
             edges = λ v. omega (arith, z v, nodes-are);
           };
-          starts-are = f .starts-are;
           bits = omega (arith, free-are, product-le (layout .i) {u = 1} {t = t + 1} (omega arith));
         }
 
@@ -69,14 +68,13 @@ module _ {work m : List ℕ} {layout : Layout} {order : List ℕ} {b t starts ro
       framed : Framed (circuitIn m) t 0 (e .free) (e .room) second g map
       framed = u (no-gates first _ _ empty) t
 
-      pub frames-fit : FramesFit m layout t starts second g map
+      pub frames-fit : FramesFit m layout t second g map
       frames-fit =
           record {
             framed =
                 subst (λ (n : ℕ). Framed (circuitIn m) t 0 n (g .graph .room) second g map) (sym (framed .free))
                 (subst (λ (n : ℕ). Framed (circuitIn m) t 0 (e .free) n second g map) (sym (framed .room-is)) framed);
             room = omega (arith, framed .free, framed .room-is, free-are, room-are, room-enough);
-            starts-are = f .starts-are;
             bits = omega (arith, framed .free, free-are);
           }
 

@@ -107,21 +107,13 @@ pub record GatesMapped (c : Circuit) (n : ℕ) (work : List ℕ) (g : Graph) (ma
       → Valuation c row st (mapped n last h after x)
   pub follows : (s : Mapping) → Agrees s work g map → Agrees (gatesMade c n (length (c .gates)) s) last h after
 
--- frame 0
-pub record FirstMapped (c : Circuit) (n : ℕ) (work : List ℕ) (g : Graph) (last : List ℕ) (h : Graph) (after : List ℕ) : Type 0 where
-  pub grown : Grown n (length (c .gates)) work g last h
-  pub edges : Edges h after
-  pub values : (t : ℕ) → n ≡ freeBits c t → Valued c t 0 n last h after
-  pub follows : pairsOf work g ≡ [] → Agrees (firstMade c n) last h after
-
--- the frame after u, where its first input has free bit `first`
-pub record NextMapped (c : Circuit) (n first : ℕ) (work : List ℕ) (g : Graph) (map last : List ℕ) (h : Graph) (after : List ℕ)
-    : Type 0 where
-  pub grown : Grown n (length (c .gates)) work g last h
-  pub edges : Edges h after
-  pub values : (t u : ℕ) → n ≡ freeBits c t → u < t → first ≡ freeStarts c + length (c .inputs) * (u + 1) → Valued c t u n work g map
-      → Valued c t (u + 1) n last h after
-  pub follows : (s : Mapping) → Agrees s work g map → Agrees (nextMade c n first s) last h after
+-- the latches and inputs of the next frame, where its first input has free bit `first`: each latch has the edge of its next literal
+pub record LeavesMapped (m : List ℕ) (layout : Layout) (first : ℕ) (map after : List ℕ) : Type 0 where
+  pub state : List ℕ
+  pub moved : List ℕ
+  pub next : (j : ℕ) → j < layout .l → getD state j 0 ≡ nextWord m (layout .latches) map j
+  pub latches : Written (latchVar m (layout .latches)) (λ j. getD state j 0) (layout .l) map moved
+  pub inputs : Written (inputVar m) (inputWord first) (layout .i) moved after
 
 -- the conjunction of edge `from` and the constraints
 pub record ConstrainedMapped (c : Circuit) (from : Edge) (n : ℕ) (work : List ℕ) (g : Graph) (map last : List ℕ) (made : Made)
@@ -133,6 +125,13 @@ pub record ConstrainedMapped (c : Circuit) (from : Edge) (n : ℕ) (work : List 
       ≡ (edgeValue n (pairsOf work g) (freeBit n x) (edgeWord from) && constrainedIn c (mapped n work g map x))
   pub follows : (s : Mapping) → Agrees s work g map
       → constrainedMade c n (edgeWord from) s ≡ record { gates = pairsOf last (made .graph); edge = edgeWord (made .edge) }
+
+-- all gates of a frame, and the conjunction of the edge that is given with the graph and of the frame's constraints
+pub record FrameMapped (c : Circuit) (work : List ℕ) (before : Made) (map last : List ℕ) (made : Made) (after : List ℕ) : Type 0 where
+  pub mid : List ℕ
+  pub graph : Graph
+  pub gates : GatesMapped c (before .graph .free) work (before .graph) map mid graph after
+  pub constraints : ConstrainedMapped c (before .edge) (graph .free) mid graph after last made
 
 -- the edge is true for the sequences of frame t that are allowed at frame u
 abbrev pub Allowed : Circuit → ℕ → ℕ → ℕ → List ℕ → Made → Type 0
@@ -152,12 +151,6 @@ pub record Framed (c : Circuit) (t u n room : ℕ) (work : List ℕ) (made : Mad
   pub agrees : Agrees (framesMade c n u .mapping) work (made .graph) map
   pub left : edgeWord (made .edge) ≡ framesMade c n u .left
 
--- one frame more, whose first input has free bit `first`
-abbrev pub FrameNext : Circuit → ℕ → List ℕ → Made → List ℕ → List ℕ → Made → List ℕ → Type 0
-FrameNext c first work before map last made after =
-    (t u room : ℕ) → u < t → first ≡ freeStarts c + length (c .inputs) * (u + 1) → Framed c t u (before .graph .free) room work before map
-    → Framed c t (u + 1) (before .graph .free) room last made after
-
 -- the conjunction of the edge that is given with the graph and of bad line b
 pub record HitMapped (c : Circuit) (b n : ℕ) (work : List ℕ) (before : Made) (map last : List ℕ) (made : Made) : Type 0 where
   pub grown : Grown n 1 work (before .graph) last (made .graph)
@@ -171,15 +164,13 @@ pub record HitMapped (c : Circuit) (b n : ℕ) (work : List ℕ) (before : Made)
       ≡ record { gates = pairsOf last (made .graph); edge = edgeWord (made .edge) }
 
 -- what frame 0 requires of the graph
-pub record FirstFits (m : List ℕ) (layout : Layout) (starts : ℕ) (work : List ℕ) (g : Graph) (map : List ℕ) : Type 0 where
+pub record FirstFits (layout : Layout) (work : List ℕ) (g : Graph) (map : List ℕ) : Type 0 where
   pub blank : Blank map
   pub extensible : Extensible (layout .a + layout .c) work g map
-  pub starts-are : starts ≡ freeStarts (circuitIn m)
-  pub bits : starts + layout .i ≤ g .free
+  pub bits : layout .u + layout .i ≤ g .free
 
 -- what the frames after it require
-pub record FramesFit (m : List ℕ) (layout : Layout) (t starts : ℕ) (work : List ℕ) (first : Made) (map : List ℕ) : Type 0 where
+pub record FramesFit (m : List ℕ) (layout : Layout) (t : ℕ) (work : List ℕ) (first : Made) (map : List ℕ) : Type 0 where
   pub framed : Framed (circuitIn m) t 0 (first .graph .free) (first .graph .room) work first map
   pub room : first .graph .free + 1 + (layout .a + layout .c) * (t + 1) ≤ first .graph .room
-  pub starts-are : starts ≡ freeStarts (circuitIn m)
-  pub bits : starts + layout .i * (t + 1) ≤ first .graph .free
+  pub bits : layout .u + layout .i * (t + 1) ≤ first .graph .free

@@ -4,7 +4,7 @@ use mathlib.Core.List.{List}
 use Prim.Native.Nat.{ℕ, _*_, _^_, _≤_, _<_}
 use lib.ListN.{length}
 use Rattle.aiger.specs.Circuit.{Circuit}
-use Rattle.aiger.specs.Frames.{freeBits, freeBit, freeStarts, size}
+use Rattle.aiger.specs.Frames.{freeBits, freeBit, size}
 use Rattle.aiger.specs.Search.{reaches}
 use Rattle.layout.specs.Words.{word, circuitIn}
 use Rattle.layout.specs.declared.Layout.{Layout}
@@ -17,11 +17,10 @@ use Rattle.graph.specs.declared.Made.{Made}
 use Rattle.unroll.specs.Chosen.{unrolled}
 
 -- a circuit in memory m that is ready to be evaluated, and working memory for a node for each unit of size
-pub record UnrollFits (work m : List ℕ) (layout : Layout) (order : List ℕ) (b t starts room : ℕ) : Type 0 where
+pub record UnrollFits (work m : List ℕ) (layout : Layout) (order : List ℕ) (b t room : ℕ) : Type 0 where
   pub ready : Ready m layout order 4097
   pub bad : b < word m 5
   pub last : t ≤ 255
-  pub starts-are : starts ≡ freeStarts (circuitIn m)
   pub room-is : room ≡ size (circuitIn m) t
   pub most : room ≤ 65536
   pub held : 16 * room ≤ length work

@@ -32,11 +32,10 @@ ghost use Rattle.unroll.specs.Map.{
   Extensible,
   GateMapped,
   GatesMapped,
-  FirstMapped,
-  NextMapped,
+  LeavesMapped,
   ConstrainedMapped,
+  FrameMapped,
   Framed,
-  FrameNext,
   HitMapped,
   FirstFits,
   FramesFit,
@@ -204,48 +203,16 @@ fn put_state(m: &[u32], layout: Layout, state: &[u32], map: &mut [u32])
     }
 }
 
-// Frame 0.
-fn put_first(
-    work: &mut [u32],
-    g: Graph,
-    m: &[u32],
-    layout: Layout,
-    order: &[u32],
-    starts: usize,
-    map: &mut [u32],
-) -> Graph
-    requires { ⌜ Ready (now m) layout (now order) (length (now map)) ⌝ }
-    requires { ⌜ FirstFits (now m) layout starts (now work) g (now map) ⌝ }
-    ensures { λ r. ⌜ FirstMapped (circuitIn (now (m .entry))) (g .free) (now (work .entry)) g (now (work .exit)) r (now (map .exit)) ⌝ }
-{
-    put_starts(m, layout, map);
-    put_inputs(m, layout, starts, map);
-    put_gates(work, g, m, layout, order, map)
-}
-
-// The next frame, whose first input has free bit `first`. The next literals' edges are all read before the first is written.
-fn put_next(
-    work: &mut [u32],
-    g: Graph,
-    m: &[u32],
-    layout: Layout,
-    order: &[u32],
-    first: usize,
-    map: &mut [u32],
-    state: &mut [u32],
-) -> Graph
-    requires { ⌜ Ready (now m) layout (now order) (length (now map)) ⌝ }
-    requires { ⌜ Extensible (layout .a) (now work) g (now map) ⌝ }
-    requires { ⌜ (first + layout .i ≤ g .free) × (1024 ≤ length (now state)) ⌝ }
-    ensures { λ r. ⌜
-        NextMapped (circuitIn (now (m .entry))) (g .free) first (now (work .entry)) g (now (map .entry)) (now (work .exit)) r
-        (now (map .exit))
-        ⌝ }
+// Gives latches and inputs their edges in the next frame, whose first input has free bit `first`. The next literals' edges are all read
+// before the first is written.
+fn put_leaves(m: &[u32], layout: Layout, first: usize, state: &mut [u32], map: &mut [u32])
+    requires { ⌜ Prepared (now m) layout (length (now map)) ⌝ }
+    requires { ⌜ (first + layout .i ≤ 65536) × (1024 ≤ length (now state)) ⌝ }
+    ensures { λ _. ⌜ LeavesMapped (now (m .entry)) layout first (now (map .entry)) (now (map .exit)) ⌝ }
 {
     next_state(m, layout, map, state);
     put_state(m, layout, state, map);
     put_inputs(m, layout, first, map);
-    put_gates(work, g, m, layout, order, map)
 }
 
 // The conjunction of an edge and the constraints of a frame.
@@ -272,6 +239,26 @@ fn constrain(work: &mut [u32], g: Graph, m: &[u32], layout: Layout, from: Edge, 
     Made { graph, edge: left }
 }
 
+// The gates of a frame whose leaves have their edges, and the conjunction of the edge that is given and the frame's constraints.
+fn put_frame(
+    work: &mut [u32],
+    before: Made,
+    m: &[u32],
+    layout: Layout,
+    order: &[u32],
+    map: &mut [u32],
+) -> Made
+    requires { ⌜ Ready (now m) layout (now order) (length (now map)) ⌝ }
+    requires { ⌜ Extensible (layout .a + layout .c) (now work) (before .graph) (now map) ⌝ }
+    requires { ⌜ before .edge .0 .0 < before .graph .nodes ⌝ }
+    ensures { λ r. ⌜
+        FrameMapped (circuitIn (now (m .entry))) (now (work .entry)) before (now (map .entry)) (now (work .exit)) r (now (map .exit))
+        ⌝ }
+{
+    let graph = put_gates(work, before.graph, m, layout, order, map);
+    constrain(work, graph, m, layout, before.edge, map)
+}
+
 // Frame 0, and the edge that is true where its constraints hold.
 fn first_frame(
     work: &mut [u32],
@@ -279,44 +266,22 @@ fn first_frame(
     m: &[u32],
     layout: Layout,
     order: &[u32],
-    starts: usize,
     map: &mut [u32],
 ) -> Made
     requires { ⌜ Ready (now m) layout (now order) (length (now map)) ⌝ }
-    requires { ⌜ FirstFits (now m) layout starts (now work) g (now map) ⌝ }
+    requires { ⌜ FirstFits layout (now work) g (now map) ⌝ }
     ensures { λ r. ⌜
         (pairsOf (now (work .entry)) g ≡ [] → (t : ℕ) → Framed (circuitIn (now (m .entry))) t 0 (g .free) (g .room) (now (work .exit)) r
         (now (map .exit)))
         ⌝ }
 {
-    let graph = put_first(work, g, m, layout, order, starts, map);
+    put_starts(m, layout, map);
+    put_inputs(m, layout, layout.u, map);
+    let graph = put_gates(work, g, m, layout, order, map);
     constrain(work, graph, m, layout, Edge(Node(0), true), map)
 }
 
-// The frame after one, and the edge that is true where the constraints of all frames up to it hold.
-fn next_frame(
-    work: &mut [u32],
-    before: Made,
-    m: &[u32],
-    layout: Layout,
-    order: &[u32],
-    first: usize,
-    map: &mut [u32],
-    state: &mut [u32],
-) -> Made
-    requires { ⌜ Ready (now m) layout (now order) (length (now map)) ⌝ }
-    requires { ⌜ Extensible (layout .a + layout .c) (now work) (before .graph) (now map) ⌝ }
-    requires { ⌜ (before .edge .0 .0 < before .graph .nodes) × (first + layout .i ≤ before .graph .free) × (1024 ≤ length (now state)) ⌝ }
-    ensures { λ r. ⌜
-        FrameNext (circuitIn (now (m .entry))) first (now (work .entry)) before (now (map .entry)) (now (work .exit)) r
-        (now (map .exit))
-        ⌝ }
-{
-    let graph = put_next(work, before.graph, m, layout, order, first, map, state);
-    constrain(work, graph, m, layout, before.edge, map)
-}
-
-// The frames after frame 0, up to frame t.
+// The frames after frame 0, up to frame t, and the edge that is true where the constraints of all frames hold.
 fn put_frames(
     work: &mut [u32],
     first: Made,
@@ -324,32 +289,23 @@ fn put_frames(
     layout: Layout,
     order: &[u32],
     t: usize,
-    starts: usize,
     map: &mut [u32],
-    state: &mut [u32],
 ) -> Made
     requires { ⌜ Ready (now m) layout (now order) (length (now map)) ⌝ }
-    requires { ⌜ FramesFit (now m) layout t starts (now work) first (now map) ⌝ }
-    requires { ⌜ 1024 ≤ length (now state) ⌝ }
+    requires { ⌜ FramesFit (now m) layout t (now work) first (now map) ⌝ }
     ensures { λ r. ⌜
         Framed (circuitIn (now (m .entry))) t t (first .graph .free) (first .graph .room) (now (work .exit)) r (now (map .exit))
         ⌝ }
 {
+    let mut state = [0u32; 1024];
+    let starts = layout.u;
     let inputs = layout.i;
     let mut made = first;
     let mut u = 0;
     while u < t {
         u += 1;
-        made = next_frame(
-            work,
-            made,
-            m,
-            layout,
-            order,
-            starts + inputs * u,
-            map,
-            state,
-        );
+        put_leaves(m, layout, starts + inputs * u, &mut state, map);
+        made = put_frame(work, made, m, layout, order, map);
     }
     made
 }
@@ -376,8 +332,7 @@ fn hit_edge(
     graph::make(work, frames.graph, frames.edge, e)
 }
 
-// The hit of b at frame t. starts is the number of latches with a free start, room the number of nodes that working memory has
-// room for.
+// The hit of b at frame t. room is the number of nodes that working memory has room for.
 pub fn unroll(
     work: &mut [u32],
     m: &[u32],
@@ -385,27 +340,15 @@ pub fn unroll(
     order: &[u32],
     b: usize,
     t: usize,
-    starts: usize,
     room: usize,
 ) -> Made
-    requires { ⌜ UnrollFits (now work) (now m) layout (now order) b t starts room ⌝ }
+    requires { ⌜ UnrollFits (now work) (now m) layout (now order) b t room ⌝ }
     ensures { λ r. ⌜ Unrolled (circuitIn (now (m .entry))) b t (now (work .exit)) room r ⌝ }
 {
     let mut map = [0u32; 4097];
-    let mut state = [0u32; 1024];
-    let free = starts + layout.i * (t + 1);
+    let free = layout.u + layout.i * (t + 1);
     let empty = graph::start(work, free, room);
-    let first = first_frame(work, empty, m, layout, order, starts, &mut map);
-    let frames = put_frames(
-        work,
-        first,
-        m,
-        layout,
-        order,
-        t,
-        starts,
-        &mut map,
-        &mut state,
-    );
+    let first = first_frame(work, empty, m, layout, order, &mut map);
+    let frames = put_frames(work, first, m, layout, order, t, &mut map);
     hit_edge(work, frames, m, layout, b, &map)
 }

@@ -1,9 +1,9 @@
 -- `cone::mark_gate` meets its contract. Assumes nothing.
 use mathlib.Core.Path.{_≡_, ap, _∙_}
 use mathlib.Core.List.{List}
-use Prim.Native.Nat.{ℕ, _+_, _*_}
+use Prim.Native.Nat.{ℕ, _+_, _*_, _≤_}
 use native.Mathlib.Omega.{arith}
-use lib.ListN.{length-set, getD}
+use lib.ListN.{length, length-set, getD}
 use denote.Ref.{now}
 use Rattle.nodes.specs.Graph.{nodeOf}
 use Rattle.nodes.specs.Store.{field}
@@ -24,77 +24,54 @@ right-node m k q = ap (λ (e : Edge). e .0 .0) q
 returns : tie.Need-returns
 returns c = let a = c .before .before .before .args in passed-none (now (a .work)) (a .k) (omega arith)
 
+left-read : (c : tie.After-struct-known2)
+    → (let a = c .before .before .before .before .before .before .before .before .before .args in c .before .before .before .before .from-word .result .0 .0 ≡ nodeOf (field (now (a .work)) (a .k) 0))
+left-read c =
+    let a = c .before .before .before .before .before .before .before .before .before .args in
+    left-node (now (a .work)) (a .k) (c .before .before .before .before .from-word .ensures)
+
+right-read : (c : tie.After-struct-known2)
+    → (let a = c .before .before .before .before .before .before .before .before .before .args in c .before .before .from-word2 .result .0 .0 ≡ nodeOf (field (now (a .work)) (a .k) 1))
+right-read c =
+    let a = c .before .before .before .before .before .before .before .before .before .args in
+    right-node (now (a .work)) (a .k) (c .before .before .from-word2 .ensures)
+
+-- the records of both nodes are before that of the gate
+inside : (c : tie.After-struct-known2)
+    → (let a = c .before .before .before .before .before .before .before .before .before .args in
+    (16 * c .before .before .before .before .from-word .result .0 .0 + 16 ≤ length (now (a .work))) × (16 * c .before .before .from-word2 .result .0 .0 + 16 ≤ length (now (a .work))))
+inside c =
+    let p = c .before .before .before .before .before .before .before .before .before .pre in
+    (omega (arith, left-read c, p .held, p .left), omega (arith, right-read c, p .held, p .right))
+
 mul-work : tie.Need-mul-work
-mul-work c =
-    let s = c .before .before .before .before .before .before .before .before .before in
-    let m = now (s .args .work) in
-    let l = left-node m (s .args .k) (c .before .before .before .before .from-word .ensures) in
-    let r = right-node m (s .args .k) (c .before .before .from-word2 .ensures) in
-    omega (arith, l, r, s .pre .held, s .pre .left, s .pre .right)
+mul-work c = omega (arith, inside c .0)
 
 add-work : tie.Need-add-work
-add-work c =
-    let s = c .before .before .before .before .before .before .before .before .before in
-    let m = now (s .args .work) in
-    let l = left-node m (s .args .k) (c .before .before .before .before .from-word .ensures) in
-    let r = right-node m (s .args .k) (c .before .before .from-word2 .ensures) in
-    omega (arith, l, r, s .pre .held, s .pre .left, s .pre .right)
+add-work c = omega (arith, inside c .0)
 
 mul-work-2 : tie.Need-mul-work-2
-mul-work-2 c =
-    let s = c .before .before .before .before .before .before .before .before .before in
-    let m = now (s .args .work) in
-    let l = left-node m (s .args .k) (c .before .before .before .before .from-word .ensures) in
-    let r = right-node m (s .args .k) (c .before .before .from-word2 .ensures) in
-    omega (arith, l, r, s .pre .held, s .pre .left, s .pre .right)
+mul-work-2 c = omega (arith, inside c .0)
 
 slice-write-work : tie.Need-slice-write-work
-slice-write-work c =
-    let s = c .before .before .before .before .before .before .before .before .before in
-    let m = now (s .args .work) in
-    let l = left-node m (s .args .k) (c .before .before .before .before .from-word .ensures) in
-    let r = right-node m (s .args .k) (c .before .before .from-word2 .ensures) in
-    omega (arith, l, r, s .pre .held, s .pre .left, s .pre .right)
+slice-write-work c = omega (arith, inside c .0)
 
 mul-work-3 : tie.Need-mul-work-3
-mul-work-3 c =
-    let s = c .before .before .before .before .before .before .before .before .before in
-    let m = now (s .args .work) in
-    let l = left-node m (s .args .k) (c .before .before .before .before .from-word .ensures) in
-    let r = right-node m (s .args .k) (c .before .before .from-word2 .ensures) in
-    omega (arith, l, r, s .pre .held, s .pre .left, s .pre .right)
+mul-work-3 c = omega (arith, inside c .1)
 
 add-work-2 : tie.Need-add-work-2
-add-work-2 c =
-    let s = c .before .before .before .before .before .before .before .before .before in
-    let m = now (s .args .work) in
-    let l = left-node m (s .args .k) (c .before .before .before .before .from-word .ensures) in
-    let r = right-node m (s .args .k) (c .before .before .from-word2 .ensures) in
-    omega (arith, l, r, s .pre .held, s .pre .left, s .pre .right)
+add-work-2 c = omega (arith, inside c .1)
 
 mul-work-4 : tie.Need-mul-work-4
-mul-work-4 c =
-    let s = c .before .before .before .before .before .before .before .before .before in
-    let m = now (s .args .work) in
-    let l = left-node m (s .args .k) (c .before .before .before .before .from-word .ensures) in
-    let r = right-node m (s .args .k) (c .before .before .from-word2 .ensures) in
-    omega (arith, l, r, s .pre .held, s .pre .left, s .pre .right)
+mul-work-4 c = omega (arith, inside c .1)
 
 slice-write-work-2 : tie.Need-slice-write-work-2
-slice-write-work-2 c =
-    let s = c .before .before .before .before .before .before .before .before .before in
-    let m = now (s .args .work) in
-    let l = left-node m (s .args .k) (c .before .before .before .before .from-word .ensures) in
-    let r = right-node m (s .args .k) (c .before .before .from-word2 .ensures) in
-    simp length-set (omega (arith, l, r, s .pre .held, s .pre .right))
+slice-write-work-2 c = simp length-set (omega (arith, inside c .1))
 
 returns-2 : tie.Need-returns-2
 returns-2 c =
     let s = c .before .before .before .before .before .before .before .before .before in
-    let m = now (s .args .work) in
-    let l = left-node m (s .args .k) (c .before .before .before .before .from-word .ensures) in
-    let r = right-node m (s .args .k) (c .before .before .from-word2 .ensures) in
-    passed-both m (s .args .k) _ _ (s .pre) (λ z. omega arith) l r
+    passed-both (now (s .args .work)) (s .args .k) _ _ (s .pre) (λ z. omega arith) (left-read c) (right-read c)
 
 pub mark-gate-spec : {M : Type 1} → statement M
 mark-gate-spec =

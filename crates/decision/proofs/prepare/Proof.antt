@@ -25,7 +25,6 @@ unroll-requires c κs =
       ready = r;
       bad = s .pre .bad;
       last = s .pre .last;
-      starts-are = r .layout-of .u-is;
       room-is = z;
       most = omega (arith, z, s .pre .units);
       held = omega (arith, z, s .pre .held);

@@ -31,7 +31,7 @@ fold-frame-requires c κs =
     let l = r .before .before in
     let n = l .before .before .before in
     let h = rw (l .layout .given .1) at (n .held-in .ensures .0) in
-    fits (h .1) (h .0) (h .2) (omega (arith, n .held-in .kept .1 .0)) (h .0 .u-is)
+    fits (h .1) (h .0) (h .2) (omega (arith, n .held-in .kept .1 .0))
     (rw (t .enum-told2 .given .1) at (r .judge .ensures _ (counts-of (h .1) (h .0))))
 
 returns-3 : tie.Need-returns-3

@@ -45,7 +45,6 @@ unroll-requires c κs =
       ready = s .pre .ready;
       bad = s .pre .bad;
       last = s .pre .last;
-      starts-are = s .pre .starts-are;
       room-is = e;
       most = omega (arith, e, s .pre .small);
       held = omega (arith, e, s .pre .words);
