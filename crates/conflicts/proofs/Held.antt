@@ -8,7 +8,7 @@ use native.Mathlib.Omega.{arith}
 use borrow.Author.Tests.{lt-leb}
 use lib.ListN.{length, getD, set, length-set}
 use lib.Seq.{getD-set-same, getD-set-other, ext-getD}
-use Rattle.memory.specs.Record.{place, stored}
+use Rattle.memory.specs.Record.{undef, place, stored}
 use Rattle.memory.specs.declared.Netlist.{Netlist}
 use Rattle.reasons.proofs.Frame.{length-stored}
 use Rattle.conflicts.specs.Conflicts.{reset, resetRest, resetAll, wiped, prepared, ran}
@@ -58,25 +58,25 @@ module _ (nodes : ℕ) where
   twin-reset a b v t =
       let a3 = stored a nodes v 3 0 in
       let b3 = stored b nodes v 3 0 in
-      let a4 = stored a3 nodes v 4 4294967295 in
-      let b4 = stored b3 nodes v 4 4294967295 in
+      let a4 = stored a3 nodes v 4 undef in
+      let b4 = stored b3 nodes v 4 undef in
       let a5 = stored a4 nodes v 5 2 in
       let b5 = stored b4 nodes v 5 2 in
       let a6 = stored a5 nodes v 6 0 in
       let b6 = stored b5 nodes v 6 0 in
-      twin-stored a6 b6 v 7 4294967295
-      (twin-stored a5 b5 v 6 0 (twin-stored a4 b4 v 5 2 (twin-stored a3 b3 v 4 4294967295 (twin-stored a b v 3 0 t))))
+      twin-stored a6 b6 v 7 undef
+      (twin-stored a5 b5 v 6 0 (twin-stored a4 b4 v 5 2 (twin-stored a3 b3 v 4 undef (twin-stored a b v 3 0 t))))
 
   twin-rest : (a b : List ℕ) (v : ℕ) → Twin a b → Twin (resetRest a nodes v) (resetRest b nodes v)
   unfolding resetRest
   twin-rest a b v t =
-      let a8 = stored a nodes v 8 4294967295 in
-      let b8 = stored b nodes v 8 4294967295 in
+      let a8 = stored a nodes v 8 undef in
+      let b8 = stored b nodes v 8 undef in
       let a9 = stored a8 nodes v 9 0 in
       let b9 = stored b8 nodes v 9 0 in
       let a10 = stored a9 nodes v 10 0 in
       let b10 = stored b9 nodes v 10 0 in
-      twin-stored a10 b10 v 11 0 (twin-stored a9 b9 v 10 0 (twin-stored a8 b8 v 9 0 (twin-stored a b v 8 4294967295 t)))
+      twin-stored a10 b10 v 11 0 (twin-stored a9 b9 v 10 0 (twin-stored a8 b8 v 9 0 (twin-stored a b v 8 undef t)))
 
   -- word j, where it is none of those that are stored or stood in both
   reset-at : (a b : List ℕ) (v j : ℕ) → v < nodes → Twin a b
@@ -86,38 +86,38 @@ module _ (nodes : ℕ) where
   reset-at a b v j h t same =
       let a3 = stored a nodes v 3 0 in
       let b3 = stored b nodes v 3 0 in
-      let a4 = stored a3 nodes v 4 4294967295 in
-      let b4 = stored b3 nodes v 4 4294967295 in
+      let a4 = stored a3 nodes v 4 undef in
+      let b4 = stored b3 nodes v 4 undef in
       let a5 = stored a4 nodes v 5 2 in
       let b5 = stored b4 nodes v 5 2 in
       let a6 = stored a5 nodes v 6 0 in
       let b6 = stored b5 nodes v 6 0 in
       let t3 = twin-stored a b v 3 0 t in
-      let t4 = twin-stored a3 b3 v 4 4294967295 t3 in
+      let t4 = twin-stored a3 b3 v 4 undef t3 in
       let t5 = twin-stored a4 b4 v 5 2 t4 in
       let t6 = twin-stored a5 b5 v 6 0 t5 in
-      stored-at a6 b6 v 7 4294967295 j h (omega arith) t6 (λ n7.
+      stored-at a6 b6 v 7 undef j h (omega arith) t6 (λ n7.
       stored-at a5 b5 v 6 0 j h (omega arith) t5 (λ n6.
       stored-at a4 b4 v 5 2 j h (omega arith) t4 (λ n5.
-      stored-at a3 b3 v 4 4294967295 j h (omega arith) t3 (λ n4. stored-at a b v 3 0 j h (omega arith) t (λ n3. same n3 n4 n5 n6 n7)))))
+      stored-at a3 b3 v 4 undef j h (omega arith) t3 (λ n4. stored-at a b v 3 0 j h (omega arith) t (λ n3. same n3 n4 n5 n6 n7)))))
 
   rest-at : (a b : List ℕ) (v j : ℕ) → v < nodes → Twin a b
       → ((j ≡ 14 * v + 8 → ⊥) → (j ≡ 14 * v + 9 → ⊥) → (j ≡ 14 * v + 10 → ⊥) → (j ≡ 14 * v + 11 → ⊥) → getD a j 0 ≡ getD b j 0)
       → getD (resetRest a nodes v) j 0 ≡ getD (resetRest b nodes v) j 0
   unfolding resetRest
   rest-at a b v j h t same =
-      let a8 = stored a nodes v 8 4294967295 in
-      let b8 = stored b nodes v 8 4294967295 in
+      let a8 = stored a nodes v 8 undef in
+      let b8 = stored b nodes v 8 undef in
       let a9 = stored a8 nodes v 9 0 in
       let b9 = stored b8 nodes v 9 0 in
       let a10 = stored a9 nodes v 10 0 in
       let b10 = stored b9 nodes v 10 0 in
-      let t8 = twin-stored a b v 8 4294967295 t in
+      let t8 = twin-stored a b v 8 undef t in
       let t9 = twin-stored a8 b8 v 9 0 t8 in
       let t10 = twin-stored a9 b9 v 10 0 t9 in
       stored-at a10 b10 v 11 0 j h (omega arith) t10 (λ n11.
       stored-at a9 b9 v 10 0 j h (omega arith) t9 (λ n10.
-      stored-at a8 b8 v 9 0 j h (omega arith) t8 (λ n9. stored-at a b v 8 4294967295 j h (omega arith) t (λ n8. same n8 n9 n10 n11))))
+      stored-at a8 b8 v 9 0 j h (omega arith) t8 (λ n9. stored-at a b v 8 undef j h (omega arith) t (λ n8. same n8 n9 n10 n11))))
 
   -- word j of a record is one that the netlist gives, or of a node from n on
   abbrev Given : ℕ → ℕ → Type 0
@@ -179,17 +179,17 @@ unfolding resetAll reset resetRest
 all-long a nodes zero = refl
 all-long a nodes (suc n) =
     let a3 = stored a nodes n 3 0 in
-    let a4 = stored a3 nodes n 4 4294967295 in
+    let a4 = stored a3 nodes n 4 undef in
     let a5 = stored a4 nodes n 5 2 in
     let a6 = stored a5 nodes n 6 0 in
-    let a7 = stored a6 nodes n 7 4294967295 in
-    let a8 = stored a7 nodes n 8 4294967295 in
+    let a7 = stored a6 nodes n 7 undef in
+    let a8 = stored a7 nodes n 8 undef in
     let a9 = stored a8 nodes n 9 0 in
     let a10 = stored a9 nodes n 10 0 in
     let a11 = stored a10 nodes n 11 0 in
     all-long a11 nodes n ∙ length-stored a10 nodes n 11 0 ∙ length-stored a9 nodes n 10 0 ∙ length-stored a8 nodes n 9 0
-    ∙ length-stored a7 nodes n 8 4294967295 ∙ length-stored a6 nodes n 7 4294967295 ∙ length-stored a5 nodes n 6 0 ∙ length-stored a4 nodes n 5 2
-    ∙ length-stored a3 nodes n 4 4294967295 ∙ length-stored a nodes n 3 0
+    ∙ length-stored a7 nodes n 8 undef ∙ length-stored a6 nodes n 7 undef ∙ length-stored a5 nodes n 6 0 ∙ length-stored a4 nodes n 5 2
+    ∙ length-stored a3 nodes n 4 undef ∙ length-stored a nodes n 3 0
 
 wiped-long : (a : List ℕ) (i k : ℕ) → length (wiped a i k) ≡ length a
 unfolding wiped

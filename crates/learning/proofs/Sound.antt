@@ -8,6 +8,7 @@ use native.Mathlib.Omega.{arith}
 use borrow.Author.Tests.{eqb-false}
 use lib.Dec.{eqb, leb, ltb}
 use lib.ListN.{length}
+use Rattle.memory.specs.Record.{undef}
 use Rattle.memory.specs.declared.Netlist.{Netlist}
 use Rattle.memory.specs.declared.Arena.{Arena}
 use Rattle.memory.specs.declared.Draft.{Draft}
@@ -145,7 +146,7 @@ module _ (hit : (ℕ → Bool) → Type 0) (hits : ℕ → Type 0) (net : Netlis
         let u = settled w net (s .arena) d in
         let r = retreated u net s 0 in
         let long : 14 * net .nodes ≤ length w = omega (arith, given .0 .sound .room, given .0 .sound .within) in
-        assert-stands (r .words) (r .search) (draftAt w net (s .arena) 0) 4294967295
+        assert-stands (r .words) (r .search) (draftAt w net (s .arena) 0) undef
         (retreat-stands u s 0
         (stand-on hit hits net begun (given .0) (settle-keeps net w long (s .arena) d) (settle-sound hit net (s .arena) w d draft), given .1))
 

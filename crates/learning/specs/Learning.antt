@@ -4,7 +4,7 @@ use mathlib.Core.Bool.{Bool, cond}
 use mathlib.Core.List.{List}
 use Prim.Native.Nat.{ℕ, zero, suc, _+_, _-_, _*_, _/_}
 use lib.Dec.{eqb, leb, ltb}
-use Rattle.memory.specs.Record.{field}
+use Rattle.memory.specs.Record.{undef, field}
 use Rattle.memory.specs.declared.Netlist.{Netlist}
 use Rattle.memory.specs.declared.Arena.{Arena}
 use Rattle.memory.specs.declared.Draft.{Draft}
@@ -157,7 +157,7 @@ assertedAfter s net l why = asserted (s .words) net (s .search) l why
 
 unfoldable pub keptLiteral : List ℕ → Netlist → Search → Draft → Searched
 keptLiteral w net s d =
-    assertedAfter (retreated (settled w net (s .arena) d) net s 0) net (draftAt w net (s .arena) 0) 4294967295
+    assertedAfter (retreated (settled w net (s .arena) d) net s 0) net (draftAt w net (s .arena) 0) undef
 
 unfoldable pub storedClause : List ℕ → Netlist → Search → Draft → Searched
 storedClause w net s d =

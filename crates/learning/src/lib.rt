@@ -13,6 +13,7 @@ use memory::Heap;
 use memory::LEVEL;
 use memory::Netlist;
 use memory::Trail;
+use memory::UNDEF;
 use memory::field;
 use memory::literal;
 use settling::settle_all;
@@ -265,7 +266,7 @@ fn keep_literal(work: &mut [u32], net: Netlist, s: Search, d: Draft) -> Search
     let l = literal(work, net.nodes, a.used, 0);
     settle(work, net, a, d);
     let u = retreat(work, net, s, 0);
-    assert(work, net, u, l, 4294967295)
+    assert(work, net, u, l, UNDEF)
 }
 
 // Keeps the working clause.
