@@ -26,7 +26,12 @@ module _ {size j : ℕ} {P : Type 0} {a b : List ℕ} where
   -- after the same store
   alike-set : (i x : ℕ) → i < size → Alike size j ((j ≡ i → ⊥) × P) a b → Alike size j P (set a i x) (set b i x)
   alike-set i x small t =
-      record { long = length-set a i x ∙ t .long; also = length-set b i x ∙ t .also; same = λ p. word (ℕ-discrete j i) (λ n. t .same (n, p)) }
+      record {
+        long = length-set a i x ∙ t .long;
+        also = length-set b i x ∙ t .also;
+        same = λ p. word (ℕ-discrete j i)
+            (λ n. t .same (n, p));
+      }
     where
       word : Dec (j ≡ i) → ((j ≡ i → ⊥) → getD a j 0 ≡ getD b j 0) → getD (set a i x) j 0 ≡ getD (set b i x) j 0
       word (yes e) f = rw e (getD-set-same a i x 0 (omega (arith, t .long)) ∙ sym (getD-set-same b i x 0 (omega (arith, t .also))))
@@ -82,7 +87,8 @@ module _ (nodes : ℕ) where
       below'' = omega arith
 
       split : Dec (j % 14 < 3) → Dec (j % 14 < 6) → Dec (j % 14 < 9) → Dec (11 < j % 14) → (3 ≤ j % 14 → j % 14 < 6 → 14 * suc n ≤ j)
-          → (6 ≤ j % 14 → j % 14 < 9 → 14 * suc n ≤ j) → (9 ≤ j % 14 → j % 14 < 12 → 14 * suc n ≤ j) → (j % 14 < 3) ⊎ ((11 < j % 14) ⊎ (14 * suc n ≤ j))
+          → (6 ≤ j % 14 → j % 14 < 9 → 14 * suc n ≤ j) → (9 ≤ j % 14 → j % 14 < 12 → 14 * suc n ≤ j) → (j % 14 < 3)
+          ⊎ ((11 < j % 14) ⊎ (14 * suc n ≤ j))
       split (yes p) q r t x y z = inl p
       split (no p) (yes q) r t x y z = inr (inr (x (least 3 (j % 14) p) q))
       split (no p) (no q) (yes r) t x y z = inr (inr (y (least 6 (j % 14) q) r))
@@ -100,7 +106,8 @@ module _ (nodes : ℕ) where
     unfolding reset
     alike-reset v h t =
         alike-stored nodes wide v 7 4294967295 h (omega arith) (alike-stored nodes wide v 6 0 (λ p. h (p .1)) (omega arith)
-        (alike-stored nodes wide v 5 2 (λ p. h (p .1 .1)) (omega arith) (alike-stored nodes wide v 4 4294967295 (λ p. h (p .1 .1 .1)) (omega arith)
+        (alike-stored nodes wide v 5 2 (λ p. h (p .1 .1)) (omega arith)
+        (alike-stored nodes wide v 4 4294967295 (λ p. h (p .1 .1 .1)) (omega arith)
         (alike-stored nodes wide v 3 0 (λ p. h (p .1 .1 .1 .1)) (omega arith) t))))
 
     alike-rest : {P : Type 0} {a b : List ℕ} (v : ℕ) → (P → v < nodes)
