@@ -4,12 +4,13 @@ use mathlib.Core.List.{List}
 use Prim.Native.Nat.{ℕ, zero, suc, _-_, _/_, _≤_, _<_}
 use native.Mathlib.Omega.{arith}
 use borrow.Author.Tests.{le-leb, lt-leb}
+use Rattle.memory.specs.Record.{counted}
 use Rattle.memory.specs.declared.Netlist.{Netlist}
 use Rattle.memory.specs.declared.Arena.{Arena}
 use Rattle.memory.specs.declared.Draft.{Draft}
 use Rattle.resolve.specs.Draft.{drafted, draftAt}
 use Rattle.analysis.specs.declared.Analysis.{Analysis}
-use Rattle.analysis.specs.Analysis.{counted, reached, touched, tallied, touchedAll, visited, descended, expanded, expandedFrom}
+use Rattle.analysis.specs.Analysis.{reached, touched, tallied, touchedAll, visited, descended, expanded, expandedFrom}
 
 module _ (w : List ℕ) (net : Netlist) (arena : Arena) where
   pub touched-none : (from level step k n : ℕ) → k ≤ from → touchedAll w net arena from level step k n ≡ counted w n

@@ -1,5 +1,5 @@
 -- A larger bound keeps a hit: the layers do not know the bound. Assumes nothing.
-use mathlib.Core.Path.{_≡_, refl, sym, ap, _∙_, subst}
+use mathlib.Core.Path.{_≡_}
 use mathlib.Core.Bool.{Bool, true, false, cond}
 use mathlib.Core.List.{List}
 use mathlib.Core.Option.{Option, none, some}
@@ -9,20 +9,7 @@ use lib.Dec.{leb, eqb}
 use lib.ListN.{length}
 use Rattle.machine.specs.Machine.{Machine}
 use Rattle.machine.specs.Layers as spec
-use Rattle.machine.specs.Layers.{
-  Entry,
-  started,
-  slotPlace,
-  slotHit,
-  expanded,
-  layerSlots,
-  firstBelow,
-  Layered,
-  hit,
-  clear,
-  gaveUp,
-  layersFrom,
-}
+use Rattle.machine.specs.Layers.{Entry, started, slotPlace, slotHit, expanded, layerSlots, firstBelow, hit, clear, gaveUp, layersFrom}
 use Rattle.influence.specs.Part.{Part}
 use Rattle.transitions.specs.Transitions.{machineOf}
 use Rattle.reachable.specs.Quota.{quota}

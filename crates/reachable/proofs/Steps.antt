@@ -1,23 +1,23 @@
 -- What the answer of a layer says of the search. Assumes nothing.
-use mathlib.Core.Path.{_≡_, refl, sym, ap, ap₂, _∙_, subst}
-use mathlib.Core.List.{List, []}
-use mathlib.Core.Option.{Option, none, some}
-use Prim.Native.Nat.{ℕ, zero, suc, _+_, _-_, _*_, _^_, _≤_, _<_}
+use mathlib.Core.Path.{_≡_, sym, ap, _∙_, subst}
+use mathlib.Core.List.{List}
+use mathlib.Core.Option.{Option, none}
+use Prim.Native.Nat.{ℕ, zero, suc, _+_, _*_, _^_, _≤_, _<_}
 use native.Mathlib.Numerals.{add-one}
 use native.Mathlib.Omega.{arith}
-use lib.ListN.{length, getD}
-use Rattle.aiger.specs.Frames.{freeStarts, size}
+use lib.ListN.{length}
+use Rattle.aiger.specs.Frames.{freeStarts}
 use Rattle.machine.specs.Machine.{Machine}
 use Rattle.machine.proofs.Meet.{meets}
-use Rattle.machine.specs.Layers.{Entry, meet, started, slotStep, slotPlace, slotHit, expanded, layerSlots, firstBelow, hit, clear, gaveUp}
+use Rattle.machine.specs.Layers.{Entry, meet, started, slotStep, slotPlace, slotHit, expanded, layerSlots, firstBelow, hit}
 use Rattle.influence.specs.Part.{Part}
-use Rattle.states.specs.Trace.{Trace, Holds}
+use Rattle.states.specs.Trace.{Holds}
 use Rattle.transitions.specs.Transitions.{machineOf}
 use Rattle.layers.specs.Asked.{AskedOf}
 use Rattle.layers.specs.declared.Asked.{Asked}
-use Rattle.layers.specs.declared.Asked.the-variants.{Hit, Met}
+use Rattle.layers.specs.declared.Asked.the-variants.{Hit, Next, Full}
 use Rattle.reachable.specs.Quota.{quota}
-use Rattle.reachable.specs.Layers.{layered, FoundOf}
+use Rattle.reachable.specs.Layers.{FoundOf}
 use Rattle.reachable.specs.declared.Found.the-variants.{At, Nowhere, Left}
 use Rattle.reachable.proofs.Frames.{Rest, holds-with, rest-start, rest-full, rest-end, rest-hit, rest-lost, rest-last, rest-more}
 
@@ -31,8 +31,7 @@ expanded-longer m es lo zero = omega arith
 expanded-longer m es lo (suc z) = omega (
   arith,
   expanded-longer m es lo z,
-  meet-longer (slotStep m es lo z) (slotPlace m es lo z)
-      (expanded m es lo z),
+  meet-longer (slotStep m es lo z) (slotPlace m es lo z) (expanded m es lo z),
 )
 
 module _ (c : Part) (b k : ℕ) where
@@ -68,46 +67,63 @@ module _ (c : Part) (b k : ℕ) where
   unfolding FoundOf
   standing-end t lo hi records heads s l = rest-end c b k t (s .entries) lo (s .left) l
 
-  module _ (t lo hi most : ℕ) (r₀ hd₀ : List ℕ) (s : Standing t lo hi r₀ hd₀) (l : t ≤ k) (q : most ≡ quota c t)
-      (room : 4 * most ≤ length r₀) (few : most < 4294967295)
-      (high : hi ≤ most) where
+  -- the same before the layer of frame t is asked, with a quota of `most` records
+  pub record Asking (t lo hi most : ℕ) (records heads : List ℕ) : Type 0 where
+    pub standing : Standing t lo hi records heads
+    pub within : t ≤ k
+    pub room : 4 * most ≤ length records
+    pub few : most ≤ 262144
+    pub high : hi ≤ most
+    pub is-quota : most ≡ quota c t
+
+  module _ {t lo hi most : ℕ} {r₀ hd₀ : List ℕ} (s : Asking t lo hi most r₀ hd₀) where
     abbrev es : List Entry
-    es = s .entries
+    es = s .standing .entries
+
+    abbrev rest : Rest c b k t es lo
+    rest = s .standing .left
 
     -- the table with the quota of the frame
-    pub standing-holds : Holds (2 ^ length (c .circuit .inputs)) t lo most hi r₀ hd₀ (s .entries)
-    standing-holds = holds-with most room few (omega arith) high (s .holds)
+    pub standing-holds : Holds (2 ^ length (c .circuit .inputs)) t lo most hi r₀ hd₀ es
+    standing-holds = holds-with most (s .room) (omega arith) (omega arith) (s .high) (s .standing .holds)
 
     counted : length es ≡ hi
-    counted = s .holds .counted (omega arith)
+    counted = s .standing .holds .counted (omega arith)
 
-    module _ (records heads : List ℕ) (same : length records ≡ length r₀) (a : Asked)
+    module _ (records heads : List ℕ) {a : Asked}
         (asked : (u : ℕ) (xs : List Entry) → Holds (2 ^ length (c .circuit .inputs)) u lo most hi r₀ hd₀ xs
         → AskedOf c b u lo most records heads xs a) where
-      pub case-hit : length (c .circuit .inputs) ≤ 16 → {e row : ℕ} → a ≡ Hit e row → FoundOf c b k records (At t e row)
+      pub case-hit : length records ≡ length r₀ → length (c .circuit .inputs) ≤ 16 → {e row : ℕ} → a ≡ Hit e row → FoundOf c b k records (At t e row)
       unfolding AskedOf FoundOf
-      case-hit w {e} {row} q =
+      case-hit same w {e} {row} q =
           let (z, f, y, tr, rl, sp, el) = subst (AskedOf c b t lo most records heads es) q (asked t es standing-holds) in
-          (y, rest-hit c b k t es lo (s .left) l z f ∙ ap (hit t) sp, tr, rl, l, omega (arith, counted), w)
+          (y, rest-hit c b k t es lo rest (s .within) z f ∙ ap (hit t) sp, tr, rl, s .within, omega (arith, counted), w)
 
-      met-case : {met : ℕ} → a ≡ Met met → (firstBelow (layerSlots (machineOf c b) es lo) (slotHit (machineOf c b) es lo) ≡ none)
+      met-case : {met : ℕ} → a ≡ Next met → (firstBelow (layerSlots (machineOf c b) es lo) (slotHit (machineOf c b) es lo) ≡ none)
           × Holds (2 ^ length (c .circuit .inputs)) (suc t) (length es) most met records heads
           (expanded (machineOf c b) es lo (layerSlots (machineOf c b) es lo))
+          × (met ≤ most)
       unfolding AskedOf
       met-case e = subst (AskedOf c b t lo most records heads es) e (asked t es standing-holds)
 
-      pub case-lost : {met : ℕ} → a ≡ Met met → most < met → FoundOf c b k records (Left (t + 1))
-      unfolding FoundOf
-      case-lost e h = let m = met-case e in rest-lost c b k t es lo (s .left) l (m .0) (omega (arith, m .1 .lost h))
+      pub case-lost : a ≡ Full → FoundOf c b k records (Left (t + 1))
+      unfolding AskedOf FoundOf
+      case-lost e =
+          let m = subst (AskedOf c b t lo most records heads es) e (asked t es standing-holds) in
+          rest-lost c b k t es lo rest (s .within) (m .0) (omega (arith, m .1 .lost (omega arith)))
 
-      pub case-last : {met : ℕ} → a ≡ Met met → met ≤ most → met ≡ hi → FoundOf c b k records Nowhere
+      pub case-last : {met : ℕ} → a ≡ Next met → met ≡ hi → FoundOf c b k records Nowhere
       unfolding FoundOf
-      case-last e h w = let m = met-case e in rest-last c b k t es lo (s .left) l (m .0) (omega (arith, m .1 .counted h))
-          (omega (arith, m .1 .counted h, counted))
+      case-last e w = let m = met-case e in rest-last c b k t es lo rest (s .within) (m .0) (omega (arith, m .2, m .1 .counted (m .2)))
+          (omega (arith, m .1 .counted (m .2), counted))
 
-      pub case-more : {met : ℕ} → a ≡ Met met → met ≤ most → (met ≡ hi → ⊥) → Standing (t + 1) hi met records heads
-      case-more {met} e h w =
+      pub met-few : {met : ℕ} → a ≡ Next met → met ≤ most
+      met-few e = met-case e .2
+
+      pub case-more : {met : ℕ} → a ≡ Next met → (met ≡ hi → ⊥) → Standing (t + 1) hi met records heads
+      case-more {met} e w =
           let m = met-case e in
+          let h = m .2 in
           let all = expanded (machineOf c b) es lo (layerSlots (machineOf c b) es lo) in
           let g : length all ≡ met = m .1 .counted h in
           record {
@@ -116,6 +132,6 @@ module _ (c : Part) (b k : ℕ) where
                 (subst (λ (n : ℕ). Holds (2 ^ length (c .circuit .inputs)) (suc t) n met met records heads all) counted
                 (holds-with met (omega (arith, m .1 .quota-room)) (omega arith) h (omega arith) (m .1)));
             left = subst (λ (n : ℕ). Rest c b k (t + 1) all n) counted
-                (rest-more c b k t es lo (s .left) l (m .0) (omega arith) (λ x. w (omega (arith, counted))));
+                (rest-more c b k t es lo rest (s .within) (m .0) (omega arith) (λ x. w (omega (arith, counted))));
             low = omega (arith, counted, expanded-longer (machineOf c b) es lo (layerSlots (machineOf c b) es lo));
           }

@@ -4,8 +4,8 @@ use mathlib.Core.List.{List}
 use Prim.Native.Nat.{ℕ, zero, suc, _-_, _≤_, _<_}
 use native.Mathlib.Omega.{arith}
 use borrow.Author.Tests.{le-leb, lt-leb}
-use Rattle.memory.specs.Record.{field, stored}
-use Rattle.trail.specs.Trail.{counted, entry, takenBack}
+use Rattle.memory.specs.Record.{counted, field, stored}
+use Rattle.trail.specs.Trail.{entry, takenBack}
 
 pub taken-none : (w : List ℕ) (nodes to t : ℕ) → t ≡ 0 → takenBack w nodes to t ≡ counted w 0
 unfolding takenBack

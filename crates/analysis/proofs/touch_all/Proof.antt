@@ -1,6 +1,7 @@
 -- `analysis::touch_all` meets its contract. The invariant: what is left to touch ends as all of it does. Assumes nothing.
+use Rattle.memory.specs.Record.{Counted}
 use Rattle.analysis.proofs.Turns.{touched-none, touched-more}
-use Rattle.analysis.specs.Analysis.{Counted, touchedAll}
+use Rattle.analysis.specs.Analysis.{touchedAll}
 use lib.ListN as N
 use native.Mathlib.Omega.{arith}
 use mathlib.Core.Path.{_≡_, refl, sym, ap, _∙_}

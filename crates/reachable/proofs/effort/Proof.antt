@@ -7,7 +7,6 @@ use lib.Pow.{pow-mono}
 use lib.ListN.{length}
 use Rattle.frames.proofs.Places.{latches-few}
 use Rattle.reachable.proofs.Quotas.{gates-small, effort-is}
-use borrow.Author.Needs.{needs}
 use Rattle.reachable.proofs.effort.Statement.{statement}
 use Rattle.reachable.proofs.effort.Tie as tie
 
@@ -27,62 +26,51 @@ power-requires : tie.Need-power-requires
 power-requires c κs = c .before .before .before .pre .1 .1 .0
 
 add-result : tie.Need-add-result
-add-result c = omega (
-  arith,
-  gates-small (c .before .before .before .before .args .kept .now) (c .before .before .before .before .pre .0)
-      (c .before .before .before .before .pre .1 .0),
-  latches-few (c .before .before .before .before .pre .0)
-      (c .before .before .before .before .pre .1 .0),
-)
+add-result c =
+    let start = c .before .before .before .before in
+    omega (arith, gates-small (start .args .kept .now) (start .pre .0) (start .pre .1 .0), latches-few (start .pre .0) (start .pre .1 .0))
 
 add-result-2 : tie.Need-add-result-2
-add-result-2 c = omega (
-  arith,
-  gates-small (c .before .before .before .before .args .kept .now)
-      (c .before .before .before .before .pre .0) (c .before .before .before .before .pre .1 .0),
-  latches-few
-      (c .before .before .before .before .pre .0) (c .before .before .before .before .pre .1 .0),
-)
+add-result-2 c =
+    let start = c .before .before .before .before in
+    omega (arith, gates-small (start .args .kept .now) (start .pre .0) (start .pre .1 .0), latches-few (start .pre .0) (start .pre .1 .0))
 
 mul-result : tie.Need-mul-result
-mul-result c = omega (
-  arith,
-  first-small (c .before .before .before .before .args .layout .a)
-      (c .before .before .before .before .args .layout .l) (c .before .blocks2 .result) (c .before .before .before .before .args .layout .i)
-      (gates-small (c .before .before .before .before .args .kept .now) (c .before .before .before .before .pre .0)
-      (c .before .before .before .before .pre .1 .0)) (latches-few (c .before .before .before .before .pre .0)
-      (c .before .before .before .before .pre .1 .0)) (c .before .before .before .before .pre .1 .1 .0) (c .before .blocks2 .ensures),
-)
+mul-result c =
+    let start = c .before .before .before .before in
+    omega (
+      arith,
+      first-small (start .args .layout .a) (start .args .layout .l) (c .before .blocks2 .result) (start .args .layout .i)
+          (gates-small (start .args .kept .now) (start .pre .0) (start .pre .1 .0)) (latches-few (start .pre .0) (start .pre .1 .0))
+          (start .pre .1 .1 .0) (c .before .blocks2 .ensures),
+    )
 
 add-result-3 : tie.Need-add-result-3
 add-result-3 c = omega (arith, c .before .before .before .before .pre .1 .1 .1)
 
 mul-result-2 : tie.Need-mul-result-2
-mul-result-2 c = omega (
-  arith,
-  second-small (length (c .before .before .before .before .args .kept .now)) (c .power .result)
-      (c .before .before .before .before .pre .1 .1 .1) (c .power .ensures .1),
-)
+mul-result-2 c =
+    let start = c .before .before .before .before in
+    omega (arith, second-small (length (start .args .kept .now)) (c .power .result) (start .pre .1 .1 .1) (c .power .ensures .1))
 
 add-result-4 : tie.Need-add-result-4
-add-result-4 c = omega (
-  arith,
-  first-small (c .before .before .before .before .args .layout .a)
-      (c .before .before .before .before .args .layout .l) (c .before .blocks2 .result) (c .before .before .before .before .args .layout .i)
-      (gates-small (c .before .before .before .before .args .kept .now) (c .before .before .before .before .pre .0)
-      (c .before .before .before .before .pre .1 .0)) (latches-few (c .before .before .before .before .pre .0)
-      (c .before .before .before .before .pre .1 .0)) (c .before .before .before .before .pre .1 .1 .0) (c .before .blocks2 .ensures),
-  second-small (length (c .before .before .before .before .args .kept .now)) (c .power .result)
-      (c .before .before .before .before .pre .1 .1 .1) (c .power .ensures .1),
-)
+add-result-4 c =
+    let start = c .before .before .before .before in
+    omega (
+      arith,
+      first-small (start .args .layout .a) (start .args .layout .l) (c .before .blocks2 .result) (start .args .layout .i)
+          (gates-small (start .args .kept .now) (start .pre .0) (start .pre .1 .0)) (latches-few (start .pre .0) (start .pre .1 .0))
+          (start .pre .1 .1 .0) (c .before .blocks2 .ensures),
+      second-small (length (start .args .kept .now)) (c .power .result)
+          (start .pre .1 .1 .1) (c .power .ensures .1),
+    )
 
 returns : tie.Need-returns
-returns c = effort-is (c .before .before .before .before .args .kept .now) (c .before .before .before .before .pre .0)
-    (c .before .before .before .before .pre .1 .0) (c .before .blocks2 .result) (c .power .result) (c .before .blocks2 .ensures)
-    (c .power .ensures .0)
+returns c =
+    let start = c .before .before .before .before in
+    effort-is (start .args .kept .now) (start .pre .0) (start .pre .1 .0) (c .before .blocks2 .result) (c .power .result)
+    (c .before .blocks2 .ensures) (c .power .ensures .0)
 
 pub effort-spec : {M : Type 1} → statement M
 effort-spec =
-    tie.close
-    (tie.spec
-    blocks-requires power-requires add-result add-result-2 mul-result add-result-3 mul-result-2 add-result-4 returns)
+    tie.close (tie.spec blocks-requires power-requires add-result add-result-2 mul-result add-result-3 mul-result-2 add-result-4 returns)

@@ -1,5 +1,4 @@
 -- `reachable::power` meets its contract. Assumes nothing.
-use Prim.Native.Nat.{ℕ, _^_}
 use native.Mathlib.Omega.{arith}
 use lib.Pow.{pow-mono}
 use borrow.Author.Needs.{needs}

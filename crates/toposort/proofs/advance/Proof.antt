@@ -1,6 +1,7 @@
 -- `advance` meets its contract: each arm keeps the search's invariant, or the stack is a cycle.
 -- Assumes nothing.
-use Rattle.toposort.proofs.Runs.{counts, search-room, search-push, top-gate, search-cycle, top-edge, search-place, search-deeper, search-placed}
+use Rattle.toposort.proofs.Runs.{counts, search-room, search-push, top-gate, search-cycle, top-edge, search-place, search-deeper}
+use Rattle.toposort.proofs.Runs.{search-placed}
 use mathlib.Core.Path.{refl}
 use native.Mathlib.Omega.{arith}
 use lib.Seq.{drop-set-lt}
@@ -69,8 +70,7 @@ returns-3 c =
     let n = rw (c .before .before .before .before .before .before .before .enum-told2 .given .1) at (K .operand .ensures) in (
       search-place _ _ _ _ _ _ _ (S .pre .1 .0) (S .pre .1 .1) _ _ (A .place .ensures .0) (A .place .ensures .1) (n .0),
       λ left right o. search-placed left right _ _ _ _ _ _ _ (S .pre .1 .0) (S .pre .1 .1) _ (A .place .ensures .1) (n .1 left right o),
-      rw (A .place .ensures .1)
-          (drop-set-lt (S .args .gates .m) (S .args .order .now) (S .args .at .done) _
+      rw (A .place .ensures .1) (drop-set-lt (S .args .gates .m) (S .args .order .now) (S .args .at .done) _
           (omega (arith, counts _ _ _ _ _ _ _ (S .pre .1 .0), S .pre .1 .1))),
     )
 

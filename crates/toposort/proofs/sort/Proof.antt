@@ -1,9 +1,11 @@
 -- `sort` meets its contract. The loop's invariant is `Run`. The measure falls since each turn passes a gate, meets one or places one.
 -- Assumes nothing.
-use Rattle.toposort.proofs.Runs.{Run, Planned, counts, search-push, run-start, run-skip, run-step, run-end, planned-start, planned-skip, planned-push, planned-end}
+use Rattle.toposort.proofs.Runs.{Run, Planned, counts, search-push, run-start, run-skip, run-step, run-end, planned-start}
+use Rattle.toposort.proofs.Runs.{planned-skip, planned-push, planned-end}
 use lib.ListN.{length, drop}
 use native.Mathlib.Omega.{arith}
-use Prim.Native.Nat.{_+_, _*_, _-_}
+use Prim.Native.Nat.{ℕ, _+_, _*_, _-_, _≤_}
+use Rattle.toposort.specs.DepthFirst.{Search, Stays}
 use mathlib.Core.Path.{_≡_, refl, ap, _∙_}
 use Rattle.layout.specs.Order.{placedFrom}
 use borrow.Author.Needs.{needs}
@@ -18,11 +20,44 @@ Inv-loop lits table base m pos₀ order₀ stack₀ s₀ sp₀ done₀ pos order
 abbrev μ-loop : tie.MeasureT-loop
 μ-loop lits table base m pos₀ order₀ stack₀ s₀ sp₀ done₀ pos order stack s sp done = 3 * m - (2 * done + sp + s)
 
+-- ---- places
+abbrev loop-of : tie.After-advance Inv-loop μ-loop → tie.At-loop Inv-loop μ-loop
+loop-of c = c .before .before .before .before .before .before
+
+abbrev start-of : tie.At-loop Inv-loop μ-loop → tie.Start Inv-loop μ-loop
+start-of l = l .before .before .before .before .before .before
+
+counted : (l : tie.At-loop Inv-loop μ-loop) → l .loop .done + l .loop .sp ≤ start-of l .args .m
+counted l = counts _ _ _ _ _ _ _ (l .loop .inv .0 .search)
+
+-- the loop goes on with what `advance` left
+goes-on : (c : tie.After-advance Inv-loop μ-loop) (sp done : ℕ)
+    → let A = c .advance in
+    let L = loop-of c .loop in
+    let S = start-of (loop-of c) .args in
+    Search (S .lits .now) (S .m) (A .last .1 .1 .1 .0) (A .last .1 .1 .1 .1 .0) (A .last .1 .1 .1 .1 .1 .0) sp done
+    × Stays (L .pos) (A .last .1 .1 .1 .0)
+    → Planned (S .lits .now) (S .base) (S .m) (S .table .now) (A .last .1 .1 .1 .1 .0) (A .last .1 .1 .1 .1 .1 .0) (L .s) sp done
+    → drop (S .m) (A .last .1 .1 .1 .1 .0) ≡ drop (S .m) (L .order)
+    → Inv-loop (S .lits .now) (S .table .now) (S .base) (S .m) (S .pos .now) (S .order .now) (S .stack .now) 0 0 0 (A .last .1 .1 .1 .0)
+    (A .last .1 .1 .1 .1 .0) (A .last .1 .1 .1 .1 .1 .0) (L .s) sp done
+goes-on c sp done n p d =
+    let k = c .advance .kept .1 .1 .1 in
+    let i = loop-of c .loop .inv in (
+      run-step _ _ _ _ _ _ _ _ (i .0) _ _ _ _ _ (c .before .before .before .before .before .loop-test .taken) n,
+      k .0 ∙ i .1,
+      k .1 .0 ∙ i .2,
+      k .1 .1 .0 ∙ i .3,
+      p,
+      d ∙ i .5,
+    )
+
+-- ---- needs
 loop-holds : tie.Need-loop-holds Inv-loop μ-loop
 loop-holds c =
     let S = c .before .before .before .before .before in (
-      run-start _ _ (S .args .pos .now) (S .args .order .now) (S .args .stack .now)
-          (S .pre .1 .0 .0) (S .pre .1 .0 .1) (S .pre .1 .0 .2) (S .pre .1 .1),
+      run-start _ _ (S .args .pos .now) (S .args .order .now) (S .args .stack .now) (S .pre .1 .0 .0) (S .pre .1 .0 .1) (S .pre .1 .0 .2)
+          (S .pre .1 .1),
       refl,
       refl,
       refl,
@@ -32,118 +67,72 @@ loop-holds c =
 
 advance-requires : tie.Need-advance-requires Inv-loop μ-loop
 advance-requires c κs =
-    let L = c .before .before .before .before .before in (
-      c .before .before .before .before .before .before .before .before .before .before .before .pre .0,
-      (L .loop .inv .0 .search, c .before .before .before .if1 .taken),
-    )
+    let l = c .before .before .before .before .before in
+    (start-of l .pre .0, (l .loop .inv .0 .search, c .before .before .before .if1 .taken))
 
 add-sp : tie.Need-add-sp Inv-loop μ-loop
 add-sp c =
-    let A = c .before .before .before .before .before .before .before .before in
-    let L = c .before .before .before .before .before .before .before .before .before .before .before .before .before .before in
-    omega (
-      arith,
-      counts _ _ _ _ _ _ _
-          (L .loop .inv .0 .search),
-      c .before .before .before .before .before .before .before .before .before .before .before .before .before .before .before .before .before .before .before .before .pre .0 .small,
-    )
+    let l = loop-of (c .before .before .before .before .before .before .before .before) in
+    omega (arith, counted l, start-of l .pre .0 .small)
 
 loop-less : tie.Need-loop-less Inv-loop μ-loop
 loop-less c =
-    let A = c .before .before .before .before .before .before .before .before in
-    let L = c .before .before .before .before .before .before .before .before .before .before .before .before .before .before in
-    let n = rw (c .enum-told .given .1) at (A .advance .ensures) in
-    omega (
-      arith,
-      counts _ _ _ _ _ _ _
-          (n .0 .0),
-      c .before .before .before .before .before .before .before .before .before .before .before .before .before .loop-test .taken,
-    )
+    let a = c .before .before .before .before .before .before .before .before in
+    let n = rw (c .enum-told .given .1) at (a .advance .ensures) in
+    omega (arith, counts _ _ _ _ _ _ _ (n .0 .0), a .before .before .before .before .before .loop-test .taken)
 
 loop-again : tie.Need-loop-again Inv-loop μ-loop
 loop-again c =
-    let A = c .before .before .before .before .before .before .before .before in
-    let L = c .before .before .before .before .before .before .before .before .before .before .before .before .before .before in
-    let S = c .before .before .before .before .before .before .before .before .before .before .before .before .before .before .before .before .before .before .before .before in
-    let n = rw (c .enum-told .given .1) at (A .advance .ensures) in (
-      run-step _ _ _ _ _ _ _ _ (L .loop .inv .0) _ _ _ _ _
-          (c .before .before .before .before .before .before .before .before .before .before .before .before .before .loop-test .taken)
-          (n .0),
-      A .advance .kept .1 .1 .1 .0 ∙ L .loop .inv .1,
-      A .advance .kept .1 .1 .1 .1 .0 ∙ L .loop .inv .2,
-      A .advance .kept .1 .1 .1 .1 .1 .0 ∙ L .loop .inv .3,
-      λ left right o. ap (placedFrom left right (S .args .m) (L .loop .s) (S .args .m - L .loop .s)) (n .1 left right o)
-          ∙ L .loop .inv .4 left right o,
-      n .2 ∙ L .loop .inv .5,
-    )
+    let a = c .before .before .before .before .before .before .before .before in
+    let l = loop-of a in
+    let m = start-of l .args .m in
+    let n = rw (c .enum-told .given .1) at (a .advance .ensures) in
+    goes-on a _ _ (n .0)
+    (λ left right o. ap (placedFrom left right m (l .loop .s) (m - l .loop .s)) (n .1 left right o) ∙ l .loop .inv .4 left right o) (n .2)
 
 sub-sp : tie.Need-sub-sp Inv-loop μ-loop
 sub-sp c = omega arith
 
 add-done : tie.Need-add-done Inv-loop μ-loop
 add-done c =
-    let A = c .before .before .before .before .before .before .before .before in
-    let L = c .before .before .before .before .before .before .before .before .before .before .before .before .before .before in
-    omega (
-      arith,
-      counts _ _ _ _ _ _ _
-          (L .loop .inv .0 .search),
-      c .before .before .before .before .before .before .before .before .before .before .before .before .before .before .before .before .before .before .before .before .pre .0 .small,
-    )
+    let l = loop-of (c .before .before .before .before .before .before .before .before) in
+    omega (arith, counted l, start-of l .pre .0 .small)
 
 loop-less-2 : tie.Need-loop-less-2 Inv-loop μ-loop
 loop-less-2 c =
-    let A = c .before .before .before .before .before .before .before .before in
-    let L = c .before .before .before .before .before .before .before .before .before .before .before .before .before .before in
-    let I = c .before .before .before .before .before .before .before .before .before .before .before .before in
-    omega (
-      arith,
-      counts _ _ _ _ _ _ _
-          (L .loop .inv .0 .search),
-      I .if1 .taken,
-      c .before .before .before .before .before .before .before .before .before .before .before .before .before .loop-test .taken,
-    )
+    let a = c .before .before .before .before .before .before .before .before in
+    let i = a .before .before .before .before in
+    omega (arith, counted (loop-of a), i .if1 .taken, i .before .loop-test .taken)
 
 loop-again-2 : tie.Need-loop-again-2 Inv-loop μ-loop
 loop-again-2 c =
-    let A = c .before .before .before .before .before .before .before .before in
-    let L = c .before .before .before .before .before .before .before .before .before .before .before .before .before .before in
-    let S = c .before .before .before .before .before .before .before .before .before .before .before .before .before .before .before .before .before .before .before .before in
-    let n = rw (c .enum-told2 .given .1) at (A .advance .ensures) in (
-      run-step _ _ _ _ _ _ _ _ (L .loop .inv .0) _ _ _ _ _
-          (c .before .before .before .before .before .before .before .before .before .before .before .before .before .loop-test .taken)
-          (n .0),
-      A .advance .kept .1 .1 .1 .0 ∙ L .loop .inv .1,
-      A .advance .kept .1 .1 .1 .1 .0 ∙ L .loop .inv .2,
-      A .advance .kept .1 .1 .1 .1 .1 .0 ∙ L .loop .inv .3,
-      λ left right o. ap (placedFrom left right (S .args .m) (L .loop .s) (S .args .m - L .loop .s)) (n .1 left right o)
-          ∙ L .loop .inv .4 left right o,
-      n .2 ∙ L .loop .inv .5,
-    )
+    let a = c .before .before .before .before .before .before .before .before in
+    let l = loop-of a in
+    let m = start-of l .args .m in
+    let n = rw (c .enum-told2 .given .1) at (a .advance .ensures) in
+    goes-on a _ _ (n .0)
+    (λ left right o. ap (placedFrom left right m (l .loop .s) (m - l .loop .s)) (n .1 left right o) ∙ l .loop .inv .4 left right o) (n .2)
 
 same-length : tie.Need-same-length Inv-loop μ-loop
 same-length c =
-    let A = c .before .before .before .before .before .before .before .before in
-    let L = c .before .before .before .before .before .before .before .before .before .before .before .before .before .before in
-    A .advance .kept .1 .1 .1 .0 ∙ L .loop .inv .1
+    let a = c .before .before .before .before .before .before .before .before in
+    a .advance .kept .1 .1 .1 .0 ∙ loop-of a .loop .inv .1
 
 same-length-2 : tie.Need-same-length-2 Inv-loop μ-loop
 same-length-2 c =
-    let A = c .before .before .before .before .before .before .before .before in
-    let L = c .before .before .before .before .before .before .before .before .before .before .before .before .before .before in
-    A .advance .kept .1 .1 .1 .1 .0 ∙ L .loop .inv .2
+    let a = c .before .before .before .before .before .before .before .before in
+    a .advance .kept .1 .1 .1 .1 .0 ∙ loop-of a .loop .inv .2
 
 same-length-3 : tie.Need-same-length-3 Inv-loop μ-loop
 same-length-3 c =
-    let A = c .before .before .before .before .before .before .before .before in
-    let L = c .before .before .before .before .before .before .before .before .before .before .before .before .before .before in
-    A .advance .kept .1 .1 .1 .1 .1 .0 ∙ L .loop .inv .3
+    let a = c .before .before .before .before .before .before .before .before in
+    a .advance .kept .1 .1 .1 .1 .1 .0 ∙ loop-of a .loop .inv .3
 
 returns : tie.Need-returns Inv-loop μ-loop
 returns c =
-    let n = rw (c .enum-told3 .given .1) at (c .before .before .before .before .before .before .before .before .advance .ensures) in
-    let L = c .before .before .before .before .before .before .before .before .before .before .before .before .before .before in
-    (n .0, tt, n .2 ∙ L .loop .inv .5)
+    let a = c .before .before .before .before .before .before .before .before in
+    let n = rw (c .enum-told3 .given .1) at (a .advance .ensures) in
+    (n .0, tt, n .2 ∙ loop-of a .loop .inv .5)
 
 mul-if2 : tie.Need-mul-if2 Inv-loop μ-loop
 mul-if2 c = omega arith
@@ -153,11 +142,12 @@ slice-read-if2 c = omega (arith, c .before .before .before .loop .inv .0 .search
 
 push-requires : tie.Need-push-requires Inv-loop μ-loop
 push-requires c κs =
+    let at-loop-test = c .before .before .before .before .before in
     let L = c .before .before .before .before .before .before in
     let S = c .before .before .before .before .before .before .before .before .before .before .before .before in (
       omega (arith, S .pre .0 .small),
-      c .before .before .before .before .before .loop-test .taken,
-      omega (arith, c .before .before .before .before .if1 .left, c .before .before .before .before .before .loop-test .taken),
+      at-loop-test .loop-test .taken,
+      omega (arith, c .before .before .before .before .if1 .left, at-loop-test .loop-test .taken),
       L .loop .inv .0 .search .pos-room,
       L .loop .inv .0 .search .stack-room,
     )
@@ -171,10 +161,10 @@ loop-less-3 c =
     let I = c .before .before .before .before .before .before .before .before .before in
     omega (
       arith,
-      counts _ _ _ _ _ _ _
-          (L .loop .inv .0 .search),
+      counts _ _ _ _ _ _ _ (L .loop .inv .0 .search),
       I .if1 .left,
-      c .before .before .before .before .before .before .before .before .before .before .loop-test .taken,
+      c .before .before .before .before .before .before .before
+          .before .before .before .loop-test .taken,
     )
 
 loop-again-3 : tie.Need-loop-again-3 Inv-loop μ-loop
@@ -206,14 +196,15 @@ loop-less-4 c =
 
 loop-again-4 : tie.Need-loop-again-4 Inv-loop μ-loop
 loop-again-4 c =
+    let at-if1 = c .before .before in
+    let at-loop-test = at-if1 .before in
     let L = c .before .before .before .before in (
-      run-skip _ _ _ _ _ _ _ _ (L .loop .inv .0) (c .before .before .before .loop-test .taken)
-          (c .before .before .if1 .left) (c .if2 .left),
+      run-skip _ _ _ _ _ _ _ _ (L .loop .inv .0) (at-loop-test .loop-test .taken) (at-if1 .if1 .left) (c .if2 .left),
       L .loop .inv .1,
       L .loop .inv .2,
       L .loop .inv .3,
-      planned-skip _ _ _ _ _ _ _ _ (L .loop .inv .0) _ _ (L .loop .inv .4) (c .before .before .before .loop-test .taken)
-          (c .before .before .if1 .left) (c .if2 .left),
+      planned-skip _ _ _ _ _ _ _ _ (L .loop .inv .0) _ _ (L .loop .inv .4) (at-loop-test .loop-test .taken)
+          (at-if1 .if1 .left) (c .if2 .left),
       L .loop .inv .5,
     )
 

@@ -1,6 +1,7 @@
 -- `trail::take_back` meets its contract. The invariant: what is left of the trail ends as all of it does. Assumes nothing.
+use Rattle.memory.specs.Record.{Counted}
 use Rattle.trail.proofs.Turns.{taken-none, taken-stop, taken-more}
-use Rattle.trail.specs.Trail.{Counted, entry, takenBack}
+use Rattle.trail.specs.Trail.{entry, takenBack}
 use Rattle.memory.specs.Record as M
 use Prim.Native.Nat.{ℕ, _-_, _/_, _≤_, _<_}
 use lib.ListN as N
