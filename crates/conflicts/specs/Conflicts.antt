@@ -45,10 +45,6 @@ prepared w net =
 unfoldable pub nextNode : ℕ → ℕ
 nextNode v = cond (eqb v 4294967295) v (v + 1)
 
-pub record Filled (w : List ℕ) (h : Heap) (to : Heaped) : Type 0 where
-  pub words : w ≡ to .words
-  pub heap : h ≡ to .heap
-
 -- k nodes from node v on
 unfoldable pub filled : List ℕ → Netlist → Heap → ℕ → ℕ → Heaped
 filled w net h v zero = heaped w h
