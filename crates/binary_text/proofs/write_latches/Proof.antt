@@ -22,8 +22,20 @@ abbrev μ-loop : tie.MeasureT-loop
 loop-holds : tie.Need-loop-holds Inv-loop μ-loop
 loop-holds c = let s = c .before .before .before in (s .pre .0, s .pre .1, rest-start (s .args .out .now) (s .args .at) _)
 
+add-rename : tie.Need-add-rename Inv-loop μ-loop
+add-rename c = omega arith
+
+shared-slice-read-rename : tie.Need-shared-slice-read-rename Inv-loop μ-loop
+shared-slice-read-rename c = omega arith
+
 rename-requires : tie.Need-rename-requires Inv-loop μ-loop
 rename-requires c κs = c .before .before .loop .inv .1 1 (omega (arith, c .before .loop-test .taken))
+
+add-rename-2 : tie.Need-add-rename-2 Inv-loop μ-loop
+add-rename-2 c = omega arith
+
+shared-slice-read-rename-2 : tie.Need-shared-slice-read-rename-2 Inv-loop μ-loop
+shared-slice-read-rename-2 c = omega arith
 
 rename-requires-2 : tie.Need-rename-requires-2 Inv-loop μ-loop
 rename-requires-2 c κs = c .before .before .before .before .loop .inv .1 2 (omega (arith, c .before .before .before .loop-test .taken))
@@ -78,6 +90,5 @@ pub write-latches-spec : {M : Type 1} → statement M
 write-latches-spec =
     tie.close
     (tie.spec
-    Inv-loop μ-loop loop-holds (λ c. omega arith) (λ c. search needs) (λ c. omega arith) rename-requires (λ c. omega arith)
-    (λ c. search needs) (λ c. omega arith) rename-requires-2 write-latch-requires add-p sub-left loop-less loop-again same-length
-    returns)
+    Inv-loop μ-loop loop-holds add-rename (λ c. search needs) shared-slice-read-rename rename-requires add-rename-2 (λ c. search needs)
+    shared-slice-read-rename-2 rename-requires-2 write-latch-requires add-p sub-left loop-less loop-again same-length returns)

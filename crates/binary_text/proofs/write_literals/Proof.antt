@@ -25,12 +25,13 @@ abbrev μ-loop : tie.MeasureT-loop
 loop-holds : tie.Need-loop-holds Inv-loop μ-loop
 loop-holds c = let s = c .before .before .before in (s .pre .0, s .pre .1, rest-start (s .args .out .now) (s .args .at) _)
 
+shared-slice-read-rename : tie.Need-shared-slice-read-rename Inv-loop μ-loop
+shared-slice-read-rename c = omega arith
+
 rename-requires : tie.Need-rename-requires Inv-loop μ-loop
 rename-requires c κs =
-    let start = c .before .before .before .before .before .before .before in
     let l = c .before .before .before in
-    within-here (start .args .m .now) (l .loop .p) (l .loop .left) (start .args .names .now) (c .before .before .loop-test .taken)
-    (l .loop .inv .1)
+    within-here (c .before .before .before .before .before .before .before .args .m .now) (l .loop .p) (l .loop .left) (c .before .before .before .before .before .before .before .args .names .now) (c .before .before .loop-test .taken) (l .loop .inv .1)
 
 put-ended-requires : tie.Need-put-ended-requires Inv-loop μ-loop
 put-ended-requires c κs =
@@ -81,5 +82,5 @@ pub write-literals-spec : {M : Type 1} → statement M
 write-literals-spec =
     tie.close
     (tie.spec
-    Inv-loop μ-loop loop-holds (λ c. search needs) (λ c. omega arith) rename-requires put-ended-requires add-p sub-left loop-less
+    Inv-loop μ-loop loop-holds (λ c. search needs) shared-slice-read-rename rename-requires put-ended-requires add-p sub-left loop-less
     loop-again same-length returns)

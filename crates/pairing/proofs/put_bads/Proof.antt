@@ -22,6 +22,39 @@ abbrev μ-loop : tie.MeasureT-loop
 loop-holds : tie.Need-loop-holds Inv-loop μ-loop
 loop-holds c = (omega arith, refl, stored-start _ _ _)
 
+cast-m : tie.Need-cast-m Inv-loop μ-loop
+cast-m c = omega arith
+
+mul-m : tie.Need-mul-m Inv-loop μ-loop
+mul-m c = omega arith
+
+add-m : tie.Need-add-m Inv-loop μ-loop
+add-m c = omega arith
+
+add-m-2 : tie.Need-add-m-2 Inv-loop μ-loop
+add-m-2 c = omega arith
+
+mul-m-2 : tie.Need-mul-m-2 Inv-loop μ-loop
+mul-m-2 c = omega arith
+
+add-m-3 : tie.Need-add-m-3 Inv-loop μ-loop
+add-m-3 c = omega arith
+
+add-m-4 : tie.Need-add-m-4 Inv-loop μ-loop
+add-m-4 c = omega arith
+
+mul-m-3 : tie.Need-mul-m-3 Inv-loop μ-loop
+mul-m-3 c = omega arith
+
+slice-write-m : tie.Need-slice-write-m Inv-loop μ-loop
+slice-write-m c = omega arith
+
+add-j : tie.Need-add-j Inv-loop μ-loop
+add-j c = omega arith
+
+loop-less : tie.Need-loop-less Inv-loop μ-loop
+loop-less c = omega arith
+
 loop-again : tie.Need-loop-again Inv-loop μ-loop
 loop-again c = let L = c .before .loop in let S = c .before .before in
     (omega arith, length-set (L .m) _ _ ∙ L .inv .1, put-more (S .args .to) (λ k. 2 * (S .args .v + 3 * k + 2) + 1) (S .args .n) (L .j) (S .args .m .now) (L .m) (L .inv .1) (omega arith) (omega arith) (L .inv .2) _ refl)
@@ -36,6 +69,5 @@ pub put-bads-spec : {M : Type 1} → statement M
 put-bads-spec =
     tie.close
     (tie.spec
-    Inv-loop μ-loop loop-holds (λ c. omega arith) (λ c. omega arith) (λ c. omega arith) (λ c. omega arith) (λ c. omega arith)
-    (λ c. omega arith) (λ c. omega arith) (λ c. omega arith) (λ c. omega arith) (λ c. omega arith) (λ c. omega arith) loop-again
+    Inv-loop μ-loop loop-holds cast-m mul-m add-m add-m-2 mul-m-2 add-m-3 add-m-4 mul-m-3 slice-write-m add-j loop-less loop-again
     same-length returns)

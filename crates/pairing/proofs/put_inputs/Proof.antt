@@ -22,6 +22,30 @@ abbrev μ-loop : tie.MeasureT-loop
 loop-holds : tie.Need-loop-holds Inv-loop μ-loop
 loop-holds c = (omega arith, refl, stored-start _ _ _)
 
+cast-m : tie.Need-cast-m Inv-loop μ-loop
+cast-m c = omega arith
+
+add-m : tie.Need-add-m Inv-loop μ-loop
+add-m c = omega arith
+
+mul-m : tie.Need-mul-m Inv-loop μ-loop
+mul-m c = omega arith
+
+add-m-2 : tie.Need-add-m-2 Inv-loop μ-loop
+add-m-2 c = omega arith
+
+mul-m-2 : tie.Need-mul-m-2 Inv-loop μ-loop
+mul-m-2 c = omega arith
+
+slice-write-m : tie.Need-slice-write-m Inv-loop μ-loop
+slice-write-m c = omega arith
+
+add-i : tie.Need-add-i Inv-loop μ-loop
+add-i c = omega arith
+
+loop-less : tie.Need-loop-less Inv-loop μ-loop
+loop-less c = omega arith
+
 loop-again : tie.Need-loop-again Inv-loop μ-loop
 loop-again c = let L = c .before .loop in let S = c .before .before in
     (omega arith, length-set (L .m) _ _ ∙ L .inv .1, put-more 7 (λ k. 2 * (k + 1)) (S .args .n) (L .i) (S .args .m .now) (L .m) (L .inv .1) (omega arith) (omega arith) (L .inv .2) _ refl)
@@ -36,5 +60,4 @@ pub put-inputs-spec : {M : Type 1} → statement M
 put-inputs-spec =
     tie.close
     (tie.spec
-    Inv-loop μ-loop loop-holds (λ c. omega arith) (λ c. omega arith) (λ c. omega arith) (λ c. omega arith) (λ c. omega arith)
-    (λ c. omega arith) (λ c. omega arith) (λ c. omega arith) loop-again same-length returns)
+    Inv-loop μ-loop loop-holds cast-m add-m mul-m add-m-2 mul-m-2 slice-write-m add-i loop-less loop-again same-length returns)

@@ -14,14 +14,12 @@ use Rattle.pairing.proofs.opposite.Reads as opposite-reads
 
 returns : tie.Need-returns
 returns c =
-    let at-copy-words = c .before .before in
     let S = c .before .before .before .before .before .before .before .before in
     let v = S .args .v in
     let row : ℕ → ℕ → List ℕ =
     λ x y. 2 * v ∷ S .args .p ∷ x ∷ 2 * (v + 1) ∷ y ∷ S .args .q ∷ 2 * (v + 2) ∷ (2 * v + 1) ∷ (2 * (v + 1) + 1) ∷ [] in
-    subst (λ (r : List ℕ). Put (S .args .to) (word r) 9 (S .args .m .now) (at-copy-words .copy-words .last .1 .1 .0))
-    (ap₂ row (c .before .before .before .before .before .before .opposite .ensures .0)
-    (c .before .before .before .before .before .opposite2 .ensures .0)) (at-copy-words .copy-words .ensures)
+    subst (λ (r : List ℕ). Put (S .args .to) (word r) 9 (S .args .m .now) (c .before .before .copy-words .last .1 .1 .0))
+    (ap₂ row (c .before .before .before .before .before .before .opposite .ensures .0) (c .before .before .before .before .before .opposite2 .ensures .0)) (c .before .before .copy-words .ensures)
 
 pub put-pair-spec : {M : Type 1} → statement M
 put-pair-spec =

@@ -33,6 +33,9 @@ loop-holds c = (omega arith, refl, stored-start _ _ _)
 add-rename : tie.Need-add-rename Inv-loop μ-loop
 add-rename c = let s = c .before .before .before .before .before .before .before .before .before in omega (arith, s .pre .0 .0 .outputs-inside)
 
+mul-rename : tie.Need-mul-rename Inv-loop μ-loop
+mul-rename c = omega arith
+
 shared-slice-read-rename : tie.Need-shared-slice-read-rename Inv-loop μ-loop
 shared-slice-read-rename c = let s = c .before .before .before .before .before .before .before .before .before .before in omega (arith, s .pre .0 .0 .outputs-inside)
 
@@ -41,6 +44,9 @@ rename-requires c κs = c .before .before .before .before .before .before .befor
 
 add-rename-2 : tie.Need-add-rename-2 Inv-loop μ-loop
 add-rename-2 c = let s = c .before .before .before .before .before .before .before .before .before .before .before in omega (arith, s .pre .0 .1 .outputs-inside, s .pre .0 .5)
+
+mul-rename-2 : tie.Need-mul-rename-2 Inv-loop μ-loop
+mul-rename-2 c = omega arith
 
 shared-slice-read-rename-2 : tie.Need-shared-slice-read-rename-2 Inv-loop μ-loop
 shared-slice-read-rename-2 c = let s = c .before .before .before .before .before .before .before .before .before .before .before .before in omega (arith, s .pre .0 .1 .outputs-inside, s .pre .0 .5)
@@ -72,6 +78,12 @@ put-pair-requires c κs =
       c .before .rename2 .ensures .1,
       omega (arith, L .inv .1, s .pre .1, c .before .before .before .before .before .before .before .before .pairs-from .ensures),
     )
+
+add-j : tie.Need-add-j Inv-loop μ-loop
+add-j c = omega arith
+
+loop-less : tie.Need-loop-less Inv-loop μ-loop
+loop-less c = omega arith
 
 loop-again : tie.Need-loop-again Inv-loop μ-loop
 loop-again c =
@@ -106,6 +118,6 @@ pub put-pairs-spec : {M : Type 1} → statement M
 put-pairs-spec =
     tie.close
     (tie.spec
-    Inv-loop μ-loop pairs-from-requires pairs-var-requires loop-holds add-rename (λ c. omega arith) shared-slice-read-rename
-    rename-requires add-rename-2 (λ c. omega arith) shared-slice-read-rename-2 rename-requires-2 mul-put-pair add-put-pair cast-put-pair
-    mul-put-pair-2 add-put-pair-2 put-pair-requires (λ c. omega arith) (λ c. omega arith) loop-again same-length returns)
+    Inv-loop μ-loop pairs-from-requires pairs-var-requires loop-holds add-rename mul-rename shared-slice-read-rename rename-requires
+    add-rename-2 mul-rename-2 shared-slice-read-rename-2 rename-requires-2 mul-put-pair add-put-pair cast-put-pair mul-put-pair-2
+    add-put-pair-2 put-pair-requires add-j loop-less loop-again same-length returns)

@@ -15,14 +15,10 @@ use Rattle.pairing.proofs.write_properties.Statement.{statement}
 use Rattle.pairing.proofs.write_properties.Tie as tie
 
 properties-at-requires : tie.Need-properties-at-requires
-properties-at-requires c κs =
-    let start = c .before .before .before .before .before in
-    (start .pre .0 .2, start .pre .0 .3)
+properties-at-requires c κs = (c .before .before .before .before .before .pre .0 .2, c .before .before .before .before .before .pre .0 .3)
 
 pairs-var-requires : tie.Need-pairs-var-requires
-pairs-var-requires c κs =
-    let start = c .before .before .before .before .before .before in
-    (start .pre .0 .2, start .pre .0 .3)
+pairs-var-requires c κs = (c .before .before .before .before .before .before .pre .0 .2, c .before .before .before .before .before .before .pre .0 .3)
 
 put-bads-requires : tie.Need-put-bads-requires
 put-bads-requires c κs =
@@ -60,26 +56,21 @@ same-length c = c .before .before .rename-words2 .kept .1 .1 .1 .1 .0 ∙ c .bef
 returns : tie.Need-returns
 unfolding propertyWords
 returns c =
-    let at-pairs-var = c .before .before .before .before .before .before .before .before .before .before .before .before .before .before
-    .before in
-    let at-properties-at = at-pairs-var .before in
     λ xs m e t z.
-    let s = c .before .before .before .before .before .before .before .before .before .before .before .before .before .before .before
-    .before .before .before .before .before .before .before in
+    let s = c .before .before .before .before .before .before .before .before .before .before .before .before .before .before .before .before .before .before .before .before .before .before in
     let p = s .args .p in
     let q = s .args .q in
     let k = c .before .before .before .before .before .before .before .before .before .before .before .before .before .put-bads in
     let a = c .before .before .before .before .before .before .before .before .rename-words in
     let b = c .before .before .rename-words2 in
-    let at : ℕ = at-properties-at .properties-at .result in
-    let v : ℕ = at-pairs-var .pairs-var .result in
-    let here : at ≡ propertiesAt p q = at-properties-at .properties-at .ensures in
-    let var : v ≡ pairsVar p q = at-pairs-var .pairs-var .ensures in
+    let at : ℕ = c .before .before .before .before .before .before .before .before .before .before .before .before .before .before .before .before .properties-at .result in
+    let v : ℕ = c .before .before .before .before .before .before .before .before .before .before .before .before .before .before .before .pairs-var .result in
+    let here : at ≡ propertiesAt p q = c .before .before .before .before .before .before .before .before .before .before .before .before .before .before .before .before .properties-at .ensures in
+    let var : v ≡ pairsVar p q = c .before .before .before .before .before .before .before .before .before .before .before .before .before .before .before .pairs-var .ensures in
     let f : ℕ → ℕ = λ j. 2 * (pairsVar p q + 3 * j + 2) + 1 in
     let fa : ℕ → ℕ = λ j. under (s .args .first .now) (word (s .args .a .now) (p .constraints + j)) in
     let fb : ℕ → ℕ = λ j. under (s .args .second .now) (word (s .args .b .now) (q .constraints + j)) in
-    let bads : Put at f (p .o) (s .args .m .now) (k .last .0) = subst
-    (λ (x : ℕ). Put at (λ j. 2 * (x + 3 * j + 2) + 1) (p .o) (s .args .m .now) (k .last .0)) var (k .ensures) in
+    let bads : Put at f (p .o) (s .args .m .now) (k .last .0) = subst (λ (x : ℕ). Put at (λ j. 2 * (x + 3 * j + 2) + 1) (p .o) (s .args .m .now) (k .last .0)) var (k .ensures) in
     let ys : List ℕ = xs ++ map f (upto (p .o)) in
     let zs : List ℕ = ys ++ map fa (upto (p .c)) in
     let room : at + p .o + p .c + q .c ≤ length m = omega (arith, s .pre .1 .1, z) in
@@ -87,11 +78,9 @@ returns c =
     let n₁ : at + p .o ≡ length ys = longer xs at (p .o) f n₀ in
     let n₂ : at + p .o + p .c ≡ length zs = longer ys (at + p .o) (p .c) fa n₁ in
     let e₁ = next-front xs m (s .args .m .now) (k .last .0) at (p .o) f e n₀ (omega (arith, room)) (k .kept .0) bads in
-    let e₂ = next-front ys m (k .last .0) (a .last .1 .1 .1 .1 .0) (at + p .o) (p .c) fa e₁ n₁ (omega (arith, room))
-    (a .kept .1 .1 .1 .1 .0) (a .ensures) in
+    let e₂ = next-front ys m (k .last .0) (a .last .1 .1 .1 .1 .0) (at + p .o) (p .c) fa e₁ n₁ (omega (arith, room)) (a .kept .1 .1 .1 .1 .0) (a .ensures) in
     let e₃ =
-    next-front zs m (a .last .1 .1 .1 .1 .0) (b .last .1 .1 .1 .1 .0) (at + p .o + p .c) (q .c) fb e₂ n₂ (omega (arith, room))
-    (b .kept .1 .1 .1 .1 .0) (b .ensures) in
+    next-front zs m (a .last .1 .1 .1 .1 .0) (b .last .1 .1 .1 .1 .0) (at + p .o + p .c) (q .c) fb e₂ n₂ (omega (arith, room)) (b .kept .1 .1 .1 .1 .0) (b .ensures) in
     e₃ ∙ ap (λ (w : List ℕ). front w m) (regroup xs (map f (upto (p .o))) (map fa (upto (p .c))) (map fb (upto (q .c))))
 
 pub write-properties-spec : {M : Type 1} → statement M
