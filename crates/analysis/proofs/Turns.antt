@@ -4,20 +4,18 @@ use mathlib.Core.List.{List}
 use Prim.Native.Nat.{ℕ, zero, suc, _-_, _/_, _≤_, _<_}
 use native.Mathlib.Omega.{arith}
 use borrow.Author.Tests.{le-leb, lt-leb}
+use Rattle.memory.specs.Record.{counted}
 use Rattle.memory.specs.declared.Netlist.{Netlist}
 use Rattle.memory.specs.declared.Arena.{Arena}
 use Rattle.memory.specs.declared.Draft.{Draft}
 use Rattle.resolve.specs.Draft.{drafted, draftAt}
 use Rattle.analysis.specs.declared.Analysis.{Analysis}
-use Rattle.analysis.specs.Analysis.{Analysed, Left, Counted, Told, counted, reached}
-use Rattle.analysis.specs.Analysis.{touched, tallied, touchedAll, visited, descended, expanded, expandedFrom}
+use Rattle.analysis.specs.Analysis.{Analysed, Left, reached, touched, tallied, touchedAll, visited, descended, expanded}
+use Rattle.analysis.specs.Analysis.{expandedFrom}
 
 -- what a loop leaves, by the equation of its function
 pub left-by : {a b : Analysed} → a ≡ b → Left (a .words) (a .now) b
 left-by e = record { words = ap (λ (t : Analysed). t .words) e; now = ap (λ (t : Analysed). t .now) e }
-
-pub told-by : {a b : Counted} → a ≡ b → Told (a .words) (a .count) b
-told-by e = record { words = ap (λ (t : Counted). t .words) e; count = ap (λ (t : Counted). t .count) e }
 
 module _ (w : List ℕ) (net : Netlist) (arena : Arena) where
   pub touched-none : (from level step k n : ℕ) → k ≤ from → touchedAll w net arena from level step k n ≡ counted w n

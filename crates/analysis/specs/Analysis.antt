@@ -4,7 +4,7 @@ use mathlib.Core.Bool.{Bool, true, false, cond}
 use mathlib.Core.List.{List}
 use Prim.Native.Nat.{ℕ, zero, suc, _+_, _-_, _/_}
 use lib.Dec.{eqb, leb, ltb}
-use Rattle.memory.specs.Record.{field, stored, opposite}
+use Rattle.memory.specs.Record.{Counted, counted, largest, field, stored, opposite}
 use Rattle.memory.specs.declared.Netlist.{Netlist}
 use Rattle.memory.specs.declared.Arena.{Arena}
 use Rattle.memory.specs.declared.Draft.{Draft}
@@ -13,15 +13,7 @@ use Rattle.reasons.specs.Reason.{isReason}
 use Rattle.resolve.specs.Draft.{Drafted, draftOf, drafted, draftAt, isMember, started, resolved}
 use Rattle.analysis.specs.declared.Analysis.{Analysis}
 
--- what a step leaves: the words and a number, or the words and an analysis
-pub record Counted : Type 0 where
-  pub words : List ℕ
-  pub count : ℕ
-
-pub record Told (w : List ℕ) (n : ℕ) (to : Counted) : Type 0 where
-  pub words : w ≡ to .words
-  pub count : n ≡ to .count
-
+-- what a step leaves: the words and an analysis
 pub record Analysed : Type 0 where
   pub words : List ℕ
   pub now : Analysis
@@ -29,9 +21,6 @@ pub record Analysed : Type 0 where
 pub record Left (w : List ℕ) (a : Analysis) (to : Analysed) : Type 0 where
   pub words : w ≡ to .words
   pub now : a ≡ to .now
-
-abbrev pub counted : List ℕ → ℕ → Counted
-counted w n = record { words = w; count = n }
 
 abbrev pub reached : List ℕ → Analysis → Analysed
 reached w a = record { words = w; now = a }
@@ -44,7 +33,7 @@ abbrev pub draft : Analysis → Draft
 draft a = draftOf (a .length) (a .whole)
 
 unfoldable pub sum : ℕ → ℕ → ℕ
-sum a b = cond (ltb (4294967295 - a) b) 4294967295 (a + b)
+sum a b = cond (ltb (largest - a) b) largest (a + b)
 
 unfoldable pub less : ℕ → ℕ
 less a = cond (eqb a 0) 0 (a - 1)

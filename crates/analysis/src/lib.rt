@@ -3,6 +3,7 @@
 use memory::ACT;
 use memory::Arena;
 use memory::Draft;
+use memory::LARGEST;
 use memory::LEVEL;
 use memory::Netlist;
 use memory::REASON;
@@ -18,6 +19,7 @@ use resolve::resolve;
 use resolve::start;
 ghost use mathlib.Core.Path.{_≡_};
 ghost use Rattle.resolve.specs.Draft as D;
+ghost use Rattle.memory.specs.Record.{Told};
 ghost use Rattle.analysis.specs.Analysis as S;
 
 // A working clause, and how many of its literals are of the level of the conflict.
@@ -31,11 +33,7 @@ pub struct Analysis {
 fn sum(a: u32, b: u32) -> u32
     ensures { λ r. ⌜ r ≡ S.sum a b ⌝ }
 {
-    if 4294967295 - a < b {
-        4294967295
-    } else {
-        a + b
-    }
+    if LARGEST - a < b { LARGEST } else { a + b }
 }
 
 // One less, or 0.
@@ -73,7 +71,7 @@ fn touch_all(
     level: u32,
     step: u32,
 ) -> u32
-    ensures { λ r. ⌜ S.Told (now (work .exit)) r (S.touchedAll (now (work .entry)) net arena from level step length 0) ⌝ }
+    ensures { λ r. ⌜ Told (now (work .exit)) r (S.touchedAll (now (work .entry)) net arena from level step length 0) ⌝ }
 {
     let mut left = length;
     let mut n = 0;

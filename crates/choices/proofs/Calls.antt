@@ -10,6 +10,7 @@ use Rattle.memory.specs.declared.Netlist.{Netlist}
 use Rattle.memory.specs.declared.Draft.{Draft}
 use Rattle.memory.specs.declared.Heap.{Heap}
 use Rattle.analysis.specs.Analysis.{expandedAll}
+use Rattle.floor.specs.declared.Refutation.{Refutation}
 use Rattle.floor.specs.Place.{refuted}
 use Rattle.trail.specs.Trail.{value}
 use Rattle.heap.specs.Heap.{nodeAt, skimmed}
@@ -28,14 +29,14 @@ module _ (s : Search) where
       e ∙ ap (withOrder s) c ∙ ap (λ (v : ℕ). withOrder s (withAgreed (s .order) v)) (b ∙ ap (smaller (s .order .agreed)) a)
 
 module _ (w : List ℕ) (net : Netlist) (s : Search) where
-  pub contradicted-by : (l : ℕ) {w1 w2 : List ℕ} {d : Draft} {i : ℕ} → w1 ≡ explained w net s l .words → d ≡ explained w net s l .draft
-      → w2 ≡ refuted w1 net (s .arena) d .words → i ≡ refuted w1 net (s .arena) d .count → concluded w2 net s i ≡ contradicted w net s l
+  pub contradicted-by : (l : ℕ) {w1 w2 : List ℕ} {d : Draft} {i : Refutation} → w1 ≡ explained w net s l .words → d ≡ explained w net s l .draft
+      → w2 ≡ refuted w1 net (s .arena) d .words → i ≡ refuted w1 net (s .arena) d .says → concluded w2 net s i ≡ contradicted w net s l
   unfolding contradicted
   contradicted-by l a b c e = rw (e, c, b, a)
 
-  pub zero-by : (r : ℕ) {w1 w2 : List ℕ} {d : Draft} {i : ℕ} → w1 ≡ expandedAll w net (s .arena) r (s .trail .length) .words
+  pub zero-by : (r : ℕ) {w1 w2 : List ℕ} {d : Draft} {i : Refutation} → w1 ≡ expandedAll w net (s .arena) r (s .trail .length) .words
       → d ≡ expandedAll w net (s .arena) r (s .trail .length) .draft → w2 ≡ refuted w1 net (s .arena) d .words
-      → i ≡ refuted w1 net (s .arena) d .count → concluded w2 net s i ≡ contradictedAtZero w net s r
+      → i ≡ refuted w1 net (s .arena) d .says → concluded w2 net s i ≡ contradictedAtZero w net s r
   unfolding contradictedAtZero
   zero-by r a b c e = rw (e, c, b, a)
 

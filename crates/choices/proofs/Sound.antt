@@ -15,6 +15,8 @@ use Rattle.clauses.specs.Floor.{Floor, prefix}
 use Rattle.resolve.specs.Draft.{Drafted}
 use Rattle.analysis.specs.Analysis.{expandedAll}
 use Rattle.analysis.proofs.Sound.{expand-all-sound}
+use Rattle.floor.specs.declared.Refutation.{Refutation}
+use Rattle.floor.specs.declared.Refutation.the-variants.{Raised, NoHit, Unlearnt}
 use Rattle.floor.specs.Place.{refuted, edge, evaluated}
 use Rattle.floor.proofs.Bits.{prefix-same}
 use Rattle.floor.proofs.Rise.{bits}
@@ -31,7 +33,7 @@ use Rattle.learning.proofs.Sound.{Stands, retreat-stands}
 use Rattle.choices.specs.Begun.{Begun}
 use Rattle.choices.specs.Choices.{agreed, wish, withAgreed, ended, explained, less, smaller, released, concluded, contradicted, contradictedBy, contradictedAtZero, taken, assumed, ordered, changed, shownWords, isShown, confirmed, modelled, decidedActive, decidedNext, chosen}
 use Rattle.choices.proofs.Explained.{Explains, explain-explains}
-use Rattle.choices.proofs.Refuted.{refute-none, refute-stands}
+use Rattle.choices.proofs.Refuted.{Known, refute-known}
 
 -- the place of the floor
 abbrev pub floorAt : Netlist → List ℕ → ℕ
@@ -83,21 +85,12 @@ module _ (hit : (ℕ → Bool) → Type 0) (hits : ℕ → Type 0) (val : ℕ �
   clause-holds w s d e given =
       let stand = stand-on hit hits net begun (given .0) (e .1) (e .0 .sound) in
       let r = refuted (d .words) net (s .arena) (d .draft) in
-      let none = refute-none hit hits val net begun begin (s .arena) (d .words) (d .draft) (e .0) stand in
-      let some = refute-stands hit hits val net begun begin (s .arena) (d .words) (d .draft) (e .0) stand in
-      go (r .words) (r .count) none some
+      go (r .words) (r .says) (refute-known hit hits val net begun begin (s .arena) (d .words) (d .draft) (e .0) stand)
     where
-      go : (u : List ℕ) (n : ℕ) → (n ≡ 0 → (x : ℕ) → hits x → ⊥) → ((n ≡ 0 → ⊥) → Standing hit hits net begun (s .arena) u)
-          → Holds (cond (eqb n 4294967295) (searched u (ended s 3)) (cond (eqb n 0) (searched u (ended s 2)) (released u net s n)))
-      go u n none some =
-          elim (ℕ-discrete n 4294967295) [
-            | yes e ↦ rw (eq-eqb n 4294967295 e) (ended-out u s (some (λ z. omega arith) .floor))
-            | no e ↦
-                elim (ℕ-discrete n 0) [
-                  | yes f ↦ rw (ne-eqb n 4294967295 e, eq-eqb n 0 f) (ended-none u s (none f))
-                  | no f ↦ rw (ne-eqb n 4294967295 e, ne-eqb n 0 f) (holds (released u net s n) (release-stands u s n (some f, given .1)))
-                ]
-          ]
+      go : (u : List ℕ) (r : Refutation) → Known hit hits net begun (s .arena) u r → Holds (concluded u net s r)
+      go u (Raised i) k = holds (released u net s i) (release-stands u s i (k, given .1))
+      go u NoHit k = ended-none u s k
+      go u Unlearnt k = ended-out u s (k .floor)
 
   contradict-holds : (w : List ℕ) (s : Search) (l : ℕ) → Stands hit hits net begun (searched w s) → Holds (contradicted w net s l)
   unfolding contradicted

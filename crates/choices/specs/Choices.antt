@@ -9,7 +9,9 @@ use Rattle.memory.specs.declared.Arena.{Arena}
 use Rattle.reasons.specs.Reason.{isFalse}
 use Rattle.resolve.specs.Draft.{Drafted, draftOf, drafted, started}
 use Rattle.analysis.specs.Analysis.{expandedAll}
-use Rattle.floor.specs.Place.{Counted, refuted, edge, evaluated}
+use Rattle.floor.specs.declared.Refutation.{Refutation}
+use Rattle.floor.specs.declared.Refutation.the-variants.{Raised, NoHit, Unlearnt}
+use Rattle.floor.specs.Place.{refuted, edge, evaluated}
 use Rattle.trail.specs.Trail.{Stood, value, decided}
 use Rattle.heap.specs.Heap.{Heaped, nodeAt, skimmed}
 use Rattle.learning.specs.declared.Order.{Order}
@@ -78,14 +80,15 @@ released w net s i =
     cond (eqb (field w (net .nodes) i 5) 0) (retreated w net s (less (field w (net .nodes) i 6)))
     (searched w (withOrder s (withAgreed (s .order) (smaller (s .order .agreed) (less i)))))
 
-unfoldable pub concluded : List ℕ → Netlist → Search → ℕ → Searched
-concluded w net s i =
-    cond (eqb i 4294967295) (searched w (ended s 3)) (cond (eqb i 0) (searched w (ended s 2)) (released w net s i))
+unfoldable pub concluded : List ℕ → Netlist → Search → Refutation → Searched
+concluded w net s (Raised i) = released w net s i
+concluded w net s NoHit = searched w (ended s 2)
+concluded w net s Unlearnt = searched w (ended s 3)
 
 -- by the working clause d
 abbrev pub contradictedBy : Drafted → Netlist → Search → Searched
 contradictedBy d net s =
-    concluded (refuted (d .words) net (s .arena) (d .draft) .words) net s (refuted (d .words) net (s .arena) (d .draft) .count)
+    concluded (refuted (d .words) net (s .arena) (d .draft) .words) net s (refuted (d .words) net (s .arena) (d .draft) .says)
 
 unfoldable pub contradicted : List ℕ → Netlist → Search → ℕ → Searched
 contradicted w net s l = contradictedBy (explained w net s l) net s

@@ -1,6 +1,7 @@
 // Choice of decisions: the hit is true, then free bits have the floor's values, then the most active node is false. Where a value
 // contradicts the hit or the floor, the floor rises; where all have values, the floor is evaluated.
 use analysis::expand_all;
+use floor::Refutation;
 use floor::refute;
 use floor::show;
 use heap::at_place;
@@ -152,17 +153,15 @@ fn release(work: &mut [u32], net: Netlist, s: Search, i: u32) -> Search
     with_order(s, with_agreed(o, smaller(o.agreed, less(i))))
 }
 
-// What the raise of the floor says: there is no hit, nothing is learnt, or the bit of node i became 1.
-fn conclude(work: &mut [u32], net: Netlist, s: Search, i: u32) -> Search
-    ensures { λ r. ⌜ Ln.Left (now (work .exit)) r (Ch.concluded (now (work .entry)) net s i) ⌝ }
+// What becomes of the search after a raise of the floor.
+fn conclude(work: &mut [u32], net: Netlist, s: Search, raise: Refutation) -> Search
+    ensures { λ r. ⌜ Ln.Left (now (work .exit)) r (Ch.concluded (now (work .entry)) net s raise) ⌝ }
 {
-    if i == 4294967295 {
-        return end(s, 3);
+    match raise {
+        Refutation::Raised(i) => release(work, net, s, i),
+        Refutation::NoHit => end(s, 2),
+        Refutation::Unlearnt => end(s, 3),
     }
-    if i == 0 {
-        return end(s, 2);
-    }
-    release(work, net, s, i)
 }
 
 // Literal l is true, against the hit or the floor.
@@ -171,8 +170,8 @@ fn contradict(work: &mut [u32], net: Netlist, s: Search, l: u32) -> Search
 {
     let a = s.arena;
     let d = explain(work, net, s, l);
-    let i = refute(work, net, a, d);
-    conclude(work, net, s, i)
+    let raise = refute(work, net, a, d);
+    conclude(work, net, s, raise)
 }
 
 // Clause r is violated at level 0: resolved with the reasons of its literals it has none left, and there is no hit.
@@ -182,8 +181,8 @@ pub fn conflict_at_zero(work: &mut [u32], net: Netlist, s: Search, r: u32) -> Se
     let a = s.arena;
     let n = s.trail.length;
     let d = expand_all(work, net, a, n, r);
-    let i = refute(work, net, a, d);
-    conclude(work, net, s, i)
+    let raise = refute(work, net, a, d);
+    conclude(work, net, s, raise)
 }
 
 // Literal l becomes true by decision.

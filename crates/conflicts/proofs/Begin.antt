@@ -6,7 +6,7 @@ use Prim.Native.Nat.{ℕ, zero, suc, _+_, _-_, _*_, _/_, _≤_, _<_}
 use native.Mathlib.Omega.{arith}
 use borrow.Author.Tests.{ne-eqb}
 use lib.ListN.{set, length-set}
-use Rattle.memory.specs.Record.{stored}
+use Rattle.memory.specs.Record.{undef, successor, stored}
 use Rattle.memory.specs.declared.Netlist.{Netlist}
 use Rattle.memory.specs.declared.Heap.{Heap}
 use Rattle.clauses.specs.Floor.{prefix}
@@ -20,7 +20,7 @@ use Rattle.heap.specs.Heap.{admitted}
 use Rattle.heap.proofs.Frame.{admit-same}
 use Rattle.learning.proofs.Standing.{Standing, stand-same}
 use Rattle.choices.specs.Begun.{Begun}
-use Rattle.conflicts.specs.Conflicts.{reset, resetRest, resetAll, wiped, prepared, nextNode, filled}
+use Rattle.conflicts.specs.Conflicts.{reset, resetRest, resetAll, wiped, prepared, filled}
 
 -- the number that zeros make
 prefix-low : (b : ℕ → ℕ) → ((v : ℕ) → b v ≡ 0) → (n : ℕ) → prefix b n ≡ 0
@@ -37,22 +37,22 @@ module _ (net : Netlist) (room : 14 * net .nodes ≤ net .words) where
   reset-same w v value =
       let n = net .nodes in
       let a = stored w n v 3 0 in
-      let b = stored a n v 4 4294967295 in
+      let b = stored a n v 4 undef in
       let c = stored b n v 5 value in
       let d = stored c n v 6 0 in
       same-trans (still w v 3 0 (omega arith) (omega arith))
-      (same-trans (still a v 4 4294967295 (omega arith) (omega arith))
+      (same-trans (still a v 4 undef (omega arith) (omega arith))
       (same-trans (still b v 5 value (omega arith) (omega arith))
-      (same-trans (still c v 6 0 (omega arith) (omega arith)) (still d v 7 4294967295 (omega arith) (omega arith)))))
+      (same-trans (still c v 6 0 (omega arith) (omega arith)) (still d v 7 undef (omega arith) (omega arith)))))
 
   rest-same : (w : List ℕ) (v : ℕ) → Same net (arenaOf 0 0) w (resetRest w (net .nodes) v)
   unfolding resetRest
   rest-same w v =
       let n = net .nodes in
-      let a = stored w n v 8 4294967295 in
+      let a = stored w n v 8 undef in
       let b = stored a n v 9 0 in
       let c = stored b n v 10 0 in
-      same-trans (still w v 8 4294967295 (omega arith) (omega arith))
+      same-trans (still w v 8 undef (omega arith) (omega arith))
       (same-trans (still a v 9 0 (omega arith) (omega arith))
       (same-trans (still b v 10 0 (omega arith) (omega arith)) (still c v 11 0 (omega arith) (omega arith))))
 
@@ -90,7 +90,7 @@ module _ (net : Netlist) (room : 14 * net .nodes ≤ net .words) where
   fill-same w h v zero = same-refl net (arenaOf 0 0) w
   fill-same w h v (suc k) =
       let s = admitted w net h v in
-      same-trans (admit-same net (arenaOf 0 0) (omega arith) w h v) (fill-same (s .words) (s .heap) (nextNode v) k)
+      same-trans (admit-same net (arenaOf 0 0) (omega arith) w h v) (fill-same (s .words) (s .heap) (successor v) k)
 
 module _ (hit : (ℕ → Bool) → Type 0) (hits : ℕ → Type 0) (val : ℕ → ℕ → Bool) (net : Netlist) (w : List ℕ) (begin : Begun hit hits val net w) where
   first-sound : Sound hit net (arenaOf 0 0) w

@@ -8,7 +8,7 @@ use native.Mathlib.Omega.{arith}
 use borrow.Author.Tests.{lt-leb}
 use lib.ListN.{length, getD, set, length-set}
 use lib.Seq.{getD-set-same, getD-set-other, ext-getD}
-use Rattle.memory.specs.Record.{place, stored}
+use Rattle.memory.specs.Record.{undef, place, stored}
 use Rattle.memory.specs.declared.Netlist.{Netlist}
 use Rattle.reasons.proofs.Frame.{length-stored}
 use Rattle.conflicts.specs.Conflicts.{reset, resetRest, resetAll, wiped, prepared, ran}
@@ -105,9 +105,9 @@ module _ (nodes : ℕ) where
         → Alike size j P (reset a nodes v 2) (reset b nodes v 2)
     unfolding reset
     alike-reset v h t =
-        alike-stored nodes wide v 7 4294967295 h (omega arith) (alike-stored nodes wide v 6 0 (λ p. h (p .1)) (omega arith)
+        alike-stored nodes wide v 7 undef h (omega arith) (alike-stored nodes wide v 6 0 (λ p. h (p .1)) (omega arith)
         (alike-stored nodes wide v 5 2 (λ p. h (p .1 .1)) (omega arith)
-        (alike-stored nodes wide v 4 4294967295 (λ p. h (p .1 .1 .1)) (omega arith)
+        (alike-stored nodes wide v 4 undef (λ p. h (p .1 .1 .1)) (omega arith)
         (alike-stored nodes wide v 3 0 (λ p. h (p .1 .1 .1 .1)) (omega arith) t))))
 
     alike-rest : {P : Type 0} {a b : List ℕ} (v : ℕ) → (P → v < nodes)
@@ -117,7 +117,7 @@ module _ (nodes : ℕ) where
     alike-rest v h t =
         alike-stored nodes wide v 11 0 h (omega arith) (alike-stored nodes wide v 10 0 (λ p. h (p .1)) (omega arith)
         (alike-stored nodes wide v 9 0 (λ p. h (p .1 .1)) (omega arith)
-        (alike-stored nodes wide v 8 4294967295 (λ p. h (p .1 .1 .1)) (omega arith) t)))
+        (alike-stored nodes wide v 8 undef (λ p. h (p .1 .1 .1)) (omega arith) t)))
 
     alike-all : (n : ℕ) (a b : List ℕ) → n ≤ nodes → Alike size j (Given n j) a b
         → Alike size j (Given 0 j) (resetAll a nodes n) (resetAll b nodes n)

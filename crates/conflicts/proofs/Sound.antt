@@ -5,6 +5,7 @@ use mathlib.Core.List.{List}
 use Prim.Native.Nat.{ℕ, zero, suc}
 use borrow.Author.Tests.{eqb-true}
 use lib.Dec.{eqb, leb}
+use Rattle.memory.specs.Record.{undef}
 use Rattle.memory.specs.declared.Netlist.{Netlist}
 use Rattle.settling.proofs.Sound.{propagate-same}
 use Rattle.learning.specs.declared.Search.{Search}
@@ -68,7 +69,7 @@ module _ (hit : (ℕ → Bool) → Type 0) (hits : ℕ → Type 0) (val : ℕ �
   step-holds w s given =
       let a = followed w net s in
       let on = follow-stands w s given in
-      either hit hits val net begun begin (eqb (a .search .trail .clash) 4294967295) (extended (a .words) net (a .search)) (repaired (a .words) net (a .search))
+      either hit hits val net begun begin (eqb (a .search .trail .clash) undef) (extended (a .words) net (a .search)) (repaired (a .words) net (a .search))
       (extend-holds (a .words) (a .search) on) (repair-holds (a .words) (a .search) on)
 
   pub steps-hold : (w : List ℕ) (s : Search) (effort k : ℕ) → Holds hit hits val net begun begin (searched w s)

@@ -5,12 +5,13 @@ use Prim.Native.Nat.{ℕ, zero, suc, _+_, _-_, _≤_, _<_}
 use native.Mathlib.Omega.{arith}
 use borrow.Author.Tests.{eq-eqb, ne-eqb, le-leb, lt-leb}
 use lib.ListN.{set}
+use Rattle.memory.specs.Record.{successor}
 use Rattle.memory.specs.declared.Netlist.{Netlist}
 use Rattle.memory.specs.declared.Heap.{Heap}
 use Rattle.heap.specs.Heap.{heaped, admitted}
 use Rattle.learning.specs.declared.Search.{Search}
 use Rattle.learning.specs.Learning.{Searched, Left, searched}
-use Rattle.conflicts.specs.Conflicts.{reset, resetRest, resetAll, wiped, nextNode, filled, stepped, steps}
+use Rattle.conflicts.specs.Conflicts.{reset, resetRest, resetAll, wiped, filled, stepped, steps}
 
 -- what a loop leaves, by the equation of its function
 pub left-by : {a b : Searched} → a ≡ b → Left (a .words) (a .search) b
@@ -44,11 +45,11 @@ filled-none w net h v zero e = refl
 filled-none w net h v (suc k) e = absurd (omega arith)
 
 pub filled-more : (w : List ℕ) (net : Netlist) (h : Heap) (v k : ℕ) → 0 < k
-    → filled w net h v k ≡ filled (admitted w net h v .words) net (admitted w net h v .heap) (nextNode v) (k - 1)
+    → filled w net h v k ≡ filled (admitted w net h v .words) net (admitted w net h v .heap) (successor v) (k - 1)
 unfolding filled
 filled-more w net h v zero l = absurd (omega arith)
 filled-more w net h v (suc k) l =
-    let p : k ≡ suc k - 1 = omega arith in ap (filled (admitted w net h v .words) net (admitted w net h v .heap) (nextNode v)) p
+    let p : k ≡ suc k - 1 = omega arith in ap (filled (admitted w net h v .words) net (admitted w net h v .heap) (successor v)) p
 
 module _ (w : List ℕ) (net : Netlist) (s : Search) (effort : ℕ) where
   pub steps-none : (k : ℕ) → k ≡ 0 → steps w net s effort k ≡ searched w s

@@ -5,7 +5,7 @@ use mathlib.Core.List.{List}
 use Prim.Native.Nat.{ℕ, zero, suc, _+_, _-_, _*_, _/_}
 use lib.Dec.{eqb, leb, ltb}
 use lib.ListN.{set}
-use Rattle.memory.specs.Record.{stored}
+use Rattle.memory.specs.Record.{undef, successor, stored}
 use Rattle.memory.specs.declared.Netlist.{Netlist}
 use Rattle.memory.specs.declared.Arena.{Arena}
 use Rattle.memory.specs.declared.Heap.{Heap}
@@ -24,10 +24,10 @@ use Rattle.conflicts.specs.declared.Verdict.{Verdict}
 
 unfoldable pub reset : List ℕ → ℕ → ℕ → ℕ → List ℕ
 reset w nodes v value =
-    stored (stored (stored (stored (stored w nodes v 3 0) nodes v 4 4294967295) nodes v 5 value) nodes v 6 0) nodes v 7 4294967295
+    stored (stored (stored (stored (stored w nodes v 3 0) nodes v 4 undef) nodes v 5 value) nodes v 6 0) nodes v 7 undef
 
 unfoldable pub resetRest : List ℕ → ℕ → ℕ → List ℕ
-resetRest w nodes v = stored (stored (stored (stored w nodes v 8 4294967295) nodes v 9 0) nodes v 10 0) nodes v 11 0
+resetRest w nodes v = stored (stored (stored (stored w nodes v 8 undef) nodes v 9 0) nodes v 10 0) nodes v 11 0
 
 unfoldable pub resetAll : List ℕ → ℕ → ℕ → List ℕ
 resetAll w nodes zero = w
@@ -42,19 +42,16 @@ unfoldable pub prepared : List ℕ → Netlist → List ℕ
 prepared w net =
     wiped (stored (resetAll w (net .nodes) (net .nodes)) (net .nodes) 0 5 0) (14 * net .nodes) (net .words - 14 * net .nodes)
 
-unfoldable pub nextNode : ℕ → ℕ
-nextNode v = cond (eqb v 4294967295) v (v + 1)
-
 -- k nodes from node v on
 unfoldable pub filled : List ℕ → Netlist → Heap → ℕ → ℕ → Heaped
 filled w net h v zero = heaped w h
-filled w net h v (suc k) = filled (admitted w net h v .words) net (admitted w net h v .heap) (nextNode v) k
+filled w net h v (suc k) = filled (admitted w net h v .words) net (admitted w net h v .heap) (successor v) k
 
 abbrev pub firstOrder : Order
 firstOrder = record { sweep = true; goal = 0; agreed = 0; settled = 0; verdict = 0; ticks = 0; slice = 2000; span = 75000 }
 
 abbrev pub firstTrail : State
-firstTrail = record { length = 0; next = 0; level = 0; ticks = 0; clash = 4294967295; clause = 4294967295; link = 4294967295 }
+firstTrail = record { length = 0; next = 0; level = 0; ticks = 0; clash = undef; clause = undef; link = undef }
 
 abbrev pub initial : Heap → Search
 initial h = record { trail = firstTrail; arena = arenaOf 0 0; heap = h; order = firstOrder }
@@ -133,7 +130,7 @@ extended w net s = chosenAfter (settledLevel w net s) net
 
 abbrev pub steppedBy : Searched → Netlist → Searched
 steppedBy s net =
-    cond (eqb (s .search .trail .clash) 4294967295) (extended (s .words) net (s .search)) (repaired (s .words) net (s .search))
+    cond (eqb (s .search .trail .clash) undef) (extended (s .words) net (s .search)) (repaired (s .words) net (s .search))
 
 unfoldable pub stepped : List ℕ → Netlist → Search → Searched
 stepped w net s = steppedBy (followed w net s) net

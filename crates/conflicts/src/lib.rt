@@ -12,8 +12,10 @@ use learning::with_order;
 use memory::Arena;
 use memory::Heap;
 use memory::Netlist;
+use memory::UNDEF;
 use memory::put;
 use memory::set_field;
+use memory::successor;
 use settling::propagate;
 use trail::State;
 ghost use mathlib.Core.Path.{_≡_};
@@ -34,16 +36,16 @@ fn reset(work: &mut [u32], nodes: u32, v: u32, value: u32)
     ensures { λ r. ⌜ now (work .exit) ≡ Cf.reset (now (work .entry)) nodes v value ⌝ }
 {
     set_field(work, nodes, v, 3, 0);
-    set_field(work, nodes, v, 4, 4294967295);
+    set_field(work, nodes, v, 4, UNDEF);
     set_field(work, nodes, v, 5, value);
     set_field(work, nodes, v, 6, 0);
-    set_field(work, nodes, v, 7, 4294967295);
+    set_field(work, nodes, v, 7, UNDEF);
 }
 
 fn reset_rest(work: &mut [u32], nodes: u32, v: u32)
     ensures { λ r. ⌜ now (work .exit) ≡ Cf.resetRest (now (work .entry)) nodes v ⌝ }
 {
-    set_field(work, nodes, v, 8, 4294967295);
+    set_field(work, nodes, v, 8, UNDEF);
     set_field(work, nodes, v, 9, 0);
     set_field(work, nodes, v, 10, 0);
     set_field(work, nodes, v, 11, 0);
@@ -90,17 +92,10 @@ fn fill(work: &mut [u32], net: Netlist, heap: Heap, n: u32) -> Heap
     let mut left = n;
     while 0 < left {
         h = admit(work, net, h, v);
-        v = next_node(v);
+        v = successor(v);
         left -= 1;
     }
     h
-}
-
-// One more, or the largest number.
-fn next_node(v: u32) -> u32
-    ensures { λ r. ⌜ r ≡ Cf.nextNode v ⌝ }
-{
-    if v == 4294967295 { v } else { v + 1 }
 }
 
 // Where the search stands before the first decision.
@@ -112,9 +107,9 @@ fn initial(heap: Heap) -> Search
         next: 0,
         level: 0,
         ticks: 0,
-        clash: 4294967295,
-        clause: 4294967295,
-        link: 4294967295,
+        clash: UNDEF,
+        clause: UNDEF,
+        link: UNDEF,
     };
     let a = Arena { used: 0, count: 0 };
     let o = Order {
@@ -249,7 +244,7 @@ fn step(work: &mut [u32], net: Netlist, s: Search) -> Search
 {
     let u = follow(work, net, s);
     let c = u.trail.clash;
-    if c == 4294967295 {
+    if c == UNDEF {
         return extend(work, net, u);
     }
     repair(work, net, u)

@@ -23,7 +23,11 @@ use Rattle.reasons.specs.Claims.{Sound}
 use Rattle.reasons.proofs.Valid.{sound-alike}
 use Rattle.resolve.specs.Draft.{draftAt}
 use Rattle.resolve.proofs.Sound.{InDraft, Drafting}
-use Rattle.floor.specs.Place.{Counted, counted, bitOf, floorBit, isWrong, later, judged, raised, raisedBy, refuted}
+use Rattle.floor.specs.declared.AtFloor.{AtFloor}
+use Rattle.floor.specs.declared.AtFloor.the-variants.{FalseBy, NotFalse}
+use Rattle.floor.specs.declared.Refutation.{Refutation}
+use Rattle.floor.specs.declared.Refutation.the-variants.{Raised, NoHit, Unlearnt}
+use Rattle.floor.specs.Place.{risen, bitOf, floorBit, isWrong, later, judged, raised, raisedBy, refuted}
 use Rattle.floor.proofs.Rise.{bits, digits, Before, After, Claim, raise-after, raise-claim}
 
 never : true ≡ false → ⊥
@@ -45,6 +49,23 @@ later-node net l top n = rw (ne-eqb l (opposite (net .root)) n) (go (ltb top (l 
     go : (b : Bool) → ltb top (l / 2) ≡ b → l / 2 ≤ cond b (l / 2) top
     go true e = omega arith
     go false e = ltb-false top (l / 2) e
+
+-- whether a clause is false at the floor, and by how many free bits
+isFalse : AtFloor → Bool
+isFalse (FalseBy m) = true
+isFalse NotFalse = false
+
+bitsOf : AtFloor → ℕ
+bitsOf (FalseBy m) = m
+bitsOf NotFalse = 0
+
+not-false : {r : ℕ} → NotFalse ≡ FalseBy r → ⊥
+unfolding isFalse
+not-false e = never (sym (ap isFalse e))
+
+false-by : {m r : ℕ} → FalseBy m ≡ FalseBy r → m ≡ r
+unfolding bitsOf
+false-by e = ap bitsOf e
 
 module _ (w : List ℕ) (net : Netlist) (arena : Arena) where
   -- a literal that is not wrong, and not the complement of the hit, is a free bit's and false at the floor
@@ -91,25 +112,26 @@ module _ (w : List ℕ) (net : Netlist) (arena : Arena) where
       go true s = s
       go false s = h
 
-  -- what is known of the first k literals where they are judged r
+  -- what is known of the first k literals where they are false by the first r free bits
   pub record Seen (k r : ℕ) : Type 0 where
     pub small : r ≤ net .free
     pub right : (i : ℕ) → i < k → isWrong w net (draftAt w net arena i) ≡ false
     pub last : (i : ℕ) → i < k → (draftAt w net arena i ≡ opposite (net .root) → ⊥) → draftAt w net arena i / 2 ≤ r
 
-  judge-seen : (k top r : ℕ) → judged w net arena k top ≡ r → (r ≡ 4294967295 → ⊥) → top ≤ net .free → Seen k r × (top ≤ r)
+  judge-seen : (k top r : ℕ) → judged w net arena k top ≡ FalseBy r → top ≤ net .free → Seen k r × (top ≤ r)
   unfolding judged
-  judge-seen zero top r e n h =
+  judge-seen zero top r e h =
+      let f = false-by e in
       (record { small = omega arith; right = λ i l. absurd (omega arith); last = λ i l. absurd (omega arith) }, omega arith)
-  judge-seen (suc k) top r e n h =
-      go (isWrong w net (draftAt w net arena k)) refl e (λ q f. judge-seen k (later net (draftAt w net arena k) top) r f n q)
+  judge-seen (suc k) top r e h =
+      go (isWrong w net (draftAt w net arena k)) refl e (λ q f. judge-seen k (later net (draftAt w net arena k) top) r f q)
     where
       go : (b : Bool) → isWrong w net (draftAt w net arena k) ≡ b
-          → cond b 4294967295 (judged w net arena k (later net (draftAt w net arena k) top)) ≡ r
-          → (later net (draftAt w net arena k) top ≤ net .free → judged w net arena k (later net (draftAt w net arena k) top) ≡ r
+          → cond b NotFalse (judged w net arena k (later net (draftAt w net arena k) top)) ≡ FalseBy r
+          → (later net (draftAt w net arena k) top ≤ net .free → judged w net arena k (later net (draftAt w net arena k) top) ≡ FalseBy r
           → Seen k r × (later net (draftAt w net arena k) top ≤ r))
           → Seen (suc k) r × (top ≤ r)
-      go true q f rec = absurd (n (sym f))
+      go true q f rec = absurd (not-false f)
       go false q f rec =
           let l = draftAt w net arena k in
           let s = rec (later-small l top q h) f in
@@ -169,34 +191,18 @@ module _ (hit : (ℕ → Bool) → Type 0) (net : Netlist) (arena : Arena) (hits
       → ((v : ℕ) → v < net .free → (bitOf w (net .nodes) (suc v) ≡ 0 → ⊥) → (bitOf w (net .nodes) (suc v) ≡ 1 → ⊥) → (x : ℕ) → hits x
       → freeBit (net .free) x v ≡ false)
       → Floor hits (prefix (bits w (net .nodes)) (net .free))
-      → Claim hits (net .free) (net .nodes) (refuted w net arena d .words) (refuted w net arena d .count)
+      → Claim hits (net .free) (net .nodes) (refuted w net arena d .words) (refuted w net arena d .says)
       × Sound hit net arena (refuted w net arena d .words)
   unfolding refuted raisedBy
-  refute-claim w d given clean floor = go (d .whole) refl (ℕ-discrete (judged w net arena (d .length) 0) 4294967295)
+  refute-claim w d given clean floor = go (d .whole) refl (judged w net arena (d .length) 0) refl
     where
-      m : ℕ
-      m = judged w net arena (d .length) 0
-
-      same : Claim hits (net .free) (net .nodes) w 4294967295 × Sound hit net arena w
-      same = (record { end = λ z. absurd (omega arith); floor = λ z. floor }, given .sound)
-
-      go : (b : Bool) → d .whole ≡ b → Dec (judged w net arena (d .length) 0 ≡ 4294967295)
-          → Claim hits (net .free) (net .nodes)
-          (cond b
-          (cond (eqb (judged w net arena (d .length) 0) 4294967295) (counted w 4294967295)
-          (raised w (net .nodes) (judged w net arena (d .length) 0) (net .free))) (counted w 4294967295) .words)
-          (cond b
-          (cond (eqb (judged w net arena (d .length) 0) 4294967295) (counted w 4294967295)
-          (raised w (net .nodes) (judged w net arena (d .length) 0) (net .free))) (counted w 4294967295) .count)
-          × Sound hit net arena
-          (cond b
-          (cond (eqb (judged w net arena (d .length) 0) 4294967295) (counted w 4294967295)
-          (raised w (net .nodes) (judged w net arena (d .length) 0) (net .free))) (counted w 4294967295) .words)
-      go false e c = same
-      go true e (yes c) = rw (eq-eqb (judged w net arena (d .length) 0) 4294967295 c) same
-      go true e (no c) =
-          let k = judged w net arena (d .length) 0 in
-          let seen = judge-seen w net arena (d .length) 0 k refl c (omega arith) .0 in
+      go : (b : Bool) → d .whole ≡ b → (j : AtFloor) → judged w net arena (d .length) 0 ≡ j
+          → Claim hits (net .free) (net .nodes) (cond b (raisedBy w net j) (risen w Unlearnt) .words) (cond b (raisedBy w net j) (risen w Unlearnt) .says)
+          × Sound hit net arena (cond b (raisedBy w net j) (risen w Unlearnt) .words)
+      go false e j c = (floor, given .sound)
+      go true e NotFalse c = (floor, given .sound)
+      go true e (FalseBy k) c =
+          let seen = judge-seen w net arena (d .length) 0 k c (omega arith) .0 in
           let above =
           above-start (net .free) (bits w (net .nodes)) (digits w (net .nodes)) hits k (seen .small) floor
           (no-share w d k (given .valid e) seen) in
@@ -207,8 +213,7 @@ module _ (hit : (ℕ → Bool) → Type 0) (net : Netlist) (arena : Arena) (hits
             clean = clean;
             low = λ h. let q : k ≡ net .free = omega (arith, seen .small) in subst (Above hits (net .free) (bits w (net .nodes))) q above;
             high = λ h. above;
-          } in
-          rw (ne-eqb (judged w net arena (d .length) 0) 4294967295 c) (
+          } in (
             raise-claim net arena (net .free) k small hits bound w begin,
             sound-alike (raise-after net arena (net .free) k small hits w (net .free) (omega arith) begin .alike) (given .sound),
           )

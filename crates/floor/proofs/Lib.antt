@@ -2,5 +2,6 @@
 pub mod Turns
 pub mod Bits
 pub mod Rise
+pub mod Leaves
 pub mod False
 pub mod Evaluation

@@ -16,7 +16,9 @@ use Rattle.clauses.specs.Floor.{Floor, prefix, Above}
 use Rattle.clauses.proofs.Raise.{above-one, above-still, above-floor, above-none}
 use Rattle.reasons.specs.Claims.{Alike}
 use Rattle.reasons.proofs.Valid.{alike-refl, alike-trans}
-use Rattle.floor.specs.Place.{Counted, counted, bitOf, floorBit, cleared, lifted, canRise, raised}
+use Rattle.floor.specs.declared.Refutation.{Refutation}
+use Rattle.floor.specs.declared.Refutation.the-variants.{Raised, NoHit, Unlearnt}
+use Rattle.floor.specs.Place.{Risen, risen, bitOf, floorBit, cleared, lifted, canRise, raised}
 use Rattle.floor.proofs.Bits.{prefix-same, prefix-zeros, cleared-other, cleared-one, cleared-not, lifted-other, lifted-zero, cleared-alike, lifted-alike}
 
 -- the bits as a function
@@ -42,6 +44,12 @@ number p = ap asBit p
 zero-of : (d : ℕ) → (d ≡ 1 → ⊥) → asBit d ≡ 0
 zero-of d n = rw (ne-eqb d 1 n)
 
+-- the node whose bit becomes 1, or 0
+abbrev pub nodeOf : Refutation → ℕ
+nodeOf (Raised v) = v
+nodeOf NoHit = 0
+nodeOf Unlearnt = 0
+
 module _ (net : Netlist) (arena : Arena) (n m : ℕ) (small : n < net .nodes) (hits : ℕ → Type 0) where
   -- a hit is 0 where the bit does not count
   abbrev Clean : List ℕ → Type 0
@@ -56,15 +64,16 @@ module _ (net : Netlist) (arena : Arena) (n m : ℕ) (small : n < net .nodes) (h
     pub high : m < k → Above hits n (bits w (net .nodes)) m
 
   -- what the raise leaves
-  pub record After (w : List ℕ) (k : ℕ) (to : Counted) : Type 0 where
+  pub record After (w : List ℕ) (k : ℕ) (to : Risen) : Type 0 where
     pub alike : Alike net arena w (to .words)
-    pub none : to .count ≡ 0 → Above hits n (bits w (net .nodes)) 0
-    pub at : to .count ≤ k
-    pub above : 0 < to .count → Above hits n (bits w (net .nodes)) (to .count)
-    pub old : 0 < to .count → bits w (net .nodes) (to .count) ≡ 0
-    pub new : 0 < to .count → bits (to .words) (net .nodes) (to .count) ≡ 1
-    pub same : (j : ℕ) → j < to .count → bits (to .words) (net .nodes) j ≡ bits w (net .nodes) j
-    pub rest : (j : ℕ) → to .count < j → j ≤ k → bits (to .words) (net .nodes) j ≡ 0
+    pub some : (to .says ≡ NoHit) ⊎ ((0 < nodeOf (to .says)) × (to .says ≡ Raised (nodeOf (to .says))))
+    pub none : nodeOf (to .says) ≡ 0 → Above hits n (bits w (net .nodes)) 0
+    pub at : nodeOf (to .says) ≤ k
+    pub above : 0 < nodeOf (to .says) → Above hits n (bits w (net .nodes)) (nodeOf (to .says))
+    pub old : 0 < nodeOf (to .says) → bits w (net .nodes) (nodeOf (to .says)) ≡ 0
+    pub new : 0 < nodeOf (to .says) → bits (to .words) (net .nodes) (nodeOf (to .says)) ≡ 1
+    pub same : (j : ℕ) → j < nodeOf (to .says) → bits (to .words) (net .nodes) j ≡ bits w (net .nodes) j
+    pub rest : (j : ℕ) → nodeOf (to .says) < j → j ≤ k → bits (to .words) (net .nodes) j ≡ 0
     pub past : (j : ℕ) → k < j → bits (to .words) (net .nodes) j ≡ bits w (net .nodes) j
     pub still : (j : ℕ) → (bitOf (to .words) (net .nodes) j ≡ 0 → ⊥) → (bitOf (to .words) (net .nodes) j ≡ 1 → ⊥)
         → (bitOf w (net .nodes) j ≡ 0 → ⊥) × (bitOf w (net .nodes) j ≡ 1 → ⊥)
@@ -75,7 +84,7 @@ module _ (net : Netlist) (arena : Arena) (n m : ℕ) (small : n < net .nodes) (h
 
   -- the bit at node k becomes 1
   lift-after : (w : List ℕ) (k : ℕ) → suc k ≤ n → Before w (suc k) → suc k ≤ m → bitOf w (net .nodes) (suc k) ≡ 0
-      → After w (suc k) (counted (lifted w (net .nodes) (suc k)) (suc k))
+      → After w (suc k) (risen (lifted w (net .nodes) (suc k)) (Raised (suc k)))
   lift-after w k l given h e =
       let r = given .room in
       let i = given .within in
@@ -83,6 +92,7 @@ module _ (net : Netlist) (arena : Arena) (n m : ℕ) (small : n < net .nodes) (h
       let one = lifted-zero w (net .nodes) long (suc k) (omega arith) e in
       record {
         alike = lifted-alike net arena w r i (suc k);
+        some = inr (omega arith, refl);
         none = λ z. absurd (omega arith);
         at = omega arith;
         above = λ z. given .low h;
@@ -158,15 +168,16 @@ module _ (net : Netlist) (arena : Arena) (n m : ℕ) (small : n < net .nodes) (h
           high = λ h. above-same w (cleared w (net .nodes) (suc k)) m (λ j s. low-bits j (omega arith)) (given .high (omega arith));
         }
 
-    clear-after : (to : Counted) → After next k to → After w (suc k) to
+    clear-after : (to : Risen) → After next k to → After w (suc k) to
     unfolding next
     clear-after to a =
         record {
           alike = alike-trans (cleared-alike net arena w (given .room) (given .within) (suc k)) (a .alike);
+          some = a .some;
           none = λ z. above-same (cleared w (net .nodes) (suc k)) w 0 (λ j h. sym (low-bits j (omega arith))) (a .none z);
           at = omega (arith, a .at);
-          above = λ z. above-same (cleared w (net .nodes) (suc k)) w (to .count) (λ j h. sym (low-bits j (omega (arith, a .at)))) (a .above z);
-          old = λ z. low-bits (to .count) (a .at) ∙ a .old z;
+          above = λ z. above-same (cleared w (net .nodes) (suc k)) w (nodeOf (to .says)) (λ j h. sym (low-bits j (omega (arith, a .at)))) (a .above z);
+          old = λ z. low-bits (nodeOf (to .says)) (a .at) ∙ a .old z;
           new = a .new;
           same = λ j h. a .same j h ∙ sym (low-bits j (omega (arith, a .at)));
           rest = λ j h s.
@@ -183,6 +194,7 @@ module _ (net : Netlist) (arena : Arena) (n m : ℕ) (small : n < net .nodes) (h
   raise-after w zero l given =
       record {
         alike = alike-refl net arena w;
+        some = inl refl;
         none = λ z. given .low (omega arith);
         at = omega arith;
         above = λ z. absurd (omega arith);
@@ -199,7 +211,7 @@ module _ (net : Netlist) (arena : Arena) (n m : ℕ) (small : n < net .nodes) (h
       go : (a b : Bool) → leb (suc k) m ≡ a → eqb (bitOf w (net .nodes) (suc k)) 0 ≡ b
           → (Before (cleared w (net .nodes) (suc k)) k → After (cleared w (net .nodes) (suc k)) k (raised (cleared w (net .nodes) (suc k)) (net .nodes) m k))
           → After w (suc k)
-          (cond (a && b) (counted (lifted w (net .nodes) (suc k)) (suc k)) (raised (cleared w (net .nodes) (suc k)) (net .nodes) m k))
+          (cond (a && b) (risen (lifted w (net .nodes) (suc k)) (Raised (suc k))) (raised (cleared w (net .nodes) (suc k)) (net .nodes) m k))
       go true true e f rec = lift-after w k l given (leb-true (suc k) m e) (eqb-true (bitOf w (net .nodes) (suc k)) 0 f)
       go true false e f rec =
           let stuck : (suc k ≤ m → bitOf w (net .nodes) (suc k) ≡ 0 → ⊥) = λ h z. eqb-false (bitOf w (net .nodes) (suc k)) 0 f z in
@@ -209,10 +221,11 @@ module _ (net : Netlist) (arena : Arena) (n m : ℕ) (small : n < net .nodes) (h
           let stuck : (suc k ≤ m → bitOf w (net .nodes) (suc k) ≡ 0 → ⊥) = λ h z. absurd (omega arith) in
           clear-after w k l given stuck (raised (cleared w (net .nodes) (suc k)) (net .nodes) m k) (rec (clear-before w k l given stuck))
 
--- what is claimed of the words u and the node r whose bit became 1: no place below the floor hits, and where there is no such node none hits
-pub record Claim (hits : ℕ → Type 0) (n nodes : ℕ) (u : List ℕ) (r : ℕ) : Type 0 where
-  pub end : r ≡ 0 → (x : ℕ) → hits x → ⊥
-  pub floor : (r ≡ 0 → ⊥) → Floor hits (prefix (bits u nodes) n)
+-- what is claimed of the words u after a raise: no place below the floor hits, or none does
+abbrev pub Claim : (ℕ → Type 0) → ℕ → ℕ → List ℕ → Refutation → Type 0
+Claim hits n nodes u (Raised v) = Floor hits (prefix (bits u nodes) n)
+Claim hits n nodes u NoHit = (x : ℕ) → hits x → ⊥
+Claim hits n nodes u Unlearnt = Floor hits (prefix (bits u nodes) n)
 
 -- one bit becomes 1 and those after it 0: the next prefix
 next-prefix : (b c : ℕ → ℕ) (r n : ℕ) → 0 < r → r ≤ n → b r ≡ 0 → c r ≡ 1 → ((j : ℕ) → j < r → c j ≡ b j) → ((j : ℕ) → r < j → j ≤ n → c j ≡ 0)
@@ -228,16 +241,18 @@ next-prefix b c (suc r) n p l e f s z =
 
 module _ (net : Netlist) (arena : Arena) (n m : ℕ) (small : n < net .nodes) (hits : ℕ → Type 0) (bound : (x : ℕ) → hits x → x < 2 ^ n) where
   pub raise-claim : (w : List ℕ) → Before net arena n m small hits w n
-      → Claim hits n (net .nodes) (raised w (net .nodes) m n .words) (raised w (net .nodes) m n .count)
+      → Claim hits n (net .nodes) (raised w (net .nodes) m n .words) (raised w (net .nodes) m n .says)
   raise-claim w given =
       let to = raised w (net .nodes) m n in
       let a = raise-after net arena n m small hits w n (omega arith) given in
       let b = bits w (net .nodes) in
       let c = bits (to .words) (net .nodes) in
-      record {
-        end = λ z. above-none n b (digits w (net .nodes)) hits bound (a .none z);
-        floor = λ z.
-            let p : 0 < to .count = omega arith in
-            let e = next-prefix b c (to .count) n p (a .at) (a .old p) (a .new p) (a .same) (a .rest) in
-            subst (Floor hits) (sym e) (above-floor n b (digits w (net .nodes)) hits (to .count) (a .above p));
-      }
+      elim (a .some) [
+        | inl e ↦
+            subst (Claim hits n (net .nodes) (to .words)) (sym e) (above-none n b (digits w (net .nodes)) hits bound (a .none (ap nodeOf e)))
+        | inr s ↦
+            let r = nodeOf (to .says) in
+            let e = next-prefix b c r n (s .0) (a .at) (a .old (s .0)) (a .new (s .0)) (a .same) (a .rest) in
+            subst (Claim hits n (net .nodes) (to .words)) (sym (s .1))
+            (subst (Floor hits) (sym e) (above-floor n b (digits w (net .nodes)) hits r (a .above (s .0))))
+      ]

@@ -8,18 +8,22 @@ use Rattle.memory.specs.Record.{stored}
 use Rattle.memory.specs.declared.Netlist.{Netlist}
 use Rattle.memory.specs.declared.Arena.{Arena}
 use Rattle.resolve.specs.Draft.{draftAt}
-use Rattle.floor.specs.Place.{counted, isWrong, later, judged, cleared, lifted, canRise, raised, nodeValue, evaluated}
+use Rattle.floor.specs.declared.AtFloor.{AtFloor}
+use Rattle.floor.specs.declared.AtFloor.the-variants.{FalseBy, NotFalse}
+use Rattle.floor.specs.declared.Refutation.{Refutation}
+use Rattle.floor.specs.declared.Refutation.the-variants.{Raised, NoHit, Unlearnt}
+use Rattle.floor.specs.Place.{risen, isWrong, later, judged, cleared, lifted, canRise, raised, nodeValue, evaluated}
 
 pred : (n : ℕ) → n ≡ suc n - 1
 pred n = omega arith
 
-pub judged-none : (w : List ℕ) (net : Netlist) (arena : Arena) (k top : ℕ) → k ≡ 0 → judged w net arena k top ≡ top
+pub judged-none : (w : List ℕ) (net : Netlist) (arena : Arena) (k top : ℕ) → k ≡ 0 → judged w net arena k top ≡ FalseBy top
 unfolding judged
 judged-none w net arena zero top e = refl
 judged-none w net arena (suc k) top e = absurd (omega arith)
 
 pub judged-wrong : (w : List ℕ) (net : Netlist) (arena : Arena) (k top : ℕ) → 0 < k → isWrong w net (draftAt w net arena (k - 1)) ≡ true
-    → judged w net arena k top ≡ 4294967295
+    → judged w net arena k top ≡ NotFalse
 unfolding judged
 judged-wrong w net arena zero top l e = absurd (omega arith)
 judged-wrong w net arena (suc k) top l e = let f = ap (λ (j : ℕ). isWrong w net (draftAt w net arena j)) (pred k) in rw (f, e)
@@ -32,12 +36,12 @@ judged-more w net arena (suc k) top l e =
     let f = ap (λ (j : ℕ). isWrong w net (draftAt w net arena j)) (pred k) in
     rw (f, e) (ap (λ (j : ℕ). judged w net arena j (later net (draftAt w net arena j) top)) (pred k))
 
-pub raised-none : (w : List ℕ) (nodes m v : ℕ) → v ≡ 0 → raised w nodes m v ≡ counted w 0
+pub raised-none : (w : List ℕ) (nodes m v : ℕ) → v ≡ 0 → raised w nodes m v ≡ risen w NoHit
 unfolding raised
 raised-none w nodes m zero e = refl
 raised-none w nodes m (suc v) e = absurd (omega arith)
 
-pub raised-here : (w : List ℕ) (nodes m v : ℕ) → 0 < v → canRise w nodes m v ≡ true → raised w nodes m v ≡ counted (lifted w nodes v) v
+pub raised-here : (w : List ℕ) (nodes m v : ℕ) → 0 < v → canRise w nodes m v ≡ true → raised w nodes m v ≡ risen (lifted w nodes v) (Raised v)
 unfolding raised
 raised-here w nodes m zero l e = absurd (omega arith)
 raised-here w nodes m (suc v) l e = rw e

@@ -9,18 +9,22 @@ use Rattle.memory.specs.declared.Netlist.{Netlist}
 use Rattle.memory.specs.declared.Arena.{Arena}
 use Rattle.memory.specs.declared.Draft.{Draft}
 use Rattle.resolve.specs.Draft.{draftAt}
+use Rattle.floor.specs.declared.AtFloor.{AtFloor}
+use Rattle.floor.specs.declared.AtFloor.the-variants.{FalseBy, NotFalse}
+use Rattle.floor.specs.declared.Refutation.{Refutation}
+use Rattle.floor.specs.declared.Refutation.the-variants.{Raised, NoHit, Unlearnt}
 
--- what a step leaves: the words and a number
-pub record Counted : Type 0 where
+-- what a raise leaves: the words, and what becomes of the floor
+pub record Risen : Type 0 where
   pub words : List ℕ
-  pub count : ℕ
+  pub says : Refutation
 
-pub record Told (w : List ℕ) (n : ℕ) (to : Counted) : Type 0 where
+pub record Told (w : List ℕ) (r : Refutation) (to : Risen) : Type 0 where
   pub words : w ≡ to .words
-  pub count : n ≡ to .count
+  pub says : r ≡ to .says
 
-abbrev pub counted : List ℕ → ℕ → Counted
-counted w n = record { words = w; count = n }
+abbrev pub risen : List ℕ → Refutation → Risen
+risen w r = record { words = w; says = r }
 
 -- the bit of node v: 0, 1, or 2 where the hit does not depend on it
 unfoldable pub bitOf : List ℕ → ℕ → ℕ → ℕ
@@ -40,11 +44,11 @@ isWrong w net l =
 unfoldable pub later : Netlist → ℕ → ℕ → ℕ
 later net l top = cond (eqb l (opposite (net .root))) top (cond (ltb top (l / 2)) (l / 2) top)
 
--- the last free bit of the first k literals of the working clause
-unfoldable pub judged : List ℕ → Netlist → Arena → ℕ → ℕ → ℕ
-judged w net arena zero top = top
+-- what the first k literals of the working clause are, where those after them name free bits up to `top`
+unfoldable pub judged : List ℕ → Netlist → Arena → ℕ → ℕ → AtFloor
+judged w net arena zero top = FalseBy top
 judged w net arena (suc k) top =
-    cond (isWrong w net (draftAt w net arena k)) 4294967295 (judged w net arena k (later net (draftAt w net arena k) top))
+    cond (isWrong w net (draftAt w net arena k)) NotFalse (judged w net arena k (later net (draftAt w net arena k) top))
 
 unfoldable pub cleared : List ℕ → ℕ → ℕ → List ℕ
 cleared w nodes v = cond (eqb (bitAt (field w nodes v 2)) 1) (stored w nodes v 2 (field w nodes v 2 - 4)) w
@@ -55,18 +59,19 @@ lifted w nodes v = cond (eqb (bitAt (field w nodes v 2)) 0) (stored w nodes v 2 
 unfoldable pub canRise : List ℕ → ℕ → ℕ → ℕ → Bool
 canRise w nodes m v = leb v m && eqb (bitOf w nodes v) 0
 
--- from node v downward: the last bit up to node m that counts and is 0 becomes 1, those after it 0; that node, or 0
-unfoldable pub raised : List ℕ → ℕ → ℕ → ℕ → Counted
-raised w nodes m zero = counted w 0
+-- from node v downward: the last bit up to node m that counts and is 0 becomes 1, those after it 0; no hit is left where there is none
+unfoldable pub raised : List ℕ → ℕ → ℕ → ℕ → Risen
+raised w nodes m zero = risen w NoHit
 raised w nodes m (suc v) =
-    cond (canRise w nodes m (suc v)) (counted (lifted w nodes (suc v)) (suc v)) (raised (cleared w nodes (suc v)) nodes m v)
+    cond (canRise w nodes m (suc v)) (risen (lifted w nodes (suc v)) (Raised (suc v))) (raised (cleared w nodes (suc v)) nodes m v)
 
--- by a clause whose last free bit is m
-unfoldable pub raisedBy : List ℕ → Netlist → ℕ → Counted
-raisedBy w net m = cond (eqb m 4294967295) (counted w 4294967295) (raised w (net .nodes) m (net .free))
+-- by a clause
+unfoldable pub raisedBy : List ℕ → Netlist → AtFloor → Risen
+raisedBy w net (FalseBy m) = raised w (net .nodes) m (net .free)
+raisedBy w net NotFalse = risen w Unlearnt
 
-unfoldable pub refuted : List ℕ → Netlist → Arena → Draft → Counted
-refuted w net arena d = cond (d .whole) (raisedBy w net (judged w net arena (d .length) 0)) (counted w 4294967295)
+unfoldable pub refuted : List ℕ → Netlist → Arena → Draft → Risen
+refuted w net arena d = cond (d .whole) (raisedBy w net (judged w net arena (d .length) 0)) (risen w Unlearnt)
 
 -- the value of edge e, where word 3 of a record has the value of its node
 unfoldable pub edge : List ℕ → ℕ → ℕ → ℕ

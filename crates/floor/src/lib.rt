@@ -12,6 +12,19 @@ use memory::set_field;
 ghost use mathlib.Core.Path.{_≡_};
 ghost use Rattle.floor.specs.Place as P;
 
+// What a clause is at the floor: false by the first so many free bits, or not seen to be false.
+enum AtFloor {
+    FalseBy(u32),
+    NotFalse,
+}
+
+// What a clause does to the floor: the bit of this node becomes 1; no place is left, so that there is no hit; nothing is learnt.
+pub enum Refutation {
+    Raised(u32),
+    NoHit,
+    Unlearnt,
+}
+
 // The bit of node v, or 2 where the hit does not depend on it.
 fn bit(work: &[u32], nodes: u32, v: u32) -> u32
     ensures { λ r. ⌜ r ≡ P.bitOf (now (work .entry)) nodes v ⌝ }
@@ -48,8 +61,9 @@ fn later(net: Netlist, l: u32, top: u32) -> u32
     if top < l / 2 { l / 2 } else { top }
 }
 
-// The last free bit of the first n literals of the working clause, or 0; 4294967295 where one of them is wrong.
-fn judge(work: &[u32], net: Netlist, arena: Arena, n: u32) -> u32
+// What the first n literals of the working clause are: not false where one of them is wrong, else false by the free bits up to the last
+// that they name.
+fn judge(work: &[u32], net: Netlist, arena: Arena, n: u32) -> AtFloor
     ensures { λ r. ⌜ r ≡ P.judged (now (work .entry)) net arena n 0 ⌝ }
 {
     let mut left = n;
@@ -58,11 +72,11 @@ fn judge(work: &[u32], net: Netlist, arena: Arena, n: u32) -> u32
         left -= 1;
         let l = literal(work, net.nodes, arena.used, left);
         if is_wrong(work, net, l) {
-            return 4294967295;
+            return AtFloor::NotFalse;
         }
         top = later(net, l, top);
     }
-    top
+    AtFloor::FalseBy(top)
 }
 
 // The bit of node v becomes 0, if it is 1.
@@ -94,35 +108,33 @@ fn can_rise(work: &[u32], nodes: u32, m: u32, v: u32) -> bool
 }
 
 // The floor becomes the next place after those that share its bits up to node m, among those that are 0 where the hit does not depend on
-// the bit. The node whose bit becomes 1, or 0 where there is no such place.
-fn raise(work: &mut [u32], nodes: u32, m: u32, n: u32) -> u32
+// the bit, if there is such a place.
+fn raise(work: &mut [u32], nodes: u32, m: u32, n: u32) -> Refutation
     ensures { λ r. ⌜ P.Told (now (work .exit)) r (P.raised (now (work .entry)) nodes m n) ⌝ }
 {
     let mut v = n;
     while 0 < v {
         if can_rise(work, nodes, m, v) {
             lift(work, nodes, v);
-            return v;
+            return Refutation::Raised(v);
         }
         clear(work, nodes, v);
         v -= 1;
     }
-    0
+    Refutation::NoHit
 }
 
-// Raises the floor by the working clause, if that is whole and false there. The node whose bit becomes 1; 0 where there is no hit;
-// 4294967295 where nothing is learnt.
-pub fn refute(work: &mut [u32], net: Netlist, arena: Arena, d: Draft) -> u32
+// Raises the floor by the working clause, if that is whole and false there.
+pub fn refute(work: &mut [u32], net: Netlist, arena: Arena, d: Draft) -> Refutation
     ensures { λ r. ⌜ P.Told (now (work .exit)) r (P.refuted (now (work .entry)) net arena d) ⌝ }
 {
     if d.whole {
-        let m = judge(work, net, arena, d.length);
-        if m == 4294967295 {
-            return 4294967295;
-        }
+        let AtFloor::FalseBy(m) = judge(work, net, arena, d.length) else {
+            return Refutation::Unlearnt;
+        };
         return raise(work, net.nodes, m, net.free);
     }
-    4294967295
+    Refutation::Unlearnt
 }
 
 // The value of edge e, where word POS has the values of nodes.

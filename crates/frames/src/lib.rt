@@ -13,7 +13,7 @@ ghost use Rattle.layout.specs.Words.{word, gateIn, circuitIn};
 ghost use Rattle.frames.specs.Lanes.{lane, Ready, Evaluated, Advanced, constrainedIn, badIn, GateRoom, Gated, Apart, Stored};
 
 // The word of literal l.
-fn literal_value(values: &[u64], l: Lit) -> u64
+pub fn literal_value(values: &[u64], l: Lit) -> u64
     requires { ⌜ l .0 .0 < length (now values) ⌝ }
     ensures { λ r. ⌜ ((p : ℕ) → p < 64 → bit r p ≡ value (lane (now (values .entry)) p) (wordOf l)) ⌝ }
 {

@@ -4,7 +4,7 @@ use mathlib.Core.Bool.{Bool, false, cond}
 use mathlib.Core.List.{List}
 use Prim.Native.Nat.{ℕ, zero, suc, _+_, _-_, _*_, _/_, _%_}
 use lib.Dec.{eqb, leb, ltb}
-use Rattle.memory.specs.Record.{field, stored}
+use Rattle.memory.specs.Record.{largest, field, stored}
 use Rattle.memory.specs.declared.Netlist.{Netlist}
 use Rattle.memory.specs.declared.Heap.{Heap}
 
@@ -57,7 +57,7 @@ upped w nodes v i zero = seated w nodes i v
 upped w nodes v i (suc n) = cond (isAbove w nodes i v) (upped (lowered w nodes i) nodes v (parent i) n) (seated w nodes i v)
 
 unfoldable pub child : ℕ → ℕ
-child i = cond (leb 1073741824 i) 4294967295 (2 * i + 1)
+child i = cond (leb 1073741824 i) largest (2 * i + 1)
 
 unfoldable pub larger : List ℕ → ℕ → ℕ → ℕ → ℕ
 larger w nodes size i =

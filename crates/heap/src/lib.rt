@@ -4,6 +4,7 @@ use memory::ACT;
 use memory::FACT;
 use memory::HEAP;
 use memory::Heap;
+use memory::LARGEST;
 use memory::Netlist;
 use memory::TRAIL;
 use memory::VAL;
@@ -92,15 +93,11 @@ fn up(work: &mut [u32], nodes: u32, i: u32, v: u32, n: u32)
     seat(work, nodes, at, v);
 }
 
-// The left place below place i.
+// The left place below place i, or the largest word.
 fn child(i: u32) -> u32
     ensures { λ r. ⌜ r ≡ Hp.child i ⌝ }
 {
-    if 1073741824 <= i {
-        4294967295
-    } else {
-        2 * i + 1
-    }
+    if 1073741824 <= i { LARGEST } else { 2 * i + 1 }
 }
 
 // Of place i and the place after it, the one whose node is more active.

@@ -10,7 +10,7 @@ use lib.Dec.{T, eqb, leb, ltb}
 use lib.ListN.{length, getD, set, length-set, List·getD-eq-default}
 use lib.Seq.{getD-set-same, getD-set-other}
 use Rattle.aiger.specs.Frames.{value}
-use Rattle.memory.specs.Record.{field, place, stored, head, headed, headPlace, literal}
+use Rattle.memory.specs.Record.{undef, field, place, stored, head, headed, headPlace, literal}
 use Rattle.memory.specs.Record as M
 use Rattle.memory.specs.declared.Netlist.{Netlist}
 use Rattle.memory.specs.declared.Arena.{Arena}
@@ -242,7 +242,7 @@ module _ (net : Netlist) (arena : Arena) (room : 14 * net .nodes + arena .used +
   unfolding detached
   detach-same w zero = same-refl net arena w
   detach-same w (suc n) =
-      let u = stored w (net .nodes) n 7 4294967295 in
-      let v = stored u (net .nodes) n 8 4294967295 in
-      same-trans (stored-same net arena w room n 7 4294967295 (omega arith) (omega arith))
-      (same-trans (stored-same net arena u room n 8 4294967295 (omega arith) (omega arith)) (detach-same v n))
+      let u = stored w (net .nodes) n 7 undef in
+      let v = stored u (net .nodes) n 8 undef in
+      same-trans (stored-same net arena w room n 7 undef (omega arith) (omega arith))
+      (same-trans (stored-same net arena u room n 8 undef (omega arith) (omega arith)) (detach-same v n))

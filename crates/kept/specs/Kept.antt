@@ -4,7 +4,7 @@ use mathlib.Core.Bool.{Bool, true, cond}
 use mathlib.Core.List.{List}
 use Prim.Native.Nat.{ℕ, zero, suc, _+_, _-_, _*_, _/_, _%_}
 use lib.Dec.{eqb, leb, ltb}
-use Rattle.memory.specs.Record.{field, stored, headed}
+use Rattle.memory.specs.Record.{undef, field, stored, headed}
 use Rattle.memory.specs.declared.Netlist.{Netlist}
 use Rattle.memory.specs.declared.Arena.{Arena}
 use Rattle.memory.specs.declared.Draft.{Draft}
@@ -61,4 +61,4 @@ attached w net c s x =
 
 unfoldable pub detached : List ℕ → Netlist → ℕ → List ℕ
 detached w net zero = w
-detached w net (suc n) = detached (stored (stored w (net .nodes) n 7 4294967295) (net .nodes) n 8 4294967295) net n
+detached w net (suc n) = detached (stored (stored w (net .nodes) n 7 undef) (net .nodes) n 8 undef) net n

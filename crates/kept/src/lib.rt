@@ -4,6 +4,7 @@ use memory::Arena;
 use memory::Draft;
 use memory::FACT;
 use memory::Netlist;
+use memory::UNDEF;
 use memory::WATCH;
 use memory::field;
 use memory::literal;
@@ -86,7 +87,7 @@ pub fn detach(work: &mut [u32], net: Netlist, n: u32)
     let mut left = n;
     while 0 < left {
         left -= 1;
-        set_field(work, net.nodes, left, 7, 4294967295);
-        set_field(work, net.nodes, left, 8, 4294967295);
+        set_field(work, net.nodes, left, 7, UNDEF);
+        set_field(work, net.nodes, left, 8, UNDEF);
     }
 }

@@ -12,15 +12,23 @@ use Rattle.frames.specs.Lanes.{hitIn}
 use Rattle.machine.specs.Layers.{Entry, stateOf, placeOf, slotHit, slotPlace, expanded, layerSlots, firstBelow}
 use Rattle.machine.proofs.Expand.{quotient-below}
 use Rattle.machine.proofs.First.{none-is}
-use Rattle.states.specs.Table.{Fits}
+use Rattle.states.specs.declared.Tally.{Tally}
+use Rattle.states.specs.declared.Tally.the-variants.{Records, TooMany}
+use Rattle.states.specs.Table.{Fits, countOf, Within}
 use Rattle.states.specs.Trace.{Trace, Holds}
 use Rattle.states.proofs.Laws.{trace-kept, holds-next}
 use Rattle.influence.specs.Part.{Part, Closed}
 use Rattle.transitions.specs.Transitions.{valuesIn, nextIn, machineOf}
 use Rattle.layers.specs.Rows.{metRows, RowsMet, FirstRow, BlockMet}
 use Rattle.layers.specs.Asked.{AskedOf}
-use Rattle.layers.specs.declared.Asked.the-variants.{Hit, Met}
+use Rattle.layers.specs.declared.Asked.{Asked}
+use Rattle.layers.specs.declared.Asked.the-variants.{Hit, Next, Full}
 use Rattle.layers.proofs.Slots.{row-in, rows-in, place-at, expand-block, quiet-block, first-slot, layer-total}
+
+-- the answer where no block is left
+abbrev pub askedOf : Tally → Asked
+askedOf (Records n) = Next n
+askedOf TooMany = Full
 
 module _ (c : Part) (b lo hi quota : ℕ) (r₀ hd₀ : List ℕ) where
   abbrev rows : ℕ
@@ -119,13 +127,20 @@ module _ (c : Part) (b lo hi quota : ℕ) (r₀ hd₀ : List ℕ) where
             omega arith,
           )
 
-    pub asking-end : {q met : ℕ} {r hd : List ℕ} → Asking q met r hd → q ≡ (hi - lo) * blocks → (t : ℕ) (es : List Entry)
-        → Holds rows t lo quota hi r₀ hd₀ es
-        → AskedOf c b t lo quota r hd es (Met met)
+    pub asking-end : {q : ℕ} {r hd : List ℕ} (met : Tally) → Asking q (countOf quota met) r hd → Within quota met → q ≡ (hi - lo) * blocks
+        → (t : ℕ) (es : List Entry) → Holds rows t lo quota hi r₀ hd₀ es → AskedOf c b t lo quota r hd es (askedOf met)
     unfolding AskedOf
-    asking-end {q} {met} {r} {hd} k e t es h =
-        let lt : 64 * q ≡ layerSlots (machineOf c b) es lo =
-        ap (λ (x : ℕ). 64 * x) e ∙ sym (layer-total c b es lo ∙ ap (λ (x : ℕ). 64 * ((x - lo) * blocks)) (h .counted high)) in (
-          none-is (slotHit (machineOf c b) es lo) (layerSlots (machineOf c b) es lo) (λ z zl. k .quiet t es h z (omega arith)),
-          subst (λ (x : ℕ). Holds rows (suc t) (length es) quota met r hd (expanded (machineOf c b) es lo x)) lt (k .holds t es h),
-        )
+    asking-end {q} {r} {hd} met k w e t es h = go met k w
+      where
+        lt : 64 * q ≡ layerSlots (machineOf c b) es lo
+        lt = ap (λ (x : ℕ). 64 * x) e ∙ sym (layer-total c b es lo ∙ ap (λ (x : ℕ). 64 * ((x - lo) * blocks)) (h .counted high))
+
+        quiet : {n : ℕ} → Asking q n r hd → firstBelow (layerSlots (machineOf c b) es lo) (slotHit (machineOf c b) es lo) ≡ none
+        quiet k = none-is (slotHit (machineOf c b) es lo) (layerSlots (machineOf c b) es lo) (λ z zl. k .quiet t es h z (omega (arith, lt)))
+
+        holds : {n : ℕ} → Asking q n r hd → Holds rows (suc t) (length es) quota n r hd (expanded (machineOf c b) es lo (layerSlots (machineOf c b) es lo))
+        holds {n} k = subst (λ (x : ℕ). Holds rows (suc t) (length es) quota n r hd (expanded (machineOf c b) es lo x)) lt (k .holds t es h)
+
+        go : (met : Tally) → Asking q (countOf quota met) r hd → Within quota met → AskedOf c b t lo quota r hd es (askedOf met)
+        go (Records n) k w = (quiet k, holds k, w)
+        go TooMany k w = (quiet k, holds k)

@@ -10,15 +10,21 @@ use Rattle.states.specs.Trace.{Trace, Holds}
 use Rattle.influence.specs.Part.{Part}
 use Rattle.transitions.specs.Transitions.{machineOf}
 use Rattle.layers.specs.declared.Asked.{Asked}
-use Rattle.layers.specs.declared.Asked.the-variants.{Hit, Met}
+use Rattle.layers.specs.declared.Asked.the-variants.{Hit, Next, Full}
 
--- the first hit of the layer is row `row` of record e, whose prefix can be traced; or there is none, and the next layer is met
+-- the first hit of the layer is row `row` of record e, whose prefix can be traced; or there is none, and the next layer is met, or too
+-- many states are
 unfoldable pub AskedOf : Part → ℕ → ℕ → ℕ → ℕ → List ℕ → List ℕ → List Entry → Asked → Type 0
 AskedOf c b t lo quota records heads es (Hit e row) =
     (z : ℕ) × (firstBelow (layerSlots (machineOf c b) es lo) (slotHit (machineOf c b) es lo) ≡ some z)
     × (y : ℕ) × Trace (2 ^ length (c .circuit .inputs)) records t e y × (row < 2 ^ length (c .circuit .inputs))
     × (slotPlace (machineOf c b) es lo z ≡ y * 2 ^ length (c .circuit .inputs) + row) × (e < length es)
-AskedOf c b t lo quota records heads es (Met count) =
+AskedOf c b t lo quota records heads es (Next count) =
     (firstBelow (layerSlots (machineOf c b) es lo) (slotHit (machineOf c b) es lo) ≡ none)
     × Holds (2 ^ length (c .circuit .inputs)) (suc t) (length es) quota count records heads
+    (expanded (machineOf c b) es lo (layerSlots (machineOf c b) es lo))
+    × (count ≤ quota)
+AskedOf c b t lo quota records heads es Full =
+    (firstBelow (layerSlots (machineOf c b) es lo) (slotHit (machineOf c b) es lo) ≡ none)
+    × Holds (2 ^ length (c .circuit .inputs)) (suc t) (length es) quota (quota + 1) records heads
     (expanded (machineOf c b) es lo (layerSlots (machineOf c b) es lo))

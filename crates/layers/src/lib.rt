@@ -1,5 +1,7 @@
 // One layer of states: its first hit, or the layer after it.
 use layout::Layout;
+use literals::Lit;
+use states::Tally;
 ghost use mathlib.Core.Path.{_≡_};
 ghost use mathlib.Core.Bool.{true};
 ghost use mathlib.Core.List.{List, [], map};
@@ -12,7 +14,7 @@ ghost use Rattle.aiger.specs.Frames.{value};
 ghost use Rattle.layout.specs.Words.{word, circuitIn};
 ghost use Rattle.frames.specs.Lanes.{lane, Ready};
 ghost use Rattle.machine.specs.Layers.{Entry, started};
-ghost use Rattle.states.specs.Table.{Fits};
+ghost use Rattle.states.specs.Table.{Fits, countOf, Within};
 ghost use Rattle.aiger.specs.Memory.{Holds};
 ghost use Rattle.layout.specs.Layout.{LayoutOf};
 ghost use Rattle.states.specs.Trace as trace;
@@ -21,10 +23,12 @@ ghost use Rattle.transitions.specs.Transitions.{numberOf, machineOf};
 ghost use Rattle.layers.specs.Rows.{leading, RowsMet, RowStep, FirstRow, Allowed, BlockMet};
 ghost use Rattle.layers.specs.Asked.{AskedOf};
 
-// What a layer has: a first hit, by its record and row; or none, and the number of records with those of the next layer.
+// What a layer has: a first hit, by its record and row; or none, and the number of records with those of the next layer, or that there
+// are more than there may be.
 pub enum Asked {
     Hit(usize, usize),
-    Met(usize),
+    Next(usize),
+    Full,
 }
 
 // A layer that is asked: where the parts of its circuit stand, the bad line, its records lo to hi - 1, and how many records there may be.
@@ -55,12 +59,12 @@ struct Judged {
     allowed: u64,
 }
 
-// Block `block` of record e, its rows that break no constraint, the number of records, and how many there may be.
+// Block `block` of record e, its rows that break no constraint, the states met, and how many records there may be.
 struct Block {
     e: u32,
     block: usize,
     allowed: u64,
-    met: usize,
+    met: Tally,
     quota: usize,
 }
 
@@ -72,10 +76,9 @@ struct Span {
     quota: usize,
 }
 
-// The number of records, or one more than quota, and the rows that are left to be met: those that break no constraint and lead where no
-// row before them leads.
+// The states met, and the rows that are left to be met: those that break no constraint and lead where no row before them leads.
 struct Pending {
-    met: usize,
+    met: Tally,
     left: u64,
 }
 
@@ -128,22 +131,23 @@ fn meet_row(
     records: &mut [u32],
     heads: &mut [u32],
 ) -> Pending
-    requires { ⌜ Fits (span .quota) (pending .met) (now records) (now heads) ⌝ }
-    requires { ⌜ (length (now state) ≤ 32) × (p < 64) × (span .first ≤ 65536) ⌝ }
+    requires { ⌜ Fits (span .quota) (countOf (span .quota) (pending .met)) (now records) (now heads) ⌝ }
+    requires { ⌜ (length (now state) ≤ 32) × (p < 64) × (span .first ≤ 65536) × Within (span .quota) (pending .met) ⌝ }
     ensures { λ r. ⌜
-        RowStep (λ q. numberOf (map (λ w. bit w q) (now (state .entry)))) (span .quota) (span .e) (span .first + p) p (pending .met)
-        (pending .left)
-        (now (records .entry)) (now (heads .entry)) (r .met) (r .left) (now (records .exit)) (now (heads .exit))
+        RowStep (λ q. numberOf (map (λ w. bit w q) (now (state .entry)))) (span .quota) (span .e) (span .first + p) p
+        (countOf (span .quota) (pending .met)) (pending .left) (now (records .entry)) (now (heads .entry)) (countOf (span .quota) (r .met))
+        (r .left) (now (records .exit)) (now (heads .exit))
+        × Within (span .quota) (r .met)
         ⌝ }
 {
-    let count = pending.met;
+    let tally = pending.met;
     let left = pending.left;
     if (left >> p) % 2 == 0 {
-        return Pending { met: count, left };
+        return Pending { met: tally, left };
     }
     let s = pack(state, p);
     let others = words::literal_word(same_rows(state, p), true);
-    let met = states::meet(records, heads, count, span.quota, s, span.e, span.first + p);
+    let met = states::meet(records, heads, tally, span.quota, s, span.e, span.first + p);
     Pending {
         met,
         left: left & others,
@@ -157,13 +161,14 @@ fn meet_rows(
     start: Pending,
     records: &mut [u32],
     heads: &mut [u32],
-) -> usize
-    requires { ⌜ Fits (span .quota) (start .met) (now records) (now heads) ⌝ }
-    requires { ⌜ (length (now state) ≤ 32) × (span .n ≤ 64) × (span .first ≤ 65536) ⌝ }
+) -> Tally
+    requires { ⌜ Fits (span .quota) (countOf (span .quota) (start .met)) (now records) (now heads) ⌝ }
+    requires { ⌜ (length (now state) ≤ 32) × (span .n ≤ 64) × (span .first ≤ 65536) × Within (span .quota) (start .met) ⌝ }
     ensures { λ r. ⌜
-        RowsMet (λ p. leading (start .left) (λ q. numberOf (map (λ w. bit w q) (now (state .entry)))) p) (span .quota) (start .met)
-        (span .e)
-        (span .first) (span .n) (now (records .entry)) (now (heads .entry)) r (now (records .exit)) (now (heads .exit))
+        RowsMet (λ p. leading (start .left) (λ q. numberOf (map (λ w. bit w q) (now (state .entry)))) p) (span .quota)
+        (countOf (span .quota) (start .met)) (span .e) (span .first) (span .n) (now (records .entry)) (now (heads .entry))
+        (countOf (span .quota) r) (now (records .exit)) (now (heads .exit))
+        × Within (span .quota) r
         ⌝ }
 {
     let n = span.n;
@@ -173,7 +178,8 @@ fn meet_rows(
         pending = meet_row(state, p, span, pending, records, heads);
         p += 1;
     }
-    pending.met
+    let met = pending.met;
+    met
 }
 
 // The number of words of 64 rows that a frame has.
@@ -221,15 +227,6 @@ fn judge_rows(
     Judged { first, allowed }
 }
 
-// The values, in 64 runs, of the literal that stands at `at`.
-fn literal_at(m: &[u32], at: usize, values: &[u64]) -> u64
-    requires { ⌜ (at < length (now m)) × (var (word (now m) at) < length (now values)) ⌝ }
-    ensures { λ r. ⌜ ((p : ℕ) → p < 64 → bit r p ≡ value (lane (now (values .entry)) p) (word (now (m .entry)) at)) ⌝ }
-{
-    let l = m[at];
-    words::literal_word(values[(l / 2) as usize], l % 2 == 1)
-}
-
 // The next values of the latches that are kept, row by row: word i is the i-th of them.
 fn next_kept(m: &[u32], layout: Layout, values: &[u64], kept: &[u32], state: &mut [u64])
     requires { ⌜ (layout .latches + 3 * layout .l ≤ length (now m)) × (layout .l ≤ 1024) × (length (now kept) ≤ length (now state)) ⌝ }
@@ -246,7 +243,7 @@ fn next_kept(m: &[u32], layout: Layout, values: &[u64], kept: &[u32], state: &mu
     let mut i = 0;
     while i < count {
         let j = kept[i] as usize;
-        state[i] = literal_at(m, latches + 3 * j + 1, values);
+        state[i] = frames::literal_value(values, Lit::from_word(m[latches + 3 * j + 1]));
         i += 1;
     }
 }
@@ -261,23 +258,25 @@ fn meet_block(
     kept: &[u32],
     records: &mut [u32],
     heads: &mut [u32],
-) -> usize
+) -> Tally
     requires { ⌜ ((order : List ℕ) × Ready (now m) layout order (length (now values))) ⌝ }
-    requires { ⌜ Fits (block .quota) (block .met) (now records) (now heads) ⌝ }
+    requires { ⌜ Fits (block .quota) (countOf (block .quota) (block .met)) (now records) (now heads) ⌝ }
     requires { ⌜
         (length (now kept) ≤ 32) × (layout .i ≤ 16) × (block .block ≤ 1024) × Listed (partIn (now m) (now kept))
-        × Allowed (circuitIn (now m)) (now values) (block .allowed)
+        × Allowed (circuitIn (now m)) (now values) (block .allowed) × Within (block .quota) (block .met)
         ⌝ }
     ensures { λ r. ⌜
-        BlockMet (partIn (now (m .entry)) (now (kept .entry))) (now (values .entry)) (block .quota) (block .met) (block .e) (block .block)
-        (now (records .entry)) (now (heads .entry)) r (now (records .exit)) (now (heads .exit))
+        BlockMet (partIn (now (m .entry)) (now (kept .entry))) (now (values .entry)) (block .quota) (countOf (block .quota) (block .met))
+        (block .e) (block .block) (now (records .entry)) (now (heads .entry)) (countOf (block .quota) r) (now (records .exit))
+        (now (heads .exit))
+        × Within (block .quota) r
         ⌝ }
 {
     let met = block.met;
     let quota = block.quota;
-    if quota < met {
-        return met;
-    }
+    let Tally::Records(_) = met else {
+        return Tally::TooMany;
+    };
     let n = lanes(layout.i);
     let first = (64 * block.block) as u32;
     let count = kept.len();
@@ -330,7 +329,7 @@ pub fn ask_layer(
     let words = blocks(layout.i);
     let n = lanes(layout.i);
     let total = (hi - lo) * words;
-    let mut met = hi;
+    let mut met = Tally::Records(hi);
     let mut q = 0;
     while q < total {
         let e = lo + q / words;
@@ -356,7 +355,10 @@ pub fn ask_layer(
         met = meet_block(m, layout, rows, values, kept, records, heads);
         q += 1;
     }
-    Asked::Met(met)
+    match met {
+        Tally::Records(count) => Asked::Next(count),
+        Tally::TooMany => Asked::Full,
+    }
 }
 
 // Meets the states of start places, in a table without records. Once they are too many the others are not looked at.
@@ -368,7 +370,7 @@ pub fn meet_starts(
     heads: &mut [u32],
     kept: &[u32],
     state: &mut [u64],
-) -> usize
+) -> Tally
     requires { ⌜ Holds (now m) (circuitIn (now m)) ⌝ }
     requires { ⌜ LayoutOf (now m) layout ⌝ }
     requires { ⌜
@@ -377,18 +379,19 @@ pub fn meet_starts(
         ⌝ }
     ensures { λ r. ⌜
         ((rows b : ℕ) → trace.Holds rows 0 0 (starts .quota) 0 (now (records .entry)) (now (heads .entry)) []
-        → trace.Holds rows 0 0 (starts .quota) r (now (records .exit)) (now (heads .exit))
+        → trace.Holds rows 0 0 (starts .quota) (countOf (starts .quota) r) (now (records .exit)) (now (heads .exit))
         (started (machineOf (partIn (now (m .entry)) (now (kept .entry))) b) (starts .count)))
+        × Within (starts .quota) r
         ⌝ }
 {
     let count = starts.count;
     let quota = starts.quota;
-    let mut met = 0;
+    let mut met = Tally::Records(0);
     let mut y = 0;
     while y < count {
-        if quota < met {
-            return met;
-        }
+        let Tally::Records(_) = met else {
+            return Tally::TooMany;
+        };
         let s = transitions::start_number(m, layout, y as u64, kept, state);
         met = states::meet(records, heads, met, quota, s, 0, y as u32);
         y += 1;

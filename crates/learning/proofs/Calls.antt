@@ -13,7 +13,8 @@ use Rattle.analysis.specs.Analysis.{analysed}
 use Rattle.kept.specs.Kept.{kept}
 use Rattle.heap.specs.Heap.{cooled}
 use Rattle.learning.specs.declared.Search.{Search}
-use Rattle.learning.specs.Learning.{withArena, withHeap, retreated, forgotten, highest, target, installed, keptBy, firstOf, keptClause, keptLiteral, storedClause, trailOf, learnt}
+use Rattle.learning.specs.declared.TopTwo.{TopTwo}
+use Rattle.learning.specs.Learning.{withArena, withHeap, retreated, forgotten, highest, target, installed, keptBy, keptClause, keptLiteral, storedClause, trailOf, learnt}
 
 module _ (w : List ℕ) (net : Netlist) (s : Search) where
   pub learnt-by : (r : ℕ) {w1 w2 : List ℕ} {g : Heap} {d : Draft} {t : Search} → w1 ≡ cooled w (net .nodes) (s .heap) .words
@@ -22,12 +23,12 @@ module _ (w : List ℕ) (net : Netlist) (s : Search) where
   unfolding learnt
   learnt-by r a b c e f = rw (f, e, c, b, a)
 
-  pub kept-by : (d : Draft) {l o to : ℕ} {b : Arena} {w1 w2 : List ℕ} {t u : Search} → l ≡ firstOf w net (s .arena) (d .length)
-      → o ≡ highest w net (s .arena) l (d .length) 4294967295 → to ≡ target w (net .nodes) o (s .trail .level)
-      → w1 ≡ kept w net (s .arena) d 0 .words → b ≡ kept w net (s .arena) d 0 .arena → t ≡ withArena s b → w2 ≡ retreated w1 net t to .words
-      → u ≡ retreated w1 net t to .search → installed w2 net u l o (s .arena .count) ≡ keptClause w net s d
+  pub kept-by : (d : Draft) {h : TopTwo} {to : ℕ} {b : Arena} {w1 w2 : List ℕ} {t u : Search} → h ≡ highest w net (s .arena) (d .length)
+      → to ≡ target w (net .nodes) (h .second) (s .trail .level) → w1 ≡ kept w net (s .arena) d 0 .words
+      → b ≡ kept w net (s .arena) d 0 .arena → t ≡ withArena s b → w2 ≡ retreated w1 net t to .words → u ≡ retreated w1 net t to .search
+      → installed w2 net u (h .first) (h .second) (s .arena .count) ≡ keptClause w net s d
   unfolding keptClause keptBy
-  kept-by d e1 e2 e3 e4 e5 e6 e7 e8 = rw (e8, e7, e6, e5, e4, e3, e2, e1)
+  kept-by d e1 e3 e4 e5 e6 e7 e8 = rw (e8, e7, e6, e5, e4, e3, e1)
 
   pub store-literal : (d : Draft) → d .whole ≡ true → d .length ≡ 1 → storedClause w net s d ≡ keptLiteral w net s d
   unfolding storedClause

@@ -9,7 +9,7 @@ use borrow.Author.Tests.{ltb-false, lt-leb, le-leb}
 use lib.Dec.{eqb, leb, ltb}
 use lib.ListN.{length, getD, set}
 use lib.Seq.{getD-set-same}
-use Rattle.memory.specs.Record.{field, place, stored, written, headed, headPlace, bitAt, opposite}
+use Rattle.memory.specs.Record.{Counted, counted, field, place, stored, written, headed, headPlace, bitAt, opposite}
 use Rattle.memory.specs.declared.Netlist.{Netlist}
 use Rattle.memory.specs.declared.Arena.{Arena}
 use Rattle.memory.specs.declared.Draft.{Draft}
@@ -19,7 +19,7 @@ use Rattle.reasons.specs.Claims.{Same, Sound}
 use Rattle.reasons.proofs.Frame.{field-other, stored-field}
 use Rattle.resolve.specs.Draft.{Drafted, draftOf, drafted, lengthOf, draftAt, posOf, isMember, taken, appended, included, removed, excluded, joined, gathered, started, resolved}
 use Rattle.analysis.specs.declared.Analysis.{Analysis}
-use Rattle.analysis.specs.Analysis.{Counted, counted, Analysed, reached, sum, less, touched, tallied, draft, analysisOf, touchedAll, recounted, replaced, visited, descended, followed, analysed, unfolded, expanded, expandedFrom, expandedAll}
+use Rattle.analysis.specs.Analysis.{Analysed, reached, sum, less, touched, tallied, draft, analysisOf, touchedAll, recounted, replaced, visited, descended, followed, analysed, unfolded, expanded, expandedFrom, expandedAll}
 use Rattle.kept.specs.Kept.{Arenaed, arenaOf, arenaed, fixedWord, fixed, settled, lengthWord, withHead, kept}
 use Rattle.floor.specs.Place.{bitOf}
 

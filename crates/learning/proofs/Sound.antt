@@ -8,6 +8,7 @@ use native.Mathlib.Omega.{arith}
 use borrow.Author.Tests.{eqb-false}
 use lib.Dec.{eqb, leb, ltb}
 use lib.ListN.{length}
+use Rattle.memory.specs.Record.{undef}
 use Rattle.memory.specs.declared.Netlist.{Netlist}
 use Rattle.memory.specs.declared.Arena.{Arena}
 use Rattle.memory.specs.declared.Draft.{Draft}
@@ -26,7 +27,7 @@ use Rattle.heap.proofs.Frame.{restore-same, cool-same}
 use Rattle.settling.specs.Settling.{reasonAt, settledOne, settledFrom}
 use Rattle.settling.proofs.Sound.{settle-one-sound, settle-from-sound}
 use Rattle.learning.specs.declared.Search.{Search}
-use Rattle.learning.specs.Learning.{Searched, searched, withArena, withHeap, withOrder, allSettled, retreated, settledLevel, forgotten, asserted, target, watched, installed, keptBy, firstOf, secondOf, keptClause, keptLiteral, storedClause, trailOf, learnt}
+use Rattle.learning.specs.Learning.{Searched, searched, withArena, withHeap, withOrder, allSettled, retreated, settledLevel, forgotten, asserted, target, watched, installed, highest, keptBy, keptClause, keptLiteral, storedClause, trailOf, learnt}
 use Rattle.learning.proofs.Keeps.{Keeps, keeps-refl, keeps-trans, start-keeps, settle-keeps, keep-keeps, analyse-keeps}
 use Rattle.learning.proofs.Standing.{Standing, stand-on, stand-same}
 
@@ -131,12 +132,11 @@ module _ (hit : (ℕ → Bool) → Type 0) (hits : ℕ → Type 0) (net : Netlis
     keep-clause-stands : Stands (keptClause w net s d)
     unfolding keptClause keptBy
     keep-clause-stands =
-        let l = firstOf w net (s .arena) (d .length) in
-        let o = secondOf w net (s .arena) (d .length) in
+        let h = highest w net (s .arena) (d .length) in
         let k = kept w net (s .arena) d 0 in
-        let to = target w (net .nodes) o (s .trail .level) in
+        let to = target w (net .nodes) (h .second) (s .trail .level) in
         let u = retreated (k .words) net (withArena s (k .arena)) to in
-        install-stands (u .words) (u .search) l o (s .arena .count)
+        install-stands (u .words) (u .search) (h .first) (h .second) (s .arena .count)
         (retreat-stands (k .words) (withArena s (k .arena)) to
         (stand-on hit hits net begun (given .0) (keep-keeps net (s .arena) w d 0) (keep-sound hit net (s .arena) w d 0 draft), given .1))
 
@@ -146,7 +146,7 @@ module _ (hit : (ℕ → Bool) → Type 0) (hits : ℕ → Type 0) (net : Netlis
         let u = settled w net (s .arena) d in
         let r = retreated u net s 0 in
         let long : 14 * net .nodes ≤ length w = omega (arith, given .0 .sound .room, given .0 .sound .within) in
-        assert-stands (r .words) (r .search) (draftAt w net (s .arena) 0) 4294967295
+        assert-stands (r .words) (r .search) (draftAt w net (s .arena) 0) undef
         (retreat-stands u s 0
         (stand-on hit hits net begun (given .0) (settle-keeps net w long (s .arena) d) (settle-sound hit net (s .arena) w d draft), given .1))
 

@@ -6,18 +6,19 @@ use native.Mathlib.Omega.{arith}
 use Rattle.memory.specs.declared.Netlist.{Netlist}
 use Rattle.memory.specs.declared.Arena.{Arena}
 use Rattle.resolve.specs.Draft.{draftAt}
-use Rattle.learning.specs.Learning.{higher, highest}
+use Rattle.learning.specs.declared.TopTwo.{TopTwo}
+use Rattle.learning.specs.Learning.{ranked, rankedAll}
 
-module _ (w : List ℕ) (net : Netlist) (arena : Arena) (skip : ℕ) where
-  pub highest-none : (n best : ℕ) → n ≡ 0 → highest w net arena skip n best ≡ best
-  unfolding highest
-  highest-none zero best e = refl
-  highest-none (suc n) best e = absurd (omega arith)
+module _ (w : List ℕ) (net : Netlist) (arena : Arena) where
+  pub ranked-none : (n : ℕ) (h : TopTwo) → n ≡ 0 → rankedAll w net arena n h ≡ h
+  unfolding rankedAll
+  ranked-none zero h e = refl
+  ranked-none (suc n) h e = absurd (omega arith)
 
-  pub highest-more : (n best : ℕ) → 0 < n
-      → highest w net arena skip n best ≡ highest w net arena skip (n - 1) (higher w (net .nodes) (draftAt w net arena (n - 1)) best skip)
-  unfolding highest
-  highest-more zero best l = absurd (omega arith)
-  highest-more (suc n) best l =
+  pub ranked-more : (n : ℕ) (h : TopTwo) → 0 < n
+      → rankedAll w net arena n h ≡ rankedAll w net arena (n - 1) (ranked w (net .nodes) h (draftAt w net arena (n - 1)))
+  unfolding rankedAll
+  ranked-more zero h l = absurd (omega arith)
+  ranked-more (suc n) h l =
       let p : n ≡ suc n - 1 = omega arith in
-      ap (λ (k : ℕ). highest w net arena skip k (higher w (net .nodes) (draftAt w net arena k) best skip)) p
+      ap (λ (k : ℕ). rankedAll w net arena k (ranked w (net .nodes) h (draftAt w net arena k))) p

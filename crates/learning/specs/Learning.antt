@@ -4,7 +4,7 @@ use mathlib.Core.Bool.{Bool, cond}
 use mathlib.Core.List.{List}
 use Prim.Native.Nat.{ℕ, zero, suc, _+_, _-_, _*_, _/_}
 use lib.Dec.{eqb, leb, ltb}
-use Rattle.memory.specs.Record.{field}
+use Rattle.memory.specs.Record.{undef, field}
 use Rattle.memory.specs.declared.Netlist.{Netlist}
 use Rattle.memory.specs.declared.Arena.{Arena}
 use Rattle.memory.specs.declared.Draft.{Draft}
@@ -19,6 +19,7 @@ use Rattle.heap.specs.Heap.{Heaped, restored, cooled}
 use Rattle.settling.specs.Settling.{settledFrom}
 use Rattle.learning.specs.declared.Order.{Order}
 use Rattle.learning.specs.declared.Search.{Search}
+use Rattle.learning.specs.declared.TopTwo.{TopTwo}
 
 -- what a step leaves: the words and where the search stands
 pub record Searched : Type 0 where
@@ -98,14 +99,28 @@ unfoldable pub asserted : List ℕ → Netlist → Search → ℕ → ℕ → Se
 asserted w net s l why =
     searched (assigned w net (s .trail) l why .words) (withTrail s (assigned w net (s .trail) l why .state))
 
-unfoldable pub higher : List ℕ → ℕ → ℕ → ℕ → ℕ → ℕ
-higher w nodes l best skip =
-    cond (eqb l skip) best (cond (eqb best 4294967295) l (cond (ltb (field w nodes (best / 2) 6) (field w nodes (l / 2) 6)) l best))
+abbrev pub pairOf : ℕ → ℕ → TopTwo
+pairOf a b = record { first = a; second = b }
 
--- among the first n literals of the working clause
-unfoldable pub highest : List ℕ → Netlist → Arena → ℕ → ℕ → ℕ → ℕ
-highest w net arena skip zero best = best
-highest w net arena skip (suc n) best = highest w net arena skip n (higher w (net .nodes) (draftAt w net arena n) best skip)
+-- two literals by their levels
+unfoldable pub rankedTwo : List ℕ → ℕ → ℕ → ℕ → TopTwo
+rankedTwo w nodes a b = cond (ltb (field w nodes (a / 2) 6) (field w nodes (b / 2) 6)) (pairOf b a) (pairOf a b)
+
+-- and a third
+unfoldable pub ranked : List ℕ → ℕ → TopTwo → ℕ → TopTwo
+ranked w nodes h l =
+    cond (ltb (field w nodes (h .first / 2) 6) (field w nodes (l / 2) 6)) (pairOf l (h .first))
+    (cond (ltb (field w nodes (h .second / 2) 6) (field w nodes (l / 2) 6)) (pairOf (h .first) l) h)
+
+-- and the first n of the working clause
+unfoldable pub rankedAll : List ℕ → Netlist → Arena → ℕ → TopTwo → TopTwo
+rankedAll w net arena zero h = h
+rankedAll w net arena (suc n) h = rankedAll w net arena n (ranked w (net .nodes) h (draftAt w net arena n))
+
+-- of the first n of the working clause, from the last on; of literals of one level those that come last in the clause
+abbrev pub highest : List ℕ → Netlist → Arena → ℕ → TopTwo
+highest w net arena n =
+    rankedAll w net arena (n - 2) (rankedTwo w (net .nodes) (draftAt w net arena (n - 1)) (draftAt w net arena (n - 2)))
 
 unfoldable pub target : List ℕ → ℕ → ℕ → ℕ → ℕ
 target w nodes o level = cond (ltb (field w nodes (o / 2) 6) level) (field w nodes (o / 2) 6) (cond (eqb level 0) 0 (level - 1))
@@ -131,22 +146,18 @@ unfoldable pub keptBy : List ℕ → Netlist → Search → Draft → ℕ → �
 keptBy w net s d l o =
     installedAfter (retreatedAfter (kept w net (s .arena) d 0) net s (target w (net .nodes) o (s .trail .level))) net l o (s .arena .count)
 
--- the literal of the highest level, and that of the highest beside it
-abbrev pub firstOf : List ℕ → Netlist → Arena → ℕ → ℕ
-firstOf w net arena n = highest w net arena 4294967295 n 4294967295
-
-abbrev pub secondOf : List ℕ → Netlist → Arena → ℕ → ℕ
-secondOf w net arena n = highest w net arena (firstOf w net arena n) n 4294967295
+abbrev pub keptByTwo : List ℕ → Netlist → Search → Draft → TopTwo → Searched
+keptByTwo w net s d h = keptBy w net s d (h .first) (h .second)
 
 unfoldable pub keptClause : List ℕ → Netlist → Search → Draft → Searched
-keptClause w net s d = keptBy w net s d (firstOf w net (s .arena) (d .length)) (secondOf w net (s .arena) (d .length))
+keptClause w net s d = keptByTwo w net s d (highest w net (s .arena) (d .length))
 
 abbrev pub assertedAfter : Searched → Netlist → ℕ → ℕ → Searched
 assertedAfter s net l why = asserted (s .words) net (s .search) l why
 
 unfoldable pub keptLiteral : List ℕ → Netlist → Search → Draft → Searched
 keptLiteral w net s d =
-    assertedAfter (retreated (settled w net (s .arena) d) net s 0) net (draftAt w net (s .arena) 0) 4294967295
+    assertedAfter (retreated (settled w net (s .arena) d) net s 0) net (draftAt w net (s .arena) 0) undef
 
 unfoldable pub storedClause : List ℕ → Netlist → Search → Draft → Searched
 storedClause w net s d =

@@ -13,6 +13,7 @@ use memory::Heap;
 use memory::LEVEL;
 use memory::Netlist;
 use memory::Trail;
+use memory::UNDEF;
 use memory::field;
 use memory::literal;
 use settling::settle_all;
@@ -43,6 +44,12 @@ pub struct Search {
     pub arena: Arena,
     pub heap: Heap,
     pub order: Order,
+}
+
+// Two literals of a clause, the one of the higher level first.
+struct TopTwo {
+    first: u32,
+    second: u32,
 }
 
 pub fn with_trail(s: Search, t: State) -> Search
@@ -146,32 +153,55 @@ fn assert(work: &mut [u32], net: Netlist, s: Search, l: u32, why: u32) -> Search
     with_trail(s, u)
 }
 
-// Of literal l, unless it is `skip`, and literal best, if there is one, the one of the higher level.
-fn higher(work: &[u32], nodes: u32, l: u32, best: u32, skip: u32) -> u32
-    ensures { λ r. ⌜ r ≡ Ln.higher (now (work .entry)) nodes l best skip ⌝ }
+// The two of literals a and b, the one of the higher level first.
+fn rank_two(work: &[u32], nodes: u32, a: u32, b: u32) -> TopTwo
+    ensures { λ r. ⌜ r ≡ Ln.rankedTwo (now (work .entry)) nodes a b ⌝ }
 {
-    if l == skip {
-        return best;
+    if field(work, nodes, a / 2, LEVEL) < field(work, nodes, b / 2, LEVEL) {
+        return TopTwo {
+            first: b,
+            second: a,
+        };
     }
-    if best == 4294967295 {
-        return l;
+    TopTwo {
+        first: a,
+        second: b,
     }
-    if field(work, nodes, best / 2, LEVEL) < field(work, nodes, l / 2, LEVEL) {
-        return l;
-    }
-    best
 }
 
-// The literal of the highest level among the first n of the working clause but `skip`, or 4294967295.
-fn highest(work: &[u32], net: Netlist, arena: Arena, n: u32, skip: u32) -> u32
-    ensures { λ r. ⌜ r ≡ Ln.highest (now (work .entry)) net arena skip n 4294967295 ⌝ }
+// The two of highest level among literal l and two others, which stand in their order.
+fn rank(work: &[u32], nodes: u32, h: TopTwo, l: u32) -> TopTwo
+    ensures { λ r. ⌜ r ≡ Ln.ranked (now (work .entry)) nodes h l ⌝ }
 {
-    let mut best = 4294967295;
-    let mut left = n;
+    let level = field(work, nodes, l / 2, LEVEL);
+    if field(work, nodes, h.first / 2, LEVEL) < level {
+        return TopTwo {
+            first: l,
+            second: h.first,
+        };
+    }
+    if field(work, nodes, h.second / 2, LEVEL) < level {
+        return TopTwo {
+            first: h.first,
+            second: l,
+        };
+    }
+    h
+}
+
+// The two literals of highest level among the first n of the working clause.
+fn highest(work: &[u32], net: Netlist, arena: Arena, n: u32) -> TopTwo
+    requires { ⌜ 1 < n ⌝ }
+    ensures { λ r. ⌜ r ≡ Ln.highest (now (work .entry)) net arena n ⌝ }
+{
+    let a = literal(work, net.nodes, arena.used, n - 1);
+    let b = literal(work, net.nodes, arena.used, n - 2);
+    let mut best = rank_two(work, net.nodes, a, b);
+    let mut left = n - 2;
     while 0 < left {
         left -= 1;
         let l = literal(work, net.nodes, arena.used, left);
-        best = higher(work, net.nodes, l, best, skip);
+        best = rank(work, net.nodes, best, l);
     }
     best
 }
@@ -216,16 +246,16 @@ fn install(work: &mut [u32], net: Netlist, s: Search, l: u32, o: u32, old: u32) 
 
 // Keeps the working clause, which has two literals or more, and goes back to where it implies one.
 fn keep_clause(work: &mut [u32], net: Netlist, s: Search, d: Draft) -> Search
+    requires { ⌜ 1 < d .length ⌝ }
     ensures { λ r. ⌜ Ln.Left (now (work .exit)) r (Ln.keptClause (now (work .entry)) net s d) ⌝ }
 {
     let a = s.arena;
     let t = s.trail;
-    let l = highest(work, net, a, d.length, 4294967295);
-    let o = highest(work, net, a, d.length, l);
-    let to = target(work, net.nodes, o, t.level);
+    let h = highest(work, net, a, d.length);
+    let to = target(work, net.nodes, h.second, t.level);
     let b = keep(work, net, a, d, 0);
     let u = retreat(work, net, with_arena(s, b), to);
-    install(work, net, u, l, o, a.count)
+    install(work, net, u, h.first, h.second, a.count)
 }
 
 // Fixes the literal of the working clause, which has one.
@@ -236,7 +266,7 @@ fn keep_literal(work: &mut [u32], net: Netlist, s: Search, d: Draft) -> Search
     let l = literal(work, net.nodes, a.used, 0);
     settle(work, net, a, d);
     let u = retreat(work, net, s, 0);
-    assert(work, net, u, l, 4294967295)
+    assert(work, net, u, l, UNDEF)
 }
 
 // Keeps the working clause.

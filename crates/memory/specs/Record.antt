@@ -5,11 +5,35 @@
 -- both operands are 2v. Word 2 is what is known of the node in every hit: `fixed`, `bitAt` and the first fan-out are its digits. Words 3
 -- to 13 guide the search and are part of no claim: place in the working clause, reason, value, level, watches of the two literals, an
 -- entry of the trail, an entry of the heap, activity, next fan-outs after those of the node's two operands.
+use mathlib.Core.Path.{_≡_}
 use mathlib.Core.Bool.{cond}
 use mathlib.Core.List.{List}
 use Prim.Native.Nat.{ℕ, _+_, _-_, _*_, _/_, _%_}
 use lib.Dec.{eqb, leb}
 use lib.ListN.{getD, set}
+
+-- what a step leaves: the words and a number
+pub record Counted : Type 0 where
+  pub words : List ℕ
+  pub count : ℕ
+
+pub record Told (w : List ℕ) (n : ℕ) (to : Counted) : Type 0 where
+  pub words : w ≡ to .words
+  pub count : n ≡ to .count
+
+abbrev pub counted : List ℕ → ℕ → Counted
+counted w n = record { words = w; count = n }
+
+-- the word that names no clause, no reason and no place in a list of watches
+abbrev pub undef : ℕ
+undef = 4294967295
+
+-- the largest word
+abbrev pub largest : ℕ
+largest = 4294967295
+
+unfoldable pub successor : ℕ → ℕ
+successor i = cond (eqb i largest) i (i + 1)
 
 abbrev pub place : ℕ → ℕ → ℕ
 place v f = 14 * v + f

@@ -39,6 +39,12 @@ pub struct Heap {
     pub step: u32,
 }
 
+// The word that names no clause, no reason and no place in a list of watches.
+pub const UNDEF: u32 = 4294967295;
+
+// The largest word.
+pub const LARGEST: u32 = 4294967295;
+
 // The words of a node's record. RIGHT is the one after LEFT, and WATCH and FAN are two words each, one for either sign or side.
 pub const LEFT: u8 = 0;
 
@@ -103,6 +109,13 @@ pub fn set_field(work: &mut [u32], nodes: u32, v: u32, f: u8, x: u32)
         return;
     }
     put(work, place(v, f), x);
+}
+
+// One more, or the largest word.
+pub fn successor(i: u32) -> u32
+    ensures { λ r. ⌜ r ≡ R.successor i ⌝ }
+{
+    if i == LARGEST { i } else { i + 1 }
 }
 
 // The complement of a literal.

@@ -3,7 +3,7 @@ use mathlib.Core.Bool.{Bool, cond}
 use mathlib.Core.List.{List}
 use Prim.Native.Nat.{ℕ, zero, suc, _+_, _-_, _*_, _/_, _≤_}
 use lib.Dec.{eqb, leb}
-use Rattle.memory.specs.Record.{field}
+use Rattle.memory.specs.Record.{undef, field}
 use Rattle.memory.specs.declared.Netlist.{Netlist}
 use Rattle.memory.specs.declared.Arena.{Arena}
 use Rattle.reasons.specs.Claims.{Same}
@@ -36,6 +36,6 @@ module _ (net : Netlist) (arena : Arena) (room : 14 * net .nodes + arena .used +
   look-up-same w s e (suc n) =
       let t = looked w net s (e / 2) in
       let more = lookedUp (t .words) net (t .state) (nextFan w (net .nodes) e) n in
-      same-step net arena room w (eqb e 0) (stood w s) (cond (eqb (s .clash) 4294967295) more (stood w s)) (same-refl net arena w)
-      (same-step net arena room w (eqb (s .clash) 4294967295) more (stood w s)
+      same-step net arena room w (eqb e 0) (stood w s) (cond (eqb (s .clash) undef) more (stood w s)) (same-refl net arena w)
+      (same-step net arena room w (eqb (s .clash) undef) more (stood w s)
       (same-trans (look-same w s (e / 2)) (look-up-same (t .words) (t .state) (nextFan w (net .nodes) e) n)) (same-refl net arena w))

@@ -4,6 +4,7 @@ use mathlib.Core.List.{List}
 use Prim.Native.Nat.{ℕ, zero, suc, _-_, _/_, _≤_, _<_}
 use native.Mathlib.Omega.{arith}
 use borrow.Author.Tests.{eq-eqb, ne-eqb}
+use Rattle.memory.specs.Record.{undef}
 use Rattle.memory.specs.declared.Netlist.{Netlist}
 use Rattle.trail.specs.declared.State.{State}
 use Rattle.trail.specs.Trail.{stood}
@@ -20,16 +21,16 @@ module _ (w : List ℕ) (net : Netlist) (s : State) (e : ℕ) where
   up-end zero z = refl
   up-end (suc n) z = rw (eq-eqb e 0 z)
 
-  pub up-stop : (n : ℕ) → (e ≡ 0 → ⊥) → (s .clash ≡ 4294967295 → ⊥) → lookedUp w net s e n ≡ stood w s
+  pub up-stop : (n : ℕ) → (e ≡ 0 → ⊥) → (s .clash ≡ undef → ⊥) → lookedUp w net s e n ≡ stood w s
   unfolding lookedUp
   up-stop zero z y = refl
-  up-stop (suc n) z y = rw (ne-eqb e 0 z, ne-eqb (s .clash) 4294967295 y)
+  up-stop (suc n) z y = rw (ne-eqb e 0 z, ne-eqb (s .clash) undef y)
 
-  pub up-more : (n : ℕ) → 0 < n → (e ≡ 0 → ⊥) → s .clash ≡ 4294967295
+  pub up-more : (n : ℕ) → 0 < n → (e ≡ 0 → ⊥) → s .clash ≡ undef
       → lookedUp w net s e n ≡ lookedUp (looked w net s (e / 2) .words) net (looked w net s (e / 2) .state) (nextFan w (net .nodes) e) (n - 1)
   unfolding lookedUp
   up-more zero l z y = absurd (omega arith)
   up-more (suc n) l z y =
       let p : n ≡ suc n - 1 = omega arith in
-      rw (ne-eqb e 0 z, eq-eqb (s .clash) 4294967295 y)
+      rw (ne-eqb e 0 z, eq-eqb (s .clash) undef y)
       (ap (lookedUp (looked w net s (e / 2) .words) net (looked w net s (e / 2) .state) (nextFan w (net .nodes) e)) p)

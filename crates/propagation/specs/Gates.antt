@@ -3,7 +3,7 @@ use mathlib.Core.Bool.{Bool, not, cond}
 use mathlib.Core.List.{List}
 use Prim.Native.Nat.{ℕ, zero, suc, _+_, _-_, _*_, _/_, _%_}
 use lib.Dec.{eqb, leb}
-use Rattle.memory.specs.Record.{field, opposite}
+use Rattle.memory.specs.Record.{undef, field, opposite}
 use Rattle.memory.specs.declared.Netlist.{Netlist}
 use Rattle.trail.specs.declared.State.{State}
 use Rattle.trail.specs.Trail.{Stood, stood, value, assigned}
@@ -62,6 +62,6 @@ unfoldable pub lookedUp : List ℕ → Netlist → State → ℕ → ℕ → Sto
 lookedUp w net s e zero = stood w s
 lookedUp w net s e (suc n) =
     cond (eqb e 0) (stood w s)
-    (cond (eqb (s .clash) 4294967295) (lookedUp (looked w net s (e / 2) .words) net (looked w net s (e / 2) .state)
+    (cond (eqb (s .clash) undef) (lookedUp (looked w net s (e / 2) .words) net (looked w net s (e / 2) .state)
     (nextFan w (net .nodes) e) n)
     (stood w s))

@@ -1,5 +1,6 @@
 // Propagation through gates: the consequences of values. Nothing is claimed of it but the words it leaves alone.
 use memory::Netlist;
+use memory::UNDEF;
 use memory::field;
 use memory::opposite;
 use trail::State;
@@ -170,7 +171,7 @@ pub fn look_up(work: &mut [u32], net: Netlist, s: State, e: u32, n: u32) -> Stat
         if at == 0 {
             return t;
         }
-        if t.clash != 4294967295 {
+        if t.clash != UNDEF {
             return t;
         }
         let next = next_fan(work, net.nodes, at);

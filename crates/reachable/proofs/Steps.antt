@@ -15,7 +15,7 @@ use Rattle.states.specs.Trace.{Holds}
 use Rattle.transitions.specs.Transitions.{machineOf}
 use Rattle.layers.specs.Asked.{AskedOf}
 use Rattle.layers.specs.declared.Asked.{Asked}
-use Rattle.layers.specs.declared.Asked.the-variants.{Hit, Met}
+use Rattle.layers.specs.declared.Asked.the-variants.{Hit, Next, Full}
 use Rattle.reachable.specs.Quota.{quota}
 use Rattle.reachable.specs.Layers.{FoundOf}
 use Rattle.reachable.specs.declared.Found.the-variants.{At, Nowhere, Left}
@@ -99,24 +99,31 @@ module _ (c : Part) (b k : ℕ) where
           let (z, f, y, tr, rl, sp, el) = subst (AskedOf c b t lo most records heads es) q (asked t es standing-holds) in
           (y, rest-hit c b k t es lo rest (s .within) z f ∙ ap (hit t) sp, tr, rl, s .within, omega (arith, counted), w)
 
-      met-case : {met : ℕ} → a ≡ Met met → (firstBelow (layerSlots (machineOf c b) es lo) (slotHit (machineOf c b) es lo) ≡ none)
+      met-case : {met : ℕ} → a ≡ Next met → (firstBelow (layerSlots (machineOf c b) es lo) (slotHit (machineOf c b) es lo) ≡ none)
           × Holds (2 ^ length (c .circuit .inputs)) (suc t) (length es) most met records heads
           (expanded (machineOf c b) es lo (layerSlots (machineOf c b) es lo))
+          × (met ≤ most)
       unfolding AskedOf
       met-case e = subst (AskedOf c b t lo most records heads es) e (asked t es standing-holds)
 
-      pub case-lost : {met : ℕ} → a ≡ Met met → most < met → FoundOf c b k records (Left (t + 1))
-      unfolding FoundOf
-      case-lost e h = let m = met-case e in rest-lost c b k t es lo rest (s .within) (m .0) (omega (arith, m .1 .lost h))
+      pub case-lost : a ≡ Full → FoundOf c b k records (Left (t + 1))
+      unfolding AskedOf FoundOf
+      case-lost e =
+          let m = subst (AskedOf c b t lo most records heads es) e (asked t es standing-holds) in
+          rest-lost c b k t es lo rest (s .within) (m .0) (omega (arith, m .1 .lost (omega arith)))
 
-      pub case-last : {met : ℕ} → a ≡ Met met → met ≤ most → met ≡ hi → FoundOf c b k records Nowhere
+      pub case-last : {met : ℕ} → a ≡ Next met → met ≡ hi → FoundOf c b k records Nowhere
       unfolding FoundOf
-      case-last e h w = let m = met-case e in rest-last c b k t es lo rest (s .within) (m .0) (omega (arith, m .1 .counted h))
-          (omega (arith, m .1 .counted h, counted))
+      case-last e w = let m = met-case e in rest-last c b k t es lo rest (s .within) (m .0) (omega (arith, m .2, m .1 .counted (m .2)))
+          (omega (arith, m .1 .counted (m .2), counted))
 
-      pub case-more : {met : ℕ} → a ≡ Met met → met ≤ most → (met ≡ hi → ⊥) → Standing (t + 1) hi met records heads
-      case-more {met} e h w =
+      pub met-few : {met : ℕ} → a ≡ Next met → met ≤ most
+      met-few e = met-case e .2
+
+      pub case-more : {met : ℕ} → a ≡ Next met → (met ≡ hi → ⊥) → Standing (t + 1) hi met records heads
+      case-more {met} e w =
           let m = met-case e in
+          let h = m .2 in
           let all = expanded (machineOf c b) es lo (layerSlots (machineOf c b) es lo) in
           let g : length all ≡ met = m .1 .counted h in
           record {

@@ -3,6 +3,7 @@ use layers::Asked;
 use layers::Layer;
 use layers::Starts;
 use layout::Layout;
+use states::Tally;
 ghost use mathlib.Core.Path.{_≡_};
 ghost use mathlib.Core.List.{List, []};
 ghost use Prim.Native.Nat.{ℕ, _+_, _-_, _*_, _^_, _≤_, _<_};
@@ -14,7 +15,7 @@ ghost use Rattle.layout.specs.Layout.{LayoutOf};
 ghost use Rattle.frames.specs.Lanes.{Ready};
 ghost use Rattle.enumeration.specs.Frame.{FreeBits};
 ghost use Rattle.machine.specs.Layers.{started};
-ghost use Rattle.states.specs.Table.{Fits};
+ghost use Rattle.states.specs.Table.{Fits, countOf, Within};
 ghost use Rattle.states.specs.Trace as trace;
 ghost use Rattle.influence.specs.Part.{Listed, Closed, partIn};
 ghost use Rattle.influence.specs.Cone.{partOf};
@@ -89,7 +90,7 @@ fn quota(m: &[u32], layout: Layout, t: usize, kept: &[u32]) -> usize
     if affordable < most { affordable } else { most }
 }
 
-// Meets the start states, up to quota records, in a table without records: the number of records, or one more than quota.
+// Meets the start states, up to quota records, in a table without records.
 fn meet_starts(
     m: &[u32],
     layout: Layout,
@@ -97,7 +98,7 @@ fn meet_starts(
     records: &mut [u32],
     heads: &mut [u32],
     kept: &[u32],
-) -> usize
+) -> Tally
     requires { ⌜ Holds (now m) (circuitIn (now m)) ⌝ }
     requires { ⌜ LayoutOf (now m) layout ⌝ }
     requires { ⌜
@@ -105,8 +106,9 @@ fn meet_starts(
         ⌝ }
     ensures { λ r. ⌜
         ((rows b : ℕ) → trace.Holds rows 0 0 quota 0 (now (records .entry)) (now (heads .entry)) []
-        → trace.Holds rows 0 0 quota r (now (records .exit)) (now (heads .exit))
+        → trace.Holds rows 0 0 quota (countOf quota r) (now (records .exit)) (now (heads .exit))
         (started (machineOf (partIn (now (m .entry)) (now (kept .entry))) b) (2 ^ layout .u)))
+        × Within quota r
         ⌝ }
 {
     let count = power(layout.u);
@@ -140,10 +142,9 @@ fn ask_frames(
     let b = q.b;
     let k = q.k;
     let first = quota(m, layout, 0, kept);
-    let starts = meet_starts(m, layout, first, records, heads, kept);
-    if first < starts {
+    let Tally::Records(starts) = meet_starts(m, layout, first, records, heads, kept) else {
         return Found::Left(0);
-    }
+    };
     let mut lo = 0;
     let mut hi = starts;
     let mut t = 0;
@@ -160,10 +161,10 @@ fn ask_frames(
             Asked::Hit(e, row) => {
                 return Found::At(t, e, row);
             }
-            Asked::Met(met) => {
-                if most < met {
-                    return Found::Left(t + 1);
-                }
+            Asked::Full => {
+                return Found::Left(t + 1);
+            }
+            Asked::Next(met) => {
                 if met == hi {
                     return Found::Nowhere;
                 }

@@ -3,7 +3,7 @@ use mathlib.Core.Bool.{Bool, cond}
 use mathlib.Core.List.{List}
 use Prim.Native.Nat.{ℕ, zero, suc, _+_, _*_, _/_, _≤_}
 use lib.Dec.{eqb, leb}
-use Rattle.memory.specs.Record.{field, firstFan, opposite}
+use Rattle.memory.specs.Record.{undef, field, firstFan, opposite}
 use Rattle.memory.specs.declared.Netlist.{Netlist}
 use Rattle.memory.specs.declared.Arena.{Arena}
 use Rattle.reasons.specs.Claims.{Same, Sound}
@@ -33,7 +33,7 @@ module _ (net : Netlist) (arena : Arena) (room : 14 * net .nodes + arena .used +
   through-same w s l =
       let t = throughGates w net s l in
       let new = visited (t .words) net arena (t .state) (opposite l) in
-      same-step net arena room w (eqb (t .state .clash) 4294967295) new t
+      same-step net arena room w (eqb (t .state .clash) undef) new t
       (same-trans (gates-same w s l) (visit-same net arena room (t .words) (t .state) (opposite l))) (gates-same w s l)
 
   follow-same : (w : List ℕ) (s : State) → Same net arena w (followed w net arena s .words)
@@ -46,8 +46,8 @@ module _ (net : Netlist) (arena : Arena) (room : 14 * net .nodes + arena .used +
   propagate-same w s (suc n) =
       let t = followed w net arena s in
       let more = propagated (t .words) net arena (t .state) n in
-      same-step net arena room w (leb (s .length) (s .next)) (stood w s) (cond (eqb (s .clash) 4294967295) more (stood w s)) (same-refl net arena w)
-      (same-step net arena room w (eqb (s .clash) 4294967295) more (stood w s)
+      same-step net arena room w (leb (s .length) (s .next)) (stood w s) (cond (eqb (s .clash) undef) more (stood w s)) (same-refl net arena w)
+      (same-step net arena room w (eqb (s .clash) undef) more (stood w s)
       (same-trans (follow-same w s) (propagate-same (t .words) (t .state) n)) (same-refl net arena w))
 
 module _ (hit : (ℕ → Bool) → Type 0) (net : Netlist) (arena : Arena) where

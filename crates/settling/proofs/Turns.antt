@@ -4,6 +4,7 @@ use mathlib.Core.List.{List}
 use Prim.Native.Nat.{ℕ, zero, suc, _+_, _-_, _≤_, _<_}
 use native.Mathlib.Omega.{arith}
 use borrow.Author.Tests.{eq-eqb, ne-eqb, le-leb, lt-leb}
+use Rattle.memory.specs.Record.{undef}
 use Rattle.memory.specs.declared.Netlist.{Netlist}
 use Rattle.memory.specs.declared.Arena.{Arena}
 use Rattle.trail.specs.declared.State.{State}
@@ -21,18 +22,18 @@ module _ (w : List ℕ) (net : Netlist) (arena : Arena) where
   propagated-end s zero l = refl
   propagated-end s (suc n) l = rw (le-leb (s .length) (s .next) l)
 
-  pub propagated-stop : (s : State) (n : ℕ) → s .next < s .length → (s .clash ≡ 4294967295 → ⊥) → propagated w net arena s n ≡ stood w s
+  pub propagated-stop : (s : State) (n : ℕ) → s .next < s .length → (s .clash ≡ undef → ⊥) → propagated w net arena s n ≡ stood w s
   unfolding propagated
   propagated-stop s zero l e = refl
-  propagated-stop s (suc n) l e = rw (lt-leb (s .length) (s .next) l, ne-eqb (s .clash) 4294967295 e)
+  propagated-stop s (suc n) l e = rw (lt-leb (s .length) (s .next) l, ne-eqb (s .clash) undef e)
 
-  pub propagated-more : (s : State) (n : ℕ) → 0 < n → s .next < s .length → s .clash ≡ 4294967295
+  pub propagated-more : (s : State) (n : ℕ) → 0 < n → s .next < s .length → s .clash ≡ undef
       → propagated w net arena s n ≡ propagated (followed w net arena s .words) net arena (followed w net arena s .state) (n - 1)
   unfolding propagated
   propagated-more s zero z l e = absurd (omega arith)
   propagated-more s (suc n) z l e =
       let p : n ≡ suc n - 1 = omega arith in
-      rw (lt-leb (s .length) (s .next) l, eq-eqb (s .clash) 4294967295 e)
+      rw (lt-leb (s .length) (s .next) l, eq-eqb (s .clash) undef e)
       (ap (propagated (followed w net arena s .words) net arena (followed w net arena s .state)) p)
 
   pub settled-none : (t k : ℕ) → k ≡ 0 → settledFrom w net arena t k ≡ w

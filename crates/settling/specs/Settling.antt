@@ -3,7 +3,7 @@ use mathlib.Core.Bool.{Bool, cond}
 use mathlib.Core.List.{List}
 use Prim.Native.Nat.{ℕ, zero, suc, _+_, _-_, _/_}
 use lib.Dec.{eqb, leb}
-use Rattle.memory.specs.Record.{field, firstFan, opposite}
+use Rattle.memory.specs.Record.{undef, successor, field, firstFan, opposite}
 use Rattle.memory.specs.declared.Netlist.{Netlist}
 use Rattle.memory.specs.declared.Arena.{Arena}
 use Rattle.resolve.specs.Draft.{started}
@@ -12,9 +12,6 @@ use Rattle.trail.specs.declared.State.{State}
 use Rattle.trail.specs.Trail.{Stood, stood}
 use Rattle.propagation.specs.Gates.{looked, lookedUp}
 use Rattle.watches.specs.Watch.{visited}
-
-unfoldable pub more : ℕ → ℕ
-more i = cond (eqb i 4294967295) i (i + 1)
 
 -- the fan-outs of node v, after the node itself
 abbrev pub fanned : Stood → Netlist → ℕ → Stood
@@ -25,7 +22,7 @@ throughGates w net s l = fanned (looked w net s (l / 2)) net (l / 2)
 
 -- kept clauses, unless a gate is violated
 abbrev pub clausesToo : Stood → Netlist → Arena → ℕ → Stood
-clausesToo s net arena l = cond (eqb (s .state .clash) 4294967295) (visited (s .words) net arena (s .state) (opposite l)) s
+clausesToo s net arena l = cond (eqb (s .state .clash) undef) (visited (s .words) net arena (s .state) (opposite l)) s
 
 unfoldable pub through : List ℕ → Netlist → Arena → State → ℕ → Stood
 through w net arena s l = clausesToo (throughGates w net s l) net arena l
@@ -35,7 +32,7 @@ abbrev pub beyond : State → State
 beyond s =
     record {
       length = s .length;
-      next = more (s .next);
+      next = successor (s .next);
       level = s .level;
       ticks = s .ticks;
       clash = s .clash;
@@ -50,7 +47,7 @@ unfoldable pub propagated : List ℕ → Netlist → Arena → State → ℕ →
 propagated w net arena s zero = stood w s
 propagated w net arena s (suc n) =
     cond (leb (s .length) (s .next)) (stood w s)
-    (cond (eqb (s .clash) 4294967295) (propagated (followed w net arena s .words) net arena (followed w net arena s .state) n) (stood w s))
+    (cond (eqb (s .clash) undef) (propagated (followed w net arena s .words) net arena (followed w net arena s .state) n) (stood w s))
 
 -- the reason of the entry at place t
 abbrev pub reasonAt : List ℕ → ℕ → ℕ → ℕ

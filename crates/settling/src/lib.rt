@@ -6,8 +6,10 @@ use memory::FACT;
 use memory::Netlist;
 use memory::REASON;
 use memory::TRAIL;
+use memory::UNDEF;
 use memory::field;
 use memory::opposite;
+use memory::successor;
 use propagation::look;
 use propagation::look_up;
 use resolve::start;
@@ -17,13 +19,6 @@ ghost use mathlib.Core.Path.{_≡_};
 ghost use Prim.Native.Nat.{_-_};
 ghost use Rattle.trail.specs.Trail as T;
 ghost use Rattle.settling.specs.Settling as S;
-
-// One more, or the largest number.
-fn more(i: u32) -> u32
-    ensures { λ r. ⌜ r ≡ S.more i ⌝ }
-{
-    if i == 4294967295 { i } else { i + 1 }
-}
 
 // The consequences of literal l through gates.
 fn through_gates(work: &mut [u32], net: Netlist, s: State, l: u32) -> State
@@ -39,7 +34,7 @@ fn through(work: &mut [u32], net: Netlist, arena: Arena, s: State, l: u32) -> St
     ensures { λ r. ⌜ T.Left (now (work .exit)) r (S.through (now (work .entry)) net arena s l) ⌝ }
 {
     let t = through_gates(work, net, s, l);
-    if t.clash != 4294967295 {
+    if t.clash != UNDEF {
         return t;
     }
     visit(work, net, arena, t, opposite(l))
@@ -52,7 +47,7 @@ fn follow(work: &mut [u32], net: Netlist, arena: Arena, s: State) -> State
     let l = field(work, net.nodes, s.next, TRAIL);
     let t = State {
         length: s.length,
-        next: more(s.next),
+        next: successor(s.next),
         level: s.level,
         ticks: s.ticks,
         clash: s.clash,
@@ -72,7 +67,7 @@ pub fn propagate(work: &mut [u32], net: Netlist, arena: Arena, s: State, n: u32)
         if t.length <= t.next {
             return t;
         }
-        if t.clash != 4294967295 {
+        if t.clash != UNDEF {
             return t;
         }
         t = follow(work, net, arena, t);

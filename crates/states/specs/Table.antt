@@ -7,6 +7,8 @@ use lib.Dec.{eqb}
 use lib.ListN.{length, getD, set}
 use Rattle.nodes.specs.Last.{lastBefore}
 use Rattle.machine.specs.Layers.{Entry, stateOf, met}
+use Rattle.states.specs.declared.Tally.{Tally}
+use Rattle.states.specs.declared.Tally.the-variants.{Records, TooMany}
 
 -- the bucket of a state: bits 20 to 31 of a product
 unfoldable pub bucketOf : ℕ → ℕ
@@ -32,6 +34,16 @@ pub record Stored (records heads : List ℕ) (es : List Entry) : Type 0 where
 -- the records with record n written
 abbrev pub written : List ℕ → ℕ → ℕ → ℕ → ℕ → ℕ → List ℕ
 written records n s parent row link = set (set (set (set records (4 * n) s) (4 * n + 1) parent) (4 * n + 2) row) (4 * n + 3) link
+
+-- how many states were met, but not more than one more than quota
+abbrev pub countOf : ℕ → Tally → ℕ
+countOf quota (Records n) = n
+countOf quota TooMany = quota + 1
+
+-- there are quota records at most
+abbrev pub Within : ℕ → Tally → Type 0
+Within quota (Records n) = n ≤ quota
+Within quota TooMany = Unit {0}
 
 -- the table has room for quota records, and holds count of them if these are not more than quota
 pub record Fits (quota count : ℕ) (records heads : List ℕ) : Type 0 where

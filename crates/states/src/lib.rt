@@ -5,7 +5,13 @@ ghost use mathlib.Core.List.{List};
 ghost use Prim.Native.Nat.{_+_, _*_, _≤_, _<_};
 ghost use lib.ListN.{length, getD, set};
 ghost use Rattle.machine.specs.Layers.{Entry, met};
-ghost use Rattle.states.specs.Table.{bucketOf, Stored, written, Fits, Meets};
+ghost use Rattle.states.specs.Table.{bucketOf, Stored, written, Fits, Meets, countOf, Within};
+
+// How many states were met: as many as there are records, or more than there may be.
+pub enum Tally {
+    Records(usize),
+    TooMany,
+}
 
 // The bucket of a state.
 fn bucket(s: u32) -> usize
@@ -48,31 +54,32 @@ fn add(records: &mut [u32], heads: &mut [u32], count: usize, s: u32, parent: u32
     heads[h] = (count + 1) as u32;
 }
 
-// Meets state s, which row `row` of record `parent` leads to. count is the number of records, or one more than quota where a state did not
-// fit; so is the result.
+// Meets state s, which row `row` of record `parent` leads to, where there may be quota records.
 pub fn meet(
     records: &mut [u32],
     heads: &mut [u32],
-    count: usize,
+    tally: Tally,
     quota: usize,
     s: u32,
     parent: u32,
     row: u32,
-) -> usize
-    requires { ⌜ Fits quota count (now records) (now heads) ⌝ }
+) -> Tally
+    requires { ⌜ Fits quota (countOf quota tally) (now records) (now heads) × Within quota tally ⌝ }
     ensures { λ r. ⌜
-        Meets quota count s parent row (now (records .entry)) (now (heads .entry)) r (now (records .exit)) (now (heads .exit))
+        Meets quota (countOf quota tally) s parent row (now (records .entry)) (now (heads .entry)) (countOf quota r) (now (records .exit))
+        (now (heads .exit))
+        × Within quota r
         ⌝ }
 {
-    if quota < count {
-        return count;
-    }
+    let Tally::Records(count) = tally else {
+        return Tally::TooMany;
+    };
     if known(records, heads, s) {
-        return count;
+        return Tally::Records(count);
     }
     if count == quota {
-        return count + 1;
+        return Tally::TooMany;
     }
     add(records, heads, count, s, parent, row);
-    count + 1
+    Tally::Records(count + 1)
 }

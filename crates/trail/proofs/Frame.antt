@@ -4,14 +4,14 @@ use mathlib.Core.List.{List}
 use Prim.Native.Nat.{ℕ, zero, suc, _+_, _-_, _*_, _/_, _%_, _≤_}
 use native.Mathlib.Omega.{arith}
 use lib.Dec.{leb}
-use Rattle.memory.specs.Record.{field, stored}
+use Rattle.memory.specs.Record.{counted, undef, field, stored}
 use Rattle.memory.specs.declared.Netlist.{Netlist}
 use Rattle.memory.specs.declared.Arena.{Arena}
 use Rattle.reasons.specs.Claims.{Same}
 use Rattle.reasons.proofs.Valid.{same-refl, same-trans}
 use Rattle.reasons.proofs.Frame.{stored-same}
 use Rattle.trail.specs.declared.State.{State}
-use Rattle.trail.specs.Trail.{Stood, stood, Counted, counted, noted, longer, deeper, assigned, decided, entry, takenBack, backtracked}
+use Rattle.trail.specs.Trail.{Stood, stood, noted, longer, deeper, assigned, decided, entry, takenBack, backtracked}
 
 module _ (net : Netlist) (arena : Arena) (room : 14 * net .nodes + arena .used + 6 * arena .count ≤ net .words) where
   pub same-step : (w : List ℕ) (b : Bool) (s t : Stood) → Same net arena w (s .words) → Same net arena w (t .words) → Same net arena w (cond b s t .words)
@@ -37,8 +37,8 @@ module _ (net : Netlist) (arena : Arena) (room : 14 * net .nodes + arena .used +
   pub decide-same : (w : List ℕ) (s : State) (l : ℕ) → Same net arena w (decided w net s l .words)
   unfolding decided
   decide-same w s l =
-      same-step w (leb (net .nodes) (s .level)) (stood w s) (assigned w net (deeper s) l 4294967295) (same-refl net arena w)
-      (assign-same w (deeper s) l 4294967295)
+      same-step w (leb (net .nodes) (s .level)) (stood w s) (assigned w net (deeper s) l undef) (same-refl net arena w)
+      (assign-same w (deeper s) l undef)
 
   taken-same : (w : List ℕ) (to t : ℕ) → Same net arena w (takenBack w (net .nodes) to t .words)
   unfolding takenBack

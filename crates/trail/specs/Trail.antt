@@ -4,11 +4,11 @@ use mathlib.Core.Bool.{Bool, cond}
 use mathlib.Core.List.{List}
 use Prim.Native.Nat.{ℕ, zero, suc, _+_, _-_, _/_, _%_}
 use lib.Dec.{eqb, leb, ltb}
-use Rattle.memory.specs.Record.{field, stored}
+use Rattle.memory.specs.Record.{Counted, counted, undef, field, stored}
 use Rattle.memory.specs.declared.Netlist.{Netlist}
 use Rattle.trail.specs.declared.State.{State}
 
--- what a step leaves: the words and where the search stands, or the words and a number
+-- what a step leaves: the words and where the search stands
 pub record Stood : Type 0 where
   pub words : List ℕ
   pub state : State
@@ -17,19 +17,8 @@ pub record Left (w : List ℕ) (s : State) (to : Stood) : Type 0 where
   pub words : w ≡ to .words
   pub state : s ≡ to .state
 
-pub record Counted : Type 0 where
-  pub words : List ℕ
-  pub count : ℕ
-
-pub record Told (w : List ℕ) (n : ℕ) (to : Counted) : Type 0 where
-  pub words : w ≡ to .words
-  pub count : n ≡ to .count
-
 abbrev pub stood : List ℕ → State → Stood
 stood w s = record { words = w; state = s }
-
-abbrev pub counted : List ℕ → ℕ → Counted
-counted w n = record { words = w; count = n }
 
 unfoldable pub value : List ℕ → ℕ → ℕ → ℕ
 value w nodes l = cond (ltb 1 (field w nodes (l / 2) 5)) 2 (cond (eqb (l % 2) 0) (field w nodes (l / 2) 5) (1 - field w nodes (l / 2) 5))
@@ -69,7 +58,7 @@ assigned w net s l why =
     (stood (stored (noted w (net .nodes) l (s .level) why) (net .nodes) (s .length) 9 l) (longer s))
 
 unfoldable pub decided : List ℕ → Netlist → State → ℕ → Stood
-decided w net s l = cond (leb (net .nodes) (s .level)) (stood w s) (assigned w net (deeper s) l 4294967295)
+decided w net s l = cond (leb (net .nodes) (s .level)) (stood w s) (assigned w net (deeper s) l undef)
 
 -- the node of the entry at place t
 abbrev pub entry : List ℕ → ℕ → ℕ → ℕ
@@ -91,7 +80,7 @@ cut s n to =
       next = smaller (s .next) n;
       level = smaller (s .level) to;
       ticks = s .ticks;
-      clash = 4294967295;
+      clash = undef;
       clause = s .clause;
       link = s .link;
     }

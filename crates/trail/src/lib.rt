@@ -3,14 +3,16 @@ use memory::LEVEL;
 use memory::Netlist;
 use memory::REASON;
 use memory::TRAIL;
+use memory::UNDEF;
 use memory::VAL;
 use memory::field;
 use memory::set_field;
 ghost use mathlib.Core.Path.{_≡_};
+ghost use Rattle.memory.specs.Record.{Told};
 ghost use Rattle.trail.specs.Trail as S;
 
 // Where a search stands: the length of its trail, the first entry whose consequences are not known yet, the level of decisions, the
-// work done so far, the violated clause as a reason or 4294967295, and, while clauses that watch a literal are visited, the clause and
+// work done so far, the violated clause as a reason or UNDEF, and, while clauses that watch a literal are visited, the clause and
 // what led to it.
 pub struct State {
     pub length: u32,
@@ -78,12 +80,12 @@ pub fn decide(work: &mut [u32], net: Netlist, s: State, l: u32) -> State
         clause: s.clause,
         link: s.link,
     };
-    assign(work, net, t, l, 4294967295)
+    assign(work, net, t, l, UNDEF)
 }
 
 // Takes back values of levels above `to`, of at most the first n entries of the trail. How many entries are left.
 fn take_back(work: &mut [u32], nodes: u32, n: u32, to: u32) -> u32
-    ensures { λ r. ⌜ S.Told (now (work .exit)) r (S.takenBack (now (work .entry)) nodes to n) ⌝ }
+    ensures { λ r. ⌜ Told (now (work .exit)) r (S.takenBack (now (work .entry)) nodes to n) ⌝ }
 {
     let mut left = n;
     while 0 < left {
@@ -113,7 +115,7 @@ pub fn backtrack(work: &mut [u32], net: Netlist, s: State, to: u32) -> State
         next: smaller(s.next, n),
         level: smaller(s.level, to),
         ticks: s.ticks,
-        clash: 4294967295,
+        clash: UNDEF,
         clause: s.clause,
         link: s.link,
     }

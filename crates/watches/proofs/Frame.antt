@@ -6,7 +6,7 @@ use mathlib.Core.Path.{_≡_, refl}
 use native.Mathlib.Omega.{arith}
 use borrow.Author.Tests.{ltb-true, leb-false}
 use lib.Dec.{eqb, leb, ltb}
-use Rattle.memory.specs.Record.{head, stored, headed}
+use Rattle.memory.specs.Record.{undef, head, stored, headed}
 use Rattle.memory.specs.declared.Netlist.{Netlist}
 use Rattle.memory.specs.declared.Arena.{Arena}
 use Rattle.reasons.specs.Claims.{Same}
@@ -54,14 +54,14 @@ module _ (net : Netlist) (arena : Arena) (room : 14 * net .nodes + arena .used +
   turn-same w t f s l h =
       let o = partner w (net .words) (t .clause) s in
       let x = found w net (t .clause) o (head w (net .words) (t .clause) 1 % 1048576) in
-      let new = cond (eqb x 4294967295) (closed w net t o s) (rewatched w net arena t f s x) in
+      let new = cond (eqb x undef) (closed w net t o s) (rewatched w net arena t f s x) in
       same-step net arena room w (eqb (value w (net .nodes) o) 1) (stood w (passed w (net .words) t s)) new (same-refl net arena w)
-      (same-step net arena room w (eqb x 4294967295) (closed w net t o s) (rewatched w net arena t f s x) (close-same w t o s)
+      (same-step net arena room w (eqb x undef) (closed w net t o s) (rewatched w net arena t f s x) (close-same w t o s)
       (rewatch-same w t f s x l h))
 
   step-same : (w : List ℕ) (t : State) (f : ℕ) → Same net arena w (stepped w net arena t f .words)
   unfolding stepped
-  step-same w t f = go (leb (arena .count) (t .clause)) refl (leb 1073741823 (t .clause)) (eqb (t .clash) 4294967295)
+  step-same w t f = go (leb (arena .count) (t .clause)) refl (leb 1073741823 (t .clause)) (eqb (t .clash) undef)
     where
       go : (a : Bool) → leb (arena .count) (t .clause) ≡ a → (b c : Bool)
           → Same net arena w
@@ -82,4 +82,4 @@ module _ (net : Netlist) (arena : Arena) (room : 14 * net .nodes + arena .used +
 
   pub visit-same : (w : List ℕ) (t : State) (f : ℕ) → Same net arena w (visited w net arena t f .words)
   unfolding visited
-  visit-same w t f = walk-same w (at t (first w (net .nodes) f) 4294967295) f (arena .count)
+  visit-same w t f = walk-same w (at t (first w (net .nodes) f) undef) f (arena .count)

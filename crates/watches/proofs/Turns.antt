@@ -6,7 +6,7 @@ use Prim.Native.Nat.{ℕ, zero, suc, _-_, _/_, _≤_, _<_}
 use native.Mathlib.Omega.{arith}
 use borrow.Author.Tests.{le-leb, lt-leb}
 use lib.Dec.{eqb}
-use Rattle.memory.specs.Record.{head}
+use Rattle.memory.specs.Record.{undef, head}
 use Rattle.memory.specs.declared.Netlist.{Netlist}
 use Rattle.memory.specs.declared.Arena.{Arena}
 use Rattle.reasons.specs.Reason.{keptLiteral}
@@ -27,7 +27,7 @@ side-two w words c f = go (eqb (head w words c 5) f)
     go false = omega arith
 
 module _ (w : List ℕ) (net : Netlist) (c o : ℕ) where
-  pub found-none : (n : ℕ) → n ≡ 0 → found w net c o n ≡ 4294967295
+  pub found-none : (n : ℕ) → n ≡ 0 → found w net c o n ≡ undef
   unfolding found
   found-none zero e = refl
   found-none (suc n) e = absurd (omega arith)

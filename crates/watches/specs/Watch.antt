@@ -3,7 +3,7 @@ use mathlib.Core.Bool.{Bool, false, cond}
 use mathlib.Core.List.{List}
 use Prim.Native.Nat.{ℕ, zero, suc, _+_, _-_, _*_, _/_, _%_}
 use lib.Dec.{eqb, leb, ltb}
-use Rattle.memory.specs.Record.{field, stored, head, headed}
+use Rattle.memory.specs.Record.{undef, field, stored, head, headed}
 use Rattle.memory.specs.declared.Netlist.{Netlist}
 use Rattle.memory.specs.declared.Arena.{Arena}
 use Rattle.reasons.specs.Reason.{keptLiteral}
@@ -26,7 +26,7 @@ canWatch w nodes x o = cond (eqb x o) false (leb 1 (value w nodes x))
 
 -- among the first n literals of clause c, the last that can be watched beside o
 unfoldable pub found : List ℕ → Netlist → ℕ → ℕ → ℕ → ℕ
-found w net c o zero = 4294967295
+found w net c o zero = undef
 found w net c o (suc n) = cond (canWatch w (net .nodes) (keptLiteral w net c n) o) (keptLiteral w net c n) (found w net c o n)
 
 unfoldable pub linked : List ℕ → Netlist → Arena → ℕ → ℕ → ℕ → List ℕ
@@ -65,7 +65,7 @@ clashed t why =
       level = t .level;
       ticks = t .ticks;
       clash = why;
-      clause = 4294967295;
+      clause = undef;
       link = t .link;
     }
 
@@ -76,7 +76,7 @@ closed w net t o s =
 
 -- by the other literal o that the clause watches, and by the literal x that it may watch instead
 unfoldable pub chosen : List ℕ → Netlist → Arena → State → ℕ → ℕ → ℕ → ℕ → Stood
-chosen w net arena t f s o x = cond (eqb x 4294967295) (closed w net t o s) (rewatched w net arena t f s x)
+chosen w net arena t f s o x = cond (eqb x undef) (closed w net t o s) (rewatched w net arena t f s x)
 
 unfoldable pub turnedBy : List ℕ → Netlist → Arena → State → ℕ → ℕ → ℕ → Stood
 turnedBy w net arena t f s o =
@@ -90,7 +90,7 @@ unfoldable pub stepped : List ℕ → Netlist → Arena → State → ℕ → St
 stepped w net arena t f =
     cond (leb (arena .count) (t .clause)) (stood w t)
     (cond (leb 1073741823 (t .clause)) (stood w t)
-    (cond (eqb (t .clash) 4294967295) (turned w net arena t f (side w (net .words) (t .clause) f)) (stood w t)))
+    (cond (eqb (t .clash) undef) (turned w net arena t f (side w (net .words) (t .clause) f)) (stood w t)))
 
 unfoldable pub walked : List ℕ → Netlist → Arena → State → ℕ → ℕ → Stood
 walked w net arena t f zero = stood w t
@@ -102,4 +102,4 @@ unfoldable pub first : List ℕ → ℕ → ℕ → ℕ
 first w nodes f = cond (eqb (f % 2) 0) (field w nodes (f / 2) 7) (field w nodes (f / 2) 8)
 
 unfoldable pub visited : List ℕ → Netlist → Arena → State → ℕ → Stood
-visited w net arena t f = walked w net arena (at t (first w (net .nodes) f) 4294967295) f (arena .count)
+visited w net arena t f = walked w net arena (at t (first w (net .nodes) f) undef) f (arena .count)

@@ -3,6 +3,7 @@
 use kept::attach;
 use memory::Arena;
 use memory::Netlist;
+use memory::UNDEF;
 use memory::field;
 use memory::head;
 use memory::set_field;
@@ -55,7 +56,7 @@ fn can_watch(work: &[u32], nodes: u32, x: u32, o: u32) -> bool
     1 <= value(work, nodes, x)
 }
 
-// A literal of clause c, among its first n, that is not false and not o; 4294967295 where there is none.
+// A literal of clause c, among its first n, that is not false and not o; UNDEF where there is none.
 fn find(work: &[u32], net: Netlist, c: u32, o: u32, n: u32) -> u32
     ensures { λ r. ⌜ r ≡ W.found (now (work .entry)) net c o n ⌝ }
 {
@@ -67,7 +68,7 @@ fn find(work: &[u32], net: Netlist, c: u32, o: u32, n: u32) -> u32
             return x;
         }
     }
-    4294967295
+    UNDEF
 }
 
 // The list of literal f goes on with clause x after `from`: clause from / 2 by its watch from % 2, or the list's beginning.
@@ -137,7 +138,7 @@ fn close(work: &mut [u32], net: Netlist, t: State, o: u32, s: u8) -> State
             level: t.level,
             ticks: t.ticks,
             clash: 4 * t.clause + 3,
-            clause: 4294967295,
+            clause: UNDEF,
             link: t.link,
         };
     }
@@ -161,7 +162,7 @@ fn turn(work: &mut [u32], net: Netlist, arena: Arena, t: State, f: u32, s: u8) -
         o,
         head(work, net.words, t.clause, 1) % 1048576,
     );
-    if x == 4294967295 {
+    if x == UNDEF {
         return close(work, net, t, o, s);
     }
     rewatch(work, net, arena, t, f, s, x)
@@ -177,7 +178,7 @@ fn step(work: &mut [u32], net: Netlist, arena: Arena, t: State, f: u32) -> State
     if 1073741823 <= t.clause {
         return t;
     }
-    if t.clash != 4294967295 {
+    if t.clash != UNDEF {
         return t;
     }
     let s = side(work, net.words, t.clause, f);
@@ -223,7 +224,7 @@ pub fn visit(work: &mut [u32], net: Netlist, arena: Arena, t: State, f: u32) -> 
         ticks: t.ticks,
         clash: t.clash,
         clause: c,
-        link: 4294967295,
+        link: UNDEF,
     };
     walk(work, net, arena, u, f, arena.count)
 }

@@ -22,7 +22,7 @@ loop-again c =
     let s = c .before .before .before .before .before .before .before .before .args in
     let more = filled-more (l .work) (s .net) (l .h) (l .v) (l .left) (omega arith) in
     let u = c .before .before .before .admit in
-    (u .kept .0 ∙ l .inv .0, rw (u .ensures .words, u .ensures .heap, c .next-node .ensures) (sym more ∙ l .inv .1))
+    (u .kept .0 ∙ l .inv .0, rw (u .ensures .words, u .ensures .heap, c .successor .ensures) (sym more ∙ l .inv .1))
 
 same-length : tie.Need-same-length Inv-loop μ-loop
 same-length c = c .before .loop .inv .0

@@ -1,6 +1,6 @@
 -- `floor::raise` meets its contract. The invariant: what is left of the nodes ends as all of them do. Assumes nothing.
 use Rattle.floor.proofs.Turns.{raised-none, raised-here, raised-more}
-use Rattle.floor.specs.Place.{Counted, raised}
+use Rattle.floor.specs.Place.{Risen, raised}
 use lib.ListN as N
 use native.Mathlib.Omega.{arith}
 use mathlib.Core.Path.{_≡_, refl, sym, ap, _∙_}
@@ -27,7 +27,7 @@ returns c =
     let l = c .before .before .before .before .before .before .before .before .loop in
     let s = c .before .before .before .before .before .before .before .before .before .before .args in
     let all = sym (raised-here (l .work) (s .nodes) (s .m) (l .v) (omega arith) (sym (c .before .before .before .before .before .can-rise .ensures) ∙ c .before .before .before .before .if1 .taken)) ∙ l .inv .1 in
-    record { words = c .before .before .lift .ensures ∙ ap (λ (t : Counted). t .words) all; count = ap (λ (t : Counted). t .count) all }
+    record { words = c .before .before .lift .ensures ∙ ap (λ (t : Risen). t .words) all; says = ap (λ (t : Risen). t .says) all }
 
 sub-v : tie.Need-sub-v Inv-loop μ-loop
 sub-v c = omega arith
@@ -52,7 +52,7 @@ returns-2 c =
     let l = c .before .loop in
     let s = c .before .before .before .args in
     let all = sym (raised-none (l .work) (s .nodes) (s .m) (l .v) (omega arith)) ∙ l .inv .1 in
-    record { words = ap (λ (t : Counted). t .words) all; count = ap (λ (t : Counted). t .count) all }
+    record { words = ap (λ (t : Risen). t .words) all; says = ap (λ (t : Risen). t .says) all }
 
 pub raise-spec : {M : Type 1} → statement M
 raise-spec =

@@ -8,11 +8,16 @@ use lib.Pow.{pow-pos, pow-mono}
 use Rattle.influence.specs.Part.{Part, partIn}
 use Rattle.frames.proofs.Places.{inputs-are}
 use Rattle.frames.proofs.Facts.{ready-with}
+use mathlib.Core.List.{List}
+use Rattle.machine.specs.Layers.{Entry}
 use Rattle.machine.proofs.Expand.{quotient-below}
+use Rattle.states.specs.Trace.{Holds}
+use Rattle.states.specs.declared.Tally.{Tally}
+use Rattle.states.specs.Table.{countOf, Within}
 use Rattle.layers.specs.Rows.{FirstRow, BlockMet}
 use Rattle.layers.specs.Asked.{AskedOf}
 use Rattle.layers.specs.declared.Asked.the-variants.{Hit}
-use Rattle.layers.proofs.Ask.{Asking, asking-start, asking-more, asking-hit, asking-end}
+use Rattle.layers.proofs.Ask.{Asking, askedOf, asking-start, asking-more, asking-hit, asking-end}
 use borrow.Author.Needs.{needs}
 use Rattle.layers.proofs.ask_layer.Statement.{statement}
 use Rattle.layers.proofs.ask_layer.Tie as tie
@@ -20,7 +25,8 @@ use Rattle.layers.proofs.ask_layer.Tie as tie
 abbrev Inv-loop : tie.InvT-loop
 Inv-loop m order records₀ heads₀ values₀ kept layout b lo hi quota words n total met₀ q₀ records heads values met q =
     (q ≤ total) × (length records ≡ length records₀) × (length heads ≡ length heads₀) × (length values ≡ length values₀)
-    × Asking (partIn m kept) b lo hi quota records₀ heads₀ q met records heads
+    × Asking (partIn m kept) b lo hi quota records₀ heads₀ q (countOf quota met) records heads
+    × Within quota met
 
 abbrev μ-loop : tie.MeasureT-loop
 μ-loop m order records₀ heads₀ values₀ kept layout b lo hi quota words n total met₀ q₀ records heads values met q = total - q
@@ -97,6 +103,7 @@ loop-holds c =
       refl,
       asking-start (part s) (a .layer .b) (a .layer .lo) (a .layer .hi) (a .layer .quota) (a .records .now) (a .heads .now)
           (s .pre .1 .1 .0) (s .pre .1 .1 .1) (s .pre .1 .1 .3),
+      s .pre .1 .1 .1,
     )
 
 div-e : tie.Need-div-e Inv-loop μ-loop
@@ -132,11 +139,11 @@ judge-rows-requires c κs =
     let p = s .pre .1 .0 in
     (ready-with (s .pre .0) (omega (arith, c .before .before .before .loop .inv .3, s .pre .0 .room)), (p .0, p .3, p .1))
 
-mul-t34 : tie.Need-mul-t34 Inv-loop μ-loop
-mul-t34 c = omega (arith, block-below (c .before .before .before .before .before .before))
+mul-t35 : tie.Need-mul-t35 Inv-loop μ-loop
+mul-t35 c = omega (arith, block-below (c .before .before .before .before .before .before))
 
-add-t36 : tie.Need-add-t36 Inv-loop μ-loop
-add-t36 c =
+add-t37 : tie.Need-add-t37 Inv-loop μ-loop
+add-t37 c =
     let i = c .before .before .before .before .before .before in
     omega (arith, c .before .before .before .judge-rows .ensures .0 .within, block-below i)
 
@@ -174,8 +181,8 @@ returns c =
     (omega (arith, c .if1 .taken, lanes-are (i .before .before)))
     t es h)
 
-cast-t30 : tie.Need-cast-t30 Inv-loop μ-loop
-cast-t30 c = omega (arith, record-below (c .before .before .before .before .before .before))
+cast-t31 : tie.Need-cast-t31 Inv-loop μ-loop
+cast-t31 c = omega (arith, record-below (c .before .before .before .before .before .before))
 
 meet-block-requires : tie.Need-meet-block-requires Inv-loop μ-loop
 meet-block-requires c κs =
@@ -185,7 +192,7 @@ meet-block-requires c κs =
     let j = c .before .before .before .before .before .before .judge-rows in
     let p = s .pre .1 .0 in (
       (s .args .order .now, ready-with (s .pre .0) (omega (arith, j .kept .1 .1 .1 .1 .0, l .inv .3, s .pre .0 .room))),
-      (l .inv .4 .fits, (p .1, p .2, omega (arith, block-below i), p .3 .listed, j .ensures .1)),
+      (l .inv .4 .fits, (p .1, p .2, omega (arith, block-below i), p .3 .listed, j .ensures .1, l .inv .5)),
     )
 
 add-q : tie.Need-add-q Inv-loop μ-loop
@@ -221,34 +228,69 @@ loop-again c =
           (ap (λ (x : ℕ). getD (L .records) (4 * (a .layer .lo + L .q / x)) 0) e) v p
           (subst (λ (x : ℕ). FirstRow C (a .layer .b) s (L .q % x) v p) e (j .ensures .0)) (S .pre .1 .0 .3)
           (omega (arith, c .before .before .before .before .before .before .before .before .if1 .left, lanes-are (i .before .before)))
-          (subst (λ (x : ℕ). BlockMet C v (a .layer .quota) (L .met) (a .layer .lo + L .q / x) (L .q % x) (L .records) (L .heads)
-          (E .result) (E .last .1 .1 .1 .1 .1 .0) (E .last .1 .1 .1 .1 .1 .1 .0)) e (E .ensures)),
+          (subst (λ (x : ℕ). BlockMet C v (a .layer .quota) (countOf (a .layer .quota) (L .met)) (a .layer .lo + L .q / x) (L .q % x) (L .records) (L .heads)
+          (countOf (a .layer .quota) (E .result)) (E .last .1 .1 .1 .1 .1 .0) (E .last .1 .1 .1 .1 .1 .1 .0)) e (E .ensures .0)),
+      E .ensures .1,
     )
 
-same-length-4 : tie.Need-same-length-4 Inv-loop μ-loop
-same-length-4 c = c .before .loop .inv .1
-
-same-length-5 : tie.Need-same-length-5 Inv-loop μ-loop
-same-length-5 c = c .before .loop .inv .2
-
-same-length-6 : tie.Need-same-length-6 Inv-loop μ-loop
-same-length-6 c = c .before .loop .inv .3
-
-returns-2 : tie.Need-returns-2 Inv-loop μ-loop
-returns-2 c =
-    λ t es h.
+-- where no block is left
+ended : (c : tie.After-loop Inv-loop μ-loop)
+    → let S = start (c .before .before .before) in
+    let a = S .args in
+    let L = c .before .loop in
+    (t : ℕ) (es : List Entry)
+    → Holds (2 ^ length (part S .circuit .inputs)) t (a .layer .lo) (a .layer .quota) (a .layer .hi) (a .records .now) (a .heads .now) es
+    → AskedOf (part S) (a .layer .b) t (a .layer .lo) (a .layer .quota) (L .records) (L .heads) es (askedOf (L .met))
+ended c t es h =
     let f = c .before .before .before in
     let S = start f in
     let a = S .args in
     let L = c .before .loop in
     asking-end (part S) (a .layer .b) (a .layer .lo) (a .layer .hi) (a .layer .quota) (a .records .now) (a .heads .now) (S .pre .1 .1 .0)
-    (S .pre .1 .1 .1) (L .inv .4) (omega (arith, c .loop-test .left, ap (λ (x : ℕ). (a .layer .hi - a .layer .lo) * x) (words-are f))) t es
-    h
+    (S .pre .1 .1 .1) (L .met) (L .inv .4) (L .inv .5)
+    (omega (arith, c .loop-test .left, ap (λ (x : ℕ). (a .layer .hi - a .layer .lo) * x) (words-are f))) t es h
+
+same-length-4 : tie.Need-same-length-4 Inv-loop μ-loop
+same-length-4 c = c .before .before .before .before .loop .inv .1
+
+same-length-5 : tie.Need-same-length-5 Inv-loop μ-loop
+same-length-5 c = c .before .before .before .before .loop .inv .2
+
+same-length-6 : tie.Need-same-length-6 Inv-loop μ-loop
+same-length-6 c = c .before .before .before .before .loop .inv .3
+
+returns-2 : tie.Need-returns-2 Inv-loop μ-loop
+returns-2 c =
+    λ t es h.
+    let S = start (c .before .before .before .before .before .before) in
+    let a = S .args in
+    let L = c .before .before .before .before .loop in
+    subst (λ (m : Tally). AskedOf (part S) (a .layer .b) t (a .layer .lo) (a .layer .quota) (L .records) (L .heads) es (askedOf m))
+    (c .before .met .given .1) (ended (c .before .before .before) t es h)
+
+same-length-7 : tie.Need-same-length-7 Inv-loop μ-loop
+same-length-7 c = c .before .before .before .loop .inv .1
+
+same-length-8 : tie.Need-same-length-8 Inv-loop μ-loop
+same-length-8 c = c .before .before .before .loop .inv .2
+
+same-length-9 : tie.Need-same-length-9 Inv-loop μ-loop
+same-length-9 c = c .before .before .before .loop .inv .3
+
+returns-3 : tie.Need-returns-3 Inv-loop μ-loop
+returns-3 c =
+    λ t es h.
+    let S = start (c .before .before .before .before .before) in
+    let a = S .args in
+    let L = c .before .before .before .loop in
+    subst (λ (m : Tally). AskedOf (part S) (a .layer .b) t (a .layer .lo) (a .layer .quota) (L .records) (L .heads) es (askedOf m))
+    (c .enum-told .given .1) (ended (c .before .before) t es h)
 
 pub ask-layer-spec : {M : Type 1} → statement M
 ask-layer-spec =
     tie.close
     (tie.spec
     Inv-loop μ-loop blocks-requires lanes-requires sub-total mul-total loop-holds div-e add-e rem-block mul-s mul-s-2 slice-read-s
-    judge-rows-requires mul-t34 (λ c. search needs) add-t36 same-length same-length-2 same-length-3 returns cast-t30
-    meet-block-requires add-q loop-less loop-again same-length-4 same-length-5 same-length-6 returns-2)
+    judge-rows-requires mul-t35 (λ c. search needs) add-t37 same-length same-length-2 same-length-3 returns cast-t31
+    meet-block-requires add-q loop-less loop-again (λ c. search needs) (λ c. search needs) same-length-4 same-length-5 same-length-6
+    returns-2 same-length-7 same-length-8 same-length-9 returns-3)

@@ -14,6 +14,8 @@ use Rattle.layout.specs.Words.{word}
 use Rattle.frames.specs.Lanes.{lane}
 use Rattle.frames.proofs.Facts.{right, known, no-cycle, latches-inside, latches-few, latches-are, latch-place, next-below}
 use Rattle.frames.proofs.Places.{inputs-are}
+use Rattle.states.specs.declared.Tally.{Tally}
+use Rattle.states.specs.Table.{Fits, countOf}
 use Rattle.influence.specs.Part.{partIn}
 use Rattle.transitions.specs.Transitions.{numberOf, nextIn}
 use Rattle.transitions.proofs.Rows.{constrained-is}
@@ -25,31 +27,39 @@ use Rattle.layers.proofs.meet_block.Tie as tie
 
 returns : tie.Need-returns
 returns c =
-    λ b s closed v.
-    let a = c .before .before .before .before .before .before .args in
+    let a = c .before .before .before .before .before .before .before .args in
     let C = partIn (a .m .now) (a .kept .now) in
-    rows-lost (λ p. nextIn C s (a .block .block * 64 + p)) (a .block .quota) (a .block .met) (a .block .e) (64 * a .block .block)
-    (min 64 (2 ^ length (C .circuit .inputs))) (a .records .now) (a .heads .now)
-    (c .before .before .before .before .before .before .pre .1 .0) (omega (arith, c .if1 .taken))
+    let q = a .block .quota in
+    let told = c .enum-told2 .given .1 in (
+      λ b s closed v.
+          subst
+          (λ (t : Tally).
+          RowsMet (λ p. nextIn C s (a .block .block * 64 + p)) q (countOf q t) (a .block .e) (64 * a .block .block)
+          (min 64 (2 ^ length (C .circuit .inputs))) (a .records .now) (a .heads .now) (q + 1) (a .records .now) (a .heads .now)) (sym told)
+          (rows-lost (λ p. nextIn C s (a .block .block * 64 + p)) q (q + 1) (a .block .e) (64 * a .block .block)
+          (min 64 (2 ^ length (C .circuit .inputs))) (a .records .now) (a .heads .now)
+          (subst (λ (t : Tally). Fits q (countOf q t) (a .records .now) (a .heads .now)) told (c .before .before .before .before .before .before .before .pre .1 .0)) (omega arith)),
+      tt,
+    )
 
 lanes-requires : tie.Need-lanes-requires
-lanes-requires c κs = c .before .before .before .before .before .before .pre .1 .1 .1
+lanes-requires c κs = c .before .before .before .before .before .before .before .pre .1 .1 .1
 
 mul-first : tie.Need-mul-first
-mul-first c = omega (arith, c .before .before .before .before .before .before .before .before .pre .1 .1 .2)
+mul-first c = omega (arith, c .before .before .before .before .before .before .before .before .before .pre .1 .1 .2)
 
 cast-first : tie.Need-cast-first
-cast-first c = omega (arith, c .before .before .before .before .before .before .before .before .pre .1 .1 .2)
+cast-first c = omega (arith, c .before .before .before .before .before .before .before .before .before .pre .1 .1 .2)
 
 next-kept-requires : tie.Need-next-kept-requires
 next-kept-requires c κs =
-    let R = c .before .before .before .before .before .before .before .before .before .pre .0 .1 in (
+    let R = c .before .before .before .before .before .before .before .before .before .before .pre .0 .1 in (
       (
         latches-inside R,
         latches-few R,
         omega (
           arith,
-          c .before .before .before .before .before .before .before .before .before .pre .1 .1
+          c .before .before .before .before .before .before .before .before .before .before .pre .1 .1
               .0,
         ),
       ),
@@ -58,7 +68,7 @@ next-kept-requires c κs =
         λ i l. omega (
           arith,
           latches-are R,
-          c .before .before .before .before .before .before .before .before .before .pre .1
+          c .before .before .before .before .before .before .before .before .before .before .pre .1
               .1 .3 .inside i l,
         ),
       ),
@@ -67,44 +77,43 @@ next-kept-requires c κs =
 array-share-prefix-state : tie.Need-array-share-prefix-state
 array-share-prefix-state c = omega (
   arith,
-  c .before .before .before .before .before .before .before .before .before .before .before .pre
+  c .before .before .before .before .before .before .before .before .before .before .before .before .pre
       .1 .1 .0,
 )
 
 slice-aggregate-meet-rows : tie.Need-slice-aggregate-meet-rows
 slice-aggregate-meet-rows c =
-    sym (length-take-le (length (c .before .before .before .before .before .before .before .before .before .before .before .before .args
+    sym (length-take-le (length (c .before .before .before .before .before .before .before .before .before .before .before .before .before .args
     .kept .now)) (c .before .before .next-kept .last .1 .1 .1 .1 .0)
     (omega (
       arith,
       c .before .before .next-kept .kept .1 .1 .1 .1 .0,
-      c .before .before .before .before .before .before .before .before .before .before .before .before .pre .1 .1 .0,
+      c .before .before .before .before .before .before .before .before .before .before .before .before .before .pre .1 .1 .0,
     )))
 
 meet-rows-requires : tie.Need-meet-rows-requires
 meet-rows-requires c κs =
-    let e = length-take-le (length (c .before .before .before .before .before .before .before .before .before .before .before .before
-    .before .before .args .kept .now)) (c .before .before .before .before .next-kept .last .1 .1 .1 .1 .0)
+    let e = length-take-le (length (c .before .before .before .before .before .before .before .before .before .before .before .before .before .before .before .args .kept .now)) (c .before .before .before .before .next-kept .last .1 .1 .1 .1 .0)
     (omega (
       arith,
       c .before .before .before .before .next-kept .kept .1 .1 .1 .1 .0,
-      c .before .before .before .before .before .before .before .before .before .before .before .before .before .before .pre .1 .1
+      c .before .before .before .before .before .before .before .before .before .before .before .before .before .before .before .pre .1 .1
           .0,
     )) in (
-      c .before .before .before .before .before .before .before .before .before .before .before .before .before .before .pre .1 .0,
+      c .before .before .before .before .before .before .before .before .before .before .before .before .before .before .before .pre .1 .0,
       (
         omega (
           arith,
           e,
-          c .before .before .before .before .before .before .before .before .before .before .before .before .before
-              .before .pre .1 .1 .0,
+          c .before .before .before .before .before .before .before .before .before .before .before .before .before .before .before .pre .1 .1 .0,
         ),
         omega (arith, c .before .before .before .before .before .before .before .lanes .ensures),
         omega (
           arith,
-          c .before .before .before .before .before .before .before .before .before .before .before .before .before .before .pre .1
+          c .before .before .before .before .before .before .before .before .before .before .before .before .before .before .before .pre .1
               .1 .2,
         ),
+        c .before .before .before .before .before .before .before .before .before .before .before .before .before .before .before .pre .1 .1 .5,
       ),
     )
 
@@ -115,63 +124,57 @@ same-length-2 : tie.Need-same-length-2
 same-length-2 c = c .before .before .before .before .meet-rows .kept .1 .1 .1 .1 .0
 
 returns-2 : tie.Need-returns-2
-returns-2 c =
-    λ b s closed v.
-    let a = c .before .before .before .before .before .before .before .before .before .before .before .before .before .before .before
-    .before .before .before .before .args in
-    let B = a .block in
-    let R = c .before .before .before .before .before .before .before .before .before .before .before .before .before .before .before
-    .before .before .before .before .pre .0 .1 in
-    let C = partIn (a .m .now) (a .kept .now) in
-    let ks = a .kept .now in
-    let whole = c .before .before .before .before .before .before .before .before .before .next-kept .last .1 .1 .1 .1 .0 in
-    let inside : length ks ≤ length whole = omega (
-      arith,
-      c .before .before .before .before .before .before .before .before .before
-          .next-kept .kept .1 .1 .1 .1 .0,
-      c .before .before .before .before .before .before .before .before .before .before .before .before
-          .before .before .before .before .before .before .before .pre .1 .1 .0,
-    ) in
-    let st = take (length ks) whole in
-    let r = c .before .before .before .before .meet-rows .last .1 .1 .1 .0 in
-    let h = c .before .before .before .before .meet-rows .last .1 .1 .1 .1 .0 in
-    let f : ℕ → Option ℕ = leading (B .allowed) (λ p. numberOf (map (λ w. bit w p) st)) in
-    let g : ℕ → Option ℕ = λ p. nextIn C s (B .block * 64 + p) in
-    let n = c .before .before .before .before .before .before .before .before .before .before .before .before .lanes .result in
-    let e : n ≡ min 64 (2 ^ length (C .circuit .inputs)) = c .before .before .before .before .before .before .before .before .before
-    .before .before .before .lanes .ensures ∙ ap (λ (i : ℕ). min 64 (2 ^ i)) (inputs-are (R .held) (R .layout-of)) in
-    subst (λ (k : ℕ). RowsMet g (B .quota) (B .met) (B .e) (64 * B .block) k (a .records .now) (a .heads .now)
-    (c .before .before .before .before .meet-rows .result) r h) e
-    (rows-named f g (B .quota) (B .met) (B .e) (64 * B .block) n (a .records .now) (a .heads .now)
-    (c .before .before .before .before .meet-rows .result) r h
-    (λ p l.
-    let k : p < 64 = omega (
-      arith,
-      c .before .before .before .before .before .before .before .before .before .before .before .before
-          .lanes .ensures,
-    ) in
-    let w = lane (a .values .now) p in
-    next-in C s (B .block * 64 + p) (bit (B .allowed) p) (numberOf (map (λ x. bit x p) st))
-    (c .before .before .before .before .before .before .before .before .before .before .before .before .before .before .before .before
-    .before .before .before .pre .1 .1 .4 p k ∙ constrained-is C (closed .listed) (right (R .held)) (known (R .held))
-    (no-cycle (R .held)) b closed s (B .block * 64 + p) w (v p k))
-    (next-of C (right (R .held)) (known (R .held)) (no-cycle (R .held)) b closed s (B .block * 64 + p) w (v p k) st p
-    (length-take-le (length ks) whole inside)
-    (λ i il.
-    let jk : getD ks i 0 < a .layout .l = omega (
-      arith,
-      latches-are R,
-      c .before .before .before .before .before .before .before .before .before .before .before .before .before .before .before .before
-          .before .before .before .pre .1 .1 .3 .inside i il,
-    ) in
-    ap (λ (x : ℕ). bit x p) (getD-take (length ks) whole i 0 il) ∙
-    c .before .before .before .before .before .before .before .before .before .next-kept .ensures i il p k
-    ∙ ap (λ (x : Latch). value w (x .next)) (sym (latch-place R (getD ks i 0) jk)))))
-    (c .before .before .before .before .meet-rows .ensures))
+returns-2 c = (
+  λ b s closed v.
+      let a = c .before .before .before .before .before .before .before .before .before .before .before .before .before .before .before .before .before .before .before .before .args in
+      let B = a .block in
+      let R = c .before .before .before .before .before .before .before .before .before .before .before .before .before .before .before .before .before .before .before .before .pre .0 .1 in
+      let C = partIn (a .m .now) (a .kept .now) in
+      let ks = a .kept .now in
+      let whole = c .before .before .before .before .before .before .before .before .before .next-kept .last .1 .1 .1 .1 .0 in
+      let inside : length ks ≤ length whole = omega (
+        arith,
+        c .before .before .before .before .before .before .before .before .before .next-kept .kept .1 .1 .1 .1 .0,
+        c .before .before .before .before .before .before .before .before .before .before .before .before .before .before .before .before .before .before .before .before .pre .1 .1 .0,
+      ) in
+      let st = take (length ks) whole in
+      let r = c .before .before .before .before .meet-rows .last .1 .1 .1 .0 in
+      let h = c .before .before .before .before .meet-rows .last .1 .1 .1 .1 .0 in
+      let f : ℕ → Option ℕ = leading (B .allowed) (λ p. numberOf (map (λ w. bit w p) st)) in
+      let g : ℕ → Option ℕ = λ p. nextIn C s (B .block * 64 + p) in
+      let n = c .before .before .before .before .before .before .before .before .before .before .before .before .lanes .result in
+      let e : n ≡ min 64 (2 ^ length (C .circuit .inputs)) = c .before .before .before .before .before .before .before .before .before .before .before .before .lanes .ensures ∙ ap (λ (i : ℕ). min 64 (2 ^ i)) (inputs-are (R .held) (R .layout-of)) in
+      subst (λ (k : ℕ). RowsMet g (B .quota) (countOf (B .quota) (B .met)) (B .e) (64 * B .block) k (a .records .now) (a .heads .now)
+      (countOf (B .quota) (c .before .before .before .before .meet-rows .result)) r h) e
+      (rows-named f g (B .quota) (countOf (B .quota) (B .met)) (B .e) (64 * B .block) n (a .records .now) (a .heads .now)
+      (countOf (B .quota) (c .before .before .before .before .meet-rows .result)) r h
+      (λ p l.
+      let k : p < 64 = omega (
+        arith,
+        c .before .before .before .before .before .before .before .before .before .before .before .before .lanes .ensures,
+      ) in
+      let w = lane (a .values .now) p in
+      next-in C s (B .block * 64 + p) (bit (B .allowed) p) (numberOf (map (λ x. bit x p) st))
+      (c .before .before .before .before .before .before .before .before .before .before .before .before .before .before .before .before .before .before .before .before .pre .1 .1 .4 p k ∙ constrained-is C (closed .listed) (right (R .held)) (known (R .held))
+      (no-cycle (R .held)) b closed s (B .block * 64 + p) w (v p k))
+      (next-of C (right (R .held)) (known (R .held)) (no-cycle (R .held)) b closed s (B .block * 64 + p) w (v p k) st p
+      (length-take-le (length ks) whole inside)
+      (λ i il.
+      let jk : getD ks i 0 < a .layout .l = omega (
+        arith,
+        latches-are R,
+        c .before .before .before .before .before .before .before .before .before .before .before .before .before .before .before .before .before .before .before .before .pre .1 .1 .3 .inside i il,
+      ) in
+      ap (λ (x : ℕ). bit x p) (getD-take (length ks) whole i 0 il) ∙
+      c .before .before .before .before .before .before .before .before .before .next-kept .ensures i il p k
+      ∙ ap (λ (x : Latch). value w (x .next)) (sym (latch-place R (getD ks i 0) jk)))))
+      (c .before .before .before .before .meet-rows .ensures .0)),
+  c .before .before .before .before .meet-rows .ensures .1,
+)
 
 pub meet-block-spec : {M : Type 1} → statement M
 meet-block-spec =
     tie.close
     (tie.spec
-    returns lanes-requires mul-first cast-first (λ c. search needs) next-kept-requires array-share-prefix-state
+    (λ c. search needs) (λ c. search needs) returns lanes-requires mul-first cast-first (λ c. search needs) next-kept-requires array-share-prefix-state
     slice-aggregate-meet-rows meet-rows-requires same-length same-length-2 returns-2)

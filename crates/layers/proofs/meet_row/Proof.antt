@@ -10,7 +10,7 @@ use lib.ListN.{length, getD, length-map}
 use lib.Seq.{ext-getD}
 use Rattle.aiger.specs.Bits.{nonzero, bit}
 use Rattle.words.proofs.Bits.{bit-and, xor-true}
-use Rattle.states.specs.Table.{Meets}
+use Rattle.states.specs.Table.{Meets, countOf}
 use Rattle.transitions.specs.Transitions.{numberOf}
 use Rattle.transitions.proofs.Numbers.{map-at}
 use Rattle.layers.specs.Rows.{RowStep}
@@ -55,7 +55,7 @@ left-in left others q e = first-of (bit left q) (bit others q) (sym (bit-and lef
 
 returns : tie.Need-returns
 unfolding bit
-returns c = RowStep.skipped (ap nonzero (c .if1 .taken))
+returns c = (RowStep.skipped (ap nonzero (c .if1 .taken)), c .before .before .before .before .pre .1 .3)
 
 pack-requires : tie.Need-pack-requires
 pack-requires c κs = (c .before .before .before .before .pre .1 .0, c .before .before .before .before .pre .1 .1)
@@ -74,7 +74,7 @@ add-meet c = omega (
 )
 
 meet-requires : tie.Need-meet-requires
-meet-requires c κs = c .before .before .before .before .before .before .before .before .before .before .pre .0
+meet-requires c κs = (c .before .before .before .before .before .before .before .before .before .before .pre .0, c .before .before .before .before .before .before .before .before .before .before .pre .1 .3)
 
 same-length : tie.Need-same-length
 same-length c = c .before .before .before .before .meet .kept .0
@@ -84,23 +84,23 @@ same-length-2 c = c .before .before .before .before .meet .kept .1 .0
 
 returns-2 : tie.Need-returns-2
 returns-2 c =
-    let a = c .before .before .before .before .before .before .before .before .before .before .before .before .before .before .before
-    .args in
-    let E = c .before .before .before .before .meet in
-    RowStep.taken (left-set (a .pending .left) (a .p) (c .before .before .before .before .before .before .before .before .before .before
-    .before .if1 .left))
-    (subst
-    (λ (s : ℕ).
-    Meets (a .span .quota) (a .pending .met) s (a .span .e) (a .span .first + a .p) (a .records .now) (a .heads .now) (E .result)
-    (E .last .0) (E .last .1 .0))
-    (c .before .before .before .before .before .before .before .before .before .before .pack .ensures) (E .ensures))
-    (λ q l g. ⊎-elim (λ h. inl h)
-    (λ h. inr (ap numberOf (map-eq (λ w. bit w q) (λ w. bit w (a .p)) (a .state .now)
-    (c .before .before .before .before .before .before .before .before .before .same-rows .ensures q l h))))
-    (out (a .pending .left) (c .before .before .before .before .before .before .before .before .before .same-rows .result)
-    (c .before .before .before .before .before .before .before .before .literal-word .result)
-    (c .before .before .before .before .before .before .before .before .literal-word .ensures) q l g))
-    (λ q g. left-in (a .pending .left) (c .before .before .before .before .before .before .before .before .literal-word .result) q g)
+    let a = c .before .before .before .before .before .before .before .before .before .before .before .before .before .before .before .args in
+    let E = c .before .before .before .before .meet in (
+      RowStep.taken (left-set (a .pending .left) (a .p) (c .before .before .before .before .before .before .before .before .before .before .before .if1 .left))
+          (subst
+          (λ (s : ℕ).
+          Meets (a .span .quota) (countOf (a .span .quota) (a .pending .met)) s (a .span .e) (a .span .first + a .p) (a .records .now) (a .heads .now) (countOf (a .span .quota) (E .result))
+          (E .last .0) (E .last .1 .0))
+          (c .before .before .before .before .before .before .before .before .before .before .pack .ensures) (E .ensures .0))
+          (λ q l g. ⊎-elim (λ h. inl h)
+          (λ h. inr (ap numberOf (map-eq (λ w. bit w q) (λ w. bit w (a .p)) (a .state .now)
+          (c .before .before .before .before .before .before .before .before .before .same-rows .ensures q l h))))
+          (out (a .pending .left) (c .before .before .before .before .before .before .before .before .before .same-rows .result)
+          (c .before .before .before .before .before .before .before .before .literal-word .result)
+          (c .before .before .before .before .before .before .before .before .literal-word .ensures) q l g))
+          (λ q g. left-in (a .pending .left) (c .before .before .before .before .before .before .before .before .literal-word .result) q g),
+      E .ensures .1,
+    )
 
 pub meet-row-spec : {M : Type 1} → statement M
 meet-row-spec =

@@ -9,6 +9,7 @@ use native.Mathlib.Omega.{arith}
 use lib.ListN.{length, getD}
 use Rattle.aiger.specs.Bits.{bit}
 use Rattle.transitions.specs.Transitions.{numberOf}
+use Rattle.states.specs.Table.{countOf, Within}
 use Rattle.layers.specs.Rows.{leading, RowsMet}
 use Rattle.layers.proofs.Rows.{Treated, treated-none, treated-more}
 use borrow.Author.Needs.{needs}
@@ -21,8 +22,9 @@ numbers state p = numberOf (map (λ w. bit w p) state)
 abbrev Inv-loop : tie.InvT-loop
 Inv-loop state span records₀ heads₀ n pending₀ p₀ records heads pending p =
     (p ≤ n) × (length records ≡ length records₀) × (length heads ≡ length heads₀)
-    × Treated (pending₀ .left) (numbers state) (span .quota) (pending₀ .met) (span .e) (span .first) p records₀ heads₀ (pending .met)
-    (pending .left) records heads
+    × Treated (pending₀ .left) (numbers state) (span .quota) (countOf (span .quota) (pending₀ .met)) (span .e) (span .first) p records₀ heads₀
+    (countOf (span .quota) (pending .met)) (pending .left) records heads
+    × Within (span .quota) (pending .met)
 
 abbrev μ-loop : tie.MeasureT-loop
 μ-loop state span records₀ heads₀ n pending₀ p₀ records heads pending p = n - p
@@ -33,9 +35,10 @@ loop-holds c =
       omega arith,
       refl,
       refl,
-      treated-none (a .start .left) (numbers (a .state .now)) (a .span .quota) (a .start .met) (a .span .e) (a .span .first)
+      treated-none (a .start .left) (numbers (a .state .now)) (a .span .quota) (countOf (a .span .quota) (a .start .met)) (a .span .e) (a .span .first)
           (a .records .now)
           (a .heads .now) (c .before .before .before .pre .0),
+      c .before .before .before .pre .1 .3,
     )
 
 meet-row-requires : tie.Need-meet-row-requires Inv-loop μ-loop
@@ -46,6 +49,7 @@ meet-row-requires c κs = (
     omega
         (arith, c .before .before .before .before .before .before .before .pre .1 .1),
     c .before .before .before .before .before .before .before .pre .1 .2,
+    c .before .before .before .loop .inv .4,
   ),
 )
 
@@ -63,13 +67,13 @@ loop-again c =
       omega arith,
       E .kept .1 .1 .1 .1 .0 ∙ L .inv .1,
       E .kept .1 .1 .1 .1 .1 .0 ∙ L .inv .2,
-      treated-more (a .start .left) (numbers (a .state .now)) (a .span .quota) (a .start .met) (a .span .e) (a .span .first) (L .p)
+      treated-more (a .start .left) (numbers (a .state .now)) (a .span .quota) (countOf (a .span .quota) (a .start .met)) (a .span .e) (a .span .first) (L .p)
           (a .records .now)
           (a .heads .now) (omega (
             arith,
-            c .before .before .before .before .before .before .before .before .before .before .before .before
-                .pre .1 .1,
-          )) (L .inv .3) (E .ensures),
+            c .before .before .before .before .before .before .before .before .before .before .before .before .pre .1 .1,
+          )) (L .inv .3) (E .ensures .0),
+      E .ensures .1,
     )
 
 same-length : tie.Need-same-length Inv-loop μ-loop
@@ -82,12 +86,14 @@ returns : tie.Need-returns Inv-loop μ-loop
 returns c =
     let a = c .before .before .before .before .before .args in
     let L = c .before .loop in
-    let e : L .p ≡ a .span .n = omega arith in
-    subst
-    (λ (n : ℕ).
-    RowsMet (leading (a .start .left) (numbers (a .state .now))) (a .span .quota) (a .start .met) (a .span .e) (a .span .first) n
-    (a .records .now)
-    (a .heads .now) (L .pending .met) (L .records) (L .heads)) e (L .inv .3 .rows)
+    let e : L .p ≡ a .span .n = omega arith in (
+      subst
+          (λ (n : ℕ).
+          RowsMet (leading (a .start .left) (numbers (a .state .now))) (a .span .quota) (countOf (a .span .quota) (a .start .met)) (a .span .e) (a .span .first) n
+          (a .records .now)
+          (a .heads .now) (countOf (a .span .quota) (L .pending .met)) (L .records) (L .heads)) e (L .inv .3 .rows),
+      L .inv .4,
+    )
 
 pub meet-rows-spec : {M : Type 1} → statement M
 meet-rows-spec =

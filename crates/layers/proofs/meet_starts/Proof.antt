@@ -3,6 +3,8 @@ use mathlib.Core.Path.{_≡_, refl, sym, ap, _∙_, subst}
 use Prim.Native.Nat.{ℕ, _+_, _-_, _≤_, _<_}
 use native.Mathlib.Omega.{arith}
 use lib.ListN.{length}
+use Rattle.states.specs.declared.Tally.{Tally}
+use Rattle.states.specs.Table.{countOf, Within}
 use Rattle.influence.specs.Part.{partIn}
 use Rattle.layers.proofs.Begin.{Beginning, beginning-start, beginning-more, beginning-lost}
 use borrow.Author.Needs.{needs}
@@ -12,7 +14,8 @@ use Rattle.layers.proofs.meet_starts.Tie as tie
 abbrev Inv-loop : tie.InvT-loop
 Inv-loop m layout records₀ heads₀ kept state₀ count quota met₀ y₀ records heads state met y =
     (y ≤ count) × (length records ≡ length records₀) × (length heads ≡ length heads₀) × (length state ≡ length state₀)
-    × Beginning (partIn m kept) quota records₀ heads₀ y met records heads
+    × Beginning (partIn m kept) quota records₀ heads₀ y (countOf quota met) records heads
+    × Within quota met
 
 abbrev μ-loop : tie.MeasureT-loop
 μ-loop m layout records₀ heads₀ kept state₀ count quota met₀ y₀ records heads state met y = count - y
@@ -26,39 +29,43 @@ loop-holds c =
       refl,
       beginning-start (partIn (a .m .now) (a .kept .now)) (a .starts .quota) (a .records .now)
           (a .heads .now) (c .before .before .before .before .before .pre .1 .1 .2),
+      omega arith,
     )
 
 same-length : tie.Need-same-length Inv-loop μ-loop
-same-length c = c .before .before .loop .inv .1
+same-length c = c .before .before .before .loop .inv .1
 
 same-length-2 : tie.Need-same-length-2 Inv-loop μ-loop
-same-length-2 c = c .before .before .loop .inv .2
+same-length-2 c = c .before .before .before .loop .inv .2
 
 same-length-3 : tie.Need-same-length-3 Inv-loop μ-loop
-same-length-3 c = c .before .before .loop .inv .3
+same-length-3 c = c .before .before .before .loop .inv .3
 
 returns : tie.Need-returns Inv-loop μ-loop
 returns c =
-    let a = c .before .before .before .before .before .before .before .before .args in
-    let L = c .before .before .loop in
-    beginning-lost (partIn (a .m .now) (a .kept .now)) (a .starts .quota) (a .records .now) (a .heads .now) (L .inv .4)
-    (omega (arith, c .if1 .taken)) (a .starts .count) (L .inv .0) .holds
+    let a = c .before .before .before .before .before .before .before .before .before .args in
+    let L = c .before .before .before .loop in
+    let C = partIn (a .m .now) (a .kept .now) in
+    let q = a .starts .quota in
+    let k = subst (λ (t : Tally). Beginning C q (a .records .now) (a .heads .now) (L .y) (countOf q t) (L .records) (L .heads))
+    (c .enum-told2 .given .1) (L .inv .4) in
+    (beginning-lost C q (a .records .now) (a .heads .now) k (omega arith) (a .starts .count) (L .inv .0) .holds, tt)
 
 start-number-requires : tie.Need-start-number-requires Inv-loop μ-loop
 start-number-requires c κs = (
-  c .before .before .before .before .before .before .before .before .before .pre .0,
+  c .before .before .before .before .before .before .before .before .before .before .pre .0,
   (
-    c .before .before .before .before .before .before .before .before .before .pre .1 .0,
+    c .before .before .before .before .before .before .before .before .before .before .pre .1 .0,
     (
-      c .before .before .before .before .before .before .before .before .before .pre .1 .1 .0,
+      c .before .before .before .before .before .before .before .before .before .before .pre .1 .1 .0,
       omega (
         arith,
-        c .before .before .before .loop .inv .3,
-        c .before .before .before .before .before .before .before .before .before .pre .1 .1
+        c .before .before .before .before .loop .inv .3,
+        c .before .before .before .before .before .before .before .before .before .before .pre .1 .1
             .3,
       ),
-      c .before .before .before .before .before .before .before .before .before .pre .1 .1 .4,
-      c .before .before .before .before .before .before .before .before .before .pre .1 .1 .5,
+      c .before .before .before .before .before .before .before .before .before .before .pre .1 .1 .4,
+      c .before .before .before .before .before .before .before .before .before .before .pre .1 .1 .5,
     ),
   ),
 )
@@ -66,18 +73,16 @@ start-number-requires c κs = (
 cast-meet : tie.Need-cast-meet Inv-loop μ-loop
 cast-meet c = omega (
   arith,
-  c .before .before .before .before .before .before .before .before .before .before .before .before .before
-      .before .pre .1 .1 .1,
+  c .before .before .before .before .before .before .before .before .before .before .before .before .before .before .before .pre .1 .1 .1,
 )
 
 meet-requires : tie.Need-meet-requires Inv-loop μ-loop
-meet-requires c κs = c .before .before .before .before .before .before .before .before .loop .inv .4 .fits
+meet-requires c κs = (c .before .before .before .before .before .before .before .before .before .loop .inv .4 .fits, c .before .before .before .before .before .before .before .before .before .loop .inv .5)
 
 add-y : tie.Need-add-y Inv-loop μ-loop
 add-y c = omega (
   arith,
-  c .before .before .before .before .before .before .before .before .before .before .before .before .before .before
-      .before .before .before .before .before .pre .1 .1 .1,
+  c .before .before .before .before .before .before .before .before .before .before .before .before .before .before .before .before .before .before .before .before .pre .1 .1 .1,
 )
 
 loop-less : tie.Need-loop-less Inv-loop μ-loop
@@ -85,9 +90,8 @@ loop-less c = omega arith
 
 loop-again : tie.Need-loop-again Inv-loop μ-loop
 loop-again c =
-    let a = c .before .before .before .before .before .before .before .before .before .before .before .before .before .before .before
-    .before .before .before .before .args in
-    let L = c .before .before .before .before .before .before .before .before .before .before .before .before .before .loop in
+    let a = c .before .before .before .before .before .before .before .before .before .before .before .before .before .before .before .before .before .before .before .before .args in
+    let L = c .before .before .before .before .before .before .before .before .before .before .before .before .before .before .loop in
     let E = c .before .before .before .before .meet in (
       omega arith,
       E .kept .0 ∙ L .inv .1,
@@ -95,7 +99,8 @@ loop-again c =
       c .before .before .before .before .before .before .before .before .before .start-number .kept .1 .1 .1 .1 .0 ∙ L .inv .3,
       beginning-more (partIn (a .m .now) (a .kept .now)) (a .starts .quota) (a .records .now) (a .heads .now) (L .inv .4)
           (c .before .before .before .before .before .before .before .before .before .start-number .result)
-          (c .before .before .before .before .before .before .before .before .before .start-number .ensures) (E .ensures),
+          (c .before .before .before .before .before .before .before .before .before .start-number .ensures) (E .ensures .0),
+      E .ensures .1,
     )
 
 same-length-4 : tie.Need-same-length-4 Inv-loop μ-loop
@@ -111,13 +116,15 @@ returns-2 : tie.Need-returns-2 Inv-loop μ-loop
 returns-2 c =
     let a = c .before .before .before .before .before .before .before .args in
     let L = c .before .loop in
-    let e : L .y ≡ a .starts .count = omega arith in
-    subst (λ (n : ℕ). Beginning (partIn (a .m .now) (a .kept .now)) (a .starts .quota) (a .records .now) (a .heads .now) n (L .met)
-    (L .records) (L .heads)) e (L .inv .4) .holds
+    let e : L .y ≡ a .starts .count = omega arith in (
+      subst (λ (n : ℕ). Beginning (partIn (a .m .now) (a .kept .now)) (a .starts .quota) (a .records .now) (a .heads .now) n
+          (countOf (a .starts .quota) (L .met)) (L .records) (L .heads)) e (L .inv .4) .holds,
+      L .inv .5,
+    )
 
 pub meet-starts-spec : {M : Type 1} → statement M
 meet-starts-spec =
     tie.close
     (tie.spec
-    Inv-loop μ-loop loop-holds same-length same-length-2 same-length-3 returns start-number-requires cast-meet meet-requires add-y
+    Inv-loop μ-loop loop-holds (λ c. search needs) (λ c. search needs) same-length same-length-2 same-length-3 returns start-number-requires cast-meet meet-requires add-y
     loop-less loop-again same-length-4 same-length-5 same-length-6 returns-2)

@@ -7,6 +7,8 @@ use lib.ListN.{length, getD, length-set}
 use Rattle.aiger.specs.Bits.{bit}
 use Rattle.aiger.specs.Frames.{value}
 use Rattle.layout.specs.Words.{word}
+use Rattle.literals.specs.declared.Lit.{Lit}
+use Rattle.literals.proofs.Words.{word-read}
 use Rattle.frames.specs.Lanes.{lane}
 use Rattle.frames.proofs.Stores.{next-more}
 use borrow.Author.Needs.{needs}
@@ -27,6 +29,11 @@ abbrev μ-loop : tie.MeasureT-loop
 loop-holds : tie.Need-loop-holds Inv-loop μ-loop
 loop-holds c = (omega arith, refl, λ k l. absurd (omega arith))
 
+-- the next literal of a latch that is kept stands within the memory
+inside : (c : tie.In-loop Inv-loop μ-loop)
+    → c .before .before .before .before .before .before .args .layout .latches + 3 * getD (c .before .before .before .before .before .before .args .kept .now) (c .before .loop .i) 0 + 1 < length (c .before .before .before .before .before .before .args .m .now)
+inside c = omega (arith, c .before .before .before .before .before .before .pre .1 .1 (c .before .loop .i) (omega arith), c .before .before .before .before .before .before .pre .0 .0)
+
 mul-j : tie.Need-mul-j Inv-loop μ-loop
 mul-j c = omega arith
 
@@ -40,37 +47,40 @@ cast-j c = omega (
   c .before .before .before .before .before .before .before .pre .0 .1,
 )
 
-mul-literal-at : tie.Need-mul-literal-at Inv-loop μ-loop
-mul-literal-at c = omega (
+mul-from-word : tie.Need-mul-from-word Inv-loop μ-loop
+mul-from-word c = omega (
   arith,
   c .before .before .before .before .before .before .before .pre .1 .1 (c .before .before .loop .i)
       (omega arith),
   c .before .before .before .before .before .before .before .pre .0 .1,
 )
 
-add-literal-at : tie.Need-add-literal-at Inv-loop μ-loop
-add-literal-at c = omega (
+add-from-word : tie.Need-add-from-word Inv-loop μ-loop
+add-from-word c = omega (
   arith,
   c .before .before .before .before .before .before .before .pre .1 .1 (c .before .before .loop .i)
       (omega arith),
   c .before .before .before .before .before .before .before .pre .0 .0,
 )
 
-add-literal-at-2 : tie.Need-add-literal-at-2 Inv-loop μ-loop
-add-literal-at-2 c = omega (
+add-from-word-2 : tie.Need-add-from-word-2 Inv-loop μ-loop
+add-from-word-2 c = omega (
   arith,
   c .before .before .before .before .before .before .before .pre .1 .1 (c .before .before .loop .i)
       (omega arith),
   c .before .before .before .before .before .before .before .pre .0 .0,
 )
 
-literal-at-requires : tie.Need-literal-at-requires Inv-loop μ-loop
-literal-at-requires c κs =
-    let b = c .before .before .before .before .before .before .before .pre .1 .1 (c .before .before .loop .i) (omega arith) in (
-      omega (arith, b, c .before .before .before .before .before .before .before .pre .0 .0),
-      c .before .before .before .before .before .before .before .pre .1 .0
-          (getD (c .before .before .before .before .before .before .before .args .kept .now) (c .before .before .loop .i) 0) b,
-    )
+mul-from-word-2 : tie.Need-mul-from-word-2 Inv-loop μ-loop
+mul-from-word-2 c = omega (arith, inside (c .before))
+
+shared-slice-read-from-word : tie.Need-shared-slice-read-from-word Inv-loop μ-loop
+shared-slice-read-from-word c = omega (arith, inside (c .before .before))
+
+literal-value-requires : tie.Need-literal-value-requires Inv-loop μ-loop
+literal-value-requires c κs =
+    rw (ap (λ (l : Lit). l .0 .0) (c .from-word .ensures))
+    (c .before .before .before .before .before .before .before .before .before .pre .1 .0 (getD (c .before .before .before .before .before .before .before .before .before .args .kept .now) (c .before .before .before .before .loop .i) 0) (c .before .before .before .before .before .before .before .before .before .pre .1 .1 (c .before .before .before .before .loop .i) (omega arith)))
 
 mul-state : tie.Need-mul-state Inv-loop μ-loop
 mul-state c = omega arith
@@ -78,8 +88,8 @@ mul-state c = omega arith
 slice-write-state : tie.Need-slice-write-state Inv-loop μ-loop
 slice-write-state c = omega (
   arith,
-  c .before .before .before .loop .inv .1,
-  c .before .before .before .before .before .before .before .before .pre .0 .2,
+  c .before .before .before .before .before .loop .inv .1,
+  c .before .before .before .before .before .before .before .before .before .before .pre .0 .2,
 )
 
 add-i : tie.Need-add-i Inv-loop μ-loop
@@ -90,13 +100,15 @@ loop-less c = omega arith
 
 loop-again : tie.Need-loop-again Inv-loop μ-loop
 loop-again c =
-    let a = c .before .before .before .before .before .before .before .before .args in
-    let L = c .before .before .before .loop in (
+    let a = c .before .before .before .before .before .before .before .before .before .before .args in
+    let L = c .before .before .before .before .before .loop in (
       omega arith,
       length-set (L .state) _ _ ∙ L .inv .1,
-      next-more (Next (a .m .now) (a .values .now) (a .kept .now) (a .layout .latches)) (L .state) (L .i) (c .literal-at .result)
-          (omega (arith, L .inv .1, c .before .before .before .before .before .before .before .before .pre .0 .2)) (L .inv .2)
-          (c .literal-at .ensures),
+      next-more (Next (a .m .now) (a .values .now) (a .kept .now) (a .layout .latches)) (L .state) (L .i) (c .literal-value .result)
+          (omega (arith, L .inv .1, c .before .before .before .before .before .before .before .before .before .before .pre .0 .2)) (L .inv .2)
+          (λ p l. c .literal-value .ensures p l
+          ∙ ap (value (lane (a .values .now) p))
+          (word-read (word (a .m .now) (a .layout .latches + 3 * getD (a .kept .now) (L .i) 0 + 1)) (c .before .from-word .ensures))),
     )
 
 same-length : tie.Need-same-length Inv-loop μ-loop
@@ -109,5 +121,5 @@ pub next-kept-spec : {M : Type 1} → statement M
 next-kept-spec =
     tie.close
     (tie.spec
-    Inv-loop μ-loop loop-holds mul-j shared-slice-read-j cast-j mul-literal-at add-literal-at add-literal-at-2 literal-at-requires
-    mul-state slice-write-state add-i loop-less loop-again same-length returns)
+    Inv-loop μ-loop loop-holds mul-j shared-slice-read-j cast-j mul-from-word add-from-word add-from-word-2 mul-from-word-2
+    shared-slice-read-from-word (λ c κs. search needs) literal-value-requires mul-state slice-write-state add-i loop-less loop-again same-length returns)

@@ -9,6 +9,9 @@ use Rattle.learning.proofs.store.Tie as tie
 returns : tie.Need-returns
 returns c = let s = c .before .before .before .before .before .before .before .before .args in rw (store-literal (s .work .now) (s .net) (s .s) (s .d) (c .before .before .before .before .before .before .if1 .taken) (c .before .before .before .before .if2 .taken)) (c .before .before .keep-literal .ensures)
 
+keep-clause-requires : tie.Need-keep-clause-requires
+keep-clause-requires c κs = c .before .if3 .taken
+
 returns-2 : tie.Need-returns-2
 returns-2 c = let s = c .before .before .before .before .before .before .before .before .before .before .args in rw (store-clause (s .work .now) (s .net) (s .s) (s .d) (c .before .before .before .before .before .before .before .before .if1 .taken) (c .before .before .before .before .before .before .if2 .left) (c .before .before .before .before .if3 .taken)) (c .before .before .keep-clause .ensures)
 
@@ -24,5 +27,5 @@ pub store-spec : {M : Type 1} → statement M
 store-spec =
     tie.close
     (tie.spec
-    (λ c κs. search needs) (λ c. search needs) returns (λ c κs. search needs) (λ c. search needs) returns-2 (λ c κs. search needs)
+    (λ c κs. search needs) (λ c. search needs) returns keep-clause-requires (λ c. search needs) returns-2 (λ c κs. search needs)
     (λ c. search needs) returns-3 (λ c κs. search needs) (λ c. search needs) returns-4)

@@ -1,6 +1,6 @@
 -- `reachable::ask_frames` meets its contract. The loop's invariant: the table holds the layer of frame t, and frames t to k are left.
 -- Assumes nothing.
-use mathlib.Core.Path.{_≡_, refl, ap, _∙_}
+use mathlib.Core.Path.{_≡_, refl, ap, _∙_, subst}
 use mathlib.Core.List.{[]}
 use Prim.Native.Nat.{ℕ, _+_, _-_, _*_, _^_, _≤_}
 use native.Mathlib.Omega.{arith}
@@ -9,6 +9,8 @@ use Rattle.influence.specs.Part.{Part, partIn}
 use Rattle.frames.proofs.Places.{inputs-are}
 use Rattle.frames.proofs.Facts.{ready-with}
 use Rattle.machine.specs.Layers.{started}
+use Rattle.states.specs.declared.Tally.{Tally}
+use Rattle.states.specs.Table.{countOf, Within}
 use Rattle.states.specs.Trace.{Holds}
 use Rattle.states.proofs.Laws.{holds-none, holds-fits}
 use Rattle.transitions.specs.Transitions.{machineOf}
@@ -24,6 +26,7 @@ use Rattle.reachable.proofs.Steps.{
   case-hit,
   case-lost,
   case-last,
+  met-few,
   case-more,
 }
 use borrow.Author.Needs.{needs}
@@ -56,7 +59,7 @@ abbrev entry-first : tie.After-quota Inv-loop μ-loop → Start
 entry-first c = c .before .before .before .before .before .before .before .before
 
 abbrev entry : tie.At-loop Inv-loop μ-loop → Start
-entry l = entry-first (asked-first (l .before .before))
+entry l = entry-first (asked-first (l .before .before .before .before))
 
 abbrev loop-of : tie.After-ask-layer Inv-loop μ-loop → tie.At-loop Inv-loop μ-loop
 loop-of c = c .before .before .before .before .before .before
@@ -86,11 +89,11 @@ empty c =
 holds-started : (c : tie.After-slice-known5 Inv-loop μ-loop)
     → let e = entry-first (asked-first c) in
     let s = c .before .before .before .before .meet-starts in
-    Holds (rows e) 0 0 (asked-first c .quota .result) (s .result) (s .last .1 .1 .1 .0) (s .last .1 .1 .1 .1 .0)
+    Holds (rows e) 0 0 (asked-first c .quota .result) (countOf (asked-first c .quota .result) (s .result)) (s .last .1 .1 .1 .0) (s .last .1 .1 .1 .1 .0)
     (started (machineOf (part e) (e .args .q .b)) (2 ^ e .args .q .layout .u))
 holds-started c =
     let e = entry-first (asked-first c) in
-    c .before .before .before .before .meet-starts .ensures (rows e) (e .args .q .b) (empty (asked-first c))
+    c .before .before .before .before .meet-starts .ensures .0 (rows e) (e .args .q .b) (empty (asked-first c))
 
 within : (c : tie.In-loop Inv-loop μ-loop) → c .before .loop .t ≤ entry (c .before) .args .q .k
 within c = omega (arith, c .loop-test .taken)
@@ -106,7 +109,7 @@ asking c =
     let e = entry l in
     let q = c .quota2 in
     let w = within (c .before) in
-    let n = l .before .before .before .before .before .before .meet-starts .kept .1 .1 .1 .0 in
+    let n = l .before .before .before .before .before .before .before .before .meet-starts .kept .1 .1 .1 .0 in
     record {
       standing = l .loop .inv .6;
       within = w;
@@ -121,12 +124,12 @@ module _ (c : tie.After-slice-known8 Inv-loop μ-loop) where
   same-records : length (layer-of c .ask-layer .last .1 .1 .1 .0) ≡ length (entry (loop-of (layer-of c)) .args .records .now)
   same-records =
       layer-of c .ask-layer .kept .1 .1 .1 .0 ∙ loop-of (layer-of c) .loop .inv .3
-      ∙ loop-of (layer-of c) .before .before .before .before .before .before .meet-starts .kept .1 .1 .1 .0
+      ∙ loop-of (layer-of c) .before .before .before .before .before .before .before .before .meet-starts .kept .1 .1 .1 .0
 
   same-heads : length (layer-of c .ask-layer .last .1 .1 .1 .1 .0) ≡ length (entry (loop-of (layer-of c)) .args .heads .now)
   same-heads =
       layer-of c .ask-layer .kept .1 .1 .1 .1 .0 ∙ loop-of (layer-of c) .loop .inv .4
-      ∙ loop-of (layer-of c) .before .before .before .before .before .before .meet-starts .kept .1 .1 .1 .1 .0
+      ∙ loop-of (layer-of c) .before .before .before .before .before .before .before .before .meet-starts .kept .1 .1 .1 .1 .0
 
   same-values : length (layer-of c .ask-layer .last .1 .1 .1 .1 .1 .0) ≡ length (entry (loop-of (layer-of c)) .args .values .now)
   same-values = layer-of c .ask-layer .kept .1 .1 .1 .1 .1 .0 ∙ loop-of (layer-of c) .loop .inv .5
@@ -147,34 +150,44 @@ meet-starts-requires c κs =
     )
 
 same-length : tie.Need-same-length Inv-loop μ-loop
-same-length c = c .before .before .before .before .before .meet-starts .kept .1 .1 .1 .0
+same-length c = c .before .before .before .before .before .before .meet-starts .kept .1 .1 .1 .0
 
 same-length-2 : tie.Need-same-length-2 Inv-loop μ-loop
-same-length-2 c = c .before .before .before .before .before .meet-starts .kept .1 .1 .1 .1 .0
+same-length-2 c = c .before .before .before .before .before .before .meet-starts .kept .1 .1 .1 .1 .0
 
 returns : tie.Need-returns Inv-loop μ-loop
 returns c =
-    let f = asked-first (c .before) in
+    let n = c .before .before in
+    let f = asked-first n in
     let e = entry-first f in
-    let s = c .before .before .before .before .before .meet-starts in
-    started-full (part e) (e .args .q .b) (e .args .q .k) (2 ^ e .args .q .layout .u) (s .result) (f .quota .result)
-    (s .last .1 .1 .1 .0) (s .last .1 .1 .1 .1 .0) (f .quota .ensures) (c .if1 .taken)
-    (ap (λ (x : ℕ). 2 ^ x) (e .pre .0 .layout-of .u-is)) (holds-started (c .before))
+    let q = f .quota .result in
+    let s = c .before .before .before .before .before .before .meet-starts in
+    started-full (part e) (e .args .q .b) (e .args .q .k) (2 ^ e .args .q .layout .u) (q + 1) q
+    (s .last .1 .1 .1 .0) (s .last .1 .1 .1 .1 .0) (f .quota .ensures) (omega arith)
+    (ap (λ (x : ℕ). 2 ^ x) (e .pre .0 .layout-of .u-is))
+    (subst (λ (t : Tally). Holds (rows e) 0 0 q (countOf q t) (s .last .1 .1 .1 .0) (s .last .1 .1 .1 .1 .0)
+    (started (machineOf (part e) (e .args .q .b)) (2 ^ e .args .q .layout .u))) (c .enum-told .given .1) (holds-started n))
 
 loop-holds : tie.Need-loop-holds Inv-loop μ-loop
 loop-holds c =
-    let f = asked-first (c .before) in
+    let n = c .before .before .before in
+    let f = asked-first n in
     let e = entry-first f in
-    let s = c .before .before .before .before .before .meet-starts in (
+    let q = f .quota .result in
+    let s = c .before .before .before .before .before .before .before .meet-starts in
+    let told = c .before .starts .given .1 in
+    let few-starts : c .before .starts .given .0 .0 ≤ q = subst (Within q) told (s .ensures .1) in (
       omega arith,
       omega arith,
-      omega (arith, c .if1 .left, f .quota .ensures),
+      omega (arith, few-starts, f .quota .ensures),
       refl,
       refl,
       refl,
-      standing-start (part e) (e .args .q .b) (e .args .q .k) (2 ^ e .args .q .layout .u) (s .result) (f .quota .result)
-          (s .last .1 .1 .1 .0) (s .last .1 .1 .1 .1 .0) (f .quota .ensures) (c .if1 .left)
-          (ap (λ (x : ℕ). 2 ^ x) (e .pre .0 .layout-of .u-is)) (holds-started (c .before)),
+      standing-start (part e) (e .args .q .b) (e .args .q .k) (2 ^ e .args .q .layout .u) (c .before .starts .given .0 .0) q
+          (s .last .1 .1 .1 .0) (s .last .1 .1 .1 .1 .0) (f .quota .ensures) few-starts
+          (ap (λ (x : ℕ). 2 ^ x) (e .pre .0 .layout-of .u-is))
+          (subst (λ (t : Tally). Holds (rows e) 0 0 q (countOf q t) (s .last .1 .1 .1 .0) (s .last .1 .1 .1 .1 .0)
+          (started (machineOf (part e) (e .args .q .b)) (2 ^ e .args .q .layout .u))) told (holds-started n)),
     )
 
 quota-requires-2 : tie.Need-quota-requires-2 Inv-loop μ-loop
@@ -213,64 +226,70 @@ returns-2 c =
     (a .ask-layer .last .1 .1 .1 .1 .0) (a .ask-layer .ensures) (a .ask-layer .kept .1 .1 .1 .0)
     (quota-small (part e) 0 (e .pre .1 .0 .2) .0) (c .before .e .given .1)
 
-add-t35 : tie.Need-add-t35 Inv-loop μ-loop
-add-t35 c =
-    let l = loop-of (layer-of (c .before .before .before .before)) in
-    omega (arith, within (layer-of (c .before .before .before .before) .before .before .before .before .before), entry l .pre .1 .0 .1)
+add-t34 : tie.Need-add-t34 Inv-loop μ-loop
+add-t34 c =
+    let a = layer-of (c .before .before) in
+    omega (arith, within (a .before .before .before .before .before), entry (loop-of a) .pre .1 .0 .1)
 
 same-length-6 : tie.Need-same-length-6 Inv-loop μ-loop
-same-length-6 c = same-records (c .before .before .before .before)
+same-length-6 c = same-records (c .before .before)
 
 same-length-7 : tie.Need-same-length-7 Inv-loop μ-loop
-same-length-7 c = same-heads (c .before .before .before .before)
+same-length-7 c = same-heads (c .before .before)
 
 same-length-8 : tie.Need-same-length-8 Inv-loop μ-loop
-same-length-8 c = same-values (c .before .before .before .before)
+same-length-8 c = same-values (c .before .before)
 
 returns-3 : tie.Need-returns-3 Inv-loop μ-loop
 returns-3 c =
-    let a = layer-of (c .before .before .before .before) in
+    let a = layer-of (c .before .before) in
     let e = entry (loop-of a) in
     case-lost (part e) (e .args .q .b) (e .args .q .k) (asking (a .before .before .before .before)) (a .ask-layer .last .1 .1 .1 .0)
-    (a .ask-layer .last .1 .1 .1 .1 .0) (a .ask-layer .ensures) (c .before .before .met .given .1) (c .if2 .taken)
+    (a .ask-layer .last .1 .1 .1 .1 .0) (a .ask-layer .ensures) (c .enum-told2 .given .1)
 
 same-length-9 : tie.Need-same-length-9 Inv-loop μ-loop
-same-length-9 c = same-records (c .before .before .before .before .before)
+same-length-9 c = same-records (c .before .before .before .before)
 
 same-length-10 : tie.Need-same-length-10 Inv-loop μ-loop
-same-length-10 c = same-heads (c .before .before .before .before .before)
+same-length-10 c = same-heads (c .before .before .before .before)
 
 same-length-11 : tie.Need-same-length-11 Inv-loop μ-loop
-same-length-11 c = same-values (c .before .before .before .before .before)
+same-length-11 c = same-values (c .before .before .before .before)
 
 returns-4 : tie.Need-returns-4 Inv-loop μ-loop
 returns-4 c =
-    let a = layer-of (c .before .before .before .before .before) in
+    let a = layer-of (c .before .before .before .before) in
     let e = entry (loop-of a) in
     case-last (part e) (e .args .q .b) (e .args .q .k) (asking (a .before .before .before .before)) (a .ask-layer .last .1 .1 .1 .0)
-    (a .ask-layer .last .1 .1 .1 .1 .0) (a .ask-layer .ensures) (c .before .before .before .met .given .1) (c .before .if2 .left)
-    (c .if3 .taken)
+    (a .ask-layer .last .1 .1 .1 .1 .0) (a .ask-layer .ensures) (c .before .before .met .given .1) (c .if1 .taken)
 
 add-t : tie.Need-add-t Inv-loop μ-loop
 add-t c =
-    let a = layer-of (c .before .before .before .before .before) in
+    let a = layer-of (c .before .before .before .before) in
     omega (arith, within (a .before .before .before .before .before), entry (loop-of a) .pre .1 .0 .1)
 
 loop-less : tie.Need-loop-less Inv-loop μ-loop
-loop-less c = omega (arith, within (layer-of (c .before .before .before .before .before) .before .before .before .before .before))
+loop-less c = let a = layer-of (c .before .before .before .before) in omega (arith, within (a .before .before .before .before .before))
 
 loop-again : tie.Need-loop-again Inv-loop μ-loop
 loop-again c =
-    let a = layer-of (c .before .before .before .before .before) in
+    let a = layer-of (c .before .before .before .before) in
     let l = loop-of a in
     let e = entry l in
     let q = a .before .before .before .before .quota2 in
-    let s = case-more (part e) (e .args .q .b) (e .args .q .k) (asking (a .before .before .before .before))
-    (a .ask-layer .last .1 .1 .1 .0) (a .ask-layer .last .1 .1 .1 .1 .0) (a .ask-layer .ensures)
-    (c .before .before .before .met .given .1) (c .before .if2 .left) (c .if3 .left) in (
+    let k = asking (a .before .before .before .before) in
+    let r = a .ask-layer .last .1 .1 .1 .0 in
+    let h = a .ask-layer .last .1 .1 .1 .1 .0 in
+    let told = c .before .before .met .given .1 in
+    let s = case-more (part e) (e .args .q .b) (e .args .q .k) k r h (a .ask-layer .ensures) told (c .if1 .left) in (
       omega (arith, within (a .before .before .before .before .before)),
       s .low,
-      omega (arith, c .before .if2 .left, q .ensures, quota-mono (part e) (l .loop .t) (l .loop .t + 1) (omega arith)),
+      omega (
+        arith,
+        met-few (part e) (e .args .q .b) (e .args .q .k) k r h (a .ask-layer .ensures) told,
+        q .ensures,
+        quota-mono (part e) (l .loop .t) (l .loop .t + 1) (omega arith),
+      ),
       a .ask-layer .kept .1 .1 .1 .0 ∙ l .loop .inv .3,
       a .ask-layer .kept .1 .1 .1 .1 .0 ∙ l .loop .inv .4,
       a .ask-layer .kept .1 .1 .1 .1 .1 .0 ∙ l .loop .inv .5,
@@ -278,10 +297,10 @@ loop-again c =
     )
 
 same-length-12 : tie.Need-same-length-12 Inv-loop μ-loop
-same-length-12 c = c .before .loop .inv .3 ∙ c .before .before .before .before .before .before .before .meet-starts .kept .1 .1 .1 .0
+same-length-12 c = c .before .loop .inv .3 ∙ c .before .before .before .before .before .before .before .before .before .meet-starts .kept .1 .1 .1 .0
 
 same-length-13 : tie.Need-same-length-13 Inv-loop μ-loop
-same-length-13 c = c .before .loop .inv .4 ∙ c .before .before .before .before .before .before .before .meet-starts .kept .1 .1 .1 .1 .0
+same-length-13 c = c .before .loop .inv .4 ∙ c .before .before .before .before .before .before .before .before .before .meet-starts .kept .1 .1 .1 .1 .0
 
 same-length-14 : tie.Need-same-length-14 Inv-loop μ-loop
 same-length-14 c = c .before .loop .inv .5
@@ -295,7 +314,7 @@ returns-5 c =
 
 pub ask-frames-spec : {M : Type 1} → statement M
 ask-frames-spec =
-    tie.close (tie.spec Inv-loop μ-loop quota-requires meet-starts-requires same-length same-length-2 returns loop-holds quota-requires-2
-    ask-layer-requires (λ c. search needs) same-length-3 same-length-4 same-length-5 returns-2 (λ c. search needs) add-t35
-    same-length-6 same-length-7 same-length-8 returns-3 same-length-9 same-length-10 same-length-11 returns-4 add-t loop-less
-    loop-again same-length-12 same-length-13 same-length-14 returns-5)
+    tie.close (tie.spec Inv-loop μ-loop quota-requires meet-starts-requires (λ c. search needs) (λ c. search needs) same-length same-length-2
+    returns loop-holds quota-requires-2 ask-layer-requires (λ c. search needs) same-length-3 same-length-4 same-length-5 returns-2
+    (λ c. search needs) add-t34 same-length-6 same-length-7 same-length-8 returns-3 (λ c. search needs) same-length-9 same-length-10
+    same-length-11 returns-4 add-t loop-less loop-again same-length-12 same-length-13 same-length-14 returns-5)
