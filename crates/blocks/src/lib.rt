@@ -245,7 +245,8 @@ pub fn block_count(n: usize) -> u64
     if n < 7 { 1 } else { 1u64 << (n - 6) }
 }
 
-// Whether every completion of a body shows a hit, or, where hits are not wanted, whether none does.
+// Whether every completion of a body shows a hit, or, where hits are not wanted, whether none does. What values and state hold afterwards is
+// left open.
 pub fn every_completion(
     m: &[u32],
     order: &[u32],

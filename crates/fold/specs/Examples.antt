@@ -32,8 +32,10 @@ texts =
       text =
           "aag 5 2 0 1 3 0 0\n2\n4\n11\n6 5 2\n8 4 3\n10 9 7\n";
     }
-    -- a gate that is equal in function to an input is merged: the input, with the input or the other one
+    -- an input with the complement of (its complement and another one) is that input, by a rule one gate down
     ∷ record { file = "aag 4 2 0 0 2 1\n2\n4\n8\n6 3 5\n8 2 7\n"; b = 0; t = 0; text = "aag 2 2 0 1 0 0 0\n2\n4\n2\n" }
+    -- a gate that is equal in function to an input is merged: the input with the other one, or with its complement
+    ∷ record { file = "aag 5 2 0 0 3 1\n2\n4\n11\n6 2 4\n8 2 5\n10 7 9\n"; b = 0; t = 0; text = "aag 2 2 0 1 0 0 0\n2\n4\n2\n" }
     -- gates that stand in another order than the depth-first one
     ∷ record {
       file = "aag 5 2 0 0 3 1\n2\n4\n10\n10 9 7\n8 3 4\n6 2 5\n";

@@ -1,4 +1,4 @@
--- The latches with a free start, one after the other. Assumes nothing.
+-- The start value of each latch: its reset, or the free bit whose place is the number of free latches before it. Assumes nothing.
 use mathlib.Core.Bool.{Bool, cond}
 use Prim.Native.Nat.{ℕ}
 use lib.Dec.{eqb}

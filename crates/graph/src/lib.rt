@@ -22,7 +22,7 @@ pub struct Made {
     pub edge: Edge,
 }
 
-// A graph over so many free bits, without gates.
+// A graph over so many free bits, without gates. Of working memory nothing is promised but what the graph stores.
 pub fn start(work: &mut [u32], free: usize, room: usize) -> Graph
     requires { ⌜ Enough free room (length (now work)) ⌝ }
     ensures { λ r. ⌜ (r ≡ emptyGraph free room) × Stored (now (work .exit)) r ⌝ }
@@ -123,7 +123,7 @@ fn make_packed(work: &mut [u32], g: Graph, left: Packed, right: Packed) -> Made
     make_ordered(work, g, Edge::from_word(left.0), Edge::from_word(right.0))
 }
 
-// The conjunction of two edges.
+// The conjunction of two edges. Of working memory nothing is promised but what the graph stores.
 pub fn make(work: &mut [u32], g: Graph, a: Edge, b: Edge) -> Made
     requires { ⌜ Operands (now work) g (edgeWord a) (edgeWord b) ⌝ }
     ensures { λ r. ⌜ Conjoined (now (work .entry)) (now (work .exit)) g (edgeWord a) (edgeWord b) r ⌝ }

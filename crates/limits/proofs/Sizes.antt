@@ -14,7 +14,7 @@ use Rattle.layout.specs.Layout.{LayoutOf}
 use Rattle.layout.specs.declared.Layout.{Layout}
 use Rattle.frames.proofs.Facts.{counts, bad-count, constraint-count, gate-count}
 use Rattle.frames.proofs.Places.{inputs-are, latches-are}
-use Rattle.frames.proofs.Starts.{starts-few}
+use Rattle.frames.proofs.Starts.{free-small}
 use Rattle.limits.specs.Limits.{Limited, CountsOf, sizeOf, lengthOf}
 
 -- k + 1 frames of at most 3,345 units
@@ -71,5 +71,5 @@ module _ {m : List ℕ} {p : Layout} (held : Holds m (circuitIn m)) (a : LayoutO
         gates = omega (arith, n .gates, e .gates);
         bads = omega (arith, n .bads, e .bads);
         constraints = omega (arith, n .constraints, e .constraints);
-        starts = omega (arith, a .u-is, starts-few held a);
+        starts = omega (arith, a .u-is, free-small (circuitIn m), e .latches);
       }

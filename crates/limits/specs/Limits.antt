@@ -20,7 +20,7 @@ pub record Limited (p : Layout) : Type 0 where
   pub gates : p .a ≤ 3072
   pub bads : p .b ≤ 16
   pub constraints : p .c ≤ 16
-  pub starts : p .u ≤ 1024
+  pub starts : p .u ≤ p .l
 
 -- the counts are those of circuit c
 pub record CountsOf (c : Circuit) (p : Layout) : Type 0 where

@@ -81,7 +81,8 @@ fn store_words(words: &[u64], most: usize, limit: u32, out: &mut [u32], from: us
     fits
 }
 
-// Reads a line of a form, and stores it as the form's most words, missing numbers as 0. Of a malformed line nothing is stored.
+// Reads a line of a form, and stores it as the form's most words, missing numbers and those above the limit as 0. Of a malformed line
+// nothing is stored.
 pub fn read_line(s: &[u8], at: usize, form: Form, out: &mut [u32], from: usize) -> Rows
     requires { ⌜ form .most ≤ 3 ⌝ }
     requires { ⌜ from + form .most ≤ length (now out) ⌝ }
@@ -100,7 +101,8 @@ pub fn read_line(s: &[u8], at: usize, form: Form, out: &mut [u32], from: usize) 
     }
 }
 
-// Reads n lines of a form, and stores each as the form's most words from word from of out on. Those before a malformed line are stored.
+// Reads n lines of a form, and stores each as the form's most words from word from of out on, numbers above the limit as 0. Those before a
+// malformed line are stored.
 pub fn read_rows(s: &[u8], at: usize, n: usize, form: Form, out: &mut [u32], from: usize) -> Rows
     requires { ⌜ at ≤ length (now s) ⌝ }
     requires { ⌜ form .most ≤ 3 ⌝ }

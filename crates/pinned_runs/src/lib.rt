@@ -92,7 +92,7 @@ fn agrees(pin: u8, byte: u8, loose: bool) -> bool
     pin == 0
 }
 
-// Whether all bytes of a body have the values of their pins.
+// Whether all bytes of a body have the values of their pins; where `loose`, an x agrees with every pin.
 pub fn agree(rows: Rows, own: &[u8], body: &[u8], loose: bool) -> bool
     requires { ⌜ rows .inputs ≤ 256 ⌝ }
     ensures { λ r. ⌜

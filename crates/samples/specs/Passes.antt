@@ -67,7 +67,7 @@ pub record Sampled (block at wires frames : ℕ) (out : List ℕ) : Type 0 where
 abbrev pub RunsOf : Circuit → List ℕ → ℕ → ℕ → (ℕ → Run) → Type 0
 RunsOf c body block frames r = (p : ℕ) → p < 64 → RunAt c (completion (block * 64 + p) body) frames (r p)
 
--- the samples after a block
+-- the samples after a block, of the runs of its completions; each completion of a body that was read has a run, so that there are such r
 abbrev pub SamplesLeft : Circuit → List ℕ → Pass → List ℕ → ℕ → List ℕ → Type 0
 SamplesLeft c body pass out end out′ =
     (r : ℕ → Run) → RunsOf c body (pass .block) (pass .frames) r → (old : ℕ → ℕ → Level)

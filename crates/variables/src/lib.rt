@@ -216,7 +216,8 @@ fn all_known(w: &[u32], c: Column, table: &[u32]) -> bool
     true
 }
 
-// Cause 7: true where there is none.
+// Whether every literal that is used has a definition in the table. Where the table has all definitions of the circuit this is the test for
+// cause 7.
 pub fn used_defined(w: &[u32], table: &[u32]) -> bool
     requires { ⌜ Counted (now w) ⌝ }
     requires { ⌜ Used (now w) (λ l. l / 2 < length (now table)) ⌝ }

@@ -38,7 +38,7 @@ nameIn p k = getD (names (p .i) (p .l) (p .o) (p .b) (p .c)) k (nameOf 0 0)
 abbrev pub wiresIn : Layout → ℕ
 wiresIn p = p .i + p .l + p .o + p .b + p .c
 
--- the number of wires is small
+-- there are at least n wires, and no more than the limits allow
 pub record FewWires (p : Layout) (n : ℕ) : Type 0 where
   pub there : n ≤ wiresIn p
   pub few : wiresIn p ≤ 1376
