@@ -21,7 +21,7 @@ use Rattle.aiger.specs.Memory.{content, latchWords, gateWords}
 use Rattle.aiger.proofs.Tests.{and, and-left, and-right, true-T}
 use Rattle.roundtrip.proofs.LoadValid.{rows-length, implied-length, latches-length, gates-length}
 use Rattle.roundtrip.proofs.Content.{words-take}
-use Rattle.layout.specs.Words.{contentEnd}
+use Rattle.layout.specs.Words.{word, contentEnd}
 use Rattle.layout.specs.declared.Layout.{Layout}
 use Rattle.layout.specs.Layout.{PlacesOf}
 use Rattle.layout.specs.Table.{table, Chained}
@@ -30,7 +30,8 @@ use Rattle.lines.proofs.Storing.{within-padded}
 use Rattle.binary.specs.Sections.{LatchesRead, GatesRead}
 use Rattle.binary.proofs.Latches as latches
 use Rattle.binary.proofs.Differences as gates
-use Rattle.sections.specs.Sections.{headerAt}
+use Rattle.sections.specs.Sections.{headerAt, BodyAt, PastKept}
+use Rattle.sections.specs.declared.Body.the-variants.{Read, Large}
 use Rattle.sections.specs.Spans.{Runs, Stops}
 use Rattle.sections.proofs.Literals.{literals-within}
 use Rattle.sections.proofs.Lines.{Begins, short, rows-short, past, flat-ones}
@@ -135,10 +136,10 @@ module _ (s : List ℕ) (at : ℕ) (p : Layout) (limit : ℕ) (w : List ℕ) (q 
         bad-tail e = after-lines ∙ rw (r4 .meaning, e)
 
         -- the circuit that the sections make
-        abbrev pub made : Circuit
+        abbrev made : Circuit
         made = circuit (lines r3) (r4 .gates)
 
-        pub body-made : isTail (drop a4 s) ≡ true → sections true (headerAt w) (drop at s) ≡ gives made
+        body-made : isTail (drop a4 s) ≡ true → sections true (headerAt w) (drop at s) ≡ gives made
         body-made e = after-lines ∙ rw (r4 .meaning, e)
 
         many-latches : length (made .latches) ≡ p .l
@@ -166,7 +167,7 @@ module _ (s : List ℕ) (at : ℕ) (p : Layout) (limit : ℕ) (w : List ℕ) (q 
         lines-chained = (refl, (omega (arith, q), (omega (arith, q), omega (arith, q))))
 
         -- the words that were stored are its content
-        pub stored : 7 ≤ length w → (f2 && f3) ≡ true → w4 ≡ content made ++ drop (p .end) w4
+        stored : 7 ≤ length w → (f2 && f3) ≡ true → w4 ≡ content made ++ drop (p .end) w4
         unfolding content
         stored h e =
             let t = two f2 f3 e in
@@ -193,7 +194,7 @@ module _ (s : List ℕ) (at : ℕ) (p : Layout) (limit : ℕ) (w : List ℕ) (q 
             sym (take-append-drop (p .end) w4) ∙ ap (λ (xs : List ℕ). xs ++ drop (p .end) w4) whole
 
         -- what stands past it stays
-        pub past-kept : contentEnd w ≤ length w → (f2 && f3) ≡ true → drop (contentEnd w) w4 ≡ drop (contentEnd w) w
+        past-kept : contentEnd w ≤ length w → (f2 && f3) ≡ true → drop (contentEnd w) w4 ≡ drop (contentEnd w) w
         past-kept l e =
             let t = two f2 f3 e in
             let h : p .end ≡ contentEnd w = omega (arith, q) in
@@ -226,5 +227,14 @@ module _ (s : List ℕ) (at : ℕ) (p : Layout) (limit : ℕ) (w : List ℕ) (q 
             rw (t2, t3)
 
         -- a number above the limit is a literal that is not right
-        pub large : limit ≡ 2 * p .m + 1 → (f2 && f3) ≡ false → literalsRight made ≡ false
+        large : limit ≡ 2 * p .m + 1 → (f2 && f3) ≡ false → literalsRight made ≡ false
         large l e = not-so (literalsRight made) (λ t. unlike (sym e ∙ all-fit l t))
+
+        -- every number is within the limit, or one is not
+        pub all-read : contentEnd w ≤ length w → isTail (drop a4 s) ≡ true → (f2 && f3) ≡ true
+            → BodyAt true (headerAt w) (drop at s) w4 Read × PastKept w w4 Read
+        all-read l t e = ((made, body-made t, drop (p .end) w4, stored (omega (arith, l)) e), past-kept l e)
+
+        pub one-large : limit ≡ 2 * word w 0 + 1 → isTail (drop a4 s) ≡ true → (f2 && f3) ≡ false
+            → BodyAt true (headerAt w) (drop at s) w4 Large × PastKept w w4 Large
+        one-large l t e = ((made, body-made t, large (omega (arith, q, l)) e), tt)

@@ -65,7 +65,8 @@ unfolding flat
 within-flat limit most [] t = refl
 within-flat limit most (r ∷ ls) t =
     let l = leb→le (length r) most (and-left (short most r) (every (short most) ls) t) in
-    ap₂ (λ (a b : Bool). a && b) (sym (within-padded limit most r l)) (within-flat limit most ls (and-right (short most r) (every (short most) ls) t))
+    ap₂ (λ (a b : Bool). a && b) (sym (within-padded limit most r l))
+    (within-flat limit most ls (and-right (short most r) (every (short most) ls) t))
     ∙ sym (every-append (λ x. leb x limit) (padded most r) (flat most ls))
 
 -- lines as the words of literals, latches and gates

@@ -20,11 +20,12 @@ use Rattle.roundtrip.proofs.Content.{words-take}
 use Rattle.lines.specs.Lines.{flat, within}
 use Rattle.layout.specs.declared.Layout.{Layout}
 use Rattle.layout.specs.declared.Section.{Section}
-use Rattle.layout.specs.Words.{contentEnd}
+use Rattle.layout.specs.Words.{word, contentEnd}
 use Rattle.layout.specs.Layout.{PlacesOf}
 use Rattle.layout.specs.Table.{table, sectionAt, Chained}
 use Rattle.layout.proofs.Table.{chained}
-use Rattle.sections.specs.Sections.{headerAt}
+use Rattle.sections.specs.Sections.{headerAt, BodyAt, PastKept}
+use Rattle.sections.specs.declared.Body.the-variants.{Read, Large}
 use Rattle.sections.specs.Spans.{sectionEnd, Runs, Stops}
 use Rattle.sections.specs.Spans.Runs.{done, more}
 use Rattle.sections.specs.Spans.Stops.{here, later}
@@ -229,10 +230,10 @@ module _ (s : List ℕ) (at : ℕ) (p : Layout) (limit : ℕ) (w : List ℕ) (q 
     pub no-tail : isTail (drop n s) ≡ false → sections false (headerAt w) (drop at s) ≡ refused 5
     no-tail e = whole ∙ rw e
 
-    abbrev pub circuit : Circuit
+    abbrev circuit : Circuit
     circuit = made (p .m) (lines r)
 
-    pub body-made : isTail (drop n s) ≡ true → sections false (headerAt w) (drop at s) ≡ gives circuit
+    body-made : isTail (drop n s) ≡ true → sections false (headerAt w) (drop at s) ≡ gives circuit
     body-made e = whole ∙ rw e
 
     heads : 7 ≤ length w → take 7 w ≡ circuit .maxVar ∷ countRow circuit
@@ -251,7 +252,7 @@ module _ (s : List ℕ) (at : ℕ) (p : Layout) (limit : ℕ) (w : List ℕ) (q 
         ∷ (sym (q .a-is) ∙ sym g) t ∷ (sym (q .b-is) ∙ sym b) t ∷ (sym (q .c-is) ∙ sym c) t ∷ [])
 
     -- the words that were stored are its content
-    pub stored : 7 ≤ length w → f′ ≡ true → w′ ≡ content circuit ++ drop (p .end) w′
+    stored : 7 ≤ length w → f′ ≡ true → w′ ≡ content circuit ++ drop (p .end) w′
     unfolding content
     stored h e =
         let b : Begins w′ (p .end) (stacked (circuit .maxVar ∷ countRow circuit) (table p) (lines r)) =
@@ -273,7 +274,7 @@ module _ (s : List ℕ) (at : ℕ) (p : Layout) (limit : ℕ) (w : List ℕ) (q 
         ) in
         sym (take-append-drop (p .end) w′) ∙ ap (λ (xs : List ℕ). xs ++ drop (p .end) w′) same
 
-    pub past-kept : contentEnd w ≤ length w → f′ ≡ true → drop (contentEnd w) w′ ≡ drop (contentEnd w) w
+    past-kept : contentEnd w ≤ length w → f′ ≡ true → drop (contentEnd w) w′ ≡ drop (contentEnd w) w
     past-kept l e =
         let h : p .end ≡ contentEnd w = omega (arith, q) in
         subst (λ (k : ℕ). drop k w′ ≡ drop k w) h (past-all r e 7 (p .end) (chained p q) (p .end) (omega arith) (omega (arith, h)) .0)
@@ -301,5 +302,14 @@ module _ (s : List ℕ) (at : ℕ) (p : Layout) (limit : ℕ) (w : List ℕ) (q 
         ))
 
     -- a number above the limit is a literal that is not right
-    pub large : limit ≡ 2 * p .m + 1 → f′ ≡ false → literalsRight circuit ≡ false
+    large : limit ≡ 2 * p .m + 1 → f′ ≡ false → literalsRight circuit ≡ false
     large l e = not-so (literalsRight circuit) (λ t. unlike (sym e ∙ all-fit l t))
+
+    -- every number is within the limit, or one is not
+    pub all-read : contentEnd w ≤ length w → isTail (drop n s) ≡ true → f′ ≡ true
+        → BodyAt false (headerAt w) (drop at s) w′ Read × PastKept w w′ Read
+    all-read l t e = ((circuit, body-made t, drop (p .end) w′, stored (omega (arith, l)) e), past-kept l e)
+
+    pub one-large : limit ≡ 2 * word w 0 + 1 → isTail (drop n s) ≡ true → f′ ≡ false
+        → BodyAt false (headerAt w) (drop at s) w′ Large × PastKept w w′ Large
+    one-large l t e = ((circuit, body-made t, large (omega (arith, q, l)) e), tt)

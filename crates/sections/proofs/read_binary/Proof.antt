@@ -1,6 +1,7 @@
 -- `sections::read_binary` meets its contract: inputs, latches, the sections between latches and gates, and gates, each stored where the
 -- table says. Assumes nothing.
 use mathlib.Core.Path.{_≡_, sym, _∙_, subst}
+use mathlib.Core.Bool.{true}
 use mathlib.Core.List.{List, _++_}
 use native.Mathlib.Omega.{arith}
 use Prim.Native.Nat.{ℕ, _+_, _≤_}
@@ -8,6 +9,7 @@ use borrow.Author.Needs.{needs}
 use borrow.Author.Tests.{not-true, not-false}
 use lib.ListN.{length, take, drop}
 use lib.Seq.{slice}
+use Rattle.aiger.specs.File.{isTail}
 use Rattle.aiger.specs.Binary.{implied}
 use Rattle.layout.specs.Table.{table}
 use Rattle.layout.specs.declared.Section.{Section}
@@ -17,7 +19,7 @@ use Rattle.binary.specs.Sections.{LatchesAt, GatesAt}
 use Rattle.binary.specs.declared.Gates.{Gates}
 use Rattle.sections.specs.Spans.{SpanAt}
 use Rattle.sections.proofs.Parts.{runs-inside}
-use Rattle.sections.proofs.Binary.{bad-latches, bad-lines, bad-gates, bad-tail, made, body-made, stored, past-kept, large}
+use Rattle.sections.proofs.Binary.{bad-latches, bad-lines, bad-gates, bad-tail, all-read, one-large}
 use Rattle.sections.proofs.read_binary.Statement.{statement}
 use Rattle.sections.proofs.read_binary.Tie as tie
 
@@ -113,6 +115,12 @@ run4 n r e =
     (λ (t : Section). GatesAt (a .s .now) (T3 n .at2 .given .0 .0) (t .rows) (n .before .before .variable2 .result) w (t .at) (words4 n) r)
     (n .before .before .before .before .section-at3 .ensures) (rw (← e) (n .read-gates .ensures .0)))
 
+-- the tail is right
+tail : (c : tie.Else1)
+    → let n = c .before .before .before in
+    isTail (drop (n .end .given .0 .0) (start4 (n .before .before .before .before) .args .s .now)) ≡ true
+tail c = sym (c .before .is-tail .ensures) ∙ not-false _ (c .if1 .left)
+
 few : (i l a : ℕ) → i + l + a ≤ 4096 → 1 + i ≤ 10000
 few i l a h = omega arith
 
@@ -195,10 +203,11 @@ returns-3 c =
     let a = s .args in
     let k = before4 n in
     let m = before3 k in
-    let r2 = run2 m _ (T2 k .at .given .1) in
-    let r3 = run3 k _ (T3 n .at2 .given .1) in
-    let r4 = run4 n _ (c .enum-told3 .given .1) in
-    (bad-gates (a .s .now) (a .at) (a .p) (a .limit) (a .words .now) (s .pre .1 .0) (run1 (before2 m)) r2 r3 r4, tt)
+    let r4 = run4 n _ (c .enum-told3 .given .1) in (
+      bad-gates (a .s .now) (a .at) (a .p) (a .limit) (a .words .now) (s .pre .1 .0) (run1 (before2 m))
+          (run2 m _ (T2 k .at .given .1)) (run3 k _ (T3 n .at2 .given .1)) r4,
+      tt,
+    )
 
 same-length-4 : tie.Need-same-length-4
 same-length-4 c = size4 (c .before .before .before .before .before .before .before)
@@ -210,11 +219,12 @@ returns-4 c =
     let a = s .args in
     let k = before4 n in
     let m = before3 k in
-    let r2 = run2 m _ (T2 k .at .given .1) in
-    let r3 = run3 k _ (T3 n .at2 .given .1) in
     let r4 = run4 n _ (c .before .before .before .end .given .1) in
-    let e = sym (c .before .is-tail .ensures) ∙ not-true _ (c .if1 .taken) in
-    (bad-tail (a .s .now) (a .at) (a .p) (a .limit) (a .words .now) (s .pre .1 .0) (run1 (before2 m)) r2 r3 r4 e, tt)
+    let e = sym (c .before .is-tail .ensures) ∙ not-true _ (c .if1 .taken) in (
+      bad-tail (a .s .now) (a .at) (a .p) (a .limit) (a .words .now) (s .pre .1 .0) (run1 (before2 m))
+          (run2 m _ (T2 k .at .given .1)) (run3 k _ (T3 n .at2 .given .1)) r4 e,
+      tt,
+    )
 
 same-length-5 : tie.Need-same-length-5
 same-length-5 c = size4 (c .before .before .before .before .before .before .before .before)
@@ -226,20 +236,9 @@ returns-5 c =
     let a = s .args in
     let k = before4 n in
     let m = before3 k in
-    let r1 = run1 (before2 m) in
-    let r2 = run2 m _ (T2 k .at .given .1) in
-    let r3 = run3 k _ (T3 n .at2 .given .1) in
-    let r4 = run4 n _ (c .before .before .before .before .end .given .1) in
-    let e = sym (c .before .before .is-tail .ensures) ∙ not-false _ (c .before .if1 .left) in (
-      (
-        made (a .s .now) (a .at) (a .p) (a .limit) (a .words .now) (s .pre .1 .0) r1 r2 r3 r4,
-        body-made (a .s .now) (a .at) (a .p) (a .limit) (a .words .now) (s .pre .1 .0) r1 r2 r3 r4 e,
-        drop (a .p .end) (words4 n),
-        stored (a .s .now) (a .at) (a .p) (a .limit) (a .words .now) (s .pre .1 .0) r1 r2 r3 r4
-            (omega (arith, s .pre .1 .1 .0)) (c .if2 .taken),
-      ),
-      past-kept (a .s .now) (a .at) (a .p) (a .limit) (a .words .now) (s .pre .1 .0) r1 r2 r3 r4 (s .pre .1 .1 .0) (c .if2 .taken),
-    )
+    all-read (a .s .now) (a .at) (a .p) (a .limit) (a .words .now) (s .pre .1 .0) (run1 (before2 m))
+    (run2 m _ (T2 k .at .given .1)) (run3 k _ (T3 n .at2 .given .1))
+    (run4 n _ (c .before .before .before .before .end .given .1)) (s .pre .1 .1 .0) (tail (c .before)) (c .if2 .taken)
 
 same-length-6 : tie.Need-same-length-6
 same-length-6 c = size4 (c .before .before .before .before .before .before .before .before)
@@ -251,19 +250,9 @@ returns-6 c =
     let a = s .args in
     let k = before4 n in
     let m = before3 k in
-    let r1 = run1 (before2 m) in
-    let r2 = run2 m _ (T2 k .at .given .1) in
-    let r3 = run3 k _ (T3 n .at2 .given .1) in
-    let r4 = run4 n _ (c .before .before .before .before .end .given .1) in
-    let e = sym (c .before .before .is-tail .ensures) ∙ not-false _ (c .before .if1 .left) in (
-      (
-        made (a .s .now) (a .at) (a .p) (a .limit) (a .words .now) (s .pre .1 .0) r1 r2 r3 r4,
-        body-made (a .s .now) (a .at) (a .p) (a .limit) (a .words .now) (s .pre .1 .0) r1 r2 r3 r4 e,
-        large (a .s .now) (a .at) (a .p) (a .limit) (a .words .now) (s .pre .1 .0) r1 r2 r3 r4
-            (omega (arith, s .pre .1 .0, s .pre .1 .1 .1 .0)) (c .if2 .left),
-      ),
-      tt,
-    )
+    one-large (a .s .now) (a .at) (a .p) (a .limit) (a .words .now) (s .pre .1 .0) (run1 (before2 m))
+    (run2 m _ (T2 k .at .given .1)) (run3 k _ (T3 n .at2 .given .1))
+    (run4 n _ (c .before .before .before .before .end .given .1)) (s .pre .1 .1 .1 .0) (tail (c .before)) (c .if2 .left)
 
 pub read-binary-spec : {M : Type 1} → statement M
 read-binary-spec =
