@@ -153,7 +153,8 @@ module _ {m : List ℕ} {layout : Layout} {order : List ℕ} {count : ℕ} (R : 
         ap (λ (p : ℕ). values u p (length (c .inputs))) w ∙ sym (q .row-is t h)
 
     -- frame 0
-    pub valued-start : (at : ℕ) {entry : List ℕ} (begun words : List ℕ) → 1 ≤ frames → at ≡ layout .l + 1 → Started c body block entry begun → FrameGiven c body at block begun words
+    pub valued-start : (at : ℕ) {entry : List ℕ} (begun words : List ℕ) → 1 ≤ frames → at ≡ layout .l + 1
+        → Started c body block entry begun → FrameGiven c body at block begun words
         → Valued m body block frames 0 words
     valued-start at begun words h e s g p l r q =
         let z : at ≡ layout .l + 1 + 0 * (layout .i + 1) = omega arith in

@@ -92,7 +92,8 @@ module _ {work : List ℕ} {g : Graph} {root : ℕ} (net : Net (pairsOf work g) 
       → FreeBits (g .free) (spread (support (g .free) (pairsOf work g) root) (g .free) y) bits
   spread-is y bits f =
       subst (λ (z : ℕ). FreeBits (g .free) z bits)
-      (spread-same (λ i. marked work (g .free - i)) (support (g .free) (pairsOf work g) root) (λ i. mark-is (g .free - i) (omega arith)) (g .free) y)
+      (spread-same (λ i. marked work (g .free - i)) (support (g .free) (pairsOf work g) root) (λ i. mark-is (g .free - i) (omega arith))
+      (g .free) y)
       (spread-bits f)
 
   -- no place before the floor hits

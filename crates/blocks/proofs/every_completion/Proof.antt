@@ -72,7 +72,8 @@ returns : tie.Need-returns Inv-loop μ-loop
 returns c =
     let k = c .before in
     let a = S k .args in
-    refuted (circuitIn (a .m .now)) (a .w .q .bad) (a .w .q .frames) (a .w .q .eithers) (a .body .now) (S k .pre .0 .fits) (a .want) (head k .loop .block)
+    refuted (circuitIn (a .m .now)) (a .w .q .bad) (a .w .q .frames) (a .w .q .eithers) (a .body .now) (S k .pre .0 .fits)
+    (a .want) (head k .loop .block)
     (done k .block-word .result) (head k .before .all-bits .result) (k .first-difference .result) (done k .block-word .ensures)
     (head k .before .all-bits .ensures) (k .first-difference .ensures) (c .if1 .taken)
 
@@ -89,7 +90,8 @@ loop-again c =
       omega (arith, turn k .loop-test .taken),
       done k .block-word .kept .1 .1 .1 .1 .1 .0 ∙ head k .loop .inv .1,
       done k .block-word .kept .1 .1 .1 .1 .1 .1 .0 ∙ head k .loop .inv .2,
-      before-more (circuitIn (a .m .now)) (a .w .q .bad) (a .w .q .frames) (a .w .q .eithers) (a .body .now) (S k .pre .0 .fits) (a .want) (head k .loop .block)
+      before-more (circuitIn (a .m .now)) (a .w .q .bad) (a .w .q .frames) (a .w .q .eithers) (a .body .now) (S k .pre .0 .fits)
+          (a .want) (head k .loop .block)
           (done k .block-word .result) (head k .before .all-bits .result) (k .first-difference .result) (done k .block-word .ensures)
           (head k .before .all-bits .ensures) (k .first-difference .ensures) (c .if1 .left) (head k .loop .inv .3),
     )
@@ -105,7 +107,8 @@ returns-2 c =
     let l = c .before in
     let S = start l in
     let a = S .args in
-    before-all (circuitIn (a .m .now)) (a .w .q .bad) (a .w .q .frames) (a .w .q .eithers) (a .body .now) (S .pre .0 .fits) (a .want) (l .loop .block)
+    before-all (circuitIn (a .m .now)) (a .w .q .bad) (a .w .q .frames) (a .w .q .eithers) (a .body .now) (S .pre .0 .fits) (a .want)
+    (l .loop .block)
     (omega (arith, blocks-enough (a .w .q .eithers), l .before .before .block-count .ensures, c .loop-test .left)) (l .loop .inv .3)
 
 pub every-completion-spec : {M : Type 1} → statement M

@@ -37,7 +37,8 @@ returns c =
     let W = c .before .before .before .before .before .before .put-line in
     let E = c .before .before .eval-gates in
     let a = S .args in (
-      frame-given (S .pre .0) (a .text .now) (a .row .at) (a .row .block) (a .values .now) (W .last .1 .1 .1 .1 .0) (E .last .1 .1 .1 .0) (W .ensures .0) (E .ensures),
+      frame-given (S .pre .0) (a .text .now) (a .row .at) (a .row .block) (a .values .now) (W .last .1 .1 .1 .1 .0)
+          (E .last .1 .1 .1 .0) (W .ensures .0) (E .ensures),
       W .ensures .1,
     )
 

@@ -31,7 +31,8 @@ inside : (n : tie.In-loop Inv-loop μ-loop)
     → (let S = start (n .before) in S .args .column .first + S .args .column .step * n .before .loop .i < length (S .args .m .now))
 inside n = start (n .before) .pre .words (n .before .loop .i) (omega (arith, n .loop-test .taken))
 
-row : (n : tie.In-loop Inv-loop μ-loop) → (let S = start (n .before) in S .args .cursor .at + n .before .loop .i < length (S .args .text .now))
+row : (n : tie.In-loop Inv-loop μ-loop)
+    → (let S = start (n .before) in S .args .cursor .at + n .before .loop .i < length (S .args .text .now))
 row n = omega (arith, start (n .before) .pre .inside, n .loop-test .taken)
 
 -- the variable's place, once its literal is read
@@ -100,7 +101,12 @@ add-k c =
     let n = c .before .before .before .before .before .before .before in
     let l = n .before in
     let S = start l in
-    omega (arith, line-fits (S .args .text .now) (S .args .cursor .at) (l .loop .i) (l .loop .k) (l .loop .inv .3) (c .either-of .ensures), row n)
+    omega (
+      arith,
+      line-fits (S .args .text .now) (S .args .cursor .at) (l .loop .i) (l .loop .k) (l .loop .inv .3)
+          (c .either-of .ensures),
+      row n,
+    )
 
 add-i : tie.Need-add-i Inv-loop μ-loop
 add-i c = let n = c .before .before .before .before .before .before .before in omega (arith, row n)
@@ -118,12 +124,15 @@ loop-again c =
     let e : S .args .cursor .at + l .loop .i + 1 ≡ S .args .cursor .at + (l .loop .i + 1) = omega arith in (
       omega (arith, n .loop-test .taken),
       length-set (l .loop .values) _ _ ∙ l .loop .inv .1,
-      given-more (columnVar (S .args .m .now) (S .args .column)) (lineBit text (S .args .cursor .at) (S .args .cursor .block)) (l .loop .i) (S .args .values .now) (l .loop .values)
+      given-more (columnVar (S .args .m .now) (S .args .column)) (lineBit text (S .args .cursor .at) (S .args .cursor .block))
+          (l .loop .i) (S .args .values .now) (l .loop .values)
           (v .var .result .0) (c .before .bit-word .result) (sym (place v)) (below v)
           (λ j k q. S .pre .apart .differ j (l .loop .i) k (omega (arith, n .loop-test .taken)) q)
-          (line-bit text (S .args .cursor .at) (l .loop .i) (S .args .cursor .block) (l .loop .k) (c .before .bit-word .result) (l .loop .inv .3) (c .before .bit-word .ensures))
+          (line-bit text (S .args .cursor .at) (l .loop .i) (S .args .cursor .block) (l .loop .k) (c .before .bit-word .result)
+          (l .loop .inv .3) (c .before .bit-word .ensures))
           (l .loop .inv .2),
-      line-eithers text (S .args .cursor .at) (l .loop .i) (l .loop .k) (l .loop .inv .3) (c .either-of .ensures) ∙ ap (λ (n : ℕ). eithers (take n text)) e,
+      line-eithers text (S .args .cursor .at) (l .loop .i) (l .loop .k) (l .loop .inv .3) (c .either-of .ensures)
+          ∙ ap (λ (n : ℕ). eithers (take n text)) e,
     )
 
 add-either-of : tie.Need-add-either-of Inv-loop μ-loop
@@ -152,7 +161,13 @@ add-result : tie.Need-add-result Inv-loop μ-loop
 add-result c =
     let l = c .before .before .before in
     let S = start l in
-    omega (arith, end-eithers c, line-fits (S .args .text .now) (S .args .cursor .at) (S .args .column .count) (l .loop .k) (end-eithers c) (c .either-of2 .ensures), S .pre .inside)
+    omega (
+      arith,
+      end-eithers c,
+      line-fits (S .args .text .now) (S .args .cursor .at) (S .args .column .count) (l .loop .k)
+          (end-eithers c) (c .either-of2 .ensures),
+      S .pre .inside,
+    )
 
 same-length : tie.Need-same-length Inv-loop μ-loop
 same-length c = c .before .before .before .loop .inv .1
@@ -162,9 +177,11 @@ returns c =
     let l = c .before .before .before in
     let S = start l in
     let e : l .loop .i ≡ S .args .column .count = all-bits c in (
-      subst (λ (n : ℕ). Given (columnVar (S .args .m .now) (S .args .column)) (lineBit (S .args .text .now) (S .args .cursor .at) (S .args .cursor .block)) n (S .args .values .now) (l .loop .values))
+      subst (λ (n : ℕ). Given (columnVar (S .args .m .now) (S .args .column))
+          (lineBit (S .args .text .now) (S .args .cursor .at) (S .args .cursor .block)) n (S .args .values .now) (l .loop .values))
           e (l .loop .inv .2),
-      line-eithers (S .args .text .now) (S .args .cursor .at) (S .args .column .count) (l .loop .k) (end-eithers c) (c .either-of2 .ensures),
+      line-eithers (S .args .text .now) (S .args .cursor .at) (S .args .column .count) (l .loop .k) (end-eithers c)
+          (c .either-of2 .ensures),
     )
 
 pub put-line-spec : {M : Type 1} → statement M

@@ -42,7 +42,8 @@ returns c = λ x left.
     let h : max (a .d) 16384 ≤ before (inCone (a .g .free) gs root) (freeBit (a .g .free) x) (a .g .free) =
     omega (arith, p, c .before .before .before .before .before .before .place-of .ensures, c .before .before .before .before .before .before .before .before .before .places .ensures, c .before .before .before .before .before .if1 .taken) in
     let k = c .before .before .copy-bits in
-    stop-floor (a .g .free) gs root (max (a .d) 16384) x h left (k .last .1 .1 .0) (bits-copied (a .g .free) x (now (a .bits)) (k .last .1 .1 .0) (left .bits) (k .ensures .new))
+    stop-floor (a .g .free) gs root (max (a .d) 16384) x h left (k .last .1 .1 .0)
+    (bits-copied (a .g .free) x (now (a .bits)) (k .last .1 .1 .0) (left .bits) (k .ensures .new))
 
 scan-requires : tie.Need-scan-requires
 scan-requires c κs =
@@ -70,7 +71,8 @@ returns-4 c = λ x left.
     let b = c .before .before .before .before .before .before .before .before .before .before .before .before .before .spread-bits in
     let k = c .before .before .copy-bits2 in
     let f = subst (λ (z : ℕ). FreeBits n (spread (support n gs root) n z) (b .last .1 .1 .1 .0)) (y .ensures) (spread-is (s .pre .net) (y .result) (b .last .1 .1 .1 .0) (b .ensures)) in
-    stop-tried n gs root (max (a .d) 16384) x h (t .0) (t .1) (k .last .1 .1 .0) (bits-copied n (spread (support n gs root) n (max (a .d) 16384)) (b .last .1 .1 .1 .0) (k .last .1 .1 .0) f (k .ensures .new))
+    stop-tried n gs root (max (a .d) 16384) x h (t .0) (t .1) (k .last .1 .1 .0)
+    (bits-copied n (spread (support n gs root) n (max (a .d) 16384)) (b .last .1 .1 .1 .0) (k .last .1 .1 .0) f (k .ensures .new))
 
 pub go-on-spec : {M : Type 1} → statement M
 go-on-spec =

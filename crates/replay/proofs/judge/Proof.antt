@@ -18,7 +18,8 @@ returns : tie.Need-returns
 returns c =
     let k = c .before .before .before .before .before in
     let a = start k .args in
-    ap gives (verdict-all (shows (circuitIn (a .m .now)) (a .w .q .bad)) (a .body .now) (sym (c .if1 .taken) ∙ k .every-completion .ensures))
+    ap gives (verdict-all (shows (circuitIn (a .m .now)) (a .w .q .bad)) (a .body .now)
+    (sym (c .if1 .taken) ∙ k .every-completion .ensures))
 
 every-completion-requires-2 : tie.Need-every-completion-requires-2
 every-completion-requires-2 c κs =

@@ -20,8 +20,11 @@ rows-of-requires c κs = let S = c .before .before .before .before .before .befo
 copy-settled-requires : tie.Need-copy-settled-requires
 copy-settled-requires c κs =
     let r = c .before in
-    let S = r .before .before .before .before .before .before .before .before in
-    (inputs-few (S .pre .0 .ready) (S .pre .0 .fits) (λ i. getD (S .args .own .now) i 2) (r .rows-of .result) (r .rows-of .ensures), S .pre .1)
+    let S = r .before .before .before .before .before .before .before .before in (
+      inputs-few (S .pre .0 .ready) (S .pre .0 .fits) (λ i. getD (S .args .own .now) i 2) (r .rows-of .result)
+          (r .rows-of .ensures),
+      S .pre .1,
+    )
 
 -- the copy: the body with the pins' bits
 module _ (k : tie.After-copy-settled) where
@@ -74,7 +77,8 @@ returns c =
     record {
       text = copied k;
       settled = settled k;
-      judged = subst (λ (w : List ℕ). Judged (circuitIn (a .m .now)) (a .w .q .bad) w (c .judge-counted .result)) (part-is k) (c .judge-counted .ensures);
+      judged = subst (λ (w : List ℕ). Judged (circuitIn (a .m .now)) (a .w .q .bad) w (c .judge-counted .result)) (part-is k)
+          (c .judge-counted .ensures);
     }
 
 pub judge-copy-spec : {M : Type 1} → statement M

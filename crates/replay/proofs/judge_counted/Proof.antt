@@ -19,7 +19,8 @@ judge-alone-requires c κs =
       ready = P .ready;
       bad = P .bad;
       fits =
-          subst (λ (n : ℕ). Fits (circuitIn (a .m .now)) (a .w .q .bad) (a .w .q .frames) n (a .body .now)) (sym (c .count-eithers .ensures))
+          subst (λ (n : ℕ). Fits (circuitIn (a .m .now)) (a .w .q .bad) (a .w .q .frames) n (a .body .now))
+          (sym (c .count-eithers .ensures))
           (P .fits);
     }
 

@@ -12,9 +12,10 @@ slice-aggregate-judge-copy c = sym (length-replicate {A = ℕ} 66825 0)
 
 judge-copy-requires : tie.Need-judge-copy-requires
 judge-copy-requires c κs =
-    let P = c .before .before .before .before .before .pre in (
+    let S = c .before .before .before .before .before in
+    let P = S .pre in (
       P,
-      subst (λ (n : ℕ). length (c .before .before .before .before .before .args .body .now) ≤ n) (sym (length-replicate {A = ℕ} 66825 0)) (body-short (P .ready) (P .fits)),
+      subst (λ (n : ℕ). length (S .args .body .now) ≤ n) (sym (length-replicate {A = ℕ} 66825 0)) (body-short (P .ready) (P .fits)),
     )
 
 returns : tie.Need-returns

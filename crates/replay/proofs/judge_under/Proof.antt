@@ -26,7 +26,8 @@ returns : tie.Need-returns
 returns c =
     let a = c .before in
     let r = a .before in
-    no-hit (S r .pre .ready) (S r .pre .fits) (q r) (r .rows-of .result) (r .rows-of .ensures) (a .agree .ensures) (not-true (a .agree .result) (c .if1 .taken))
+    no-hit (S r .pre .ready) (S r .pre .fits) (q r) (r .rows-of .result) (r .rows-of .ensures) (a .agree .ensures)
+    (not-true (a .agree .result) (c .if1 .taken))
 
 agree-requires-2 : tie.Need-agree-requires-2
 agree-requires-2 c κs =
@@ -40,7 +41,8 @@ returns-2 : tie.Need-returns-2
 returns-2 c =
     let a = c .before .before in
     let r = a .before .before .before in
-    as-plain (S r .pre .ready) (S r .pre .fits) (q r) (r .rows-of .result) (r .rows-of .ensures) (c .judge-alone .result) (a .agree2 .ensures) (c .before .if2 .taken) (c .judge-alone .ensures)
+    as-plain (S r .pre .ready) (S r .pre .fits) (q r) (r .rows-of .result) (r .rows-of .ensures) (c .judge-alone .result)
+    (a .agree2 .ensures) (c .before .if2 .taken) (c .judge-alone .ensures)
 
 judge-settled-requires : tie.Need-judge-settled-requires
 judge-settled-requires c κs = S (c .before .before .before .before) .pre
@@ -56,7 +58,8 @@ returns-3 c =
     let f = a .before in
     let g = f .before in
     let r = g .before in
-    by-copy (S r .pre .ready) (S r .pre .fits) (q r) (r .rows-of .result) (r .rows-of .ensures) (j .judge-settled .result) (c .demote .result) (g .agree .ensures) (not-false (g .agree .result) (f .if1 .left))
+    by-copy (S r .pre .ready) (S r .pre .fits) (q r) (r .rows-of .result) (r .rows-of .ensures) (j .judge-settled .result)
+    (c .demote .result) (g .agree .ensures) (not-false (g .agree .result) (f .if1 .left))
     (a .agree2 .ensures) (e .if2 .left) (j .judge-settled .ensures) (c .demote .ensures)
 
 pub judge-under-spec : {M : Type 1} → statement M

@@ -101,7 +101,8 @@ returns-5 c = λ d k.
         bad = b;
         reads = was-read d (text (h (r n))) (bad (h (r n))) (body (r n)) (headed (h (r n)) .0) _ (z .reads);
         fits =
-            body-fits d (bad (h (r n))) (S (h (r n)) .args .layout .l) (S (h (r n)) .args .layout .i) (frames n) (n .count-eithers .result) (body (r n))
+            body-fits d (bad (h (r n))) (S (h (r n)) .args .layout .l) (S (h (r n)) .args .layout .i) (frames n) (n .count-eithers .result)
+            (body (r n))
             (k .latches) (k .inputs) b (framed n) (counted n) (omega (arith, c .if2 .left));
       },
     )

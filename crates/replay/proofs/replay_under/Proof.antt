@@ -30,7 +30,8 @@ module _ (k : tie.After-start) where
 
   read : (let w = k .start .given .0 .1 .0 in
       let m = k .before .before .before .before .before .before .before .before .args .m .now in
-      Posed m (H .read-held .last .1 .1 .0) w (drop (k .start .given .0 .0) text) 4097 × Placed (circuitIn m) text (k .start .given .0 .0) (w .q))
+      Posed m (H .read-held .last .1 .1 .0) w (drop (k .start .given .0 .0) text) 4097
+      × Placed (circuitIn m) text (k .start .given .0 .0) (w .q))
   read = posed-read (H .read-held .ensures) (search needs) (k .start .given .1)
 
 sub-judge-under : tie.Need-sub-judge-under
@@ -42,7 +43,8 @@ part-judge-under-start c = read (c .before .before) .1 .inside
 judge-under-requires : tie.Need-judge-under-requires
 judge-under-requires c κs =
     let k = c .before .before .before in
-    subst (λ (u : List ℕ). Posed (c .before .before .before .before .before .before .before .before .before .before .before .args .m .now) (H k .read-held .last .1 .1 .0) (k .start .given .0 .1 .0) u 4097)
+    let m = c .before .before .before .before .before .before .before .before .before .before .before .args .m .now in
+    subst (λ (u : List ℕ). Posed m (H k .read-held .last .1 .1 .0) (k .start .given .0 .1 .0) u 4097)
     (sym (rest-is (text k) (k .start .given .0 .0))) (read k .0)
 
 returns : tie.Need-returns
@@ -50,7 +52,8 @@ returns c =
     let S = c .before .before .before .before .before .before .before .before .before in
     let m = S .args .m .now in
     let u = S .args .text .now in
-    refusal-read (c .before .before .before .before .read-held .ensures) (λ (n : ℕ). PinnedReplayed m (pin S) u (refused n)) Operated.noCircuit
+    refusal-read (c .before .before .before .before .read-held .ensures)
+    (λ (n : ℕ). PinnedReplayed m (pin S) u (refused n)) Operated.noCircuit
     (λ n h e. refuses-under (circuitIn m) h (pin S) u n e) (c .before .n .given .1)
 
 returns-2 : tie.Need-returns-2

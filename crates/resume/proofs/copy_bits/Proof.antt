@@ -42,8 +42,12 @@ loop-less c = omega arith
 loop-again : tie.Need-loop-again Inv-loop μ-loop
 loop-again c =
     let l = c .before .before .loop in
-    let s = c .before .before .before in
-    (omega arith, length-set (l .to) (l .i) (getD (now (s .args .from)) (l .i) 0) ∙ l .inv .1, copied-more (now (s .args .from)) (now (s .args .to)) (l .to) (l .i) (omega (arith, s .pre, l .inv .1)) (l .inv .2))
+    let s = c .before .before .before in (
+      omega arith,
+      length-set (l .to) (l .i) (getD (now (s .args .from)) (l .i) 0) ∙ l .inv .1,
+      copied-more (now (s .args .from))
+          (now (s .args .to)) (l .to) (l .i) (omega (arith, s .pre, l .inv .1)) (l .inv .2),
+    )
 
 same-length : tie.Need-same-length Inv-loop μ-loop
 same-length c = c .before .loop .inv .1

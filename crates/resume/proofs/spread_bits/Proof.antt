@@ -56,8 +56,12 @@ loop-again : tie.Need-loop-again Inv-loop μ-loop
 loop-again c =
     let s = c .before .before .before .before .before .before .before in
     let l = c .before .before .before .before .loop in
-    let b = c .before .marked-bit in
-    (length-set (l .bits) (l .left - 1) (b .result) ∙ l .inv .0, spreading-more (now (s .args .work)) (s .args .y) (s .args .g .free) (now (s .args .bits)) (l .bits) (l .r) (l .left) (b .result) (c .next-rank .result) (l .inv .1) (omega arith) (omega (arith, s .pre .1, l .inv .0)) (b .ensures) (c .next-rank .ensures))
+    let b = c .before .marked-bit in (
+      length-set (l .bits) (l .left - 1) (b .result) ∙ l .inv .0,
+      spreading-more (now (s .args .work)) (s .args .y) (s .args .g .free)
+          (now (s .args .bits)) (l .bits) (l .r) (l .left) (b .result) (c .next-rank .result) (l .inv .1) (omega arith)
+          (omega (arith, s .pre .1, l .inv .0)) (b .ensures) (c .next-rank .ensures),
+    )
 
 same-length : tie.Need-same-length Inv-loop μ-loop
 same-length c = c .before .loop .inv .0

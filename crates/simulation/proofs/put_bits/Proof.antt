@@ -56,7 +56,8 @@ loop-again c =
       omega arith,
       length-set (l .work) (v - 1) (c .bit-of .result) ∙ l .inv .1,
       bits-more (now (s .args .work)) (l .work) (now (s .args .slots)) (l .k) (s .args .y) (c .bit-of .result) (s .pre .1 (l .k) (omega arith))
-          (omega (arith, s .pre .0 .inside (l .k) (omega arith), l .inv .1)) (λ i j h u. s .pre .0 .differ i j h (omega arith)) (λ i h. s .pre .1 i (omega arith))
+          (omega (arith, s .pre .0 .inside (l .k) (omega arith), l .inv .1)) (λ i j h u. s .pre .0 .differ i j h (omega arith))
+          (λ i h. s .pre .1 i (omega arith))
           (digit-is (c .bit-of .result) _ (c .bit-of .ensures)) (l .inv .2),
     )
 

@@ -46,9 +46,10 @@ fill-firsts-requires c κs =
 start-hits-requires : tie.Need-start-hits-requires
 start-hits-requires c κs =
     let s = c .before .before .before .before .before .before .before .before .before .before in
-    let n = c .before .before .before .before .before .before .slot-count in (
+    let n = c .before .before .before .before .before .before .slot-count in
+    let b = c .before .before .before .before .before .whole-blocks in (
       s .pre .0,
-      (slots-of (n .result) (s .pre .1 .0) (n .ensures), omega (arith, c .before .before .before .before .before .whole-blocks .ensures .1)),
+      (slots-of (n .result) (s .pre .1 .0) (n .ensures), omega (arith, b .ensures .1)),
     )
 
 slice-aggregate-scan : tie.Need-slice-aggregate-scan
@@ -87,7 +88,9 @@ module _ (b : tie.After-start-hits) where
 
   size : (let g = S .args .g in
       total ≡ min (2 ^ rank (support (g .free) (pairsOf work g) (S .args .root)) (g .free)) (S .args .d))
-  size = b .before .before .before .before .before .before .before .before .tries .ensures ∙ ap (λ (x : ℕ). min (2 ^ x) (S .args .d)) (S .pre .1 .0 .count)
+  size =
+      b .before .before .before .before .before .before .before .before .tries .ensures
+      ∙ ap (λ (x : ℕ). min (2 ^ x) (S .args .d)) (S .pre .1 .0 .count)
 
 scan-requires : tie.Need-scan-requires
 scan-requires c κs =
@@ -98,7 +101,8 @@ scan-requires c κs =
       (
         count k,
         started-ready (ready k) (b .last .0) (first-block k) (b .result) (b .kept .0) (b .ensures),
-        total-small (s .args .r) (s .args .d) (count k) (total k) (c .before .before .before .before .before .before .before .before .before .before .before .slot-count .ensures) (s .pre .1 .1)
+        total-small (s .args .r) (s .args .d) (count k) (total k)
+            (c .before .before .before .before .before .before .before .before .before .before .before .slot-count .ensures) (s .pre .1 .1)
             (c .before .before .before .before .before .before .before .before .before .before .before .before .tries .ensures),
       ),
       (
@@ -143,7 +147,9 @@ put-bits-requires c κs =
     )
 
 same-length : tie.Need-same-length
-same-length c = c .before .before .put-bits .kept .0 ∙ c .before .before .before .before .before .before .clear-front .kept .0 ∙ kept (c .before .before .before .before .before .before .before .before .before .before .before)
+same-length c =
+    let a = c .before .before .before .before .before .before in
+    c .before .before .put-bits .kept .0 ∙ a .clear-front .kept .0 ∙ kept (a .before .before .before .before .before)
 
 returns : tie.Need-returns
 returns c =

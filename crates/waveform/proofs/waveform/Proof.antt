@@ -27,7 +27,8 @@ module _ (k : tie.After-start) where
 
   read : (let w = k .start .given .0 .1 .0 in
       let m = k .before .before .before .before .before .before .before .before .args .m .now in
-      Posed m (H .read-held .last .1 .1 .0) w (drop (k .start .given .0 .0) text) 4097 × Placed (circuitIn m) text (k .start .given .0 .0) (w .q))
+      Posed m (H .read-held .last .1 .1 .0) w (drop (k .start .given .0 .0) text) 4097
+      × Placed (circuitIn m) text (k .start .given .0 .0) (w .q))
   read = posed-read (H .read-held .ensures) (search needs) (k .start .given .1)
 
 sub-show : tie.Need-sub-show
@@ -39,7 +40,8 @@ part-show-start c = read (c .before .before) .1 .inside
 show-requires : tie.Need-show-requires
 show-requires c κs =
     let k = c .before .before .before .before in
-    subst (λ (u : List ℕ). Posed (c .before .before .before .before .before .before .before .before .before .before .before .before .args .m .now) (H k .read-held .last .1 .1 .0) (k .start .given .0 .1 .0) u 4097)
+    let m = c .before .before .before .before .before .before .before .before .before .before .before .before .args .m .now in
+    subst (λ (u : List ℕ). Posed m (H k .read-held .last .1 .1 .0) (k .start .given .0 .1 .0) u 4097)
     (sym (rest-is (text k) (k .start .given .0 .0))) (read k .0)
 
 returns : tie.Need-returns

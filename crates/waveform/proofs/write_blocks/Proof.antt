@@ -68,7 +68,8 @@ loop-again c =
     let l = head w in
     let S = start l in
     let a = S .args in
-    let pass : Pass = record { layout = a .all .layout; wires = a .all .wires; frames = a .all .frames; block = l .loop .block; at = a .all .at } in (
+    let pass : Pass =
+    record { layout = a .all .layout; wires = a .all .wires; frames = a .all .frames; block = l .loop .block; at = a .all .at } in (
       omega (arith, test w .if1 .taken),
       w .write-samples .kept .1 .1 .1 .1 .0 ∙ l .loop .inv .1,
       w .write-samples .kept .1 .1 .1 .1 .1 .0 ∙ l .loop .inv .2,

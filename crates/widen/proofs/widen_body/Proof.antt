@@ -41,7 +41,9 @@ abbrev p : tie.After-rows-of Inv-loop μ-loop → List ℕ → Bool
 p r = pinnedShows (circuitIn (start r .args .m .now)) (q r) (start r .args .w .q .bad)
 
 rows-of-requires : tie.Need-rows-of-requires Inv-loop μ-loop
-rows-of-requires c κs = let S = c .before .before .before .before .before .before .before .before in rows-fit (S .pre .0 .ready) (S .pre .0 .fits)
+rows-of-requires c κs =
+    let S = c .before .before .before .before .before .before .before .before in
+    rows-fit (S .pre .0 .ready) (S .pre .0 .fits)
 
 loop-holds : tie.Need-loop-holds Inv-loop μ-loop
 loop-holds c = let S = start c in (omega arith, refl, refl, refl, refl, S .pre .0 .fits, S .pre .1 .1)
@@ -128,7 +130,8 @@ loop-again-2 c =
     let k = c .before .pin-of in
     let j : ℕ = L .loop .i - 1 in
     let z : widenAt (p R) (L .loop .body) j ≡ L .loop .body =
-    at-held (S .pre .0 .ready) (L .loop .inv .5) (q R) (R .rows-of .result) (R .rows-of .ensures) (L .loop .inv .6) j (k .result) (k .ensures)
+    at-held (S .pre .0 .ready) (L .loop .inv .5) (q R) (R .rows-of .result) (R .rows-of .ensures) (L .loop .inv .6) j (k .result)
+    (k .ensures)
     (omega (arith, c .if1 .left)) in (
       omega (arith, L .loop .inv .0),
       L .loop .inv .1,

@@ -57,7 +57,9 @@ agreed e =
     (not-false (a .agree .result) (e .if1 .left))
 
 every-hit-requires : tie.Need-every-hit-requires
-every-hit-requires c κs = (c .before .before .before .before .before .before .before .before .before .before .before .before .before .pre, search needs)
+every-hit-requires c κs =
+    let S = c .before .before .before .before .before .before .before .before .before .before .before .before .before in
+    (S .pre, search needs)
 
 -- the words that the first test leaves
 module _ (h : tie.After-every-hit) where
@@ -71,7 +73,8 @@ returns-2 : tie.Need-returns-2
 returns-2 c =
     let h = c .before .before .before in
     let r = h .before .before .before .before .before .before .before in
-    sym (widened-not (p r) (w r) (agreed (h .before .before .before .before) ∙ sym (h .every-hit .ensures) ∙ not-true (h .every-hit .result) (c .if2 .taken)))
+    sym (widened-not (p r) (w r)
+    (agreed (h .before .before .before .before) ∙ sym (h .every-hit .ensures) ∙ not-true (h .every-hit .result) (c .if2 .taken)))
 
 slice-aggregate-widen-body : tie.Need-slice-aggregate-widen-body
 slice-aggregate-widen-body c = sym (values-long (c .before .before .before .before .before))
@@ -80,7 +83,8 @@ slice-aggregate-widen-body-2 : tie.Need-slice-aggregate-widen-body-2
 slice-aggregate-widen-body-2 c = sym (state-long (c .before .before .before .before .before .before))
 
 -- where every completion hits, all of them pass
-all-pass : (e : tie.Else2) → (let r = e .before .before .before .before .before .before .before .before .before .before in allPass (p r) (w r) ≡ true)
+all-pass : (e : tie.Else2)
+    → (let r = e .before .before .before .before .before .before .before .before .before .before in allPass (p r) (w r) ≡ true)
 all-pass e =
     let h = e .before .before .before in
     agreed (h .before .before .before .before) ∙ sym (h .every-hit .ensures) ∙ not-false (h .every-hit .result) (e .if2 .left)
@@ -89,7 +93,7 @@ widen-body-requires : tie.Need-widen-body-requires
 widen-body-requires c κs =
     let e = c .before .before .before in
     let h = e .before .before .before in
-    let P = c .before .before .before .before .before .before .before .before .before .before .before .before .before .before .before .before .before .before .before .before .pre in (
+    let P = h .before .before .before .before .before .before .before .before .before .before .before .before .before .before .pre in (
       record { ready = ready-with (P .ready) (omega (arith, values-long h, P .ready .room)); bad = P .bad; fits = P .fits },
       (omega (arith, state-long h), T-true (all-pass e)),
     )
