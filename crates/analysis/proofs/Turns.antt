@@ -10,7 +10,12 @@ use Rattle.memory.specs.declared.Arena.{Arena}
 use Rattle.memory.specs.declared.Draft.{Draft}
 use Rattle.resolve.specs.Draft.{drafted, draftAt}
 use Rattle.analysis.specs.declared.Analysis.{Analysis}
-use Rattle.analysis.specs.Analysis.{reached, touched, tallied, touchedAll, visited, descended, expanded, expandedFrom}
+use Rattle.analysis.specs.Analysis.{Analysed, Left, reached}
+use Rattle.analysis.specs.Analysis.{touched, tallied, touchedAll, visited, descended, expanded, expandedFrom}
+
+-- what a loop leaves, by the equation of its function
+pub left-by : {a b : Analysed} → a ≡ b → Left (a .words) (a .now) b
+left-by e = record { words = ap (λ (t : Analysed). t .words) e; now = ap (λ (t : Analysed). t .now) e }
 
 module _ (w : List ℕ) (net : Netlist) (arena : Arena) where
   pub touched-none : (from level step k n : ℕ) → k ≤ from → touchedAll w net arena from level step k n ≡ counted w n
@@ -44,13 +49,15 @@ module _ (w : List ℕ) (net : Netlist) (arena : Arena) where
 
   pub descended-more : (a : Analysis) (level step t : ℕ) → 1 < a .current → 0 < t
       → descended w net arena a level step t
-      ≡ descended (visited w net arena a (t - 1) level step .words) net arena (visited w net arena a (t - 1) level step .now) level step (t - 1)
+      ≡ descended (visited w net arena a (t - 1) level step .words) net arena (visited w net arena a (t - 1) level step .now) level step
+      (t - 1)
   unfolding descended
   descended-more a level step zero l h = absurd (omega arith)
   descended-more a level step (suc t) l h =
       let e : t ≡ suc t - 1 = omega arith in
       rw (lt-leb (a .current) 1 l)
-      (ap (λ (j : ℕ). descended (visited w net arena a j level step .words) net arena (visited w net arena a j level step .now) level step j) e)
+      (ap (λ (j : ℕ). descended (visited w net arena a j level step .words) net arena
+      (visited w net arena a j level step .now) level step j) e)
 
   pub expanded-none : (d : Draft) (t : ℕ) → t ≡ 0 → expandedFrom w net arena d t ≡ drafted w d
   unfolding expandedFrom
@@ -58,7 +65,8 @@ module _ (w : List ℕ) (net : Netlist) (arena : Arena) where
   expanded-none d (suc t) e = absurd (omega arith)
 
   pub expanded-more : (d : Draft) (t : ℕ) → 0 < t
-      → expandedFrom w net arena d t ≡ expandedFrom (expanded w net arena d (t - 1) .words) net arena (expanded w net arena d (t - 1) .draft) (t - 1)
+      → expandedFrom w net arena d t ≡ expandedFrom (expanded w net arena d (t - 1) .words) net arena
+      (expanded w net arena d (t - 1) .draft) (t - 1)
   unfolding expandedFrom
   expanded-more d zero l = absurd (omega arith)
   expanded-more d (suc t) l =

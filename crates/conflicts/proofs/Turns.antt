@@ -10,8 +10,12 @@ use Rattle.memory.specs.declared.Netlist.{Netlist}
 use Rattle.memory.specs.declared.Heap.{Heap}
 use Rattle.heap.specs.Heap.{heaped, admitted}
 use Rattle.learning.specs.declared.Search.{Search}
-use Rattle.learning.specs.Learning.{searched}
+use Rattle.learning.specs.Learning.{Searched, Left, searched}
 use Rattle.conflicts.specs.Conflicts.{reset, resetRest, resetAll, wiped, filled, stepped, steps}
+
+-- what a loop leaves, by the equation of its function
+pub left-by : {a b : Searched} → a ≡ b → Left (a .words) (a .search) b
+left-by e = record { words = ap (λ (t : Searched). t .words) e; search = ap (λ (t : Searched). t .search) e }
 
 pub reset-none : (w : List ℕ) (nodes n : ℕ) → n ≡ 0 → resetAll w nodes n ≡ w
 unfolding resetAll
@@ -69,4 +73,7 @@ module _ (w : List ℕ) (net : Netlist) (s : Search) (effort : ℕ) where
   steps-more zero z e l = absurd (omega arith)
   steps-more (suc k) z e l =
       let p : k ≡ suc k - 1 = omega arith in
-      rw (eq-eqb (s .order .verdict) 0 e, lt-leb effort (s .order .ticks) l) (ap (steps (stepped w net s .words) net (stepped w net s .search) effort) p)
+      rw (
+        eq-eqb (s .order .verdict) 0 e,
+        lt-leb effort (s .order .ticks) l,
+      ) (ap (steps (stepped w net s .words) net (stepped w net s .search) effort) p)

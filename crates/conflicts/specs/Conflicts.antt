@@ -42,10 +42,6 @@ unfoldable pub prepared : List ℕ → Netlist → List ℕ
 prepared w net =
     wiped (stored (resetAll w (net .nodes) (net .nodes)) (net .nodes) 0 5 0) (14 * net .nodes) (net .words - 14 * net .nodes)
 
-pub record Filled (w : List ℕ) (h : Heap) (to : Heaped) : Type 0 where
-  pub words : w ≡ to .words
-  pub heap : h ≡ to .heap
-
 -- k nodes from node v on
 unfoldable pub filled : List ℕ → Netlist → Heap → ℕ → ℕ → Heaped
 filled w net h v zero = heaped w h

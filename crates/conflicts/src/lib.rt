@@ -20,6 +20,7 @@ use settling::propagate;
 use trail::State;
 ghost use mathlib.Core.Path.{_≡_};
 ghost use Prim.Native.Nat.{_-_, _+_, _*_};
+ghost use Rattle.heap.specs.Heap as Hp;
 ghost use Rattle.learning.specs.Learning as Ln;
 ghost use Rattle.conflicts.specs.Conflicts as Cf;
 
@@ -84,7 +85,7 @@ fn prepare(work: &mut [u32], net: Netlist)
 
 // The free bits up to node n that count are in the heap.
 fn fill(work: &mut [u32], net: Netlist, heap: Heap, n: u32) -> Heap
-    ensures { λ r. ⌜ Cf.Filled (now (work .exit)) r (Cf.filled (now (work .entry)) net heap 1 n) ⌝ }
+    ensures { λ r. ⌜ Hp.Left (now (work .exit)) r (Cf.filled (now (work .entry)) net heap 1 n) ⌝ }
 {
     let mut h = heap;
     let mut v = 1;

@@ -78,23 +78,23 @@ module _ (n : ℕ) (gs : List Pair) where
       omega arith
 
   module _ (b : Built n gs) (few : n ≤ 12) where
-    nodes-unequal : (k j : ℕ) → k < j → j < nodes n gs → Equal n gs (2 * k) (2 * j) → ⊥
-    nodes-unequal k j h l e = go (decLe j n)
+    -- two nodes are not related where no two leaves are, nor a gate and a node before it
+    nodes-apart : (R : ℕ → ℕ → Type 0) → ((k j : ℕ) → k < j → j ≤ n → R (2 * k) (2 * j) → ⊥)
+        → ((i : ℕ) → i < length gs → (k : ℕ) → k < n + 1 + i → R (2 * k) (2 * (n + 1 + i)) → ⊥)
+        → (k j : ℕ) → k < j → j < nodes n gs → R (2 * k) (2 * j) → ⊥
+    nodes-apart R leaves gates k j h l e = go (decLe j n)
       where
         go : Dec (j ≤ n) → ⊥
-        go (yes u) = leaves-unequal k j h u e
+        go (yes u) = leaves k j h u e
         go (no u) =
             let q : j ≡ n + 1 + (j - (n + 1)) = omega arith in
-            b .unequal few (j - (n + 1)) (omega arith) k (omega arith) (subst (λ (i : ℕ). Equal n gs (2 * k) (2 * i)) q e)
+            gates (j - (n + 1)) (omega arith) k (omega arith) (subst (λ (i : ℕ). R (2 * k) (2 * i)) q e)
+
+    nodes-unequal : (k j : ℕ) → k < j → j < nodes n gs → Equal n gs (2 * k) (2 * j) → ⊥
+    nodes-unequal = nodes-apart (Equal n gs) leaves-unequal (b .unequal few)
 
     nodes-unopposite : (k j : ℕ) → k < j → j < nodes n gs → Opposite n gs (2 * k) (2 * j) → ⊥
-    nodes-unopposite k j h l e = go (decLe j n)
-      where
-        go : Dec (j ≤ n) → ⊥
-        go (yes u) = leaves-unopposite k j h u e
-        go (no u) =
-            let q : j ≡ n + 1 + (j - (n + 1)) = omega arith in
-            b .unopposite few (j - (n + 1)) (omega arith) k (omega arith) (subst (λ (i : ℕ). Opposite n gs (2 * k) (2 * i)) q e)
+    nodes-unopposite = nodes-apart (Opposite n gs) leaves-unopposite (b .unopposite few)
 
     not-same : (a : Bool) → a ≡ not a → ⊥
     not-same true e = let w : _≡_ {A = ℕ} 0 1 = cc in omega arith

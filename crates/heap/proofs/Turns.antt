@@ -8,7 +8,12 @@ use borrow.Author.Tests.{eq-eqb, ne-eqb, le-leb, lt-leb}
 use Rattle.memory.specs.Record.{field, stored}
 use Rattle.memory.specs.declared.Netlist.{Netlist}
 use Rattle.memory.specs.declared.Heap.{Heap}
-use Rattle.heap.specs.Heap.{heaped, nodeAt, active, seated, parent, isAbove, lowered, upped, child, larger, isBelow, lifted, downed, dropped, skimmed, scaled, admitted, entry, restored}
+use Rattle.heap.specs.Heap.{Heaped, Left, heaped, nodeAt, active, seated, parent, isAbove, lowered, upped, child}
+use Rattle.heap.specs.Heap.{larger, isBelow, lifted, downed, dropped, skimmed, scaled, admitted, entry, restored}
+
+-- what a loop leaves, by the equation of its function
+pub left-by : {a b : Heaped} → a ≡ b → Left (a .words) (a .heap) b
+left-by e = record { words = ap (λ (t : Heaped). t .words) e; heap = ap (λ (t : Heaped). t .heap) e }
 
 module _ (w : List ℕ) (nodes : ℕ) where
   pub upped-none : (v i n : ℕ) → n ≡ 0 → upped w nodes v i n ≡ seated w nodes i v
@@ -21,7 +26,8 @@ module _ (w : List ℕ) (nodes : ℕ) where
   upped-stop v i zero e = refl
   upped-stop v i (suc n) e = rw e
 
-  pub upped-more : (v i n : ℕ) → 0 < n → isAbove w nodes i v ≡ true → upped w nodes v i n ≡ upped (lowered w nodes i) nodes v (parent i) (n - 1)
+  pub upped-more : (v i n : ℕ) → 0 < n → isAbove w nodes i v ≡ true → upped w nodes v i n
+      ≡ upped (lowered w nodes i) nodes v (parent i) (n - 1)
   unfolding upped
   upped-more v i zero l e = absurd (omega arith)
   upped-more v i (suc n) l e = let p : n ≡ suc n - 1 = omega arith in rw e (ap (upped (lowered w nodes i) nodes v (parent i)) p)
@@ -31,7 +37,8 @@ module _ (w : List ℕ) (nodes : ℕ) where
   downed-none size v i zero e = refl
   downed-none size v i (suc n) e = absurd (omega arith)
 
-  pub downed-stop : (size v i n : ℕ) → isBelow w nodes size (larger w nodes size (child i)) v ≡ false → downed w nodes size v i n ≡ seated w nodes i v
+  pub downed-stop : (size v i n : ℕ) → isBelow w nodes size (larger w nodes size (child i)) v ≡ false → downed w nodes size v i n
+      ≡ seated w nodes i v
   unfolding downed
   downed-stop size v i zero e = refl
   downed-stop size v i (suc n) e = rw e
@@ -83,11 +90,13 @@ module _ (w : List ℕ) (net : Netlist) (h : Heap) (from : ℕ) where
 
   pub restored-more : (n : ℕ) → from < n
       → restored w net h from n
-      ≡ restored (admitted w net h (entry w (net .nodes) (n - 1)) .words) net (admitted w net h (entry w (net .nodes) (n - 1)) .heap) from (n - 1)
+      ≡ restored (admitted w net h (entry w (net .nodes) (n - 1)) .words) net (admitted w net h (entry w (net .nodes) (n - 1)) .heap) from
+      (n - 1)
   unfolding restored
   restored-more zero l = absurd (omega arith)
   restored-more (suc n) l =
       let p : n ≡ suc n - 1 = omega arith in
       rw (lt-leb (suc n) from l)
       (ap
-      (λ (k : ℕ). restored (admitted w net h (entry w (net .nodes) k) .words) net (admitted w net h (entry w (net .nodes) k) .heap) from k) p)
+      (λ (k : ℕ). restored (admitted w net h (entry w (net .nodes) k) .words) net
+      (admitted w net h (entry w (net .nodes) k) .heap) from k) p)

@@ -48,31 +48,34 @@ module _ {m : List ℕ} (h : Holds m (circuitIn m)) where
       ⊎-elim (λ k. constant (let z = leb→le (latchAt c j .reset) 1 k in omega arith))
       (λ k. latch j l (ap var (sym (eqb→eq (latchAt c j .reset) (latchAt c j .lit) k)))) (or-cases (leb (latchAt c j .reset) 1) (eqb (latchAt c j .reset) (latchAt c j .lit)) t)
 
+  -- the words of n rows of three literals from `at` on are known, where the literals of each row are
+  rows-known : (at n : ℕ) (x y z : ℕ → ℕ)
+      → ((k : ℕ) → k < n → (x k ≡ word m (at + 3 * k)) × (y k ≡ word m (at + 3 * k + 1)) × (z k ≡ word m (at + 3 * k + 2)))
+      → ((k : ℕ) → k < n → Known c (var (x k)) × Known c (var (y k)) × Known c (var (z k)))
+      → (j : ℕ) → j < 3 * n → Known c (var (word m (at + j)))
+  rows-known at n x y z are all =
+      triples (λ j. Known c (var (word m (at + j)))) n
+      (λ k l.
+      let e = are k l in
+      let t = all k l in
+      let p : at + 3 * k + 1 ≡ at + (3 * k + 1) = omega arith in
+      let q : at + 3 * k + 2 ≡ at + (3 * k + 2) = omega arith in (
+        subst (λ (w : ℕ). Known c (var w)) (e .0) (t .0),
+        subst (λ (w : ℕ). Known c (var w)) (e .1 ∙ ap (word m) p) (t .1),
+        subst (λ (w : ℕ). Known c (var w)) (e .2 ∙ ap (word m) q) (t .2),
+      ))
+
   pub latches-known : (j : ℕ) → j < 3 * word m 2 → Known c (var (word m (latchesAt m + j)))
   latches-known =
-      triples (λ j. Known c (var (word m (latchesAt m + j)))) (word m 2)
-      (λ k l.
-      let n : k < length (c .latches) = omega (arith, latch-count m) in
-      let e = latch-word m k l in
-      let p₁ : latchesAt m + 3 * k + 1 ≡ latchesAt m + (3 * k + 1) = omega arith in
-      let p₂ : latchesAt m + 3 * k + 2 ≡ latchesAt m + (3 * k + 2) = omega arith in (
-        subst (Known c) (ap (λ (x : Latch). var (x .lit)) e) (latch k n refl),
-        subst (Known c) (ap (λ (x : Latch). var (x .next)) e ∙ ap (λ (i : ℕ). var (word m i)) p₁) (next-known c (known h) k),
-        subst (Known c) (ap (λ (x : Latch). var (x .reset)) e ∙ ap (λ (i : ℕ). var (word m i)) p₂) (reset-known k n),
-      ))
+      rows-known (latchesAt m) (word m 2) (λ k. latchAt c k .lit) (λ k. latchAt c k .next) (λ k. latchAt c k .reset)
+      (λ k l. let e = latch-word m k l in (ap (λ (x : Latch). x .lit) e, ap (λ (x : Latch). x .next) e, ap (λ (x : Latch). x .reset) e))
+      (λ k l. let n : k < length (c .latches) = omega (arith, latch-count m) in (latch k n refl, next-known c (known h) k, reset-known k n))
 
   pub gates-known : (j : ℕ) → j < 3 * word m 4 → Known c (var (word m (gatesAt m + j)))
   gates-known =
-      triples (λ j. Known c (var (word m (gatesAt m + j)))) (word m 4)
-      (λ k l.
-      let n : k < length (c .gates) = omega (arith, gate-count m) in
-      let e = gate-word m k l in
-      let p₁ : gatesAt m + 3 * k + 1 ≡ gatesAt m + (3 * k + 1) = omega arith in
-      let p₂ : gatesAt m + 3 * k + 2 ≡ gatesAt m + (3 * k + 2) = omega arith in (
-        subst (Known c) (ap (λ (x : Gate). var (x .lit)) e) (gate k n refl),
-        subst (Known c) (ap (λ (x : Gate). var (x .left)) e ∙ ap (λ (i : ℕ). var (word m i)) p₁) (left-known c (known h) k),
-        subst (Known c) (ap (λ (x : Gate). var (x .right)) e ∙ ap (λ (i : ℕ). var (word m i)) p₂) (right-known c (known h) k),
-      ))
+      rows-known (gatesAt m) (word m 4) (λ k. gateAt c k .lit) (λ k. gateAt c k .left) (λ k. gateAt c k .right)
+      (λ k l. let e = gate-word m k l in (ap (λ (x : Gate). x .lit) e, ap (λ (x : Gate). x .left) e, ap (λ (x : Gate). x .right) e))
+      (λ k l. (gate k (omega (arith, gate-count m)) refl, left-known c (known h) k, right-known c (known h) k))
 
   pub constraints-known : (j : ℕ) → j < word m 6 → Known c (var (word m (constraintsAt m + j)))
   constraints-known j l = subst (λ (x : ℕ). Known c (var x)) (constraint-word m j l) (constraint-known c (known h) j)

@@ -1,16 +1,16 @@
 -- The definitions of a joined circuit are the literals 2, 4 and so on, in order. Assumes nothing.
-use mathlib.Core.Path.{_≡_, refl, sym, ap, ap₂, _∙_, subst}
-use mathlib.Core.List.{List, [], _∷_, _++_, map, append-assoc, map-append}
-use Prim.Native.Nat.{ℕ, zero, suc, _+_, _*_, _/_, _%_, _≤_, _<_}
+use mathlib.Core.Path.{_≡_, refl, sym, ap, ap₂, _∙_}
+use mathlib.Core.List.{List, [], _∷_, _++_, map, map-append}
+use Prim.Native.Nat.{ℕ, zero, suc, _+_, _*_, _<_}
 use native.Mathlib.Nat.{not-suc-le-zero}
 use native.Mathlib.Omega.{arith}
 use lib.Dec.{T}
-use lib.ListN.{length, getD, length-map, length-append}
+use lib.ListN.{length, getD, length-map}
 use Rattle.aiger.specs.Lists.{upto}
-use Rattle.aiger.specs.Circuit.{Circuit, Latch, Gate, var, defined, literalsRight}
-use Rattle.meaning.proofs.Lists.{getD-map, length-map-upto, getD-map-upto}
-use Rattle.meaning.proofs.Defined.{noLatch, noGate, inputAt, latchAt, gateAt, definition, latch-in, gate-in}
-use Rattle.joined.specs.Joined.{numberOf, literalUnder, latchUnder, gateUnder, complement, pairGates, pairsGates, firstNumber, secondNumber, pairsFrom, joined}
+use Rattle.aiger.specs.Circuit.{Circuit, defined, literalsRight}
+use Rattle.meaning.proofs.Lists.{length-map-upto, getD-map-upto}
+use Rattle.meaning.proofs.Defined.{noLatch, noGate, latchAt, gateAt, definition, latch-in, gate-in}
+use Rattle.joined.specs.Joined.{numberOf, literalUnder, latchUnder, gateUnder, pairsGates, firstNumber, secondNumber, pairsFrom, joined}
 use Rattle.parting.proofs.Numbers.{number-latch, number-gate}
 
 -- n even literals, those of the variables from s on
@@ -23,6 +23,13 @@ unfolding evens
 evens-of [] s h = refl
 evens-of (x ∷ xs) s h =
     ap₂ _∷_ (h 0 (omega arith) ∙ omega arith) (evens-of xs (s + 1) (λ i k. h (suc i) (omega arith) ∙ omega arith))
+
+map-evens : {A : Type 0} (f : A → A) (lit : A → ℕ) (xs : List A) (none : A) (s : ℕ)
+    → ((i : ℕ) → i < length xs → lit (f (getD xs i none)) ≡ 2 * (s + i)) → map lit (map f xs) ≡ evens s (length xs)
+unfolding evens
+map-evens f lit [] none s h = refl
+map-evens f lit (x ∷ xs) none s h =
+    ap₂ _∷_ (h 0 (omega arith) ∙ omega arith) (map-evens f lit xs none (s + 1) (λ i k. h (suc i) (omega arith) ∙ omega arith))
 
 pub evens-append : (s n k : ℕ) → evens s n ++ evens (s + n) k ≡ evens s (n + k)
 unfolding evens
@@ -73,27 +80,12 @@ module _ (c : Circuit) (right : T (literalsRight c)) (p q : ℕ) where
   gate-even : (i : ℕ) → i < length (c .gates) → literalUnder number (gateAt c i .lit) ≡ 2 * (q + i)
   gate-even i h = omega (arith, number-gate c right p q i h, definition c right (gateAt c i .lit) (gate-in c i h) .1)
 
-  -- the literals of the renumbered latches
+  -- the literals of the renumbered latches and gates
   pub latches-evens : map (λ l. l .lit) (map (latchUnder number) (c .latches)) ≡ evens p (length (c .latches))
-  latches-evens =
-      let xs = map (λ l. l .lit) (map (latchUnder number) (c .latches)) in
-      let n : length xs ≡ length (c .latches) = length-map (map (latchUnder number) (c .latches)) (λ l. l .lit) ∙ length-map (c .latches) (latchUnder number) in
-      evens-of xs p
-      (λ j h.
-      getD-map (λ l. l .lit) (map (latchUnder number) (c .latches)) j noLatch 0 (omega (arith, length-map (c .latches) (latchUnder number)))
-      ∙ ap (λ (l : Latch). l .lit) (getD-map (latchUnder number) (c .latches) j noLatch noLatch (omega arith)) ∙ latch-even j (omega arith))
-      ∙ ap (evens p) n
+  latches-evens = map-evens (latchUnder number) (λ l. l .lit) (c .latches) noLatch p latch-even
 
-  -- the literals of the renumbered gates
   pub gates-evens : map (λ g. g .lit) (map (gateUnder number) (c .gates)) ≡ evens q (length (c .gates))
-  gates-evens =
-      let xs = map (λ g. g .lit) (map (gateUnder number) (c .gates)) in
-      let n : length xs ≡ length (c .gates) = length-map (map (gateUnder number) (c .gates)) (λ g. g .lit) ∙ length-map (c .gates) (gateUnder number) in
-      evens-of xs q
-      (λ i h.
-      getD-map (λ g. g .lit) (map (gateUnder number) (c .gates)) i noGate 0 (omega (arith, length-map (c .gates) (gateUnder number)))
-      ∙ ap (λ (g : Gate). g .lit) (getD-map (gateUnder number) (c .gates) i noGate noGate (omega arith)) ∙ gate-even i (omega arith))
-      ∙ ap (evens q) n
+  gates-evens = map-evens (gateUnder number) (λ g. g .lit) (c .gates) noGate q gate-even
 
 module _ (c d : Circuit) (right : T (literalsRight c)) (right′ : T (literalsRight d)) (outputs : length (c .outputs) ≡ length (d .outputs)) where
   inputs-evens : map (λ i. 2 * (i + 1)) (upto (length (c .inputs))) ≡ evens 1 (length (c .inputs))

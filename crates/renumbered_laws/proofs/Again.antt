@@ -1,41 +1,24 @@
 -- A circuit whose definitions are in order and whose gates have the larger operand first is its own renumbered circuit: the text of a
 -- renumbered circuit, read back and written again, is the same. Clause 12.1. Assumes nothing.
-use mathlib.Core.Path.{_≡_, refl, sym, ap, ap₂, _∙_, subst}
-use mathlib.Core.Bool.{Bool, true, false, cond, _&&_, _||_}
+use mathlib.Core.Path.{_≡_, refl, sym, ap, ap₂, _∙_}
+use mathlib.Core.Bool.{Bool, cond, _||_}
 use mathlib.Core.List.{List, [], _∷_, map}
 use mathlib.Core.Logic.{⊎-elim}
-use mathlib.Core.Option.{Option, none, some}
-use Prim.Native.Nat.{ℕ, zero, suc, _+_, _-_, _*_, _/_, _%_, _≤_, _<_}
+use mathlib.Core.Option.{Option, some}
+use Prim.Native.Nat.{ℕ, zero, suc, _+_, _-_, _*_, _≤_, _<_}
 use native.Mathlib.Decide.{decLt}
 use native.Mathlib.Omega.{arith}
 use borrow.Author.Tests.{le-ltb}
 use lib.Dec.{T, leb, ltb, eqb, leb→le, ltb→lt, lt→ltb, eqb→eq}
 use lib.ListN.{length, getD, set, length-set, length-map, List·getD-map}
 use lib.Seq.{ext-getD, getD-set-same, getD-set-other}
-use Rattle.aiger.specs.Lists.{every, from, upto}
+use Rattle.aiger.specs.Lists.{from, upto}
 use Rattle.aiger.specs.Search.{leastBelow}
 use Rattle.aiger.specs.Circuit.{Circuit, Latch, Gate, var, literalTests, literalsRight, usedDefined}
-use Rattle.aiger.specs.Binary.{implied}
 use Rattle.aiger.proofs.Tests.{T-true, and, and-left, and-right, all-at, or-cases}
-use Rattle.meaning.proofs.Lists.{getD-map, getD-upto, length-from, every-at, or-left, or-right, eqb-of}
-use Rattle.meaning.proofs.Defined.{
-  Known,
-  constant,
-  input,
-  latch,
-  gate,
-  noLatch,
-  noGate,
-  inputAt,
-  latchAt,
-  gateAt,
-  next-known,
-  output-known,
-  bad-known,
-  constraint-known,
-  left-known,
-  right-known,
-}
+use Rattle.meaning.proofs.Lists.{getD-map, getD-upto, every-at, or-right, eqb-of}
+use Rattle.meaning.proofs.Defined.{Known, constant, input, latch, gate, noLatch, noGate, inputAt, latchAt, gateAt, next-known}
+use Rattle.meaning.proofs.Defined.{output-known, bad-known, constraint-known, left-known, right-known}
 use Rattle.roundtrip.proofs.LoadWrite.{Valid}
 use Rattle.numbering.proofs.InOrder.{descends, implied-at}
 use Rattle.gate_order.specs.Order.{has, isReady, onNext, before, taken}
@@ -43,21 +26,8 @@ use Rattle.gate_order.specs.Waiting.{Below}
 use Rattle.gate_order.proofs.Taking.{least-some}
 use Rattle.joined.specs.Joined.{literalUnder, latchUnder, gateUnder}
 use Rattle.renumbered.specs.Renumbered.{gateVars, operandVars, leafNumbers, numbering, newNumber, sorted, renumbered}
-use Rattle.renumbered_laws.proofs.Numbers.{
-  left-at,
-  right-at,
-  gate-var,
-  vars-length,
-  gates-below,
-  leaf-none,
-  leaf-input,
-  leaf-latch,
-  number-zero,
-  number-input,
-  number-latch,
-  number-gate,
-  order-length,
-}
+use Rattle.renumbered_laws.proofs.Numbers.{left-at, right-at, gate-var, vars-length, gates-below, leaf-none, leaf-input}
+use Rattle.renumbered_laws.proofs.Numbers.{leaf-latch, number-zero, number-input, number-latch, number-gate, order-length}
 use Rattle.renumbered_laws.proofs.Accepted.{Placed}
 
 -- ---- gates that are listed after their operands are taken as they are listed

@@ -1,62 +1,27 @@
 -- The new numbers of a circuit that load accepts: of inputs, latches and gates, and that every gate gets one. Assumes nothing.
 use mathlib.Core.Path.{_≡_, refl, sym, ap, _∙_, subst}
-use mathlib.Core.Bool.{Bool, true, false, _&&_, _||_}
-use mathlib.Core.List.{List, [], _∷_, map, List·Memᴰ, List·Memᴰ·head, List·Memᴰ·tail, List·Memᴰ·cases-cons, Memᴰ·cast}
+use mathlib.Core.Bool.{Bool, true, false}
+use mathlib.Core.List.{List, [], _∷_, map, List·Memᴰ, List·Memᴰ·cases-cons, Memᴰ·cast}
 use mathlib.Core.Logic.{_⊎_, inl, inr, ⊎-elim}
-use mathlib.Core.Option.{Option, none, some}
-use Prim.Native.Nat.{ℕ, zero, suc, _+_, _*_, _/_, _≤_, _<_}
+use mathlib.Core.Option.{Option, none}
+use Prim.Native.Nat.{ℕ, zero, suc, _+_, _*_, _≤_, _<_}
 use native.Mathlib.Decide.{decLt}
 use native.Mathlib.Omega.{arith}
-use lib.Dec.{T, leb, eqb, ltb, leb→le, lt→ltb, eqb→eq}
+use lib.Dec.{T, leb, eqb, ltb, leb→le, lt→ltb}
 use lib.ListN.{length, getD, replicate, length-map, length-replicate, List·getD-map}
 use Rattle.aiger.specs.Lists.{upto}
 use Rattle.aiger.specs.Search.{leastBelow}
-use Rattle.aiger.specs.Circuit.{Circuit, Latch, Gate, var, defined, used, literalTests, literalsRight, usedDefined, acyclic}
+use Rattle.aiger.specs.Circuit.{Circuit, Latch, Gate, var, defined, used, literalTests, literalsRight, usedDefined}
 use Rattle.aiger.proofs.Tests.{T-true, and, every-left, all-at}
-use Rattle.meaning.proofs.Lists.{
-  mem-getD,
-  mem-at,
-  getD-upto,
-  getD-zeros,
-  every-mem,
-  upto-in,
-  length-from,
-  Repeats,
-  here,
-  later,
-  pigeonhole,
-  or-left,
-  or-right,
-  eqb-of,
-}
+use Rattle.meaning.proofs.Lists.{mem-getD, mem-at, getD-upto, getD-zeros, every-mem, upto-in, length-from, Repeats, here, later}
+use Rattle.meaning.proofs.Lists.{pigeonhole, or-left, or-right, eqb-of}
 use Rattle.meaning.proofs.Decisions.{Least, least-below}
-use Rattle.meaning.proofs.Defined.{
-  Known,
-  constant,
-  input,
-  latch,
-  gate,
-  noLatch,
-  noGate,
-  inputAt,
-  latchAt,
-  gateAt,
-  definition,
-  input-in,
-  latch-in,
-  gate-in,
-  apart-inputs,
-  apart-latches,
-  apart-gates,
-  input-latch,
-  input-gate,
-  latch-gate,
-  left-known,
-  right-known,
-}
+use Rattle.meaning.proofs.Defined.{Known, constant, input, latch, gate, noLatch, noGate, inputAt, latchAt, gateAt, definition, input-in}
+use Rattle.meaning.proofs.Defined.{latch-in, gate-in, apart-inputs, apart-latches, apart-gates, input-latch, input-gate, latch-gate}
+use Rattle.meaning.proofs.Defined.{left-known, right-known}
 use Rattle.meaning.proofs.Cycles.{stuck-at}
-use Rattle.roundtrip.proofs.LoadWrite.{Valid, Counts, counts-fit}
-use Rattle.gate_order.specs.Order.{has, isReady, given, taken}
+use Rattle.roundtrip.proofs.LoadWrite.{Valid, counts-fit}
+use Rattle.gate_order.specs.Order.{has, isReady, given}
 use Rattle.gate_order.specs.Waiting.{Below}
 use Rattle.renumbered.specs.Renumbered.{gateVars, operandVars, leafNumbers, numbering, newNumber}
 use Rattle.renumbered_laws.proofs.Taken.{given-length, given-other, given-at, given-low, Numbered, Took, took}

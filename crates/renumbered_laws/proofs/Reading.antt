@@ -1,38 +1,24 @@
 -- The text of a circuit in binary form is read back, where its definitions are in order: load gives that circuit. Clause 12.1. Assumes
 -- nothing.
-use mathlib.Core.Path.{_≡_, refl, sym, ap, ap₂, _∙_, subst}
-use mathlib.Core.Bool.{Bool, true, false, not, cond, _&&_, _||_}
+use mathlib.Core.Path.{_≡_, refl, sym, ap₂}
+use mathlib.Core.Bool.{true, cond, _&&_, _||_}
 use mathlib.Core.List.{List, [], _∷_, _++_, map, append-assoc, append-nil}
-use mathlib.Core.Logic.{⊎-elim}
-use mathlib.Core.Option.{Option, none, some}
-use Prim.Native.Nat.{ℕ, zero, suc, _+_, _-_, _*_, _/_, _%_, _^_, _≤_, _<_}
+use mathlib.Core.Option.{some}
+use Prim.Native.Nat.{ℕ, zero, suc, _+_, _-_, _*_, _/_, _^_, _≤_, _<_}
 use native.Mathlib.Decide.{decLt}
 use native.Mathlib.Omega.{arith}
-use borrow.Author.Tests.{le-leb, eq-eqb, lt-ltb, le-ltb}
-use lib.Dec.{T, leb, ltb, eqb, leb→le, ltb→lt, lt→ltb, eqb→eq, eqb·suc-zero, lit<, lit≤}
-use lib.ListN.{length, getD, length-map, length-append}
+use borrow.Author.Tests.{le-leb, eq-eqb}
+use lib.Dec.{T, leb, ltb, eqb, leb→le, ltb→lt, eqb·suc-zero, lit<, lit≤}
+use lib.ListN.{length, length-append}
 use Rattle.aiger.specs.Lists.{every}
-use Rattle.aiger.specs.Text.{rows}
-use Rattle.aiger.specs.Circuit.{Circuit, Latch, Gate, defined, used, literalTests, literalsRight, usedDefined, acyclic}
-use Rattle.aiger.specs.File.{isText, isBinary, header, countsFit, countsRight, headerOf, isTail, first}
-use Rattle.aiger.specs.Binary.{grouped, differenceText, difference, implied, latchesFrom, gateBy, gatesFrom}
+use Rattle.aiger.specs.Circuit.{Circuit, Latch, Gate, literalTests, literalsRight}
+use Rattle.aiger.specs.File.{isText, isBinary, header, countsRight, headerOf, isTail}
+use Rattle.aiger.specs.Binary.{differenceText, implied, latchesFrom, gateBy, gatesFrom}
 use Rattle.aiger.specs.Load.{gives, binaryBody, sections, load, needed}
-use Rattle.aiger.specs.Write.{lineOf, linesOf, literalRow, countRow}
-use Rattle.aiger.proofs.Tests.{
-  T-true,
-  true-T,
-  and,
-  and-left,
-  and-right,
-  every-left,
-  every-right,
-  every-unmap,
-  every-map,
-  every-imp,
-  all-at,
-  or-cases,
-}
-use Rattle.roundtrip.proofs.LoadWrite.{Valid, low, first-map, reset-row, rows-map, map-short, counts, heads-low, all-low, reset-low, fits}
+use Rattle.aiger.specs.Write.{linesOf, literalRow, countRow}
+use Rattle.aiger.proofs.Tests.{T-true, and, and-left, and-right, every-map, all-at}
+use Rattle.roundtrip.proofs.LoadWrite.{Valid, low, first-map, reset-row, rows-map, map-short, counts, heads-low, low-each, reset-low}
+use Rattle.roundtrip.proofs.LoadWrite.{fits}
 use Rattle.roundtrip.proofs.Text.{rowFits, row-line, every-below, line-short}
 use Rattle.numbering.proofs.InOrder.{descends}
 use Rattle.differences.proofs.Writing.{one, another, difference-back}
@@ -137,33 +123,11 @@ some-byte d = omega arith
 module _ {room : ℕ} {d : Circuit} (v : Valid room d) (p : Placed d) where
   -- the lines of latches and the literals of gates are such as are read
   latches-fit : T (every (rowFits (10 ^ 4) 1 2) (map latchTail (d .latches)))
-  unfolding defined used latchTail literalsRight
+  unfolding latchTail literalsRight
   latches-fit =
-      let i = d .inputs in
-      let l = map (λ (x : Latch). x .lit) (d .latches) in
-      let g = map (λ (x : Gate). x .lit) (d .gates) in
-      let n = map (λ (x : Latch). x .next) (d .latches) in
-      let o = d .outputs in
-      let b = d .bads in
-      let k = d .constraints in
-      let x = map (λ (x : Gate). x .left) (d .gates) in
-      let y = map (λ (x : Gate). x .right) (d .gates) in
-      let u = every-right low (i ++ l ++ g) (n ++ o ++ b ++ k ++ x ++ y) (all-low v) in
-      let u3 = every-left low (n ++ o ++ b ++ k) x (every-left low (n ++ o ++ b ++ k ++ x) y u) in
-      let u1 = every-left low (n ++ o) b (every-left low (n ++ o ++ b) k u3) in
-      let dl = every-left low (i ++ l) g (every-left low (i ++ l ++ g) (n ++ o ++ b ++ k ++ x ++ y) (all-low v)) in
-      let lits = every-unmap low (λ (x : Latch). x .lit) (d .latches) (every-right low i l dl) in
-      let nexts = every-unmap low (λ (x : Latch). x .next) (d .latches) (every-left low n o u1) in
       every-map (λ x. low (x .lit)) (λ x. low (x .next)) (λ x. leb (x .reset) 1 || eqb (x .reset) (x .lit)) (rowFits (10 ^ 4) 1 2) latchTail
-      (λ x s t r. latch-fits (x .next) (x .reset) t (reset-low v x s r)) (d .latches) lits nexts
+      (λ x s t r. latch-fits (x .next) (x .reset) t (reset-low v x s r)) (d .latches) (low-each v .latches) (low-each v .nexts)
       (all-at (literalTests d) (T-true (v .literals)) 3)
-
-  gates-low : T (every (λ g. low (g .lit)) (d .gates))
-  unfolding defined
-  gates-low =
-      let f = d .inputs ++ map (λ (x : Latch). x .lit) (d .latches) in
-      let g = map (λ (x : Gate). x .lit) (d .gates) in
-      every-unmap low (λ (x : Gate). x .lit) (d .gates) (every-right low f g (every-left low (f ++ g) (used d) (all-low v)))
 
   head-back : header (binaryText d) ≡ some (headerOf d, sectionsText d)
   unfolding isText isBinary header binaryText
@@ -187,7 +151,7 @@ module _ {room : ℕ} {d : Circuit} (v : Valid room d) (p : Placed d) where
         map-short 1 1 literalRow (d .outputs) (fits v .outputs),
         map-short 1 1 literalRow (d .bads) (fits v .bads),
         map-short 1 1 literalRow (d .constraints) (fits v .constraints),
-        gates-short (d .gates) gates-low (p .descend),
+        gates-short (d .gates) (low-each v .gates) (p .descend),
       ))
 
   body-back : binaryBody (headerOf d) (sectionsText d) ≡ gives d

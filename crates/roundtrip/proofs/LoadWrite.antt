@@ -12,7 +12,7 @@ use lib.ListN.{length, getD, length-map, length-append}
 use Rattle.aiger.specs.Lists.{every}
 use Rattle.aiger.specs.Text.{rows}
 use Rattle.aiger.specs.Circuit.{Circuit, Latch, Gate, defined, used, literalTests, literalsRight, usedDefined, acyclic}
-use Rattle.aiger.specs.File.{isText, isBinary, header, countTests, countsFit, countsRight, headerOf, isTail, body, first, latch, gate}
+use Rattle.aiger.specs.File.{isText, isBinary, header, countTests, countsFit, headerOf, isTail, body, first, latch, gate}
 use Rattle.aiger.specs.Load.{gives, sections, load, needed}
 use Rattle.aiger.specs.Write.{linesOf, literalRow, latchRow, gateRow, countRow, write}
 use Rattle.aiger.proofs.Forms.{counts-text}
@@ -148,6 +148,49 @@ counts-fit c e =
       definitions = leb→le (length (c .inputs) + length (c .latches) + length (c .gates)) (c .maxVar) (at 9);
     }
 
+-- what holds of all literals of a circuit holds of those of each role
+pub record Each (p : ℕ → Bool) (c : Circuit) : Type 0 where
+  pub inputs : T (every p (c .inputs))
+  pub latches : T (every (λ l. p (l .lit)) (c .latches))
+  pub nexts : T (every (λ l. p (l .next)) (c .latches))
+  pub outputs : T (every p (c .outputs))
+  pub bads : T (every p (c .bads))
+  pub constraints : T (every p (c .constraints))
+  pub gates : T (every (λ g. p (g .lit)) (c .gates))
+  pub lefts : T (every (λ g. p (g .left)) (c .gates))
+  pub rights : T (every (λ g. p (g .right)) (c .gates))
+
+pub each : (p : ℕ → Bool) (c : Circuit) → T (every p (defined c ++ used c)) → Each p c
+unfolding defined used
+each p c all =
+    let i = c .inputs in
+    let l = map (λ (x : Latch). x .lit) (c .latches) in
+    let g = map (λ (x : Gate). x .lit) (c .gates) in
+    let n = map (λ (x : Latch). x .next) (c .latches) in
+    let o = c .outputs in
+    let b = c .bads in
+    let k = c .constraints in
+    let x = map (λ (x : Gate). x .left) (c .gates) in
+    let y = map (λ (x : Gate). x .right) (c .gates) in
+    let d = every-left p (i ++ l ++ g) (n ++ o ++ b ++ k ++ x ++ y) all in
+    let u = every-right p (i ++ l ++ g) (n ++ o ++ b ++ k ++ x ++ y) all in
+    let u4 = every-left p (n ++ o ++ b ++ k ++ x) y u in
+    let u3 = every-left p (n ++ o ++ b ++ k) x u4 in
+    let u2 = every-left p (n ++ o ++ b) k u3 in
+    let u1 = every-left p (n ++ o) b u2 in
+    let dl = every-left p (i ++ l) g d in
+    record {
+      inputs = every-left p i l dl;
+      latches = every-unmap p (λ (x : Latch). x .lit) (c .latches) (every-right p i l dl);
+      nexts = every-unmap p (λ (x : Latch). x .next) (c .latches) (every-left p n o u1);
+      outputs = every-right p n o u1;
+      bads = every-right p (n ++ o) b u2;
+      constraints = every-right p (n ++ o ++ b) k u3;
+      gates = every-unmap p (λ (x : Gate). x .lit) (c .gates) (every-right p (i ++ l) g d);
+      lefts = every-unmap p (λ (x : Gate). x .left) (c .gates) (every-right p (n ++ o ++ b ++ k) x u4);
+      rights = every-unmap p (λ (x : Gate). x .right) (c .gates) (every-right p (n ++ o ++ b ++ k ++ x) y u);
+    }
+
 module _ {room : ℕ} {c : Circuit} (v : Valid room c) where
   pub counts : Counts c
   counts = counts-fit c (v .fit)
@@ -171,7 +214,8 @@ module _ {room : ℕ} {c : Circuit} (v : Valid room c) where
       at n h = lt→ltb n (10 ^ 4) h
 
   pub all-low : T (every low (defined c ++ used c))
-  all-low = every-imp (λ l. leb l (2 * c .maxVar + 1)) low (λ l h. lt→ltb l (10 ^ 4) (low-of l (leb→le l (2 * c .maxVar + 1) h))) (defined c ++ used c) (rights 0)
+  all-low = every-imp (λ l. leb l (2 * c .maxVar + 1)) low (λ l h. lt→ltb l (10 ^ 4) (low-of l (leb→le l (2 * c .maxVar + 1) h)))
+      (defined c ++ used c) (rights 0)
     where
       low-of : (l : ℕ) → l ≤ 2 * c .maxVar + 1 → l < 10 ^ 4
       low-of l h = omega (arith, counts .maxVar)
@@ -183,41 +227,25 @@ module _ {room : ℕ} {c : Circuit} (v : Valid room c) where
       lt→ltb r (10 ^ 4)
       (⊎-elim (λ x. omega (arith, leb→le r 1 x)) (λ y. omega (arith, eqb→eq r a y, ltb→lt a (10 ^ 4) h)) (or-cases (leb r 1) (eqb r a) t))
 
+  pub low-each : Each low c
+  low-each = each low c all-low
+
   pub fits : Fits c
-  unfolding defined used latchRow
+  unfolding latchRow
   fits =
-      let i = c .inputs in
-      let l = map (λ (x : Latch). x .lit) (c .latches) in
-      let g = map (λ (x : Gate). x .lit) (c .gates) in
-      let n = map (λ (x : Latch). x .next) (c .latches) in
-      let o = c .outputs in
-      let b = c .bads in
-      let k = c .constraints in
-      let p = map (λ (x : Gate). x .left) (c .gates) in
-      let q = map (λ (x : Gate). x .right) (c .gates) in
-      let d = every-left low (i ++ l ++ g) (n ++ o ++ b ++ k ++ p ++ q) all-low in
-      let u = every-right low (i ++ l ++ g) (n ++ o ++ b ++ k ++ p ++ q) all-low in
-      let u4 = every-left low (n ++ o ++ b ++ k ++ p) q u in
-      let u3 = every-left low (n ++ o ++ b ++ k) p u4 in
-      let u2 = every-left low (n ++ o ++ b) k u3 in
-      let u1 = every-left low (n ++ o) b u2 in
-      let dl = every-left low (i ++ l) g d in
-      let lits = every-unmap low (λ (x : Latch). x .lit) (c .latches) (every-right low i l dl) in
-      let nexts = every-unmap low (λ (x : Latch). x .next) (c .latches) (every-left low n o u1) in
-      let gates = every-unmap low (λ (x : Gate). x .lit) (c .gates) (every-right low (i ++ l) g d) in
-      let lefts = every-unmap low (λ (x : Gate). x .left) (c .gates) (every-right low (n ++ o ++ b ++ k) p u4) in
-      let rights′ = every-unmap low (λ (x : Gate). x .right) (c .gates) (every-right low (n ++ o ++ b ++ k ++ p) q u) in
+      let e = low-each in
       record {
-        inputs = ones-fit i (every-left low i l dl);
+        inputs = ones-fit (c .inputs) (e .inputs);
         latches =
-            every-map (λ x. low (x .lit)) (λ x. low (x .next)) (λ x. leb (x .reset) 1 || eqb (x .reset) (x .lit)) (rowFits (10 ^ 4) 2 3) latchRow
-            (λ x s t r. latch-fits (x .lit) (x .next) (x .reset) s t (reset-low x s r)) (c .latches) lits nexts (rights 3);
-        outputs = ones-fit o (every-right low n o u1);
-        bads = ones-fit b (every-right low (n ++ o) b u2);
-        constraints = ones-fit k (every-right low (n ++ o ++ b) k u3);
+            every-map (λ x. low (x .lit)) (λ x. low (x .next)) (λ x. leb (x .reset) 1 || eqb (x .reset) (x .lit))
+            (rowFits (10 ^ 4) 2 3) latchRow
+            (λ x s t r. latch-fits (x .lit) (x .next) (x .reset) s t (reset-low x s r)) (c .latches) (e .latches) (e .nexts) (rights 3);
+        outputs = ones-fit (c .outputs) (e .outputs);
+        bads = ones-fit (c .bads) (e .bads);
+        constraints = ones-fit (c .constraints) (e .constraints);
         gates =
             every-map (λ x. low (x .lit)) (λ x. low (x .left)) (λ x. low (x .right)) (rowFits (10 ^ 4) 3 3) gateRow
-            (λ x s t r. three-fits 3 (x .lit) (x .left) (x .right) (lit≤ tt) s t r) (c .gates) gates lefts rights′;
+            (λ x s t r. three-fits 3 (x .lit) (x .left) (x .right) (lit≤ tt) s t r) (c .gates) (e .gates) (e .lefts) (e .rights);
       }
 
   -- its numbers are below 10,000, so the header is read back

@@ -1,15 +1,16 @@
 -- A circuit whose literals are right has no number above 2M+1. Assumes nothing.
 use mathlib.Core.Path.{_≡_}
-use mathlib.Core.Bool.{Bool, true, _&&_, _||_}
-use mathlib.Core.List.{List, [], _∷_, _++_, map}
+use mathlib.Core.Bool.{true, _&&_, _||_}
+use mathlib.Core.List.{List, [], _∷_}
 use mathlib.Core.Logic.{⊎-elim}
 use Prim.Native.Nat.{ℕ, _+_, _*_, _≤_}
 use native.Mathlib.Omega.{arith}
 use lib.Dec.{T, leb, eqb, leb→le, le→leb, eqb→eq}
 use Rattle.aiger.specs.Lists.{every}
-use Rattle.aiger.specs.Circuit.{Circuit, Latch, Gate, defined, used, literalTests, literalsRight}
+use Rattle.aiger.specs.Circuit.{Circuit, Latch, Gate, literalTests, literalsRight}
 use Rattle.aiger.specs.Memory.{latchWords, gateWords}
-use Rattle.aiger.proofs.Tests.{and, and-left, and-right, T-true, every-left, every-right, every-unmap, all-at, or-cases}
+use Rattle.aiger.proofs.Tests.{and, and-left, and-right, T-true, all-at, or-cases}
+use Rattle.roundtrip.proofs.LoadWrite.{each}
 use Rattle.lines.specs.Lines.{within}
 
 -- no number of a part is above the limit
@@ -21,7 +22,8 @@ pub record Within (limit : ℕ) (c : Circuit) : Type 0 where
   pub constraints : T (within limit (c .constraints))
   pub gates : T (within limit (gateWords (c .gates)))
 
-three : (limit a b c : ℕ) (w : List ℕ) → T (leb a limit) → T (leb b limit) → T (leb c limit) → T (within limit w) → T (within limit (a ∷ b ∷ c ∷ w))
+three : (limit a b c : ℕ) (w : List ℕ) → T (leb a limit) → T (leb b limit) → T (leb c limit) → T (within limit w)
+    → T (within limit (a ∷ b ∷ c ∷ w))
 three limit a b c w ha hb hc t =
     and (leb a limit) (leb b limit && (leb c limit && within limit w)) ha
     (and (leb b limit) (leb c limit && within limit w) hb (and (leb c limit) (within limit w) hc t))
@@ -64,37 +66,16 @@ module _ (limit : ℕ) where
 
 -- where the literals are right, no number is above 2M+1
 pub literals-within : (c : Circuit) → literalsRight c ≡ true → Within (2 * c .maxVar + 1) c
-unfolding literalsRight defined used
+unfolding literalsRight
 literals-within c e =
     let limit = 2 * c .maxVar + 1 in
-    let low : ℕ → Bool = λ l. leb l limit in
     let at = all-at (literalTests c) (T-true e) in
-    let i = c .inputs in
-    let l = map (λ (x : Latch). x .lit) (c .latches) in
-    let g = map (λ (x : Gate). x .lit) (c .gates) in
-    let n = map (λ (x : Latch). x .next) (c .latches) in
-    let o = c .outputs in
-    let b = c .bads in
-    let k = c .constraints in
-    let p = map (λ (x : Gate). x .left) (c .gates) in
-    let q = map (λ (x : Gate). x .right) (c .gates) in
-    let d = every-left low (i ++ l ++ g) (n ++ o ++ b ++ k ++ p ++ q) (at 0) in
-    let u = every-right low (i ++ l ++ g) (n ++ o ++ b ++ k ++ p ++ q) (at 0) in
-    let u4 = every-left low (n ++ o ++ b ++ k ++ p) q u in
-    let u3 = every-left low (n ++ o ++ b ++ k) p u4 in
-    let u2 = every-left low (n ++ o ++ b) k u3 in
-    let u1 = every-left low (n ++ o) b u2 in
-    let dl = every-left low (i ++ l) g d in
+    let l = each (λ x. leb x limit) c (at 0) in
     record {
-      inputs = every-left low i l dl;
-      latches =
-          latches-within limit (omega arith) (c .latches) (every-unmap low (λ (x : Latch). x .lit) (c .latches) (every-right low i l dl))
-          (every-unmap low (λ (x : Latch). x .next) (c .latches) (every-left low n o u1)) (at 3);
-      outputs = every-right low n o u1;
-      bads = every-right low (n ++ o) b u2;
-      constraints = every-right low (n ++ o ++ b) k u3;
-      gates =
-          gates-within limit (c .gates) (every-unmap low (λ (x : Gate). x .lit) (c .gates) (every-right low (i ++ l) g d))
-          (every-unmap low (λ (x : Gate). x .left) (c .gates) (every-right low (n ++ o ++ b ++ k) p u4))
-          (every-unmap low (λ (x : Gate). x .right) (c .gates) (every-right low (n ++ o ++ b ++ k ++ p) q u));
+      inputs = l .inputs;
+      latches = latches-within limit (omega arith) (c .latches) (l .latches) (l .nexts) (at 3);
+      outputs = l .outputs;
+      bads = l .bads;
+      constraints = l .constraints;
+      gates = gates-within limit (c .gates) (l .gates) (l .lefts) (l .rights);
     }

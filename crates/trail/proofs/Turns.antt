@@ -5,7 +5,11 @@ use Prim.Native.Nat.{ℕ, zero, suc, _-_, _≤_, _<_}
 use native.Mathlib.Omega.{arith}
 use borrow.Author.Tests.{le-leb, lt-leb}
 use Rattle.memory.specs.Record.{counted, field, stored}
-use Rattle.trail.specs.Trail.{entry, takenBack}
+use Rattle.trail.specs.Trail.{Stood, Left, entry, takenBack}
+
+-- what a loop leaves, by the equation of its function
+pub left-by : {a b : Stood} → a ≡ b → Left (a .words) (a .state) b
+left-by e = record { words = ap (λ (t : Stood). t .words) e; state = ap (λ (t : Stood). t .state) e }
 
 pub taken-none : (w : List ℕ) (nodes to t : ℕ) → t ≡ 0 → takenBack w nodes to t ≡ counted w 0
 unfolding takenBack

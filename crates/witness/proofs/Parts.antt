@@ -1,20 +1,19 @@
 -- The parts of a witness, and the run whose free bits stand in words. Assumes nothing.
-use mathlib.Core.Path.{_≡_, refl, sym, ap, ap₂, _∙_}
-use mathlib.Core.Bool.{Bool, true, false, cond}
-use mathlib.Core.List.{List, [], _∷_, _++_, map, append-assoc}
-use Prim.Native.Nat.{ℕ, zero, suc, _+_, _-_, _*_, _≤_, _<_}
+use mathlib.Core.Path.{_≡_, sym, ap, _∙_}
+use mathlib.Core.List.{List, _++_, map, append-assoc}
+use Prim.Native.Nat.{ℕ, _+_, _-_, _*_, _≤_}
 use native.Mathlib.Omega.{arith}
-use lib.Dec.{eqb}
 use lib.ListN.{length, length-append}
-use Rattle.aiger.specs.Lists.{from, upto, tally}
+use Rattle.aiger.specs.Lists.{upto}
 use Rattle.aiger.specs.Text.{bytes, digits}
-use Rattle.aiger.specs.Circuit.{Circuit, Latch}
-use Rattle.aiger.specs.Frames.{isFree, freeStarts, freeBits, freeBit, starts, run}
+use Rattle.aiger.specs.Circuit.{Circuit}
+use Rattle.aiger.specs.Frames.{freeStarts, freeBits, freeBit, starts, run}
 use Rattle.aiger.specs.Witness.{bitLine, bitLines, witness, witnessLength}
 use Rattle.aiger.specs.Operations.{front}
 use Rattle.layout.specs.Words.{circuitIn}
 use Rattle.layout.specs.declared.Layout.{Layout}
-use Rattle.meaning.proofs.Sequences.{input-number}
+use Rattle.meaning.proofs.Lists.{map-upto-eq}
+use Rattle.meaning.proofs.Sequences.{input-number, starts-same}
 use Rattle.witness.specs.Writing.{freeAt, rowOf, headingText, SequenceIn, WitnessFits}
 use Rattle.witness.proofs.Put.{put, front-append}
 use Rattle.witness.proofs.Rows.{rowsFrom}
@@ -29,25 +28,6 @@ joined a d n s r e = simp append-assoc
 
 -- ---- the run
 
-map-from : {A : Type 0} (f g : ℕ → A) (s n : ℕ) → ((i : ℕ) → i < s + n → f i ≡ g i) → map f (from s n) ≡ map g (from s n)
-map-from f g s zero h = refl
-map-from f g s (suc n) h = ap₂ _∷_ (h s (omega arith)) (map-from f g (suc s) n (λ i l. h i (omega arith)))
-
-map-upto : {A : Type 0} (f g : ℕ → A) (n : ℕ) → ((i : ℕ) → i < n → f i ≡ g i) → map f (upto n) ≡ map g (upto n)
-map-upto f g n h = map-from f g 0 n (λ i l. h i (omega arith))
-
-starts-same : (f g : ℕ → Bool) (k : ℕ) (ls : List Latch) → ((j : ℕ) → j < k + tally isFree ls → f j ≡ g j) → starts f k ls ≡ starts g k ls
-unfolding starts
-starts-same f g k [] h = refl
-starts-same f g k (l ∷ ls) h = go (isFree l) h (starts-same f g (k + 1) ls) (starts-same f g k ls)
-  where
-    go : (x : Bool) → ((j : ℕ) → j < k + (cond x 1 0 + tally isFree ls) → f j ≡ g j)
-        → (((j : ℕ) → j < k + 1 + tally isFree ls → f j ≡ g j) → starts f (k + 1) ls ≡ starts g (k + 1) ls)
-        → (((j : ℕ) → j < k + tally isFree ls → f j ≡ g j) → starts f k ls ≡ starts g k ls)
-        → cond x (f k ∷ starts f (k + 1) ls) (eqb (l .reset) 1 ∷ starts f k ls) ≡ cond x (g k ∷ starts g (k + 1) ls) (eqb (l .reset) 1 ∷ starts g k ls)
-    go true h a b = ap₂ _∷_ (h k (omega arith)) (a (λ j l. h j (omega arith)))
-    go false h a b = ap (λ (r : List Bool). eqb (l .reset) 1 ∷ r) (b (λ j l. h j (omega arith)))
-
 module _ (free : List ℕ) (c : Circuit) (t x : ℕ) (h : SequenceIn free c t x) where
   same-start : starts (freeAt free) 0 (c .latches) ≡ run c t x .start
   unfolding run freeBits freeStarts
@@ -57,7 +37,7 @@ module _ (free : List ℕ) (c : Circuit) (t x : ℕ) (h : SequenceIn free c t x)
   unfolding run freeBits
   same-rows =
       let I = length (c .inputs) in
-      map-upto _ _ (t + 1) (λ u l. map-upto _ _ I (λ i k. h (freeStarts c + I * u + i) (input-number c t u i l k)))
+      map-upto-eq _ _ (t + 1) (λ u l. map-upto-eq _ _ I (λ i k. h (freeStarts c + I * u + i) (input-number c t u i l k)))
 
   -- the text of the sequence's run, in its three parts
   whole : (b : ℕ) → headingText b ++ (bitLine (starts (freeAt free) 0 (c .latches)) ++ rowsFrom free (freeStarts c) (length (c .inputs)) t 0) ≡ witness b (run c t x)

@@ -7,7 +7,15 @@ use Rattle.analysis.proofs.expand.Tie as tie
 
 returns : tie.Need-returns
 unfolding S.expanded S.unfolded
-returns c = rw (← c .before .before .before .before .before .before .before .before .before .before .before .before .field .ensures, ← c .before .before .before .before .before .before .before .before .before .before .field2 .ensures, ← c .before .before .before .before .before .before .before .before .before .is-reason .ensures, ← c .before .before .before .before .before .before .opposite .ensures, ← c .before .before .before .before .before .is-member .ensures, c .before .before .before .before .before .before .before .before .if1 .taken, c .before .before .before .before .if2 .taken) (c .before .before .resolve .ensures)
+returns c = rw (
+  ← c .before .before .before .before .before .before .before .before .before .before .before .before .field .ensures,
+  ← c .before .before .before .before .before .before .before .before .before .before .field2 .ensures,
+  ← c .before .before .before .before .before .before .before .before .before .is-reason .ensures,
+  ← c .before .before .before .before .before .before .opposite .ensures,
+  ← c .before .before .before .before .before .is-member .ensures,
+  c .before .before .before .before .before .before .before .before .if1 .taken,
+  c .before .before .before .before .if2 .taken,
+) (c .before .before .resolve .ensures)
 
 returns-2 : tie.Need-returns-2
 unfolding S.expanded S.unfolded

@@ -1,10 +1,10 @@
 -- `analysis::expand_from` meets its contract. The invariant: what is left of the trail ends as all of it does. Assumes nothing.
+use Rattle.resolve.proofs.Turns.{left-by}
 use Rattle.analysis.proofs.Turns.{expanded-none, expanded-more}
 use Rattle.analysis.specs.Analysis.{expandedFrom}
-use Rattle.resolve.specs.Draft.{Drafted}
 use lib.ListN as N
 use native.Mathlib.Omega.{arith}
-use mathlib.Core.Path.{_≡_, refl, sym, ap, _∙_}
+use mathlib.Core.Path.{_≡_, refl, sym, _∙_}
 use borrow.Author.Needs.{needs}
 use Rattle.analysis.proofs.expand_from.Statement.{statement}
 use Rattle.analysis.proofs.expand_from.Tie as tie
@@ -16,15 +16,6 @@ Inv-loop work₀ net arena n e₀ left₀ work e left =
 abbrev μ-loop : tie.MeasureT-loop
 μ-loop work₀ net arena n e₀ left₀ work e left = left
 
-loop-holds : tie.Need-loop-holds Inv-loop μ-loop
-loop-holds c = (refl, refl)
-
-sub-left : tie.Need-sub-left Inv-loop μ-loop
-sub-left c = omega arith
-
-loop-less : tie.Need-loop-less Inv-loop μ-loop
-loop-less c = omega arith
-
 loop-again : tie.Need-loop-again Inv-loop μ-loop
 loop-again c =
     let l = c .before .before .before .before .before .loop in
@@ -34,18 +25,16 @@ loop-again c =
     (u .kept .0 ∙ l .inv .0, rw (u .ensures .words, u .ensures .draft) (sym more ∙ l .inv .1))
 
 same-length : tie.Need-same-length Inv-loop μ-loop
-same-length c =
-    c .before .loop .inv .0
+same-length c = c .before .loop .inv .0
 
 returns : tie.Need-returns Inv-loop μ-loop
 returns c =
     let l = c .before .loop in
     let s = c .before .before .before .args in
-    let all = sym (expanded-none (l .work) (s .net) (s .arena) (l .e) (l .left) (omega arith)) ∙ l .inv .1 in
-    record { words = ap (λ (t : Drafted). t .words) all; draft = ap (λ (t : Drafted). t .draft) all }
+    left-by (sym (expanded-none (l .work) (s .net) (s .arena) (l .e) (l .left) (omega arith)) ∙ l .inv .1)
 
 pub expand-from-spec : {M : Type 1} → statement M
 expand-from-spec =
     tie.close
     (tie.spec
-    Inv-loop μ-loop loop-holds sub-left (λ c κs. search needs) loop-less loop-again same-length returns)
+    Inv-loop μ-loop (λ c. (refl, refl)) (λ c. omega arith) (λ c κs. search needs) (λ c. omega arith) loop-again same-length returns)

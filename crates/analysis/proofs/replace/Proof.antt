@@ -18,8 +18,7 @@ returns c =
       ← c .before .less2 .ensures,
       ← t .count,
       ← c .sum .ensures,
-    )
-    (record { words = t .words; now = refl })
+    ) (record { words = t .words; now = refl })
 
 pub replace-spec : {M : Type 1} → statement M
 replace-spec =

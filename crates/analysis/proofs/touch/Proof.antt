@@ -13,5 +13,4 @@ returns c =
     ) (c .before .before .set-field .ensures)
 
 pub touch-spec : {M : Type 1} → statement M
-touch-spec =
-    tie.close (tie.spec (λ c κs. search needs) (λ c κs. search needs) (λ c κs. search needs) (λ c. search needs) returns)
+touch-spec = tie.close (tie.spec (λ c κs. search needs) (λ c κs. search needs) (λ c κs. search needs) (λ c. search needs) returns)

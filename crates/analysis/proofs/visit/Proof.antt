@@ -7,7 +7,12 @@ use Rattle.analysis.proofs.visit.Tie as tie
 
 returns : tie.Need-returns
 unfolding S.visited
-returns c = rw (← c .before .before .before .before .before .before .before .before .field .ensures, ← c .before .before .before .before .before .before .opposite .ensures, ← c .before .before .before .before .before .is-member .ensures, c .before .before .before .before .if1 .taken) (c .before .before .replace .ensures)
+returns c = rw (
+  ← c .before .before .before .before .before .before .before .before .field .ensures,
+  ← c .before .before .before .before .before .before .opposite .ensures,
+  ← c .before .before .before .before .before .is-member .ensures,
+  c .before .before .before .before .if1 .taken,
+) (c .before .before .replace .ensures)
 
 returns-2 : tie.Need-returns-2
 unfolding S.visited

@@ -9,20 +9,24 @@ use Rattle.binary_text.proofs.write_differences.Tie as tie
 
 write-difference-requires : tie.Need-write-difference-requires
 write-difference-requires c κs =
-    let a = c .before .before .args in
-    room-first (a .out .now) (a .at) (differenceText (a .lit - a .left)) (differenceText (a .left - a .right)) (c .before .before .pre .2)
+    let start = c .before .before in
+    let a = start .args in
+    room-first (a .out .now) (a .at) (differenceText (a .lit - a .left)) (differenceText (a .left - a .right)) (start .pre .2)
 
 write-difference-requires-2 : tie.Need-write-difference-requires-2
 write-difference-requires-2 c κs =
-    let a = c .before .before .before .before .before .before .args in
-    room-second (a .out .now) (a .at) (differenceText (a .lit - a .left)) (differenceText (a .left - a .right)) (c .before .before .before .before .before .before .pre .2)
+    let start = c .before .before .before .before .before .before in
+    let a = start .args in
+    room-second (a .out .now) (a .at) (differenceText (a .lit - a .left)) (differenceText (a .left - a .right)) (start .pre .2)
     (placed-in (c .before .before .before .write-difference .ensures))
 
 returns : tie.Need-returns
 returns c =
-    let a = c .before .before .before .before .before .before .before .before .before .args in
-    placed-two (a .out .now) (a .at) (differenceText (a .lit - a .left)) (differenceText (a .left - a .right)) (c .before .before .before .before .before .before .before .before .before .pre .2)
-    (placed-in (c .before .before .before .before .before .before .write-difference .ensures)) (placed-in (c .before .before .write-difference2 .ensures))
+    let start = c .before .before .before .before .before .before .before .before .before in
+    let a = start .args in
+    placed-two (a .out .now) (a .at) (differenceText (a .lit - a .left)) (differenceText (a .left - a .right)) (start .pre .2)
+    (placed-in (c .before .before .before .before .before .before .write-difference .ensures))
+    (placed-in (c .before .before .write-difference2 .ensures))
 
 pub write-differences-spec : {M : Type 1} → statement M
 write-differences-spec =

@@ -7,8 +7,9 @@ use Rattle.binary_text.proofs.write_gate.Tie as tie
 
 write-differences-requires : tie.Need-write-differences-requires
 write-differences-requires c κs =
-    let a = c .before .before .before .args in
-    (c .before .before .before .pre .1, omega (arith, c .before .if1 .taken), rw (lt-ltb (a .left) (a .right) (c .before .if1 .taken)) at (c .before .before .before .pre .2))
+    let start = c .before .before .before in
+    let a = start .args in
+    (start .pre .1, omega (arith, c .before .if1 .taken), rw (lt-ltb (a .left) (a .right) (c .before .if1 .taken)) at (start .pre .2))
 
 returns : tie.Need-returns
 returns c =
@@ -17,8 +18,9 @@ returns c =
 
 write-differences-requires-2 : tie.Need-write-differences-requires-2
 write-differences-requires-2 c κs =
-    let a = c .before .before .before .args in
-    (c .before .before .before .pre .0, c .before .if1 .left, rw (le-ltb (a .left) (a .right) (c .before .if1 .left)) at (c .before .before .before .pre .2))
+    let start = c .before .before .before in
+    let a = start .args in
+    (start .pre .0, c .before .if1 .left, rw (le-ltb (a .left) (a .right) (c .before .if1 .left)) at (start .pre .2))
 
 returns-2 : tie.Need-returns-2
 returns-2 c =

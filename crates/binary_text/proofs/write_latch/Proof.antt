@@ -8,8 +8,9 @@ use Rattle.binary_text.proofs.write_latch.Tie as tie
 
 put-ended-requires : tie.Need-put-ended-requires
 put-ended-requires c κs =
-    let a = c .before .before .before .args in
-    rw (latch-one (a .next) (a .reset) (c .before .if1 .taken)) at (c .before .before .before .pre)
+    let start = c .before .before .before in
+    let a = start .args in
+    rw (latch-one (a .next) (a .reset) (c .before .if1 .taken)) at (start .pre)
 
 returns : tie.Need-returns
 returns c =
@@ -18,22 +19,26 @@ returns c =
 
 put-ended-requires-2 : tie.Need-put-ended-requires-2
 put-ended-requires-2 c κs =
-    let a = c .before .before .before .args in
-    room-first (a .out .now) (a .at) (numberText (a .next) 1) (numberText (a .reset) 0) (rw (latch-two (a .next) (a .reset) (c .before .if1 .left)) at (c .before .before .before .pre))
+    let start = c .before .before .before in
+    let a = start .args in
+    room-first (a .out .now) (a .at) (numberText (a .next) 1) (numberText (a .reset) 0)
+    (rw (latch-two (a .next) (a .reset) (c .before .if1 .left)) at (start .pre))
 
 put-ended-requires-3 : tie.Need-put-ended-requires-3
 put-ended-requires-3 c κs =
-    let a = c .before .before .before .before .before .before .before .args in
-    room-second (a .out .now) (a .at) (numberText (a .next) 1) (numberText (a .reset) 0) (rw (latch-two (a .next) (a .reset) (c .before .before .before .before .before .if1 .left)) at (c .before .before .before .before .before .before .before .pre))
+    let start = c .before .before .before .before .before .before .before in
+    let a = start .args in
+    room-second (a .out .now) (a .at) (numberText (a .next) 1) (numberText (a .reset) 0)
+    (rw (latch-two (a .next) (a .reset) (c .before .before .before .before .before .if1 .left)) at (start .pre))
     (c .before .before .before .put-ended2 .ensures)
 
 returns-2 : tie.Need-returns-2
 returns-2 c =
-    let a = c .before .before .before .before .before .before .before .before .before .before .args in
+    let start = c .before .before .before .before .before .before .before .before .before .before in
+    let a = start .args in
     let e = latch-two (a .next) (a .reset) (c .before .before .before .before .before .before .before .before .if1 .left) in
-    rw e
-    (placed-two (a .out .now) (a .at) (numberText (a .next) 1) (numberText (a .reset) 0) (rw e at (c .before .before .before .before .before .before .before .before .before .before .pre)) (c .before .before .before .before .before .before .put-ended2 .ensures)
-    (c .before .before .put-ended3 .ensures))
+    rw e (placed-two (a .out .now) (a .at) (numberText (a .next) 1) (numberText (a .reset) 0) (rw e at (start .pre))
+    (c .before .before .before .before .before .before .put-ended2 .ensures) (c .before .before .put-ended3 .ensures))
 
 pub write-latch-spec : {M : Type 1} → statement M
 write-latch-spec =

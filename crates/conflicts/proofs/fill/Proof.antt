@@ -1,10 +1,10 @@
 -- `conflicts::fill` meets its contract. The invariant: what is left of the nodes ends as all of them do. Assumes nothing.
+use Rattle.heap.proofs.Turns.{left-by}
 use Rattle.conflicts.proofs.Turns.{filled-none, filled-more}
 use Rattle.conflicts.specs.Conflicts.{filled}
-use Rattle.heap.specs.Heap.{Heaped}
 use lib.ListN as N
 use native.Mathlib.Omega.{arith}
-use mathlib.Core.Path.{_≡_, refl, sym, ap, _∙_}
+use mathlib.Core.Path.{_≡_, refl, sym, _∙_}
 use borrow.Author.Needs.{needs}
 use Rattle.conflicts.proofs.fill.Statement.{statement}
 use Rattle.conflicts.proofs.fill.Tie as tie
@@ -15,15 +15,6 @@ Inv-loop work₀ net n h₀ v₀ left₀ work h v left =
 
 abbrev μ-loop : tie.MeasureT-loop
 μ-loop work₀ net n h₀ v₀ left₀ work h v left = left
-
-loop-holds : tie.Need-loop-holds Inv-loop μ-loop
-loop-holds c = (refl, refl)
-
-sub-left : tie.Need-sub-left Inv-loop μ-loop
-sub-left c = omega arith
-
-loop-less : tie.Need-loop-less Inv-loop μ-loop
-loop-less c = omega arith
 
 loop-again : tie.Need-loop-again Inv-loop μ-loop
 loop-again c =
@@ -40,11 +31,11 @@ returns : tie.Need-returns Inv-loop μ-loop
 returns c =
     let l = c .before .loop in
     let s = c .before .before .before .args in
-    let all = sym (filled-none (l .work) (s .net) (l .h) (l .v) (l .left) (omega arith)) ∙ l .inv .1 in
-    record { words = ap (λ (t : Heaped). t .words) all; heap = ap (λ (t : Heaped). t .heap) all }
+    left-by (sym (filled-none (l .work) (s .net) (l .h) (l .v) (l .left) (omega arith)) ∙ l .inv .1)
 
 pub fill-spec : {M : Type 1} → statement M
 fill-spec =
     tie.close
     (tie.spec
-    Inv-loop μ-loop loop-holds (λ c κs. search needs) (λ c κs. search needs) sub-left loop-less loop-again same-length returns)
+    Inv-loop μ-loop (λ c. (refl, refl)) (λ c κs. search needs) (λ c κs. search needs) (λ c. omega arith) (λ c. omega arith) loop-again
+    same-length returns)

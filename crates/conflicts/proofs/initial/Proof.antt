@@ -3,8 +3,5 @@ use mathlib.Core.Path.{refl}
 use Rattle.conflicts.proofs.initial.Statement.{statement}
 use Rattle.conflicts.proofs.initial.Tie as tie
 
-returns : tie.Need-returns
-returns c = refl
-
 pub initial-spec : {M : Type 1} → statement M
-initial-spec = tie.close (tie.spec returns)
+initial-spec = tie.close (tie.spec (λ c. refl))

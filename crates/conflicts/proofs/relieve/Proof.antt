@@ -7,7 +7,10 @@ use Rattle.conflicts.proofs.relieve.Tie as tie
 
 returns : tie.Need-returns
 unfolding Cf.relieved
-returns c = rw (← c .before .before .before .before .before .is-full .ensures, c .before .before .before .before .if1 .taken) ((c .before .before .forget .ensures))
+returns c = rw (
+  ← c .before .before .before .before .before .is-full .ensures,
+  c .before .before .before .before .if1 .taken,
+) ((c .before .before .forget .ensures))
 
 returns-2 : tie.Need-returns-2
 unfolding Cf.relieved

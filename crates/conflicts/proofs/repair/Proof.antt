@@ -11,7 +11,14 @@ unfolding Cf.repaired
 returns c = rw (eq-eqb _ _ (c .before .before .before .before .if1 .taken)) (c .before .before .conflict-at-zero .ensures)
 
 returns-2 : tie.Need-returns-2
-returns-2 c = let s = c .before .before .before .before .before .before .before .before .before .before .before .before .before .before .before .before .args in rw (← repaired-by (s .work .now) (s .net) (s .s) (c .before .before .before .before .before .before .before .before .before .before .before .before .if1 .left) (c .before .before .before .before .before .before .before .before .before .before .learn .ensures .words) (c .before .before .before .before .before .before .before .before .before .before .learn .ensures .search) (c .before .before .before .before .before .before .relieve .ensures .words) (c .before .before .before .before .before .before .relieve .ensures .search)) (c .before .before .alternate .ensures)
+returns-2 c =
+    let at-relieve = c .before .before .before .before .before .before in
+    let at-learn = at-relieve .before .before .before .before in
+    let s = c .before .before .before .before .before .before .before .before .before .before .before .before .before .before .before
+    .before .args in rw (← repaired-by (s .work .now) (s .net) (s .s)
+    (c .before .before .before .before .before .before .before .before .before .before .before .before .if1 .left)
+    (at-learn .learn .ensures .words) (at-learn .learn .ensures .search) (at-relieve .relieve .ensures .words)
+    (at-relieve .relieve .ensures .search)) (c .before .before .alternate .ensures)
 
 pub repair-spec : {M : Type 1} → statement M
 repair-spec =

@@ -8,8 +8,10 @@ returns : tie.Need-returns
 unfolding Cf.reset
 returns c =
     rw (
-      ← c .before .before .before .before .before .before .before .before .before .before .before .before .before .before .before .before .before .before .set-field .ensures,
-      ← c .before .before .before .before .before .before .before .before .before .before .before .before .before .before .set-field2 .ensures,
+      ← c .before .before .before .before .before .before .before .before .before .before .before .before .before .before .before .before
+          .before .before .set-field .ensures,
+      ← c .before .before .before .before .before .before .before .before .before .before .before .before .before .before .set-field2
+          .ensures,
       ← c .before .before .before .before .before .before .before .before .before .before .set-field3 .ensures,
       ← c .before .before .before .before .before .before .set-field4 .ensures,
     ) (c .before .before .set-field5 .ensures)

@@ -15,15 +15,6 @@ Inv-loop work₀ nodes n left₀ work left =
 abbrev μ-loop : tie.MeasureT-loop
 μ-loop work₀ nodes n left₀ work left = left
 
-loop-holds : tie.Need-loop-holds Inv-loop μ-loop
-loop-holds c = (refl, refl)
-
-sub-left : tie.Need-sub-left Inv-loop μ-loop
-sub-left c = omega arith
-
-loop-less : tie.Need-loop-less Inv-loop μ-loop
-loop-less c = omega arith
-
 loop-again : tie.Need-loop-again Inv-loop μ-loop
 loop-again c =
     let l = c .before .before .before .before .before .before .before .before .before .loop in
@@ -46,4 +37,5 @@ pub reset-all-spec : {M : Type 1} → statement M
 reset-all-spec =
     tie.close
     (tie.spec
-    Inv-loop μ-loop loop-holds sub-left (λ c κs. search needs) (λ c κs. search needs) loop-less loop-again same-length returns)
+    Inv-loop μ-loop (λ c. (refl, refl)) (λ c. omega arith) (λ c κs. search needs) (λ c κs. search needs) (λ c. omega arith) loop-again
+    same-length returns)

@@ -8,7 +8,8 @@ returns : tie.Need-returns
 unfolding Cf.resetRest
 returns c =
     rw (
-      ← c .before .before .before .before .before .before .before .before .before .before .before .before .before .before .set-field .ensures,
+      ← c .before .before .before .before .before .before .before .before .before .before .before .before .before .before .set-field
+          .ensures,
       ← c .before .before .before .before .before .before .before .before .before .before .set-field2 .ensures,
       ← c .before .before .before .before .before .before .set-field3 .ensures,
     ) (c .before .before .set-field4 .ensures)

@@ -7,11 +7,23 @@ use Rattle.conflicts.proofs.step.Tie as tie
 
 returns : tie.Need-returns
 unfolding Cf.stepped
-returns c = rw (← c .before .before .before .before .before .before .before .follow .ensures .words, ← c .before .before .before .before .before .before .before .follow .ensures .search, eq-eqb _ _ (c .before .before .before .before .if1 .taken)) ((c .before .before .extend .ensures))
+returns c =
+    let at-follow = c .before .before .before .before .before .before .before in
+    rw (
+      ← at-follow .follow .ensures .words,
+      ← at-follow .follow .ensures .search,
+      eq-eqb _ _ (c .before .before .before .before .if1 .taken),
+    ) ((c .before .before .extend .ensures))
 
 returns-2 : tie.Need-returns-2
 unfolding Cf.stepped
-returns-2 c = rw (← c .before .before .before .before .before .before .before .follow .ensures .words, ← c .before .before .before .before .before .before .before .follow .ensures .search, ne-eqb _ _ (c .before .before .before .before .if1 .left)) ((c .before .before .repair .ensures))
+returns-2 c =
+    let at-follow = c .before .before .before .before .before .before .before in
+    rw (
+      ← at-follow .follow .ensures .words,
+      ← at-follow .follow .ensures .search,
+      ne-eqb _ _ (c .before .before .before .before .if1 .left),
+    ) ((c .before .before .repair .ensures))
 
 pub step-spec : {M : Type 1} → statement M
 step-spec =

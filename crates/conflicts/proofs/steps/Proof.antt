@@ -1,14 +1,13 @@
 -- `conflicts::steps` meets its contract. The invariant: what is left of the effort ends as all of it does. Assumes nothing.
-use Rattle.conflicts.proofs.Turns.{steps-none, steps-over, steps-spent, steps-more}
+use Rattle.conflicts.proofs.Turns.{left-by, steps-none, steps-over, steps-spent, steps-more}
 use Rattle.conflicts.specs.Conflicts.{steps}
-use Rattle.learning.specs.Learning.{Searched}
 use Rattle.learning.specs.declared.Search.{Search}
 use mathlib.Core.List.{List}
 use Prim.Native.Nat.{ℕ, _-_}
 use mathlib.Core.Path.{ap₂}
 use lib.ListN as N
 use native.Mathlib.Omega.{arith}
-use mathlib.Core.Path.{_≡_, refl, sym, ap, _∙_}
+use mathlib.Core.Path.{_≡_, refl, sym, _∙_}
 use borrow.Author.Needs.{needs}
 use Rattle.conflicts.proofs.steps.Statement.{statement}
 use Rattle.conflicts.proofs.steps.Tie as tie
@@ -20,9 +19,6 @@ Inv-loop work₀ net effort u₀ left₀ work u left =
 abbrev μ-loop : tie.MeasureT-loop
 μ-loop work₀ net effort u₀ left₀ work u left = left
 
-loop-holds : tie.Need-loop-holds Inv-loop μ-loop
-loop-holds c = (refl, refl)
-
 same-length : tie.Need-same-length Inv-loop μ-loop
 same-length c = c .before .before .before .before .loop .inv .0
 
@@ -30,8 +26,7 @@ returns : tie.Need-returns Inv-loop μ-loop
 returns c =
     let l = c .before .before .before .before .loop in
     let s = c .before .before .before .before .before .before .args in
-    let all = sym (steps-over (l .work) (s .net) (l .u) (s .effort) (l .left) (c .if1 .taken)) ∙ l .inv .1 in
-    record { words = ap (λ (t : Searched). t .words) all; search = ap (λ (t : Searched). t .search) all }
+    left-by (sym (steps-over (l .work) (s .net) (l .u) (s .effort) (l .left) (c .if1 .taken)) ∙ l .inv .1)
 
 same-length-2 : tie.Need-same-length-2 Inv-loop μ-loop
 same-length-2 c = c .before .before .before .before .before .before .loop .inv .0
@@ -40,21 +35,19 @@ returns-2 : tie.Need-returns-2 Inv-loop μ-loop
 returns-2 c =
     let l = c .before .before .before .before .before .before .loop in
     let s = c .before .before .before .before .before .before .before .before .args in
-    let all = sym (steps-spent (l .work) (s .net) (l .u) (s .effort) (l .left) (c .before .before .if1 .left) (c .if2 .taken)) ∙ l .inv .1 in
-    record { words = ap (λ (t : Searched). t .words) all; search = ap (λ (t : Searched). t .search) all }
-
-sub-left : tie.Need-sub-left Inv-loop μ-loop
-sub-left c = omega arith
-
-loop-less : tie.Need-loop-less Inv-loop μ-loop
-loop-less c = omega arith
+    left-by (sym (steps-spent (l .work) (s .net) (l .u) (s .effort) (l .left) (c .before .before .if1 .left) (c .if2 .taken)) ∙ l .inv .1)
 
 loop-again : tie.Need-loop-again Inv-loop μ-loop
 loop-again c =
+    let at-step = c .before .before in
     let l = c .before .before .before .before .before .before .before .before .before .before .loop in
     let s = c .before .before .before .before .before .before .before .before .before .before .before .before .args in
-    let more = steps-more (l .work) (s .net) (l .u) (s .effort) (l .left) (omega arith) (c .before .before .before .before .before .before .if1 .left) (c .before .before .before .before .if2 .left) in
-    (c .before .before .step .kept .0 ∙ l .inv .0, ap₂ (λ (w : List ℕ) (t : Search). steps w (s .net) t (s .effort) (l .left - 1)) (c .before .before .step .ensures .words) (c .before .before .step .ensures .search) ∙ sym more ∙ l .inv .1)
+    let more = steps-more (l .work) (s .net) (l .u) (s .effort) (l .left) (omega arith)
+    (c .before .before .before .before .before .before .if1 .left) (c .before .before .before .before .if2 .left) in (
+      at-step .step .kept .0 ∙ l .inv .0,
+      ap₂ (λ (w : List ℕ) (t : Search). steps w (s .net) t (s .effort) (l .left - 1)) (at-step .step .ensures .words)
+          (at-step .step .ensures .search) ∙ sym more ∙ l .inv .1,
+    )
 
 same-length-3 : tie.Need-same-length-3 Inv-loop μ-loop
 same-length-3 c = c .before .loop .inv .0
@@ -63,12 +56,11 @@ returns-3 : tie.Need-returns-3 Inv-loop μ-loop
 returns-3 c =
     let l = c .before .loop in
     let s = c .before .before .before .args in
-    let all = sym (steps-none (l .work) (s .net) (l .u) (s .effort) (l .left) (omega arith)) ∙ l .inv .1 in
-    record { words = ap (λ (t : Searched). t .words) all; search = ap (λ (t : Searched). t .search) all }
+    left-by (sym (steps-none (l .work) (s .net) (l .u) (s .effort) (l .left) (omega arith)) ∙ l .inv .1)
 
 pub steps-spec : {M : Type 1} → statement M
 steps-spec =
     tie.close
     (tie.spec
-    Inv-loop μ-loop loop-holds same-length returns same-length-2 returns-2 (λ c κs. search needs) sub-left loop-less loop-again
-    same-length-3 returns-3)
+    Inv-loop μ-loop (λ c. (refl, refl)) same-length returns same-length-2 returns-2 (λ c κs. search needs) (λ c. omega arith)
+    (λ c. omega arith) loop-again same-length-3 returns-3)

@@ -8,7 +8,9 @@ use Rattle.graph.proofs.append_plain.Statement.{statement}
 use Rattle.graph.proofs.append_plain.Tie as tie
 
 cast-k : tie.Need-cast-k
-cast-k c = omega (arith, c .before .before .pre .0 .proper .room, c .before .before .pre .0 .proper .stored .sized .room)
+cast-k c =
+    let start = c .before .before in
+    omega (arith, start .pre .0 .proper .room, start .pre .0 .proper .stored .sized .room)
 
 append-pair-requires : tie.Need-append-pair-requires
 append-pair-requires c κs =

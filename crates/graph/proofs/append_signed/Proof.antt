@@ -9,7 +9,9 @@ use Rattle.graph.proofs.append_signed.Statement.{statement}
 use Rattle.graph.proofs.append_signed.Tie as tie
 
 cast-k : tie.Need-cast-k
-cast-k c = omega (arith, c .before .before .pre .0 .proper .room, c .before .before .pre .0 .proper .stored .sized .room)
+cast-k c =
+    let start = c .before .before in
+    omega (arith, start .pre .0 .proper .room, start .pre .0 .proper .stored .sized .room)
 
 signature-requires : tie.Need-signature-requires
 signature-requires c κs =

@@ -18,9 +18,11 @@ cast-q c =
 
 make-packed-requires : tie.Need-make-packed-requires
 make-packed-requires c κs =
+    let at-word2 = c .before .before in
+    let at-word = at-word2 .before in
     let s = c .before .before .before .before .before in
-    rw (c .before .before .before .word .ensures, c .before .before .word2 .ensures)
-    (operands-swapped (s .pre), omega (arith, c .before .if1 .taken, c .before .before .before .word .ensures, c .before .before .word2 .ensures))
+    rw (at-word .word .ensures, at-word2 .word2 .ensures)
+    (operands-swapped (s .pre), omega (arith, c .before .if1 .taken, at-word .word .ensures, at-word2 .word2 .ensures))
 
 returns : tie.Need-returns
 returns c =
@@ -32,9 +34,11 @@ returns c =
 
 make-packed-requires-2 : tie.Need-make-packed-requires-2
 make-packed-requires-2 c κs =
+    let at-word2 = c .before .before in
+    let at-word = at-word2 .before in
     let s = c .before .before .before .before .before in
-    rw (c .before .before .before .word .ensures, c .before .before .word2 .ensures)
-    (s .pre, omega (arith, c .before .if1 .left, c .before .before .before .word .ensures, c .before .before .word2 .ensures))
+    rw (at-word .word .ensures, at-word2 .word2 .ensures)
+    (s .pre, omega (arith, c .before .if1 .left, at-word .word .ensures, at-word2 .word2 .ensures))
 
 returns-2 : tie.Need-returns-2
 returns-2 c =

@@ -23,6 +23,4 @@ returns c =
     rw (e, f) at (m .ensures)
 
 pub make-packed-spec : {M : Type 1} → statement M
-make-packed-spec =
-    tie.close
-    (tie.spec (λ c κs. search needs) (λ c κs. search needs) make-ordered-requires (λ c. search needs) returns)
+make-packed-spec = tie.close (tie.spec (λ c κs. search needs) (λ c κs. search needs) make-ordered-requires (λ c. search needs) returns)

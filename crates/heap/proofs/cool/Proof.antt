@@ -17,4 +17,7 @@ returns-2 c =
     (record { words = c .before .before .before .scale .ensures; heap = refl })
 
 pub cool-spec : {M : Type 1} → statement M
-cool-spec = tie.close (tie.spec (λ c. search needs) (λ c. search needs) returns (λ c κs. search needs) (λ c. search needs) (λ c. search needs) returns-2)
+cool-spec =
+    tie.close
+    (tie.spec
+    (λ c. search needs) (λ c. search needs) returns (λ c κs. search needs) (λ c. search needs) (λ c. search needs) returns-2)

@@ -14,7 +14,11 @@ returns-2 : tie.Need-returns-2
 unfolding Hp.dropped
 returns-2 c =
     rw (lt-leb _ _ (c .before .before .before .before .before .before .before .before .before .if1 .left))
-    (record { words = rw (← c .before .before .before .before .before .before .at-place .ensures) (c .before .before .before .down .ensures); heap = refl })
+    (record {
+      words = rw (← c .before .before .before .before .before .before .at-place .ensures)
+          (c .before .before .before .down .ensures);
+      heap = refl;
+    })
 
 pub drop-top-spec : {M : Type 1} → statement M
 drop-top-spec =

@@ -20,5 +20,4 @@ returns-2 c =
     )
 
 pub is-below-spec : {M : Type 1} → statement M
-is-below-spec =
-    tie.close (tie.spec returns (λ c κs. search needs) (λ c κs. search needs) (λ c κs. search needs) returns-2)
+is-below-spec = tie.close (tie.spec returns (λ c κs. search needs) (λ c κs. search needs) (λ c κs. search needs) returns-2)

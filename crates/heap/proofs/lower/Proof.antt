@@ -13,5 +13,4 @@ returns c =
     ) (c .before .before .seat .ensures)
 
 pub lower-spec : {M : Type 1} → statement M
-lower-spec =
-    tie.close (tie.spec (λ c κs. search needs) (λ c κs. search needs) (λ c κs. search needs) (λ c. search needs) returns)
+lower-spec = tie.close (tie.spec (λ c κs. search needs) (λ c κs. search needs) (λ c κs. search needs) (λ c. search needs) returns)

@@ -1,9 +1,9 @@
 -- `heap::restore` meets its contract. The invariant: what is left of the trail ends as all of it does. Assumes nothing.
-use Rattle.heap.proofs.Turns.{restored-none, restored-more}
-use Rattle.heap.specs.Heap.{Heaped, restored}
+use Rattle.heap.proofs.Turns.{left-by, restored-none, restored-more}
+use Rattle.heap.specs.Heap.{restored}
 use lib.ListN as N
 use native.Mathlib.Omega.{arith}
-use mathlib.Core.Path.{_≡_, refl, sym, ap, _∙_}
+use mathlib.Core.Path.{_≡_, refl, sym, _∙_}
 use borrow.Author.Needs.{needs}
 use Rattle.heap.proofs.restore.Statement.{statement}
 use Rattle.heap.proofs.restore.Tie as tie
@@ -15,22 +15,15 @@ Inv-loop work₀ net from n h₀ left₀ work h left =
 abbrev μ-loop : tie.MeasureT-loop
 μ-loop work₀ net from n h₀ left₀ work h left = left
 
-loop-holds : tie.Need-loop-holds Inv-loop μ-loop
-loop-holds c = (refl, refl)
-
-sub-left : tie.Need-sub-left Inv-loop μ-loop
-sub-left c = omega arith
-
-loop-less : tie.Need-loop-less Inv-loop μ-loop
-loop-less c = omega arith
-
 loop-again : tie.Need-loop-again Inv-loop μ-loop
 loop-again c =
     let l = c .before .before .before .before .before .before .before .loop in
     let s = c .before .before .before .before .before .before .before .before .before .args in
     let more = restored-more (l .work) (s .net) (l .h) (s .from) (l .left) (omega arith) in
-    let u = c .before .before .admit in
-    (u .kept .0 ∙ l .inv .0, rw (u .ensures .words, u .ensures .heap, c .before .before .before .before .field .ensures) (sym more ∙ l .inv .1))
+    let u = c .before .before .admit in (
+      u .kept .0 ∙ l .inv .0,
+      rw (u .ensures .words, u .ensures .heap, c .before .before .before .before .field .ensures) (sym more ∙ l .inv .1),
+    )
 
 same-length : tie.Need-same-length Inv-loop μ-loop
 same-length c = c .before .loop .inv .0
@@ -39,11 +32,11 @@ returns : tie.Need-returns Inv-loop μ-loop
 returns c =
     let l = c .before .loop in
     let s = c .before .before .before .args in
-    let all = sym (restored-none (l .work) (s .net) (l .h) (s .from) (l .left) (omega arith)) ∙ l .inv .1 in
-    record { words = ap (λ (t : Heaped). t .words) all; heap = ap (λ (t : Heaped). t .heap) all }
+    left-by (sym (restored-none (l .work) (s .net) (l .h) (s .from) (l .left) (omega arith)) ∙ l .inv .1)
 
 pub restore-spec : {M : Type 1} → statement M
 restore-spec =
     tie.close
     (tie.spec
-    Inv-loop μ-loop loop-holds sub-left (λ c κs. search needs) (λ c κs. search needs) loop-less loop-again same-length returns)
+    Inv-loop μ-loop (λ c. (refl, refl)) (λ c. omega arith) (λ c κs. search needs) (λ c κs. search needs) (λ c. omega arith) loop-again
+    same-length returns)

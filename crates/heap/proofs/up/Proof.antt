@@ -1,9 +1,9 @@
 -- `heap::up` meets its contract. The invariant: what is left of the way ends as all of it does. Assumes nothing.
 use Rattle.heap.proofs.Turns.{upped-none, upped-stop, upped-more}
-use Rattle.heap.specs.Heap.{upped, isAbove}
+use Rattle.heap.specs.Heap.{upped}
 use lib.ListN as N
 use native.Mathlib.Omega.{arith}
-use mathlib.Core.Path.{_≡_, refl, sym, ap, _∙_}
+use mathlib.Core.Path.{_≡_, refl, sym, _∙_}
 use borrow.Author.Needs.{needs}
 use Rattle.heap.proofs.up.Statement.{statement}
 use Rattle.heap.proofs.up.Tie as tie
@@ -15,20 +15,13 @@ Inv-loop work₀ nodes i v n at₀ left₀ work at left =
 abbrev μ-loop : tie.MeasureT-loop
 μ-loop work₀ nodes i v n at₀ left₀ work at left = left
 
-loop-holds : tie.Need-loop-holds Inv-loop μ-loop
-loop-holds c = (refl, refl)
-
-sub-left : tie.Need-sub-left Inv-loop μ-loop
-sub-left c = omega arith
-
-loop-less : tie.Need-loop-less Inv-loop μ-loop
-loop-less c = omega arith
-
 loop-again : tie.Need-loop-again Inv-loop μ-loop
 loop-again c =
     let l = c .before .before .before .before .before .before .before .before .before .loop in
     let s = c .before .before .before .before .before .before .before .before .before .before .before .args in
-    let more = upped-more (l .work) (s .nodes) (s .v) (l .at) (l .left) (omega arith) (sym (c .before .before .before .before .before .before .is-above .ensures) ∙ c .before .before .before .before .before .if1 .taken) in
+    let more = upped-more (l .work) (s .nodes) (s .v) (l .at) (l .left) (omega arith)
+    (sym (c .before .before .before .before .before .before .is-above .ensures) ∙ c .before .before .before .before .before .if1 .taken)
+    in
     let u = c .before .before .before .lower in
     (u .kept .0 ∙ l .inv .0, rw (u .ensures, c .parent .ensures) (sym more ∙ l .inv .1))
 
@@ -39,7 +32,8 @@ returns : tie.Need-returns Inv-loop μ-loop
 returns c =
     let l = c .before .before .before .before .before .before .before .before .loop in
     let s = c .before .before .before .before .before .before .before .before .before .before .args in
-    let stop = upped-stop (l .work) (s .nodes) (s .v) (l .at) (l .left) (sym (c .before .before .before .before .before .is-above .ensures) ∙ c .before .before .before .before .if1 .left) in
+    let stop = upped-stop (l .work) (s .nodes) (s .v) (l .at) (l .left)
+    (sym (c .before .before .before .before .before .is-above .ensures) ∙ c .before .before .before .before .if1 .left) in
     c .before .before .seat .ensures ∙ sym stop ∙ l .inv .1
 
 same-length-2 : tie.Need-same-length-2 Inv-loop μ-loop
@@ -56,5 +50,5 @@ pub up-spec : {M : Type 1} → statement M
 up-spec =
     tie.close
     (tie.spec
-    Inv-loop μ-loop loop-holds (λ c κs. search needs) (λ c κs. search needs) (λ c κs. search needs) sub-left loop-less loop-again
-    (λ c κs. search needs) same-length returns (λ c κs. search needs) same-length-2 returns-2)
+    Inv-loop μ-loop (λ c. (refl, refl)) (λ c κs. search needs) (λ c κs. search needs) (λ c κs. search needs) (λ c. omega arith)
+    (λ c. omega arith) loop-again (λ c κs. search needs) same-length returns (λ c κs. search needs) same-length-2 returns-2)

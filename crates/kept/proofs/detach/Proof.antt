@@ -3,7 +3,7 @@ use Rattle.kept.proofs.Turns.{detached-none, detached-more}
 use Rattle.kept.specs.Kept.{detached}
 use lib.ListN as N
 use native.Mathlib.Omega.{arith}
-use mathlib.Core.Path.{_≡_, refl, sym, ap, _∙_}
+use mathlib.Core.Path.{_≡_, refl, sym, _∙_}
 use borrow.Author.Needs.{needs}
 use Rattle.kept.proofs.detach.Statement.{statement}
 use Rattle.kept.proofs.detach.Tie as tie
@@ -15,15 +15,6 @@ Inv-loop work₀ net n left₀ work left =
 abbrev μ-loop : tie.MeasureT-loop
 μ-loop work₀ net n left₀ work left = left
 
-loop-holds : tie.Need-loop-holds Inv-loop μ-loop
-loop-holds c = (refl, refl)
-
-sub-left : tie.Need-sub-left Inv-loop μ-loop
-sub-left c = omega arith
-
-loop-less : tie.Need-loop-less Inv-loop μ-loop
-loop-less c = omega arith
-
 loop-again : tie.Need-loop-again Inv-loop μ-loop
 loop-again c =
     let l = c .before .before .before .before .before .before .before .before .before .loop in
@@ -34,8 +25,7 @@ loop-again c =
     (v .kept .0 ∙ u .kept .0 ∙ l .inv .0, rw (v .ensures, u .ensures) (sym more ∙ l .inv .1))
 
 same-length : tie.Need-same-length Inv-loop μ-loop
-same-length c =
-    c .before .loop .inv .0
+same-length c = c .before .loop .inv .0
 
 returns : tie.Need-returns Inv-loop μ-loop
 returns c =
@@ -47,4 +37,5 @@ pub detach-spec : {M : Type 1} → statement M
 detach-spec =
     tie.close
     (tie.spec
-    Inv-loop μ-loop loop-holds sub-left (λ c κs. search needs) (λ c κs. search needs) loop-less loop-again same-length returns)
+    Inv-loop μ-loop (λ c. (refl, refl)) (λ c. omega arith) (λ c κs. search needs) (λ c κs. search needs) (λ c. omega arith) loop-again
+    same-length returns)

@@ -16,7 +16,11 @@ returns-2 c = rw (le-ltb _ _ (c .before .before .if1 .left), le-leb _ _ (c .if2 
 
 returns-3 : tie.Need-returns-3
 unfolding K.kept
-returns-3 c = rw (le-ltb _ _ (c .before .before .before .before .before .before .before .before .before .before .if1 .left), lt-leb _ _ (c .before .before .before .before .before .before .before .before .if2 .left), c .before .before .before .before .before .before .before .if3 .taken) (record { words = c .before .before .before .before .before .write-head .ensures; arena = refl })
+returns-3 c = rw (
+  le-ltb _ _ (c .before .before .before .before .before .before .before .before .before .before .if1 .left),
+  lt-leb _ _ (c .before .before .before .before .before .before .before .before .if2 .left),
+  c .before .before .before .before .before .before .before .if3 .taken,
+) (record { words = c .before .before .before .before .before .write-head .ensures; arena = refl })
 
 returns-4 : tie.Need-returns-4
 unfolding K.kept

@@ -21,21 +21,6 @@ abbrev μ-loop : tie.MeasureT-loop
 loop-holds : tie.Need-loop-holds Inv-loop μ-loop
 loop-holds c = (omega arith, refl, stored-start _ _ _)
 
-add-m : tie.Need-add-m Inv-loop μ-loop
-add-m c = omega arith
-
-mul-m : tie.Need-mul-m Inv-loop μ-loop
-mul-m c = omega arith
-
-slice-write-m : tie.Need-slice-write-m Inv-loop μ-loop
-slice-write-m c = omega arith
-
-add-j : tie.Need-add-j Inv-loop μ-loop
-add-j c = omega arith
-
-loop-less : tie.Need-loop-less Inv-loop μ-loop
-loop-less c = omega arith
-
 loop-again : tie.Need-loop-again Inv-loop μ-loop
 loop-again c = let L = c .before .loop in let S = c .before .before in
     (omega arith, length-set (L .m) _ _ ∙ L .inv .1, put-more (S .args .to) (λ _. 0) (S .args .n) (L .j) (S .args .m .now) (L .m) (L .inv .1) (omega arith) (omega arith) (L .inv .2) _ refl)
@@ -50,4 +35,5 @@ pub put-zeros-spec : {M : Type 1} → statement M
 put-zeros-spec =
     tie.close
     (tie.spec
-    Inv-loop μ-loop loop-holds add-m mul-m slice-write-m add-j loop-less loop-again same-length returns)
+    Inv-loop μ-loop loop-holds (λ c. omega arith) (λ c. omega arith) (λ c. omega arith) (λ c. omega arith) (λ c. omega arith) loop-again
+    same-length returns)

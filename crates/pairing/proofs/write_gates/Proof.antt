@@ -14,7 +14,9 @@ use Rattle.pairing.proofs.write_gates.Statement.{statement}
 use Rattle.pairing.proofs.write_gates.Tie as tie
 
 gates-from-requires : tie.Need-gates-from-requires
-gates-from-requires c κs = (c .before .before .before .before .before .pre .0 .2, c .before .before .before .before .before .pre .0 .3)
+gates-from-requires c κs =
+    let start = c .before .before .before .before .before in
+    (start .pre .0 .2, start .pre .0 .3)
 
 mul-rename-words : tie.Need-mul-rename-words
 mul-rename-words c = let s = c .before .before .before .before .before .before .before in omega (arith, s .pre .0 .2)
@@ -51,15 +53,18 @@ same-length c = c .before .before .put-pairs .kept .1 .1 .1 .1 .1 .1 .0 ∙ c .b
 returns : tie.Need-returns
 unfolding gateWordsOf
 returns c =
+    let at-gates-from = c .before .before .before .before .before .before .before .before .before .before .before .before .before .before
+    .before in
     λ xs m e t z.
-    let s = c .before .before .before .before .before .before .before .before .before .before .before .before .before .before .before .before .before .before .before .before .before in
+    let s = c .before .before .before .before .before .before .before .before .before .before .before .before .before .before .before
+    .before .before .before .before .before .before in
     let p = s .args .p in
     let q = s .args .q in
     let a = c .before .before .before .before .before .before .before .before .before .before .before .before .rename-words in
     let b = c .before .before .before .before .before .before .rename-words2 in
     let k = c .before .before .put-pairs in
-    let at : ℕ = c .before .before .before .before .before .before .before .before .before .before .before .before .before .before .before .gates-from .result in
-    let here : at ≡ gatesFrom p q = c .before .before .before .before .before .before .before .before .before .before .before .before .before .before .before .gates-from .ensures in
+    let at : ℕ = at-gates-from .gates-from .result in
+    let here : at ≡ gatesFrom p q = at-gates-from .gates-from .ensures in
     let fa : ℕ → ℕ = λ j. under (s .args .first .now) (word (s .args .a .now) (p .gates + j)) in
     let fb : ℕ → ℕ = λ j. under (s .args .second .now) (word (s .args .b .now) (q .gates + j)) in
     let f : ℕ → ℕ =
@@ -72,11 +77,14 @@ returns c =
     let n₁ : at + 3 * p .a ≡ length ys = longer xs at (3 * p .a) fa n₀ in
     let n₂ : at + 3 * p .a + 3 * q .a ≡ length zs = longer ys (at + 3 * p .a) (3 * q .a) fb n₁ in
     let there : gatesFrom p q + 3 * p .a + 3 * q .a ≡ length zs = ap (λ (x : ℕ). x + 3 * p .a + 3 * q .a) (sym here) ∙ n₂ in
-    let e₁ = next-front xs m (s .args .m .now) (a .last .1 .1 .1 .1 .0) at (3 * p .a) fa e n₀ (omega (arith, room)) (a .kept .1 .1 .1 .1 .0) (a .ensures) in
+    let e₁ = next-front xs m (s .args .m .now) (a .last .1 .1 .1 .1 .0) at (3 * p .a) fa e n₀ (omega (arith, room))
+    (a .kept .1 .1 .1 .1 .0) (a .ensures) in
     let e₂ =
-    next-front ys m (a .last .1 .1 .1 .1 .0) (b .last .1 .1 .1 .1 .0) (at + 3 * p .a) (3 * q .a) fb e₁ n₁ (omega (arith, room)) (b .kept .1 .1 .1 .1 .0) (b .ensures) in
+    next-front ys m (a .last .1 .1 .1 .1 .0) (b .last .1 .1 .1 .1 .0) (at + 3 * p .a) (3 * q .a) fb e₁ n₁ (omega (arith, room))
+    (b .kept .1 .1 .1 .1 .0) (b .ensures) in
     let e₃ =
-    next-front zs m (b .last .1 .1 .1 .1 .0) (k .last .1 .1 .1 .1 .1 .1 .0) (gatesFrom p q + 3 * p .a + 3 * q .a) (9 * p .o) f e₂ there (omega (arith, room))
+    next-front zs m (b .last .1 .1 .1 .1 .0) (k .last .1 .1 .1 .1 .1 .1 .0) (gatesFrom p q + 3 * p .a + 3 * q .a) (9 * p .o) f e₂ there
+    (omega (arith, room))
     (k .kept .1 .1 .1 .1 .1 .1 .0) (k .ensures) in
     e₃ ∙ ap (λ (w : List ℕ). front w m) (regroup xs (map fa (upto (3 * p .a))) (map fb (upto (3 * q .a))) (map f (upto (9 * p .o))))
 

@@ -73,7 +73,10 @@ same-length c =
 
 returns : tie.Need-returns
 returns c =
-    let s = c .before .before .before .before .before .before .before .before .before .before .before .before .before .before .before .before .before .before .before .before .before .before .before .before in
+    let at-words-needed = c .before .before .before in
+    let at-pairs-from = at-words-needed .before .before .before in
+    let s = c .before .before .before .before .before .before .before .before .before .before .before .before .before .before .before
+    .before .before .before .before .before .before .before .before .before in
     let f = s .pre .0 in
     let p = s .args .p in
     let q = s .args .q in
@@ -82,7 +85,8 @@ returns c =
     let first = s .args .first .now in
     let second = s .args .second .now in
     let m = s .args .m .now in
-    let d = c .before .before .before .before .before .before .before .before .before .before .before .before .before .before .before .before .before .write-definitions in
+    let d = c .before .before .before .before .before .before .before .before .before .before .before .before .before .before .before
+    .before .before .write-definitions in
     let r = c .before .before .before .before .before .before .before .before .before .before .before .before .before .write-properties in
     let g = c .before .before .before .before .before .before .before .before .before .write-gates in
     let z = c .before .before .put-zeros in
@@ -97,13 +101,14 @@ returns c =
     let e₂ : m₂ ≡ front (D ++ R) m = r .ensures D m (d .ensures) (sym (definitions-length f)) k₁ in
     let l₂ : gatesFrom p q ≡ length (D ++ R) = omega (arith, length-append D R, definitions-length f, properties-length f) in
     let e₃ : m₃ ≡ front (D ++ R ++ G) m = g .ensures (D ++ R) m e₂ l₂ k₂ in
-    let end : ℕ = c .before .before .before .before .before .before .pairs-from .result + 9 * p .o in
-    let n : ℕ = c .before .before .before .words-needed .result - end in
-    let l₃ : end ≡ length (D ++ R ++ G) = ap (λ (x : ℕ). x + 9 * p .o) (c .before .before .before .before .before .before .pairs-from .ensures) ∙ sym (all-length f) in
+    let end : ℕ = at-pairs-from .pairs-from .result + 9 * p .o in
+    let n : ℕ = at-words-needed .words-needed .result - end in
+    let l₃ : end ≡ length (D ++ R ++ G) = ap (λ (x : ℕ). x + 9 * p .o) (at-pairs-from .pairs-from .ensures) ∙ sym (all-length f) in
     let left : n ≡ needed (variables p q) - (gatesFrom p q + 3 * p .a + 3 * q .a + 9 * p .o) =
-    ap₂ (λ (x y : ℕ). x - (y + 9 * p .o)) (c .before .before .before .words-needed .ensures) (c .before .before .before .before .before .before .pairs-from .ensures) in
-    let room : end + n ≤ length m = omega (arith, left, c .before .before .before .before .before .before .pairs-from .ensures, all-room f, s .pre .1) in
-    next-front (D ++ R ++ G) m m₃ (z .last .0) end n (λ _. 0) e₃ l₃ room (z .kept .0) (z .ensures) ∙ ap (λ (w : List ℕ). front w m) (image-is f n left)
+    ap₂ (λ (x y : ℕ). x - (y + 9 * p .o)) (at-words-needed .words-needed .ensures) (at-pairs-from .pairs-from .ensures) in
+    let room : end + n ≤ length m = omega (arith, left, at-pairs-from .pairs-from .ensures, all-room f, s .pre .1) in
+    next-front (D ++ R ++ G) m m₃ (z .last .0) end n (λ _. 0) e₃ l₃ room (z .kept .0) (z .ensures)
+    ∙ ap (λ (w : List ℕ). front w m) (image-is f n left)
 
 pub write-joined-spec : {M : Type 1} → statement M
 write-joined-spec =

@@ -12,11 +12,19 @@ returns c = rw (eq-eqb _ _ (c .if1 .taken)) (record { words = refl; state = refl
 
 returns-2 : tie.Need-returns-2
 unfolding G.applied
-returns-2 c = rw (ne-eqb _ _ (c .before .before .if1 .left), le-leb _ _ (c .before .if2 .taken)) (record { words = refl; state = c .violated .ensures })
+returns-2 c = rw (
+  ne-eqb _ _ (c .before .before .if1 .left),
+  le-leb _ _ (c .before .if2 .taken),
+) (record { words = refl; state = c .violated .ensures })
 
 returns-3 : tie.Need-returns-3
 unfolding G.applied
-returns-3 c = rw (← c .before .before .before .before .before .implied .ensures, ← c .before .before .before .reason .ensures, ne-eqb _ _ (c .before .before .before .before .before .before .before .before .if1 .left), lt-leb _ _ (c .before .before .before .before .before .before .before .if2 .left)) (c .before .before .assign .ensures)
+returns-3 c = rw (
+  ← c .before .before .before .before .before .implied .ensures,
+  ← c .before .before .before .reason .ensures,
+  ne-eqb _ _ (c .before .before .before .before .before .before .before .before .if1 .left),
+  lt-leb _ _ (c .before .before .before .before .before .before .before .if2 .left),
+) (c .before .before .assign .ensures)
 
 pub apply-spec : {M : Type 1} → statement M
 apply-spec =

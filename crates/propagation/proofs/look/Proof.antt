@@ -12,7 +12,16 @@ returns c = rw (le-leb _ _ (c .if1 .taken)) (record { words = refl; state = refl
 
 returns-2 : tie.Need-returns-2
 unfolding G.looked
-returns-2 c = rw (← c .before .before .before .before .before .before .before .before .before .before .before .before .before .field .ensures, ← c .before .before .before .before .before .before .before .before .before .before .before .field2 .ensures, ← c .before .before .before .before .before .before .before .before .before .value .ensures, ← c .before .before .before .before .before .before .before .value2 .ensures, ← c .before .before .before .before .before .value3 .ensures, ← c .before .before .before .rule .ensures, lt-leb _ _ (c .before .before .before .before .before .before .before .before .before .before .before .before .before .before .before .if1 .left)) (c .before .before .apply .ensures)
+returns-2 c = rw (
+  ← c .before .before .before .before .before .before .before .before .before .before .before .before .before .field .ensures,
+  ← c .before .before .before .before .before .before .before .before .before .before .before .field2 .ensures,
+  ← c .before .before .before .before .before .before .before .before .before .value .ensures,
+  ← c .before .before .before .before .before .before .before .value2 .ensures,
+  ← c .before .before .before .before .before .value3 .ensures,
+  ← c .before .before .before .rule .ensures,
+  lt-leb _ _ (c .before .before .before .before .before .before .before .before .before .before .before .before .before .before .before
+      .if1 .left),
+) (c .before .before .apply .ensures)
 
 pub look-spec : {M : Type 1} → statement M
 look-spec =

@@ -1,10 +1,10 @@
 -- `propagation::look_up` meets its contract. The invariant: what is left of the fan-outs ends as all of them do. Assumes nothing.
+use Rattle.trail.proofs.Turns.{left-by}
 use Rattle.propagation.proofs.Turns.{up-none, up-end, up-stop, up-more}
 use Rattle.propagation.specs.Gates.{lookedUp}
-use Rattle.trail.specs.Trail.{Stood}
 use lib.ListN as N
 use native.Mathlib.Omega.{arith}
-use mathlib.Core.Path.{_≡_, refl, sym, ap, _∙_}
+use mathlib.Core.Path.{_≡_, refl, sym, _∙_}
 use borrow.Author.Needs.{needs}
 use Rattle.propagation.proofs.look_up.Statement.{statement}
 use Rattle.propagation.proofs.look_up.Tie as tie
@@ -16,59 +16,48 @@ Inv-loop work₀ net e n t₀ at₀ left₀ work t at left =
 abbrev μ-loop : tie.MeasureT-loop
 μ-loop work₀ net e n t₀ at₀ left₀ work t at left = left
 
-loop-holds : tie.Need-loop-holds Inv-loop μ-loop
-loop-holds c = (refl, refl)
-
 same-length : tie.Need-same-length Inv-loop μ-loop
-same-length c =
-    c .before .before .loop .inv .0
+same-length c = c .before .before .loop .inv .0
 
 returns : tie.Need-returns Inv-loop μ-loop
 returns c =
     let l = c .before .before .loop in
     let s = c .before .before .before .before .args in
-    let all = sym (up-end (l .work) (s .net) (l .t) (l .at) (l .left) (c .if1 .taken)) ∙ l .inv .1 in
-    record { words = ap (λ (k : Stood). k .words) all; state = ap (λ (k : Stood). k .state) all }
+    left-by (sym (up-end (l .work) (s .net) (l .t) (l .at) (l .left) (c .if1 .taken)) ∙ l .inv .1)
 
 same-length-2 : tie.Need-same-length-2 Inv-loop μ-loop
-same-length-2 c =
-    c .before .before .before .before .loop .inv .0
+same-length-2 c = c .before .before .before .before .loop .inv .0
 
 returns-2 : tie.Need-returns-2 Inv-loop μ-loop
 returns-2 c =
     let l = c .before .before .before .before .loop in
     let s = c .before .before .before .before .before .before .args in
-    let all = sym (up-stop (l .work) (s .net) (l .t) (l .at) (l .left) (c .before .before .if1 .left) (c .if2 .taken)) ∙ l .inv .1 in
-    record { words = ap (λ (k : Stood). k .words) all; state = ap (λ (k : Stood). k .state) all }
-
-sub-left : tie.Need-sub-left Inv-loop μ-loop
-sub-left c = omega arith
-
-loop-less : tie.Need-loop-less Inv-loop μ-loop
-loop-less c = omega arith
+    left-by (sym (up-stop (l .work) (s .net) (l .t) (l .at) (l .left) (c .before .before .if1 .left) (c .if2 .taken)) ∙ l .inv .1)
 
 loop-again : tie.Need-loop-again Inv-loop μ-loop
 loop-again c =
     let l = c .before .before .before .before .before .before .before .before .before .before .loop in
     let s = c .before .before .before .before .before .before .before .before .before .before .before .before .args in
-    let more = up-more (l .work) (s .net) (l .t) (l .at) (l .left) (omega arith) (c .before .before .before .before .before .before .before .before .if1 .left) (c .before .before .before .before .before .before .if2 .left) in
-    let u = c .before .before .look in
-    (u .kept .0 ∙ l .inv .0, rw (u .ensures .words, u .ensures .state, c .before .before .before .before .next-fan .ensures) (sym more ∙ l .inv .1))
+    let more = up-more (l .work) (s .net) (l .t) (l .at) (l .left) (omega arith)
+    (c .before .before .before .before .before .before .before .before .if1 .left)
+    (c .before .before .before .before .before .before .if2 .left) in
+    let u = c .before .before .look in (
+      u .kept .0 ∙ l .inv .0,
+      rw (u .ensures .words, u .ensures .state, c .before .before .before .before .next-fan .ensures) (sym more ∙ l .inv .1),
+    )
 
 same-length-3 : tie.Need-same-length-3 Inv-loop μ-loop
-same-length-3 c =
-    c .before .loop .inv .0
+same-length-3 c = c .before .loop .inv .0
 
 returns-3 : tie.Need-returns-3 Inv-loop μ-loop
 returns-3 c =
     let l = c .before .loop in
     let s = c .before .before .before .args in
-    let all = sym (up-none (l .work) (s .net) (l .t) (l .at) (l .left) (omega arith)) ∙ l .inv .1 in
-    record { words = ap (λ (k : Stood). k .words) all; state = ap (λ (k : Stood). k .state) all }
+    left-by (sym (up-none (l .work) (s .net) (l .t) (l .at) (l .left) (omega arith)) ∙ l .inv .1)
 
 pub look-up-spec : {M : Type 1} → statement M
 look-up-spec =
     tie.close
     (tie.spec
-    Inv-loop μ-loop loop-holds same-length returns same-length-2 returns-2 (λ c κs. search needs) (λ c κs. search needs) sub-left
-    loop-less loop-again same-length-3 returns-3)
+    Inv-loop μ-loop (λ c. (refl, refl)) same-length returns same-length-2 returns-2 (λ c κs. search needs) (λ c κs. search needs)
+    (λ c. omega arith) (λ c. omega arith) loop-again same-length-3 returns-3)

@@ -14,7 +14,11 @@ returns-2 : tie.Need-returns-2
 unfolding D.appended
 returns-2 c =
     rw (lt-leb _ _ (c .before .before .before .before .before .before .before .before .before .if1 .left))
-    (record { words = rw (← c .before .before .before .before .before .before .before .set-literal .ensures) (c .before .before .before .set-field .ensures); draft = refl })
+    (record {
+      words = rw (← c .before .before .before .before .before .before .before .set-literal .ensures)
+          (c .before .before .before .set-field .ensures);
+      draft = refl;
+    })
 
 pub append-spec : {M : Type 1} → statement M
 append-spec =

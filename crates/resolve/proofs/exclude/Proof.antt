@@ -24,12 +24,20 @@ returns-3 : tie.Need-returns-3
 unfolding D.excluded D.removed
 returns-3 c =
     rw (
-      ← c .before .before .before .before .before .before .before .before .before .before .before .before .before .before .before .before .before .field .ensures,
+      ← c .before .before .before .before .before .before .before .before .before .before .before .before .before .before .before .before
+          .before .field .ensures,
       ← c .before .before .before .before .before .before .before .before .before .before .before .before .before .literal .ensures,
-      lt-leb _ _ (c .before .before .before .before .before .before .before .before .before .before .before .before .before .before .before .if1 .left),
+      lt-leb _ _ (c .before .before .before .before .before .before .before .before .before .before .before .before .before .before
+          .before .if1 .left),
       eq-eqb _ _ (c .before .before .before .before .before .before .before .before .before .before .before .before .if2 .left),
     )
-    (record { words = rw (← c .before .before .before .before .before .before .before .before .before .literal2 .ensures, ← c .before .before .before .before .before .before .before .set-literal .ensures) (c .before .before .before .set-field .ensures); draft = refl })
+    (record {
+      words = rw (
+        ← c .before .before .before .before .before .before .before .before .before .literal2 .ensures,
+        ← c .before .before .before .before .before .before .before .set-literal .ensures,
+      ) (c .before .before .before .set-field .ensures);
+      draft = refl;
+    })
 
 pub exclude-spec : {M : Type 1} → statement M
 exclude-spec =

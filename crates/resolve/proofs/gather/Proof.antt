@@ -1,9 +1,9 @@
 -- `resolve::gather` meets its contract. The invariant: what is left to join ends as all of it does. Assumes nothing.
-use Rattle.resolve.proofs.Turns.{gathered-none, gathered-more}
-use Rattle.resolve.specs.Draft.{Drafted, gathered}
+use Rattle.resolve.proofs.Turns.{left-by, gathered-none, gathered-more}
+use Rattle.resolve.specs.Draft.{gathered}
 use lib.ListN.{length}
 use native.Mathlib.Omega.{arith}
-use mathlib.Core.Path.{_≡_, refl, sym, ap, _∙_}
+use mathlib.Core.Path.{_≡_, refl, sym, _∙_}
 use borrow.Author.Needs.{needs}
 use Rattle.resolve.proofs.gather.Statement.{statement}
 use Rattle.resolve.proofs.gather.Tie as tie
@@ -15,23 +15,16 @@ Inv-loop work₀ net arena r x e₀ left₀ work e left =
 abbrev μ-loop : tie.MeasureT-loop
 μ-loop work₀ net arena r x e₀ left₀ work e left = left
 
-loop-holds : tie.Need-loop-holds Inv-loop μ-loop
-loop-holds c = (refl, refl)
-
-sub-left : tie.Need-sub-left Inv-loop μ-loop
-sub-left c = omega arith
-
-loop-less : tie.Need-loop-less Inv-loop μ-loop
-loop-less c = omega arith
-
 loop-again : tie.Need-loop-again Inv-loop μ-loop
 loop-again c =
     let a = c .before .before .before .before .before .before .before in
     let l = a .loop in
     let s = a .before .before .before .before .args in
     let more = gathered-more (l .work) (s .net) (s .arena) (l .e) (s .r) (s .x) (l .left) (omega arith) in
-    let j = c .before .before .join in
-    (j .kept .0 ∙ l .inv .0, rw (j .ensures .words, j .ensures .draft, c .before .before .before .before .literal-of .ensures) (sym more ∙ l .inv .1))
+    let j = c .before .before .join in (
+      j .kept .0 ∙ l .inv .0,
+      rw (j .ensures .words, j .ensures .draft, c .before .before .before .before .literal-of .ensures) (sym more ∙ l .inv .1),
+    )
 
 same-length : tie.Need-same-length Inv-loop μ-loop
 same-length c = c .before .loop .inv .0
@@ -41,12 +34,11 @@ returns c =
     let l = c .before .loop in
     let s = c .before .before .before .before .before .args in
     let none = gathered-none (l .work) (s .net) (s .arena) (l .e) (s .r) (s .x) (l .left) (omega arith) in
-    let all = sym none ∙ l .inv .1 in
-    rw (← c .before .before .length-of .ensures) (record { words = ap (λ (t : Drafted). t .words) all; draft = ap (λ (t : Drafted). t .draft) all })
+    rw (← c .before .before .length-of .ensures) (left-by (sym none ∙ l .inv .1))
 
 pub gather-spec : {M : Type 1} → statement M
 gather-spec =
     tie.close
     (tie.spec
-    Inv-loop μ-loop (λ c κs. search needs) loop-holds sub-left (λ c κs. search needs) (λ c κs. search needs) loop-less loop-again
-    same-length returns)
+    Inv-loop μ-loop (λ c κs. search needs) (λ c. (refl, refl)) (λ c. omega arith) (λ c κs. search needs) (λ c κs. search needs)
+    (λ c. omega arith) loop-again same-length returns)

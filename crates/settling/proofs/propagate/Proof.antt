@@ -1,10 +1,10 @@
 -- `settling::propagate` meets its contract. The invariant: what is left of the trail ends as all of it does. Assumes nothing.
+use Rattle.trail.proofs.Turns.{left-by}
 use Rattle.settling.proofs.Turns.{propagated-none, propagated-end, propagated-stop, propagated-more}
 use Rattle.settling.specs.Settling.{propagated}
-use Rattle.trail.specs.Trail.{Stood}
 use lib.ListN as N
 use native.Mathlib.Omega.{arith}
-use mathlib.Core.Path.{_≡_, refl, sym, ap, _∙_}
+use mathlib.Core.Path.{_≡_, refl, sym, _∙_}
 use borrow.Author.Needs.{needs}
 use Rattle.settling.proofs.propagate.Statement.{statement}
 use Rattle.settling.proofs.propagate.Tie as tie
@@ -16,9 +16,6 @@ Inv-loop work₀ net arena n t₀ left₀ work t left =
 abbrev μ-loop : tie.MeasureT-loop
 μ-loop work₀ net arena n t₀ left₀ work t left = left
 
-loop-holds : tie.Need-loop-holds Inv-loop μ-loop
-loop-holds c = (refl, refl)
-
 same-length : tie.Need-same-length Inv-loop μ-loop
 same-length c = c .before .before .before .loop .inv .0
 
@@ -26,8 +23,7 @@ returns : tie.Need-returns Inv-loop μ-loop
 returns c =
     let l = c .before .before .before .loop in
     let s = c .before .before .before .before .before .args in
-    let all = sym (propagated-end (l .work) (s .net) (s .arena) (l .t) (l .left) (c .if1 .taken)) ∙ l .inv .1 in
-    record { words = ap (λ (t : Stood). t .words) all; state = ap (λ (t : Stood). t .state) all }
+    left-by (sym (propagated-end (l .work) (s .net) (s .arena) (l .t) (l .left) (c .if1 .taken)) ∙ l .inv .1)
 
 same-length-2 : tie.Need-same-length-2 Inv-loop μ-loop
 same-length-2 c = c .before .before .before .before .before .loop .inv .0
@@ -36,20 +32,15 @@ returns-2 : tie.Need-returns-2 Inv-loop μ-loop
 returns-2 c =
     let l = c .before .before .before .before .before .loop in
     let s = c .before .before .before .before .before .before .before .args in
-    let all = sym (propagated-stop (l .work) (s .net) (s .arena) (l .t) (l .left) (c .before .before .if1 .left) (c .if2 .taken)) ∙ l .inv .1 in
-    record { words = ap (λ (t : Stood). t .words) all; state = ap (λ (t : Stood). t .state) all }
-
-sub-left : tie.Need-sub-left Inv-loop μ-loop
-sub-left c = omega arith
-
-loop-less : tie.Need-loop-less Inv-loop μ-loop
-loop-less c = omega arith
+    left-by (sym (propagated-stop (l .work) (s .net) (s .arena) (l .t) (l .left) (c .before .before .if1 .left) (c .if2 .taken))
+    ∙ l .inv .1)
 
 loop-again : tie.Need-loop-again Inv-loop μ-loop
 loop-again c =
     let l = c .before .before .before .before .before .before .before .before .before .loop in
     let s = c .before .before .before .before .before .before .before .before .before .before .before .args in
-    let more = propagated-more (l .work) (s .net) (s .arena) (l .t) (l .left) (omega arith) (c .before .before .before .before .before .before .if1 .left) (c .before .before .before .before .if2 .left) in
+    let more = propagated-more (l .work) (s .net) (s .arena) (l .t) (l .left) (omega arith)
+    (c .before .before .before .before .before .before .if1 .left) (c .before .before .before .before .if2 .left) in
     let u = c .before .before .follow in
     (u .kept .0 ∙ l .inv .0, rw (u .ensures .words, u .ensures .state) (sym more ∙ l .inv .1))
 
@@ -60,12 +51,11 @@ returns-3 : tie.Need-returns-3 Inv-loop μ-loop
 returns-3 c =
     let l = c .before .loop in
     let s = c .before .before .before .args in
-    let all = sym (propagated-none (l .work) (s .net) (s .arena) (l .t) (l .left) (omega arith)) ∙ l .inv .1 in
-    record { words = ap (λ (t : Stood). t .words) all; state = ap (λ (t : Stood). t .state) all }
+    left-by (sym (propagated-none (l .work) (s .net) (s .arena) (l .t) (l .left) (omega arith)) ∙ l .inv .1)
 
 pub propagate-spec : {M : Type 1} → statement M
 propagate-spec =
     tie.close
     (tie.spec
-    Inv-loop μ-loop loop-holds same-length returns same-length-2 returns-2 (λ c κs. search needs) sub-left loop-less loop-again
-    same-length-3 returns-3)
+    Inv-loop μ-loop (λ c. (refl, refl)) same-length returns same-length-2 returns-2 (λ c κs. search needs) (λ c. omega arith)
+    (λ c. omega arith) loop-again same-length-3 returns-3)

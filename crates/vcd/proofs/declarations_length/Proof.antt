@@ -40,7 +40,8 @@ loop-holds c =
 
 name-at-requires : tie.Need-name-at-requires Inv-loop μ-loop
 name-at-requires c κs =
-    (omega (arith, c .before .before .pre .there), omega (arith, c .before .before .pre .few))
+    let start = c .before .before in
+    (omega (arith, start .pre .there), omega (arith, start .pre .few))
 
 digit-count-requires : tie.Need-digit-count-requires Inv-loop μ-loop
 digit-count-requires c κs =
@@ -48,25 +49,20 @@ digit-count-requires c κs =
 
 add-total : tie.Need-add-total Inv-loop μ-loop
 add-total c =
-    let a = c .before .before .before .before .args in
-    omega (arith, counted c, declarations-most (nameIn (a .layout)) 0 (a .n), c .before .before .before .before .pre .there, c .before .before .before .before .pre .few)
+    let start = c .before .before .before .before in
+    let a = start .args in
+    omega (arith, counted c, declarations-most (nameIn (a .layout)) 0 (a .n), start .pre .there, start .pre .few)
 
 add-total-2 : tie.Need-add-total-2 Inv-loop μ-loop
 add-total-2 c =
-    let a = c .before .before .before .before .args in
-    omega (arith, counted c, declarations-most (nameIn (a .layout)) 0 (a .n), c .before .before .before .before .pre .there, c .before .before .before .before .pre .few)
+    let start = c .before .before .before .before in
+    let a = start .args in
+    omega (arith, counted c, declarations-most (nameIn (a .layout)) 0 (a .n), start .pre .there, start .pre .few)
 
 add-k : tie.Need-add-k Inv-loop μ-loop
 add-k c =
-    omega (arith, c .before .before .before .before .pre .there, c .before .before .before .before .pre .few)
-
-sub-left : tie.Need-sub-left Inv-loop μ-loop
-sub-left c =
-    omega arith
-
-loop-less : tie.Need-loop-less Inv-loop μ-loop
-loop-less c =
-    omega arith
+    let start = c .before .before .before .before in
+    omega (arith, start .pre .there, start .pre .few)
 
 loop-again : tie.Need-loop-again Inv-loop μ-loop
 loop-again c =
@@ -82,4 +78,5 @@ pub declarations-length-spec : {M : Type 1} → statement M
 declarations-length-spec =
     tie.close
     (tie.spec
-    Inv-loop μ-loop loop-holds name-at-requires digit-count-requires add-total add-total-2 add-k sub-left loop-less loop-again returns)
+    Inv-loop μ-loop loop-holds name-at-requires digit-count-requires add-total add-total-2 add-k (λ c. omega arith) (λ c. omega arith)
+    loop-again returns)

@@ -46,6 +46,4 @@ returns c =
     )
 
 pub dump-length-spec : {M : Type 1} → statement M
-dump-length-spec =
-    tie.close
-    (tie.spec (λ c κs. search needs) add-result (λ c κs. search needs) add-result-2 returns)
+dump-length-spec = tie.close (tie.spec (λ c κs. search needs) add-result (λ c κs. search needs) add-result-2 returns)

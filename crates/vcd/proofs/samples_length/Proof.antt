@@ -38,9 +38,17 @@ digit-count-requires c κs =
 
 add-total : tie.Need-add-total Inv-loop μ-loop
 add-total c =
-    let a = c .before .before .before .args in
+    let start = c .before .before .before in
+    let a = start .args in
     let L = c .before .before .loop in
-    omega (arith, L .inv .1 flat, samples-longer flat (a .n) (L .t) (L .left) (c .before .loop-test .taken), c .digit-count .ensures, samples-most flat (a .n) (c .before .before .before .pre .0) 0 (a .frames), c .before .before .before .pre .1)
+    omega (
+      arith,
+      L .inv .1 flat,
+      samples-longer flat (a .n) (L .t) (L .left) (c .before .loop-test .taken),
+      c .digit-count .ensures,
+      samples-most flat (a .n) (start .pre .0) 0 (a .frames),
+      start .pre .1,
+    )
 
 mul-total : tie.Need-mul-total Inv-loop μ-loop
 mul-total c =
@@ -48,27 +56,35 @@ mul-total c =
 
 add-total-2 : tie.Need-add-total-2 Inv-loop μ-loop
 add-total-2 c =
-    let a = c .before .before .before .args in
+    let start = c .before .before .before in
+    let a = start .args in
     let L = c .before .before .loop in
-    omega (arith, L .inv .1 flat, samples-longer flat (a .n) (L .t) (L .left) (c .before .loop-test .taken), c .digit-count .ensures, samples-most flat (a .n) (c .before .before .before .pre .0) 0 (a .frames), c .before .before .before .pre .1)
+    omega (
+      arith,
+      L .inv .1 flat,
+      samples-longer flat (a .n) (L .t) (L .left) (c .before .loop-test .taken),
+      c .digit-count .ensures,
+      samples-most flat (a .n) (start .pre .0) 0 (a .frames),
+      start .pre .1,
+    )
 
 add-total-3 : tie.Need-add-total-3 Inv-loop μ-loop
 add-total-3 c =
-    let a = c .before .before .before .args in
+    let start = c .before .before .before in
+    let a = start .args in
     let L = c .before .before .loop in
-    omega (arith, L .inv .1 flat, samples-longer flat (a .n) (L .t) (L .left) (c .before .loop-test .taken), c .digit-count .ensures, samples-most flat (a .n) (c .before .before .before .pre .0) 0 (a .frames), c .before .before .before .pre .1)
+    omega (
+      arith,
+      L .inv .1 flat,
+      samples-longer flat (a .n) (L .t) (L .left) (c .before .loop-test .taken),
+      c .digit-count .ensures,
+      samples-most flat (a .n) (start .pre .0) 0 (a .frames),
+      start .pre .1,
+    )
 
 add-t : tie.Need-add-t Inv-loop μ-loop
 add-t c =
     omega (arith, c .before .before .before .pre .1)
-
-sub-left : tie.Need-sub-left Inv-loop μ-loop
-sub-left c =
-    omega arith
-
-loop-less : tie.Need-loop-less Inv-loop μ-loop
-loop-less c =
-    omega arith
 
 loop-again : tie.Need-loop-again Inv-loop μ-loop
 loop-again c =
@@ -78,9 +94,10 @@ loop-again c =
 
 add-result : tie.Need-add-result Inv-loop μ-loop
 add-result c =
-    let a = c .before .before .args in
+    let start = c .before .before in
+    let a = start .args in
     let L = c .before .loop in
-    omega (arith, L .inv .1 flat, samples-most flat (a .n) (c .before .before .pre .0) 0 (a .frames), c .before .before .pre .1)
+    omega (arith, L .inv .1 flat, samples-most flat (a .n) (start .pre .0) 0 (a .frames), start .pre .1)
 
 digit-count-requires-2 : tie.Need-digit-count-requires-2 Inv-loop μ-loop
 digit-count-requires-2 c κs =
@@ -88,9 +105,16 @@ digit-count-requires-2 c κs =
 
 add-result-2 : tie.Need-add-result-2 Inv-loop μ-loop
 add-result-2 c =
-    let a = c .before .before .before .args in
+    let start = c .before .before .before in
+    let a = start .args in
     let L = c .before .before .loop in
-    omega (arith, ended flat (a .n) (L .t) (L .left) (L .total) _ (c .before .loop-test .left) (L .inv .1 flat), c .digit-count2 .ensures, samples-most flat (a .n) (c .before .before .before .pre .0) 0 (a .frames), c .before .before .before .pre .1)
+    omega (
+      arith,
+      ended flat (a .n) (L .t) (L .left) (L .total) _ (c .before .loop-test .left) (L .inv .1 flat),
+      c .digit-count2 .ensures,
+      samples-most flat (a .n) (start .pre .0) 0 (a .frames),
+      start .pre .1,
+    )
 
 returns : tie.Need-returns Inv-loop μ-loop
 returns c =
@@ -102,5 +126,5 @@ pub samples-length-spec : {M : Type 1} → statement M
 samples-length-spec =
     tie.close
     (tie.spec
-    Inv-loop μ-loop loop-holds digit-count-requires add-total mul-total add-total-2 add-total-3 add-t sub-left loop-less loop-again
-    add-result digit-count-requires-2 add-result-2 returns)
+    Inv-loop μ-loop loop-holds digit-count-requires add-total mul-total add-total-2 add-total-3 add-t (λ c. omega arith)
+    (λ c. omega arith) loop-again add-result digit-count-requires-2 add-result-2 returns)

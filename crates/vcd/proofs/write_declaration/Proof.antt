@@ -55,35 +55,46 @@ module _ (out : List ℕ) (at k : ℕ) (name : Name) (h : Room out at (declarati
 
 put-requires : tie.Need-put-requires
 put-requires c κs =
-    let a = c .before .before .before .args in
-    word-room (a .out .now) (a .at) (a .k) (a .name) (c .before .before .before .pre .1)
+    let start = c .before .before .before in
+    let a = start .args in
+    word-room (a .out .now) (a .at) (a .k) (a .name) (start .pre .1)
 
 put-requires-2 : tie.Need-put-requires-2
 put-requires-2 c κs =
-    let a = c .before .before .before .before .before .before .before .before .args in
-    label-room (a .out .now) (a .at) (a .k) (a .name) (c .before .before .before .before .before .before .before .before .pre .1) (c .before .before .before .before .put .ensures)
+    let start = c .before .before .before .before .before .before .before .before in
+    let a = start .args in
+    label-room (a .out .now) (a .at) (a .k) (a .name) (start .pre .1) (c .before .before .before .before .put .ensures)
 
 put-ended-requires : tie.Need-put-ended-requires
 put-ended-requires c κs =
-    let a = c .before .before .before .before .before .before .before .before .before .before .before .before .args in
-    number-room (a .out .now) (a .at) (a .k) (a .name) (c .before .before .before .before .before .before .before .before .before .before .before .before .pre .1) (c .before .before .before .before .before .before .before .before .put .ensures) (c .before .before .before .put2 .ensures)
+    let start = c .before .before .before .before .before .before .before .before .before .before .before .before in
+    let a = start .args in
+    number-room (a .out .now) (a .at) (a .k) (a .name) (start .pre .1)
+    (c .before .before .before .before .before .before .before .before .put .ensures) (c .before .before .before .put2 .ensures)
 
 put-requires-3 : tie.Need-put-requires-3
 put-requires-3 c κs =
-    let a = c .before .before .before .before .before .before .before .before .before .before .before .before .before .before .before .before .before .args in
-    last-room end (c .before .before .before .before .before .before .before .before .before .before .before .before .before .before .before .before .before .pre .1)
-    (numbered (a .out .now) (a .at) (a .k) (a .name) (c .before .before .before .before .before .before .before .before .before .before .before .before .before .before .before .before .before .pre .1) (c .before .before .before .before .before .before .before .before .before .before .before .before .before .put .ensures) (c .before .before .before .before .before .before .before .before .put2 .ensures) (c .before .before .before .before .put-ended .ensures))
+    let start = c .before .before .before .before .before .before .before .before .before .before .before .before .before .before .before
+    .before .before in
+    let a = start .args in
+    last-room end (start .pre .1) (numbered (a .out .now) (a .at) (a .k) (a .name) (start .pre .1)
+    (c .before .before .before .before .before .before .before .before .before .before .before .before .before .put .ensures)
+    (c .before .before .before .before .before .before .before .before .put2 .ensures)
+    (c .before .before .before .before .put-ended .ensures))
 
 returns : tie.Need-returns
 returns c =
-    let a = c .before .before .before .before .before .before .before .before .before .before .before .before .before .before .before .before .before .before .before .before .args in
-    last-placed end (c .before .before .before .before .before .before .before .before .before .before .before .before .before .before .before .before .before .before .before .before .pre .1)
-    (numbered (a .out .now) (a .at) (a .k) (a .name) (c .before .before .before .before .before .before .before .before .before .before .before .before .before .before .before .before .before .before .before .before .pre .1) (c .before .before .before .before .before .before .before .before .before .before .before .before .before .before .before .before .put .ensures) (c .before .before .before .before .before .before .before .before .before .before .before .put2 .ensures) (c .before .before .before .before .before .before .before .put-ended .ensures))
-    (c .before .before .put3 .ensures)
+    let start = c .before .before .before .before .before .before .before .before .before .before .before .before .before .before .before
+    .before .before .before .before .before in
+    let a = start .args in
+    last-placed end (start .pre .1) (numbered (a .out .now) (a .at) (a .k) (a .name) (start .pre .1)
+    (c .before .before .before .before .before .before .before .before .before .before .before .before .before .before .before .before
+    .put .ensures) (c .before .before .before .before .before .before .before .before .before .before .before .put2 .ensures)
+    (c .before .before .before .before .before .before .before .put-ended .ensures)) (c .before .before .put3 .ensures)
 
 pub write-declaration-spec : {M : Type 1} → statement M
 write-declaration-spec =
     tie.close
     (tie.spec
-    (λ c. search needs) (λ c. search needs) (λ c. search needs) (λ c. search needs) (λ c. search needs) put-requires
-    (λ c. search needs) put-requires-2 put-ended-requires (λ c. search needs) put-requires-3 (λ c. search needs) returns)
+    (λ c. search needs) (λ c. search needs) (λ c. search needs) (λ c. search needs) (λ c. search needs) put-requires (λ c. search needs)
+    put-requires-2 put-ended-requires (λ c. search needs) put-requires-3 (λ c. search needs) returns)

@@ -29,7 +29,8 @@ loop-holds c =
 
 name-at-requires : tie.Need-name-at-requires Inv-loop μ-loop
 name-at-requires c κs =
-    (omega (arith, c .before .before .before .pre .0 .there), omega (arith, c .before .before .before .pre .0 .few))
+    let start = c .before .before .before in
+    (omega (arith, start .pre .0 .there), omega (arith, start .pre .0 .few))
 
 write-declaration-requires : tie.Need-write-declaration-requires Inv-loop μ-loop
 write-declaration-requires c κs =
@@ -45,15 +46,8 @@ write-declaration-requires c κs =
 
 add-k : tie.Need-add-k Inv-loop μ-loop
 add-k c =
-    omega (arith, c .before .before .before .before .before .before .before .before .pre .0 .there, c .before .before .before .before .before .before .before .before .pre .0 .few)
-
-sub-left : tie.Need-sub-left Inv-loop μ-loop
-sub-left c =
-    omega arith
-
-loop-less : tie.Need-loop-less Inv-loop μ-loop
-loop-less c =
-    omega arith
+    let start = c .before .before .before .before .before .before .before .before in
+    omega (arith, start .pre .0 .there, start .pre .0 .few)
 
 loop-again : tie.Need-loop-again Inv-loop μ-loop
 loop-again c =
@@ -80,4 +74,5 @@ pub write-declarations-spec : {M : Type 1} → statement M
 write-declarations-spec =
     tie.close
     (tie.spec
-    Inv-loop μ-loop loop-holds name-at-requires write-declaration-requires add-k sub-left loop-less loop-again same-length returns)
+    Inv-loop μ-loop loop-holds name-at-requires write-declaration-requires add-k (λ c. omega arith) (λ c. omega arith) loop-again
+    same-length returns)

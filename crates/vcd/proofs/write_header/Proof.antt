@@ -34,8 +34,9 @@ module _ (out : List ℕ) (at : ℕ) (name : ℕ → Name) (n : ℕ) (h : Room o
 
 put-requires : tie.Need-put-requires
 put-requires c κs =
-    let a = c .before .before .before .args in
-    opening-room (a .out .now) (a .at) (nameIn (a .layout)) (a .n) (c .before .before .before .pre .1)
+    let start = c .before .before .before in
+    let a = start .args in
+    opening-room (a .out .now) (a .at) (nameIn (a .layout)) (a .n) (start .pre .1)
 
 write-declarations-requires : tie.Need-write-declarations-requires
 write-declarations-requires c κs =

@@ -24,19 +24,23 @@ module _ (out : List ℕ) (at t : ℕ) (h : Room out at (timeMark t)) where
 
 put-requires : tie.Need-put-requires
 put-requires c κs =
-    let a = c .before .before .before .args in
-    mark-room (a .out .now) (a .at) (a .t) (c .before .before .before .pre)
+    let start = c .before .before .before in
+    let a = start .args in
+    mark-room (a .out .now) (a .at) (a .t) (start .pre)
 
 put-ended-requires : tie.Need-put-ended-requires
 put-ended-requires c κs =
-    let a = c .before .before .before .before .before .before .before .args in
-    last-room (numberText (a .t) 0) (c .before .before .before .before .before .before .before .pre) (marked (a .out .now) (a .at) (a .t) (c .before .before .before .before .before .before .before .pre) (c .before .before .before .put .ensures))
+    let start = c .before .before .before .before .before .before .before in
+    let a = start .args in
+    last-room (numberText (a .t) 0) (start .pre) (marked (a .out .now) (a .at) (a .t) (start .pre)
+    (c .before .before .before .put .ensures))
 
 returns : tie.Need-returns
 returns c =
-    let a = c .before .before .before .before .before .before .before .before .before .before .args in
-    last-placed (numberText (a .t) 0) (c .before .before .before .before .before .before .before .before .before .before .pre) (marked (a .out .now) (a .at) (a .t) (c .before .before .before .before .before .before .before .before .before .before .pre) (c .before .before .before .before .before .before .put .ensures)) (c .before .before .put-ended .ensures)
+    let start = c .before .before .before .before .before .before .before .before .before .before in
+    let a = start .args in
+    last-placed (numberText (a .t) 0) (start .pre) (marked (a .out .now) (a .at) (a .t) (start .pre)
+    (c .before .before .before .before .before .before .put .ensures)) (c .before .before .put-ended .ensures)
 
 pub write-time-spec : {M : Type 1} → statement M
-write-time-spec =
-    tie.close (tie.spec (λ c. search needs) put-requires put-ended-requires (λ c. search needs) returns)
+write-time-spec = tie.close (tie.spec (λ c. search needs) put-requires put-ended-requires (λ c. search needs) returns)

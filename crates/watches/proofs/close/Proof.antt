@@ -12,7 +12,11 @@ returns c = rw (← c .before .before .value .ensures, eq-eqb _ _ (c .before .if
 
 returns-2 : tie.Need-returns-2
 unfolding W.closed
-returns-2 c = rw (← c .before .before .before .before .before .before .before .before .value .ensures, ← c .before .before .before .before .before .pass .ensures, ne-eqb _ _ (c .before .before .before .before .before .before .before .if1 .left)) (c .before .before .assign .ensures)
+returns-2 c = rw (
+  ← c .before .before .before .before .before .before .before .before .value .ensures,
+  ← c .before .before .before .before .before .pass .ensures,
+  ne-eqb _ _ (c .before .before .before .before .before .before .before .if1 .left),
+) (c .before .before .assign .ensures)
 
 pub close-spec : {M : Type 1} → statement M
 close-spec =

@@ -1,5 +1,7 @@
 -- `watches::find` meets its contract. The invariant: what is left of the clause is searched as all of it. Assumes nothing.
 use Rattle.watches.proofs.Turns.{found-none, found-here, found-more}
+use Prim.Native.Nat.{ℕ}
+use Rattle.watches.specs.declared.Replacement.the-variants.{Literal}
 use Rattle.watches.specs.Watch.{found}
 use native.Mathlib.Omega.{arith}
 use mathlib.Core.Path.{_≡_, refl, sym, ap, _∙_}
@@ -14,28 +16,20 @@ Inv-loop work net c o n left₀ left =
 abbrev μ-loop : tie.MeasureT-loop
 μ-loop work net c o n left₀ left = left
 
-loop-holds : tie.Need-loop-holds Inv-loop μ-loop
-loop-holds c =
-    refl
-
-sub-left : tie.Need-sub-left Inv-loop μ-loop
-sub-left c = omega arith
-
 returns : tie.Need-returns Inv-loop μ-loop
 returns c =
     let l = c .before .before .before .before .loop in
     let s = c .before .before .before .before .before .before .args in
     let x = c .before .before .kept-literal .ensures in
-    x ∙ sym (found-here (s .work .now) (s .net) (s .c) (s .o) (l .left) (omega arith) (rw (← x) (sym (c .before .can-watch .ensures) ∙ c .if1 .taken))) ∙ l .inv
-
-loop-less : tie.Need-loop-less Inv-loop μ-loop
-loop-less c = omega arith
+    ap (λ (y : ℕ). Literal y) x ∙ sym (found-here (s .work .now) (s .net) (s .c) (s .o) (l .left) (omega arith)
+    (rw (← x) (sym (c .before .can-watch .ensures) ∙ c .if1 .taken))) ∙ l .inv
 
 loop-again : tie.Need-loop-again Inv-loop μ-loop
 loop-again c =
     let l = c .before .before .before .before .loop in
     let s = c .before .before .before .before .before .before .args in
-    sym (found-more (s .work .now) (s .net) (s .c) (s .o) (l .left) (omega arith) (rw (← c .before .before .kept-literal .ensures) (sym (c .before .can-watch .ensures) ∙ c .if1 .left))) ∙ l .inv
+    sym (found-more (s .work .now) (s .net) (s .c) (s .o) (l .left) (omega arith)
+    (rw (← c .before .before .kept-literal .ensures) (sym (c .before .can-watch .ensures) ∙ c .if1 .left))) ∙ l .inv
 
 returns-2 : tie.Need-returns-2 Inv-loop μ-loop
 returns-2 c =
@@ -47,4 +41,5 @@ pub find-spec : {M : Type 1} → statement M
 find-spec =
     tie.close
     (tie.spec
-    Inv-loop μ-loop loop-holds sub-left (λ c κs. search needs) (λ c κs. search needs) returns loop-less loop-again returns-2)
+    Inv-loop μ-loop (λ c. refl) (λ c. omega arith) (λ c κs. search needs) (λ c κs. search needs) returns (λ c. omega arith) loop-again
+    returns-2)

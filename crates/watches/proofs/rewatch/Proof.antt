@@ -14,5 +14,4 @@ returns c =
     ) (record { words = c .before .before .attach .ensures; state = refl })
 
 pub rewatch-spec : {M : Type 1} → statement M
-rewatch-spec =
-    tie.close (tie.spec (λ c κs. search needs) (λ c κs. search needs) (λ c κs. search needs) (λ c. search needs) returns)
+rewatch-spec = tie.close (tie.spec (λ c κs. search needs) (λ c κs. search needs) (λ c κs. search needs) (λ c. search needs) returns)
