@@ -1,26 +1,24 @@
 -- From what the commands leave to the turn that a line is. Assumes nothing.
 use mathlib.Core.Path.{_≡_, refl, sym, ap, _∙_, subst}
-use mathlib.Core.Bool.{Bool, true, false, cond}
-use mathlib.Core.List.{List, [], _∷_, _++_}
-use mathlib.Core.Option.{Option, none, some}
+use mathlib.Core.Bool.{Bool, false, cond}
+use mathlib.Core.List.{List, []}
+use mathlib.Core.Option.{some}
 use mathlib.Core.Logic.{⊎-elim}
-use Prim.Native.Nat.{ℕ, _≤_, _<_}
+use Prim.Native.Nat.{ℕ, _≤_}
 use native.Mathlib.Omega.{arith}
-use native.Mathlib.Decide.{decLt, decLe}
+use native.Mathlib.Decide.{decLt}
 use borrow.Author.Tests.{lt-ltb, le-ltb, ne-eqb}
-use lib.Dec.{eqb, ltb}
 use lib.ListN.{length, take, drop, replicate, length-replicate}
 use Rattle.aiger.specs.Circuit.{Circuit}
 use Rattle.aiger.specs.Load.{Answer, refused, gives, load, _>>=_}
 use Rattle.aiger.specs.Memory.{Holds}
-use Rattle.aiger.specs.Search.{Outcome}
 use Rattle.aiger.specs.Operations.{front}
 use lib.Seq.{take-at}
 use Rattle.roundtrip.proofs.Holding.{loaded-holds, one-circuit}
 use Rattle.layout.specs.Words.{circuitIn}
 use Rattle.joined.specs.Joined.{JoinedInto}
 use Rattle.load.specs.Answers.{answered}
-use Rattle.load.specs.Preview.{Previewed, countsOf, wordsNeeded}
+use Rattle.load.specs.Preview.{countsOf, wordsNeeded}
 use Rattle.load.specs.declared.Judgement.{Judgement}
 use Rattle.load.specs.declared.LoadAnswer.the-variants.{Loaded, Refused}
 use Rattle.user_preview.specs.Previews.{UserPreviewed}
@@ -29,8 +27,7 @@ use Rattle.user_join.specs.Joins.{UserJoined}
 use Rattle.replies.specs.Refusal.{refusalText}
 use Rattle.replies.specs.Reply.{Reply, Fronts, Leaves, refusal}
 use Rattle.replies.specs.declared.Report.{Report}
-use Rattle.replies.proofs.Putting.{fronts-none, fronts-taken, fronts-inside}
-use Rattle.job.specs.Replies.{Shows}
+use Rattle.replies.proofs.Putting.{fronts-taken, fronts-inside}
 use Rattle.history.specs.History as History
 use Rattle.preview_command.specs.Texts.{previewLine, previewReply, wordsLine}
 use Rattle.panel_lines.specs.Grammar.{Command, request}
@@ -41,18 +38,10 @@ use Rattle.panel_lines.specs.declared.View.the-variants.{Replay, Widen, Wavefor
 use Rattle.panel.specs.Answers.{loadWords, LoadSaid, Queried, previewSaid}
 use Rattle.panel_files.specs.Files.{Viewed}
 use Rattle.panel_join.specs.Joins.{NewJoined, FilesJoined, JoinSaid}
-use Rattle.panel_session.specs.Session.{Files, Action, fileWords, joinAction, queryCall, viewCall, actionOf, lineAction, told, badOf, Turn}
+use Rattle.panel_session.specs.Session.{Files, Action, fileWords, queryCall, viewCall, actionOf, lineAction, told, badOf, Turn}
 use Rattle.panel_session.specs.Answered.{Says, Answered}
 use Rattle.panel_session.specs.declared.Said.{Said}
-use Rattle.panel_session.proofs.Outputs.{
-  Told,
-  search-told,
-  fold-told,
-  write-told,
-  binary-told,
-  widen-told,
-  waveform-told,
-}
+use Rattle.panel_session.proofs.Outputs.{Told, search-told, fold-told, write-told, binary-told, widen-told, waveform-told}
 
 -- what a report says of a line's bytes and of the output, for an action
 pub record Taken (room : ℕ) (action : Action) (s : History.State) (line out : List ℕ) (r : Report) (s′ : History.State) (line′ out′ : List ℕ) : Type 0 where
@@ -67,10 +56,11 @@ untouched : {out out′ : List ℕ} {n : ℕ} → n ≡ 0 → out′ ≡ out →
 untouched e f = record { long = e; contents = f }
 
 -- a text that stands at the front of the output is printed
-printed : (text zeros : List ℕ) {out out′ : List ℕ} {n l : ℕ} → n ≡ l → l ≡ length text → out′ ≡ front text out → Fronts (take l (front text zeros)) out n out′
-printed text zeros {out} {out′} {n = n} {l = l} e f g =
-    let z : take l (front text zeros) ≡ text = take-at text (drop (length text) zeros) l (sym f) in
-    subst (λ (x : List ℕ). Fronts x out n out′) (sym z) (record { long = e ∙ f; contents = g })
+printed : {out zeros out′ : List ℕ} {n l : ℕ} {P : List ℕ → Type 0} (t : Told out zeros out′ l P) → n ≡ l
+    → Fronts (take l (front (t .text) zeros)) out n out′
+printed {out} {zeros} {out′} {n = n} {l = l} t e =
+    let z : take l (front (t .text) zeros) ≡ t .text = take-at (t .text) (drop (length (t .text)) zeros) l (sym (t .long)) in
+    subst (λ (x : List ℕ). Fronts x out n out′) (sym z) (record { long = e ∙ t .long; contents = t .left })
 
 -- an output of as many bytes
 as-long : (out : List ℕ) → length out ≡ length {A = ℕ} (replicate (length out) 0)
@@ -136,114 +126,68 @@ module _ {first second first₀ second₀ : List ℕ} {c d : Circuit} (h : Holds
   rejoined (Replaced.stores e j) = Replaced.stores e (joined-moves j)
 
 module _ {m w p line out : List ℕ} {r : Report} {line′ out′ : List ℕ} where
+  -- a call, by its step and by what is printed of its reply
+  called : {call : History.Call} {reply : History.Reply} {s′ : History.State}
+      → History.Step (record { memory = m; work = w; pins = p }) call reply s′
+      → Fronts (told (circuitIn m) (badOf call) reply .line) line (r .line) line′
+      → Fronts (told (circuitIn m) (badOf call) reply .out) out (r .out) out′
+      → Taken (length out) (Action.calls call) (record { memory = m; work = w; pins = p }) line out r s′ line′ out′
+  called y f g = record { reply = _; loaded = _; turn = λ u i e. Turn.calls e y; line-is = f; out-is = g }
+
   -- ---- queries
 
   pub query-taken : (user : ℕ) (q : Query) {s′ : History.State} → Queried q user (record { memory = m; work = w; pins = p }) out line r s′ out′ line′
       → Taken (length out) (Action.calls (queryCall (length out) user q)) (record { memory = m; work = w; pins = p }) line out r s′ line′ out′
   query-taken user (Pin input value) x =
-      record {
-        reply = _;
-        loaded = _;
-        turn = λ t f e. Turn.calls e (x .permitted .0);
-        line-is = x .line-is;
-        out-is = untouched (x .out-is) (x .permitted .1);
-      }
+      called (x .permitted .0) (x .line-is) (untouched (x .out-is) (x .permitted .1))
   query-taken user (Search b k D) x = go (x .permitted)
     where
       go : {s′ : History.State} → History.Step (record { memory = m; work = w; pins = p }) (History.Call.search user b k D out) (History.Reply.searched (x .answer) out′) s′
           → Taken (length out) (Action.calls (queryCall (length out) user (Search b k D))) (record { memory = m; work = w; pins = p }) line out r s′ line′ out′
       go (History.Step.searches y l) =
           let t = search-told p (as-long out) y in
-          record {
-            reply = _;
-            loaded = _;
-            turn = λ u f e. Turn.calls e (History.Step.searches (t .again) l);
-            line-is = x .line-is;
-            out-is = printed (t .text) (replicate (length out) 0) (x .out-is) (t .long) (t .left);
-          }
+          called (History.Step.searches (t .again) l) (x .line-is) (printed t (x .out-is))
   query-taken user (Fold b t) x = go (x .permitted)
     where
       go : {s′ : History.State} → History.Step (record { memory = m; work = w; pins = p }) (History.Call.fold user b t out) (History.Reply.folded (x .answer) out′) s′
           → Taken (length out) (Action.calls (queryCall (length out) user (Fold b t))) (record { memory = m; work = w; pins = p }) line out r s′ line′ out′
       go (History.Step.folds y l) =
           let t = fold-told p (as-long out) y in
-          record {
-            reply = _;
-            loaded = _;
-            turn = λ u f e. Turn.calls e (History.Step.folds (t .again) l);
-            line-is = x .line-is;
-            out-is = printed (t .text) (replicate (length out) 0) (x .out-is) (t .long) (t .left);
-          }
+          called (History.Step.folds (t .again) l) (x .line-is) (printed t (x .out-is))
   query-taken user Write x = go (x .permitted)
     where
       go : {s′ : History.State} → History.Step (record { memory = m; work = w; pins = p }) (History.Call.write user out) (History.Reply.written (x .answer) out′) s′
           → Taken (length out) (Action.calls (queryCall (length out) user Write)) (record { memory = m; work = w; pins = p }) line out r s′ line′ out′
       go (History.Step.writes y) =
           let t = write-told (as-long out) y in
-          record {
-            reply = _;
-            loaded = _;
-            turn = λ u f e. Turn.calls e (History.Step.writes (t .again));
-            line-is = x .line-is;
-            out-is = printed (t .text) (replicate (length out) 0) (x .out-is) (t .long) (t .left);
-          }
+          called (History.Step.writes (t .again)) (x .line-is) (printed t (x .out-is))
   query-taken user WriteBinary x = go (x .permitted)
     where
       go : {s′ : History.State} → History.Step (record { memory = m; work = w; pins = p }) (History.Call.writeBinary user out) (History.Reply.written (x .answer) out′) s′
           → Taken (length out) (Action.calls (queryCall (length out) user WriteBinary)) (record { memory = m; work = w; pins = p }) line out r s′ line′ out′
       go (History.Step.writesBinary y) =
           let t = binary-told (as-long out) y in
-          record {
-            reply = _;
-            loaded = _;
-            turn = λ u f e. Turn.calls e (History.Step.writesBinary (t .again));
-            line-is = x .line-is;
-            out-is = printed (t .text) (replicate (length out) 0) (x .out-is) (t .long) (t .left);
-          }
+          called (History.Step.writesBinary (t .again)) (x .line-is) (printed t (x .out-is))
 
   -- ---- views
 
   pub view-taken : (user : ℕ) (v : View) (text : List ℕ) → Viewed v user text m p out line r out′ line′
       → Taken (length out) (Action.calls (viewCall (length out) user text v)) (record { memory = m; work = w; pins = p }) line out r (record { memory = m; work = w; pins = p }) line′ out′
   view-taken user Replay text x =
-      record {
-        reply = _;
-        loaded = _;
-        turn = λ u f e. Turn.calls e (History.Step.replays (x .permitted .0));
-        line-is = x .line-is;
-        out-is = untouched (x .out-is) (x .permitted .1);
-      }
+      called (History.Step.replays (x .permitted .0)) (x .line-is) (untouched (x .out-is) (x .permitted .1))
   view-taken user Widen text x =
       let t = widen-told p (as-long out) (x .permitted) in
-      record {
-        reply = _;
-        loaded = _;
-        turn = λ u f e. Turn.calls e (History.Step.widens (t .again));
-        line-is = x .line-is;
-        out-is = printed (t .text) (replicate (length out) 0) (x .out-is) (t .long) (t .left);
-      }
+      called (History.Step.widens (t .again)) (x .line-is) (printed t (x .out-is))
   view-taken user (Waveform only) text x =
       let t = waveform-told (as-long out) (x .permitted) in
-      record {
-        reply = _;
-        loaded = _;
-        turn = λ u f e. Turn.calls e (History.Step.waveforms (t .again));
-        line-is = x .line-is;
-        out-is = printed (t .text) (replicate (length out) 0) (x .out-is) (t .long) (t .left);
-      }
+      called (History.Step.waveforms (t .again)) (x .line-is) (printed t (x .out-is))
 
   -- ---- commands that name files of circuits
 
   pub load-taken : (user : ℕ) (file : List ℕ) {m′ p′ : List ℕ} → LoadSaid user file m p line r m′ p′ line′ → out′ ≡ out
       → Taken (length out) (Action.calls (History.Call.load user file)) (record { memory = m; work = w; pins = p }) line out r (record { memory = m′; work = w; pins = p′ }) line′ out′
   load-taken user file x o =
-      record {
-        reply = _;
-        loaded = _;
-        turn = λ u f e. Turn.calls e (History.Step.loads (x .permitted));
-        line-is = x .line-is;
-        out-is = untouched (x .out-is) o;
-      }
+      called (History.Step.loads (x .permitted)) (x .line-is) (untouched (x .out-is) o)
 
   pub preview-taken : (user : ℕ) (file : List ℕ) → length m ≡ 33032 → Leaves (previewSaid user file) line out r line′ out′
       → Taken (length out) (Action.calls (History.Call.preview user file)) (record { memory = m; work = w; pins = p }) line out r (record { memory = m; work = w; pins = p }) line′ out′
@@ -253,25 +197,15 @@ module _ {m w p line out : List ℕ} {r : Report} {line′ out′ : List ℕ} wh
         | yes h ↦
             let y : Leaves (refusal 18) line out r line′ out′ =
             subst (λ (b : Bool). Leaves (cond b (refusal 18) (previewReply file)) line out r line′ out′) (lt-ltb 1 user h) x in
-            record {
-              reply = _;
-              loaded = _;
-              turn = λ u f e. Turn.calls e (History.Step.previews {r = record { answer = Refused 18; needed = 0 }} (UserPreviewed.stranger h));
-              line-is = y .line-is;
-              out-is = y .out-is;
-            }
+            called (History.Step.previews {r = record { answer = Refused 18; needed = 0 }} (UserPreviewed.stranger h)) (y .line-is) (y .out-is)
         | no h ↦
             let y : Leaves (previewReply file) line out r line′ out′ =
             subst (λ (b : Bool). Leaves (cond b (refusal 18) (previewReply file)) line out r line′ out′) (le-ltb 1 user (omega arith)) x in
             let a = load 33032 file in
             let n = wordsNeeded file in
-            record {
-              reply = _;
-              loaded = _;
-              turn = λ u f e. Turn.calls e (History.Step.previews {r = judged a n} (known-preview user file m l (omega arith)));
-              line-is = subst (λ (t : List ℕ). Fronts t line (r .line) line′) (judged-line a n) (y .line-is);
-              out-is = subst (λ (i : ℕ). Fronts (wordsLine i) out (r .out) out′) (sym (judged-needed a n)) (y .out-is);
-            }
+            called (History.Step.previews {r = judged a n} (known-preview user file m l (omega arith)))
+            (subst (λ (t : List ℕ). Fronts t line (r .line) line′) (judged-line a n) (y .line-is))
+            (subst (λ (i : ℕ). Fronts (wordsLine i) out (r .out) out′) (sym (judged-needed a n)) (y .out-is))
       ]
 
   pub join-taken : (user : ℕ) (old new first second : List ℕ) {m′ p′ : List ℕ} → JoinSaid (λ a. FilesJoined first second m p user a m′ p′) line r line′

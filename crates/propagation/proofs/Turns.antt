@@ -1,14 +1,23 @@
 -- One turn of each loop. Assumes nothing.
 use mathlib.Core.Path.{_≡_, refl, ap, sym}
+use mathlib.Core.Bool.{true, false}
 use mathlib.Core.List.{List}
 use Prim.Native.Nat.{ℕ, zero, suc, _-_, _/_, _≤_, _<_}
 use native.Mathlib.Omega.{arith}
 use borrow.Author.Tests.{eq-eqb, ne-eqb}
+use lib.Dec.{eqb}
 use Rattle.memory.specs.Record.{undef}
 use Rattle.memory.specs.declared.Netlist.{Netlist}
 use Rattle.trail.specs.declared.State.{State}
 use Rattle.trail.specs.Trail.{stood}
 use Rattle.propagation.specs.Gates.{looked, nextFan, lookedUp}
+
+-- two numbers that a test found equal, or different
+pub equal : {a b : ℕ} → a ≡ b → eqb a b ≡ true
+equal {a} {b} e = eq-eqb a b e
+
+pub unequal : {a b : ℕ} → (a ≡ b → ⊥) → eqb a b ≡ false
+unequal {a} {b} n = ne-eqb a b n
 
 module _ (w : List ℕ) (net : Netlist) (s : State) (e : ℕ) where
   pub up-none : (n : ℕ) → n ≡ 0 → lookedUp w net s e n ≡ stood w s

@@ -4,10 +4,6 @@ use Rattle.user_calls.specs.Calls.{Replaced}
 use borrow.Author.Needs.{needs}
 use Rattle.user_join.proofs.join.Statement.{statement}
 use Rattle.user_join.proofs.join.Tie as tie
-use Rattle.user_join.proofs.join.Reads as reads
-use Rattle.user_join.proofs.join.Lts as lts
-use Rattle.load.proofs.load.Reads as load-reads
-use Rattle.user_calls.proofs.free_pins.Reads as free-pins-reads
 
 returns : tie.Need-returns
 returns c = Replaced.stranger (omega arith)
@@ -16,7 +12,10 @@ returns-2 : tie.Need-returns-2
 returns-2 c = Replaced.refuses (omega arith) (rw (c .before .n .given .1) at (c .before .before .before .before .before .join .ensures))
 
 returns-3 : tie.Need-returns-3
-returns-3 c = rw (c .before .before .free-pins .ensures) (Replaced.stores (omega arith) (rw (c .before .before .before .before .before .k .given .1) at (c .before .before .before .before .before .before .before .before .before .join .ensures)))
+returns-3 c =
+    let k = c .before .before .before .before .before in
+    let stored = rw (k .k .given .1) at (k .before .before .before .before .join .ensures) in
+    rw (c .before .before .free-pins .ensures) (Replaced.stores (omega arith) stored)
 
 pub join-spec : {M : Type 1} → statement M
 join-spec =

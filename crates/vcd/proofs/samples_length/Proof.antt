@@ -1,7 +1,7 @@
 -- `vcd::samples_length` meets its contract. The loop's invariant: what is counted and the length of what is left are the whole length.
 -- The measure is the number of frames left. Assumes nothing.
 use mathlib.Core.Path.{_≡_, ap, _∙_}
-use Prim.Native.Nat.{ℕ, _+_, _-_, _≤_}
+use Prim.Native.Nat.{ℕ, _+_, _-_, _*_, _≤_}
 use native.Mathlib.Omega.{arith}
 use lib.ListN.{length}
 use Rattle.aiger.specs.Text.{digits}
@@ -10,9 +10,6 @@ use Rattle.vcd.proofs.Parts.{samples-longer, samples-none, samples-most
 use borrow.Author.Needs.{needs}
 use Rattle.vcd.proofs.samples_length.Statement.{statement}
 use Rattle.vcd.proofs.samples_length.Tie as tie
-use Rattle.vcd.proofs.samples_length.Reads as reads
-use Rattle.vcd.proofs.samples_length.Lts as lts
-use Rattle.numbers.proofs.digit_count.Reads as digit-count-reads
 
 abbrev flat : ℕ → ℕ → Level
 flat t k = Level.low
@@ -25,66 +22,41 @@ Inv-loop n frames total₀ t₀ left₀ total t left =
     (t + left ≡ frames) × ((level : ℕ → ℕ → Level) → total + length (samples level n t left) ≡ length (samples level n 0 frames))
 
 abbrev μ-loop : tie.MeasureT-loop
-μ-loop n frames total₀ t₀ left₀ total t left =
-    left
+μ-loop n frames total₀ t₀ left₀ total t left = left
 
 loop-holds : tie.Need-loop-holds Inv-loop μ-loop
-loop-holds c =
-    (omega arith, λ level. omega arith)
+loop-holds c = (omega arith, λ level. omega arith)
 
-digit-count-requires : tie.Need-digit-count-requires Inv-loop μ-loop
-digit-count-requires c κs =
-    tt
+-- what is counted of the frames so far and of this one
+so-far : (c : tie.After-digit-count Inv-loop μ-loop)
+    → let a = c .before .before .before .args in
+    c .before .before .loop .total + 2 + c .digit-count .result + 4 * a .n ≤ 5516 * a .frames + 12
+so-far c =
+    let start = c .before .before .before in
+    let a = start .args in
+    let L = c .before .before .loop in
+    omega (
+      arith,
+      L .inv .1 flat,
+      samples-longer flat (a .n) (L .t) (L .left) (c .before .loop-test .taken),
+      c .digit-count .ensures,
+      samples-most flat (a .n) (start .pre .0) 0 (a .frames),
+    )
 
 add-total : tie.Need-add-total Inv-loop μ-loop
-add-total c =
-    let start = c .before .before .before in
-    let a = start .args in
-    let L = c .before .before .loop in
-    omega (
-      arith,
-      L .inv .1 flat,
-      samples-longer flat (a .n) (L .t) (L .left) (c .before .loop-test .taken),
-      c .digit-count .ensures,
-      samples-most flat (a .n) (start .pre .0) 0 (a .frames),
-      start .pre .1,
-    )
+add-total c = omega (arith, so-far c, c .before .before .before .pre .1)
 
 mul-total : tie.Need-mul-total Inv-loop μ-loop
-mul-total c =
-    omega (arith, c .before .before .before .pre .0)
+mul-total c = omega (arith, c .before .before .before .pre .0)
 
 add-total-2 : tie.Need-add-total-2 Inv-loop μ-loop
-add-total-2 c =
-    let start = c .before .before .before in
-    let a = start .args in
-    let L = c .before .before .loop in
-    omega (
-      arith,
-      L .inv .1 flat,
-      samples-longer flat (a .n) (L .t) (L .left) (c .before .loop-test .taken),
-      c .digit-count .ensures,
-      samples-most flat (a .n) (start .pre .0) 0 (a .frames),
-      start .pre .1,
-    )
+add-total-2 c = omega (arith, so-far c, c .before .before .before .pre .1)
 
 add-total-3 : tie.Need-add-total-3 Inv-loop μ-loop
-add-total-3 c =
-    let start = c .before .before .before in
-    let a = start .args in
-    let L = c .before .before .loop in
-    omega (
-      arith,
-      L .inv .1 flat,
-      samples-longer flat (a .n) (L .t) (L .left) (c .before .loop-test .taken),
-      c .digit-count .ensures,
-      samples-most flat (a .n) (start .pre .0) 0 (a .frames),
-      start .pre .1,
-    )
+add-total-3 c = omega (arith, so-far c, c .before .before .before .pre .1)
 
 add-t : tie.Need-add-t Inv-loop μ-loop
-add-t c =
-    omega (arith, c .before .before .before .pre .1)
+add-t c = omega (arith, c .before .before .before .pre .1)
 
 loop-again : tie.Need-loop-again Inv-loop μ-loop
 loop-again c =
@@ -98,10 +70,6 @@ add-result c =
     let a = start .args in
     let L = c .before .loop in
     omega (arith, L .inv .1 flat, samples-most flat (a .n) (start .pre .0) 0 (a .frames), start .pre .1)
-
-digit-count-requires-2 : tie.Need-digit-count-requires-2 Inv-loop μ-loop
-digit-count-requires-2 c κs =
-    tt
 
 add-result-2 : tie.Need-add-result-2 Inv-loop μ-loop
 add-result-2 c =
@@ -126,5 +94,5 @@ pub samples-length-spec : {M : Type 1} → statement M
 samples-length-spec =
     tie.close
     (tie.spec
-    Inv-loop μ-loop loop-holds digit-count-requires add-total mul-total add-total-2 add-total-3 add-t (λ c. omega arith)
-    (λ c. omega arith) loop-again add-result digit-count-requires-2 add-result-2 returns)
+    Inv-loop μ-loop loop-holds (λ c κs. tt) add-total mul-total add-total-2 add-total-3 add-t (λ c. omega arith)
+    (λ c. omega arith) loop-again add-result (λ c κs. tt) add-result-2 returns)
