@@ -169,7 +169,7 @@ pub fn read_witness(layout: Layout, text: &[u8]) -> Reading
 }
 
 // Whether all completions of a body show a hit, none, or some.
-fn judge(
+fn judge_completions(
     m: &[u32],
     layout: Layout,
     order: &[u32],
@@ -201,7 +201,7 @@ fn judge_alone(m: &[u32], layout: Layout, order: &[u32], q: Question, body: &[u8
 {
     let mut values = [0u64; 4097];
     let mut state = [0u64; 1024];
-    judge(m, layout, order, q, body, &mut values, &mut state)
+    judge_completions(m, layout, order, q, body, &mut values, &mut state)
 }
 
 // What an answer becomes where some completions differ from a pin.
