@@ -9,7 +9,7 @@ use lib.Dec.{T}
 use lib.ListN.{length, getD}
 use lib.Pow.{pow-pos}
 use Rattle.frames.specs.Lanes.{hitIn}
-use Rattle.machine.specs.Layers.{Entry, stateOf, placeOf, slotHit, slotPlace, expanded, layerSlots, firstBelow}
+use Rattle.machine.specs.Layers.{Entry, stateOf, placeOf, slotHit, slotPlace, expanded, layerSlots, leastBelow}
 use Rattle.machine.proofs.Expand.{quotient-below}
 use Rattle.machine.proofs.First.{none-is}
 use Rattle.states.specs.Table.{Fits}

@@ -16,7 +16,7 @@ use Rattle.machine.specs.Layers.{
   slotHit,
   expanded,
   layerSlots,
-  firstBelow,
+  leastBelow,
   Layered,
   hit,
   clear,
@@ -34,7 +34,7 @@ module _ (m : Machine) (q : ℕ → ℕ) where
   from-more zero k t es lo u x l e = absurd (let z : _≡_ {A = ℕ} 0 1 = cc in omega arith)
   from-more (suc n) zero t es lo u x l e = absurd (omega arith)
   from-more (suc n) (suc k) t es lo u x l e =
-      go (firstBelow (layerSlots m es lo) (slotHit m es lo)) (leb (length (expanded m es lo (layerSlots m es lo))) (q t))
+      go (leastBelow (layerSlots m es lo) (slotHit m es lo)) (leb (length (expanded m es lo (layerSlots m es lo))) (q t))
       (eqb (length (expanded m es lo (layerSlots m es lo))) (length es)) e
       (from-more n k (suc t) (expanded m es lo (layerSlots m es lo)) (length es) u x (omega arith))
     where

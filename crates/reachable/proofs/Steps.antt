@@ -9,7 +9,7 @@ use lib.ListN.{length, getD}
 use Rattle.aiger.specs.Frames.{freeStarts, size}
 use Rattle.machine.specs.Machine.{Machine}
 use Rattle.machine.proofs.Meet.{meets}
-use Rattle.machine.specs.Layers.{Entry, meet, started, slotStep, slotPlace, slotHit, expanded, layerSlots, firstBelow, hit, clear, gaveUp}
+use Rattle.machine.specs.Layers.{Entry, meet, started, slotStep, slotPlace, slotHit, expanded, layerSlots, leastBelow, hit, clear, gaveUp}
 use Rattle.influence.specs.Part.{Part}
 use Rattle.states.specs.Trace.{Trace, Holds}
 use Rattle.transitions.specs.Transitions.{machineOf}
@@ -90,7 +90,7 @@ module _ (c : Part) (b k : ℕ) where
           let (z, f, y, tr, rl, sp, el) = subst (AskedOf c b t lo most records heads es) q (asked t es standing-holds) in
           (y, rest-hit c b k t es lo (s .left) l z f ∙ ap (hit t) sp, tr, rl, l, omega (arith, counted), w)
 
-      met-case : {met : ℕ} → a ≡ Met met → (firstBelow (layerSlots (machineOf c b) es lo) (slotHit (machineOf c b) es lo) ≡ none)
+      met-case : {met : ℕ} → a ≡ Met met → (leastBelow (layerSlots (machineOf c b) es lo) (slotHit (machineOf c b) es lo) ≡ none)
           × Holds (2 ^ length (c .circuit .inputs)) (suc t) (length es) most met records heads
           (expanded (machineOf c b) es lo (layerSlots (machineOf c b) es lo))
       unfolding AskedOf
