@@ -138,11 +138,11 @@ fn write_folded(work: &[u32], g: Graph, root: Edge, kept: usize, out: &mut [u8])
 }
 
 // The number of the first of the tests 10 to 13 that fails, or that all pass. room is the words of working memory and len the bytes of output.
-pub fn judge(layout: Layout, b: u64, t: u64, room: usize, len: usize) -> Ruling
+pub fn check_fold(layout: Layout, b: u64, t: u64, room: usize, len: usize) -> Ruling
     requires { ⌜ Limited layout ⌝ }
     ensures { λ r. ⌜ ((c : Circuit) → CountsOf c layout → judge (foldTests c b t room len) ≡ told r) ⌝ }
 {
-    if let Ruling::Refused(n) = limits::judge(layout, b, t, true, room) {
+    if let Ruling::Refused(n) = limits::check_bounds(layout, b, t, true, room) {
         return Ruling::Refused(n);
     }
     let units = limits::size(layout, t as usize);
@@ -184,7 +184,7 @@ pub fn fold(m: &[u32], b: u64, t: u64, work: &mut [u32], out: &mut [u8]) -> Fold
     let Held::Circuit(layout) = circuit::held_in(m, &mut order) else {
         return FoldAnswer::Refused(9);
     };
-    if let Ruling::Refused(n) = judge(layout, b, t, work.len(), out.len()) {
+    if let Ruling::Refused(n) = check_fold(layout, b, t, work.len(), out.len()) {
         return FoldAnswer::Refused(n);
     }
     let length = fold_frame(m, layout, &order, b as usize, t as usize, work, out);

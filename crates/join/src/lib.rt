@@ -66,7 +66,7 @@ fn can_pair(p: Layout, q: Layout) -> bool
 }
 
 // The number of the first of the tests 17, 3 and 4 that fails, or that all pass. room is the words of the third memory.
-fn judge(p: Layout, q: Layout, room: usize) -> Ruling
+fn check_join(p: Layout, q: Layout, room: usize) -> Ruling
     requires { ⌜ Small p × Small q ⌝ }
     ensures { λ r. ⌜ RulingIs p q room r ⌝ }
 {
@@ -108,7 +108,7 @@ pub fn join(first: &[u32], second: &[u32], third: &mut [u32]) -> LoadAnswer
     let Held::Circuit(q) = circuit::test(second) else {
         return LoadAnswer::Refused(9);
     };
-    if let Ruling::Refused(n) = judge(p, q, third.len()) {
+    if let Ruling::Refused(n) = check_join(p, q, third.len()) {
         return LoadAnswer::Refused(n);
     }
     join_held(first, p, second, q, third);

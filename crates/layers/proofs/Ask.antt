@@ -9,7 +9,7 @@ use lib.Dec.{T}
 use lib.ListN.{length, getD}
 use lib.Pow.{pow-pos}
 use Rattle.frames.specs.Lanes.{hitIn}
-use Rattle.machine.specs.Layers.{Entry, stateOf, placeOf, slotHit, slotPlace, expanded, layerSlots, firstBelow}
+use Rattle.machine.specs.Layers.{Entry, stateOf, placeOf, slotHit, slotPlace, expanded, layerSlots, leastBelow}
 use Rattle.machine.proofs.Expand.{quotient-below}
 use Rattle.machine.proofs.First.{none-is}
 use Rattle.states.specs.declared.Tally.{Tally}
@@ -135,7 +135,7 @@ module _ (c : Part) (b lo hi quota : ℕ) (r₀ hd₀ : List ℕ) where
         lt : 64 * q ≡ layerSlots (machineOf c b) es lo
         lt = ap (λ (x : ℕ). 64 * x) e ∙ sym (layer-total c b es lo ∙ ap (λ (x : ℕ). 64 * ((x - lo) * blocks)) (h .counted high))
 
-        quiet : {n : ℕ} → Asking q n r hd → firstBelow (layerSlots (machineOf c b) es lo) (slotHit (machineOf c b) es lo) ≡ none
+        quiet : {n : ℕ} → Asking q n r hd → leastBelow (layerSlots (machineOf c b) es lo) (slotHit (machineOf c b) es lo) ≡ none
         quiet k = none-is (slotHit (machineOf c b) es lo) (layerSlots (machineOf c b) es lo) (λ z zl. k .quiet t es h z (omega (arith, lt)))
 
         holds : {n : ℕ} → Asking q n r hd → Holds rows (suc t) (length es) quota n r hd (expanded (machineOf c b) es lo (layerSlots (machineOf c b) es lo))

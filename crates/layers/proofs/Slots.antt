@@ -15,7 +15,7 @@ use lib.Pow.{pow-pos, pow-mono, pow-add}
 use Rattle.aiger.proofs.Tests.{T-true, and, and-left, and-right}
 use Rattle.frames.specs.Lanes.{hitIn}
 use Rattle.machine.specs.Machine.{Machine}
-use Rattle.machine.specs.Layers.{Entry, stateOf, placeOf, meet, slotEntry, slotPlace, slotStep, slotHit, expanded, layerSlots, firstBelow}
+use Rattle.machine.specs.Layers.{Entry, stateOf, placeOf, meet, slotEntry, slotPlace, slotStep, slotHit, expanded, layerSlots, leastBelow}
 use Rattle.machine.proofs.Expand.{over, rest, under, quotient-below}
 use Rattle.machine.proofs.First.{first-is, none-is}
 use Rattle.influence.specs.Part.{Part}
@@ -185,7 +185,7 @@ module _ (c : Part) (b : ℕ) where
 
         -- the first row is the first slot
         pub first-slot : r < n → T (hitIn (c .circuit) b (valuesIn c (stateOf es e) (block * 64 + r))) → (total : ℕ) → 64 * q + r < total
-            → firstBelow total (slotHit m es lo) ≡ some (64 * q + r)
+            → leastBelow total (slotHit m es lo) ≡ some (64 * q + r)
         first-slot w h total l =
             let a : T (ltb (block * 64 + r) rows) = T-true (lt-ltb (block * 64 + r) rows (row-in block r block-in w)) in
             first-is (slotHit m es lo) total (64 * q + r) l

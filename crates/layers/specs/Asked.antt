@@ -5,7 +5,7 @@ use mathlib.Core.Option.{none, some}
 use Prim.Native.Nat.{ℕ, suc, _+_, _-_, _*_, _^_, _≤_, _<_}
 use lib.ListN.{length}
 use Rattle.machine.specs.Machine.{Machine}
-use Rattle.machine.specs.Layers.{Entry, placeOf, slotHit, slotPlace, expanded, layerSlots, firstBelow}
+use Rattle.machine.specs.Layers.{Entry, placeOf, slotHit, slotPlace, expanded, layerSlots, leastBelow}
 use Rattle.states.specs.Trace.{Trace, Holds}
 use Rattle.influence.specs.Part.{Part}
 use Rattle.transitions.specs.Transitions.{machineOf}
@@ -16,15 +16,15 @@ use Rattle.layers.specs.declared.Asked.the-variants.{Hit, Next, Full}
 -- many states are
 unfoldable pub AskedOf : Part → ℕ → ℕ → ℕ → ℕ → List ℕ → List ℕ → List Entry → Asked → Type 0
 AskedOf c b t lo quota records heads es (Hit e row) =
-    (z : ℕ) × (firstBelow (layerSlots (machineOf c b) es lo) (slotHit (machineOf c b) es lo) ≡ some z)
+    (z : ℕ) × (leastBelow (layerSlots (machineOf c b) es lo) (slotHit (machineOf c b) es lo) ≡ some z)
     × (y : ℕ) × Trace (2 ^ length (c .circuit .inputs)) records t e y × (row < 2 ^ length (c .circuit .inputs))
     × (slotPlace (machineOf c b) es lo z ≡ y * 2 ^ length (c .circuit .inputs) + row) × (e < length es)
 AskedOf c b t lo quota records heads es (Next count) =
-    (firstBelow (layerSlots (machineOf c b) es lo) (slotHit (machineOf c b) es lo) ≡ none)
+    (leastBelow (layerSlots (machineOf c b) es lo) (slotHit (machineOf c b) es lo) ≡ none)
     × Holds (2 ^ length (c .circuit .inputs)) (suc t) (length es) quota count records heads
     (expanded (machineOf c b) es lo (layerSlots (machineOf c b) es lo))
     × (count ≤ quota)
 AskedOf c b t lo quota records heads es Full =
-    (firstBelow (layerSlots (machineOf c b) es lo) (slotHit (machineOf c b) es lo) ≡ none)
+    (leastBelow (layerSlots (machineOf c b) es lo) (slotHit (machineOf c b) es lo) ≡ none)
     × Holds (2 ^ length (c .circuit .inputs)) (suc t) (length es) quota (quota + 1) records heads
     (expanded (machineOf c b) es lo (layerSlots (machineOf c b) es lo))

@@ -28,7 +28,7 @@ pub fn witness_length(layout: Layout, b: u32, k: usize) -> usize
 }
 
 // The number of the first of the tests 10, 11 and 12 that fails, or that all pass. budget is whether the budget is right, and room the words of working memory.
-pub fn judge(layout: Layout, b: u64, k: u64, budget: bool, room: usize) -> Ruling
+pub fn check_bounds(layout: Layout, b: u64, k: u64, budget: bool, room: usize) -> Ruling
     requires { ⌜ Limited layout ⌝ }
     ensures { λ r. ⌜ RulingIs layout b k budget room r ⌝ }
 {

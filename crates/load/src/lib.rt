@@ -158,7 +158,7 @@ fn refused(n: u32) -> Judgement
 }
 
 // Judges a file for a circuit memory of `room` words. The content of an accepted circuit is left in words.
-fn judge(file: &[u8], room: usize, words: &mut [u32], order: &mut [u32]) -> Judgement
+fn judge_file(file: &[u8], room: usize, words: &mut [u32], order: &mut [u32]) -> Judgement
     requires { ⌜ 12391 ≤ length (now words) ⌝ }
     requires { ⌜ 3072 ≤ length (now order) ⌝ }
     ensures { λ r. ⌜ Judges room (now (file .entry)) (now (words .exit)) r ⌝ }
@@ -194,7 +194,7 @@ fn load_by(file: &[u8], m: &mut [u32], words: &mut [u32], order: &mut [u32]) -> 
     ensures { λ r. ⌜ Loaded (now (m .entry)) (now (file .entry)) (answered r) (now (m .exit)) ⌝ }
 {
     let room = m.len();
-    let judgement = judge(file, room, words, order);
+    let judgement = judge_file(file, room, words, order);
     let answer = judgement.answer;
     match answer {
         LoadAnswer::Refused(n) => LoadAnswer::Refused(n),
@@ -220,5 +220,5 @@ pub fn preview(file: &[u8], m: &[u32]) -> Judgement
 {
     let mut words = [0u32; 12391];
     let mut order = [0u32; 3072];
-    judge(file, m.len(), &mut words, &mut order)
+    judge_file(file, m.len(), &mut words, &mut order)
 }

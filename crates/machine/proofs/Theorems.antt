@@ -10,9 +10,9 @@ use native.Mathlib.Omega.{arith}
 use borrow.Author.Tests.{eqb-true}
 use lib.Dec.{T, eqb, leb}
 use lib.ListN.{length, getD}
-use Rattle.machine.proofs.First.{First, first}
+use Rattle.meaning.proofs.Decisions.{Least, least-below}
 use Rattle.machine.specs.Machine.{Machine, prefixes, stepped, stateAfter, hitFrom, hitsAt}
-use Rattle.machine.specs.Layers.{Entry, stateOf, placeOf, started, slotPlace, slotHit, expanded, layerSlots, firstBelow, Layered, hit, clear, gaveUp, layersFrom, layered}
+use Rattle.machine.specs.Layers.{Entry, stateOf, placeOf, started, slotPlace, slotHit, expanded, layerSlots, leastBelow, Layered, hit, clear, gaveUp, layersFrom, layered}
 use Rattle.machine.proofs.Starts.{Known, Layer, layer-start}
 use Rattle.machine.proofs.Expand.{Fair, came, over, rest, under, quotient-below, Silent, all-quiet, layer-next, prefix-fits}
 
@@ -80,7 +80,7 @@ module _ (m : Machine) (f : Fair m) where
         ]
 
     -- the first slot of a layer that is a hit is the first hit of its frame
-    frame-hit : (z : ℕ) → First (slotHit m es lo) (layerSlots m es lo) (some z) → FirstHit m t (slotPlace m es lo z)
+    frame-hit : (z : ℕ) → Least (slotHit m es lo) (layerSlots m es lo) (some z) → FirstHit m t (slotPlace m es lo z)
     unfolding prefixes hitsAt
     frame-hit z (zl, zh, zf) =
         let i = lo + z / m .slots in
@@ -164,7 +164,7 @@ module _ (m : Machine) (f : Fair m) where
     unfolding layersFrom
     says-from zero t end es lo e b layer = subst (QuietBefore m) (omega arith) b
     says-from (suc n) t end es lo e b layer =
-        go (firstBelow (layerSlots m es lo) (slotHit m es lo)) (first (slotHit m es lo) (layerSlots m es lo))
+        go (leastBelow (layerSlots m es lo) (slotHit m es lo)) (least-below (slotHit m es lo) (layerSlots m es lo))
         (λ q k. says-from n (suc t) end (expanded m es lo (layerSlots m es lo)) (length es) (omega arith) q k)
       where
         all : List Entry
@@ -183,7 +183,7 @@ module _ (m : Machine) (f : Fair m) where
             ]
         rest-of s k true false w = k (before-more t b (frame-quiet t es lo layer s)) (layer-next m f t es lo layer s)
 
-        go : (o : Option ℕ) → First (slotHit m es lo) (layerSlots m es lo) o
+        go : (o : Option ℕ) → Least (slotHit m es lo) (layerSlots m es lo) o
             → (QuietBefore m (suc t) → Layer m (suc t) (expanded m es lo (layerSlots m es lo)) (length es)
             → Says end (layersFrom m quota n (suc t) (expanded m es lo (layerSlots m es lo)) (length es)))
             → Says end (elim o [

@@ -7,7 +7,7 @@ use Prim.Native.Nat.{ℕ, zero, suc, _+_, _-_, _*_, _/_, _%_}
 use lib.Dec.{eqb, leb}
 use lib.ListN.{length, getD}
 use Rattle.machine.specs.Machine.{Machine}
-pub use Rattle.aiger.specs.Search.{leastBelow as firstBelow}
+pub use Rattle.aiger.specs.Search.{leastBelow}
 
 -- a state that was met, and the first prefix that led to it
 pub record Entry : Type 0 where
@@ -72,7 +72,7 @@ pub data Layered : Type 0 where
 unfoldable pub layersFrom : Machine → (ℕ → ℕ) → ℕ → ℕ → List Entry → ℕ → Layered
 layersFrom m quota zero t es lo = clear
 layersFrom m quota (suc n) t es lo =
-    elim (firstBelow (layerSlots m es lo) (slotHit m es lo)) [
+    elim (leastBelow (layerSlots m es lo) (slotHit m es lo)) [
       | some z ↦ hit t (slotPlace m es lo z)
       | none ↦
           cond (leb (length (expanded m es lo (layerSlots m es lo))) (quota t))

@@ -62,7 +62,7 @@ pub fn fold(
     let Held::Circuit(layout) = circuit::test(m) else {
         return FoldAnswer::Refused(9);
     };
-    if let Ruling::Refused(n) = fold::judge(layout, b, t, work.len(), out.len()) {
+    if let Ruling::Refused(n) = fold::check_fold(layout, b, t, work.len(), out.len()) {
         return FoldAnswer::Refused(n);
     }
     fold_known(m, layout, pins, user as usize, Frame { b, t }, work, out)

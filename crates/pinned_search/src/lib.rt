@@ -98,7 +98,7 @@ pub fn search(
     let Held::Circuit(layout) = circuit::test(m) else {
         return SearchAnswer::Refused(9);
     };
-    if let Ruling::Refused(n) = search::judge(layout, b, k, d, work.len(), out.len()) {
+    if let Ruling::Refused(n) = search::check_search(layout, b, k, d, work.len(), out.len()) {
         return SearchAnswer::Refused(n);
     }
     search_known(m, layout, pins, user as usize, Terms { b, k, d }, work, out)

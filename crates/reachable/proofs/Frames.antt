@@ -19,7 +19,7 @@ use Rattle.machine.specs.Layers.{
   slotHit,
   expanded,
   layerSlots,
-  firstBelow,
+  leastBelow,
   Layered,
   hit,
   clear,
@@ -62,16 +62,16 @@ module _ (m : Machine) (q : ℕ → ℕ) (n t : ℕ) (es : List Entry) (lo : ℕ
         (gaveUp (suc t))
   ]
 
-  unrolled : layersFrom m q (suc n) t es lo ≡ after (firstBelow (layerSlots m es lo) (slotHit m es lo)) (leb (length all) (q t))
+  unrolled : layersFrom m q (suc n) t es lo ≡ after (leastBelow (layerSlots m es lo) (slotHit m es lo)) (leb (length all) (q t))
       (eqb (length all) (length es))
   unfolding layersFrom
   unrolled = refl
 
-  pub from-hit : (z : ℕ) → firstBelow (layerSlots m es lo) (slotHit m es lo) ≡ some z
+  pub from-hit : (z : ℕ) → leastBelow (layerSlots m es lo) (slotHit m es lo) ≡ some z
       → layersFrom m q (suc n) t es lo ≡ hit t (slotPlace m es lo z)
   from-hit z e = unrolled ∙ ap (λ (o : Option ℕ). after o (leb (length all) (q t)) (eqb (length all) (length es))) e
 
-  module _ (e : firstBelow (layerSlots m es lo) (slotHit m es lo) ≡ none) where
+  module _ (e : leastBelow (layerSlots m es lo) (slotHit m es lo) ≡ none) where
     pub from-lost : q t < length (expanded m es lo (layerSlots m es lo)) → layersFrom m q (suc n) t es lo ≡ gaveUp (suc t)
     from-lost l =
         unrolled ∙ ap₂ (λ (o : Option ℕ) (a : Bool). after o a (eqb (length all) (length es))) e (lt-leb (length all) (q t) l)
@@ -126,11 +126,11 @@ module _ (c : Part) (b k : ℕ) where
     one-more : layered c b k ≡ layersFrom m (quota c) (suc (k - t)) t es lo
     one-more = r ∙ ap (λ (n : ℕ). layersFrom m (quota c) n t es lo) {x = k + 1 - t} {y = suc (k - t)} (omega arith)
 
-    pub rest-hit : (z : ℕ) → firstBelow (layerSlots (machineOf c b) es lo) (slotHit (machineOf c b) es lo) ≡ some z
+    pub rest-hit : (z : ℕ) → leastBelow (layerSlots (machineOf c b) es lo) (slotHit (machineOf c b) es lo) ≡ some z
         → layered c b k ≡ hit t (slotPlace (machineOf c b) es lo z)
     rest-hit z e = one-more ∙ from-hit m (quota c) (k - t) t es lo z e
 
-    module _ (e : firstBelow (layerSlots (machineOf c b) es lo) (slotHit (machineOf c b) es lo) ≡ none) where
+    module _ (e : leastBelow (layerSlots (machineOf c b) es lo) (slotHit (machineOf c b) es lo) ≡ none) where
       pub rest-lost : quota c t < length (expanded (machineOf c b) es lo (layerSlots (machineOf c b) es lo))
           → layered c b k ≡ gaveUp (t + 1)
       rest-lost h = one-more ∙ from-lost m (quota c) (k - t) t es lo e h ∙ ap gaveUp (sym (add-one t))

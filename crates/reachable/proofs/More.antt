@@ -9,7 +9,7 @@ use lib.Dec.{leb, eqb}
 use lib.ListN.{length}
 use Rattle.machine.specs.Machine.{Machine}
 use Rattle.machine.specs.Layers as spec
-use Rattle.machine.specs.Layers.{Entry, started, slotPlace, slotHit, expanded, layerSlots, firstBelow, hit, clear, gaveUp, layersFrom}
+use Rattle.machine.specs.Layers.{Entry, started, slotPlace, slotHit, expanded, layerSlots, leastBelow, hit, clear, gaveUp, layersFrom}
 use Rattle.influence.specs.Part.{Part}
 use Rattle.transitions.specs.Transitions.{machineOf}
 use Rattle.reachable.specs.Quota.{quota}
@@ -21,7 +21,7 @@ module _ (m : Machine) (q : ℕ → ℕ) where
   from-more zero k t es lo u x l e = absurd (let z : _≡_ {A = ℕ} 0 1 = cc in omega arith)
   from-more (suc n) zero t es lo u x l e = absurd (omega arith)
   from-more (suc n) (suc k) t es lo u x l e =
-      go (firstBelow (layerSlots m es lo) (slotHit m es lo)) (leb (length (expanded m es lo (layerSlots m es lo))) (q t))
+      go (leastBelow (layerSlots m es lo) (slotHit m es lo)) (leb (length (expanded m es lo (layerSlots m es lo))) (q t))
       (eqb (length (expanded m es lo (layerSlots m es lo))) (length es)) e
       (from-more n k (suc t) (expanded m es lo (layerSlots m es lo)) (length es) u x (omega arith))
     where

@@ -9,7 +9,7 @@ use lib.ListN.{length}
 use Rattle.aiger.specs.Frames.{freeStarts}
 use Rattle.machine.specs.Machine.{Machine}
 use Rattle.machine.proofs.Meet.{meets}
-use Rattle.machine.specs.Layers.{Entry, meet, started, slotStep, slotPlace, slotHit, expanded, layerSlots, firstBelow, hit}
+use Rattle.machine.specs.Layers.{Entry, meet, started, slotStep, slotPlace, slotHit, expanded, layerSlots, leastBelow, hit}
 use Rattle.influence.specs.Part.{Part}
 use Rattle.states.specs.Trace.{Holds}
 use Rattle.transitions.specs.Transitions.{machineOf}
@@ -99,7 +99,7 @@ module _ (c : Part) (b k : ℕ) where
           let (z, f, y, tr, rl, sp, el) = subst (AskedOf c b t lo most records heads es) q (asked t es standing-holds) in
           (y, rest-hit c b k t es lo rest (s .within) z f ∙ ap (hit t) sp, tr, rl, s .within, omega (arith, counted), w)
 
-      met-case : {met : ℕ} → a ≡ Next met → (firstBelow (layerSlots (machineOf c b) es lo) (slotHit (machineOf c b) es lo) ≡ none)
+      met-case : {met : ℕ} → a ≡ Next met → (leastBelow (layerSlots (machineOf c b) es lo) (slotHit (machineOf c b) es lo) ≡ none)
           × Holds (2 ^ length (c .circuit .inputs)) (suc t) (length es) most met records heads
           (expanded (machineOf c b) es lo (layerSlots (machineOf c b) es lo))
           × (met ≤ most)

@@ -178,7 +178,7 @@ pub fn read_held(m: &[u32], text: &[u8], order: &mut [u32]) -> Reading
 }
 
 // Whether all completions of a body show a hit, none, or some.
-fn judge(
+fn judge_completions(
     m: &[u32],
     order: &[u32],
     w: Instance,
@@ -206,7 +206,7 @@ fn judge_alone(m: &[u32], order: &[u32], w: Instance, body: &[u8]) -> ReplayAnsw
 {
     let mut values = [0u64; 4097];
     let mut state = [0u64; 1024];
-    judge(m, order, w, body, &mut values, &mut state)
+    judge_completions(m, order, w, body, &mut values, &mut state)
 }
 
 // What an answer becomes where some completions differ from a pin.

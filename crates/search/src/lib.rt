@@ -39,12 +39,12 @@ fn is_budget(d: u64) -> bool
 }
 
 // The number of the first of the tests 10 to 13 that fails, or that all pass. room is the words of working memory and len the bytes of output.
-pub fn judge(layout: Layout, b: u64, k: u64, d: u64, room: usize, len: usize) -> Ruling
+pub fn check_search(layout: Layout, b: u64, k: u64, d: u64, room: usize, len: usize) -> Ruling
     requires { ⌜ Limited layout ⌝ }
     ensures { λ r. ⌜ ((c : Circuit) → CountsOf c layout → judge (searchTests c b k d room len) ≡ told r) ⌝ }
 {
     let budget = is_budget(d);
-    if let Ruling::Refused(n) = limits::judge(layout, b, k, budget, room) {
+    if let Ruling::Refused(n) = limits::check_bounds(layout, b, k, budget, room) {
         return Ruling::Refused(n);
     }
     if len < limits::witness_length(layout, b as u32, k as usize) {
@@ -126,7 +126,7 @@ pub fn search(m: &[u32], b: u64, k: u64, d: u64, work: &mut [u32], out: &mut [u8
     let Held::Circuit(layout) = circuit::held_in(m, &mut order) else {
         return SearchAnswer::Refused(9);
     };
-    if let Ruling::Refused(n) = judge(layout, b, k, d, work.len(), out.len()) {
+    if let Ruling::Refused(n) = check_search(layout, b, k, d, work.len(), out.len()) {
         return SearchAnswer::Refused(n);
     }
     search_frames(m, layout, &order, Terms { b, k, d }, work, out)

@@ -11,8 +11,8 @@ use Rattle.fold.proofs.fold.Tie as tie
 returns : tie.Need-returns
 returns c = Operated.noCircuit (rw (c .enum-told .given .1) at (c .before .before .before .held-in .ensures .0))
 
-judge-requires : tie.Need-judge-requires
-judge-requires c κs =
+check-fold-requires : tie.Need-check-fold-requires
+check-fold-requires c κs =
     let l = c .before in
     let h = rw (l .layout .given .1) at (l .before .before .before .held-in .ensures .0) in
     limited (h .1) (h .0)
@@ -22,7 +22,7 @@ returns-2 c =
     let r = c .before .before .before in
     let l = r .before .before in
     let h = rw (l .layout .given .1) at (l .before .before .before .held-in .ensures .0) in
-    refused-with (h .1) (rw (c .before .n .given .1) at (r .judge .ensures _ (counts-of (h .1) (h .0))))
+    refused-with (h .1) (rw (c .before .n .given .1) at (r .check-fold .ensures _ (counts-of (h .1) (h .0))))
 
 fold-frame-requires : tie.Need-fold-frame-requires
 fold-frame-requires c κs =
@@ -32,7 +32,7 @@ fold-frame-requires c κs =
     let n = l .before .before .before in
     let h = rw (l .layout .given .1) at (n .held-in .ensures .0) in
     fits (h .1) (h .0) (h .2) (omega (arith, n .held-in .kept .1 .0))
-    (rw (t .enum-told2 .given .1) at (r .judge .ensures _ (counts-of (h .1) (h .0))))
+    (rw (t .enum-told2 .given .1) at (r .check-fold .ensures _ (counts-of (h .1) (h .0))))
 
 returns-3 : tie.Need-returns-3
 returns-3 c =
@@ -41,11 +41,11 @@ returns-3 c =
     let r = t .before .before in
     let l = r .before .before in
     let h = rw (l .layout .given .1) at (l .before .before .before .held-in .ensures .0) in
-    written-with (h .1) (rw (t .enum-told2 .given .1) at (r .judge .ensures _ (counts-of (h .1) (h .0)))) (s .fold-frame .ensures)
+    written-with (h .1) (rw (t .enum-told2 .given .1) at (r .check-fold .ensures _ (counts-of (h .1) (h .0)))) (s .fold-frame .ensures)
 
 pub fold-spec : {M : Type 1} → statement M
 fold-spec =
     tie.close
     (tie.spec
-    (λ c. search needs) (λ c κs. search needs) (λ c. search needs) (λ c. search needs) returns judge-requires (λ c. search needs)
+    (λ c. search needs) (λ c κs. search needs) (λ c. search needs) (λ c. search needs) returns check-fold-requires (λ c. search needs)
     returns-2 (λ c. search needs) (λ c. search needs) fold-frame-requires (λ c. search needs) (λ c. search needs) returns-3)

@@ -13,8 +13,8 @@ returns c = JoinedInto.noCircuit (inl (rw (c .enum-told .given .1) at (c .before
 returns-2 : tie.Need-returns-2
 returns-2 c = JoinedInto.noCircuit (inr (rw (c .enum-told2 .given .1) at (c .before .before .test2 .ensures)))
 
-judge-requires : tie.Need-judge-requires
-judge-requires c κs =
+check-join-requires : tie.Need-check-join-requires
+check-join-requires c κs =
     let q = c .before in
     let p = q .before .before .before .before in
     let t = rw (p .p .given .1) at (p .before .before .test .ensures) in
@@ -27,7 +27,7 @@ returns-3 c =
     let p = q .before .before .before .before in
     let t = rw (p .p .given .1) at (p .before .before .test .ensures) in
     let u = rw (q .q .given .1) at (q .before .before .test2 .ensures) in
-    refuses-in (t .1) (t .0) (u .1) (u .0) (rw (c .before .n .given .1) at (r .judge .ensures))
+    refuses-in (t .1) (t .0) (u .1) (u .0) (rw (c .before .n .given .1) at (r .check-join .ensures))
 
 join-held-requires : tie.Need-join-held-requires
 join-held-requires c κs =
@@ -37,7 +37,7 @@ join-held-requires c κs =
     let p = q .before .before .before .before in
     let t = rw (p .p .given .1) at (p .before .before .test .ensures) in
     let u = rw (q .q .given .1) at (q .before .before .test2 .ensures) in
-    ((t .1, t .0, u .1, u .0), r .judge .ensures .passes (e .enum-told3 .given .1))
+    ((t .1, t .0, u .1, u .0), r .check-join .ensures .passes (e .enum-told3 .given .1))
 
 joined-counts-requires : tie.Need-joined-counts-requires
 joined-counts-requires c κs =
@@ -59,7 +59,7 @@ returns-4 c =
     let p = q .before .before .before .before in
     let t = rw (p .p .given .1) at (p .before .before .test .ensures) in
     let u = rw (q .q .given .1) at (q .before .before .test2 .ensures) in
-    stores-in (t .1) (t .0) (u .1) (u .0) (rw (e .enum-told3 .given .1) at (r .judge .ensures))
+    stores-in (t .1) (t .0) (u .1) (u .0) (rw (e .enum-told3 .given .1) at (r .check-join .ensures))
     (k .join-held .ensures) (c .joined-counts .ensures)
 
 pub join-spec : {M : Type 1} → statement M
@@ -67,5 +67,5 @@ join-spec =
     tie.close
     (tie.spec
     (λ c κs. search needs) (λ c. search needs) (λ c. search needs) returns (λ c κs. search needs) (λ c. search needs)
-    (λ c. search needs) returns-2 judge-requires (λ c. search needs) returns-3 (λ c. search needs) join-held-requires
+    (λ c. search needs) returns-2 check-join-requires (λ c. search needs) returns-3 (λ c. search needs) join-held-requires
     joined-counts-requires same-length returns-4)

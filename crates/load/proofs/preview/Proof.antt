@@ -5,10 +5,10 @@ use Rattle.load.proofs.preview.Statement.{statement}
 use Rattle.load.proofs.preview.Tie as tie
 use Rattle.load.proofs.preview.Reads as reads
 use Rattle.load.proofs.preview.Lts as lts
-use Rattle.load.proofs.judge.Reads as judge-reads
+use Rattle.load.proofs.judge_file.Reads as judge-file-reads
 
 returns : tie.Need-returns
-returns c = previewed (c .before .before .judge .ensures)
+returns c = previewed (c .before .before .judge-file .ensures)
 
 pub preview-spec : {M : Type 1} → statement M
 preview-spec =

@@ -17,8 +17,8 @@ test-requires c κs = tt
 returns-2 : tie.Need-returns-2
 returns-2 c = ForUser.known (omega arith) (Operated.noCircuit (rw (c .enum-told .given .1) at (c .before .before .test .ensures)))
 
-judge-requires : tie.Need-judge-requires
-judge-requires c κs =
+check-search-requires : tie.Need-check-search-requires
+check-search-requires c κs =
     let l = c .before in
     let h = rw (l .layout .given .1) at (l .before .before .test .ensures) in
     limited (h .1) (h .0)
@@ -29,7 +29,7 @@ returns-3 c =
     let l = r .before .before in
     let a = l .before .before .before .before .before .before .before .before .args in
     let h = rw (l .layout .given .1) at (l .before .before .test .ensures) in
-    refused-with (a .pins .now) (h .1) (omega arith) (rw (c .before .n .given .1) at (r .judge .ensures _ (counts-of (h .1) (h .0))))
+    refused-with (a .pins .now) (h .1) (omega arith) (rw (c .before .n .given .1) at (r .check-search .ensures _ (counts-of (h .1) (h .0))))
 
 search-known-requires : tie.Need-search-known-requires
 search-known-requires c κs =
@@ -41,7 +41,7 @@ search-known-requires c κs =
       held = h .1;
       layout-of = h .0;
       user-of = omega arith;
-      tests = rw (t .enum-told2 .given .1) at (r .judge .ensures _ (counts-of (h .1) (h .0)));
+      tests = rw (t .enum-told2 .given .1) at (r .check-search .ensures _ (counts-of (h .1) (h .0)));
     }
 
 same-length : tie.Need-same-length
@@ -58,12 +58,12 @@ returns-4 c =
     let l = r .before .before in
     let a = l .before .before .before .before .before .before .before .before .args in
     let h = rw (l .layout .given .1) at (l .before .before .test .ensures) in
-    answered (a .pins .now) (h .1) (omega arith) (rw (t .enum-told2 .given .1) at (r .judge .ensures _ (counts-of (h .1) (h .0))))
+    answered (a .pins .now) (h .1) (omega arith) (rw (t .enum-told2 .given .1) at (r .check-search .ensures _ (counts-of (h .1) (h .0))))
     (k .search-known .ensures)
 
 pub search-spec : {M : Type 1} → statement M
 search-spec =
     tie.close
     (tie.spec
-    returns test-requires (λ c. search needs) (λ c. search needs) returns-2 judge-requires (λ c. search needs) returns-3
+    returns test-requires (λ c. search needs) (λ c. search needs) returns-2 check-search-requires (λ c. search needs) returns-3
     (λ c. search needs) search-known-requires same-length same-length-2 returns-4)

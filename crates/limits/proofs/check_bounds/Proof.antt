@@ -1,4 +1,4 @@
--- `limits::judge` meets its contract: each number by the first test that fails. Assumes nothing.
+-- `limits::check_bounds` meets its contract: each number by the first test that fails. Assumes nothing.
 use mathlib.Core.Path.{_∙_}
 use native.Mathlib.Omega.{arith}
 use borrow.Author.Needs.{needs}
@@ -6,8 +6,8 @@ use borrow.Author.Tests.{not-true, not-false}
 use Rattle.aiger.proofs.Tests.{T-true}
 use Rattle.limits.proofs.Sizes.{size-is}
 use Rattle.limits.proofs.Refusals.{not-accepted, bad-refused, bound-refused, budget-refused, size-refused, room-refused, passes}
-use Rattle.limits.proofs.judge.Statement.{statement}
-use Rattle.limits.proofs.judge.Tie as tie
+use Rattle.limits.proofs.check_bounds.Statement.{statement}
+use Rattle.limits.proofs.check_bounds.Tie as tie
 
 returns : tie.Need-returns
 returns c =
@@ -68,7 +68,7 @@ returns-6 c =
       within = λ z. record { bad = omega arith; bound = omega arith; right = T-true right; small = omega arith; words = omega arith };
     }
 
-pub judge-spec : {M : Type 1} → statement M
-judge-spec =
+pub check-bounds-spec : {M : Type 1} → statement M
+check-bounds-spec =
     tie.close
     (tie.spec returns returns-2 returns-3 (λ c κs. search needs) returns-4 (λ c. search needs) returns-5 returns-6)

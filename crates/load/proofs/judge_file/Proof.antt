@@ -1,4 +1,4 @@
--- `load::judge` meets its contract: the tests 1 to 4, and then the lines. Assumes nothing.
+-- `load::judge_file` meets its contract: the tests 1 to 4, and then the lines. Assumes nothing.
 use mathlib.Core.Path.{_≡_, sym, ap, _∙_, subst}
 use mathlib.Core.Bool.{Bool, true}
 use mathlib.Core.List.{List}
@@ -16,8 +16,8 @@ use Rattle.roundtrip.proofs.LoadValid.{right-fit}
 use Rattle.load.specs.Steps.{narrowed, headerMeant, loadBody}
 use Rattle.load.specs.declared.Counts.{Counts}
 use Rattle.load.proofs.Finishing.{limits-read, fit-narrowed, refused-empty, refused-long, refused-header, refused-counts, refused-room, load-rest, none-empty, none-long, none-header, none-counts, some-words, file-judged, judged-refused}
-use Rattle.load.proofs.judge.Statement.{statement}
-use Rattle.load.proofs.judge.Tie as tie
+use Rattle.load.proofs.judge_file.Statement.{statement}
+use Rattle.load.proofs.judge_file.Tie as tie
 
 -- the file
 abbrev F : tie.After-read-header → List ℕ
@@ -139,8 +139,8 @@ returns-6 c =
       needed = some-words (F n) (some-byte n) (short n) (H t) (next t) (head t) (right (e .before));
     }
 
-pub judge-spec : {M : Type 1} → statement M
-judge-spec =
+pub judge-file-spec : {M : Type 1} → statement M
+judge-file-spec =
     tie.close
     (tie.spec
     (λ c κs. search needs) returns (λ c κs. search needs) returns-2 (λ c κs. search needs) (λ c. search needs) (λ c. search needs)

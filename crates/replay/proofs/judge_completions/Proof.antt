@@ -1,4 +1,4 @@
--- `replay::judge` meets its contract. Assumes nothing.
+-- `replay::judge_completions` meets its contract. Assumes nothing.
 use mathlib.Core.Path.{sym, ap, _∙_}
 use native.Mathlib.Omega.{arith}
 use borrow.Author.Needs.{needs}
@@ -7,8 +7,8 @@ use Rattle.completions.specs.Either.{shows}
 use Rattle.layout.specs.Words.{circuitIn}
 use Rattle.frames.proofs.Facts.{ready-with}
 use Rattle.replay.proofs.Answers.{verdict-all, verdict-no, verdict-mixed, none-is}
-use Rattle.replay.proofs.judge.Statement.{statement}
-use Rattle.replay.proofs.judge.Tie as tie
+use Rattle.replay.proofs.judge_completions.Statement.{statement}
+use Rattle.replay.proofs.judge_completions.Tie as tie
 
 -- the entry, from the first test
 abbrev start : tie.After-every-completion → tie.Start
@@ -56,8 +56,8 @@ returns-3 c =
     (verdict-mixed p (a .body .now) (sym (o .if1 .left) ∙ k .every-completion .ensures)
     (sym (c .if2 .left) ∙ j .every-completion2 .ensures ∙ sym (none-is p (a .body .now))))
 
-pub judge-spec : {M : Type 1} → statement M
-judge-spec =
+pub judge-completions-spec : {M : Type 1} → statement M
+judge-completions-spec =
     tie.close
     (tie.spec
     (λ c κs. search needs) (λ c. search needs) (λ c. search needs) returns every-completion-requires-2 (λ c. search needs)

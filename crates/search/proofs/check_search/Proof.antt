@@ -1,4 +1,4 @@
--- `search::judge` meets its contract: the tests 10 to 12, then the length of the output. Assumes nothing.
+-- `search::check_search` meets its contract: the tests 10 to 12, then the length of the output. Assumes nothing.
 use mathlib.Core.Path.{_≡_, _∙_, subst}
 use mathlib.Core.Bool.{Bool}
 use mathlib.Core.List.{_∷_, []}
@@ -11,17 +11,17 @@ use Rattle.aiger.specs.Operations.{Test, need, judge, budgetRight, boundTests}
 use Rattle.limits.specs.Limits.{CountsOf, told}
 use Rattle.limits.proofs.Sizes.{length-is}
 use Rattle.limits.proofs.Refusals.{judge-refused, length-refused, length-passes}
-use Rattle.search.proofs.judge.Statement.{statement}
-use Rattle.search.proofs.judge.Tie as tie
+use Rattle.search.proofs.check_search.Statement.{statement}
+use Rattle.search.proofs.check_search.Tie as tie
 
 -- the tests 10 to 12 of a circuit with these counts
-bounded : (n : tie.After-judge) (x : Circuit)
+bounded : (n : tie.After-check-bounds) (x : Circuit)
     → (let a = n .before .before .args in
-    CountsOf x (a .layout) → judge (boundTests x (a .b) (a .k) (budgetRight (a .d)) (a .room)) ≡ told (n .judge .result))
+    CountsOf x (a .layout) → judge (boundTests x (a .b) (a .k) (budgetRight (a .d)) (a .room)) ≡ told (n .check-bounds .result))
 bounded n x e =
     let a = n .before .before .args in
-    subst (λ (p : Bool). judge (boundTests x (a .b) (a .k) p (a .room)) ≡ told (n .judge .result)) (n .before .is-budget .ensures)
-    (n .judge .ensures .tests x e)
+    subst (λ (p : Bool). judge (boundTests x (a .b) (a .k) p (a .room)) ≡ told (n .check-bounds .result)) (n .before .is-budget .ensures)
+    (n .check-bounds .ensures .tests x e)
 
 returns : tie.Need-returns
 returns c =
@@ -35,12 +35,12 @@ returns c =
 cast-witness-length : tie.Need-cast-witness-length
 cast-witness-length c =
     let n = c .before .before in
-    omega (arith, n .judge .ensures .within (c .enum-told .given .1) .bad, n .before .before .pre .bads)
+    omega (arith, n .check-bounds .ensures .within (c .enum-told .given .1) .bad, n .before .before .pre .bads)
 
 witness-length-requires : tie.Need-witness-length-requires
 witness-length-requires c κs =
     let n = c .before .before in
-    (n .before .before .pre, omega (arith, n .judge .ensures .within (c .enum-told .given .1) .bound))
+    (n .before .before .pre, omega (arith, n .check-bounds .ensures .within (c .enum-told .given .1) .bound))
 
 returns-2 : tie.Need-returns-2
 returns-2 c =
@@ -64,8 +64,8 @@ returns-3 c =
     length-passes (boundTests x (a .b) (a .k) (budgetRight (a .d)) (a .room)) (rw (t .enum-told .given .1) at (bounded n x e))
     (witnessLength x (a .b) (a .k)) (a .len) (omega (arith, c .if1 .left))
 
-pub judge-spec : {M : Type 1} → statement M
-judge-spec =
+pub check-search-spec : {M : Type 1} → statement M
+check-search-spec =
     tie.close
     (tie.spec
     (λ c κs. search needs) (λ c κs. search needs) (λ c. search needs) returns (λ c. search needs) cast-witness-length

@@ -1,4 +1,4 @@
--- `join::judge` meets its contract: each number by the test that fails. Assumes nothing.
+-- `join::check_join` meets its contract: each number by the test that fails. Assumes nothing.
 use mathlib.Core.Path.{_≡_, sym, ap, _∙_}
 use native.Mathlib.Omega.{arith}
 use borrow.Author.Needs.{needs}
@@ -8,8 +8,8 @@ use Rattle.load.specs.Steps.{headerMeant}
 use Rattle.join.specs.Answers.{countsOf}
 use borrow.Author.Tests.{not-true, not-false}
 use Rattle.join.proofs.Answers.{says-17, says-3, says-4, says-none}
-use Rattle.join.proofs.judge.Statement.{statement}
-use Rattle.join.proofs.judge.Tie as tie
+use Rattle.join.proofs.check_join.Statement.{statement}
+use Rattle.join.proofs.check_join.Tie as tie
 
 returns : tie.Need-returns
 returns c =
@@ -41,8 +41,8 @@ returns-4 c =
     (sym k ∙ sym (c .before .before .before .are-small .ensures) ∙ not-false _ (c .before .before .if2 .left)) (s .pre .0) (s .pre .1)
     (omega (arith, ap (λ (x : Counts). x .m) (c .before .before .before .before .joined-counts .ensures)))
 
-pub judge-spec : {M : Type 1} → statement M
-judge-spec =
+pub check-join-spec : {M : Type 1} → statement M
+check-join-spec =
     tie.close
     (tie.spec
     (λ c κs. search needs) returns joined-counts-requires (λ c κs. search needs) returns-2 (λ c. search needs) (λ c. search needs)
