@@ -1,4 +1,5 @@
--- What a user's calls return is what they return in the history without the other user's calls other than accepted loads. Clause 12.7. Assumes nothing.
+-- What a user's calls return is what they return in the history without the other user's calls other than accepted loads. Clause 12.7.
+-- Assumes nothing.
 use mathlib.Core.Path.{_≡_, refl, sym, ap, ap₂, _∙_, subst}
 use mathlib.Core.Bool.{Bool, true, false, cond, _||_}
 use mathlib.Core.List.{List, [], _∷_, map}

@@ -65,17 +65,20 @@ LoadReported user file m pins line r m′ pins′ line′ =
 -- a query, as the call of a history that it is
 abbrev pub Queried : Query → ℕ → History.State → List ℕ → List ℕ → Report → History.State → List ℕ → List ℕ → Type 0
 Queried (Pin input value) user s out line r s′ out′ line′ =
-    Reported (λ a. History.Step s (History.Call.setPin user input value) (History.Returned.pinned a) s′ × (out′ ≡ out)) pinWords noText line r
-    line′ out′
+    Reported (λ a. History.Step s (History.Call.setPin user input value) (History.Returned.pinned a) s′ × (out′ ≡ out)) pinWords noText
+    line r line′ out′
 Queried (Search b k D) user s out line r s′ out′ line′ =
     Reported (λ a. History.Step s (History.Call.search user b k D out) (History.Returned.searched a out′) s′) saidWords
     (shownLength (circuitIn (s .memory)) b) line r line′ out′
 Queried (Fold b t) user s out line r s′ out′ line′ =
-    Reported (λ a. History.Step s (History.Call.fold user b t out) (History.Returned.folded a out′) s′) textWords textLength line r line′ out′
+    Reported (λ a. History.Step s (History.Call.fold user b t out) (History.Returned.folded a out′) s′) textWords textLength
+    line r line′ out′
 Queried Write user s out line r s′ out′ line′ =
-    Reported (λ a. History.Step s (History.Call.write user out) (History.Returned.written a out′) s′) textWords textLength line r line′ out′
+    Reported (λ a. History.Step s (History.Call.write user out) (History.Returned.written a out′) s′) textWords textLength
+    line r line′ out′
 Queried WriteBinary user s out line r s′ out′ line′ =
-    Reported (λ a. History.Step s (History.Call.writeBinary user out) (History.Returned.written a out′) s′) textWords textLength line r line′ out′
+    Reported (λ a. History.Step s (History.Call.writeBinary user out) (History.Returned.written a out′) s′) textWords textLength
+    line r line′ out′
 
 -- preview FILE: what the program preview prints, to user 0 or 1; 18 to any other
 abbrev pub previewReplyTo : ℕ → List ℕ → Reply

@@ -1,5 +1,6 @@
 -- The resident program starts with no circuit and with all pins free, and what is printed for a user's requests from there on is what a
--- session prints that starts there with these requests, and those by which a circuit was loaded, and no others. Clause 12.7. Assumes nothing.
+-- session prints that starts there with these requests, and those by which a circuit was loaded, and no others. Clause 12.7.
+-- Assumes nothing.
 use mathlib.Core.Path.{_≡_, refl, sym, ap, _∙_}
 use mathlib.Core.List.{List, map}
 use Prim.Native.Nat.{ℕ, _+_, _*_}

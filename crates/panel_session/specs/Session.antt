@@ -136,9 +136,9 @@ replyTo c b (History.Returned.replayed a) = record { line = verdictWords a; out 
 pub data Turn (room : ℕ) (request : List ℕ) (files : Files) (s : History.State) : Reply → Bool → History.State → Type 0 where
   prints : {line : List ℕ} → requestAction room files (parse request) ≡ Action.prints line
       → Turn room request files s (record { line = line; out = [] }) false s
-  calls : {call : History.Call} {returned : History.Returned} {s′ : History.State} → requestAction room files (parse request) ≡ Action.calls call
-      → History.Step s call returned s′ → Turn room request files s (replyTo (circuitIn (s .memory)) (badOf call) returned)
-      (History.isAccepted returned) s′
+  calls : {call : History.Call} {returned : History.Returned} {s′ : History.State}
+      → requestAction room files (parse request) ≡ Action.calls call → History.Step s call returned s′
+      → Turn room request files s (replyTo (circuitIn (s .memory)) (badOf call) returned) (History.isAccepted returned) s′
 
 -- a request that was answered
 pub record Exchange : Type 0 where
