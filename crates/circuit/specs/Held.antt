@@ -46,6 +46,6 @@ HeldIs m order (Circuit p) = LayoutOf m p × Holds m (circuitIn m) × Ordered (c
 HeldIs m order Nothing = HoldsNone m
 
 -- the order is after the circuit's gates as it was, where there is a circuit; else it is all 0
-abbrev pub Leaves : List ℕ → List ℕ → List ℕ → Held → Type 0
-Leaves m old order (Circuit p) = drop (length (circuitIn m .gates)) order ≡ drop (length (circuitIn m .gates)) old
-Leaves m old order Nothing = order ≡ replicate (length old) 0
+abbrev pub OrderLeft : List ℕ → List ℕ → List ℕ → Held → Type 0
+OrderLeft m old order (Circuit p) = drop (length (circuitIn m .gates)) order ≡ drop (length (circuitIn m .gates)) old
+OrderLeft m old order Nothing = order ≡ replicate (length old) 0

@@ -6,7 +6,7 @@ ghost use mathlib.Core.Path.{_≡_};
 ghost use Prim.Native.Nat.{_≤_};
 ghost use lib.ListN.{length};
 ghost use Rattle.layout.specs.Layout.{PlacesOf};
-ghost use Rattle.circuit.specs.Held.{Zeros, Shaped, Says, Tested, HeldIs, Leaves, countsIn};
+ghost use Rattle.circuit.specs.Held.{Zeros, Shaped, Says, Tested, HeldIs, OrderLeft, countsIn};
 
 // What a memory holds: a circuit, which stands as the layout says, or none.
 pub enum Held {
@@ -66,7 +66,7 @@ fn is_shaped(m: &[u32], p: Layout) -> bool
 pub fn held_in(m: &[u32], order: &mut [u32]) -> Held
     requires { ⌜ 3072 ≤ length (now order) ⌝ }
     ensures { λ r. ⌜
-        HeldIs (now (m .entry)) (now (order .exit)) r × Leaves (now (m .entry)) (now (order .entry)) (now (order .exit)) r
+        HeldIs (now (m .entry)) (now (order .exit)) r × OrderLeft (now (m .entry)) (now (order .entry)) (now (order .exit)) r
         ⌝ }
 {
     if m.len() < 264 {

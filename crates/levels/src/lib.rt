@@ -49,7 +49,7 @@ pub fn level_of(word: u64, l: Lit) -> u8
 }
 
 // The character after a block whose own is `new`, where `old` is that of the blocks before it.
-pub fn joined(block: u64, old: u8, new: u8) -> u8
+pub fn after_block(block: u64, old: u8, new: u8) -> u8
     ensures { λ r. ⌜ r ≡ afterByte block old new ⌝ }
 {
     if block == 0 {

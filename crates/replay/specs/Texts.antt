@@ -17,7 +17,7 @@ use Rattle.witness.specs.Line.{values}
 use Rattle.blocks.specs.Runs.{BodyRead, Fits}
 use Rattle.blocks.specs.declared.Question.{Question}
 use Rattle.blocks.specs.declared.Instance.{Instance}
-use Rattle.circuit.specs.Held.{HeldIs, Leaves}
+use Rattle.circuit.specs.Held.{HeldIs, OrderLeft}
 use Rattle.circuit.specs.declared.Held.{Held}
 use Rattle.circuit.specs.declared.Held.the-variants as held
 use Rattle.replay.specs.declared.Rows.{Rows}
@@ -75,5 +75,5 @@ ReadIn m text held.Nothing r = r ≡ reading.Refused 9
 pub record HeldRead (m text old order : List ℕ) (r : Reading) : Type 0 where
   pub held : Held
   pub held-is : HeldIs m order held
-  pub leaves : Leaves m old order held
+  pub leaves : OrderLeft m old order held
   pub read : ReadIn m text held r

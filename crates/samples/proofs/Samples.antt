@@ -30,7 +30,7 @@ use Rattle.vcd.proofs.Parts.{sample-same, sample-length, samples-more, samples-
 use Rattle.levels.specs.Levels.{levelOver, after}
 use Rattle.levels.proofs.Levels.{over-same}
 use Rattle.levels.proofs.Wires.{wire-known}
-use Rattle.samples.specs.Passes.{levelIn, levelOf, low, Stands, Rewritten, RunsOf}
+use Rattle.samples.specs.Passes.{levelIn, levelOfRuns, low, Stands, Rewritten, RunsOf}
 use Rattle.samples.proofs.Standing.{stands-next, stands-first}
 
 -- ---- every body has runs
@@ -99,7 +99,7 @@ all-started c body block frames r words q s p h =
 
 -- the levels after a block
 abbrev pub mixed : Circuit → (ℕ → Run) → ℕ → (ℕ → ℕ → Level) → ℕ → ℕ → Level
-mixed c r block old t k = after block (old t k) (levelOf c r t k)
+mixed c r block old t k = after block (old t k) (levelOfRuns c r t k)
 
 -- before frame t: the words have its latches, its sample and those of the frames after it are left, and the old ones stand there
 pub record Turn (c : Circuit) (r : ℕ → Run) (block frames : ℕ) (out₀ : List ℕ) (at n : ℕ) (old : ℕ → ℕ → Level) (t left : ℕ)
@@ -138,7 +138,7 @@ module _ {m : List ℕ} {layout : Layout} {order : List ℕ} {count : ℕ} (R : 
       }
 
   -- the levels of the words are those of the frame
-  levels-are : (t : ℕ) (words : List ℕ) → Valued t words → (k : ℕ) → levelIn m words k ≡ levelOf c r t k
+  levels-are : (t : ℕ) (words : List ℕ) → Valued t words → (k : ℕ) → levelIn m words k ≡ levelOfRuns c r t k
   levels-are t words v k =
       let l = literalAt c k in
       over-same 64 (λ p. value (lane words p) l) (λ p. valueAt c (r p) t l)

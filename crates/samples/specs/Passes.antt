@@ -24,8 +24,8 @@ abbrev pub levelIn : List ℕ → List ℕ → ℕ → Level
 levelIn m words k = levelOver 64 (λ p. value (lane words p) (literalAt (circuitIn m) k))
 
 -- the same in frame t of 64 runs
-abbrev pub levelOf : Circuit → (ℕ → Run) → ℕ → ℕ → Level
-levelOf c r t k = levelOver 64 (λ p. valueAt c (r p) t (literalAt c k))
+abbrev pub levelOfRuns : Circuit → (ℕ → Run) → ℕ → ℕ → Level
+levelOfRuns c r t k = levelOver 64 (λ p. valueAt c (r p) t (literalAt c k))
 
 -- levels for the length of a text, which does not depend on them
 abbrev pub low : ℕ → Level
@@ -72,4 +72,4 @@ abbrev pub SamplesLeft : Circuit → List ℕ → Pass → List ℕ → ℕ → 
 SamplesLeft c body pass out end out′ =
     (r : ℕ → Run) → RunsOf c body (pass .block) (pass .frames) r → (old : ℕ → ℕ → Level)
     → (0 < pass .block → Stands out (pass .at) (samples old (pass .wires) 0 (pass .frames)))
-    → Placed out (pass .at) (samples (λ t k. after (pass .block) (old t k) (levelOf c r t k)) (pass .wires) 0 (pass .frames)) end out′
+    → Placed out (pass .at) (samples (λ t k. after (pass .block) (old t k) (levelOfRuns c r t k)) (pass .wires) 0 (pass .frames)) end out′

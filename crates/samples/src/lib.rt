@@ -43,7 +43,7 @@ fn write_values(
         let l = levels::literal_at(m, layout, k);
         let v = l.0.0 as usize;
         let new = levels::level_of(values[v], l);
-        let level = levels::joined(block, out[end], new);
+        let level = levels::after_block(block, out[end], new);
         end = vcd::write_value(out, end, k, level);
         k += 1;
         left -= 1;

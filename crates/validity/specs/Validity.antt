@@ -19,6 +19,6 @@ Checks c order Right = (judged c ≡ gives tt) × Ordered c order
 Checks c order (Refused n) = judged c ≡ refused n
 
 -- the order is after the circuit's gates as it was, where no cause refuses; else it is all 0
-abbrev pub Leaves : Circuit → List ℕ → List ℕ → Checked → Type 0
-Leaves c old order Right = drop (length (c .gates)) order ≡ drop (length (c .gates)) old
-Leaves c old order (Refused n) = order ≡ replicate (length old) 0
+abbrev pub OrderLeft : Circuit → List ℕ → List ℕ → Checked → Type 0
+OrderLeft c old order Right = drop (length (c .gates)) order ≡ drop (length (c .gates)) old
+OrderLeft c old order (Refused n) = order ≡ replicate (length old) 0

@@ -3,7 +3,7 @@ ghost use Prim.Native.Nat.{_≤_};
 ghost use lib.ListN.{length};
 ghost use Rattle.layout.specs.Words.{circuitIn};
 ghost use Rattle.layout.specs.Layout.{Counted};
-ghost use Rattle.validity.specs.Validity.{Checks, Leaves};
+ghost use Rattle.validity.specs.Validity.{Checks, OrderLeft};
 
 // Refused has the number of the cause.
 pub enum Checked {
@@ -18,7 +18,7 @@ pub fn check(w: &[u32], order: &mut [u32]) -> Checked
     requires { ⌜ 3072 ≤ length (now order) ⌝ }
     ensures { λ r. ⌜
         Checks (circuitIn (now (w .entry))) (now (order .exit)) r
-        × Leaves (circuitIn (now (w .entry))) (now (order .entry)) (now (order .exit)) r
+        × OrderLeft (circuitIn (now (w .entry))) (now (order .entry)) (now (order .exit)) r
         ⌝ }
 {
     let mut table = [0u32; 4097];

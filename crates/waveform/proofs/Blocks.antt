@@ -22,7 +22,7 @@ use Rattle.vcd.specs.Text.{Level}
 use Rattle.vcd.specs.Wires.{literalAt}
 use Rattle.levels.specs.Levels.{levelOver, joined, after}
 use Rattle.levels.proofs.Levels.{same-test, over-same, over-joined}
-use Rattle.samples.specs.Passes.{levelOf, RunsOf}
+use Rattle.samples.specs.Passes.{levelOfRuns, RunsOf}
 use Rattle.waveform.specs.Waveform.{isHigh, levelAt, frameCount}
 use Rattle.waveform.specs.Blocks.{levelBelow, Bodies}
 
@@ -49,12 +49,12 @@ module _ (c : Circuit) (b frames : ℕ) (body : List ℕ) (B : Bodies c b frames
     abbrev high : ℕ → Bool
     high v = isHigh c b t k (completion v body)
 
-    block-level : (block : ℕ) → levelOf c (runs block) t k ≡ levelOver 64 (λ p. high (block * 64 + p))
+    block-level : (block : ℕ) → levelOfRuns c (runs block) t k ≡ levelOver 64 (λ p. high (block * 64 + p))
     block-level block =
         over-same 64 (λ p. valueAt c (runs block p) t (literalAt c k)) (λ p. high (block * 64 + p)) (λ p h. high-is t k (block * 64 + p))
 
     -- one block more
-    pub level-more : (block : ℕ) → after block (levelBelow c b body block t k) (levelOf c (runs block) t k)
+    pub level-more : (block : ℕ) → after block (levelBelow c b body block t k) (levelOfRuns c (runs block) t k)
         ≡ levelBelow c b body (block + 1) t k
     level-more block =
         ap (after block (levelBelow c b body block t k)) (block-level block)

@@ -10,7 +10,7 @@ use Rattle.completions.specs.Either.{completion}
 use Rattle.output.specs.Output.{putText, Room, Placed}
 use Rattle.vcd.specs.Text.{Level, samples}
 use Rattle.levels.specs.Levels.{after}
-use Rattle.samples.specs.Passes.{levelOf, low, Stands, Sampled, SamplesLeft}
+use Rattle.samples.specs.Passes.{levelOfRuns, low, Stands, Sampled, SamplesLeft}
 use Rattle.samples.specs.declared.Pass.{Pass}
 use Rattle.samples.proofs.Samples.{anyRun, any-run, samples-size, samples-same}
 use Rattle.samples.proofs.Standing.{put-over, stands-placed}
@@ -39,7 +39,7 @@ sampled-more c body pass {out} p h s =
     let n = pass .wires in
     let frames = pass .frames in
     let r : ℕ → Run = λ p. anyRun c (completion (pass .block * 64 + p) body) frames in
-    let mixed : ℕ → ℕ → Level = λ t k. after (pass .block) (p .level t k) (levelOf c r t k) in
+    let mixed : ℕ → ℕ → Level = λ t k. after (pass .block) (p .level t k) (levelOfRuns c r t k) in
     let room : Room out (pass .at) (samples mixed n 0 frames) = omega (arith, samples-size mixed (λ t. low) n 0 frames) in
     record {
       level = mixed;
@@ -61,7 +61,7 @@ module _ (c : Circuit) (b : ℕ) (body out₀ : List ℕ) (pass : Pass) (B : Bod
       let n = pass .wires in
       let frames = pass .frames in
       let block = pass .block in
-      let mixed : ℕ → ℕ → Level = λ t k. after block (levelBelow c b body block t k) (levelOf c (runs c b frames body B block) t k) in
+      let mixed : ℕ → ℕ → Level = λ t k. after block (levelBelow c b body block t k) (levelOfRuns c (runs c b frames body B block) t k) in
       let e : samples mixed n 0 frames ≡ text (block + 1) =
       samples-same mixed (levelBelow c b body (block + 1)) n 0 frames (λ t k _. level-more c b frames body B t k block) in
       let q : Placed out (pass .at) (text (block + 1)) end out′ =

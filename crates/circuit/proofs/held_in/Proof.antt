@@ -4,7 +4,7 @@ use borrow.Author.Needs.{needs}
 use borrow.Author.Tests.{not-true, not-false}
 use Rattle.layout.specs.Words.{circuitIn}
 use Rattle.roundtrip.proofs.Holding.{sound-holds}
-use Rattle.validity.specs.Validity.{Checks, Leaves}
+use Rattle.validity.specs.Validity.{Checks, OrderLeft}
 use Rattle.validity.specs.declared.Checked.{Checked}
 use Rattle.circuit.specs.Held.{Says, Shaped}
 use Rattle.circuit.proofs.Testing.{shaped-counted, sound, none-short, none-unshaped, none-refused}
@@ -26,11 +26,11 @@ found n r e =
 
 -- what it left of the order
 left : (n : tie.After-check) (r : Checked) → n .check .result ≡ r
-    → Leaves (circuitIn (n .before .before .before .before .before .before .before .before .args .m .now))
+    → OrderLeft (circuitIn (n .before .before .before .before .before .before .before .before .args .m .now))
     (n .before .before .before .before .before .before .before .before .args .order .now) (n .check .last .1 .0) r
 left n r e =
     let S = n .before .before .before .before .before .before .before .before in
-    subst (Leaves (circuitIn (S .args .m .now)) (S .args .order .now) (n .check .last .1 .0)) e (n .check .ensures .1)
+    subst (OrderLeft (circuitIn (S .args .m .now)) (S .args .order .now) (n .check .last .1 .0)) e (n .check .ensures .1)
 
 returns : tie.Need-returns
 returns c =

@@ -17,7 +17,7 @@ use Rattle.blocks.proofs.Runs.{row-fits, row-next}
 use Rattle.output.specs.Output.{Room}
 use Rattle.vcd.specs.Text.{Level, timeMark, sample, samples}
 use Rattle.vcd.proofs.Parts.{samples-none}
-use Rattle.samples.specs.Passes.{low, levelOf, Stands, PassFits, RunsOf}
+use Rattle.samples.specs.Passes.{low, levelOfRuns, Stands, PassFits, RunsOf}
 use Rattle.samples.proofs.Samples.{samples-size, samples-length, AllLatched, all-started, mixed}
 use Rattle.samples.proofs.Samples.{Turn, turn-start, turn-next, mark-placed}
 use Rattle.samples.proofs.write_samples.Statement.{statement}

@@ -72,11 +72,11 @@ shared-slice-read-level-of c = word-inside (c .before .before)
 level-of-requires : tie.Need-level-of-requires Inv-loop μ-loop
 level-of-requires c κs = tt
 
-slice-read-joined : tie.Need-slice-read-joined Inv-loop μ-loop
-slice-read-joined c = omega (arith, inside (c .before .before .before .before .before))
+slice-read-after-block : tie.Need-slice-read-after-block Inv-loop μ-loop
+slice-read-after-block c = omega (arith, inside (c .before .before .before .before .before))
 
-joined-requires : tie.Need-joined-requires Inv-loop μ-loop
-joined-requires c κs = tt
+after-block-requires : tie.Need-after-block-requires Inv-loop μ-loop
+after-block-requires c κs = tt
 
 write-value-requires : tie.Need-write-value-requires Inv-loop μ-loop
 write-value-requires c κs = let n = c .before .before .before .before .before .before .before in (few n, inside n)
@@ -105,13 +105,13 @@ loop-again c =
     ∙ ap (λ (l : Lit). levelByte (levelOver 64 (λ p. cond (l .1) (not (lane (a .values .now) p (l .0 .0))) (lane (a .values .now) p (l .0 .0)))))
     (i .literal-at .ensures) in (
       omega (arith, L .inv .0, n .loop-test .taken),
-      omega (arith, L .inv .1, w .write-value .ensures .past, with-length (L .k) (j .joined .result)),
+      omega (arith, L .inv .1, w .write-value .ensures .past, with-length (L .k) (j .after-block .result)),
       w .write-value .kept .0 ∙ L .inv .2,
       λ old s.
           let t = L .inv .3 old s in
           turn-next (a .out .now) (a .at) (a .n) (a .block) new old t (n .loop-test .taken) (S n .pre .1)
           (placed-level (L .k) (after (a .block) (old (L .k)) (new (L .k)))
-          (j .joined .ensures
+          (j .after-block .ensures
           ∙ after-byte (a .block) (old (L .k)) (new (L .k))
           (turn-byte (a .out .now) (a .at) (a .n) (a .block) new old t (n .loop-test .taken)) e)
           (w .write-value .ensures)),
@@ -136,4 +136,4 @@ write-values-spec =
     tie.close
     (tie.spec
     Inv-loop μ-loop loop-holds literal-at-requires (λ c. search needs) mul-level-of shared-slice-read-level-of level-of-requires
-    slice-read-joined joined-requires write-value-requires add-k sub-left loop-less loop-again same-length returns)
+    slice-read-after-block after-block-requires write-value-requires add-k sub-left loop-less loop-again same-length returns)
