@@ -33,7 +33,8 @@ module _ (w : List ℕ) (net : Netlist) (c o : ℕ) where
   found-none zero e = refl
   found-none (suc n) e = absurd (omega arith)
 
-  pub found-here : (n : ℕ) → 0 < n → canWatch w (net .nodes) (keptLiteral w net c (n - 1)) o ≡ true → found w net c o n ≡ Literal (keptLiteral w net c (n - 1))
+  pub found-here : (n : ℕ) → 0 < n → canWatch w (net .nodes) (keptLiteral w net c (n - 1)) o ≡ true → found w net c o n ≡ Literal
+      (keptLiteral w net c (n - 1))
   unfolding found
   found-here zero l e = absurd (omega arith)
   found-here (suc n) l e =
