@@ -18,7 +18,8 @@ use Rattle.reasons.proofs.Frame.{stored-same, stored-after}
 use Rattle.resolve.specs.Draft.{Drafted, drafted, draftAt, isMember, taken, started, resolved}
 use Rattle.resolve.proofs.Sound.{InDraft, Drafting, start-sound, resolve-sound}
 use Rattle.analysis.specs.declared.Analysis.{Analysis}
-use Rattle.analysis.specs.Analysis.{sum, less, touched, tallied, draft, analysisOf, touchedAll, recounted, replaced, visited, descended, followed, analysed, unfolded, expanded, expandedFrom, expandedAll, Analysed}
+use Rattle.analysis.specs.Analysis.{sum, less, touched, tallied, draft, analysisOf, touchedAll, recounted, replaced, visited}
+use Rattle.analysis.specs.Analysis.{descended, followed, analysed, unfolded, expanded, expandedFrom, expandedAll, Analysed}
 
 module _ (hit : (ℕ → Bool) → Type 0) (net : Netlist) (arena : Arena) where
   -- an activity is part of no claim

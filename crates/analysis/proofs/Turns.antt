@@ -10,8 +10,8 @@ use Rattle.memory.specs.declared.Arena.{Arena}
 use Rattle.memory.specs.declared.Draft.{Draft}
 use Rattle.resolve.specs.Draft.{drafted, draftAt}
 use Rattle.analysis.specs.declared.Analysis.{Analysis}
-use Rattle.analysis.specs.Analysis.{Analysed, Left, reached, touched, tallied, touchedAll, visited, descended, expanded}
-use Rattle.analysis.specs.Analysis.{expandedFrom}
+use Rattle.analysis.specs.Analysis.{Analysed, Left, reached}
+use Rattle.analysis.specs.Analysis.{touched, tallied, touchedAll, visited, descended, expanded, expandedFrom}
 
 -- what a loop leaves, by the equation of its function
 pub left-by : {a b : Analysed} → a ≡ b → Left (a .words) (a .now) b

@@ -29,7 +29,8 @@ module _ (s : Search) where
       e ∙ ap (withOrder s) c ∙ ap (λ (v : ℕ). withOrder s (withAgreed (s .order) v)) (b ∙ ap (smaller (s .order .agreed)) a)
 
 module _ (w : List ℕ) (net : Netlist) (s : Search) where
-  pub contradicted-by : (l : ℕ) {w1 w2 : List ℕ} {d : Draft} {i : Refutation} → w1 ≡ explained w net s l .words → d ≡ explained w net s l .draft
+  pub contradicted-by : (l : ℕ) {w1 w2 : List ℕ} {d : Draft} {i : Refutation} → w1 ≡ explained w net s l .words → d ≡ explained w net s l
+      .draft
       → w2 ≡ refuted w1 net (s .arena) d .words → i ≡ refuted w1 net (s .arena) d .says → concluded w2 net s i ≡ contradicted w net s l
   unfolding contradicted
   contradicted-by l a b c e = rw (e, c, b, a)

@@ -34,7 +34,8 @@ module _ (hit : (ℕ → Bool) → Type 0) (hits : ℕ → Type 0) (val : ℕ �
       (given .floor) in
       go (refuted w net arena d .says) (c .0) (c .1)
     where
-      stands : Sound hit net arena (refuted w net arena d .words) → Floor hits (prefix (bits (refuted w net arena d .words) (net .nodes)) (net .free))
+      stands : Sound hit net arena (refuted w net arena d .words) → Floor hits (prefix (bits (refuted w net arena d .words) (net .nodes))
+          (net .free))
           → Standing hit hits net begun arena (refuted w net arena d .words)
       stands sound floor =
           let l = refute-leaves net arena (begin .small) w (draft .sound .room) (draft .sound .within) d in
@@ -45,7 +46,8 @@ module _ (hit : (ℕ → Bool) → Type 0) (hits : ℕ → Type 0) (val : ℕ �
             floor = floor;
           }
 
-      go : (r : Refutation) → Claim hits (net .free) (net .nodes) (refuted w net arena d .words) r → Sound hit net arena (refuted w net arena d .words)
+      go : (r : Refutation) → Claim hits (net .free) (net .nodes) (refuted w net arena d .words) r → Sound hit net arena (refuted w net
+          arena d .words)
           → Known hit hits net begun arena (refuted w net arena d .words) r
       go (Raised v) c sound = stands sound c
       go NoHit c sound = c

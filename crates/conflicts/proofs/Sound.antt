@@ -69,7 +69,8 @@ module _ (hit : (ℕ → Bool) → Type 0) (hits : ℕ → Type 0) (val : ℕ �
   step-holds w s given =
       let a = followed w net s in
       let on = follow-stands w s given in
-      either hit hits val net begun begin (eqb (a .search .trail .clash) undef) (extended (a .words) net (a .search)) (repaired (a .words) net (a .search))
+      either hit hits val net begun begin (eqb (a .search .trail .clash) undef) (extended (a .words) net (a .search)) (repaired (a
+      .words) net (a .search))
       (extend-holds (a .words) (a .search) on) (repair-holds (a .words) (a .search) on)
 
   pub steps-hold : (w : List ℕ) (s : Search) (effort k : ℕ) → Holds hit hits val net begun begin (searched w s)

@@ -197,7 +197,8 @@ module _ (hit : (ℕ → Bool) → Type 0) (net : Netlist) (arena : Arena) (hits
   refute-claim w d given clean floor = go (d .whole) refl (judged w net arena (d .length) 0) refl
     where
       go : (b : Bool) → d .whole ≡ b → (j : AtFloor) → judged w net arena (d .length) 0 ≡ j
-          → Claim hits (net .free) (net .nodes) (cond b (raisedBy w net j) (risen w Unlearnt) .words) (cond b (raisedBy w net j) (risen w Unlearnt) .says)
+          → Claim hits (net .free) (net .nodes) (cond b (raisedBy w net j) (risen w Unlearnt) .words) (cond b (raisedBy w net j) (risen w
+          Unlearnt) .says)
           × Sound hit net arena (cond b (raisedBy w net j) (risen w Unlearnt) .words)
       go false e j c = (floor, given .sound)
       go true e NotFalse c = (floor, given .sound)

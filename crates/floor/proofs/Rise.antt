@@ -176,7 +176,8 @@ module _ (net : Netlist) (arena : Arena) (n m : ℕ) (small : n < net .nodes) (h
           some = a .some;
           none = λ z. above-same (cleared w (net .nodes) (suc k)) w 0 (λ j h. sym (low-bits j (omega arith))) (a .none z);
           at = omega (arith, a .at);
-          above = λ z. above-same (cleared w (net .nodes) (suc k)) w (nodeOf (to .says)) (λ j h. sym (low-bits j (omega (arith, a .at)))) (a .above z);
+          above = λ z. above-same (cleared w (net .nodes) (suc k)) w (nodeOf (to .says)) (λ j h. sym (low-bits j (omega (arith, a .at))))
+              (a .above z);
           old = λ z. low-bits (nodeOf (to .says)) (a .at) ∙ a .old z;
           new = a .new;
           same = λ j h. a .same j h ∙ sym (low-bits j (omega (arith, a .at)));
@@ -211,7 +212,8 @@ module _ (net : Netlist) (arena : Arena) (n m : ℕ) (small : n < net .nodes) (h
       go : (a b : Bool) → leb (suc k) m ≡ a → eqb (bitOf w (net .nodes) (suc k)) 0 ≡ b
           → (Before (cleared w (net .nodes) (suc k)) k → After (cleared w (net .nodes) (suc k)) k (raised (cleared w (net .nodes) (suc k)) (net .nodes) m k))
           → After w (suc k)
-          (cond (a && b) (risen (lifted w (net .nodes) (suc k)) (Raised (suc k))) (raised (cleared w (net .nodes) (suc k)) (net .nodes) m k))
+          (cond (a && b) (risen (lifted w (net .nodes) (suc k)) (Raised (suc k))) (raised (cleared w (net .nodes) (suc k)) (net .nodes) m
+          k))
       go true true e f rec = lift-after w k l given (leb-true (suc k) m e) (eqb-true (bitOf w (net .nodes) (suc k)) 0 f)
       go true false e f rec =
           let stuck : (suc k ≤ m → bitOf w (net .nodes) (suc k) ≡ 0 → ⊥) = λ h z. eqb-false (bitOf w (net .nodes) (suc k)) 0 f z in
@@ -249,7 +251,8 @@ module _ (net : Netlist) (arena : Arena) (n m : ℕ) (small : n < net .nodes) (h
       let c = bits (to .words) (net .nodes) in
       elim (a .some) [
         | inl e ↦
-            subst (Claim hits n (net .nodes) (to .words)) (sym e) (above-none n b (digits w (net .nodes)) hits bound (a .none (ap nodeOf e)))
+            subst (Claim hits n (net .nodes) (to .words)) (sym e) (above-none n b (digits w (net .nodes)) hits bound (a .none (ap nodeOf
+            e)))
         | inr s ↦
             let r = nodeOf (to .says) in
             let e = next-prefix b c r n (s .0) (a .at) (a .old (s .0)) (a .new (s .0)) (a .same) (a .rest) in

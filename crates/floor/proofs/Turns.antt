@@ -41,7 +41,8 @@ unfolding raised
 raised-none w nodes m zero e = refl
 raised-none w nodes m (suc v) e = absurd (omega arith)
 
-pub raised-here : (w : List ℕ) (nodes m v : ℕ) → 0 < v → canRise w nodes m v ≡ true → raised w nodes m v ≡ risen (lifted w nodes v) (Raised v)
+pub raised-here : (w : List ℕ) (nodes m v : ℕ) → 0 < v → canRise w nodes m v ≡ true → raised w nodes m v ≡ risen (lifted w nodes v)
+    (Raised v)
 unfolding raised
 raised-here w nodes m zero l e = absurd (omega arith)
 raised-here w nodes m (suc v) l e = rw e

@@ -138,7 +138,8 @@ module _ (c : Part) (b lo hi quota : ℕ) (r₀ hd₀ : List ℕ) where
         quiet : {n : ℕ} → Asking q n r hd → firstBelow (layerSlots (machineOf c b) es lo) (slotHit (machineOf c b) es lo) ≡ none
         quiet k = none-is (slotHit (machineOf c b) es lo) (layerSlots (machineOf c b) es lo) (λ z zl. k .quiet t es h z (omega (arith, lt)))
 
-        holds : {n : ℕ} → Asking q n r hd → Holds rows (suc t) (length es) quota n r hd (expanded (machineOf c b) es lo (layerSlots (machineOf c b) es lo))
+        holds : {n : ℕ} → Asking q n r hd → Holds rows (suc t) (length es) quota n r hd (expanded (machineOf c b) es lo (layerSlots
+            (machineOf c b) es lo))
         holds {n} k = subst (λ (x : ℕ). Holds rows (suc t) (length es) quota n r hd (expanded (machineOf c b) es lo x)) lt (k .holds t es h)
 
         go : (met : Tally) → Asking q (countOf quota met) r hd → Within quota met → AskedOf c b t lo quota r hd es (askedOf met)

@@ -14,7 +14,8 @@ use Rattle.kept.specs.Kept.{kept}
 use Rattle.heap.specs.Heap.{cooled}
 use Rattle.learning.specs.declared.Search.{Search}
 use Rattle.learning.specs.declared.TopTwo.{TopTwo}
-use Rattle.learning.specs.Learning.{withArena, withHeap, retreated, forgotten, highest, target, installed, keptBy, keptClause, keptLiteral, storedClause, trailOf, learnt}
+use Rattle.learning.specs.Learning.{withArena, withHeap, retreated, forgotten, highest, target, installed, keptBy, keptClause}
+use Rattle.learning.specs.Learning.{keptLiteral, storedClause, trailOf, learnt}
 
 module _ (w : List ℕ) (net : Netlist) (s : Search) where
   pub learnt-by : (r : ℕ) {w1 w2 : List ℕ} {g : Heap} {d : Draft} {t : Search} → w1 ≡ cooled w (net .nodes) (s .heap) .words

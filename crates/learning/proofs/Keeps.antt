@@ -19,7 +19,8 @@ use Rattle.reasons.specs.Claims.{Same, Sound}
 use Rattle.reasons.proofs.Frame.{field-other, stored-field}
 use Rattle.resolve.specs.Draft.{Drafted, draftOf, drafted, lengthOf, draftAt, posOf, isMember, taken, appended, included, removed, excluded, joined, gathered, started, resolved}
 use Rattle.analysis.specs.declared.Analysis.{Analysis}
-use Rattle.analysis.specs.Analysis.{Analysed, reached, sum, less, touched, tallied, draft, analysisOf, touchedAll, recounted, replaced, visited, descended, followed, analysed, unfolded, expanded, expandedFrom, expandedAll}
+use Rattle.analysis.specs.Analysis.{Analysed, reached, sum, less, touched, tallied, draft, analysisOf, touchedAll, recounted, replaced}
+use Rattle.analysis.specs.Analysis.{visited, descended, followed, analysed, unfolded, expanded, expandedFrom, expandedAll}
 use Rattle.kept.specs.Kept.{Arenaed, arenaOf, arenaed, fixedWord, fixed, settled, lengthWord, withHead, kept}
 use Rattle.floor.specs.Place.{bitOf}
 

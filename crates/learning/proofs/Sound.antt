@@ -27,7 +27,9 @@ use Rattle.heap.proofs.Frame.{restore-same, cool-same}
 use Rattle.settling.specs.Settling.{reasonAt, settledOne, settledFrom}
 use Rattle.settling.proofs.Sound.{settle-one-sound, settle-from-sound}
 use Rattle.learning.specs.declared.Search.{Search}
-use Rattle.learning.specs.Learning.{Searched, searched, withArena, withHeap, withOrder, allSettled, retreated, settledLevel, forgotten, asserted, target, watched, installed, highest, keptBy, keptClause, keptLiteral, storedClause, trailOf, learnt}
+use Rattle.learning.specs.Learning.{Searched, searched, withArena, withHeap, withOrder, allSettled, retreated, settledLevel}
+use Rattle.learning.specs.Learning.{forgotten, asserted, target, watched, installed, highest, keptBy, keptClause, keptLiteral}
+use Rattle.learning.specs.Learning.{storedClause, trailOf, learnt}
 use Rattle.learning.proofs.Keeps.{Keeps, keeps-refl, keeps-trans, start-keeps, settle-keeps, keep-keeps, analyse-keeps}
 use Rattle.learning.proofs.Standing.{Standing, stand-on, stand-same}
 

@@ -46,7 +46,8 @@ module _ (net : Netlist) (arena : Arena) (room : 14 * net .nodes + arena .used +
   propagate-same w s (suc n) =
       let t = followed w net arena s in
       let more = propagated (t .words) net arena (t .state) n in
-      same-step net arena room w (leb (s .length) (s .next)) (stood w s) (cond (eqb (s .clash) undef) more (stood w s)) (same-refl net arena w)
+      same-step net arena room w (leb (s .length) (s .next)) (stood w s) (cond (eqb (s .clash) undef) more (stood w s)) (same-refl net
+      arena w)
       (same-step net arena room w (eqb (s .clash) undef) more (stood w s)
       (same-trans (follow-same w s) (propagate-same (t .words) (t .state) n)) (same-refl net arena w))
 

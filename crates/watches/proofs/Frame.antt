@@ -17,6 +17,8 @@ use Rattle.trail.specs.declared.State.{State}
 use Rattle.trail.specs.Trail.{Stood, stood, value, assigned}
 use Rattle.trail.proofs.Frame.{same-step, assign-same}
 use Rattle.watches.proofs.Turns.{side-two}
+use Rattle.watches.specs.declared.Replacement.{Replacement}
+use Rattle.watches.specs.declared.Replacement.the-variants.{Literal, Absent}
 use Rattle.watches.specs.Watch.{side, partner, following, found, linked, at, passed, rewatched, clashed, closed, chosen, turnedBy, turned, stepped, walked, first, visited}
 
 module _ (net : Netlist) (arena : Arena) (room : 14 * net .nodes + arena .used + 6 * arena .count ≤ net .words) where
@@ -54,10 +56,12 @@ module _ (net : Netlist) (arena : Arena) (room : 14 * net .nodes + arena .used +
   turn-same w t f s l h =
       let o = partner w (net .words) (t .clause) s in
       let x = found w net (t .clause) o (head w (net .words) (t .clause) 1 % 1048576) in
-      let new = cond (eqb x undef) (closed w net t o s) (rewatched w net arena t f s x) in
-      same-step net arena room w (eqb (value w (net .nodes) o) 1) (stood w (passed w (net .words) t s)) new (same-refl net arena w)
-      (same-step net arena room w (eqb x undef) (closed w net t o s) (rewatched w net arena t f s x) (close-same w t o s)
-      (rewatch-same w t f s x l h))
+      same-step net arena room w (eqb (value w (net .nodes) o) 1) (stood w (passed w (net .words) t s)) (chosen w net arena t f s o x)
+      (same-refl net arena w) (go o x)
+    where
+      go : (o : ℕ) (x : Replacement) → Same net arena w (chosen w net arena t f s o x .words)
+      go o (Literal x) = rewatch-same w t f s x l h
+      go o Absent = close-same w t o s
 
   step-same : (w : List ℕ) (t : State) (f : ℕ) → Same net arena w (stepped w net arena t f .words)
   unfolding stepped

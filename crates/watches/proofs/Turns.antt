@@ -6,12 +6,13 @@ use Prim.Native.Nat.{ℕ, zero, suc, _-_, _/_, _≤_, _<_}
 use native.Mathlib.Omega.{arith}
 use borrow.Author.Tests.{le-leb, lt-leb}
 use lib.Dec.{eqb}
-use Rattle.memory.specs.Record.{undef, head}
+use Rattle.memory.specs.Record.{head}
 use Rattle.memory.specs.declared.Netlist.{Netlist}
 use Rattle.memory.specs.declared.Arena.{Arena}
 use Rattle.reasons.specs.Reason.{keptLiteral}
 use Rattle.trail.specs.declared.State.{State}
 use Rattle.trail.specs.Trail.{stood}
+use Rattle.watches.specs.declared.Replacement.the-variants.{Literal, Absent}
 use Rattle.watches.specs.Watch.{side, canWatch, found, stepped, walked}
 
 pred : (n : ℕ) → n ≡ suc n - 1
@@ -27,18 +28,19 @@ side-two w words c f = go (eqb (head w words c 5) f)
     go false = omega arith
 
 module _ (w : List ℕ) (net : Netlist) (c o : ℕ) where
-  pub found-none : (n : ℕ) → n ≡ 0 → found w net c o n ≡ undef
+  pub found-none : (n : ℕ) → n ≡ 0 → found w net c o n ≡ Absent
   unfolding found
   found-none zero e = refl
   found-none (suc n) e = absurd (omega arith)
 
-  pub found-here : (n : ℕ) → 0 < n → canWatch w (net .nodes) (keptLiteral w net c (n - 1)) o ≡ true → found w net c o n ≡ keptLiteral w net c (n - 1)
+  pub found-here : (n : ℕ) → 0 < n → canWatch w (net .nodes) (keptLiteral w net c (n - 1)) o ≡ true → found w net c o n ≡ Literal
+      (keptLiteral w net c (n - 1))
   unfolding found
   found-here zero l e = absurd (omega arith)
   found-here (suc n) l e =
       let p = ap (keptLiteral w net c) (pred n) in
       let q = ap (λ (x : ℕ). canWatch w (net .nodes) x o) p in
-      rw (q, e) p
+      rw (q, e) (ap (λ (x : ℕ). Literal x) p)
 
   pub found-more : (n : ℕ) → 0 < n → canWatch w (net .nodes) (keptLiteral w net c (n - 1)) o ≡ false → found w net c o n ≡ found w net c o (n - 1)
   unfolding found

@@ -10,6 +10,8 @@ use Rattle.reasons.specs.Reason.{keptLiteral}
 use Rattle.kept.specs.Kept.{attached}
 use Rattle.trail.specs.declared.State.{State}
 use Rattle.trail.specs.Trail.{Stood, stood, value, assigned}
+use Rattle.watches.specs.declared.Replacement.{Replacement}
+use Rattle.watches.specs.declared.Replacement.the-variants.{Literal, Absent}
 
 unfoldable pub side : List ℕ → ℕ → ℕ → ℕ → ℕ
 side w words c f = cond (eqb (head w words c 5) f) 1 0
@@ -25,9 +27,9 @@ unfoldable pub canWatch : List ℕ → ℕ → ℕ → ℕ → Bool
 canWatch w nodes x o = cond (eqb x o) false (leb 1 (value w nodes x))
 
 -- among the first n literals of clause c, the last that can be watched beside o
-unfoldable pub found : List ℕ → Netlist → ℕ → ℕ → ℕ → ℕ
-found w net c o zero = undef
-found w net c o (suc n) = cond (canWatch w (net .nodes) (keptLiteral w net c n) o) (keptLiteral w net c n) (found w net c o n)
+unfoldable pub found : List ℕ → Netlist → ℕ → ℕ → ℕ → Replacement
+found w net c o zero = Absent
+found w net c o (suc n) = cond (canWatch w (net .nodes) (keptLiteral w net c n) o) (Literal (keptLiteral w net c n)) (found w net c o n)
 
 unfoldable pub linked : List ℕ → Netlist → Arena → ℕ → ℕ → ℕ → List ℕ
 linked w net arena f from x =
@@ -74,9 +76,10 @@ closed w net t o s =
     cond (eqb (value w (net .nodes) o) 0) (stood w (clashed t (4 * t .clause + 3)))
     (assigned w net (passed w (net .words) t s) o (4 * t .clause + 3))
 
--- by the other literal o that the clause watches, and by the literal x that it may watch instead
-unfoldable pub chosen : List ℕ → Netlist → Arena → State → ℕ → ℕ → ℕ → ℕ → Stood
-chosen w net arena t f s o x = cond (eqb x undef) (closed w net t o s) (rewatched w net arena t f s x)
+-- by the other literal o that the clause watches, and by the literal that it may watch instead
+unfoldable pub chosen : List ℕ → Netlist → Arena → State → ℕ → ℕ → ℕ → Replacement → Stood
+chosen w net arena t f s o (Literal x) = rewatched w net arena t f s x
+chosen w net arena t f s o Absent = closed w net t o s
 
 unfoldable pub turnedBy : List ℕ → Netlist → Arena → State → ℕ → ℕ → ℕ → Stood
 turnedBy w net arena t f s o =

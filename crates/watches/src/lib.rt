@@ -17,6 +17,12 @@ ghost use Prim.Native.Nat.{_<_};
 ghost use Rattle.trail.specs.Trail as T;
 ghost use Rattle.watches.specs.Watch as W;
 
+// The literal that a clause watches instead of a false one, if it has such a literal.
+enum Replacement {
+    Literal(u32),
+    Absent,
+}
+
 // Which of its two watches clause c has on literal f.
 fn side(work: &[u32], words: u32, c: u32, f: u32) -> u8
     ensures { λ r. ⌜ r ≡ W.side (now (work .entry)) words c f ⌝ }
@@ -56,8 +62,8 @@ fn can_watch(work: &[u32], nodes: u32, x: u32, o: u32) -> bool
     1 <= value(work, nodes, x)
 }
 
-// A literal of clause c, among its first n, that is not false and not o; UNDEF where there is none.
-fn find(work: &[u32], net: Netlist, c: u32, o: u32, n: u32) -> u32
+// A literal of clause c, among its first n, that is not false and not o.
+fn find(work: &[u32], net: Netlist, c: u32, o: u32, n: u32) -> Replacement
     ensures { λ r. ⌜ r ≡ W.found (now (work .entry)) net c o n ⌝ }
 {
     let mut left = n;
@@ -65,10 +71,10 @@ fn find(work: &[u32], net: Netlist, c: u32, o: u32, n: u32) -> u32
         left -= 1;
         let x = kept_literal(work, net, c, left);
         if can_watch(work, net.nodes, x, o) {
-            return x;
+            return Replacement::Literal(x);
         }
     }
-    UNDEF
+    Replacement::Absent
 }
 
 // The list of literal f goes on with clause x after `from`: clause from / 2 by its watch from % 2, or the list's beginning.
@@ -155,17 +161,11 @@ fn turn(work: &mut [u32], net: Netlist, arena: Arena, t: State, f: u32, s: u8) -
     if value(work, net.nodes, o) == 1 {
         return pass(work, net.words, t, s);
     }
-    let x = find(
-        work,
-        net,
-        t.clause,
-        o,
-        head(work, net.words, t.clause, 1) % 1048576,
-    );
-    if x == UNDEF {
-        return close(work, net, t, o, s);
+    let n = head(work, net.words, t.clause, 1) % 1048576;
+    match find(work, net, t.clause, o, n) {
+        Replacement::Literal(x) => rewatch(work, net, arena, t, f, s, x),
+        Replacement::Absent => close(work, net, t, o, s),
     }
-    rewatch(work, net, arena, t, f, s, x)
 }
 
 // The clause, if there is one and none is violated.

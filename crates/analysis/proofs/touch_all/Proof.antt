@@ -1,5 +1,5 @@
 -- `analysis::touch_all` meets its contract. The invariant: what is left to touch ends as all of it does. Assumes nothing.
-use Rattle.reasons.proofs.Frame.{told-by}
+use Rattle.memory.proofs.Counted.{told-by}
 use Rattle.analysis.proofs.Turns.{touched-none, touched-more}
 use Rattle.analysis.specs.Analysis.{touchedAll}
 use lib.ListN as N

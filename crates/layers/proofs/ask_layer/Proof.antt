@@ -228,7 +228,8 @@ loop-again c =
           (ap (λ (x : ℕ). getD (L .records) (4 * (a .layer .lo + L .q / x)) 0) e) v p
           (subst (λ (x : ℕ). FirstRow C (a .layer .b) s (L .q % x) v p) e (j .ensures .0)) (S .pre .1 .0 .3)
           (omega (arith, c .before .before .before .before .before .before .before .before .if1 .left, lanes-are (i .before .before)))
-          (subst (λ (x : ℕ). BlockMet C v (a .layer .quota) (countOf (a .layer .quota) (L .met)) (a .layer .lo + L .q / x) (L .q % x) (L .records) (L .heads)
+          (subst (λ (x : ℕ). BlockMet C v (a .layer .quota) (countOf (a .layer .quota) (L .met)) (a .layer .lo + L .q / x) (L .q % x) (L
+          .records) (L .heads)
           (countOf (a .layer .quota) (E .result)) (E .last .1 .1 .1 .1 .1 .0) (E .last .1 .1 .1 .1 .1 .1 .0)) e (E .ensures .0)),
       E .ensures .1,
     )

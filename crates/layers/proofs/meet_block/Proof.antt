@@ -38,7 +38,8 @@ returns c =
           (min 64 (2 ^ length (C .circuit .inputs))) (a .records .now) (a .heads .now) (q + 1) (a .records .now) (a .heads .now)) (sym told)
           (rows-lost (λ p. nextIn C s (a .block .block * 64 + p)) q (q + 1) (a .block .e) (64 * a .block .block)
           (min 64 (2 ^ length (C .circuit .inputs))) (a .records .now) (a .heads .now)
-          (subst (λ (t : Tally). Fits q (countOf q t) (a .records .now) (a .heads .now)) told (c .before .before .before .before .before .before .before .pre .1 .0)) (omega arith)),
+          (subst (λ (t : Tally). Fits q (countOf q t) (a .records .now) (a .heads .now)) told (c .before .before .before .before .before
+          .before .before .pre .1 .0)) (omega arith)),
       tt,
     )
 
@@ -83,7 +84,8 @@ array-share-prefix-state c = omega (
 
 slice-aggregate-meet-rows : tie.Need-slice-aggregate-meet-rows
 slice-aggregate-meet-rows c =
-    sym (length-take-le (length (c .before .before .before .before .before .before .before .before .before .before .before .before .before .args
+    sym (length-take-le (length (c .before .before .before .before .before .before .before .before .before .before .before .before
+    .before .args
     .kept .now)) (c .before .before .next-kept .last .1 .1 .1 .1 .0)
     (omega (
       arith,
@@ -93,7 +95,8 @@ slice-aggregate-meet-rows c =
 
 meet-rows-requires : tie.Need-meet-rows-requires
 meet-rows-requires c κs =
-    let e = length-take-le (length (c .before .before .before .before .before .before .before .before .before .before .before .before .before .before .before .args .kept .now)) (c .before .before .before .before .next-kept .last .1 .1 .1 .1 .0)
+    let e = length-take-le (length (c .before .before .before .before .before .before .before .before .before .before .before .before
+    .before .before .before .args .kept .now)) (c .before .before .before .before .next-kept .last .1 .1 .1 .1 .0)
     (omega (
       arith,
       c .before .before .before .before .next-kept .kept .1 .1 .1 .1 .0,
@@ -105,7 +108,8 @@ meet-rows-requires c κs =
         omega (
           arith,
           e,
-          c .before .before .before .before .before .before .before .before .before .before .before .before .before .before .before .pre .1 .1 .0,
+          c .before .before .before .before .before .before .before .before .before .before .before .before .before .before .before .pre
+              .1 .1 .0,
         ),
         omega (arith, c .before .before .before .before .before .before .before .lanes .ensures),
         omega (
@@ -113,7 +117,8 @@ meet-rows-requires c κs =
           c .before .before .before .before .before .before .before .before .before .before .before .before .before .before .before .pre .1
               .1 .2,
         ),
-        c .before .before .before .before .before .before .before .before .before .before .before .before .before .before .before .pre .1 .1 .5,
+        c .before .before .before .before .before .before .before .before .before .before .before .before .before .before .before .pre .1
+            .1 .5,
       ),
     )
 
@@ -126,16 +131,19 @@ same-length-2 c = c .before .before .before .before .meet-rows .kept .1 .1 .1 .1
 returns-2 : tie.Need-returns-2
 returns-2 c = (
   λ b s closed v.
-      let a = c .before .before .before .before .before .before .before .before .before .before .before .before .before .before .before .before .before .before .before .before .args in
+      let a = c .before .before .before .before .before .before .before .before .before .before .before .before .before .before .before
+      .before .before .before .before .before .args in
       let B = a .block in
-      let R = c .before .before .before .before .before .before .before .before .before .before .before .before .before .before .before .before .before .before .before .before .pre .0 .1 in
+      let R = c .before .before .before .before .before .before .before .before .before .before .before .before .before .before .before
+      .before .before .before .before .before .pre .0 .1 in
       let C = partIn (a .m .now) (a .kept .now) in
       let ks = a .kept .now in
       let whole = c .before .before .before .before .before .before .before .before .before .next-kept .last .1 .1 .1 .1 .0 in
       let inside : length ks ≤ length whole = omega (
         arith,
         c .before .before .before .before .before .before .before .before .before .next-kept .kept .1 .1 .1 .1 .0,
-        c .before .before .before .before .before .before .before .before .before .before .before .before .before .before .before .before .before .before .before .before .pre .1 .1 .0,
+        c .before .before .before .before .before .before .before .before .before .before .before .before .before .before .before .before
+            .before .before .before .before .pre .1 .1 .0,
       ) in
       let st = take (length ks) whole in
       let r = c .before .before .before .before .meet-rows .last .1 .1 .1 .0 in
@@ -143,7 +151,8 @@ returns-2 c = (
       let f : ℕ → Option ℕ = leading (B .allowed) (λ p. numberOf (map (λ w. bit w p) st)) in
       let g : ℕ → Option ℕ = λ p. nextIn C s (B .block * 64 + p) in
       let n = c .before .before .before .before .before .before .before .before .before .before .before .before .lanes .result in
-      let e : n ≡ min 64 (2 ^ length (C .circuit .inputs)) = c .before .before .before .before .before .before .before .before .before .before .before .before .lanes .ensures ∙ ap (λ (i : ℕ). min 64 (2 ^ i)) (inputs-are (R .held) (R .layout-of)) in
+      let e : n ≡ min 64 (2 ^ length (C .circuit .inputs)) = c .before .before .before .before .before .before .before .before .before
+      .before .before .before .lanes .ensures ∙ ap (λ (i : ℕ). min 64 (2 ^ i)) (inputs-are (R .held) (R .layout-of)) in
       subst (λ (k : ℕ). RowsMet g (B .quota) (countOf (B .quota) (B .met)) (B .e) (64 * B .block) k (a .records .now) (a .heads .now)
       (countOf (B .quota) (c .before .before .before .before .meet-rows .result)) r h) e
       (rows-named f g (B .quota) (countOf (B .quota) (B .met)) (B .e) (64 * B .block) n (a .records .now) (a .heads .now)
@@ -155,7 +164,8 @@ returns-2 c = (
       ) in
       let w = lane (a .values .now) p in
       next-in C s (B .block * 64 + p) (bit (B .allowed) p) (numberOf (map (λ x. bit x p) st))
-      (c .before .before .before .before .before .before .before .before .before .before .before .before .before .before .before .before .before .before .before .before .pre .1 .1 .4 p k ∙ constrained-is C (closed .listed) (right (R .held)) (known (R .held))
+      (c .before .before .before .before .before .before .before .before .before .before .before .before .before .before .before .before
+      .before .before .before .before .pre .1 .1 .4 p k ∙ constrained-is C (closed .listed) (right (R .held)) (known (R .held))
       (no-cycle (R .held)) b closed s (B .block * 64 + p) w (v p k))
       (next-of C (right (R .held)) (known (R .held)) (no-cycle (R .held)) b closed s (B .block * 64 + p) w (v p k) st p
       (length-take-le (length ks) whole inside)
@@ -163,7 +173,8 @@ returns-2 c = (
       let jk : getD ks i 0 < a .layout .l = omega (
         arith,
         latches-are R,
-        c .before .before .before .before .before .before .before .before .before .before .before .before .before .before .before .before .before .before .before .before .pre .1 .1 .3 .inside i il,
+        c .before .before .before .before .before .before .before .before .before .before .before .before .before .before .before .before
+            .before .before .before .before .pre .1 .1 .3 .inside i il,
       ) in
       ap (λ (x : ℕ). bit x p) (getD-take (length ks) whole i 0 il) ∙
       c .before .before .before .before .before .before .before .before .before .next-kept .ensures i il p k
@@ -176,5 +187,6 @@ pub meet-block-spec : {M : Type 1} → statement M
 meet-block-spec =
     tie.close
     (tie.spec
-    (λ c. search needs) (λ c. search needs) returns lanes-requires mul-first cast-first (λ c. search needs) next-kept-requires array-share-prefix-state
+    (λ c. search needs) (λ c. search needs) returns lanes-requires mul-first cast-first (λ c. search needs) next-kept-requires
+    array-share-prefix-state
     slice-aggregate-meet-rows meet-rows-requires same-length same-length-2 returns-2)

@@ -74,7 +74,11 @@ add-meet c = omega (
 )
 
 meet-requires : tie.Need-meet-requires
-meet-requires c κs = (c .before .before .before .before .before .before .before .before .before .before .pre .0, c .before .before .before .before .before .before .before .before .before .before .pre .1 .3)
+meet-requires c κs = (
+  c .before .before .before .before .before .before .before .before .before .before .pre .0,
+  c .before .before
+      .before .before .before .before .before .before .before .before .pre .1 .3,
+)
 
 same-length : tie.Need-same-length
 same-length c = c .before .before .before .before .meet .kept .0
@@ -84,12 +88,15 @@ same-length-2 c = c .before .before .before .before .meet .kept .1 .0
 
 returns-2 : tie.Need-returns-2
 returns-2 c =
-    let a = c .before .before .before .before .before .before .before .before .before .before .before .before .before .before .before .args in
+    let a = c .before .before .before .before .before .before .before .before .before .before .before .before .before .before .before
+    .args in
     let E = c .before .before .before .before .meet in (
-      RowStep.taken (left-set (a .pending .left) (a .p) (c .before .before .before .before .before .before .before .before .before .before .before .if1 .left))
+      RowStep.taken (left-set (a .pending .left) (a .p) (c .before .before .before .before .before .before .before .before .before
+          .before .before .if1 .left))
           (subst
           (λ (s : ℕ).
-          Meets (a .span .quota) (countOf (a .span .quota) (a .pending .met)) s (a .span .e) (a .span .first + a .p) (a .records .now) (a .heads .now) (countOf (a .span .quota) (E .result))
+          Meets (a .span .quota) (countOf (a .span .quota) (a .pending .met)) s (a .span .e) (a .span .first + a .p) (a .records .now) (a
+          .heads .now) (countOf (a .span .quota) (E .result))
           (E .last .0) (E .last .1 .0))
           (c .before .before .before .before .before .before .before .before .before .before .pack .ensures) (E .ensures .0))
           (λ q l g. ⊎-elim (λ h. inl h)

@@ -22,7 +22,8 @@ numbers state p = numberOf (map (λ w. bit w p) state)
 abbrev Inv-loop : tie.InvT-loop
 Inv-loop state span records₀ heads₀ n pending₀ p₀ records heads pending p =
     (p ≤ n) × (length records ≡ length records₀) × (length heads ≡ length heads₀)
-    × Treated (pending₀ .left) (numbers state) (span .quota) (countOf (span .quota) (pending₀ .met)) (span .e) (span .first) p records₀ heads₀
+    × Treated (pending₀ .left) (numbers state) (span .quota) (countOf (span .quota) (pending₀ .met)) (span .e) (span .first) p records₀
+    heads₀
     (countOf (span .quota) (pending .met)) (pending .left) records heads
     × Within (span .quota) (pending .met)
 
@@ -35,7 +36,8 @@ loop-holds c =
       omega arith,
       refl,
       refl,
-      treated-none (a .start .left) (numbers (a .state .now)) (a .span .quota) (countOf (a .span .quota) (a .start .met)) (a .span .e) (a .span .first)
+      treated-none (a .start .left) (numbers (a .state .now)) (a .span .quota) (countOf (a .span .quota) (a .start .met)) (a .span .e) (a
+          .span .first)
           (a .records .now)
           (a .heads .now) (c .before .before .before .pre .0),
       c .before .before .before .pre .1 .3,
@@ -67,7 +69,8 @@ loop-again c =
       omega arith,
       E .kept .1 .1 .1 .1 .0 ∙ L .inv .1,
       E .kept .1 .1 .1 .1 .1 .0 ∙ L .inv .2,
-      treated-more (a .start .left) (numbers (a .state .now)) (a .span .quota) (countOf (a .span .quota) (a .start .met)) (a .span .e) (a .span .first) (L .p)
+      treated-more (a .start .left) (numbers (a .state .now)) (a .span .quota) (countOf (a .span .quota) (a .start .met)) (a .span .e) (a
+          .span .first) (L .p)
           (a .records .now)
           (a .heads .now) (omega (
             arith,
@@ -89,7 +92,8 @@ returns c =
     let e : L .p ≡ a .span .n = omega arith in (
       subst
           (λ (n : ℕ).
-          RowsMet (leading (a .start .left) (numbers (a .state .now))) (a .span .quota) (countOf (a .span .quota) (a .start .met)) (a .span .e) (a .span .first) n
+          RowsMet (leading (a .start .left) (numbers (a .state .now))) (a .span .quota) (countOf (a .span .quota) (a .start .met)) (a
+          .span .e) (a .span .first) n
           (a .records .now)
           (a .heads .now) (countOf (a .span .quota) (L .pending .met)) (L .records) (L .heads)) e (L .inv .3 .rows),
       L .inv .4,

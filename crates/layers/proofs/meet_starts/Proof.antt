@@ -77,12 +77,17 @@ cast-meet c = omega (
 )
 
 meet-requires : tie.Need-meet-requires Inv-loop μ-loop
-meet-requires c κs = (c .before .before .before .before .before .before .before .before .before .loop .inv .4 .fits, c .before .before .before .before .before .before .before .before .before .loop .inv .5)
+meet-requires c κs = (
+  c .before .before .before .before .before .before .before .before .before .loop .inv .4 .fits,
+  c .before .before
+      .before .before .before .before .before .before .before .loop .inv .5,
+)
 
 add-y : tie.Need-add-y Inv-loop μ-loop
 add-y c = omega (
   arith,
-  c .before .before .before .before .before .before .before .before .before .before .before .before .before .before .before .before .before .before .before .before .pre .1 .1 .1,
+  c .before .before .before .before .before .before .before .before .before .before .before .before .before .before .before .before
+      .before .before .before .before .pre .1 .1 .1,
 )
 
 loop-less : tie.Need-loop-less Inv-loop μ-loop
@@ -90,7 +95,8 @@ loop-less c = omega arith
 
 loop-again : tie.Need-loop-again Inv-loop μ-loop
 loop-again c =
-    let a = c .before .before .before .before .before .before .before .before .before .before .before .before .before .before .before .before .before .before .before .before .args in
+    let a = c .before .before .before .before .before .before .before .before .before .before .before .before .before .before .before
+    .before .before .before .before .before .args in
     let L = c .before .before .before .before .before .before .before .before .before .before .before .before .before .before .loop in
     let E = c .before .before .before .before .meet in (
       omega arith,
@@ -126,5 +132,6 @@ pub meet-starts-spec : {M : Type 1} → statement M
 meet-starts-spec =
     tie.close
     (tie.spec
-    Inv-loop μ-loop loop-holds (λ c. search needs) (λ c. search needs) same-length same-length-2 same-length-3 returns start-number-requires cast-meet meet-requires add-y
+    Inv-loop μ-loop loop-holds (λ c. search needs) (λ c. search needs) same-length same-length-2 same-length-3 returns
+    start-number-requires cast-meet meet-requires add-y
     loop-less loop-again same-length-4 same-length-5 same-length-6 returns-2)

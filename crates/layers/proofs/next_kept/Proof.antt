@@ -31,8 +31,14 @@ loop-holds c = (omega arith, refl, λ k l. absurd (omega arith))
 
 -- the next literal of a latch that is kept stands within the memory
 inside : (c : tie.In-loop Inv-loop μ-loop)
-    → c .before .before .before .before .before .before .args .layout .latches + 3 * getD (c .before .before .before .before .before .before .args .kept .now) (c .before .loop .i) 0 + 1 < length (c .before .before .before .before .before .before .args .m .now)
-inside c = omega (arith, c .before .before .before .before .before .before .pre .1 .1 (c .before .loop .i) (omega arith), c .before .before .before .before .before .before .pre .0 .0)
+    → c .before .before .before .before .before .before .args .layout .latches + 3 * getD (c .before .before .before .before .before
+    .before .args .kept .now) (c .before .loop .i) 0 + 1 < length (c .before .before .before .before .before .before .args .m .now)
+inside c = omega (
+  arith,
+  c .before .before .before .before .before .before .pre .1 .1 (c .before .loop .i) (omega arith),
+  c .before
+      .before .before .before .before .before .pre .0 .0,
+)
 
 mul-j : tie.Need-mul-j Inv-loop μ-loop
 mul-j c = omega arith
@@ -80,7 +86,9 @@ shared-slice-read-from-word c = omega (arith, inside (c .before .before))
 literal-value-requires : tie.Need-literal-value-requires Inv-loop μ-loop
 literal-value-requires c κs =
     rw (ap (λ (l : Lit). l .0 .0) (c .from-word .ensures))
-    (c .before .before .before .before .before .before .before .before .before .pre .1 .0 (getD (c .before .before .before .before .before .before .before .before .before .args .kept .now) (c .before .before .before .before .loop .i) 0) (c .before .before .before .before .before .before .before .before .before .pre .1 .1 (c .before .before .before .before .loop .i) (omega arith)))
+    (c .before .before .before .before .before .before .before .before .before .pre .1 .0 (getD (c .before .before .before .before
+    .before .before .before .before .before .args .kept .now) (c .before .before .before .before .loop .i) 0) (c .before .before
+    .before .before .before .before .before .before .before .pre .1 .1 (c .before .before .before .before .loop .i) (omega arith)))
 
 mul-state : tie.Need-mul-state Inv-loop μ-loop
 mul-state c = omega arith
@@ -105,7 +113,8 @@ loop-again c =
       omega arith,
       length-set (L .state) _ _ ∙ L .inv .1,
       next-more (Next (a .m .now) (a .values .now) (a .kept .now) (a .layout .latches)) (L .state) (L .i) (c .literal-value .result)
-          (omega (arith, L .inv .1, c .before .before .before .before .before .before .before .before .before .before .pre .0 .2)) (L .inv .2)
+          (omega (arith, L .inv .1, c .before .before .before .before .before .before .before .before .before .before .pre .0 .2)) (L
+          .inv .2)
           (λ p l. c .literal-value .ensures p l
           ∙ ap (value (lane (a .values .now) p))
           (word-read (word (a .m .now) (a .layout .latches + 3 * getD (a .kept .now) (L .i) 0 + 1)) (c .before .from-word .ensures))),
@@ -122,4 +131,5 @@ next-kept-spec =
     tie.close
     (tie.spec
     Inv-loop μ-loop loop-holds mul-j shared-slice-read-j cast-j mul-from-word add-from-word add-from-word-2 mul-from-word-2
-    shared-slice-read-from-word (λ c κs. search needs) literal-value-requires mul-state slice-write-state add-i loop-less loop-again same-length returns)
+    shared-slice-read-from-word (λ c κs. search needs) literal-value-requires mul-state slice-write-state add-i loop-less loop-again
+    same-length returns)

@@ -45,7 +45,11 @@ returns c =
     let s = c .before .before .before .before .before .before .args in
     let e = sym (ranked-none (s .work .now) (s .net) (s .arena) (l .left) (l .best) (omega arith)) ∙ l .inv in
     e
-    ∙ ap (rankedAll (s .work .now) (s .net) (s .arena) (s .n - 2)) (rw (← c .before .before .before .before .literal .ensures, ← c .before .before .before .literal2 .ensures) (c .before .before .rank-two .ensures))
+    ∙ ap (rankedAll (s .work .now) (s .net) (s .arena) (s .n - 2)) (rw (
+      ← c .before .before .before .before .literal .ensures,
+      ← c
+          .before .before .before .literal2 .ensures,
+    ) (c .before .before .rank-two .ensures))
 
 pub highest-spec : {M : Type 1} → statement M
 highest-spec =

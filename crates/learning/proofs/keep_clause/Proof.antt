@@ -10,8 +10,10 @@ highest-requires c κs = c .before .before .before .before .pre
 
 returns : tie.Need-returns
 returns c =
-    let s = c .before .before .before .before .before .before .before .before .before .before .before .before .before .before .before .before .before .before .before .before .args in
-    rw (← kept-by (s .work .now) (s .net) (s .s) (s .d) (c .before .before .before .before .before .before .before .before .before .before .before .before .before .before .before .highest .ensures)
+    let s = c .before .before .before .before .before .before .before .before .before .before .before .before .before .before .before
+    .before .before .before .before .before .args in
+    rw (← kept-by (s .work .now) (s .net) (s .s) (s .d) (c .before .before .before .before .before .before .before .before .before
+    .before .before .before .before .before .before .highest .ensures)
     (c .before .before .before .before .before .before .before .before .before .before .before .before .before .target .ensures)
     (c .before .before .before .before .before .before .before .before .before .before .before .keep .ensures .words)
     (c .before .before .before .before .before .before .before .before .before .before .before .keep .ensures .arena)

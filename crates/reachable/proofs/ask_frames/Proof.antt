@@ -89,7 +89,8 @@ empty c =
 holds-started : (c : tie.After-slice-known5 Inv-loop μ-loop)
     → let e = entry-first (asked-first c) in
     let s = c .before .before .before .before .meet-starts in
-    Holds (rows e) 0 0 (asked-first c .quota .result) (countOf (asked-first c .quota .result) (s .result)) (s .last .1 .1 .1 .0) (s .last .1 .1 .1 .1 .0)
+    Holds (rows e) 0 0 (asked-first c .quota .result) (countOf (asked-first c .quota .result) (s .result)) (s .last .1 .1 .1 .0) (s .last
+    .1 .1 .1 .1 .0)
     (started (machineOf (part e) (e .args .q .b)) (2 ^ e .args .q .layout .u))
 holds-started c =
     let e = entry-first (asked-first c) in
@@ -297,10 +298,12 @@ loop-again c =
     )
 
 same-length-12 : tie.Need-same-length-12 Inv-loop μ-loop
-same-length-12 c = c .before .loop .inv .3 ∙ c .before .before .before .before .before .before .before .before .before .meet-starts .kept .1 .1 .1 .0
+same-length-12 c = c .before .loop .inv .3 ∙ c .before .before .before .before .before .before .before .before .before .meet-starts .kept
+    .1 .1 .1 .0
 
 same-length-13 : tie.Need-same-length-13 Inv-loop μ-loop
-same-length-13 c = c .before .loop .inv .4 ∙ c .before .before .before .before .before .before .before .before .before .meet-starts .kept .1 .1 .1 .1 .0
+same-length-13 c = c .before .loop .inv .4 ∙ c .before .before .before .before .before .before .before .before .before .meet-starts .kept
+    .1 .1 .1 .1 .0
 
 same-length-14 : tie.Need-same-length-14 Inv-loop μ-loop
 same-length-14 c = c .before .loop .inv .5
@@ -314,7 +317,8 @@ returns-5 c =
 
 pub ask-frames-spec : {M : Type 1} → statement M
 ask-frames-spec =
-    tie.close (tie.spec Inv-loop μ-loop quota-requires meet-starts-requires (λ c. search needs) (λ c. search needs) same-length same-length-2
+    tie.close (tie.spec Inv-loop μ-loop quota-requires meet-starts-requires (λ c. search needs) (λ c. search needs) same-length
+    same-length-2
     returns loop-holds quota-requires-2 ask-layer-requires (λ c. search needs) same-length-3 same-length-4 same-length-5 returns-2
     (λ c. search needs) add-t34 same-length-6 same-length-7 same-length-8 returns-3 (λ c. search needs) same-length-9 same-length-10
     same-length-11 returns-4 add-t loop-less loop-again same-length-12 same-length-13 same-length-14 returns-5)

@@ -41,7 +41,8 @@ returns : tie.Need-returns
 returns c =
     let a = c .before .before .before .before .before .before .before .before .before .before .before .before .before .before .args in
     let E = c .before .before .before .before .before .meet-starts in (
-      λ rows b h. subst (λ (n : ℕ). Holds rows 0 0 (a .quota) (countOf (a .quota) (E .result)) (E .last .1 .1 .1 .0) (E .last .1 .1 .1 .1 .0)
+      λ rows b h. subst (λ (n : ℕ). Holds rows 0 0 (a .quota) (countOf (a .quota) (E .result)) (E .last .1 .1 .1 .0) (E .last .1 .1 .1 .1
+          .0)
           (started (machineOf (partIn (a .m .now) (a .kept .now)) b) n))
           (c .before .before .before .before .before .before .before .before .before .power .ensures .0) (E .ensures .0 rows b h),
       E .ensures .1,

@@ -6,7 +6,8 @@ use Rattle.settling.proofs.follow.Tie as tie
 
 returns : tie.Need-returns
 unfolding S.followed
-returns c = rw (← c .before .before .before .before .before .field .ensures, ← c .before .before .before .before .successor .ensures) ((c .before .before .through .ensures))
+returns c = rw (← c .before .before .before .before .before .field .ensures, ← c .before .before .before .before .successor .ensures) ((c
+    .before .before .through .ensures))
 
 pub follow-spec : {M : Type 1} → statement M
 follow-spec =

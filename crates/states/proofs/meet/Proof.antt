@@ -33,7 +33,8 @@ module _ (c : tie.After-tally) where
 
   fits : Fits (start .args .quota) count (start .args .records .now) (start .args .heads .now)
   fits =
-      subst (λ (t : Tally). Fits (start .args .quota) (countOf (start .args .quota) t) (start .args .records .now) (start .args .heads .now))
+      subst (λ (t : Tally). Fits (start .args .quota) (countOf (start .args .quota) t) (start .args .records .now) (start .args .heads
+      .now))
       known-tally (start .pre .0)
 
   within : count ≤ start .args .quota
@@ -74,11 +75,21 @@ returns-3 c =
 add-requires : tie.Need-add-requires
 add-requires c κs =
     let n = c .before .before .before .before .before .before .before .before in
-    let s = fits n .stored (within n) in
-    (omega (arith, within n, c .before .before .if2 .left, fits n .quota-room), s .2 .buckets, omega (arith, within n, c .before .before .if2 .left, fits n .quota-small))
+    let s = fits n .stored (within n) in (
+      omega (arith, within n, c .before .before .if2 .left, fits n .quota-room),
+      s .2 .buckets,
+      omega (
+        arith,
+        within n,
+        c .before .before
+            .if2 .left,
+        fits n .quota-small,
+      ),
+    )
 
 add-t20 : tie.Need-add-t20
-add-t20 c = let n = c .before .before .before .before .before .before .before .before .before .before .before .before .before in omega (arith, within n, fits n .quota-small)
+add-t20 c = let n = c .before .before .before .before .before .before .before .before .before .before .before .before .before in omega
+    (arith, within n, fits n .quota-small)
 
 returns-4 : tie.Need-returns-4
 returns-4 c =
@@ -87,11 +98,14 @@ returns-4 c =
     let E = c .before .before .before .before .add in
     let k = count n in (
       met n
-          (subst (λ (r : List ℕ). Meets (a .quota) k (a .s) (a .parent) (a .row) (a .records .now) (a .heads .now) (k + 1) r (E .last .1 .0))
+          (subst (λ (r : List ℕ). Meets (a .quota) k (a .s) (a .parent) (a .row) (a .records .now) (a .heads .now) (k + 1) r (E .last .1
+          .0))
           (sym (E .ensures .0))
           (subst (λ (h : List ℕ). Meets (a .quota) k (a .s) (a .parent) (a .row) (a .records .now) (a .heads .now) (k + 1)
           (written (a .records .now) k (a .s) (a .parent) (a .row) (getD (a .heads .now) (bucketOf (a .s)) 0)) h) (sym (E .ensures .1))
-          (Meets.added (omega (arith, within n, c .before .before .before .before .before .before .before .if2 .left)) (λ es t. sym (c .before .before .before .before .before .before .before .before .before .known .ensures es t) ∙ c .before .before .before .before .before .before .before .before .if1 .left)))),
+          (Meets.added (omega (arith, within n, c .before .before .before .before .before .before .before .if2 .left)) (λ es t. sym (c
+          .before .before .before .before .before .before .before .before .before .known .ensures es t) ∙ c .before .before .before
+          .before .before .before .before .before .if1 .left)))),
       omega (arith, within n, c .before .before .before .before .before .before .before .if2 .left),
     )
 

@@ -1,5 +1,5 @@
 -- `trail::take_back` meets its contract. The invariant: what is left of the trail ends as all of it does. Assumes nothing.
-use Rattle.reasons.proofs.Frame.{told-by}
+use Rattle.memory.proofs.Counted.{told-by}
 use Rattle.trail.proofs.Turns.{taken-none, taken-stop, taken-more}
 use Rattle.trail.specs.Trail.{takenBack}
 use Rattle.memory.specs.Record as M

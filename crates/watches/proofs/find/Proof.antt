@@ -1,8 +1,10 @@
 -- `watches::find` meets its contract. The invariant: what is left of the clause is searched as all of it. Assumes nothing.
 use Rattle.watches.proofs.Turns.{found-none, found-here, found-more}
+use Prim.Native.Nat.{ℕ}
+use Rattle.watches.specs.declared.Replacement.the-variants.{Literal}
 use Rattle.watches.specs.Watch.{found}
 use native.Mathlib.Omega.{arith}
-use mathlib.Core.Path.{_≡_, refl, sym, _∙_}
+use mathlib.Core.Path.{_≡_, refl, sym, ap, _∙_}
 use borrow.Author.Needs.{needs}
 use Rattle.watches.proofs.find.Statement.{statement}
 use Rattle.watches.proofs.find.Tie as tie
@@ -19,7 +21,7 @@ returns c =
     let l = c .before .before .before .before .loop in
     let s = c .before .before .before .before .before .before .args in
     let x = c .before .before .kept-literal .ensures in
-    x ∙ sym (found-here (s .work .now) (s .net) (s .c) (s .o) (l .left) (omega arith)
+    ap (λ (y : ℕ). Literal y) x ∙ sym (found-here (s .work .now) (s .net) (s .c) (s .o) (l .left) (omega arith)
     (rw (← x) (sym (c .before .can-watch .ensures) ∙ c .if1 .taken))) ∙ l .inv
 
 loop-again : tie.Need-loop-again Inv-loop μ-loop

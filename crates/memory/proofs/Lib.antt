@@ -1,0 +1,2 @@
+-- The laws of `memory`. Assumes nothing.
+pub mod Counted
