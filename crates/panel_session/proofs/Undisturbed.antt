@@ -26,8 +26,24 @@ use Rattle.panel_lines.specs.declared.Query.{Query}
 use Rattle.panel_lines.specs.declared.Query.the-variants.{Pin, Search, Fold, Write, WriteBinary}
 use Rattle.panel_lines.specs.declared.View.{View}
 use Rattle.panel_lines.specs.declared.View.the-variants.{Replay, Widen, Waveform}
-use Rattle.panel_session.specs.Session.{Files, Action, joinAction, queryCall, viewCall, actionOf, mayAsk, filesOf, lineAction}
-use Rattle.panel_session.specs.Session.{badOf, told, Turn, Exchange, Session, isOf, concerning}
+use Rattle.panel_session.specs.Session.{
+  Files,
+  Action,
+  joinAction,
+  queryCall,
+  viewCall,
+  actionOf,
+  mayAsk,
+  filesOf,
+  lineAction,
+  badOf,
+  told,
+  Turn,
+  Exchange,
+  Session,
+  isOf,
+  concerning,
+}
 
 -- ---- whose call a line is
 

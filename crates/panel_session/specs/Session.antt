@@ -1,7 +1,7 @@
 -- Clause 12.7: the resident program line by line. A line is a call of two users' history, or a text is printed at once and nothing changes.
 -- Assumes nothing.
 use mathlib.Core.Path.{_≡_}
-use mathlib.Core.Bool.{Bool, false, cond, _||_}
+use mathlib.Core.Bool.{Bool, true, false, cond, _||_}
 use mathlib.Core.List.{List, [], _∷_}
 use mathlib.Core.Option.{Option, none, some}
 use Prim.Native.Nat.{ℕ}
@@ -15,7 +15,7 @@ use Rattle.aiger.specs.Operations.{front}
 use Rattle.layout.specs.Words.{circuitIn}
 use Rattle.job.specs.Replies.{shownLength}
 use Rattle.replies.specs.Refusal.{refusalText}
-use Rattle.replies.specs.Reply.{Reply}
+use Rattle.replies.specs.Reply.{Reply, refusal}
 use Rattle.search_command.specs.Texts.{saidWords}
 use Rattle.preview_command.specs.Texts.{wordsLine}
 use Rattle.history.specs.History as History
