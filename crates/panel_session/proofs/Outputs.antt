@@ -1,13 +1,13 @@
 -- What the output held before a call does not matter. Assumes nothing.
-use mathlib.Core.Path.{_≡_, refl, sym, ap, _∙_}
-use mathlib.Core.Bool.{Bool}
-use mathlib.Core.List.{List, [], _∷_}
+use mathlib.Core.Path.{_≡_, refl, sym, ap, _∙_, subst}
+use mathlib.Core.Bool.{Bool, true, false}
+use mathlib.Core.List.{List, [], _∷_, _++_}
 use mathlib.Core.Option.{Option, none, some}
-use Prim.Native.Nat.{ℕ, _+_, _-_}
+use Prim.Native.Nat.{ℕ, _+_, _-_, _≤_, _<_}
 use native.Mathlib.Omega.{arith}
 use borrow.Author.Tests.{eq-eqb}
 use lib.Dec.{T, leb}
-use lib.ListN.{length, take, length-append, length-take}
+use lib.ListN.{length, take, drop, length-append, length-take}
 use Rattle.aiger.specs.Lists.{upto}
 use Rattle.aiger.specs.Circuit.{Circuit}
 use Rattle.aiger.specs.Frames.{runIn}

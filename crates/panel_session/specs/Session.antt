@@ -2,7 +2,7 @@
 -- changes.
 -- Assumes nothing.
 use mathlib.Core.Path.{_≡_}
-use mathlib.Core.Bool.{Bool, false, cond, _||_}
+use mathlib.Core.Bool.{Bool, true, false, cond, _||_}
 use mathlib.Core.List.{List, [], _∷_}
 use mathlib.Core.Option.{Option, none, some}
 use Prim.Native.Nat.{ℕ}
@@ -16,7 +16,7 @@ use Rattle.aiger.specs.Operations.{front}
 use Rattle.layout.specs.Words.{circuitIn}
 use Rattle.job.specs.Replies.{shownLength}
 use Rattle.replies.specs.Refusal.{refusalText}
-use Rattle.replies.specs.Reply.{Reply}
+use Rattle.replies.specs.Reply.{Reply, refusal}
 use Rattle.search_command.specs.Texts.{saidWords}
 use Rattle.preview_command.specs.Texts.{wordsLine}
 use Rattle.history.specs.History as History

@@ -9,15 +9,11 @@ use borrow.Author.Tests.{le-leb, lt-leb, leb-true, leb-false}
 use lib.Dec.{leb}
 use lib.ListN.{length, getD, set, length-set}
 use lib.Seq.{getD-set-same, getD-set-other}
-use Rattle.memory.specs.Record.{Counted, Told, field, place, stored, head, headed, headPlace, literal, written}
+use Rattle.memory.specs.Record.{field, place, stored, head, headed, headPlace, literal, written}
 use Rattle.memory.specs.declared.Netlist.{Netlist}
 use Rattle.memory.specs.declared.Arena.{Arena}
 use Rattle.reasons.specs.Claims.{Same}
 use Rattle.reasons.proofs.Valid.{same-refl}
-
--- what a loop leaves, by the equation of its function
-pub told-by : {a b : Counted} → a ≡ b → Told (a .words) (a .count) b
-told-by e = record { words = ap (λ (t : Counted). t .words) e; count = ap (λ (t : Counted). t .count) e }
 
 -- a word of a record, after a store elsewhere
 pub field-other : (w : List ℕ) (nodes v f i x : ℕ) → (v < nodes → place v f ≡ i → ⊥) → field (set w i x) nodes v f ≡ field w nodes v f
