@@ -17,7 +17,8 @@ every-completion-requires c κs =
 returns : tie.Need-returns
 returns c =
     let a = c .before .before .before .before .before .before .before .before .before .args in
-    sym (true-T (allPass (shows (circuitIn (a .m .now)) (a .q .bad)) (a .body .now)) (c .before .every-completion .ensures .1 (c .if2 .taken)))
+    sym (true-T (allPass (shows (circuitIn (a .m .now)) (a .q .bad)) (a .body .now))
+    (c .before .every-completion .ensures .1 (c .if2 .taken)))
 
 pub every-hit-spec : {M : Type 1} → statement M
 every-hit-spec =
