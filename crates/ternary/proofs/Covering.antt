@@ -63,7 +63,8 @@ put-covers can w v x a c =
           ];
     }
 
-pub below-covers : (v : ℕ → ℕ) (x : ℕ → May) (n : ℕ) (can : List ℕ) (w : ℕ → Bool) → ((i : ℕ) → i < n → Admits (x i) (w (v i))) → Covers can w
+pub below-covers : (v : ℕ → ℕ) (x : ℕ → May) (n : ℕ) (can : List ℕ) (w : ℕ → Bool) → ((i : ℕ) → i < n → Admits (x i) (w (v i)))
+    → Covers can w
     → Covers (putBelow v x n can) w
 unfolding putBelow
 below-covers v x zero can w a c = c
@@ -90,7 +91,8 @@ flips w l = go (l .0 .0) (l .1)
         value-even w (2 * v + 0) v (omega arith) ∙ sym (Bool·not-not (w v)) ∙ ap not (sym (value-odd w (2 * v + 1) v (omega arith)))
     go v false = value-odd w (2 * v + 1) v (omega arith) ∙ ap not (sym (value-even w (2 * v + 0) v (omega arith)))
 
-pub read-admits : (can : List ℕ) (w : ℕ → Bool) (k : ℕ) → 2 * var k + 1 < length can → Covers can w → Admits (mayOf can (literal k)) (value w k)
+pub read-admits : (can : List ℕ) (w : ℕ → Bool) (k : ℕ) → 2 * var k + 1 < length can → Covers can w
+    → Admits (mayOf can (literal k)) (value w k)
 read-admits can w k h c =
     let l = literal k in
     let b = literal-inside l (length can) h in
@@ -133,14 +135,16 @@ pub record GateFits (g : Gate) (size : ℕ) : Type 0 where
   pub left : 2 * var (g .left) + 1 < size
   pub right : 2 * var (g .right) + 1 < size
 
-pub gate-covers : (g : Gate) (can : List ℕ) (w : ℕ → Bool) → GateFits g (length can) → w (var (g .lit)) ≡ (value w (g .left) && value w (g .right))
+pub gate-covers : (g : Gate) (can : List ℕ) (w : ℕ → Bool) → GateFits g (length can)
+    → w (var (g .lit)) ≡ (value w (g .left) && value w (g .right))
     → Covers can w → Covers (gateStep g can) w
 gate-covers g can w h e c =
     let x = mayOf can (literal (g .left)) in
     let y = mayOf can (literal (g .right)) in
     put-covers can w (var (g .lit)) (conjunction x y)
     (subst (Admits (conjunction x y)) (sym e)
-    (conjunction-admits x y (value w (g .left)) (value w (g .right)) (read-admits can w (g .left) (h .left) c) (read-admits can w (g .right) (h .right) c)))
+    (conjunction-admits x y (value w (g .left)) (value w (g .right)) (read-admits can w (g .left) (h .left) c)
+    (read-admits can w (g .right) (h .right) c)))
     c
 
 pub gates-covers : (c : Circuit) (order : List ℕ) (n : ℕ) (can : List ℕ) (w : ℕ → Bool)

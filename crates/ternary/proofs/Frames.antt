@@ -60,7 +60,8 @@ module _ (text u : List ℕ) (c : Completes text u) (at count : ℕ) where
   -- so a line allows its values in a completion
   line-allows : (i : ℕ) → i < count → Allows (getD text (at + i) 0) (getD (values u at count) i false)
   line-allows i h =
-      subst (Allows (getD text (at + i) 0)) (sym (value-at u at count i h)) (allows-of (getD text (at + i) 0) (getD u (at + i) 0) (c .at (at + i)))
+      subst (Allows (getD text (at + i) 0)) (sym (value-at u at count i h))
+      (allows-of (getD text (at + i) 0) (getD u (at + i) 0) (c .at (at + i)))
 
   pub line-admits : (i : ℕ) → i < count → Admits (lineOf text at i) (getD (values u at count) i false)
   line-admits i h = byte-admits (getD text (at + i) 0) (getD (values u at count) i false) (line-allows i h)
@@ -82,7 +83,8 @@ module _ {m : List ℕ} {layout : Layout} {order : List ℕ} (R : Ready m layout
   gate-fits g n h b =
       let l : g < layout .a = omega (arith, gates-are R) in
       let r = gate-room R g l in
-      subst (λ (x : Gate). GateFits x n) (sym (gate-place R g l)) (record { left = omega (arith, r .left); right = omega (arith, r .right) })
+      subst (λ (x : Gate). GateFits x n) (sym (gate-place R g l))
+      (record { left = omega (arith, r .left); right = omega (arith, r .right) })
 
   pub next-fits : (j n : ℕ) → j < length (circuitIn m .latches) → 8194 ≤ n → 2 * var (latchAt (circuitIn m) j .next) + 1 < n
   next-fits j n h b =
@@ -123,10 +125,12 @@ agrees-each (l ∷ ls) (b ∷ bs) e h =
     (agrees-each ls bs (omega arith) (λ j k. h (suc j) (omega arith)))
 
 -- what is seen of one start value holds in every completion
-start-agrees : (lit reset byte : ℕ) (b : Bool) → Allows byte b → T (startAgrees lit reset byte) → T (eqb reset lit || eqb reset (cond b 1 0))
+start-agrees : (lit reset byte : ℕ) (b : Bool) → Allows byte b → T (startAgrees lit reset byte)
+    → T (eqb reset lit || eqb reset (cond b 1 0))
 start-agrees lit reset byte b a t = go (eqb reset lit) t
   where
-    value-of : (b : Bool) → Allows byte b → T (cond (eqb byte 49) (eqb reset 1) (cond (eqb byte 48) (eqb reset 0) false)) → T (eqb reset (cond b 1 0))
+    value-of : (b : Bool) → Allows byte b → T (cond (eqb byte 49) (eqb reset 1) (cond (eqb byte 48) (eqb reset 0) false))
+        → T (eqb reset (cond b 1 0))
     value-of true a t =
         elim (ℕ-discrete byte 49) [
           | yes e ↦ subst (λ (z : Bool). T (cond z (eqb reset 1) (cond (eqb byte 48) (eqb reset 0) false))) (eq-eqb byte 49 e) t
@@ -135,7 +139,8 @@ start-agrees lit reset byte b a t = go (eqb reset lit) t
               absurd (subst (λ (z : Bool). T (cond z (eqb reset 0) false)) (ne-eqb byte 48 (a .true-one tt)) s)
         ]
     value-of false a t =
-        let s = subst (λ (z : Bool). T (cond z (eqb reset 1) (cond (eqb byte 48) (eqb reset 0) false))) (ne-eqb byte 49 (a .false-one tt)) t in
+        let s = subst (λ (z : Bool). T (cond z (eqb reset 1) (cond (eqb byte 48) (eqb reset 0) false)))
+        (ne-eqb byte 49 (a .false-one tt)) t in
         elim (ℕ-discrete byte 48) [
           | yes e ↦ subst (λ (z : Bool). T (cond z (eqb reset 0) false)) (eq-eqb byte 48 e) s
           | no d ↦ absurd (subst (λ (z : Bool). T (cond z (eqb reset 0) false)) (ne-eqb byte 48 d) s)
@@ -210,7 +215,8 @@ module _ {m : List ℕ} {layout : Layout} {order : List ℕ} {count : ℕ} (R : 
       → latches
       ≡ putBelow (λ j. var (word m (layout .latches + 3 * j))) (λ j. record { high = getD saved (2 * j) 0; low = getD saved (2 * j + 1) 0 })
       (layout .l) all
-      → out ≡ frameStep (circuitIn m) order body at latches → out ≡ frameStep (circuitIn m) order body at (latchesFrom (circuitIn m) (nextOf (circuitIn m) can) n)
+      → out ≡ frameStep (circuitIn m) order body at latches
+      → out ≡ frameStep (circuitIn m) order body at (latchesFrom (circuitIn m) (nextOf (circuitIn m) can) n)
   next-is n body at can state saved all latches room d e f g =
       let c = circuitIn m in
       let x = nextOf c can in
@@ -227,7 +233,8 @@ module _ {m : List ℕ} {layout : Layout} {order : List ℕ} {count : ℕ} (R : 
 
 -- one frame more
 pub entries-next : (n : ℕ) (c : Circuit) (order body : List ℕ) (t at : ℕ) (can : List ℕ) {out : List ℕ} → can ≡ entriesAt n c order body t
-    → at ≡ rowAt c (suc t) → out ≡ frameStep c order body at (latchesFrom c (nextOf c can) (length can)) → out ≡ entriesAt n c order body (suc t)
+    → at ≡ rowAt c (suc t) → out ≡ frameStep c order body at (latchesFrom c (nextOf c can) (length can))
+    → out ≡ entriesAt n c order body (suc t)
 unfolding entriesAt
 entries-next n c order body t at can e f g =
     let size : length can ≡ n = ap length e ∙ entries-length n c order body t in

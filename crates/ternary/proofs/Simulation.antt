@@ -34,7 +34,8 @@ use Rattle.ternary.proofs.Covering.{Admits, read-admits, below-covers, 
 use Rattle.ternary.proofs.Frames.{line-admits, next-fits, frame-covers, starts-agree, sure-true}
 
 -- a body that was read shows a hit where its start agrees and its last frame hits
-shown : (c : Circuit) (b frames : ℕ) (u : List ℕ) (h : BodyRead c b frames u) → T (agrees (c .latches) (h .run .start)) → T (hits c b (h .run) (frames - 1)) → T (shows c b u)
+shown : (c : Circuit) (b frames : ℕ) (u : List ℕ) (h : BodyRead c b frames u) → T (agrees (c .latches) (h .run .start))
+    → T (hits c b (h .run) (frames - 1)) → T (shows c b u)
 unfolding shows confirms
 shown c b frames u h s t =
     subst (λ (o : Option Witness). T (elim o [ none ↦ false | some x ↦ confirms c x ])) (sym (h .reads))
@@ -42,7 +43,8 @@ shown c b frames u h s t =
     (subst (λ (n : ℕ). T (hits c b (h .run) (n - 1))) (sym (h .run-at .frames-are)) t))
 
 -- the next state, by the values of the frame before
-state-next : (c : Circuit) (r : Run) (t j : ℕ) → j < length (c .latches) → getD (state c r (suc t)) j false ≡ value (frameAt c r t) (latchAt c j .next)
+state-next : (c : Circuit) (r : Run) (t j : ℕ) → j < length (c .latches)
+    → getD (state c r (suc t)) j false ≡ value (frameAt c r t) (latchAt c j .next)
 unfolding valueAt
 state-next c r t j l = state-next-at c r t j l
 
@@ -141,7 +143,8 @@ module _ {m : List ℕ} {layout : Layout} {order : List ℕ} (R : Ready m layout
       let r = B .run in
       let a = B .run-at in
       shown c b frames x B
-      (subst (λ (bs : List Bool). T (agrees (c .latches) bs)) (sym (a .start-is)) (starts-agree c body x q (values-length x 0 (length (c .latches))) starts))
+      (subst (λ (bs : List Bool). T (agrees (c .latches) bs)) (sym (a .start-is))
+      (starts-agree c body x q (values-length x 0 (length (c .latches))) starts))
       (run-hits b (frames - 1) r
       (subst (λ (k : ℕ). T (everyBelow k (constrained c r))) (sym one)
       (below-all frames (constrained c r)

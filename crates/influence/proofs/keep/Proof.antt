@@ -74,13 +74,15 @@ loop-less c = omega arith
 
 loop-again : tie.Need-loop-again Inv-loop μ-loop
 loop-again c =
-    let s = c .before .before .before .before .before .before .before .before .before in
-    let a = s .args in
-    let l = c .before .before .before .before .loop in
     let k = c .before in
+    let at-var-at = k .before in
+    let at-loop = at-var-at .before .before in
+    let s = at-loop .before .before .before .before .before in
+    let a = s .args in
+    let l = at-loop .loop in
     let w = word (a .m .now) (a .layout .latches + 3 * l .j) in
     let own : latchAt (circuitIn (a .m .now)) (l .j) .lit ≡ w = ap (λ (x : Latch). x .lit) (latch-place (s .pre .0) (l .j) (omega arith)) in
-    let t = var-marked (a .marks .now) w (c .before .before .var-at .ensures) (k .is-marked .ensures) in (
+    let t = var-marked (a .marks .now) w (at-var-at .var-at .ensures) (k .is-marked .ensures) in (
       omega arith,
       list-step (λ j. a .all || marked (a .marks .now) (latchAt (circuitIn (a .m .now)) j .lit)) (l .n) (l .j) (a .kept .now) (l .kept)
           (c .if1 .kept) (c .if1 .n) (a .all || k .is-marked .result)

@@ -44,20 +44,28 @@ is-settled-requires c κs =
 
 keep-requires : tie.Need-keep-requires
 keep-requires c κs =
-    let s = c .before .before .before .before .before .before .before .before .before .before .before .before .before .before .before .before .before in
-    let one = c .before .before .before .before .before .before .before .before .before .before .before .mark-words .kept .1 .1 .1 .0 in
-    let two = c .before .before .before .before .before .before .before .before .mark-words2 .kept .1 .1 .1 .0 in
-    let three = c .before .before .before .before .before .settle .kept .1 .1 .1 .1 .0 in
+    let at-settle = c .before .before .before .before .before in
+    let at-mark-words2 = at-settle .before .before .before in
+    let at-mark-words = at-mark-words2 .before .before .before in
+    let s = at-mark-words .before .before .before .before .before .before in
+    let one = at-mark-words .mark-words .kept .1 .1 .1 .0 in
+    let two = at-mark-words2 .mark-words2 .kept .1 .1 .1 .0 in
+    let three = at-settle .settle .kept .1 .1 .1 .1 .0 in
     (ready-with (s .pre .0) (omega (arith, three, two, one, s .pre .0 .room)), s .pre .1 .1)
 
 returns : tie.Need-returns
 returns c =
-    let s = c .before .before .before .before .before .before .before .before .before .before .before .before .before .before .before .before .before .before .before .before in
-    let one = c .before .before .before .before .before .before .before .before .before .before .before .before .before .before .mark-words in
-    let two = c .before .before .before .before .before .before .before .before .before .before .before .mark-words2 in
-    let three = c .before .before .before .before .before .before .before .before .settle in
-    let four = c .before .before .before .before .before .is-settled in
-    let k = c .before .before .keep in
+    let at-keep = c .before .before in
+    let at-is-settled = at-keep .before .before .before in
+    let at-settle = at-is-settled .before .before .before in
+    let at-mark-words2 = at-settle .before .before .before in
+    let at-mark-words = at-mark-words2 .before .before .before in
+    let s = at-mark-words .before .before .before .before .before .before in
+    let one = at-mark-words .mark-words in
+    let two = at-mark-words2 .mark-words2 in
+    let three = at-settle .settle in
+    let four = at-is-settled .is-settled in
+    let k = at-keep .keep in
     let ms = three .last .1 .1 .1 .1 .0 in
     let e =
     marks-are (s .pre .0) (s .args .b) (s .pre .1 .0) (one .last .1 .1 .1 .0) (two .last .1 .1 .1 .0) ms (one .ensures) (two .ensures)

@@ -44,13 +44,17 @@ loop-less c = omega arith
 
 loop-again : tie.Need-loop-again Inv-loop μ-loop
 loop-again c =
-    let a = c .before .before .before .before .before .before .before .before .before .args in
-    let l = c .before .before .before .before .before .before .loop in
-    let k = c .before .before .mark in
+    let at-mark = c .before .before in
+    let at-var-at = at-mark .before in
+    let at-loop = at-var-at .before .before .before in
+    let at-start = at-loop .before .before .before in
+    let a = at-start .args in
+    let l = at-loop .loop in
+    let k = at-mark .mark in
     let w : ℕ → ℕ = λ i. word (a .m .now) (a .at + i) in (
       omega arith,
       k .kept .0 ∙ l .inv .1,
-      var-mark (l .marks) (w (l .i)) (c .before .before .before .var-at .ensures) (k .ensures) ∙ mark-more w (l .i) (a .marks .now) (l .marks) (l .inv .2),
+      var-mark (l .marks) (w (l .i)) (at-var-at .var-at .ensures) (k .ensures) ∙ mark-more w (l .i) (a .marks .now) (l .marks) (l .inv .2),
     )
 
 same-length : tie.Need-same-length Inv-loop μ-loop

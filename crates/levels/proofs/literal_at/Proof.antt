@@ -51,25 +51,38 @@ add-at : tie.Need-add-at
 add-at c =
     let S = c .before .before .before .before .before .before .before .before in
     let p = S .args .layout in
-    omega (arith, other-inside (S .pre .0) (S .pre .1) (S .args .k - p .i - p .l) (omega (arith, wires-are (S .pre .0) (S .pre .1), S .pre .2)))
+    omega (
+      arith,
+      other-inside (S .pre .0) (S .pre .1) (S .args .k - p .i - p .l)
+          (omega (arith, wires-are (S .pre .0) (S .pre .1), S .pre .2)),
+    )
 
 mul-from-word-3 : tie.Need-mul-from-word-3
 mul-from-word-3 c =
     let S = c .before .before .before .before .before .before .before .before in
     let p = S .args .layout in
-    omega (arith, other-inside (S .pre .0) (S .pre .1) (S .args .k - p .i - p .l) (omega (arith, wires-are (S .pre .0) (S .pre .1), S .pre .2)))
+    omega (
+      arith,
+      other-inside (S .pre .0) (S .pre .1) (S .args .k - p .i - p .l)
+          (omega (arith, wires-are (S .pre .0) (S .pre .1), S .pre .2)),
+    )
 
 shared-slice-read-from-word-3 : tie.Need-shared-slice-read-from-word-3
 shared-slice-read-from-word-3 c =
     let S = c .before .before .before .before .before .before .before .before .before in
     let p = S .args .layout in
-    omega (arith, other-inside (S .pre .0) (S .pre .1) (S .args .k - p .i - p .l) (omega (arith, wires-are (S .pre .0) (S .pre .1), S .pre .2)))
+    omega (
+      arith,
+      other-inside (S .pre .0) (S .pre .1) (S .args .k - p .i - p .l)
+          (omega (arith, wires-are (S .pre .0) (S .pre .1), S .pre .2)),
+    )
 
 returns-3 : tie.Need-returns-3
 returns-3 c =
     let S = c .before .before .before .before .before .before .before .before .before .before in
     c .from-word3 .ensures
-    ∙ ap literal (other-literal (S .pre .0) (S .pre .1) (S .args .k) (omega arith) (omega arith) (omega (arith, wires-are (S .pre .0) (S .pre .1), S .pre .2)))
+    ∙ ap literal (other-literal (S .pre .0) (S .pre .1) (S .args .k) (omega arith) (omega arith)
+    (omega (arith, wires-are (S .pre .0) (S .pre .1), S .pre .2)))
 
 pub literal-at-spec : {M : Type 1} → statement M
 literal-at-spec =

@@ -35,13 +35,17 @@ loop-holds : tie.Need-loop-holds Inv-loop μ-loop
 loop-holds c = (omega arith, refl, stored-start _ _ _)
 
 add-from-word : tie.Need-add-from-word Inv-loop μ-loop
-add-from-word c = let s = c .before .before .before .before .before .before .before .before .before in omega (arith, s .pre .0 .0 .outputs-inside)
+add-from-word c =
+    let s = c .before .before .before .before .before .before .before .before .before in
+    omega (arith, s .pre .0 .0 .outputs-inside)
 
 mul-from-word : tie.Need-mul-from-word Inv-loop μ-loop
 mul-from-word c = omega arith
 
 shared-slice-read-from-word : tie.Need-shared-slice-read-from-word Inv-loop μ-loop
-shared-slice-read-from-word c = let s = c .before .before .before .before .before .before .before .before .before .before in omega (arith, s .pre .0 .0 .outputs-inside)
+shared-slice-read-from-word c =
+    let s = c .before .before .before .before .before .before .before .before .before .before in
+    omega (arith, s .pre .0 .0 .outputs-inside)
 
 rename-requires : tie.Need-rename-requires Inv-loop μ-loop
 rename-requires c κs =
@@ -50,13 +54,17 @@ rename-requires c κs =
     rw (ap (λ (x : Lit). x .0 .0) (c .from-word .ensures)) (s .pre .0 .0 .outputs (l .j) (omega arith))
 
 add-from-word-2 : tie.Need-add-from-word-2 Inv-loop μ-loop
-add-from-word-2 c = let s = c .before .before .before .before .before .before .before .before .before .before .before .before in omega (arith, s .pre .0 .1 .outputs-inside, s .pre .0 .5)
+add-from-word-2 c =
+    let s = c .before .before .before .before .before .before .before .before .before .before .before .before in
+    omega (arith, s .pre .0 .1 .outputs-inside, s .pre .0 .5)
 
 mul-from-word-2 : tie.Need-mul-from-word-2 Inv-loop μ-loop
 mul-from-word-2 c = omega arith
 
 shared-slice-read-from-word-2 : tie.Need-shared-slice-read-from-word-2 Inv-loop μ-loop
-shared-slice-read-from-word-2 c = let s = c .before .before .before .before .before .before .before .before .before .before .before .before .before in omega (arith, s .pre .0 .1 .outputs-inside, s .pre .0 .5)
+shared-slice-read-from-word-2 c =
+    let s = c .before .before .before .before .before .before .before .before .before .before .before .before .before in
+    omega (arith, s .pre .0 .1 .outputs-inside, s .pre .0 .5)
 
 rename-requires-2 : tie.Need-rename-requires-2 Inv-loop μ-loop
 rename-requires-2 c κs =
@@ -65,28 +73,51 @@ rename-requires-2 c κs =
     rw (ap (λ (x : Lit). x .0 .0) (c .from-word2 .ensures)) (s .pre .0 .1 .outputs (l .j) (omega (arith, s .pre .0 .5)))
 
 mul-put-pair : tie.Need-mul-put-pair Inv-loop μ-loop
-mul-put-pair c = let s = c .before .before .before .before .before .before .before .before .before .before .before .before .before .before .before .before in omega (arith, s .pre .0 .4)
+mul-put-pair c =
+    let at-loop-test = c .before .before .before .before .before .before .before in
+    let s = at-loop-test .before .before .before .before .before .before .before .before .before in
+    omega (arith, at-loop-test .loop-test .taken, s .pre .0 .4)
 
 add-put-pair : tie.Need-add-put-pair Inv-loop μ-loop
-add-put-pair c = let s = c .before .before .before .before .before .before .before .before .before .before .before .before .before .before .before .before in omega (arith, s .pre .0 .4, s .pre .1, c .before .before .before .before .before .before .before .before .before .before .pairs-from .ensures)
+add-put-pair c =
+    let at-loop-test = c .before .before .before .before .before .before .before in
+    let at-pairs-from = at-loop-test .before .before .before in
+    let s = at-pairs-from .before .before .before .before .before .before in
+    omega (arith, at-loop-test .loop-test .taken, s .pre .0 .4, s .pre .1, at-pairs-from .pairs-from .ensures)
 
 cast-t21 : tie.Need-cast-t21 Inv-loop μ-loop
-cast-t21 c = let s = c .before .before .before .before .before .before .before .before .before .before .before .before .before .before .before .before in omega (arith, s .pre .0 .4)
+cast-t21 c =
+    let at-loop-test = c .before .before .before .before .before .before .before in
+    let s = at-loop-test .before .before .before .before .before .before .before .before .before in
+    omega (arith, at-loop-test .loop-test .taken, s .pre .0 .4)
 
 mul-t26 : tie.Need-mul-t26 Inv-loop μ-loop
-mul-t26 c = let s = c .before .before .before .before .before .before .before .before .before .before .before .before .before .before .before .before in omega (arith, s .pre .0 .4)
+mul-t26 c =
+    let at-loop-test = c .before .before .before .before .before .before .before in
+    let s = at-loop-test .before .before .before .before .before .before .before .before .before in
+    omega (arith, at-loop-test .loop-test .taken, s .pre .0 .4)
 
 add-t27 : tie.Need-add-t27 Inv-loop μ-loop
-add-t27 c = let s = c .before .before .before .before .before .before .before .before .before .before .before .before .before .before .before .before .before in omega (arith, s .pre .0 .4, s .pre .1, c .before .before .before .before .before .before .before .before .before .before .pairs-var .ensures)
+add-t27 c =
+    let at-loop-test = c .before .before .before .before .before .before .before .before in
+    let at-pairs-var = at-loop-test .before .before in
+    let s = at-pairs-var .before .before .before .before .before .before .before in
+    omega (arith, at-loop-test .loop-test .taken, s .pre .0 .4, s .pre .1, at-pairs-var .pairs-var .ensures)
 
 put-pair-requires : tie.Need-put-pair-requires Inv-loop μ-loop
 put-pair-requires c κs =
-    let s = c .before .before .before .before .before .before .before .before .before .before .before .before .before .before .before .before .before in
-    let l = c .before .before .before .before .before .before .before .before .before .loop in (
-      omega (arith, s .pre .0 .4, s .pre .1, c .before .before .before .before .before .before .before .before .before .before .pairs-var .ensures),
-      c .before .before .before .before .before .rename .ensures .1,
-      c .before .before .rename2 .ensures .1,
-      omega (arith, c .before .before .before .before .before .before .before .before .loop-test .taken, l .inv .1, s .pre .1, c .before .before .before .before .before .before .before .before .before .before .before .pairs-from .ensures),
+    let at-rename2 = c .before .before in
+    let at-rename = at-rename2 .before .before .before in
+    let at-loop-test = at-rename .before .before .before in
+    let at-loop = at-loop-test .before in
+    let at-pairs-var = at-loop .before in
+    let at-pairs-from = at-pairs-var .before in
+    let s = at-pairs-from .before .before .before .before .before .before in
+    let l = at-loop .loop in (
+      omega (arith, s .pre .0 .4, s .pre .1, at-pairs-var .pairs-var .ensures),
+      at-rename .rename .ensures .1,
+      at-rename2 .rename2 .ensures .1,
+      omega (arith, at-loop-test .loop-test .taken, l .inv .1, s .pre .1, at-pairs-from .pairs-from .ensures),
     )
 
 add-j : tie.Need-add-j Inv-loop μ-loop
@@ -97,19 +128,29 @@ loop-less c = omega arith
 
 loop-again : tie.Need-loop-again Inv-loop μ-loop
 loop-again c =
-    let a = c .before .before .before .before .before .before .before .before .before .before .before .before .before .before .before .before .before .before .before .before .args in
-    let l = c .before .before .before .before .before .before .before .before .before .before .before .before .loop in
+    let at-put-pair = c .before .before in
+    let at-rename2 = at-put-pair .before .before .before in
+    let at-from-word2 = at-rename2 .before in
+    let at-rename = at-from-word2 .before .before in
+    let at-from-word = at-rename .before in
+    let at-loop-test = at-from-word .before .before in
+    let at-loop = at-loop-test .before in
+    let at-pairs-var = at-loop .before in
+    let at-pairs-from = at-pairs-var .before in
+    let at-start = at-pairs-from .before .before .before .before .before .before in
+    let a = at-start .args in
+    let l = at-loop .loop in
     let j = l .j in
-    let x = c .before .before .before .before .before .before .before .before .rename in
-    let y = c .before .before .before .before .before .rename2 in
-    let v = c .before .before .before .before .before .before .before .before .before .before .before .before .before .pairs-var .result .0 in
-    let to = c .before .before .before .before .before .before .before .before .before .before .before .before .before .before .pairs-from .result in
-    let put = c .before .before .put-pair in
+    let x = at-rename .rename in
+    let y = at-rename2 .rename2 in
+    let v = at-pairs-var .pairs-var .result .0 in
+    let to = at-pairs-from .pairs-from .result in
+    let put = at-put-pair .put-pair in
     let P : ℕ → ℕ = λ i. under (a .first .now) (word (a .a .now) (a .p .outputs + i)) in
     let Q : ℕ → ℕ = λ i. under (a .second .now) (word (a .b .now) (a .q .outputs + i)) in
-    let p = named-word (a .first .now) (word (a .a .now) (a .p .outputs + j)) (c .before .before .before .before .before .before .before .before .before .from-word .ensures) (x .ensures .0) in
-    let q = named-word (a .second .now) (word (a .b .now) (a .q .outputs + j)) (c .before .before .before .before .before .before .from-word2 .ensures) (y .ensures .0) in (
-      omega (arith, c .before .before .before .before .before .before .before .before .before .before .before .loop-test .taken),
+    let p = named-word (a .first .now) (word (a .a .now) (a .p .outputs + j)) (at-from-word .from-word .ensures) (x .ensures .0) in
+    let q = named-word (a .second .now) (word (a .b .now) (a .q .outputs + j)) (at-from-word2 .from-word2 .ensures) (y .ensures .0) in (
+      omega (arith, at-loop-test .loop-test .taken),
       put .kept .0 ∙ l .inv .1,
       block-more to 9 (pairsWord v P Q) (pairWord (v + 3 * j) (wordOf (x .result)) (wordOf (y .result))) j (a .m .now) (l .m) (put .last .0)
           (λ r h. pair-words v P Q j r h ∙ ap₂ (λ (s t : ℕ). pairWord (v + 3 * j) s t r) (sym p) (sym q)) (l .inv .2) (put .ensures),

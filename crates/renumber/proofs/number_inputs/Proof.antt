@@ -47,7 +47,10 @@ read : (c : tie.After-struct-known Inv-loop μ-loop)
     c .before .var .result .0 ≡ var (word (s .args .m .now) (7 + l .loop .j)))
 read c = ap (λ (v : Var). v .0) (c .before .var .ensures) ∙ ap (λ (l : Lit). l .0 .0) (c .before .before .from-word .ensures)
 
-below : (c : tie.After-struct-known Inv-loop μ-loop) → (let s = c .before .before .before .before .before .before .before .before in c .before .var .result .0 < length (s .args .names .now))
+below : (c : tie.After-struct-known Inv-loop μ-loop)
+    → (let v = c .before in
+    let s = v .before .before .before .before .before .before .before in
+    v .var .result .0 < length (s .args .names .now))
 below c =
     let s = c .before .before .before .before .before .before .before .before in
     let l = c .before .before .before .before .before in
@@ -67,11 +70,14 @@ loop-less c = omega arith
 
 loop-again : tie.Need-loop-again Inv-loop μ-loop
 loop-again c =
-    let L = c .before .before .before .before .before .loop in
-    let S = c .before .before .before .before .before .before .before .before in (
+    let at-loop = c .before .before .before .before .before in
+    let at-start = at-loop .before .before .before in
+    let L = at-loop .loop in
+    let S = at-start in (
       omega arith,
       length-set (L .names) _ _ ∙ L .inv .1,
-      rw (read c) (stored-more (λ i. var (word (S .args .m .now) (7 + i))) (λ i. 1 + i) (L .j) (S .args .names .now) (L .names) (S .pre .1) (L .inv .1) (omega arith) (L .inv .2)),
+      rw (read c) (stored-more (λ i. var (word (S .args .m .now) (7 + i))) (λ i. 1 + i) (L .j) (S .args .names .now) (L .names) (S .pre .1)
+          (L .inv .1) (omega arith) (L .inv .2)),
     )
 
 same-length : tie.Need-same-length Inv-loop μ-loop

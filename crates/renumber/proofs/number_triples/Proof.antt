@@ -17,7 +17,9 @@ use Rattle.renumber.proofs.number_triples.Statement.{statement}
 use Rattle.renumber.proofs.number_triples.Tie as tie
 
 abbrev Inv-loop : tie.InvT-loop
-Inv-loop m at n first names₀ j₀ names j = (j ≤ n) × (length names ≡ length names₀) × Stored (λ i. var (word m (at + 3 * i))) (λ i. first + i) j names₀ names
+Inv-loop m at n first names₀ j₀ names j =
+    (j ≤ n) × (length names ≡ length names₀) × Stored (λ i. var (word m (at + 3 * i)))
+    (λ i. first + i) j names₀ names
 
 abbrev μ-loop : tie.MeasureT-loop
 μ-loop m at n first names₀ j₀ names j = n - j
@@ -50,7 +52,10 @@ read : (c : tie.After-struct-known Inv-loop μ-loop)
     c .before .var .result .0 ≡ var (word (s .args .m .now) (s .args .at + 3 * l .loop .j)))
 read c = ap (λ (v : Var). v .0) (c .before .var .ensures) ∙ ap (λ (l : Lit). l .0 .0) (c .before .before .from-word .ensures)
 
-below : (c : tie.After-struct-known Inv-loop μ-loop) → (let s = c .before .before .before .before .before .before .before .before in c .before .var .result .0 < length (s .args .names .now))
+below : (c : tie.After-struct-known Inv-loop μ-loop)
+    → (let v = c .before in
+    let s = v .before .before .before .before .before .before .before in
+    v .var .result .0 < length (s .args .names .now))
 below c =
     let s = c .before .before .before .before .before .before .before .before in
     let l = c .before .before .before .before .before in
@@ -70,11 +75,14 @@ loop-less c = omega arith
 
 loop-again : tie.Need-loop-again Inv-loop μ-loop
 loop-again c =
-    let L = c .before .before .before .before .before .loop in
-    let S = c .before .before .before .before .before .before .before .before in (
+    let at-loop = c .before .before .before .before .before in
+    let at-start = at-loop .before .before .before in
+    let L = at-loop .loop in
+    let S = at-start in (
       omega arith,
       length-set (L .names) _ _ ∙ L .inv .1,
-      rw (read c) (stored-more (λ i. var (word (S .args .m .now) (S .args .at + 3 * i))) (λ i. S .args .first + i) (L .j) (S .args .names .now) (L .names) (S .pre .1) (L .inv .1) (omega arith) (L .inv .2)),
+      rw (read c) (stored-more (λ i. var (word (S .args .m .now) (S .args .at + 3 * i))) (λ i. S .args .first + i) (L .j)
+          (S .args .names .now) (L .names) (S .pre .1) (L .inv .1) (omega arith) (L .inv .2)),
     )
 
 same-length : tie.Need-same-length Inv-loop μ-loop
@@ -82,9 +90,11 @@ same-length c = c .before .loop .inv .1
 
 returns : tie.Need-returns Inv-loop μ-loop
 returns c =
-    let L = c .before .loop in
-    let S = c .before .before .before .before in
-    stored-all (λ i. var (word (S .args .m .now) (S .args .at + 3 * i))) (λ i. S .args .first + i) (S .args .names .now) (L .names) (omega arith) (L .inv .2)
+    let at-loop = c .before in
+    let S = at-loop .before .before .before in
+    let L = at-loop .loop in
+    stored-all (λ i. var (word (S .args .m .now) (S .args .at + 3 * i))) (λ i. S .args .first + i) (S .args .names .now) (L .names)
+    (omega arith) (L .inv .2)
 
 pub number-triples-spec : {M : Type 1} → statement M
 number-triples-spec =

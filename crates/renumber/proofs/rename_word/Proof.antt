@@ -10,8 +10,10 @@ use Rattle.renumber.proofs.rename_word.Tie as tie
 
 told : (c : tie.After-word) → (let s = c .before .before .before .before in c .word .result ≡ under (s .args .names .now) (s .args .w))
 told c =
-    let s = c .before .before .before .before in
-    c .word .ensures ∙ named-word (s .args .names .now) (s .args .w) (c .before .before .from-word .ensures) (c .before .rename .ensures .0)
+    let at-rename = c .before in
+    let at-from-word = at-rename .before in
+    let s = at-from-word .before .before in
+    c .word .ensures ∙ named-word (s .args .names .now) (s .args .w) (at-from-word .from-word .ensures) (at-rename .rename .ensures .0)
 
 rename-requires : tie.Need-rename-requires
 rename-requires c κs = rw (ap (λ (l : Lit). l .0 .0) (c .from-word .ensures)) (c .before .before .pre)

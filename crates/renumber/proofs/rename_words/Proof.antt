@@ -14,7 +14,9 @@ use Rattle.renumber.proofs.rename_words.Statement.{statement}
 use Rattle.renumber.proofs.rename_words.Tie as tie
 
 abbrev Inv-loop : tie.InvT-loop
-Inv-loop from at n names m₀ to j₀ m j = (j ≤ n) × (length m ≡ length m₀) × Stored (λ i. to + i) (λ i. under names (word from (at + i))) j m₀ m
+Inv-loop from at n names m₀ to j₀ m j =
+    (j ≤ n) × (length m ≡ length m₀) × Stored (λ i. to + i) (λ i. under names (word from (at + i))) j
+    m₀ m
 
 abbrev μ-loop : tie.MeasureT-loop
 μ-loop from at n names m₀ to j₀ m j = n - j
@@ -50,8 +52,13 @@ loop-less : tie.Need-loop-less Inv-loop μ-loop
 loop-less c = omega arith
 
 loop-again : tie.Need-loop-again Inv-loop μ-loop
-loop-again c = let L = c .before .before .before .loop in let S = c .before .before .before .before .before .before .before in
-    (omega arith, length-set (L .m) _ _ ∙ L .inv .1, put-more (S .args .to) (λ i. under (S .args .names .now) (word (S .args .from .now) (S .args .at + i))) (S .args .n) (L .j) (S .args .m .now) (L .m) (L .inv .1) (omega arith) (omega arith) (L .inv .2) _ (c .rename-word .ensures .0))
+loop-again c = let L = c .before .before .before .loop in let S = c .before .before .before .before .before .before .before in (
+  omega arith,
+  length-set (L .m) _ _ ∙ L .inv .1,
+  put-more (S .args .to)
+      (λ i. under (S .args .names .now) (word (S .args .from .now) (S .args .at + i))) (S .args .n) (L .j) (S .args .m .now) (L .m)
+      (L .inv .1) (omega arith) (omega arith) (L .inv .2) _ (c .rename-word .ensures .0),
+)
 
 same-length : tie.Need-same-length Inv-loop μ-loop
 same-length c = c .before .loop .inv .1
@@ -59,11 +66,13 @@ same-length c = c .before .loop .inv .1
 returns : tie.Need-returns Inv-loop μ-loop
 returns c =
     let L = c .before .loop in let S = c .before .before .before .before .before in
-    stored-all (λ i. S .args .to + i) (λ i. under (S .args .names .now) (word (S .args .from .now) (S .args .at + i))) (S .args .m .now) (L .m) (omega arith) (L .inv .2)
+    stored-all (λ i. S .args .to + i) (λ i. under (S .args .names .now) (word (S .args .from .now) (S .args .at + i))) (S .args .m .now)
+    (L .m) (omega arith) (L .inv .2)
 
 pub rename-words-spec : {M : Type 1} → statement M
 rename-words-spec =
     tie.close
     (tie.spec
-    Inv-loop μ-loop loop-holds add-rename-word mul-rename-word shared-slice-read-rename-word rename-word-requires add-m mul-m slice-write-m add-j loop-less
+    Inv-loop μ-loop loop-holds add-rename-word mul-rename-word shared-slice-read-rename-word rename-word-requires add-m mul-m
+    slice-write-m add-j loop-less
     loop-again same-length returns)

@@ -102,7 +102,8 @@ loop-again c =
     let new = levelIn (a .m .now) (a .values .now) in
     let e : v .level-of .result ≡ levelByte (new (L .k)) =
     v .level-of .ensures
-    ∙ ap (λ (l : Lit). levelByte (levelOver 64 (λ p. cond (l .1) (not (lane (a .values .now) p (l .0 .0))) (lane (a .values .now) p (l .0 .0)))))
+    ∙ ap
+    (λ (l : Lit). levelByte (levelOver 64 (λ p. cond (l .1) (not (lane (a .values .now) p (l .0 .0))) (lane (a .values .now) p (l .0 .0)))))
     (i .literal-at .ensures) in (
       omega (arith, L .inv .0, n .loop-test .taken),
       omega (arith, L .inv .1, w .write-value .ensures .past, with-length (L .k) (j .after-block .result)),

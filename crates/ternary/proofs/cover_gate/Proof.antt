@@ -32,7 +32,9 @@ mul-from-word-2 : tie.Need-mul-from-word-2
 mul-from-word-2 c = let s = c .before .before .before .before .before .before .before in omega (arith, s .pre .inside)
 
 shared-slice-read-from-word-2 : tie.Need-shared-slice-read-from-word-2
-shared-slice-read-from-word-2 c = let s = c .before .before .before .before .before .before .before .before in omega (arith, s .pre .inside)
+shared-slice-read-from-word-2 c =
+    let s = c .before .before .before .before .before .before .before .before in
+    omega (arith, s .pre .inside)
 
 read-requires-2 : tie.Need-read-requires-2
 read-requires-2 c κs =
@@ -40,10 +42,14 @@ read-requires-2 c κs =
     omega (arith, ap (λ (l : Lit). l .0 .0) (c .from-word2 .ensures), s .pre .right)
 
 mul-from-word-3 : tie.Need-mul-from-word-3
-mul-from-word-3 c = let s = c .before .before .before .before .before .before .before .before .before .before .before in omega (arith, s .pre .inside)
+mul-from-word-3 c =
+    let s = c .before .before .before .before .before .before .before .before .before .before .before in
+    omega (arith, s .pre .inside)
 
 shared-slice-read-from-word-3 : tie.Need-shared-slice-read-from-word-3
-shared-slice-read-from-word-3 c = let s = c .before .before .before .before .before .before .before .before .before .before .before .before in omega (arith, s .pre .inside)
+shared-slice-read-from-word-3 c =
+    let s = c .before .before .before .before .before .before .before .before .before .before .before .before in
+    omega (arith, s .pre .inside)
 
 put-requires : tie.Need-put-requires
 put-requires c κs =
@@ -56,14 +62,23 @@ same-length c = c .before .before .put .kept .0
 
 returns : tie.Need-returns
 returns c =
-    let a = c .before .before .before .before .before .before .before .before .before .before .before .before .before .before .before .before .before .before .args in
+    let at-put = c .before .before in
+    let at-conjunction = at-put .before in
+    let at-var = at-conjunction .before in
+    let at-from-word3 = at-var .before in
+    let at-read2 = at-from-word3 .before .before .before in
+    let at-from-word2 = at-read2 .before in
+    let at-read = at-from-word2 .before .before .before in
+    let at-from-word = at-read .before in
+    let at-start = at-from-word .before .before .before .before .before in
+    let a = at-start .args in
     let m = a .m .now in
     let can = a .can .now in
-    let x = read-word can (word m (a .at + 1)) (c .before .before .before .before .before .before .before .before .before .before .before .before .before .from-word .ensures) (c .before .before .before .before .before .before .before .before .before .before .before .before .read .ensures) in
-    let y = read-word can (word m (a .at + 2)) (c .before .before .before .before .before .before .before .before .before .from-word2 .ensures) (c .before .before .before .before .before .before .before .before .read2 .ensures) in
-    let both = c .before .before .before .conjunction .ensures in
-    put-word can (word m (a .at)) (c .before .before .before .before .before .from-word3 .ensures) (c .before .before .before .before .var .ensures) (both ∙ (λ i. conjunction (x i) (y i)))
-    (c .before .before .put .ensures)
+    let x = read-word can (word m (a .at + 1)) (at-from-word .from-word .ensures) (at-read .read .ensures) in
+    let y = read-word can (word m (a .at + 2)) (at-from-word2 .from-word2 .ensures) (at-read2 .read2 .ensures) in
+    let both = at-conjunction .conjunction .ensures in
+    put-word can (word m (a .at)) (at-from-word3 .from-word3 .ensures) (at-var .var .ensures) (both ∙ (λ i. conjunction (x i) (y i)))
+    (at-put .put .ensures)
 
 pub cover-gate-spec : {M : Type 1} → statement M
 cover-gate-spec =

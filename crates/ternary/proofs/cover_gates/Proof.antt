@@ -32,13 +32,18 @@ named n =
     omega (arith, gates-are R, R .ordered .gate (n .before .loop .k) (omega (arith, gates-are R, n .loop-test .taken)))
 
 loop-holds : tie.Need-loop-holds Inv-loop μ-loop
-loop-holds c = let a = c .before .before .before .args in (omega arith, refl, gates-none (circuitIn (a .m .now)) (a .order .now) (a .can .now))
+loop-holds c =
+    let at-start = c .before .before .before in
+    let a = at-start .args in (omega arith, refl, gates-none (circuitIn (a .m .now)) (a .order .now) (a .can .now))
 
 mul-g : tie.Need-mul-g Inv-loop μ-loop
 mul-g c = omega (arith, gates-few (c .before .before .before .before .before .pre .0), c .loop-test .taken)
 
 shared-slice-read-g : tie.Need-shared-slice-read-g Inv-loop μ-loop
-shared-slice-read-g c = let R = c .before .before .before .before .before .before .pre .0 in omega (arith, gates-few R, R .ranks, c .before .loop-test .taken)
+shared-slice-read-g c =
+    let at-loop-test = c .before in
+    let at-start = at-loop-test .before .before .before .before .before in
+    let R = at-start .pre .0 in omega (arith, gates-few R, R .ranks, at-loop-test .loop-test .taken)
 
 cast-g : tie.Need-cast-g Inv-loop μ-loop
 cast-g c = omega (arith, named (c .before), gates-few (c .before .before .before .before .before .before .pre .0))
@@ -56,7 +61,10 @@ cover-gate-requires c κs =
     room-of (gate-room (S .pre .0) (g n) (named n)) (omega (arith, S .pre .1, n .before .loop .inv .1))
 
 add-k : tie.Need-add-k Inv-loop μ-loop
-add-k c = omega (arith, gates-few (c .before .before .before .before .before .before .before .before .before .before .pre .0), c .before .before .before .before .before .loop-test .taken)
+add-k c =
+    let at-loop-test = c .before .before .before .before .before in
+    let at-start = at-loop-test .before .before .before .before .before in
+    omega (arith, gates-few (at-start .pre .0), at-loop-test .loop-test .taken)
 
 loop-less : tie.Need-loop-less Inv-loop μ-loop
 loop-less c = omega (arith, c .before .before .before .before .before .loop-test .taken)

@@ -18,12 +18,17 @@ simulate-requires c κs =
 
 returns : tie.Need-returns
 returns c =
-    let S = c .before .before .before .before .before .before .before .before in
+    let at-simulate = c .before .before in
+    let S = at-simulate .before .before .before .before .before .before in
     let a = S .args in
     let e =
-    c .before .before .simulate .ensures
-    ∙ ap (λ (n : ℕ). seesHit n (circuitIn (a .m .now)) (a .order .now) (a .q .bad) (a .q .frames) (a .body .now)) (length-replicate {A = ℕ} 8194 1) in
-    (e, λ t. sees-sound (S .pre .0) 8194 (a .q .bad) (a .q .frames) (a .q .eithers) (a .body .now) (omega arith) (S .pre .1) (S .pre .2) (sym e ∙ t))
+    at-simulate .simulate .ensures
+    ∙ ap (λ (n : ℕ). seesHit n (circuitIn (a .m .now)) (a .order .now) (a .q .bad) (a .q .frames) (a .body .now))
+    (length-replicate {A = ℕ} 8194 1) in (
+      e,
+      λ t. sees-sound (S .pre .0) 8194 (a .q .bad) (a .q .frames) (a .q .eithers) (a .body .now) (omega arith) (S .pre .1) (S .pre .2)
+          (sym e ∙ t),
+    )
 
 pub every-completion-spec : {M : Type 1} → statement M
 every-completion-spec =

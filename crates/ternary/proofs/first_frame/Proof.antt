@@ -19,11 +19,14 @@ put-line-requires c κs =
 
 returns : tie.Need-returns
 returns c =
-    let S = c .before .before .before .before .before .before .before .before .before .before .before .before .before .before .before .before .before in
-    let all = c .before .before .before .before .before .before .before .before .before .before .before .fill in
-    let line = c .before .before .before .before .before .before .before .put-line in
+    let at-put-frame = c .before .before in
+    let at-put-line = at-put-frame .before .before .before .before .before in
+    let at-fill = at-put-line .before .before .before .before in
+    let S = at-fill .before .before .before .before .before .before in
+    let all = at-fill .fill in
+    let line = at-put-line .put-line in
     first-is (S .pre .0) (length (S .args .can .now)) (S .args .body .now) (all .last .0) (line .last .1 .1 .1 .1 .0) (all .ensures)
-    (line .ensures) (c .before .before .put-frame .ensures)
+    (line .ensures) (at-put-frame .put-frame .ensures)
 
 pub first-frame-spec : {M : Type 1} → statement M
 first-frame-spec =

@@ -7,14 +7,18 @@ use Rattle.ternary.proofs.next_frame.Tie as tie
 
 returns : tie.Need-returns
 returns c =
-    let S = c .before .before .before .before .before .before .before .before .before .before .before .before .before .before .before .before .before .before .before .before .before .before .before in
+    let at-put-frame = c .before .before in
+    let at-put-state = at-put-frame .before .before .before .before in
+    let at-fill = at-put-state .before .before .before .before .before in
+    let at-save-state = at-fill .before .before .before .before in
+    let S = at-save-state .before .before .before .before .before .before .before .before in
     let a = S .args in
-    let saved = c .before .before .before .before .before .before .before .before .before .before .before .before .before .before .before .save-state in
-    let all = c .before .before .before .before .before .before .before .before .before .before .before .fill in
-    let latches = c .before .before .before .before .before .before .put-state in (
+    let saved = at-save-state .save-state in
+    let all = at-fill .fill in
+    let latches = at-put-state .put-state in (
       next-is (S .pre .0) (length (a .can .now)) (a .body .now) (a .at) (a .can .now) (a .state .now) (saved .last .1 .1 .1 .1 .0)
           (all .last .0) (latches .last .1 .1 .1 .1 .0) (S .pre .2) (saved .ensures) (all .ensures) (latches .ensures)
-          (c .before .before .put-frame .ensures),
+          (at-put-frame .put-frame .ensures),
       saved .ensures,
     )
 

@@ -31,7 +31,10 @@ cover-gates-requires c κs =
 
 same-length : tie.Need-same-length
 same-length c =
-    c .before .before .cover-gates .kept .1 .1 .1 .0 ∙ c .before .before .before .before .before .before .put-line .kept .1 .1 .1 .1 .0 ∙ length-set (c .before .before .before .before .before .before .before .before .before .before .before .before .args .can .now) 0 0
+    let at-cover-gates = c .before .before in
+    let at-put-line = at-cover-gates .before .before .before .before in
+    let at-start = at-put-line .before .before .before .before .before .before in
+    at-cover-gates .cover-gates .kept .1 .1 .1 .0 ∙ at-put-line .put-line .kept .1 .1 .1 .1 .0 ∙ length-set (at-start .args .can .now) 0 0
 
 returns : tie.Need-returns
 returns c =

@@ -43,8 +43,13 @@ module _ (n : tie.In-loop Inv-loop μ-loop) where
 
 loop-holds : tie.Need-loop-holds Inv-loop μ-loop
 loop-holds c =
-    let a = c .before .before .before .args in
-    (omega arith, refl, below-none (λ j. var (word (a .m .now) (a .column .first + a .column .step * j))) (lineOf (a .text .now) (a .at)) (a .can .now))
+    let at-start = c .before .before .before in
+    let a = at-start .args in (
+      omega arith,
+      refl,
+      below-none (λ j. var (word (a .m .now) (a .column .first + a .column .step * j))) (lineOf (a .text .now) (a .at))
+          (a .can .now),
+    )
 
 mul-from-word : tie.Need-mul-from-word Inv-loop μ-loop
 mul-from-word c = omega (arith, inside c)
@@ -66,8 +71,11 @@ shared-slice-read-from-byte c = row (c .before .before .before .before .before)
 
 put-requires : tie.Need-put-requires Inv-loop μ-loop
 put-requires c κs =
-    let v = ap (λ (v : Var). v .0) (c .before .before .before .var .ensures) ∙ ap (λ (l : Lit). l .0 .0) (c .before .before .before .before .from-word .ensures) in
-    omega (arith, v, small (c .before .before .before .before .before .before))
+    let at-var = c .before .before .before in
+    let at-from-word = at-var .before in
+    let at-loop-test = at-from-word .before .before in
+    let v = ap (λ (v : Var). v .0) (at-var .var .ensures) ∙ ap (λ (l : Lit). l .0 .0) (at-from-word .from-word .ensures) in
+    omega (arith, v, small (at-loop-test))
 
 add-i : tie.Need-add-i Inv-loop μ-loop
 add-i c = omega (arith, row (c .before .before .before .before .before .before .before .before .before))
@@ -77,13 +85,21 @@ loop-less c = omega (arith, c .before .before .before .before .before .before .b
 
 loop-again : tie.Need-loop-again Inv-loop μ-loop
 loop-again c =
-    let a = c .before .before .before .before .before .before .before .before .before .before .before .before .before .before .args in
-    let l = c .before .before .before .before .before .before .before .before .before .before .loop in
-    let k = c .before .before .put in
+    let at-put = c .before .before in
+    let at-from-byte = at-put .before in
+    let at-var = at-from-byte .before .before .before in
+    let at-from-word = at-var .before in
+    let at-loop-test = at-from-word .before .before in
+    let at-loop = at-loop-test .before in
+    let at-start = at-loop .before .before .before .before in
+    let a = at-start .args in
+    let l = at-loop .loop in
+    let k = at-put .put in
     let p : ℕ → ℕ = λ j. var (word (a .m .now) (a .column .first + a .column .step * j)) in (
-      omega (arith, c .before .before .before .before .before .before .before .before .before .loop-test .taken),
+      omega (arith, at-loop-test .loop-test .taken),
       k .kept .0 ∙ l .inv .1,
-      put-word (l .can) (w (c .before .before .before .before .before .before .before .before .before)) (c .before .before .before .before .before .before .before .from-word .ensures) (c .before .before .before .before .before .before .var .ensures) (c .before .before .before .from-byte .ensures) (k .ensures)
+      put-word (l .can) (w (at-loop-test)) (at-from-word .from-word .ensures) (at-var .var .ensures) (at-from-byte .from-byte .ensures)
+          (k .ensures)
           ∙ below-more p (lineOf (a .text .now) (a .at)) (l .i) (a .can .now) (l .can) (l .inv .2),
     )
 

@@ -80,8 +80,11 @@ shared-slice-read-t21 c = omega (arith, few (c .before .before .before .before .
 
 put-requires : tie.Need-put-requires Inv-loop μ-loop
 put-requires c κs =
-    let v = ap (λ (v : Var). v .0) (c .before .before .before .var .ensures) ∙ ap (λ (l : Lit). l .0 .0) (c .before .before .before .before .from-word .ensures) in
-    omega (arith, v, small (c .before .before .before .before .before .before))
+    let at-var = c .before .before .before in
+    let at-from-word = at-var .before in
+    let at-loop-test = at-from-word .before .before in
+    let v = ap (λ (v : Var). v .0) (at-var .var .ensures) ∙ ap (λ (l : Lit). l .0 .0) (at-from-word .from-word .ensures) in
+    omega (arith, v, small (at-loop-test))
 
 add-j : tie.Need-add-j Inv-loop μ-loop
 add-j c = omega (arith, few (c .before .before .before .before .before .before .before .before .before))
@@ -91,13 +94,20 @@ loop-less c = omega (arith, c .before .before .before .before .before .before .b
 
 loop-again : tie.Need-loop-again Inv-loop μ-loop
 loop-again c =
-    let a = c .before .before .before .before .before .before .before .before .before .before .before .before .before .before .before .args in
-    let l = c .before .before .before .before .before .before .before .before .before .before .loop in
-    let k = c .before .before .put in
+    let at-put = c .before .before in
+    let at-var = at-put .before .before .before .before in
+    let at-from-word = at-var .before in
+    let at-loop-test = at-from-word .before .before in
+    let at-loop = at-loop-test .before in
+    let at-start = at-loop .before .before .before .before .before in
+    let a = at-start .args in
+    let l = at-loop .loop in
+    let k = at-put .put in
     let p : ℕ → ℕ = λ i. var (word (a .m .now) (a .layout .latches + 3 * i)) in (
-      omega (arith, c .before .before .before .before .before .before .before .before .before .loop-test .taken),
+      omega (arith, at-loop-test .loop-test .taken),
       k .kept .0 ∙ l .inv .1,
-      put-word (l .can) (w (c .before .before .before .before .before .before .before .before .before)) {y = saved (a .state .now) (l .j)} (c .before .before .before .before .before .before .before .from-word .ensures) (c .before .before .before .before .before .before .var .ensures) refl (k .ensures)
+      put-word (l .can) (w (at-loop-test)) {y = saved (a .state .now) (l .j)} (at-from-word .from-word .ensures) (at-var .var .ensures)
+          refl (k .ensures)
           ∙ below-more p (saved (a .state .now)) (l .j) (a .can .now) (l .can) (l .inv .2),
     )
 

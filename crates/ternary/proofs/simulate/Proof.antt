@@ -71,11 +71,11 @@ module _ (n : tie.In-loop Inv-loop μ-loop) where
 
 -- what the entries are at the loop's head, for as many as there were at the entry
 module _ (l : tie.At-loop Inv-loop μ-loop) where
-  size : length (l .before .before .before .first-frame .last .1 .1 .1 .1 .0) ≡ length (l .before .before .before .before .before .before .before .before .before .before .before .before .before .before .args .can .now)
+  size : length (l .before .before .before .first-frame .last .1 .1 .1 .1 .0) ≡ length (start l .args .can .now)
   size = l .before .before .before .first-frame .kept .1 .1 .1 .1 .0
 
   room : 8194 ≤ length (l .loop .can)
-  room = omega (arith, l .loop .inv .3, size, l .before .before .before .before .before .before .before .before .before .before .before .before .before .before .pre .2)
+  room = omega (arith, l .loop .inv .3, size, start l .pre .2)
 
 add-width : tie.Need-add-width Inv-loop μ-loop
 add-width c = let s = c .before .before .before .before .before .before in omega (arith, row-inside s 0 (s .pre .4 .some-frame))
@@ -93,7 +93,9 @@ returns c =
     (sym (k .ensures) ∙ not-true (k .result) (c .if1 .taken))
 
 add-at : tie.Need-add-at Inv-loop μ-loop
-add-at c = let s = c .before .before .before .before .before .before .before .before .before in omega (arith, row-inside s 0 (s .pre .4 .some-frame))
+add-at c =
+    let s = c .before .before .before .before .before .before .before .before .before in
+    omega (arith, row-inside s 0 (s .pre .4 .some-frame))
 
 first-frame-requires : tie.Need-first-frame-requires Inv-loop μ-loop
 first-frame-requires c κs =
@@ -116,7 +118,11 @@ loop-holds c =
     )
 
 surely-allowed-requires : tie.Need-surely-allowed-requires Inv-loop μ-loop
-surely-allowed-requires c κs = (c .before .before .before .before .before .before .before .before .before .before .before .before .before .before .before .before .pre .0, room (c .before .before))
+surely-allowed-requires c κs =
+    let at-loop = c .before .before in
+    let far = at-loop .before .before .before .before .before .before .before .before .before .before .before .before in
+    let at-start = far .before .before in
+    (at-start .pre .0, room (at-loop))
 
 same-length : tie.Need-same-length Inv-loop μ-loop
 same-length c = c .before .before .before .before .loop .inv .3 ∙ size (c .before .before .before .before)
@@ -126,38 +132,60 @@ same-length-2 c = c .before .before .before .before .loop .inv .4
 
 returns-2 : tie.Need-returns-2 Inv-loop μ-loop
 returns-2 c =
-    let a = c .before .before .before .before .before .before .before .before .before .before .before .before .before .before .before .before .before .before .args in
+    let at-surely-allowed = c .before in
+    let at-loop-test = at-surely-allowed .before .before in
+    let at-loop = at-loop-test .before in
+    let at-first-frame = at-loop .before .before .before in
+    let at-start = at-first-frame .before .before .before .before .before .before .before .before .before .before .before in
+    let a = at-start .args in
     let C = circuitIn (a .m .now) in
-    let L = c .before .before .before .before .loop in
-    let k = c .before .surely-allowed in
-    let n = length (c .before .before .before .before .before .before .before .first-frame .last .1 .1 .1 .1 .0) in
-    sees-frame n C (a .order .now) (a .q .bad) (a .q .frames) (a .body .now) (L .u - 1) (omega (arith, c .before .before .before .loop-test .taken))
+    let L = at-loop .loop in
+    let k = at-surely-allowed .surely-allowed in
+    let n = length (at-first-frame .first-frame .last .1 .1 .1 .1 .0) in
+    sees-frame n C (a .order .now) (a .q .bad) (a .q .frames) (a .body .now) (L .u - 1) (omega (arith, at-loop-test .loop-test .taken))
     (ap (sureBelow C) (sym (L .inv .5)) ∙ sym (k .ensures) ∙ not-true (k .result) (c .if2 .taken))
-    ∙ ap (λ (z : ℕ). seesHit z C (a .order .now) (a .q .bad) (a .q .frames) (a .body .now)) (size (c .before .before .before .before))
+    ∙ ap (λ (z : ℕ). seesHit z C (a .order .now) (a .q .bad) (a .q .frames) (a .body .now)) (size (at-loop))
 
 add-at-2 : tie.Need-add-at-2 Inv-loop μ-loop
-add-at-2 c = omega (arith, next-inside (c .before .before .before), c .before .before .before .before .before .before .before .before .before .before .before .before .before .before .before .before .before .before .good)
+add-at-2 c =
+    let at-loop-test = c .before .before .before in
+    let far = at-loop-test .before .before .before .before .before .before .before .before .before .before .before .before in
+    let at-start = far .before .before .before in
+    omega (arith, next-inside (at-loop-test), at-start .good)
 
 next-frame-requires : tie.Need-next-frame-requires Inv-loop μ-loop
 next-frame-requires c κs =
-    let s = c .before .before .before .before .before .before .before .before .before .before .before .before .before .before .before .before .before .before .before .before in
-    (s .pre .0, room (c .before .before .before .before .before .before), omega (arith, c .before .before .before .before .before .before .loop .inv .4, s .pre .3), omega (arith, next-inside (c .before .before .before .before .before)))
+    let at-loop-test = c .before .before .before .before .before in
+    let at-loop = at-loop-test .before in
+    let far = at-loop .before .before .before .before .before .before .before .before .before .before .before .before in
+    let s = far .before .before in
+    (s .pre .0, room (at-loop), omega (arith, at-loop .loop .inv .4, s .pre .3), omega (arith, next-inside (at-loop-test)))
 
 add-u : tie.Need-add-u Inv-loop μ-loop
-add-u c = omega (arith, c .before .before .before .before .before .before .before .before .before .before .loop-test .taken, c .before .before .before .before .before .before .before .before .before .before .before .before .before .before .before .before .before .before .before .before .before .before .before .before .before .good)
+add-u c =
+    let at-loop-test = c .before .before .before .before .before .before .before .before .before .before in
+    let far = at-loop-test .before .before .before .before .before .before .before .before .before .before .before .before in
+    let at-start = far .before .before .before in
+    omega (arith, at-loop-test .loop-test .taken, at-start .good)
 
 loop-less : tie.Need-loop-less Inv-loop μ-loop
 loop-less c = omega (arith, c .before .before .before .before .before .before .before .before .before .before .loop-test .taken)
 
 loop-again : tie.Need-loop-again Inv-loop μ-loop
 loop-again c =
-    let n = c .before .before .before .before .before .before .before .before .before .before in
-    let a = c .before .before .before .before .before .before .before .before .before .before .before .before .before .before .before .before .before .before .before .before .before .before .before .before .before .args in
+    let at-next-frame = c .before .before .before .before in
+    let at-if2 = at-next-frame .before .before .before in
+    let at-surely-allowed = at-if2 .before in
+    let n = at-surely-allowed .before .before in
+    let at-loop = n .before in
+    let at-first-frame = at-loop .before .before .before in
+    let at-start = at-first-frame .before .before .before .before .before .before .before .before .before .before .before in
+    let a = at-start .args in
     let C = circuitIn (a .m .now) in
-    let L = c .before .before .before .before .before .before .before .before .before .before .before .loop in
-    let N = c .before .before .before .before .next-frame in
-    let k = c .before .before .before .before .before .before .before .before .surely-allowed in
-    let count = length (c .before .before .before .before .before .before .before .before .before .before .before .before .before .before .first-frame .last .1 .1 .1 .1 .0) in
+    let L = at-loop .loop in
+    let N = at-next-frame .next-frame in
+    let k = at-surely-allowed .surely-allowed in
+    let count = length (at-first-frame .first-frame .last .1 .1 .1 .1 .0) in
     let v : ℕ = L .u in
     let e : suc (v - 1) ≡ v + 1 - 1 = omega (arith, L .inv .0) in
     let z : v + 1 - 1 ≡ v = omega arith in
@@ -168,15 +196,20 @@ loop-again c =
       next-at n ∙ ap (λ (j : ℕ). a .layout .l + 1 + j * (a .layout .i + 1)) (sym z),
       N .kept .1 .1 .1 .1 .1 .0 ∙ L .inv .3,
       N .kept .1 .1 .1 .1 .1 .1 .0 ∙ L .inv .4,
-      entries-next count C (a .order .now) (a .body .now) (v - 1) (L .at + (a .layout .i + 1)) (L .can) (L .inv .5) (next-row n) (N .ensures .0)
+      entries-next count C (a .order .now) (a .body .now) (v - 1) (L .at + (a .layout .i + 1)) (L .can) (L .inv .5) (next-row n)
+          (N .ensures .0)
           ∙ ap entries e,
       ap (λ (t : ℕ). everyBelow t (λ u. sureBelow C (entries u))) (sym y)
           ∙ every-more (λ u. sureBelow C (entries u)) (v - 1) (L .inv .6)
-          (ap (sureBelow C) (sym (L .inv .5)) ∙ sym (k .ensures) ∙ not-false (k .result) (c .before .before .before .before .before .before .before .if2 .left)),
+          (ap (sureBelow C) (sym (L .inv .5)) ∙ sym (k .ensures) ∙ not-false (k .result) (at-if2 .if2 .left)),
     )
 
 surely-allowed-requires-2 : tie.Need-surely-allowed-requires-2 Inv-loop μ-loop
-surely-allowed-requires-2 c κs = (c .before .before .before .before .before .before .before .before .before .before .before .before .before .before .before .before .pre .0, room (c .before .before))
+surely-allowed-requires-2 c κs =
+    let at-loop = c .before .before in
+    let far = at-loop .before .before .before .before .before .before .before .before .before .before .before .before in
+    let at-start = far .before .before in
+    (at-start .pre .0, room (at-loop))
 
 same-length-3 : tie.Need-same-length-3 Inv-loop μ-loop
 same-length-3 c = c .before .before .before .before .loop .inv .3 ∙ size (c .before .before .before .before)
@@ -186,42 +219,61 @@ same-length-4 c = c .before .before .before .before .loop .inv .4
 
 returns-3 : tie.Need-returns-3 Inv-loop μ-loop
 returns-3 c =
-    let a = c .before .before .before .before .before .before .before .before .before .before .before .before .before .before .before .before .before .before .args in
+    let at-surely-allowed2 = c .before in
+    let at-loop = at-surely-allowed2 .before .before .before in
+    let at-first-frame = at-loop .before .before .before in
+    let at-start = at-first-frame .before .before .before .before .before .before .before .before .before .before .before in
+    let a = at-start .args in
     let C = circuitIn (a .m .now) in
-    let L = c .before .before .before .before .loop in
-    let k = c .before .surely-allowed2 in
-    let n = length (c .before .before .before .before .before .before .before .first-frame .last .1 .1 .1 .1 .0) in
+    let L = at-loop .loop in
+    let k = at-surely-allowed2 .surely-allowed2 in
+    let n = length (at-first-frame .first-frame .last .1 .1 .1 .1 .0) in
     sees-frame n C (a .order .now) (a .q .bad) (a .q .frames) (a .body .now) (L .u - 1) (omega (arith, L .inv .0, L .inv .1))
     (ap (sureBelow C) (sym (L .inv .5)) ∙ sym (k .ensures) ∙ not-true (k .result) (c .if3 .taken))
-    ∙ ap (λ (z : ℕ). seesHit z C (a .order .now) (a .q .bad) (a .q .frames) (a .body .now)) (size (c .before .before .before .before))
+    ∙ ap (λ (z : ℕ). seesHit z C (a .order .now) (a .q .bad) (a .q .frames) (a .body .now)) (size (at-loop))
 
 surely-bad-requires : tie.Need-surely-bad-requires Inv-loop μ-loop
-surely-bad-requires c κs = let s = c .before .before .before .before .before .before .before .before .before .before .before .before .before .before .before .before .before .before .before in (s .pre .0, s .pre .1, room (c .before .before .before .before .before))
+surely-bad-requires c κs =
+    let at-loop = c .before .before .before .before .before in
+    let far = at-loop .before .before .before .before .before .before .before .before .before .before .before .before in
+    let s = far .before .before in
+    (s .pre .0, s .pre .1, room (at-loop))
 
 same-length-5 : tie.Need-same-length-5 Inv-loop μ-loop
-same-length-5 c = c .before .before .before .before .before .before .loop .inv .3 ∙ size (c .before .before .before .before .before .before)
+same-length-5 c =
+    let at-loop = c .before .before .before .before .before .before in
+    at-loop .loop .inv .3 ∙ size (at-loop)
 
 same-length-6 : tie.Need-same-length-6 Inv-loop μ-loop
 same-length-6 c = c .before .before .before .before .before .before .loop .inv .4
 
 returns-4 : tie.Need-returns-4 Inv-loop μ-loop
 returns-4 c =
-    let a = c .before .before .before .before .before .before .before .before .before .before .before .before .before .before .before .before .before .before .before .before .args in
+    let at-if3 = c .before .before in
+    let at-surely-allowed2 = at-if3 .before in
+    let at-loop-test = at-surely-allowed2 .before .before in
+    let at-loop = at-loop-test .before in
+    let at-first-frame = at-loop .before .before .before in
+    let at-if1 = at-first-frame .before .before .before in
+    let at-starts-agree = at-if1 .before in
+    let at-start = at-starts-agree .before .before .before .before .before .before .before in
+    let a = at-start .args in
     let C = circuitIn (a .m .now) in
-    let L = c .before .before .before .before .before .before .loop in
-    let first = c .before .before .before .before .before .before .before .before .before .before .before .before .before .starts-agree in
-    let k = c .before .before .before .surely-allowed2 in
-    let n = length (c .before .before .before .before .before .before .before .before .before .first-frame .last .1 .1 .1 .1 .0) in
+    let L = at-loop .loop in
+    let first = at-starts-agree .starts-agree in
+    let k = at-surely-allowed2 .surely-allowed2 in
+    let n = length (at-first-frame .first-frame .last .1 .1 .1 .1 .0) in
     let entries = entriesAt n C (a .order .now) (a .body .now) in
-    let last : L .u - 1 ≡ a .q .frames - 1 = omega (arith, c .before .before .before .before .before .loop-test .left, L .inv .1) in
-    let all : L .u - 1 + 1 ≡ a .q .frames = omega (arith, c .before .before .before .before .before .loop-test .left, L .inv .0, L .inv .1) in
+    let last : L .u - 1 ≡ a .q .frames - 1 = omega (arith, at-loop-test .loop-test .left, L .inv .1) in
+    let all : L .u - 1 + 1 ≡ a .q .frames = omega (arith, at-loop-test .loop-test .left, L .inv .0, L .inv .1) in
     let told = L .inv .5 ∙ ap entries last in
-    sees-last n C (a .order .now) (a .q .bad) (a .q .frames) (a .body .now) (sym (first .ensures) ∙ not-false (first .result) (c .before .before .before .before .before .before .before .before .before .before .before .before .if1 .left))
+    sees-last n C (a .order .now) (a .q .bad) (a .q .frames) (a .body .now)
+    (sym (first .ensures) ∙ not-false (first .result) (at-if1 .if1 .left))
     (ap (λ (t : ℕ). everyBelow t (λ u. sureBelow C (entries u))) (sym all)
     ∙ every-more (λ u. sureBelow C (entries u)) (L .u - 1) (L .inv .6)
-    (ap (sureBelow C) (sym (L .inv .5)) ∙ sym (k .ensures) ∙ not-false (k .result) (c .before .before .if3 .left)))
+    (ap (sureBelow C) (sym (L .inv .5)) ∙ sym (k .ensures) ∙ not-false (k .result) (at-if3 .if3 .left)))
     (c .surely-bad .ensures ∙ ap (λ (can : List ℕ). sure can (getD (C .bads) (a .q .bad) 0)) told)
-    ∙ ap (λ (z : ℕ). seesHit z C (a .order .now) (a .q .bad) (a .q .frames) (a .body .now)) (size (c .before .before .before .before .before .before))
+    ∙ ap (λ (z : ℕ). seesHit z C (a .order .now) (a .q .bad) (a .q .frames) (a .body .now)) (size (at-loop))
 
 pub simulate-spec : {M : Type 1} → statement M
 simulate-spec =

@@ -13,21 +13,35 @@ returns c =
 
 returns-2 : tie.Need-returns-2
 returns-2 c =
-    let a = c .before .before .before .before .args in
+    let at-if2 = c .before in
+    let at-if1 = at-if2 .before in
+    let at-equals = at-if1 .before in
+    let at-start = at-equals .before in
+    let a = at-start .args in
     c .is-true .ensures
-    ∙ start-one (wordOf (a .lit)) (wordOf (a .reset)) (a .byte) (sym (c .before .before .before .equals .ensures) ∙ c .before .before .if1 .left) (c .before .if2 .taken)
+    ∙ start-one (wordOf (a .lit)) (wordOf (a .reset)) (a .byte) (sym (at-equals .equals .ensures) ∙ at-if1 .if1 .left) (at-if2 .if2 .taken)
 
 returns-3 : tie.Need-returns-3
 returns-3 c =
-    let a = c .before .before .before .before .before .before .args in
-    c .is-true2 .ensures ∙ zero-test (a .reset) (c .before .complement .ensures)
-    ∙ start-zero (wordOf (a .lit)) (wordOf (a .reset)) (a .byte) (sym (c .before .before .before .before .before .equals .ensures) ∙ c .before .before .before .before .if1 .left) (c .before .before .before .if2 .left)
-    (c .before .before .if3 .taken)
+    let at-complement = c .before in
+    let at-if3 = at-complement .before in
+    let at-if2 = at-if3 .before in
+    let at-if1 = at-if2 .before in
+    let at-equals = at-if1 .before in
+    let at-start = at-equals .before in
+    let a = at-start .args in
+    c .is-true2 .ensures ∙ zero-test (a .reset) (at-complement .complement .ensures)
+    ∙ start-zero (wordOf (a .lit)) (wordOf (a .reset)) (a .byte) (sym (at-equals .equals .ensures) ∙ at-if1 .if1 .left) (at-if2 .if2 .left)
+    (at-if3 .if3 .taken)
 
 returns-4 : tie.Need-returns-4
 returns-4 c =
-    let a = c .before .before .before .before .args in
-    start-none (wordOf (a .lit)) (wordOf (a .reset)) (a .byte) (sym (c .before .before .before .equals .ensures) ∙ c .before .before .if1 .left) (c .before .if2 .left)
+    let at-if2 = c .before in
+    let at-if1 = at-if2 .before in
+    let at-equals = at-if1 .before in
+    let at-start = at-equals .before in
+    let a = at-start .args in
+    start-none (wordOf (a .lit)) (wordOf (a .reset)) (a .byte) (sym (at-equals .equals .ensures) ∙ at-if1 .if1 .left) (at-if2 .if2 .left)
     (c .if3 .left)
 
 pub start-agrees-spec : {M : Type 1} → statement M

@@ -76,24 +76,31 @@ told : (c : tie.After-start-agrees Inv-loop μ-loop)
     let x = latchAt (circuitIn (a .m .now)) j in
     c .start-agrees .result ≡ startAgrees (x .lit) (x .reset) (getD (a .body .now) j 0))
 told c =
-    let s = c .before .before .before .before .before .before .before .before .before .before .before in
+    let at-from-word2 = c .before .before in
+    let at-from-word = at-from-word2 .before .before in
+    let n = at-from-word .before .before in
+    let at-loop = n .before in
+    let s = at-loop .before .before .before .before in
     let a = s .args in
-    let n = c .before .before .before .before .before .before in
-    let j = c .before .before .before .before .before .before .before .loop .j in
+    let j = at-loop .loop .j in
     let place = sym (latch-place (s .pre .0) j (omega (arith, n .loop-test .taken))) in
-    let own = word-read (word (a .m .now) (a .layout .latches + 3 * j)) (c .before .before .before .before .from-word .ensures) ∙ ap (λ (x : Latch). x .lit) place in
+    let own = word-read (word (a .m .now) (a .layout .latches + 3 * j)) (at-from-word .from-word .ensures) ∙ ap (λ (x : Latch). x .lit)
+    place in
     let reset =
-    word-read (word (a .m .now) (a .layout .latches + 3 * j + 2)) (c .before .before .from-word2 .ensures) ∙ ap (λ (x : Latch). x .reset) place in
+    word-read (word (a .m .now) (a .layout .latches + 3 * j + 2)) (at-from-word2 .from-word2 .ensures) ∙ ap (λ (x : Latch). x .reset)
+    place in
     c .start-agrees .ensures ∙ (λ i. startAgrees (own i) (reset i) (getD (a .body .now) j 0))
 
 returns : tie.Need-returns Inv-loop μ-loop
 returns c =
-    let s = c .before .before .before .before .before .before .before .before .before .before .before .before in
-    let a = s .args in
-    let j = c .before .before .before .before .before .before .before .before .loop .j in
     let k = c .before in
+    let at-loop-test = k .before .before .before .before .before .before in
+    let at-loop = at-loop-test .before in
+    let s = at-loop .before .before .before .before in
+    let a = s .args in
+    let j = at-loop .loop .j in
     let C = circuitIn (a .m .now) in
-    let below : j < length (C .latches) = omega (arith, latches-are (s .pre .0), c .before .before .before .before .before .before .before .loop-test .taken) in
+    let below : j < length (C .latches) = omega (arith, latches-are (s .pre .0), at-loop-test .loop-test .taken) in
     sym (every-fails (λ i. startAgrees (latchAt C i .lit) (latchAt C i .reset) (getD (a .body .now) i 0)) (length (C .latches)) j below
     (sym (told k) ∙ not-true (k .start-agrees .result) (c .if1 .taken)))
 

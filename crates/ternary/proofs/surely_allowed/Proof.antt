@@ -57,7 +57,9 @@ is-sure-requires c κs =
 
 -- whether constraint k is sure
 told : (c : tie.After-is-sure Inv-loop μ-loop)
-    → (let a = c .before .before .before .before .before .before .before .before .args in c .is-sure .result ≡ sure (a .can .now) (getD (circuitIn (a .m .now) .constraints) (c .before .before .before .before .loop .k) 0))
+    → (let l = c .before .before .before .before in
+    let a = l .before .before .before .before .args in
+    c .is-sure .result ≡ sure (a .can .now) (getD (circuitIn (a .m .now) .constraints) (l .loop .k) 0))
 told c =
     let s = c .before .before .before .before .before .before .before .before in
     let a = s .args in
@@ -67,11 +69,14 @@ told c =
 
 returns : tie.Need-returns Inv-loop μ-loop
 returns c =
-    let s = c .before .before .before .before .before .before .before .before .before in
-    let a = s .args in
     let k = c .before in
+    let at-loop-test = k .before .before .before in
+    let at-loop = at-loop-test .before in
+    let s = at-loop .before .before .before .before in
+    let a = s .args in
     let cs = circuitIn (a .m .now) .constraints in
-    sym (every-fails (λ i. sure (a .can .now) (getD cs i 0)) (length cs) (c .before .before .before .before .before .loop .k) (omega (arith, constraints-are (s .pre .0), few (c .before .before .before .before)))
+    sym (every-fails (λ i. sure (a .can .now) (getD cs i 0)) (length cs) (at-loop .loop .k)
+    (omega (arith, constraints-are (s .pre .0), few (at-loop-test)))
     (sym (told k) ∙ not-true (k .is-sure .result) (c .if1 .taken)))
 
 add-k : tie.Need-add-k Inv-loop μ-loop
