@@ -2,7 +2,7 @@
 use arguments::Argument;
 use files::say;
 use files::say_front;
-use search_command::Terms;
+use search::Terms;
 ghost use mathlib.Core.Path.{_≡_};
 ghost use lib.ListN.{length};
 
