@@ -36,6 +36,12 @@ ghost use Rattle.fold.specs.Text.{
 ghost use Rattle.fold.specs.Chosen.{chosen};
 ghost use Rattle.fold.specs.Answer.{answered, FoldFits, FoldShown};
 
+// What is folded: the hit of bad line b at frame t.
+pub struct Target {
+    pub b: u64,
+    pub t: u64,
+}
+
 // The length of the text, or the number of the refusal.
 pub enum FoldAnswer {
     Length(usize),

@@ -1,5 +1,6 @@
 // The work of the resident program's commands: what is to be printed is left at the fronts of line and out.
 use fold::FoldAnswer;
+use fold::Target;
 use panel_lines::Query;
 use replies::Report;
 use search::Terms;
@@ -28,12 +29,6 @@ ghost use Rattle.panel.specs.Answers.{
   Queried,
   previewReplyTo,
 };
-
-// A bad line and a frame.
-struct Frame {
-    b: u64,
-    t: u64,
-}
 
 // Loads a file.
 pub fn load(user: u64, file: &[u8], m: &mut [u32], pins: &mut [u8], line: &mut [u8]) -> Report
@@ -109,7 +104,7 @@ fn search(
         saidWords (shownLength (circuitIn (now (m .entry))) (q .b)) (now (line .entry)) r (now (line .exit)) (now (out .exit))
         ⌝ }
 {
-    let answer = pinned_search::search(m, pins, user, q.b, q.k, q.d, work, out);
+    let answer = pinned_search::search(m, pins, user, q, work, out);
     let witness = job::shown_length(m, q.b, answer);
     let length = search_command::write_answer(line, answer);
     Report {
@@ -121,7 +116,7 @@ fn search(
 // Folds under the pins of a user who is known.
 fn fold(
     user: u32,
-    f: Frame,
+    f: Target,
     m: &[u32],
     pins: &[u8],
     work: &mut [u32],
@@ -138,7 +133,7 @@ fn fold(
         textWords textLength (now (line .entry)) r (now (line .exit)) (now (out .exit))
         ⌝ }
 {
-    match pinned_fold::fold(m, pins, user, f.b, f.t, work, out) {
+    match pinned_fold::fold(m, pins, user, f, work, out) {
         FoldAnswer::Length(n) => Report { line: 0, out: n },
         FoldAnswer::Refused(n) => replies::refuse(line, n),
     }
@@ -200,7 +195,7 @@ pub fn query(
     match q {
         Query::Pin(input, value) => pin(known, input, value, m, pins, line),
         Query::Search(b, k, d) => search(known, Terms { b, k, d }, m, pins, work, out, line),
-        Query::Fold(b, t) => fold(known, Frame { b, t }, m, pins, work, out, line),
+        Query::Fold(b, t) => fold(known, Target { b, t }, m, pins, work, out, line),
         Query::Write => write(known, m, out, line),
         Query::WriteBinary => write_binary(known, m, out, line),
     }

@@ -1,9 +1,8 @@
 -- From the answer of the fold of the pinned circuit to the answer for the user. Assumes nothing.
-use mathlib.Core.Path.{_≡_, refl, sym, ap, _∙_, subst}
+use mathlib.Core.Path.{_≡_, sym, subst}
 use mathlib.Core.List.{List}
-use Prim.Native.Nat.{ℕ, zero, suc, _≤_}
-use native.Mathlib.Omega.{arith}
-use lib.ListN.{length, getD, replicate, length-replicate}
+use Prim.Native.Nat.{ℕ, _≤_}
+use lib.ListN.{length}
 use Rattle.aiger.specs.Circuit.{Circuit}
 use Rattle.aiger.specs.Load.{Answer, refused, gives}
 use Rattle.aiger.specs.Memory.{Holds}
@@ -11,26 +10,12 @@ use Rattle.aiger.specs.Operations.{judge, Operated, foldTests, Folded}
 use Rattle.layout.specs.Words.{circuitIn}
 use Rattle.layout.specs.declared.Layout.{Layout}
 use Rattle.pins.specs.Pins.{pinsOf, pinned}
-use Rattle.pinning.specs.Steps.{PinFits}
 use Rattle.users.specs.Users.{ForUser, PinnedFolded, PinnedFoldEffect}
 use Rattle.users.proofs.Tests.{acts-only, fold-pinned}
 use Rattle.fold.specs.Chosen.{chosen}
 use Rattle.pinned_fold.specs.Steps.{FoldFits, FoldIs}
-use Rattle.meaning.proofs.Lists.{getD-same}
 
 module _ {m : List ℕ} {p : Layout} {user b t room len : ℕ} (f : FoldFits m p user b t room len) where
-  pub fits-pins : (n w : ℕ) → 4097 ≤ n → 33032 ≤ w → PinFits m p user (replicate n 2) (replicate w 0)
-  fits-pins n w a d =
-      record {
-        held = f .held;
-        layout-of = f .layout-of;
-        user-of = f .user-of;
-        free = λ v. getD-same n 2 v;
-        variables = omega (arith, length-replicate {A = ℕ} n 2);
-        zeros = λ i. getD-same w 0 i;
-        room = omega (arith, length-replicate {A = ℕ} w 0);
-      }
-
   -- the fold of words that hold the pinned circuit
   pub fold-is : (q : ℕ → ℕ) {words w w′ out out′ : List ℕ} {a : Answer ℕ} → length w ≡ room → length out ≡ len → Holds words (pinned (circuitIn m) q)
       → Folded chosen words b t w out a w′ out′ → FoldIs (circuitIn m) q b t out a out′

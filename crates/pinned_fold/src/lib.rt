@@ -1,6 +1,7 @@
 // The fold for a user: of the pinned circuit, whose free bits are those that the user's pins leave.
 use circuit::Held;
 use fold::FoldAnswer;
+use fold::Target;
 use layout::Layout;
 use limits::Ruling;
 ghost use mathlib.Core.Path.{_≡_};
@@ -12,19 +13,13 @@ ghost use Rattle.fold.specs.Chosen.{chosen};
 ghost use Rattle.fold.specs.Answer.{answered};
 ghost use Rattle.pinned_fold.specs.Steps.{FoldFits, FoldIs};
 
-// What is folded: the hit of bad line b at frame t.
-pub struct Frame {
-    pub b: u64,
-    pub t: u64,
-}
-
 // Folds under the pins of a user who is known, where all tests pass.
 fn fold_known(
     m: &[u32],
     layout: Layout,
     pins: &[u8],
     user: usize,
-    q: Frame,
+    q: Target,
     work: &mut [u32],
     out: &mut [u8],
 ) -> FoldAnswer
@@ -40,18 +35,17 @@ fn fold_known(
     fold::fold(&words, q.b, q.t, work, out)
 }
 
-// Writes the hit of bad line b at frame t, under the user's pins, as a circuit without latches.
+// Writes the hit of a bad line at a frame, under the user's pins, as a circuit without latches.
 pub fn fold(
     m: &[u32],
     pins: &[u8],
     user: u32,
-    b: u64,
-    t: u64,
+    q: Target,
     work: &mut [u32],
     out: &mut [u8],
 ) -> FoldAnswer
     ensures { λ r. ⌜
-        PinnedFolded chosen (now (m .entry)) (now (pins .entry)) user b t (now (work .entry)) (now (out .entry)) (answered r)
+        PinnedFolded chosen (now (m .entry)) (now (pins .entry)) user (q .b) (q .t) (now (work .entry)) (now (out .entry)) (answered r)
         (now (work .exit))
         (now (out .exit))
         ⌝ }
@@ -62,8 +56,8 @@ pub fn fold(
     let Held::Circuit(layout) = circuit::test(m) else {
         return FoldAnswer::Refused(9);
     };
-    if let Ruling::Refused(n) = fold::check_fold(layout, b, t, work.len(), out.len()) {
+    if let Ruling::Refused(n) = fold::check_fold(layout, q.b, q.t, work.len(), out.len()) {
         return FoldAnswer::Refused(n);
     }
-    fold_known(m, layout, pins, user as usize, Frame { b, t }, work, out)
+    fold_known(m, layout, pins, user as usize, q, work, out)
 }

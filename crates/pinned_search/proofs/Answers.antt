@@ -2,11 +2,11 @@
 use mathlib.Core.Path.{_≡_, refl, sym, ap, ap₂, _∙_, subst}
 use mathlib.Core.Bool.{true, false}
 use mathlib.Core.List.{List, [], _∷_}
-use Prim.Native.Nat.{ℕ, zero, suc, _+_, _*_, _≤_, _<_}
+use Prim.Native.Nat.{ℕ, _+_, _*_, _≤_, _<_}
 use native.Mathlib.Nat.{mul-le-mul-left, mul-le-mul-right}
 use native.Mathlib.Omega.{arith}
 use lib.Dec.{T, leb, le→leb}
-use lib.ListN.{length, getD, replicate, length-replicate}
+use lib.ListN.{length}
 use Rattle.aiger.specs.Text.{digits}
 use Rattle.aiger.specs.Circuit.{Circuit}
 use Rattle.aiger.specs.Load.{Answer, refused, gives}
@@ -26,18 +26,12 @@ use Rattle.limits.proofs.Refusals.{passed, passes, judge-rest, judge-passed, le
 use Rattle.limits.proofs.Sizes.{counts-of, length-within}
 use Rattle.pins.specs.Pins.{pinsOf, pinned, pinnedWitness}
 use Rattle.pins.proofs.Questions.{pinned-permitted}
-use Rattle.pinning.specs.Steps.{PinFits}
 use Rattle.expansion.specs.Rows.{rowsText, expanded}
 use Rattle.expansion.proofs.Witnesses.{rowsAt, length-rows, expanded-first}
 use Rattle.users.specs.Users.{ForUser, PinnedSearched, PinnedSearchEffect, pinnedShown}
 use Rattle.users.proofs.Tests.{acts-only, search-pinned, length-pinned}
 use Rattle.search.specs.Chosen.{chosen}
 use Rattle.pinned_search.specs.Steps.{PinnedFits, TextIs, OutputIs}
-
-getD-same : (n x i : ℕ) → getD (replicate n x) i x ≡ x
-getD-same zero x i = refl
-getD-same (suc n) x zero = refl
-getD-same (suc n) x (suc i) = getD-same n x i
 
 -- the longest witness
 long-most : (c : Circuit) (b k : ℕ) → b < 16 → k ≤ 255 → length (c .latches) ≤ 1024 → length (c .inputs) ≤ 256 → witnessLength c b k ≤ 66825
@@ -79,19 +73,6 @@ module _ {m : List ℕ} {p : Layout} {user b k D room len : ℕ} (f : PinnedFits
             judge-rest (boundTests c b k (budgetRight D) room) (last ∷ [])
             (passes c b k (budgetRight D) room (q .bad) (q .bound) (true-T (budgetRight D) (q .right)) (q .small) (q .words))
             ∙ judge-passed last [] (le→leb (witnessLength c b k) long l);
-      }
-
-  -- a table without pins and words that are 0
-  pub fits-pins : (t w : ℕ) → 4097 ≤ t → 33032 ≤ w → PinFits m p user (replicate t 2) (replicate w 0)
-  fits-pins t w a b =
-      record {
-        held = f .held;
-        layout-of = f .layout-of;
-        user-of = f .user-of;
-        free = λ v. getD-same t 2 v;
-        variables = omega (arith, length-replicate {A = ℕ} t 2);
-        zeros = λ i. getD-same w 0 i;
-        room = omega (arith, length-replicate {A = ℕ} w 0);
       }
 
   -- the search of words that hold the pinned circuit

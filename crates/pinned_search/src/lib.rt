@@ -75,19 +75,18 @@ fn search_known(
     }
 }
 
-// Whether bad line b can be reached within bound k by a sequence that obeys the user's pins.
+// Whether the bad line can be reached within the bound by a sequence that obeys the user's pins.
 pub fn search(
     m: &[u32],
     pins: &[u8],
     user: u32,
-    b: u64,
-    k: u64,
-    d: u64,
+    q: Terms,
     work: &mut [u32],
     out: &mut [u8],
 ) -> SearchAnswer
     ensures { λ r. ⌜
-        PinnedSearched chosen (now (m .entry)) (now (pins .entry)) user b k d (now (work .entry)) (now (out .entry)) (said r)
+        PinnedSearched chosen (now (m .entry)) (now (pins .entry)) user (q .b) (q .k) (q .d) (now (work .entry)) (now (out .entry))
+        (said r)
         (now (work .exit))
         (now (out .exit))
         ⌝ }
@@ -98,8 +97,8 @@ pub fn search(
     let Held::Circuit(layout) = circuit::test(m) else {
         return SearchAnswer::Refused(9);
     };
-    if let Ruling::Refused(n) = search::check_search(layout, b, k, d, work.len(), out.len()) {
+    if let Ruling::Refused(n) = search::check_search(layout, q.b, q.k, q.d, work.len(), out.len()) {
         return SearchAnswer::Refused(n);
     }
-    search_known(m, layout, pins, user as usize, Terms { b, k, d }, work, out)
+    search_known(m, layout, pins, user as usize, q, work, out)
 }

@@ -1,7 +1,9 @@
 // The operations for two users for programs in C and Rust: numbers and slices only. A slice is a pointer and a length. The users share
 // memory, work and pins; pins has 256 bytes for each user.
 // Clause 10.5: whatever is lent, nothing outside it is touched, and every call returns.
+use fold::Target;
 use load::LoadAnswer;
+use search::Terms;
 use user_calls::PinAnswer;
 ghost use mathlib.Core.Bool.{not};
 ghost use lib.Dec.{eqb};
@@ -73,7 +75,7 @@ pub extern "C" fn yunverok_user_search(
         searchCode r
         ⌝ }
 {
-    service::search_code(pinned_search::search(memory, pins, user, b, k, d, work, out))
+    service::search_code(pinned_search::search(memory, pins, user, Terms { b, k, d }, work, out))
 }
 
 // Folds bad line b at frame t: the length of the text, or 2^32 + number for a refusal.
@@ -96,7 +98,7 @@ pub extern "C" fn yunverok_user_fold(
         writeCode r
         ⌝ }
 {
-    service::fold_code(pinned_fold::fold(memory, pins, user, b, t, work, out))
+    service::fold_code(pinned_fold::fold(memory, pins, user, Target { b, t }, work, out))
 }
 
 // Replays a witness: 1 for all, 0 for no, 2 for mixed, or the number of the refusal, 18, 9, 14 or 16.

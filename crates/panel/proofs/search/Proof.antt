@@ -24,7 +24,7 @@ returns c =
       line-is = at-write-answer .write-answer .ensures;
       out-is = at-shown-length .shown-length .ensures;
       inside = shown-inside (start .args .m .now) (start .args .pins .now) (start .args .work .now) (start .args .out .now)
-          (at-search .search .result) (at-search .search .ensures) (at-search .search .kept .1 .1 .1 .1 .1 .1 .1 .0)
+          (at-search .search .result) (at-search .search .ensures) (at-search .search .kept .1 .1 .1 .1 .1 .0)
           (at-shown-length .shown-length .ensures);
     }
 

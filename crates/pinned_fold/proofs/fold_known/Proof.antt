@@ -4,7 +4,8 @@ use Prim.Native.Nat.{ℕ}
 use native.Mathlib.Omega.{arith}
 use lib.ListN.{length-replicate}
 use Rattle.pins.specs.Pins.{pinsOf}
-use Rattle.pinned_fold.proofs.Answers.{fits-pins, fold-is}
+use Rattle.pinning.proofs.Fresh.{fits-fresh}
+use Rattle.pinned_fold.proofs.Answers.{fold-is}
 use Rattle.pinned_fold.proofs.fold_known.Statement.{statement}
 use Rattle.pinned_fold.proofs.fold_known.Tie as tie
 
@@ -15,7 +16,9 @@ slice-aggregate-pin-circuit-2 : tie.Need-slice-aggregate-pin-circuit-2
 slice-aggregate-pin-circuit-2 c = sym (length-replicate {A = ℕ} 33032 0)
 
 pin-circuit-requires : tie.Need-pin-circuit-requires
-pin-circuit-requires c κs = fits-pins (c .before .before .before .before .before .before .pre) 4097 33032 (omega arith) (omega arith)
+pin-circuit-requires c κs =
+    let f = c .before .before .before .before .before .before .pre in
+    fits-fresh (f .held) (f .layout-of) (f .user-of) 4097 33032 (omega arith) (omega arith)
 
 slice-aggregate-fold : tie.Need-slice-aggregate-fold
 slice-aggregate-fold c = sym (c .before .before .before .pin-circuit .kept .1 .1 .1 .1 .1 .0 ∙ length-replicate {A = ℕ} 33032 0)

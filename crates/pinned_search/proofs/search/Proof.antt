@@ -1,12 +1,32 @@
 -- `pinned_search::search` meets its contract. Assumes nothing.
+use mathlib.Core.Path.{_≡_}
 use native.Mathlib.Omega.{arith}
+use lib.ListN.{length}
 use borrow.Author.Needs.{needs}
-use Rattle.aiger.specs.Operations.{Operated}
+use Rattle.aiger.specs.Memory.{Holds}
+use Rattle.aiger.specs.Operations.{Operated, judge, searchTests}
+use Rattle.layout.specs.Words.{circuitIn}
+use Rattle.layout.specs.Layout.{LayoutOf}
+use Rattle.limits.specs.Limits.{told}
 use Rattle.limits.proofs.Sizes.{counts-of, limited}
 use Rattle.users.specs.Users.{ForUser}
 use Rattle.pinned_search.proofs.Answers.{refused-with, answered}
 use Rattle.pinned_search.proofs.search.Statement.{statement}
 use Rattle.pinned_search.proofs.search.Tie as tie
+
+-- the circuit that the memory holds
+held : (c : tie.After-layout)
+    → (let m = c .before .before .before .before .before .before .before .before .args .m .now in
+    LayoutOf m (c .layout .given .0 .0) × Holds m (circuitIn m))
+held c = rw (c .layout .given .1) at (c .before .before .test .ensures)
+
+-- what its tests 10 to 13 say
+tested : (c : tie.After-check-search)
+    → (let s = c .before .before .before .before .before .before .before .before .before .before in
+    judge (searchTests (circuitIn (s .args .m .now)) (s .args .q .b) (s .args .q .k) (s .args .q .d)
+    (length (s .args .work .now)) (length (s .args .out .now)))
+    ≡ told (c .check-search .result))
+tested c = let h = held (c .before .before) in c .check-search .ensures _ (counts-of (h .1) (h .0))
 
 returns : tie.Need-returns
 returns c = ForUser.stranger (omega arith)
@@ -18,31 +38,22 @@ returns-2 : tie.Need-returns-2
 returns-2 c = ForUser.known (omega arith) (Operated.noCircuit (rw (c .enum-told .given .1) at (c .before .before .test .ensures)))
 
 check-search-requires : tie.Need-check-search-requires
-check-search-requires c κs =
-    let l = c .before in
-    let h = rw (l .layout .given .1) at (l .before .before .test .ensures) in
-    limited (h .1) (h .0)
+check-search-requires c κs = let h = held (c .before) in limited (h .1) (h .0)
 
 returns-3 : tie.Need-returns-3
 returns-3 c =
-    let r = c .before .before .before in
+    let n = c .before in
+    let r = n .before .before in
     let l = r .before .before in
-    let a = l .before .before .before .before .before .before .before .before .args in
-    let h = rw (l .layout .given .1) at (l .before .before .test .ensures) in
-    refused-with (a .pins .now) (h .1) (omega arith) (rw (c .before .n .given .1) at (r .check-search .ensures _ (counts-of (h .1) (h .0))))
+    let s = l .before .before .before .before .before .before .before .before in
+    refused-with (s .args .pins .now) (held l .1) (omega arith) (rw (n .n .given .1) at (tested r))
 
 search-known-requires : tie.Need-search-known-requires
 search-known-requires c κs =
     let t = c .before .before in
     let r = t .before .before in
-    let l = r .before .before in
-    let h = rw (l .layout .given .1) at (l .before .before .test .ensures) in
-    record {
-      held = h .1;
-      layout-of = h .0;
-      user-of = omega arith;
-      tests = rw (t .enum-told2 .given .1) at (r .check-search .ensures _ (counts-of (h .1) (h .0)));
-    }
+    let h = held (r .before .before) in
+    record { held = h .1; layout-of = h .0; user-of = omega arith; tests = rw (t .enum-told2 .given .1) at (tested r) }
 
 same-length : tie.Need-same-length
 same-length c = c .before .before .before .before .search-known .kept .1 .1 .1 .1 .1 .0
@@ -56,10 +67,8 @@ returns-4 c =
     let t = k .before .before .before in
     let r = t .before .before in
     let l = r .before .before in
-    let a = l .before .before .before .before .before .before .before .before .args in
-    let h = rw (l .layout .given .1) at (l .before .before .test .ensures) in
-    answered (a .pins .now) (h .1) (omega arith) (rw (t .enum-told2 .given .1) at (r .check-search .ensures _ (counts-of (h .1) (h .0))))
-    (k .search-known .ensures)
+    let s = l .before .before .before .before .before .before .before .before in
+    answered (s .args .pins .now) (held l .1) (omega arith) (rw (t .enum-told2 .given .1) at (tested r)) (k .search-known .ensures)
 
 pub search-spec : {M : Type 1} → statement M
 search-spec =

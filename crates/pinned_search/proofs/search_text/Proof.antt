@@ -4,7 +4,8 @@ use Prim.Native.Nat.{ℕ}
 use native.Mathlib.Omega.{arith}
 use lib.ListN.{length-replicate}
 use Rattle.pins.specs.Pins.{pinsOf}
-use Rattle.pinned_search.proofs.Answers.{fits-pins, fits-output, text-is}
+use Rattle.pinning.proofs.Fresh.{fits-fresh}
+use Rattle.pinned_search.proofs.Answers.{fits-output, text-is}
 use borrow.Author.Needs.{needs}
 use Rattle.pinned_search.proofs.search_text.Statement.{statement}
 use Rattle.pinned_search.proofs.search_text.Tie as tie
@@ -20,7 +21,9 @@ slice-aggregate-pin-circuit-2 : tie.Need-slice-aggregate-pin-circuit-2
 slice-aggregate-pin-circuit-2 c = sym (length-replicate {A = ℕ} 33032 0)
 
 pin-circuit-requires : tie.Need-pin-circuit-requires
-pin-circuit-requires c κs = fits-pins (c .before .before .before .before .before .before .pre) 4097 33032 (omega arith) (omega arith)
+pin-circuit-requires c κs =
+    let f = c .before .before .before .before .before .before .pre in
+    fits-fresh (f .held) (f .layout-of) (f .user-of) 4097 33032 (omega arith) (omega arith)
 
 slice-aggregate-search : tie.Need-slice-aggregate-search
 slice-aggregate-search c = sym (c .before .before .before .pin-circuit .kept .1 .1 .1 .1 .1 .0 ∙ length-replicate {A = ℕ} 33032 0)
