@@ -24,7 +24,8 @@ use Rattle.headers.specs.Header.{countsMeant}
 use Rattle.headers.specs.declared.Counts as headers
 use Rattle.layout.specs.declared.Layout.{Layout}
 use Rattle.layout.specs.Layout.{PlacesOf, Counted}
-use Rattle.sections.specs.Sections.{headerAt}
+use Rattle.sections.specs.Sections.{headerAt, numbersWithin}
+use Rattle.sections.proofs.Literals.{large-wrong}
 use Rattle.roundtrip.proofs.Counts.{counted}
 use Rattle.validity.specs.Validity.{judged}
 use Rattle.load.specs.declared.Counts.{Counts}
@@ -138,10 +139,10 @@ module _ (binary : Bool) (k : Counts) (g : List ℕ) (c : Circuit) (b : sections
     unfolding loadBody
     body-accepts = ap accepts same-circuit ∙ rw b
 
-  -- a circuit whose literals are not right
-  pub body-large : literalsRight c ≡ false → loadBody binary (headerMeant k) g ≡ refused 6
+  -- a circuit with a number above the limit
+  pub body-large : numbersWithin binary c ≡ false → loadBody binary (headerMeant k) g ≡ refused 6
   unfolding loadBody accepts judged
-  body-large e = rw (b, e)
+  body-large e = rw (b, large-wrong binary c e)
 
 -- no circuit
 pub body-refused : (binary : Bool) (h : Header) (g : List ℕ) {n : ℕ} → sections binary h g ≡ refused n → loadBody binary h g ≡ refused n

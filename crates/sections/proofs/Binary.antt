@@ -2,23 +2,21 @@
 -- stored. Assumes nothing.
 use mathlib.Core.Path.{_≡_, refl, sym, ap, ap₂, _∙_, subst}
 use mathlib.Core.Bool.{Bool, true, false, _&&_}
-use mathlib.Core.List.{List, [], _∷_, _++_, map}
+use mathlib.Core.List.{List, [], _∷_, _++_, map, append-assoc}
 use mathlib.Core.Option.{none}
 use Prim.Native.Nat.{ℕ, suc, _+_, _*_, _≤_}
 use native.Mathlib.Omega.{arith}
-use lib.Dec.{T, leb, leb→le}
-use lib.ListN.{length, getD, take, drop, length-append, length-map, take-append-drop}
+use lib.Dec.{leb}
+use lib.ListN.{length, take, drop, length-append, length-map, take-append-drop}
 use lib.Seq.{take-at, slice}
-use Rattle.aiger.specs.Lists.{every}
 use Rattle.aiger.specs.Text.{rows}
-use Rattle.aiger.specs.Circuit.{Circuit, Gate, literalsRight}
+use Rattle.aiger.specs.Circuit.{Circuit, Gate}
 use Rattle.aiger.specs.File.{Header, isTail, first}
 use Rattle.aiger.specs.Binary.{implied, latchesFrom, gatesFrom}
 use Rattle.aiger.specs.Load as load
 use Rattle.aiger.specs.Load.{Answer, refused, gives, read, test, binaryBody, sections}
 use Rattle.aiger.specs.Write.{countRow}
 use Rattle.aiger.specs.Memory.{content, latchWords, gateWords}
-use Rattle.aiger.proofs.Tests.{and, and-left, and-right, true-T}
 use Rattle.roundtrip.proofs.LoadValid.{rows-length, implied-length, latches-length, gates-length}
 use Rattle.roundtrip.proofs.Content.{words-take}
 use Rattle.layout.specs.Words.{word, contentEnd}
@@ -26,20 +24,17 @@ use Rattle.layout.specs.declared.Layout.{Layout}
 use Rattle.layout.specs.Layout.{PlacesOf}
 use Rattle.layout.specs.Table.{table, Chained}
 use Rattle.lines.specs.Lines.{flat, within}
-use Rattle.lines.proofs.Storing.{within-padded}
+use Rattle.lines.proofs.Storing.{every-append}
 use Rattle.binary.specs.Sections.{LatchesRead, GatesRead}
 use Rattle.binary.proofs.Latches as latches
 use Rattle.binary.proofs.Differences as gates
-use Rattle.sections.specs.Sections.{headerAt, BodyAt, PastKept}
+use Rattle.sections.specs.Sections.{headerAt, latchNumbers, lineNumbers, numbersWithin, BodyAt, PastKept}
 use Rattle.sections.specs.declared.Body.the-variants.{Read, Large}
 use Rattle.sections.specs.Spans.{Runs, Stops}
-use Rattle.sections.proofs.Literals.{literals-within}
-use Rattle.sections.proofs.Lines.{Begins, short, rows-short, past, flat-ones}
+use Rattle.sections.proofs.Lines.{Begins, rows-short, within-flat, past, flat-ones}
 use Rattle.sections.proofs.Parts.{
   headerIn,
   layout-header,
-  unlike,
-  not-so,
   two,
   moved,
   Lines,
@@ -65,24 +60,11 @@ put-begins {w} {w′} {xs} {n} ys r m b e l =
     let e′ : w′ ≡ xs ++ ys ++ r = e ∙ ap (λ (zs : List ℕ). zs ++ ys ++ r) (b .words) in
     record { size = size; words = ap (take (n + m)) e′ ∙ take-at (xs ++ ys) r (n + m) size }
 
--- latch lines are within the limit where the words of the latches are
-latches-fit : (limit v : ℕ) (ls : List (List ℕ)) → T (every (short 2) ls) → T (within limit (latchWords (latchesFrom v ls)))
-    → T (every (within limit) ls)
-unfolding latchWords latchesFrom
-latches-fit limit v [] s t = tt
-latches-fit limit v (r ∷ ls) s t =
-    let l = leb→le (length r) 2 (and-left (short 2 r) (every (short 2) ls) s) in
-    let a = getD r 0 0 in
-    let b = getD r 1 0 in
-    let w = within limit (latchWords (latchesFrom (suc v) ls)) in
-    let t1 = and-right (leb (2 * v) limit) (leb a limit && (leb b limit && w)) t in
-    let t2 = and-right (leb a limit) (leb b limit && w) t1 in
-    let line : T (within limit r) =
-    rw (← within-padded limit 2 r l, latches.two-words r)
-    (and (leb a limit) (leb b limit && true) (and-left (leb a limit) (leb b limit && w) t1)
-    (and (leb b limit) true (and-left (leb b limit) w t2) tt)) in
-    and (within limit r) (every (within limit) ls) line
-    (latches-fit limit (suc v) ls (and-right (short 2 r) (every (short 2) ls) s) (and-right (leb b limit) w t2))
+-- latch lines as the numbers of latches
+flat-pairs : (v : ℕ) (ls : List (List ℕ)) → flat 2 ls ≡ latchNumbers (latchesFrom v ls)
+unfolding flat latchNumbers latchesFrom
+flat-pairs v [] = refl
+flat-pairs v (r ∷ ls) = rw (latches.two-words r, flat-pairs (suc v) ls)
 
 -- ---- the sections
 
@@ -210,31 +192,38 @@ module _ (s : List ℕ) (at : ℕ) (p : Layout) (limit : ℕ) (w : List ℕ) (q 
             (omega (arith, gates.words-length (r4 .gates), many-gates)) (omega (arith, q)) (omega (arith, h, k1 .1, k2 .1, k3 .1)) in
             subst (λ (k : ℕ). drop k w4 ≡ drop k w) h (k4 .0 ∙ k3 .0 ∙ k2 .0 ∙ k1 .0)
 
-        all-fit : limit ≡ 2 * p .m + 1 → literalsRight made ≡ true → (f2 && f3) ≡ true
-        all-fit l e =
-            let v = literals-within made e in
-            let low : (xs : List ℕ) → T (within (2 * p .m + 1) xs) → T (within limit xs) =
-            λ xs t. subst (λ (k : ℕ). T (within k xs)) (sym l) t in
+        latches-tested : f2 ≡ within limit (latchNumbers (made .latches))
+        latches-tested =
             let few = rows-short 1 2 (p .l) (drop at s) (r2 .lines, drop a2 s) (r2 .meaning) in
-            let a : T (within limit (latchWords (made .latches))) = low (latchWords (made .latches)) (v .latches) in
-            let t2 : f2 ≡ true = r2 .tested ∙ true-T (every (within limit) (r2 .lines)) (latches-fit limit (p .i + 1) (r2 .lines) few a) in
-            let ones : (ls : List (List ℕ)) → T (within (2 * p .m + 1) (map first ls)) → T (within limit (flat 1 ls)) =
-            λ ls i. rw (flat-ones ls) (low (map first ls) i) in
-            let ls = lines r3 in
-            let t3 : f3 ≡ true =
-            fits r3 refl
-            (ones (head ls) (v .outputs), (ones (head (rest ls)) (v .bads), (ones (head (rest (rest ls))) (v .constraints), tt))) in
-            rw (t2, t3)
+            r2 .tested ∙ within-flat limit 2 (r2 .lines) few ∙ ap (within limit) (flat-pairs (p .i + 1) (r2 .lines))
 
-        -- a number above the limit is a literal that is not right
-        large : limit ≡ 2 * p .m + 1 → (f2 && f3) ≡ false → literalsRight made ≡ false
-        large l e = not-so (literalsRight made) (λ t. unlike (sym e ∙ all-fit l t))
+        lines-tested : f3 ≡ within limit (made .outputs ++ made .bads ++ made .constraints)
+        lines-tested =
+            let ls = lines r3 in
+            let same : stacked [] (slice 2 5 (table p)) ls ≡ made .outputs ++ made .bads ++ made .constraints =
+            rw (flat-ones (head ls), flat-ones (head (rest ls)), flat-ones (head (rest (rest ls)))) in
+            fits r3 [] refl ∙ ap (within limit) same
+
+        numbers-are : latchNumbers (made .latches) ++ (made .outputs ++ made .bads ++ made .constraints) ≡ lineNumbers true made
+        unfolding lineNumbers
+        numbers-are = rw (append-assoc, append-assoc, append-assoc)
+
+        -- the test is that of the numbers in the lines
+        tested : limit ≡ 2 * word w 0 + 1 → numbersWithin true made ≡ (f2 && f3)
+        unfolding numbersWithin
+        tested l =
+            let e : limit ≡ 2 * p .m + 1 = omega (arith, q, l) in
+            let xs = latchNumbers (made .latches) in
+            let ys = made .outputs ++ made .bads ++ made .constraints in
+            sym (ap₂ (λ (a b : Bool). a && b) latches-tested lines-tested ∙ sym (every-append (λ x. leb x limit) xs ys)
+            ∙ ap (within limit) numbers-are
+            ∙ ap (λ (k : ℕ). within k (lineNumbers true made)) e)
 
         -- every number is within the limit, or one is not
-        pub all-read : contentEnd w ≤ length w → isTail (drop a4 s) ≡ true → (f2 && f3) ≡ true
+        pub all-read : contentEnd w ≤ length w → limit ≡ 2 * word w 0 + 1 → isTail (drop a4 s) ≡ true → (f2 && f3) ≡ true
             → BodyAt true (headerAt w) (drop at s) w4 Read × PastKept w w4 Read
-        all-read l t e = ((made, body-made t, drop (p .end) w4, stored (omega (arith, l)) e), past-kept l e)
+        all-read h l t e = ((made, body-made t, drop (p .end) w4, stored (omega (arith, h)) e, tested l ∙ e), past-kept h e)
 
         pub one-large : limit ≡ 2 * word w 0 + 1 → isTail (drop a4 s) ≡ true → (f2 && f3) ≡ false
             → BodyAt true (headerAt w) (drop at s) w4 Large × PastKept w w4 Large
-        one-large l t e = ((made, body-made t, large (omega (arith, q, l)) e), tt)
+        one-large l t e = ((made, body-made t, tested l ∙ e), tt)

@@ -4,3 +4,4 @@ pub mod Parts
 pub mod Spans
 pub mod Forms
 pub mod Binary
+pub mod Answers

@@ -12,7 +12,7 @@ use Rattle.aiger.specs.Lists.{every}
 use Rattle.aiger.specs.Text.{Token, spaced, ended, malformed, token, onToken, row, rows, when, _>>=_}
 use Rattle.aiger.specs.File.{first, latch, gate}
 use Rattle.aiger.specs.Memory.{latchWords, gateWords}
-use Rattle.aiger.proofs.Tests.{and, and-left, and-right, true-T}
+use Rattle.aiger.proofs.Tests.{and, and-left, and-right}
 use Rattle.roundtrip.proofs.LoadValid.{some-bind, some-same, rows-length}
 use Rattle.lines.specs.Lines.{padded, flat, within, RowsRead}
 use Rattle.lines.proofs.Storing.{every-append, within-padded}
@@ -60,7 +60,7 @@ rows-short least most (suc n) f r h =
     (rows-short least most n (a .0 .1) (d .0) (d .1)))
 
 -- the numbers of short lines are within the limit where the words are that they make
-within-flat : (limit most : ℕ) (ls : List (List ℕ)) → T (every (short most) ls) → every (within limit) ls ≡ within limit (flat most ls)
+pub within-flat : (limit most : ℕ) (ls : List (List ℕ)) → T (every (short most) ls) → every (within limit) ls ≡ within limit (flat most ls)
 unfolding flat
 within-flat limit most [] t = refl
 within-flat limit most (r ∷ ls) t =
@@ -109,11 +109,9 @@ module _ {s : List ℕ} {at least most n limit : ℕ} {w : List ℕ} {from : ℕ
   pub lines-length : length (r .lines) ≡ n
   lines-length = rows-length least most n (drop at s) (r .lines, drop next s) (r .meaning)
 
-  -- the test passes where no word is above the limit
-  pub run-fits : T (within limit (flat most (r .lines))) → fits ≡ true
-  run-fits t =
-      r .tested ∙ within-flat limit most (r .lines) (rows-short least most n (drop at s) (r .lines, drop next s) (r .meaning))
-      ∙ true-T (within limit (flat most (r .lines))) t
+  -- the test is that of the words
+  pub run-fits : fits ≡ within limit (flat most (r .lines))
+  run-fits = r .tested ∙ within-flat limit most (r .lines) (rows-short least most n (drop at s) (r .lines, drop next s) (r .meaning))
 
   -- the words of the lines stand after those before
   pub run-begins : {xs : List ℕ} → fits ≡ true → Begins w from xs → Begins w′ (from + n * most) (xs ++ flat most (r .lines))

@@ -1,20 +1,22 @@
--- A circuit whose literals are right has no number above 2M+1. Assumes nothing.
-use mathlib.Core.Path.{_≡_}
-use mathlib.Core.Bool.{true, _&&_, _||_}
-use mathlib.Core.List.{List, [], _∷_}
+-- A circuit whose literals are right has no number above 2M+1, so that one with such a number is refused with 6. Assumes nothing.
+use mathlib.Core.Path.{_≡_, _∙_, subst}
+use mathlib.Core.Bool.{Bool, true, false, _&&_, _||_}
+use mathlib.Core.List.{List, [], _∷_, _++_}
 use mathlib.Core.Logic.{⊎-elim}
 use Prim.Native.Nat.{ℕ, _+_, _*_, _≤_}
 use native.Mathlib.Omega.{arith}
 use lib.Dec.{T, leb, eqb, leb→le, le→leb, eqb→eq}
 use Rattle.aiger.specs.Lists.{every}
 use Rattle.aiger.specs.Circuit.{Circuit, Latch, Gate, literalTests, literalsRight}
-use Rattle.aiger.specs.Memory.{latchWords, gateWords}
-use Rattle.aiger.proofs.Tests.{and, and-left, and-right, T-true, all-at, or-cases}
+use Rattle.aiger.specs.Memory.{latchWords, gateWords, content}
+use Rattle.aiger.proofs.Tests.{and, and-left, and-right, T-true, true-T, false-of, all-at, or-cases}
 use Rattle.roundtrip.proofs.LoadWrite.{each}
 use Rattle.lines.specs.Lines.{within}
+use Rattle.lines.proofs.Storing.{every-append}
+use Rattle.sections.specs.Sections.{latchNumbers, lineNumbers, numbersWithin}
 
 -- no number of a part is above the limit
-pub record Within (limit : ℕ) (c : Circuit) : Type 0 where
+record Within (limit : ℕ) (c : Circuit) : Type 0 where
   pub inputs : T (within limit (c .inputs))
   pub latches : T (within limit (latchWords (c .latches)))
   pub outputs : T (within limit (c .outputs))
@@ -65,7 +67,7 @@ module _ (limit : ℕ) where
       (gates-within gs (and-right at rest-a a) (and-right bt rest-b b) (and-right ct rest-c c))
 
 -- where the literals are right, no number is above 2M+1
-pub literals-within : (c : Circuit) → literalsRight c ≡ true → Within (2 * c .maxVar + 1) c
+literals-within : (c : Circuit) → literalsRight c ≡ true → Within (2 * c .maxVar + 1) c
 unfolding literalsRight
 literals-within c e =
     let limit = 2 * c .maxVar + 1 in
@@ -79,3 +81,53 @@ literals-within c e =
       constraints = l .constraints;
       gates = gates-within limit (c .gates) (l .gates) (l .lefts) (l .rights);
     }
+
+-- latch lines in binary form have some of the words of the latches
+pairs-within : (limit : ℕ) (ls : List Latch) → T (within limit (latchWords ls)) → T (within limit (latchNumbers ls))
+unfolding latchWords latchNumbers
+pairs-within limit [] t = tt
+pairs-within limit (x ∷ ls) t =
+    let n = leb (x .next) limit in
+    let r = leb (x .reset) limit in
+    let w = within limit (latchWords ls) in
+    let t1 = and-right (leb (x .lit) limit) (n && (r && w)) t in
+    let t2 = and-right n (r && w) t1 in
+    let k = within limit (latchNumbers ls) in
+    and n (r && k) (and-left n (r && w) t1) (and r k (and-left r w t2) (pairs-within limit ls (and-right r w t2)))
+
+joined : (limit : ℕ) (xs ys : List ℕ) → T (within limit xs) → T (within limit ys) → T (within limit (xs ++ ys))
+joined limit xs ys a b =
+    let x = within limit xs in
+    let y = within limit ys in
+    T-true (every-append (λ n. leb n limit) xs ys ∙ true-T (x && y) (and x y a b))
+
+-- and so none in the lines, of either form
+numbers-right : (binary : Bool) (c : Circuit) → literalsRight c ≡ true → T (numbersWithin binary c)
+unfolding numbersWithin lineNumbers content
+numbers-right false c e =
+    let v = literals-within c e in
+    let limit = 2 * c .maxVar + 1 in
+    let i = c .inputs in
+    let l = latchWords (c .latches) in
+    let o = c .outputs in
+    let b = c .bads in
+    let k = c .constraints in
+    let j1 = joined limit i l (v .inputs) (v .latches) in
+    let j2 = joined limit (i ++ l) o j1 (v .outputs) in
+    let j3 = joined limit (i ++ l ++ o) b j2 (v .bads) in
+    let j4 = joined limit (i ++ l ++ o ++ b) k j3 (v .constraints) in
+    joined limit (i ++ l ++ o ++ b ++ k) (gateWords (c .gates)) j4 (v .gates)
+numbers-right true c e =
+    let v = literals-within c e in
+    let limit = 2 * c .maxVar + 1 in
+    let l = latchNumbers (c .latches) in
+    let o = c .outputs in
+    let b = c .bads in
+    let j1 = joined limit l o (pairs-within limit (c .latches) (v .latches)) (v .outputs) in
+    let j2 = joined limit (l ++ o) b j1 (v .bads) in
+    joined limit (l ++ o ++ b) (c .constraints) j2 (v .constraints)
+
+-- Clause 6.1: a number above 2M+1 is a literal or a reset that is not right
+pub large-wrong : (binary : Bool) (c : Circuit) → numbersWithin binary c ≡ false → literalsRight c ≡ false
+large-wrong binary c e =
+    false-of (literalsRight c) (λ t. subst T e (numbers-right binary c (true-T (literalsRight c) t)))

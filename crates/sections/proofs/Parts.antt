@@ -1,15 +1,15 @@
 -- Sections read one after the other by the table of sections; those of a file in text form: the circuit that they make, and that its
 -- content is what was stored. Assumes nothing.
-use mathlib.Core.Path.{_≡_, refl, sym, ap, _∙_, subst}
+use mathlib.Core.Path.{_≡_, refl, sym, ap, ap₂, _∙_, subst}
 use mathlib.Core.Bool.{Bool, true, false, _&&_}
 use mathlib.Core.List.{List, [], _∷_, _++_, map}
 use mathlib.Core.Option.{Option, none, some}
 use Prim.Native.Nat.{ℕ, zero, suc, _+_, _*_, _≤_, _<_}
 use native.Mathlib.Omega.{arith}
-use lib.Dec.{T}
+use lib.Dec.{leb}
 use lib.ListN.{length, getD, take, drop, length-map, take-append-drop}
 use Rattle.aiger.specs.Text.{rows, when, _>>=_, _>>_}
-use Rattle.aiger.specs.Circuit.{Circuit, literalsRight}
+use Rattle.aiger.specs.Circuit.{Circuit}
 use Rattle.aiger.specs.File.{Header, isTail, body, first, latch, gate}
 use Rattle.aiger.specs.Load as load
 use Rattle.aiger.specs.Load.{Answer, refused, gives, read, sections}
@@ -18,18 +18,18 @@ use Rattle.aiger.specs.Memory.{content}
 use Rattle.aiger.proofs.Tests.{and-left, and-right, T-true, true-T}
 use Rattle.roundtrip.proofs.Content.{words-take}
 use Rattle.lines.specs.Lines.{flat, within}
+use Rattle.lines.proofs.Storing.{every-append}
 use Rattle.layout.specs.declared.Layout.{Layout}
 use Rattle.layout.specs.declared.Section.{Section}
 use Rattle.layout.specs.Words.{word, contentEnd}
 use Rattle.layout.specs.Layout.{PlacesOf}
 use Rattle.layout.specs.Table.{table, sectionAt, Chained}
 use Rattle.layout.proofs.Table.{chained}
-use Rattle.sections.specs.Sections.{headerAt, BodyAt, PastKept}
+use Rattle.sections.specs.Sections.{headerAt, lineNumbers, numbersWithin, BodyAt, PastKept}
 use Rattle.sections.specs.declared.Body.the-variants.{Read, Large}
 use Rattle.sections.specs.Spans.{sectionEnd, Runs, Stops}
 use Rattle.sections.specs.Spans.Runs.{done, more}
 use Rattle.sections.specs.Spans.Stops.{here, later}
-use Rattle.sections.proofs.Literals.{literals-within}
 use Rattle.sections.proofs.Lines.{
   Begins,
   lines-length,
@@ -58,13 +58,6 @@ layout-header p q =
       J = 0;
       F = 0;
     }
-
-pub unlike : false ≡ true → ⊥
-unlike e = let z : _≡_ {A = ℕ} 0 1 = cc in omega arith
-
-pub not-so : (b : Bool) → (b ≡ true → ⊥) → b ≡ false
-not-so true f = absurd (f refl)
-not-so false f = refl
 
 pub two : (f g : Bool) → (f && g) ≡ true → (f ≡ true) × (g ≡ true)
 two f g e = (true-T f (and-left f g (T-true e)), true-T g (and-right f g (T-true e)))
@@ -142,11 +135,6 @@ abbrev pub Counted : List Section → Lines → Type 0
 Counted [] ls = Unit {0}
 Counted (t ∷ ts) ls = (length (head ls) ≡ t .rows) × Counted ts (rest ls)
 
--- no word is above the limit
-abbrev pub AllWithin : ℕ → List Section → Lines → Type 0
-AllWithin limit [] ls = Unit {0}
-AllWithin limit (t ∷ ts) ls = T (within limit (flat (t .most) (head ls))) × AllWithin limit ts (rest ls)
-
 -- the words of the sections, after others
 abbrev pub stacked : List ℕ → List Section → Lines → List ℕ
 stacked xs [] ls = xs
@@ -190,10 +178,13 @@ module _ {s : List ℕ} {limit n : ℕ} {w′ : List ℕ} {f′ : Bool} where
   passed done e = e
   passed (more {f = f} {f₁ = f₁} r q) e = two f f₁ (passed q e) .0
 
-  pub fits : {ts : List Section} {at : ℕ} {w : List ℕ} {f : Bool} (r : Runs s limit n w′ f′ ts at w f) → f ≡ true
-      → AllWithin limit ts (lines r) → f′ ≡ true
-  fits done e a = e
-  fits (more r q) e a = fits q (rw (e, run-fits r (a .0))) (a .1)
+  -- the test is that of the words
+  pub fits : {ts : List Section} {at : ℕ} {w : List ℕ} {f : Bool} (r : Runs s limit n w′ f′ ts at w f) (xs : List ℕ)
+      → f ≡ within limit xs → f′ ≡ within limit (stacked xs ts (lines r))
+  fits done xs e = e
+  fits (more {t = t} r q) xs e =
+      let ys = flat (t .most) (r .lines) in
+      fits q (xs ++ ys) (ap₂ (λ (a b : Bool). a && b) e (run-fits r) ∙ sym (every-append (λ x. leb x limit) xs ys))
 
   -- each section's words stand after those before
   pub begins : {ts : List Section} {at : ℕ} {w : List ℕ} {f : Bool} (r : Runs s limit n w′ f′ ts at w f) → f′ ≡ true
@@ -279,37 +270,36 @@ module _ (s : List ℕ) (at : ℕ) (p : Layout) (limit : ℕ) (w : List ℕ) (q 
         let h : p .end ≡ contentEnd w = omega (arith, q) in
         subst (λ (k : ℕ). drop k w′ ≡ drop k w) h (past-all r e 7 (p .end) (chained p q) (p .end) (omega arith) (omega (arith, h)) .0)
 
-    all-fit : limit ≡ 2 * p .m + 1 → literalsRight circuit ≡ true → f′ ≡ true
-    all-fit l e =
-        let v = literals-within circuit e in
-        let low : (xs ys : List ℕ) → ys ≡ xs → T (within (2 * p .m + 1) xs) → T (within limit ys) = λ xs ys y t. rw (l, y) t in
-        fits r refl
-        ((
-          low _ _ (flat-ones _) (v .inputs),
-          (
-            low _ _ (flat-latches _) (v .latches),
-            (
-              low _ _ (flat-ones _) (v .outputs),
-              (
-                low _ _ (flat-ones _) (v .bads),
-                (
-                  low _ _ (flat-ones _) (v .constraints),
-                  (low _ _ (flat-gates _) (v .gates), tt),
-                ),
-              ),
-            ),
-          ),
-        ))
+    numbers-are : stacked [] (table p) (lines r) ≡ lineNumbers false circuit
+    unfolding lineNumbers content
+    numbers-are =
+        let i = lines r in
+        let l = rest i in
+        let o = rest l in
+        let k = rest o in
+        let c = rest k in
+        rw (
+          flat-ones (head i),
+          flat-latches (head l),
+          flat-ones (head o),
+          flat-ones (head k),
+          flat-ones (head c),
+          flat-gates (head (rest c)),
+        )
 
-    -- a number above the limit is a literal that is not right
-    large : limit ≡ 2 * p .m + 1 → f′ ≡ false → literalsRight circuit ≡ false
-    large l e = not-so (literalsRight circuit) (λ t. unlike (sym e ∙ all-fit l t))
+    -- the test is that of the numbers in the lines
+    tested : limit ≡ 2 * word w 0 + 1 → numbersWithin false circuit ≡ f′
+    unfolding numbersWithin
+    tested l =
+        let e : 2 * p .m + 1 ≡ limit = omega (arith, q, l) in
+        sym (fits r [] refl ∙ ap (within limit) numbers-are
+        ∙ ap (λ (k : ℕ). within k (lineNumbers false circuit)) (sym e))
 
     -- every number is within the limit, or one is not
-    pub all-read : contentEnd w ≤ length w → isTail (drop n s) ≡ true → f′ ≡ true
+    pub all-read : contentEnd w ≤ length w → limit ≡ 2 * word w 0 + 1 → isTail (drop n s) ≡ true → f′ ≡ true
         → BodyAt false (headerAt w) (drop at s) w′ Read × PastKept w w′ Read
-    all-read l t e = ((circuit, body-made t, drop (p .end) w′, stored (omega (arith, l)) e), past-kept l e)
+    all-read h l t e = ((circuit, body-made t, drop (p .end) w′, stored (omega (arith, h)) e, tested l ∙ e), past-kept h e)
 
     pub one-large : limit ≡ 2 * word w 0 + 1 → isTail (drop n s) ≡ true → f′ ≡ false
         → BodyAt false (headerAt w) (drop at s) w′ Large × PastKept w w′ Large
-    one-large l t e = ((circuit, body-made t, large (omega (arith, q, l)) e), tt)
+    one-large l t e = ((circuit, body-made t, tested l ∙ e), tt)

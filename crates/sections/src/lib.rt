@@ -14,8 +14,8 @@ ghost use Rattle.layout.specs.Table.{table, sectionAt, Chained};
 ghost use Rattle.sections.specs.Sections.{headerAt, BodyAt, PastKept, WordsLeft};
 ghost use Rattle.sections.specs.Spans.{sectionEnd, SectionAt, SpanAt};
 
-// The sections of a file: read and stored; read, with a number above the limit; a line or the tail malformed; or a gate of the binary form
-// damaged.
+// The sections of a file: read and stored, with every number in their lines within the limit; read, with one above it; a line or the tail
+// malformed; or a gate of the binary form damaged.
 pub enum Body {
     Read,
     Large,

@@ -238,7 +238,8 @@ returns-5 c =
     let m = before3 k in
     all-read (a .s .now) (a .at) (a .p) (a .limit) (a .words .now) (s .pre .1 .0) (run1 (before2 m))
     (run2 m _ (T2 k .at .given .1)) (run3 k _ (T3 n .at2 .given .1))
-    (run4 n _ (c .before .before .before .before .end .given .1)) (s .pre .1 .1 .0) (tail (c .before)) (c .if2 .taken)
+    (run4 n _ (c .before .before .before .before .end .given .1)) (s .pre .1 .1 .0) (s .pre .1 .1 .1 .0)
+    (tail (c .before)) (c .if2 .taken)
 
 same-length-6 : tie.Need-same-length-6
 same-length-6 c = size4 (c .before .before .before .before .before .before .before .before)

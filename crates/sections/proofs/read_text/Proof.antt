@@ -56,7 +56,8 @@ returns-3 c =
     let s = n .before .before .before .before in
     let a = s .args in
     all-read (a .s .now) (a .at) (a .p) (a .limit) (a .words .now) (s .pre .1 .0)
-    (found n _ (c .before .before .before .before .end .given .1)) (s .pre .1 .1 .0) (tail (c .before)) (c .if2 .taken)
+    (found n _ (c .before .before .before .before .end .given .1)) (s .pre .1 .1 .0) (s .pre .1 .1 .1)
+    (tail (c .before)) (c .if2 .taken)
 
 returns-4 : tie.Need-returns-4
 returns-4 c =
