@@ -27,20 +27,12 @@ fn say_help() {
     say(
         b"    output j: spent t           they do not part before frame t; there the budget was spent\n\n",
     );
-    say(b"What is not accepted is refused with a number and its cause:\n");
-    help::say_refusals(1, 3);
-    help::say_refusals(5, 8);
+    help::say_file_refusals();
     help::say_refusals(11, 12);
     help::say_refusals(17, 17);
     say(
         b"\nExample: ./yunverok compare crates/join_main/data/old.aag crates/join_main/data/new.aag 20 1048576\n",
     );
-}
-
-fn number_of(i: usize) -> Argument {
-    let mut word = io::buffer();
-    let length = os::arg(i, &mut word);
-    arguments::read_argument(&word[..length])
 }
 
 // Asks for each of n pairs of the joined circuit in m, up to a refusal.
@@ -105,11 +97,11 @@ fn main() {
         say_help();
         return;
     }
-    let Argument::Number(k) = number_of(3) else {
+    let Argument::Number(k) = files::read_number(3) else {
         say_help();
         return;
     };
-    let Argument::Number(d) = number_of(4) else {
+    let Argument::Number(d) = files::read_number(4) else {
         say_help();
         return;
     };

@@ -39,11 +39,13 @@ use Rattle.load.specs.Answers.{answered}
 use Rattle.load.specs.Preview.{Previewed}
 use Rattle.load.specs.declared.Judgement.{Judgement}
 use Rattle.load.proofs.Previews.{preview-load}
+use Rattle.pins.specs.Pins.{pinsOf}
 use Rattle.history.specs.History.{State, Event, History, Same, concerning}
 use Rattle.history.proofs.Undisturbed.{undisturbed, apart}
-use Rattle.panel_session.specs.Session.{Files, Exchange, Session}
-use Rattle.panel_session.specs.Session as lines
+use Rattle.panel_session.specs.Session.{Files, Exchange, Session, start}
+use Rattle.panel_session.specs.Session as sessions
 use Rattle.panel_session.proofs.Undisturbed as panel
+use Rattle.panel_session.proofs.Start.{start-empty, start-free, start-apart, start-undisturbed}
 use Rattle.fold.specs.Chosen as folding
 use Rattle.joined.specs.Joined.{literalUnder, joined, joinTests, JoinedInto}
 use Rattle.parting.proofs.Parted.{firstRun, secondRun}
@@ -222,17 +224,25 @@ pub record Correct : Type 1 where
 
   -- a history without the calls of the other user, save accepted loads, is a history, from any state that is the same to user u
   pub users-apart : (u : ℕ) (es : List Event) {s t : State} → Same u s t → History s es → History t (concerning u es)
-  -- and whatever history has these calls has these replies
+  -- and whatever history has these calls returns the same for them
   pub users-undisturbed : (u : ℕ) (es es₂ : List Event) {s t : State} → Same u s t → History s es → History t es₂
       → map (λ (e : Event). e .call) es₂ ≡ map (λ (e : Event). e .call) (concerning u es)
-      → map (λ (e : Event). e .reply) es₂ ≡ map (λ (e : Event). e .reply) (concerning u es)
-  -- the lines of the resident program that concern user u are a session by themselves, with the same texts
-  pub panel-apart : (u : ℕ) {room : ℕ} (es : List Exchange) {s t : State} → Same u s t → Session room s es → Session room t (lines.concerning u es)
-  -- and whatever session has these lines prints these texts
+      → map (λ (e : Event). e .returned) es₂ ≡ map (λ (e : Event). e .returned) (concerning u es)
+  -- the requests of the resident program that concern user u are a session by themselves, with the same replies
+  pub panel-apart : (u : ℕ) {room : ℕ} (es : List Exchange) {s t : State} → Same u s t → Session room s es → Session room t (sessions.concerning u es)
+  -- and whatever session has these requests prints these replies
   pub panel-undisturbed : (u : ℕ) {room : ℕ} (es es₂ : List Exchange) {s t : State} → Same u s t → Session room s es → Session room t es₂
-      → map {B = List ℕ × Files} (λ (e : Exchange). (e .line, e .files)) es₂
-      ≡ map {B = List ℕ × Files} (λ (e : Exchange). (e .line, e .files)) (lines.concerning u es)
-      → map (λ (e : Exchange). e .reply) es₂ ≡ map (λ (e : Exchange). e .reply) (lines.concerning u es)
+      → map {B = List ℕ × Files} (λ (e : Exchange). (e .request, e .files)) es₂
+      ≡ map {B = List ℕ × Files} (λ (e : Exchange). (e .request, e .files)) (sessions.concerning u es)
+      → map (λ (e : Exchange). e .reply) es₂ ≡ map (λ (e : Exchange). e .reply) (sessions.concerning u es)
+  -- the resident program starts with no circuit and with all pins free, and from there the same holds
+  pub panel-start-empty : HoldsNone (start .memory)
+  pub panel-start-free : (user i : ℕ) → pinsOf (start .pins) user i ≡ 2
+  pub panel-start-apart : (u : ℕ) {room : ℕ} (es : List Exchange) → Session room start es → Session room start (sessions.concerning u es)
+  pub panel-start-undisturbed : (u : ℕ) {room : ℕ} (es es₂ : List Exchange) → Session room start es → Session room start es₂
+      → map {B = List ℕ × Files} (λ (e : Exchange). (e .request, e .files)) es₂
+      ≡ map {B = List ℕ × Files} (λ (e : Exchange). (e .request, e .files)) (sessions.concerning u es)
+      → map (λ (e : Exchange). e .reply) es₂ ≡ map (λ (e : Exchange). e .reply) (sessions.concerning u es)
 
 -- ---- the fields that stand nowhere else
 
@@ -331,4 +341,8 @@ correct =
       users-undisturbed = undisturbed;
       panel-apart = panel.apart;
       panel-undisturbed = panel.undisturbed;
+      panel-start-empty = start-empty;
+      panel-start-free = start-free;
+      panel-start-apart = start-apart;
+      panel-start-undisturbed = start-undisturbed;
     }

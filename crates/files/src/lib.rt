@@ -1,4 +1,5 @@
-// What the programs share: printing, and reading the files that arguments name. What fails is told on standard error.
+// What the programs share: printing, and reading what arguments are or name. What fails is told on standard error.
+use arguments::Argument;
 use input::Got;
 use libc::STDOUT_FILENO;
 ghost use Rattle.io.specs.Counts.{Counts};
@@ -69,6 +70,13 @@ pub fn read_argument(i: usize, buf: &mut [u8]) -> Got
         return nothing(buf);
     }
     read_named(&name[..length], buf)
+}
+
+// Reads the number that argument i is.
+pub fn read_number(i: usize) -> Argument {
+    let mut word = io::buffer();
+    let length = os::arg(i, &mut word);
+    arguments::read_argument(&word[..length])
 }
 
 // How much was read of two files, and whether one of them was not read.

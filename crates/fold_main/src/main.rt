@@ -13,17 +13,9 @@ fn say_help() {
     say(
         b"its inputs are the free start values and the inputs of frames 0 to t, its output is the hit.\n\n",
     );
-    say(b"What is not accepted is refused with a number and its cause:\n");
-    help::say_refusals(1, 3);
-    help::say_refusals(5, 8);
+    help::say_file_refusals();
     help::say_refusals(10, 12);
     say(b"\nExample: ./yunverok fold crates/fold_main/data/s.aag 0 2\n");
-}
-
-fn number_of(i: usize) -> Argument {
-    let mut word = io::buffer();
-    let length = os::arg(i, &mut word);
-    arguments::read_argument(&word[..length])
 }
 
 // Folds bad line b of the circuit of the file that argument 1 names at frame t.
@@ -55,11 +47,11 @@ fn main() {
         say_help();
         return;
     }
-    let Argument::Number(b) = number_of(2) else {
+    let Argument::Number(b) = files::read_number(2) else {
         say_help();
         return;
     };
-    let Argument::Number(t) = number_of(3) else {
+    let Argument::Number(t) = files::read_number(3) else {
         say_help();
         return;
     };

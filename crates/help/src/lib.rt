@@ -25,3 +25,17 @@ pub fn say_refusals(first: u32, last: u32) {
         say_refusal(n);
     }
 }
+
+// Prints what a program that loads a file refuses for its file.
+pub fn say_file_refusals() {
+    say(b"What is not accepted is refused with a number and its cause:\n");
+    say_refusals(1, 3);
+    say_refusals(5, 8);
+}
+
+// Prints what a program refuses that loads a file and reads a witness.
+pub fn say_witness_refusals() {
+    say_file_refusals();
+    say_refusals(14, 14);
+    say_refusals(16, 16);
+}

@@ -40,7 +40,7 @@ use Rattle.user_join.specs.Joins.{UserJoined}
 use Rattle.user_calls.specs.Calls.{Replaced, UserLoaded, PinSet, PinEffect, pinTests}
 use Rattle.search.specs.Chosen as Search
 use Rattle.fold.specs.Chosen as Fold
-use Rattle.history.specs.History.{State, Call, Reply, Step, Same, userOf, isAccepted}
+use Rattle.history.specs.History.{State, Call, Returned, Step, Same, userOf, isAccepted}
 use Rattle.parting.proofs.Contract.{join-determined}
 
 few : (n : ℕ) (l : List ℕ) → length (take n l) ≤ n
@@ -175,32 +175,32 @@ under-same : {A S : Type 0} {user : ℕ} {lent : S} (P : List ℕ → (ℕ → �
 under-same P f {m} {m′} {q} {q′} e d x y a b s t =
     for-user (λ (a b : _). a ≡ b) refl (λ x y a b g h. f m q x y a b g (subst (λ (n : List ℕ). P n q y b) (sym e) (subst (λ (k : ℕ → ℕ). P m′ k y b) (sym d) h))) x y a b s t
 
-replay-one : (m : List ℕ) (q : ℕ → ℕ) (text : List ℕ) (x y : Answer Verdict) → PinnedReplayed m q text x → PinnedReplayed m q text y → x ≡ y
-replay-one m q text x y f g =
+replay-one : (m : List ℕ) (q : ℕ → ℕ) (witness : List ℕ) (x y : Answer Verdict) → PinnedReplayed m q witness x → PinnedReplayed m q witness y → x ≡ y
+replay-one m q witness x y f g =
     operated-same (λ (a b : Unit {0}). Unit {0}) alike-self (λ c. refl) tt (λ c a b s t e k. (one c a b s t e k, tt)) f g .0
   where
-    one : (c : Circuit) (a b : Verdict) (s t : Unit {0}) → PinnedReplayEffect q text c a s → PinnedReplayEffect q text c b t → a ≡ b
+    one : (c : Circuit) (a b : Verdict) (s t : Unit {0}) → PinnedReplayEffect q witness c a s → PinnedReplayEffect q witness c b t → a ≡ b
     one c a b s t e k =
         let z : _≡_ {A = ℕ × List ℕ} (e .bad, e .body) (k .bad, k .body) = some-same (sym (e .reads) ∙ k .reads) in
         e .judged ∙ ap (λ (h : ℕ × List ℕ). verdict (pinnedShows c q (h .0)) (h .1)) z ∙ sym (k .judged)
 
-widen-one : (m : List ℕ) (q : ℕ → ℕ) (text out : List ℕ) (x y : Answer ℕ) (o p : List ℕ) → PinnedWidened m q text out x o → PinnedWidened m q text out y p
+widen-one : (m : List ℕ) (q : ℕ → ℕ) (witness out : List ℕ) (x y : Answer ℕ) (o p : List ℕ) → PinnedWidened m q witness out x o → PinnedWidened m q witness out y p
     → (x ≡ y) × (o ≡ p)
-widen-one m q text out x y o p f g =
+widen-one m q witness out x y o p f g =
     operated-same (λ (a b : List ℕ). a ≡ b) alike-self (λ c. refl) refl (λ c a b s t e k. (e .count ∙ sym (k .count), one c a b s t e k)) f g
   where
-    one : (c : Circuit) (a b : ℕ) (s t : List ℕ) → PinnedWidenEffect q text out c a s → PinnedWidenEffect q text out c b t → s ≡ t
+    one : (c : Circuit) (a b : ℕ) (s t : List ℕ) → PinnedWidenEffect q witness out c a s → PinnedWidenEffect q witness out c b t → s ≡ t
     one c a b s t e k =
         let z : _≡_ {A = ℕ × List ℕ} (e .bad, e .body) (k .bad, k .body) = some-same (sym (e .reads) ∙ k .reads) in
-        e .writes ∙ ap (λ (h : ℕ × List ℕ). front (pinnedWidenedText c q text h) out) z ∙ sym (k .writes)
+        e .writes ∙ ap (λ (h : ℕ × List ℕ). front (pinnedWidenedText c q witness h) out) z ∙ sym (k .writes)
 
 preview-same : {room room′ : ℕ} {f : List ℕ} {user : ℕ} {r r′ : Judgement} → room ≡ room′ → UserPreviewed room f user r → UserPreviewed room′ f user r′
-    → Reply.previewed (answered (r .answer)) (r .needed) ≡ Reply.previewed (answered (r′ .answer)) (r′ .needed)
+    → Returned.previewed (answered (r .answer)) (r .needed) ≡ Returned.previewed (answered (r′ .answer)) (r′ .needed)
 preview-same e (UserPreviewed.stranger h) (UserPreviewed.stranger k) = refl
 preview-same e (UserPreviewed.stranger h) (UserPreviewed.known k p) = absurd (omega arith)
 preview-same e (UserPreviewed.known h p) (UserPreviewed.stranger k) = absurd (omega arith)
 preview-same {f = f} e (UserPreviewed.known h p) (UserPreviewed.known k q) =
-    ap₂ Reply.previewed (p .answer ∙ ap (λ (n : ℕ). load n f >>= λ c. gives (countsOf c)) e ∙ sym (q .answer)) (p .needed ∙ sym (q .needed))
+    ap₂ Returned.previewed (p .answer ∙ ap (λ (n : ℕ). load n f >>= λ c. gives (countsOf c)) e ∙ sym (q .answer)) (p .needed ∙ sym (q .needed))
 
 -- ---- a call that replaces the circuit, for any user
 
@@ -242,56 +242,56 @@ join-same u {first = first} {second = second} a x y =
 
 -- ---- one call
 
--- a user's own call has one reply, and leaves states that are the same to the user
-pub own-step : {c : Call} {r r′ : Reply} {s t s₁ t₁ : State} → Same (userOf c) s t → Step s c r s₁ → Step t c r′ t₁ → (r ≡ r′) × Same (userOf c) s₁ t₁
-own-step a (Step.loads {user = user} x) (Step.loads y) = let z = load-same user a x y in (ap Reply.loaded (z .0), z .1)
+-- a user's own call returns one thing, and leaves states that are the same to the user
+pub own-step : {c : Call} {r r′ : Returned} {s t s₁ t₁ : State} → Same (userOf c) s t → Step s c r s₁ → Step t c r′ t₁ → (r ≡ r′) × Same (userOf c) s₁ t₁
+own-step a (Step.loads {user = user} x) (Step.loads y) = let z = load-same user a x y in (ap Returned.loaded (z .0), z .1)
 own-step a (Step.pins x) (Step.pins y) =
     let z = pin-same (a .memory) (a .room, a .own) x y in
-    (ap Reply.pinned (z .0), record { memory = a .memory; work = a .work; room = z .1 .0; own = z .1 .1 })
+    (ap Returned.pinned (z .0), record { memory = a .memory; work = a .work; room = z .1 .0; own = z .1 .1 })
 own-step {s = s} {t = t} a (Step.searches {user = user} {b = b} {k = k} {D = D} {out = out} {w′ = w₁} {out′ = o₁} {a = v} x e)
     (Step.searches {w′ = w₂} {out′ = o₂} {a = v′} y d) =
     let z = search-same (s .pins) (t .pins) (s .work) (t .work) out w₁ w₂ o₁ o₂ user (a .memory) (a .work) (own-pins user (s .pins) (t .pins) (a .own)) b k D v v′ x y in
-    (ap₂ Reply.searched (z .0) (z .1), record { memory = a .memory; work = e ∙ a .work ∙ sym d; room = a .room; own = a .own })
+    (ap₂ Returned.searched (z .0) (z .1), record { memory = a .memory; work = e ∙ a .work ∙ sym d; room = a .room; own = a .own })
 own-step {s = s} {t = t} a (Step.folds {user = user} {b = b} {t = n} {out = out} {w′ = w₁} {out′ = o₁} {a = v} x e)
     (Step.folds {w′ = w₂} {out′ = o₂} {a = v′} y d) =
     let z = fold-same (s .pins) (t .pins) (s .work) (t .work) out w₁ w₂ o₁ o₂ user (a .memory) (a .work) (own-pins user (s .pins) (t .pins) (a .own)) b n v v′ x y in
-    (ap₂ Reply.folded (z .0) (z .1), record { memory = a .memory; work = e ∙ a .work ∙ sym d; room = a .room; own = a .own })
+    (ap₂ Returned.folded (z .0) (z .1), record { memory = a .memory; work = e ∙ a .work ∙ sym d; room = a .room; own = a .own })
 own-step a (Step.writes {user = user} {out = out} {out′ = o₁} {a = v} x) (Step.writes {out′ = o₂} {a = v′} y) =
     let z = write-same user out o₁ o₂ v v′ (a .memory) x y in
-    (ap₂ Reply.written (z .0) (z .1), a)
+    (ap₂ Returned.written (z .0) (z .1), a)
 own-step {s = s} {t = t} a (Step.writesBinary {user = user} {out = out} {out′ = o₁} {a = v} x) (Step.writesBinary {out′ = o₂} {a = v′} y) =
     let z =
     under-same (λ m q. WrittenBinary m out) (λ m q b d o p f g. binary.written-same f g) (a .memory)
     (own-pins user (s .pins) (t .pins) (a .own)) v v′ o₁ o₂ x y in
-    (ap₂ Reply.written (z .0) (z .1), a)
+    (ap₂ Returned.written (z .0) (z .1), a)
 own-step a (Step.previews x) (Step.previews y) = (preview-same (ap length (a .memory)) x y, a)
-own-step a (Step.joins {user = user} x) (Step.joins y) = let z = join-same user a x y in (ap Reply.loaded (z .0), z .1)
-own-step {s = s} {t = t} a (Step.replays {user = user} {text = text} {a = v} x) (Step.replays {a = v′} y) =
+own-step a (Step.joins {user = user} x) (Step.joins y) = let z = join-same user a x y in (ap Returned.loaded (z .0), z .1)
+own-step {s = s} {t = t} a (Step.replays {user = user} {witness = witness} {a = v} x) (Step.replays {a = v′} y) =
     let z =
-    under-same {lent = tt {0}} (λ m q b _. PinnedReplayed m q text b) (λ m q b d _ _ f g. (replay-one m q text b d f g, refl)) (a .memory)
+    under-same {lent = tt {0}} (λ m q b _. PinnedReplayed m q witness b) (λ m q b d _ _ f g. (replay-one m q witness b d f g, refl)) (a .memory)
     (own-pins user (s .pins) (t .pins) (a .own)) v v′ tt tt x y in
-    (ap Reply.replayed (z .0), a)
-own-step {s = s} {t = t} a (Step.widens {user = user} {text = text} {out = out} {out′ = o₁} {a = v} x) (Step.widens {out′ = o₂} {a = v′} y) =
+    (ap Returned.replayed (z .0), a)
+own-step {s = s} {t = t} a (Step.widens {user = user} {witness = witness} {out = out} {out′ = o₁} {a = v} x) (Step.widens {out′ = o₂} {a = v′} y) =
     let z =
-    under-same (λ m q. PinnedWidened m q text out) (λ m q b d o p f g. widen-one m q text out b d o p f g) (a .memory)
+    under-same (λ m q. PinnedWidened m q witness out) (λ m q b d o p f g. widen-one m q witness out b d o p f g) (a .memory)
     (own-pins user (s .pins) (t .pins) (a .own)) v v′ o₁ o₂ x y in
-    (ap₂ Reply.written (z .0) (z .1), a)
-own-step {s = s} {t = t} a (Step.waveforms {user = user} {only = only} {text = text} {out = out} {out′ = o₁} {a = v} x) (Step.waveforms {out′ = o₂} {a = v′} y) =
+    (ap₂ Returned.written (z .0) (z .1), a)
+own-step {s = s} {t = t} a (Step.waveforms {user = user} {only = only} {witness = witness} {out = out} {out′ = o₁} {a = v} x) (Step.waveforms {out′ = o₂} {a = v′} y) =
     let z =
-    under-same (λ m q. Waveformed m only text out) (λ m q b d o p f g. waveformed-same f g) (a .memory)
+    under-same (λ m q. Waveformed m only witness out) (λ m q b d o p f g. waveformed-same f g) (a .memory)
     (own-pins user (s .pins) (t .pins) (a .own)) v v′ o₁ o₂ x y in
-    (ap₂ Reply.written (z .0) (z .1), a)
+    (ap₂ Returned.written (z .0) (z .1), a)
 
--- an accepted load has one reply, and leaves states that are the same to every user
-pub load-step : (u : ℕ) {c : Call} {r r′ : Reply} {s t s₁ t₁ : State} → Same u s t → T (isAccepted r) → Step s c r s₁ → Step t c r′ t₁ → (r ≡ r′) × Same u s₁ t₁
-load-step u a h (Step.loads x) (Step.loads y) = let z = load-same u a x y in (ap Reply.loaded (z .0), z .1)
+-- an accepted load returns one thing, and leaves states that are the same to every user
+pub load-step : (u : ℕ) {c : Call} {r r′ : Returned} {s t s₁ t₁ : State} → Same u s t → T (isAccepted r) → Step s c r s₁ → Step t c r′ t₁ → (r ≡ r′) × Same u s₁ t₁
+load-step u a h (Step.loads x) (Step.loads y) = let z = load-same u a x y in (ap Returned.loaded (z .0), z .1)
 load-step u a h (Step.pins x) y = absurd h
 load-step u a h (Step.searches x e) y = absurd h
 load-step u a h (Step.folds x e) y = absurd h
 load-step u a h (Step.writes x) y = absurd h
 load-step u a h (Step.writesBinary x) y = absurd h
 load-step u a h (Step.previews x) y = absurd h
-load-step u a h (Step.joins x) (Step.joins y) = let z = join-same u a x y in (ap Reply.loaded (z .0), z .1)
+load-step u a h (Step.joins x) (Step.joins y) = let z = join-same u a x y in (ap Returned.loaded (z .0), z .1)
 load-step u a h (Step.replays x) y = absurd h
 load-step u a h (Step.widens x) y = absurd h
 load-step u a h (Step.waveforms x) y = absurd h
@@ -312,7 +312,7 @@ pin-other u {p = p} {user = user} {input = input} {value = value} n (PinSet.know
     apart i l d e = n (omega arith)
 
 -- a call of another user that is no accepted load leaves a state that is the same to user u
-pub other-step : (u : ℕ) {c : Call} {r : Reply} {s t s₁ : State} → Same u s t → (userOf c ≡ u → ⊥) → (T (isAccepted r) → ⊥) → Step s c r s₁ → Same u s₁ t
+pub other-step : (u : ℕ) {c : Call} {r : Returned} {s t s₁ : State} → Same u s t → (userOf c ≡ u → ⊥) → (T (isAccepted r) → ⊥) → Step s c r s₁ → Same u s₁ t
 other-step u a n h (Step.loads (Replaced.stranger k)) = record { memory = a .memory; work = a .work; room = a .room; own = a .own }
 other-step u a n h (Step.loads (Replaced.refuses k (Loaded.refuses e))) = record { memory = a .memory; work = a .work; room = a .room; own = a .own }
 other-step u a n h (Step.loads (Replaced.stores k l)) = absurd (h tt)

@@ -86,8 +86,8 @@ module _ (pins : List ℕ) (user : ℕ) (u : user ≤ 1) (free : (i : ℕ) → i
       go (Operated.refuses c h j) = Operated.refuses c h j
       go (Operated.acts c {a = n} {s = l} h j e) = Operated.acts c h j (subst (λ (d : Circuit). FoldEffect chosen b t out d n l) (same c) e)
 
-  pub user-replayed-free : {m text : List ℕ} {a : Answer Verdict} → UserReplayed m pins user text a → EitherReplayed m text a
+  pub user-replayed-free : {m witness : List ℕ} {a : Answer Verdict} → UserReplayed m pins user witness a → EitherReplayed m witness a
   user-replayed-free {a = a} x = replayed-free q free (known-only {S = Unit {0}} u a tt x)
 
-  pub user-widened-free : {m text out out′ : List ℕ} {a : Answer ℕ} → UserWidened m pins user text out a out′ → Widened m text out a out′
+  pub user-widened-free : {m witness out out′ : List ℕ} {a : Answer ℕ} → UserWidened m pins user witness out a out′ → Widened m witness out a out′
   user-widened-free {out′ = out′} {a = a} x = widened-free q free (known-only u a out′ x)

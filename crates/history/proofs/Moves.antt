@@ -23,7 +23,7 @@ use Rattle.joined.specs.Joined.{JoinedInto}
 use Rattle.load.specs.declared.Judgement.{Judgement}
 use Rattle.search.specs.Chosen as Search
 use Rattle.fold.specs.Chosen as Fold
-use Rattle.history.specs.History.{State, Call, Reply, Step, Same, userOf, isAccepted}
+use Rattle.history.specs.History.{State, Call, Returned, Step, Same, userOf, isAccepted}
 use Rattle.history.proofs.Calls.{Agree, own-pins, set-agree, freed}
 
 -- ---- operations
@@ -43,8 +43,8 @@ for-moves : {A S R : Type 0} {user : ℕ} {lent : S} {P : Answer A → S → Typ
 for-moves f g (ForUser.stranger h) = ForUser.stranger h
 for-moves f g (ForUser.known {a = a} {s = s} h p) = ForUser.known h (g a s p)
 
--- a step from t with this reply, to a state that is the same to user u as s₁
-pub record Moved (u : ℕ) (t : State) (c : Call) (r : Reply) (s₁ : State) : Type 0 where
+-- a step from t that returns r, to a state that is the same to user u as s₁
+pub record Moved (u : ℕ) (t : State) (c : Call) (r : Returned) (s₁ : State) : Type 0 where
   pub next : State
   pub step : Step t c r next
   pub same : Same u s₁ next
@@ -82,13 +82,13 @@ module _ (u : ℕ) {s t : State} (a : Same u s t) where
         record { memory = m; pins = replicate (length (t .pins)) 2; answers = Replaced.stores h (move (gives k) m l); same = freed u a refl }
 
   load-moves : {user : ℕ} {file m₁ p₁ : List ℕ} {x : Answer (List ℕ)} → Replaced user (s .memory) (s .pins) (Loaded (s .memory) file) x m₁ p₁
-      → Moved u t (Call.load user file) (Reply.loaded x) (record { memory = m₁; work = s .work; pins = p₁ })
+      → Moved u t (Call.load user file) (Returned.loaded x) (record { memory = m₁; work = s .work; pins = p₁ })
   load-moves {file = file} x =
       let z = replaced-moves (λ b n. subst (λ (m : List ℕ). Loaded m file b n) (a .memory)) x in
       record { next = record { memory = z .memory; work = t .work; pins = z .pins }; step = Step.loads (z .answers); same = z .same }
 
   join-moves : {user : ℕ} {first second m₁ p₁ : List ℕ} {x : Answer (List ℕ)} → Replaced user (s .memory) (s .pins) (JoinedInto first second (s .memory)) x m₁ p₁
-      → Moved u t (Call.join user first second) (Reply.loaded x) (record { memory = m₁; work = s .work; pins = p₁ })
+      → Moved u t (Call.join user first second) (Returned.loaded x) (record { memory = m₁; work = s .work; pins = p₁ })
   join-moves {first = first} {second = second} x =
       let z = replaced-moves (λ b n. subst (λ (m : List ℕ). JoinedInto first second m b n) (a .memory)) x in
       record { next = record { memory = z .memory; work = t .work; pins = z .pins }; step = Step.joins (z .answers); same = z .same }
@@ -115,7 +115,7 @@ preview-moves : {room room′ : ℕ} {file : List ℕ} {user : ℕ} {r : Judgeme
 preview-moves {file = file} {user = user} {r = r} e x = subst (λ (n : ℕ). UserPreviewed n file user r) e x
 
 -- a user's own call has the same answer from a state that is the same to the user
-pub own-moves : {c : Call} {r : Reply} {s t s₁ : State} → Same (userOf c) s t → Step s c r s₁ → Moved (userOf c) t c r s₁
+pub own-moves : {c : Call} {r : Returned} {s t s₁ : State} → Same (userOf c) s t → Step s c r s₁ → Moved (userOf c) t c r s₁
 own-moves a (Step.loads {user = user} x) = load-moves user a x
 own-moves {s = s} {t = t} a (Step.pins x) =
     let z = pin-moves (a .memory) (a .room, a .own) x in
@@ -155,28 +155,28 @@ own-moves {t = t} a (Step.writesBinary {user = user} {out = out} {out′ = o} {a
 own-moves {t = t} a (Step.previews {user = user} {file = file} {r = r} x) =
     record { next = t; step = Step.previews {r = r} (preview-moves (ap length (a .memory)) x); same = a }
 own-moves a (Step.joins {user = user} x) = join-moves user a x
-own-moves {s = s} {t = t} a (Step.replays {user = user} {text = text} {a = v} x) =
+own-moves {s = s} {t = t} a (Step.replays {user = user} {witness = witness} {a = v} x) =
     record {
       next = t;
       step = Step.replays
-          (subst (λ (m : List ℕ). ForUser {S = Unit {0}} user tt (λ b _. PinnedReplayed m (pinsOf (t .pins) user) text b) v tt) (a .memory)
-          (subst (λ (q : ℕ → ℕ). ForUser {S = Unit {0}} user tt (λ b _. PinnedReplayed (s .memory) q text b) v tt)
+          (subst (λ (m : List ℕ). ForUser {S = Unit {0}} user tt (λ b _. PinnedReplayed m (pinsOf (t .pins) user) witness b) v tt) (a .memory)
+          (subst (λ (q : ℕ → ℕ). ForUser {S = Unit {0}} user tt (λ b _. PinnedReplayed (s .memory) q witness b) v tt)
           (own-pins user (s .pins) (t .pins) (a .own)) x));
       same = a;
     }
-own-moves {s = s} {t = t} a (Step.widens {user = user} {text = text} {out = out} {out′ = o} {a = v} x) =
+own-moves {s = s} {t = t} a (Step.widens {user = user} {witness = witness} {out = out} {out′ = o} {a = v} x) =
     record {
       next = t;
       step = Step.widens
-          (subst (λ (m : List ℕ). ForUser user out (PinnedWidened m (pinsOf (t .pins) user) text out) v o) (a .memory)
-          (subst (λ (q : ℕ → ℕ). ForUser user out (PinnedWidened (s .memory) q text out) v o) (own-pins user (s .pins) (t .pins) (a .own)) x));
+          (subst (λ (m : List ℕ). ForUser user out (PinnedWidened m (pinsOf (t .pins) user) witness out) v o) (a .memory)
+          (subst (λ (q : ℕ → ℕ). ForUser user out (PinnedWidened (s .memory) q witness out) v o) (own-pins user (s .pins) (t .pins) (a .own)) x));
       same = a;
     }
-own-moves {t = t} a (Step.waveforms {user = user} {only = only} {text = text} {out = out} {out′ = o} {a = v} x) =
-    record { next = t; step = Step.waveforms (subst (λ (m : List ℕ). UserWaveformed m user only text out v o) (a .memory) x); same = a }
+own-moves {t = t} a (Step.waveforms {user = user} {only = only} {witness = witness} {out = out} {out′ = o} {a = v} x) =
+    record { next = t; step = Step.waveforms (subst (λ (m : List ℕ). UserWaveformed m user only witness out v o) (a .memory) x); same = a }
 
 -- so has an accepted load, for any user
-pub accepted-moves : (u : ℕ) {c : Call} {r : Reply} {s t s₁ : State} → Same u s t → T (isAccepted r) → Step s c r s₁ → Moved u t c r s₁
+pub accepted-moves : (u : ℕ) {c : Call} {r : Returned} {s t s₁ : State} → Same u s t → T (isAccepted r) → Step s c r s₁ → Moved u t c r s₁
 accepted-moves u a h (Step.loads x) = load-moves u a x
 accepted-moves u a h (Step.pins x) = absurd h
 accepted-moves u a h (Step.searches x e) = absurd h

@@ -38,20 +38,20 @@ pub data Call : Type 0 where
   writeBinary : (user : ℕ) (out : List ℕ) → Call
   preview : (user : ℕ) (file : List ℕ) → Call
   join : (user : ℕ) (first second : List ℕ) → Call
-  replay : (user : ℕ) (text : List ℕ) → Call
-  widen : (user : ℕ) (text out : List ℕ) → Call
-  waveform : (user : ℕ) (only : Bool) (text out : List ℕ) → Call
+  replay : (user : ℕ) (witness : List ℕ) → Call
+  widen : (user : ℕ) (witness out : List ℕ) → Call
+  waveform : (user : ℕ) (only : Bool) (witness out : List ℕ) → Call
 
--- what a call gives back: the answer, and the output that was lent. A join answers as a load does; the writers, widening and waveform
+-- what a call returns: the answer, and the output that was lent. A join answers as a load does; the writers, widening and waveform
 -- write a text
-pub data Reply : Type 0 where
-  loaded : Answer (List ℕ) → Reply
-  pinned : Answer (Unit {0}) → Reply
-  searched : Answer Outcome → List ℕ → Reply
-  folded : Answer ℕ → List ℕ → Reply
-  written : Answer ℕ → List ℕ → Reply
-  previewed : Answer (List ℕ) → ℕ → Reply
-  replayed : Answer Verdict → Reply
+pub data Returned : Type 0 where
+  loaded : Answer (List ℕ) → Returned
+  pinned : Answer (Unit {0}) → Returned
+  searched : Answer Outcome → List ℕ → Returned
+  folded : Answer ℕ → List ℕ → Returned
+  written : Answer ℕ → List ℕ → Returned
+  previewed : Answer (List ℕ) → ℕ → Returned
+  replayed : Answer Verdict → Returned
 
 -- whose call it is
 abbrev pub userOf : Call → ℕ
@@ -63,63 +63,63 @@ userOf (Call.write user out) = user
 userOf (Call.writeBinary user out) = user
 userOf (Call.preview user file) = user
 userOf (Call.join user first second) = user
-userOf (Call.replay user text) = user
-userOf (Call.widen user text out) = user
-userOf (Call.waveform user only text out) = user
+userOf (Call.replay user witness) = user
+userOf (Call.widen user witness out) = user
+userOf (Call.waveform user only witness out) = user
 
 -- a load, or a join, was accepted
-abbrev pub isAccepted : Reply → Bool
-isAccepted (Reply.loaded (refused n)) = false
-isAccepted (Reply.loaded (gives counts)) = true
-isAccepted (Reply.pinned a) = false
-isAccepted (Reply.searched a out) = false
-isAccepted (Reply.folded a out) = false
-isAccepted (Reply.written a out) = false
-isAccepted (Reply.previewed a n) = false
-isAccepted (Reply.replayed a) = false
+abbrev pub isAccepted : Returned → Bool
+isAccepted (Returned.loaded (refused n)) = false
+isAccepted (Returned.loaded (gives counts)) = true
+isAccepted (Returned.pinned a) = false
+isAccepted (Returned.searched a out) = false
+isAccepted (Returned.folded a out) = false
+isAccepted (Returned.written a out) = false
+isAccepted (Returned.previewed a n) = false
+isAccepted (Returned.replayed a) = false
 
 -- what a call may answer and leave: the contract of its operation
-pub data Step (s : State) : Call → Reply → State → Type 0 where
+pub data Step (s : State) : Call → Returned → State → Type 0 where
   loads : {user : ℕ} {file m′ p′ : List ℕ} {a : Answer (List ℕ)} → UserLoaded (s .memory) file (s .pins) user a m′ p′
-      → Step s (Call.load user file) (Reply.loaded a) (record { memory = m′; work = s .work; pins = p′ })
+      → Step s (Call.load user file) (Returned.loaded a) (record { memory = m′; work = s .work; pins = p′ })
   pins : {user input value : ℕ} {p′ : List ℕ} {a : Answer (Unit {0})} → PinSet (s .memory) user input value (s .pins) a p′
-      → Step s (Call.setPin user input value) (Reply.pinned a) (record { memory = s .memory; work = s .work; pins = p′ })
+      → Step s (Call.setPin user input value) (Returned.pinned a) (record { memory = s .memory; work = s .work; pins = p′ })
   searches : {user b k D : ℕ} {out w′ out′ : List ℕ} {a : Answer Outcome}
       → PinnedSearched Search.chosen (s .memory) (s .pins) user b k D (s .work) out a w′ out′
       → length w′ ≡ length (s .work)
-      → Step s (Call.search user b k D out) (Reply.searched a out′) (record { memory = s .memory; work = w′; pins = s .pins })
+      → Step s (Call.search user b k D out) (Returned.searched a out′) (record { memory = s .memory; work = w′; pins = s .pins })
   folds : {user b t : ℕ} {out w′ out′ : List ℕ} {a : Answer ℕ}
       → PinnedFolded Fold.chosen (s .memory) (s .pins) user b t (s .work) out a w′ out′
       → length w′ ≡ length (s .work)
-      → Step s (Call.fold user b t out) (Reply.folded a out′) (record { memory = s .memory; work = w′; pins = s .pins })
+      → Step s (Call.fold user b t out) (Returned.folded a out′) (record { memory = s .memory; work = w′; pins = s .pins })
   writes : {user : ℕ} {out out′ : List ℕ} {a : Answer ℕ} → UserWritten (s .memory) user out a out′
-      → Step s (Call.write user out) (Reply.written a out′) s
+      → Step s (Call.write user out) (Returned.written a out′) s
   writesBinary : {user : ℕ} {out out′ : List ℕ} {a : Answer ℕ} → UserWrittenBinary (s .memory) user out a out′
-      → Step s (Call.writeBinary user out) (Reply.written a out′) s
+      → Step s (Call.writeBinary user out) (Returned.written a out′) s
   previews : {user : ℕ} {file : List ℕ} {r : Judgement} → UserPreviewed (length (s .memory)) file user r
-      → Step s (Call.preview user file) (Reply.previewed (answered (r .answer)) (r .needed)) s
+      → Step s (Call.preview user file) (Returned.previewed (answered (r .answer)) (r .needed)) s
   joins : {user : ℕ} {first second m′ p′ : List ℕ} {a : Answer (List ℕ)} → UserJoined first second (s .memory) (s .pins) user a m′ p′
-      → Step s (Call.join user first second) (Reply.loaded a) (record { memory = m′; work = s .work; pins = p′ })
-  replays : {user : ℕ} {text : List ℕ} {a : Answer Verdict} → UserReplayed (s .memory) (s .pins) user text a
-      → Step s (Call.replay user text) (Reply.replayed a) s
-  widens : {user : ℕ} {text out out′ : List ℕ} {a : Answer ℕ} → UserWidened (s .memory) (s .pins) user text out a out′
-      → Step s (Call.widen user text out) (Reply.written a out′) s
-  waveforms : {user : ℕ} {only : Bool} {text out out′ : List ℕ} {a : Answer ℕ} → UserWaveformed (s .memory) user only text out a out′
-      → Step s (Call.waveform user only text out) (Reply.written a out′) s
+      → Step s (Call.join user first second) (Returned.loaded a) (record { memory = m′; work = s .work; pins = p′ })
+  replays : {user : ℕ} {witness : List ℕ} {a : Answer Verdict} → UserReplayed (s .memory) (s .pins) user witness a
+      → Step s (Call.replay user witness) (Returned.replayed a) s
+  widens : {user : ℕ} {witness out out′ : List ℕ} {a : Answer ℕ} → UserWidened (s .memory) (s .pins) user witness out a out′
+      → Step s (Call.widen user witness out) (Returned.written a out′) s
+  waveforms : {user : ℕ} {only : Bool} {witness out out′ : List ℕ} {a : Answer ℕ} → UserWaveformed (s .memory) user only witness out a out′
+      → Step s (Call.waveform user only witness out) (Returned.written a out′) s
 
--- a call that was made, with what it gave back
+-- a call that was made, with what it returned
 pub record Event : Type 0 where
   pub call : Call
-  pub reply : Reply
+  pub returned : Returned
 
 -- a history: events one after the other, from a state
 pub data History : State → List Event → Type 0 where
   ends : {s : State} → History s []
-  goes : {s s′ : State} {e : Event} {es : List Event} → Step s (e .call) (e .reply) s′ → History s′ es → History s (e ∷ es)
+  goes : {s s′ : State} {e : Event} {es : List Event} → Step s (e .call) (e .returned) s′ → History s′ es → History s (e ∷ es)
 
 -- the events that concern user u: the user's own calls, and accepted loads
 abbrev pub concerns : ℕ → Event → Bool
-concerns u e = eqb (userOf (e .call)) u || isAccepted (e .reply)
+concerns u e = eqb (userOf (e .call)) u || isAccepted (e .returned)
 
 unfoldable pub concerning : ℕ → List Event → List Event
 concerning u [] = []

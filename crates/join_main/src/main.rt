@@ -12,9 +12,7 @@ fn say_help() {
     say(
         b"and of outputs, and prints one circuit of both: the same inputs for both, and bad line j true where outputs j differ.\n\n",
     );
-    say(b"What is not accepted is refused with a number and its cause:\n");
-    help::say_refusals(1, 3);
-    help::say_refusals(5, 8);
+    help::say_file_refusals();
     help::say_refusals(17, 17);
     say(
         b"\nExample: ./yunverok join crates/join_main/data/old.aag crates/join_main/data/new.aag\n",

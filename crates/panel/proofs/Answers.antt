@@ -37,7 +37,7 @@ use Rattle.renumbered.specs.Renumbered.{writeBinary}
 use Rattle.history.specs.History.{State, Step}
 use Rattle.panel_lines.specs.declared.Query.{Query}
 use Rattle.panel_lines.specs.declared.Query.the-variants.{Pin, Search, Fold, Write, WriteBinary}
-use Rattle.panel.specs.Answers.{loadWords, Said, Queried}
+use Rattle.panel.specs.Answers.{loadWords, Reported, Queried}
 
 -- the line of a load
 pub load-words : (x : LoadAnswer) → answerLine x ≡ loadWords (answered x)

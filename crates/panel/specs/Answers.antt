@@ -49,7 +49,7 @@ textLength (gives n) = n
 -- ---- commands
 
 -- there is an answer that the operation permits, its line stands at the front of line, and so many bytes of out are to be printed after it
-pub record Said {A : Type 0} (permits : Answer A → Type 0) (words : Answer A → List ℕ) (long : Answer A → ℕ)
+pub record Reported {A : Type 0} (permits : Answer A → Type 0) (words : Answer A → List ℕ) (long : Answer A → ℕ)
     (line : List ℕ) (r : Report) (line′ out′ : List ℕ) : Type 0 where
   pub answer : Answer A
   pub permitted : permits answer
@@ -58,25 +58,28 @@ pub record Said {A : Type 0} (permits : Answer A → Type 0) (words : Answer A �
   pub inside : r .out ≤ length out′
 
 -- load FILE, on the bytes of the file
-abbrev pub LoadSaid : ℕ → List ℕ → List ℕ → List ℕ → List ℕ → Report → List ℕ → List ℕ → List ℕ → Type 0
-LoadSaid user file m pins line r m′ pins′ line′ =
-    Said (λ a. UserLoaded m file pins user a m′ pins′) loadWords noText line r line′ []
+abbrev pub LoadReported : ℕ → List ℕ → List ℕ → List ℕ → List ℕ → Report → List ℕ → List ℕ → List ℕ → Type 0
+LoadReported user file m pins line r m′ pins′ line′ =
+    Reported (λ a. UserLoaded m file pins user a m′ pins′) loadWords noText line r line′ []
 
 -- a query, as the call of a history that it is
 abbrev pub Queried : Query → ℕ → History.State → List ℕ → List ℕ → Report → History.State → List ℕ → List ℕ → Type 0
 Queried (Pin input value) user s out line r s′ out′ line′ =
-    Said (λ a. History.Step s (History.Call.setPin user input value) (History.Reply.pinned a) s′ × (out′ ≡ out)) pinWords noText line r
-    line′ out′
+    Reported (λ a. History.Step s (History.Call.setPin user input value) (History.Returned.pinned a) s′ × (out′ ≡ out)) pinWords noText
+    line r line′ out′
 Queried (Search b k D) user s out line r s′ out′ line′ =
-    Said (λ a. History.Step s (History.Call.search user b k D out) (History.Reply.searched a out′) s′) saidWords
+    Reported (λ a. History.Step s (History.Call.search user b k D out) (History.Returned.searched a out′) s′) saidWords
     (shownLength (circuitIn (s .memory)) b) line r line′ out′
 Queried (Fold b t) user s out line r s′ out′ line′ =
-    Said (λ a. History.Step s (History.Call.fold user b t out) (History.Reply.folded a out′) s′) textWords textLength line r line′ out′
+    Reported (λ a. History.Step s (History.Call.fold user b t out) (History.Returned.folded a out′) s′) textWords textLength
+    line r line′ out′
 Queried Write user s out line r s′ out′ line′ =
-    Said (λ a. History.Step s (History.Call.write user out) (History.Reply.written a out′) s′) textWords textLength line r line′ out′
+    Reported (λ a. History.Step s (History.Call.write user out) (History.Returned.written a out′) s′) textWords textLength
+    line r line′ out′
 Queried WriteBinary user s out line r s′ out′ line′ =
-    Said (λ a. History.Step s (History.Call.writeBinary user out) (History.Reply.written a out′) s′) textWords textLength line r line′ out′
+    Reported (λ a. History.Step s (History.Call.writeBinary user out) (History.Returned.written a out′) s′) textWords textLength
+    line r line′ out′
 
 -- preview FILE: what the program preview prints, to user 0 or 1; 18 to any other
-abbrev pub previewSaid : ℕ → List ℕ → Reply
-previewSaid user file = cond (ltb 1 user) (refusal 18) (previewReply file)
+abbrev pub previewReplyTo : ℕ → List ℕ → Reply
+previewReplyTo user file = cond (ltb 1 user) (refusal 18) (previewReply file)

@@ -2,7 +2,7 @@
 use fold::FoldAnswer;
 use panel_lines::Query;
 use replies::Report;
-use search_command::Terms;
+use search::Terms;
 use user_calls::PinAnswer;
 use write::WriteAnswer;
 ghost use mathlib.Core.Path.{_≡_};
@@ -23,10 +23,10 @@ ghost use Rattle.panel.specs.Answers.{
   textWords,
   noText,
   textLength,
-  Said,
-  LoadSaid,
+  Reported,
+  LoadReported,
   Queried,
-  previewSaid,
+  previewReplyTo,
 };
 
 // A bad line and a frame.
@@ -39,7 +39,7 @@ struct Frame {
 pub fn load(user: u64, file: &[u8], m: &mut [u32], pins: &mut [u8], line: &mut [u8]) -> Report
     requires { ⌜ 128 ≤ length (now line) ⌝ }
     ensures { λ r. ⌜
-        LoadSaid user (now (file .entry)) (now (m .entry)) (now (pins .entry)) (now (line .entry)) r (now (m .exit)) (now (pins .exit))
+        LoadReported user (now (file .entry)) (now (m .entry)) (now (pins .entry)) (now (line .entry)) r (now (m .exit)) (now (pins .exit))
         (now (line .exit))
         ⌝ }
 {
@@ -47,15 +47,18 @@ pub fn load(user: u64, file: &[u8], m: &mut [u32], pins: &mut [u8], line: &mut [
         return replies::refuse(line, 18);
     }
     let answer = user_calls::load(user as u32, file, m, pins);
-    let said = preview_command::write_answer(line, answer);
-    Report { line: said, out: 0 }
+    let length = preview_command::write_answer(line, answer);
+    Report {
+        line: length,
+        out: 0,
+    }
 }
 
 // Previews the load of a file.
 pub fn preview(user: u64, file: &[u8], m: &[u32], out: &mut [u8], line: &mut [u8]) -> Report
     requires { ⌜ (length (now m) ≡ 33032) × (32 ≤ length (now out)) × (128 ≤ length (now line)) ⌝ }
     ensures { λ r. ⌜
-        Leaves (previewSaid user (now (file .entry))) (now (line .entry)) (now (out .entry)) r (now (line .exit)) (now (out .exit))
+        Leaves (previewReplyTo user (now (file .entry))) (now (line .entry)) (now (out .entry)) r (now (line .exit)) (now (out .exit))
         ⌝ }
 {
     if 1 < user {
@@ -68,7 +71,7 @@ pub fn preview(user: u64, file: &[u8], m: &[u32], out: &mut [u8], line: &mut [u8
 fn pin(user: u32, input: u64, value: u64, m: &[u32], pins: &mut [u8], line: &mut [u8]) -> Report
     requires { ⌜ 128 ≤ length (now line) ⌝ }
     ensures { λ r. ⌜
-        Said (λ a. PinSet (now (m .entry)) user input value (now (pins .entry)) a (now (pins .exit))) pinWords noText
+        Reported (λ a. PinSet (now (m .entry)) user input value (now (pins .entry)) a (now (pins .exit))) pinWords noText
         (now (line .entry)) r (now (line .exit)) []
         ⌝ }
 {
@@ -78,8 +81,11 @@ fn pin(user: u32, input: u64, value: u64, m: &[u32], pins: &mut [u8], line: &mut
     match user_calls::set_pin(user, input, value as u32, m, pins) {
         PinAnswer::Refused(n) => replies::refuse(line, n),
         PinAnswer::Set => {
-            let said = output::put(line, 0, b"set\n");
-            Report { line: said, out: 0 }
+            let length = output::put(line, 0, b"set\n");
+            Report {
+                line: length,
+                out: 0,
+            }
         }
     }
 }
@@ -96,7 +102,7 @@ fn search(
 ) -> Report
     requires { ⌜ 128 ≤ length (now line) ⌝ }
     ensures { λ r. ⌜
-        Said
+        Reported
         (λ a.
         PinnedSearched Search.chosen (now (m .entry)) (now (pins .entry)) user (q .b) (q .k) (q .d) (now (work .entry)) (now (out .entry)) a
         (now (work .exit)) (now (out .exit)))
@@ -105,9 +111,9 @@ fn search(
 {
     let answer = pinned_search::search(m, pins, user, q.b, q.k, q.d, work, out);
     let witness = job::shown_length(m, q.b, answer);
-    let said = search_command::write_answer(line, answer);
+    let length = search_command::write_answer(line, answer);
     Report {
-        line: said,
+        line: length,
         out: witness,
     }
 }
@@ -124,7 +130,7 @@ fn fold(
 ) -> Report
     requires { ⌜ 128 ≤ length (now line) ⌝ }
     ensures { λ r. ⌜
-        Said
+        Reported
         (λ a.
         PinnedFolded Fold.chosen (now (m .entry)) (now (pins .entry)) user (f .b) (f .t) (now (work .entry)) (now (out .entry)) a
         (now (work .exit))
@@ -142,7 +148,7 @@ fn fold(
 fn write(user: u32, m: &[u32], out: &mut [u8], line: &mut [u8]) -> Report
     requires { ⌜ 128 ≤ length (now line) ⌝ }
     ensures { λ r. ⌜
-        Said (λ a. UserWritten (now (m .entry)) user (now (out .entry)) a (now (out .exit))) textWords textLength (now (line .entry)) r
+        Reported (λ a. UserWritten (now (m .entry)) user (now (out .entry)) a (now (out .exit))) textWords textLength (now (line .entry)) r
         (now (line .exit))
         (now (out .exit))
         ⌝ }
@@ -157,7 +163,7 @@ fn write(user: u32, m: &[u32], out: &mut [u8], line: &mut [u8]) -> Report
 fn write_binary(user: u32, m: &[u32], out: &mut [u8], line: &mut [u8]) -> Report
     requires { ⌜ 128 ≤ length (now line) ⌝ }
     ensures { λ r. ⌜
-        Said (λ a. UserWrittenBinary (now (m .entry)) user (now (out .entry)) a (now (out .exit))) textWords textLength
+        Reported (λ a. UserWrittenBinary (now (m .entry)) user (now (out .entry)) a (now (out .exit))) textWords textLength
         (now (line .entry)) r
         (now (line .exit)) (now (out .exit))
         ⌝ }

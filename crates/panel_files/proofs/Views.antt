@@ -24,31 +24,31 @@ use Rattle.panel_lines.specs.declared.View.the-variants.{Replay, Widen, Wavefor
 use Rattle.panel_files.specs.Files.{Viewed}
 
 -- what is printed lies in the output
-pub widen-inside : (m pins : List ℕ) (user : ℕ) (text out : List ℕ) {out′ : List ℕ} {n : ℕ} → length out′ ≡ length out
-    → UserWidened m pins user text out (gives n) out′ → n ≤ length out′
-widen-inside m pins user text out l (ForUser.known k (Operated.acts c h j e)) =
+pub widen-inside : (m pins : List ℕ) (user : ℕ) (witness out : List ℕ) {out′ : List ℕ} {n : ℕ} → length out′ ≡ length out
+    → UserWidened m pins user witness out (gives n) out′ → n ≤ length out′
+widen-inside m pins user witness out l (ForUser.known k (Operated.acts c h j e)) =
     let p = judge-first _ _ (judge-first _ _ j .1) .1 in
-    omega (arith, e .count, length-enough (length text) (length out) p)
+    omega (arith, e .count, length-enough (length witness) (length out) p)
 
-pub waveform-inside : (m : List ℕ) (user : ℕ) (only : Bool) (text out : List ℕ) {out′ : List ℕ} {n : ℕ} → UserWaveformed m user only text out (gives n) out′
+pub waveform-inside : (m : List ℕ) (user : ℕ) (only : Bool) (witness out : List ℕ) {out′ : List ℕ} {n : ℕ} → UserWaveformed m user only witness out (gives n) out′
     → n ≤ length out′
-waveform-inside m user only text out (ForUser.known k (Operated.acts c h j e)) =
-    let w = waveformOf c only (readEither c text) in
+waveform-inside m user only witness out (ForUser.known k (Operated.acts c h j e)) =
+    let w = waveformOf c only (readEither c witness) in
     omega (arith, e .count, ap length (e .shows), length-append w (drop (length w) out))
 
 -- a user who is not known
-pub strange : (v : View) (user : ℕ) (text m pins out : List ℕ) {line line′ : List ℕ} {r : Report} → 1 < user → Fronts (refusalText 18) line (r .line) line′
-    → r .out ≡ 0 → Viewed v user text m pins out line r out line′
-strange Replay user text m pins out h f e =
+pub strange : (v : View) (user : ℕ) (witness m pins out : List ℕ) {line line′ : List ℕ} {r : Report} → 1 < user → Fronts (refusalText 18) line (r .line) line′
+    → r .out ≡ 0 → Viewed v user witness m pins out line r out line′
+strange Replay user witness m pins out h f e =
     record { answer = refused 18; permitted = (ForUser.stranger h, refl); line-is = f; out-is = e; inside = omega arith }
-strange Widen user text m pins out h f e =
+strange Widen user witness m pins out h f e =
     record { answer = refused 18; permitted = ForUser.stranger h; line-is = f; out-is = e; inside = omega arith }
-strange (Waveform only) user text m pins out h f e =
+strange (Waveform only) user witness m pins out h f e =
     record { answer = refused 18; permitted = ForUser.stranger h; line-is = f; out-is = e; inside = omega arith }
 
 -- what is to be printed lies within line and output
-pub view-inside : (v : View) (user : ℕ) (text m pins out line : List ℕ) (r : Report) (out′ line′ : List ℕ) → Viewed v user text m pins out line r out′ line′
+pub view-inside : (v : View) (user : ℕ) (witness m pins out line : List ℕ) (r : Report) (out′ line′ : List ℕ) → Viewed v user witness m pins out line r out′ line′
     → (r .line ≤ length line′) × (r .out ≤ length out′)
-view-inside Replay user text m pins out line r out′ line′ x = (fronts-inside (x .line-is), x .inside)
-view-inside Widen user text m pins out line r out′ line′ x = (fronts-inside (x .line-is), x .inside)
-view-inside (Waveform only) user text m pins out line r out′ line′ x = (fronts-inside (x .line-is), x .inside)
+view-inside Replay user witness m pins out line r out′ line′ x = (fronts-inside (x .line-is), x .inside)
+view-inside Widen user witness m pins out line r out′ line′ x = (fronts-inside (x .line-is), x .inside)
+view-inside (Waveform only) user witness m pins out line r out′ line′ x = (fronts-inside (x .line-is), x .inside)

@@ -12,7 +12,7 @@ use Rattle.user_widen.specs.Widens.{UserWidened}
 use Rattle.user_waveform.specs.Waveforms.{UserWaveformed}
 use Rattle.panel_lines.specs.declared.View.{View}
 use Rattle.panel_lines.specs.declared.View.the-variants.{Replay, Widen, Waveform}
-use Rattle.panel.specs.Answers.{textWords, noText, textLength, Said}
+use Rattle.panel.specs.Answers.{textWords, noText, textLength, Reported}
 
 -- what replay says, as the program replay prints it
 abbrev pub verdictWords : Answer Verdict → List ℕ
@@ -23,9 +23,9 @@ verdictWords (gives Verdict.mixed) = bytes "mixed\n"
 
 -- a view of a witness text
 abbrev pub Viewed : View → ℕ → List ℕ → List ℕ → List ℕ → List ℕ → List ℕ → Report → List ℕ → List ℕ → Type 0
-Viewed Replay user text m pins out line r out′ line′ =
-    Said (λ a. UserReplayed m pins user text a × (out′ ≡ out)) verdictWords noText line r line′ out′
-Viewed Widen user text m pins out line r out′ line′ =
-    Said (λ a. UserWidened m pins user text out a out′) textWords textLength line r line′ out′
-Viewed (Waveform only) user text m pins out line r out′ line′ =
-    Said (λ a. UserWaveformed m user only text out a out′) textWords textLength line r line′ out′
+Viewed Replay user witness m pins out line r out′ line′ =
+    Reported (λ a. UserReplayed m pins user witness a × (out′ ≡ out)) verdictWords noText line r line′ out′
+Viewed Widen user witness m pins out line r out′ line′ =
+    Reported (λ a. UserWidened m pins user witness out a out′) textWords textLength line r line′ out′
+Viewed (Waveform only) user witness m pins out line r out′ line′ =
+    Reported (λ a. UserWaveformed m user only witness out a out′) textWords textLength line r line′ out′

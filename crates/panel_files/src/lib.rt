@@ -12,7 +12,7 @@ ghost use Rattle.replay.specs.Answer.{answered};
 ghost use Rattle.user_replay.specs.Replays.{UserReplayed};
 ghost use Rattle.user_widen.specs.Widens.{UserWidened};
 ghost use Rattle.user_waveform.specs.Waveforms.{UserWaveformed};
-ghost use Rattle.panel.specs.Answers.{textWords, noText, textLength, Said};
+ghost use Rattle.panel.specs.Answers.{textWords, noText, textLength, Reported};
 ghost use Rattle.panel_files.specs.Files.{verdictWords, Viewed};
 
 // Writes what replay answers to the front of line.
@@ -32,13 +32,16 @@ fn write_verdict(line: &mut [u8], answer: ReplayAnswer) -> usize
 fn replay(user: u32, witness: &[u8], m: &[u32], pins: &[u8], line: &mut [u8]) -> Report
     requires { ⌜ 128 ≤ length (now line) ⌝ }
     ensures { λ r. ⌜
-        Said (UserReplayed (now (m .entry)) (now (pins .entry)) user (now (witness .entry))) verdictWords noText (now (line .entry)) r
+        Reported (UserReplayed (now (m .entry)) (now (pins .entry)) user (now (witness .entry))) verdictWords noText (now (line .entry)) r
         (now (line .exit)) []
         ⌝ }
 {
     let answer = user_replay::replay(m, pins, user, witness);
-    let said = write_verdict(line, answer);
-    Report { line: said, out: 0 }
+    let length = write_verdict(line, answer);
+    Report {
+        line: length,
+        out: 0,
+    }
 }
 
 // Widens a witness for a user who is known.
@@ -52,7 +55,7 @@ fn widen(
 ) -> Report
     requires { ⌜ 128 ≤ length (now line) ⌝ }
     ensures { λ r. ⌜
-        Said (λ a. UserWidened (now (m .entry)) (now (pins .entry)) user (now (witness .entry)) (now (out .entry)) a (now (out .exit)))
+        Reported (λ a. UserWidened (now (m .entry)) (now (pins .entry)) user (now (witness .entry)) (now (out .entry)) a (now (out .exit)))
         textWords textLength (now (line .entry)) r (now (line .exit)) (now (out .exit))
         ⌝ }
 {
@@ -73,7 +76,7 @@ fn waveform(
 ) -> Report
     requires { ⌜ 128 ≤ length (now line) ⌝ }
     ensures { λ r. ⌜
-        Said (λ a. UserWaveformed (now (m .entry)) user only (now (witness .entry)) (now (out .entry)) a (now (out .exit)))
+        Reported (λ a. UserWaveformed (now (m .entry)) user only (now (witness .entry)) (now (out .entry)) a (now (out .exit)))
         textWords textLength (now (line .entry)) r (now (line .exit)) (now (out .exit))
         ⌝ }
 {

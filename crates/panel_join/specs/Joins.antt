@@ -8,7 +8,7 @@ use Rattle.aiger.specs.Load.{Answer, refused, gives, load}
 use Rattle.aiger.specs.Memory.{Holds}
 use Rattle.replies.specs.declared.Report.{Report}
 use Rattle.user_join.specs.Joins.{UserJoined}
-use Rattle.panel.specs.Answers.{loadWords, noText, Said}
+use Rattle.panel.specs.Answers.{loadWords, noText, Reported}
 
 -- for user 0, where the old circuit is in `first`: what refuses the new file, else the join of the two circuits
 pub data NewJoined (first new m pins : List ℕ) : Answer (List ℕ) → List ℕ → List ℕ → Type 0 where
@@ -24,5 +24,5 @@ pub data FilesJoined (old new m pins : List ℕ) (user : ℕ) : Answer (List ℕ
       → NewJoined first new m pins a m′ pins′ → FilesJoined old new m pins user a m′ pins′
 
 -- the line is that of a load
-abbrev pub JoinSaid : (Answer (List ℕ) → Type 0) → List ℕ → Report → List ℕ → Type 0
-JoinSaid permits line r line′ = Said permits loadWords noText line r line′ []
+abbrev pub JoinReported : (Answer (List ℕ) → Type 0) → List ℕ → Report → List ℕ → Type 0
+JoinReported permits line r line′ = Reported permits loadWords noText line r line′ []

@@ -4,7 +4,7 @@ use replies::Report;
 ghost use Prim.Native.Nat.{_≤_};
 ghost use lib.ListN.{length};
 ghost use Rattle.user_join.specs.Joins.{UserJoined};
-ghost use Rattle.panel_join.specs.Joins.{NewJoined, FilesJoined, JoinSaid};
+ghost use Rattle.panel_join.specs.Joins.{NewJoined, FilesJoined, JoinReported};
 
 // Joins the circuits in first and second for user 0.
 fn join_loaded(
@@ -16,22 +16,25 @@ fn join_loaded(
 ) -> Report
     requires { ⌜ 128 ≤ length (now line) ⌝ }
     ensures { λ r. ⌜
-        JoinSaid
+        JoinReported
         (λ a. UserJoined (now (first .entry)) (now (second .entry)) (now (m .entry)) (now (pins .entry)) 0 a (now (m .exit))
         (now (pins .exit)))
         (now (line .entry)) r (now (line .exit))
         ⌝ }
 {
     let answer = user_join::join(0, first, second, m, pins);
-    let said = preview_command::write_answer(line, answer);
-    Report { line: said, out: 0 }
+    let length = preview_command::write_answer(line, answer);
+    Report {
+        line: length,
+        out: 0,
+    }
 }
 
 // Loads the new file, and joins its circuit with that in first.
 fn join_new(new: &[u8], first: &[u32], m: &mut [u32], pins: &mut [u8], line: &mut [u8]) -> Report
     requires { ⌜ 128 ≤ length (now line) ⌝ }
     ensures { λ r. ⌜
-        JoinSaid (λ a. NewJoined (now (first .entry)) (now (new .entry)) (now (m .entry)) (now (pins .entry)) a (now (m .exit))
+        JoinReported (λ a. NewJoined (now (first .entry)) (now (new .entry)) (now (m .entry)) (now (pins .entry)) a (now (m .exit))
         (now (pins .exit)))
         (now (line .entry)) r (now (line .exit))
         ⌝ }
@@ -54,7 +57,7 @@ pub fn join(
 ) -> Report
     requires { ⌜ 128 ≤ length (now line) ⌝ }
     ensures { λ r. ⌜
-        JoinSaid
+        JoinReported
         (λ a. FilesJoined (now (old .entry)) (now (new .entry)) (now (m .entry)) (now (pins .entry)) user a (now (m .exit))
         (now (pins .exit)))
         (now (line .entry)) r (now (line .exit))

@@ -1,4 +1,4 @@
--- The commands of a line, by their verbs. Assumes nothing.
+-- The commands of a request, by their verbs. Assumes nothing.
 use mathlib.Core.Path.{_≡_, refl, sym, ap, _∙_, subst}
 use mathlib.Core.Bool.{Bool, true, false}
 use mathlib.Core.List.{List}
@@ -31,9 +31,9 @@ use Rattle.panel_lines.specs.Grammar.{
   waveformOf,
   verbOf,
   commandOf,
-  request,
+  parse,
 }
-use Rattle.panel_lines.specs.Reading.{Inside, textOf, Ends, WordAt, NumberAt, NameAt, taskOf, PartsInside, TaskIs, RequestIs}
+use Rattle.panel_lines.specs.Reading.{Inside, bytesOf, Ends, WordAt, NumberAt, NameAt, taskOf, PartsInside, TaskIs, RequestIs}
 use Rattle.panel_lines.specs.declared.Part.{Part}
 use Rattle.panel_lines.specs.declared.Verb.{Verb}
 use Rattle.panel_lines.specs.declared.View.{View}
@@ -152,15 +152,15 @@ module _ (s : List ℕ) (at : ℕ) where
       flag-none e = sym (flag-word ∙ rw e)
 
       module _ {p : Part} (n : NameAt s at p) where
-        pub flag-given : true ≡ same (textOf s p) w → some true ≡ flagOf w (drop at s)
+        pub flag-given : true ≡ same (bytesOf s p) w → some true ≡ flagOf w (drop at s)
         flag-given e = sym (flag-word ∙ rw (n .name-is, ← e))
 
-        pub flag-other : false ≡ same (textOf s p) w → none ≡ flagOf w (drop at s)
+        pub flag-other : false ≡ same (bytesOf s p) w → none ≡ flagOf w (drop at s)
         flag-other e = sym (flag-word ∙ rw (n .name-is, ← e))
 
 -- ---- a request
 
--- a line that is no command
+-- a request that is no command
 malformed-is : (s : List ℕ) (c : Option (ℕ × Command)) (r : Request) → r .task ≡ Malformed → none ≡ c → RequestIs s c r
 malformed-is s c r e n =
     record {
@@ -168,28 +168,28 @@ malformed-is s c r e n =
       parts = subst (PartsInside s) (sym e) tt;
     }
 
--- the first word of a line
+-- the first word of a request
 first-word : (s : List ℕ) {end : ℕ} → Ends s 0 end → split s ≡ (take end s, drop end s)
 first-word s {end} w = let z : end - 0 ≡ end = omega arith in rw z at (w .word-is)
 
 module _ (s : List ℕ) (r : Request) (e : r .task ≡ Malformed) where
-  pub too-long : 4096 < length s → RequestIs s (request s) r
-  unfolding request
-  too-long h = malformed-is s (request s) r e (rw (lt-leb (length s) 4096 h))
+  pub too-long : 4096 < length s → RequestIs s (parse s) r
+  unfolding parse
+  too-long h = malformed-is s (parse s) r e (rw (lt-leb (length s) 4096 h))
 
   module _ (short : length s ≤ 4096) {end : ℕ} (w : Ends s 0 end) where
-    pub no-user : none ≡ numberOf (take end s) → RequestIs s (request s) r
-    unfolding request
-    no-user n = malformed-is s (request s) r e (rw (le-leb (length s) 4096 short, first-word s w, ← n))
+    pub no-user : none ≡ numberOf (take end s) → RequestIs s (parse s) r
+    unfolding parse
+    no-user n = malformed-is s (parse s) r e (rw (le-leb (length s) 4096 short, first-word s w, ← n))
 
-    pub no-verb : {user : ℕ} → some user ≡ numberOf (take end s) → word (drop end s) ≡ none → RequestIs s (request s) r
-    unfolding request
-    no-verb u n = malformed-is s (request s) r e (rw (le-leb (length s) 4096 short, first-word s w, ← u, n))
+    pub no-verb : {user : ℕ} → some user ≡ numberOf (take end s) → word (drop end s) ≡ none → RequestIs s (parse s) r
+    unfolding parse
+    no-verb u n = malformed-is s (parse s) r e (rw (le-leb (length s) 4096 short, first-word s w, ← u, n))
 
 pub whole : (s : List ℕ) → length s ≤ 4096 → {end : ℕ} → Ends s 0 end → {user : ℕ} → some user ≡ numberOf (take end s)
-    → {p : Part} → WordAt s end p → {v : Verb} → v ≡ verbOf (textOf s p) → {t : Task} → TaskIs s (commandOf v (drop (p .to) s)) t
-    → RequestIs s (request s) (record { user = user; task = t })
-unfolding request
+    → {p : Part} → WordAt s end p → {v : Verb} → v ≡ verbOf (bytesOf s p) → {t : Task} → TaskIs s (commandOf v (drop (p .to) s)) t
+    → RequestIs s (parse s) (record { user = user; task = t })
+unfolding parse
 whole s short w u p v t =
     record {
       meaning = rw (le-leb (length s) 4096 short, first-word s w, ← u, p .word-is, ← v, ← t .meaning);

@@ -1,4 +1,4 @@
--- Words, numbers and commands of a line, by positions. Assumes nothing.
+-- Words, numbers and commands of a request, by positions. Assumes nothing.
 use mathlib.Core.Path.{_≡_, refl, sym, ap, ap₂, _∙_}
 use mathlib.Core.Bool.{Bool, true, false, cond}
 use mathlib.Core.List.{List, [], _∷_, _++_, append-assoc, append-nil}
@@ -16,7 +16,7 @@ use Rattle.aiger.proofs.Tests.{T-true, true-T}
 use Rattle.meaning.proofs.Lists.{same-eq, same-of}
 use Rattle.arguments.specs.Arguments.{numberOf}
 use Rattle.panel_lines.specs.Grammar.{split, word, number, ended, twoNumbers, oneName}
-use Rattle.panel_lines.specs.Reading.{Inside, textOf, Ends, WordAt, NumberAt, NameAt}
+use Rattle.panel_lines.specs.Reading.{Inside, bytesOf, Ends, WordAt, NumberAt, NameAt}
 use Rattle.panel_lines.specs.declared.Part.{Part}
 
 -- a flag that is true exactly where two lists are equal
@@ -86,7 +86,7 @@ module _ (s : List ℕ) (from : ℕ) where
               (ap (λ (l : List ℕ). (l, drop i s)) (append-nil (take (i - from) (drop from s))));
         }
 
-    -- the line ends
+    -- the request ends
     pub finishes : length s ≤ i → Ends s from i
     finishes h =
         let d : drop i s ≡ [] = drop-of-length-le s {i = i} h in
@@ -133,15 +133,15 @@ module _ (s : List ℕ) (at : ℕ) where
   unfolding number
   wordless e = rw e
 
-  pub no-number : {p : Part} → WordAt s at p → none ≡ numberOf (textOf s p) → number (drop at s) ≡ none
+  pub no-number : {p : Part} → WordAt s at p → none ≡ numberOf (bytesOf s p) → number (drop at s) ≡ none
   unfolding number
   no-number w e = rw (w .word-is, ← e)
 
-  pub a-number : {p : Part} {n : ℕ} → WordAt s at p → some n ≡ numberOf (textOf s p) → NumberAt s at n (p .to)
+  pub a-number : {p : Part} {n : ℕ} → WordAt s at p → some n ≡ numberOf (bytesOf s p) → NumberAt s at n (p .to)
   unfolding number
   a-number w e = record { within = w .inside .within; number-is = rw (w .word-is, ← e) }
 
--- ---- the end of a line
+-- ---- the end of a request
 
 pub more-follows : (s : List ℕ) (at : ℕ) → at < length s → ended (drop at s) ≡ none
 unfolding ended

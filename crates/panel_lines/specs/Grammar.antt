@@ -1,5 +1,5 @@
--- Clause 12.7: the commands of the resident program. A command is a line: the user's number, a verb and its arguments, with one space
--- between two of them. Assumes nothing.
+-- Clause 12.7: the commands of the resident program. A request is a line of its input: the user's number, a verb and its
+-- arguments, with one space between two of them. Assumes nothing.
 use mathlib.Core.Bool.{Bool, true, false, cond}
 use mathlib.Core.List.{List, [], _∷_}
 use mathlib.Core.Option.{Option, none, some}
@@ -113,7 +113,7 @@ waveformOf s = do
   only ← flagOf (bytes "inputs") (f .1)
   some (Command.view (Waveform only) (f .0))
 
--- ---- a line
+-- ---- a request
 
 -- the verbs
 abbrev pub verbs : List (List ℕ × Verb)
@@ -152,11 +152,11 @@ commandOf Verb.Widen s = viewOf Widen s
 commandOf Verb.Waveform s = waveformOf s
 commandOf Verb.Unknown s = none
 
--- a line of at most 4,096 bytes, without the line feed: the user, and the command
-unfoldable pub request : List ℕ → Option (ℕ × Command)
-request line = do
-  when (leb (length line) 4096)
-  user ← numberOf ((split line) .0)
-  verb ← word ((split line) .1)
+-- a request of at most 4,096 bytes, without the line feed: the user, and the command
+unfoldable pub parse : List ℕ → Option (ℕ × Command)
+parse request = do
+  when (leb (length request) 4096)
+  user ← numberOf ((split request) .0)
+  verb ← word ((split request) .1)
   command ← commandOf (verbOf (verb .0)) (verb .1)
   some (user, command)

@@ -1,4 +1,4 @@
-// A line of the resident program as a command.
+// A request of the resident program, which is a line of its input, as a command.
 use arguments::Argument;
 ghost use mathlib.Core.Path.{_≡_};
 ghost use mathlib.Core.Bool.{cond};
@@ -19,11 +19,11 @@ ghost use Rattle.panel_lines.specs.Grammar.{
   waveformOf,
   verbOf,
   commandOf,
-  request,
+  parse,
 };
 ghost use Rattle.panel_lines.specs.Reading.{
   Inside,
-  textOf,
+  bytesOf,
   Ends,
   WordIs,
   NumberIs,
@@ -34,7 +34,7 @@ ghost use Rattle.panel_lines.specs.Reading.{
   RequestIs,
 };
 
-// A part of a line: from its first byte to the one past its last.
+// A part of a request: from its first byte to the one past its last.
 pub struct Part {
     pub from: usize,
     pub to: usize,
@@ -92,8 +92,8 @@ enum Word {
     Missing,
 }
 
-// A number, and where its word ends.
-enum Number {
+// A word that is a number, and where it ends.
+enum NumberWord {
     Value(u64, usize),
     Wrong,
 }
@@ -110,14 +110,14 @@ enum Flag {
     Unknown,
 }
 
-// Where the word that begins at a position ends: at the next space, or with the line.
-fn word_end(line: &[u8], from: usize) -> usize
-    requires { ⌜ from ≤ length (now line) ⌝ }
-    ensures { λ r. ⌜ Ends (now (line .entry)) from r ⌝ }
+// Where the word that begins at a position ends: at the next space, or with the request.
+fn word_end(request: &[u8], from: usize) -> usize
+    requires { ⌜ from ≤ length (now request) ⌝ }
+    ensures { λ r. ⌜ Ends (now (request .entry)) from r ⌝ }
 {
     let mut i = from;
-    while i < line.len() {
-        if line[i] == b' ' {
+    while i < request.len() {
+        if request[i] == b' ' {
             return i;
         }
         i += 1;
@@ -126,15 +126,15 @@ fn word_end(line: &[u8], from: usize) -> usize
 }
 
 // The word after the space at a position. It is not empty.
-fn word_after(line: &[u8], at: usize) -> Word
-    requires { ⌜ at ≤ length (now line) ⌝ }
-    ensures { λ r. ⌜ WordIs (now (line .entry)) at r ⌝ }
+fn word_after(request: &[u8], at: usize) -> Word
+    requires { ⌜ at ≤ length (now request) ⌝ }
+    ensures { λ r. ⌜ WordIs (now (request .entry)) at r ⌝ }
 {
-    if at == line.len() {
+    if at == request.len() {
         return Word::Missing;
     }
     let from = at + 1;
-    let to = word_end(line, from);
+    let to = word_end(request, from);
     if to == from {
         return Word::Missing;
     }
@@ -142,168 +142,168 @@ fn word_after(line: &[u8], at: usize) -> Word
 }
 
 // The number after the space at a position.
-fn number_after(line: &[u8], at: usize) -> Number
-    requires { ⌜ at ≤ length (now line) ⌝ }
-    ensures { λ r. ⌜ NumberIs (now (line .entry)) at r ⌝ }
+fn number_after(request: &[u8], at: usize) -> NumberWord
+    requires { ⌜ at ≤ length (now request) ⌝ }
+    ensures { λ r. ⌜ NumberIs (now (request .entry)) at r ⌝ }
 {
-    let Word::At(part) = word_after(line, at) else {
-        return Number::Wrong;
+    let Word::At(part) = word_after(request, at) else {
+        return NumberWord::Wrong;
     };
     let from = part.from;
     let to = part.to;
-    match arguments::read_argument(&line[from..to]) {
-        Argument::Number(n) => Number::Value(n, to),
-        Argument::Malformed => Number::Wrong,
+    match arguments::read_argument(&request[from..to]) {
+        Argument::Number(n) => NumberWord::Value(n, to),
+        Argument::Malformed => NumberWord::Wrong,
     }
 }
 
 // The two numbers after a position, where nothing follows them.
-fn two_numbers(line: &[u8], at: usize) -> Two
-    requires { ⌜ at ≤ length (now line) ⌝ }
-    ensures { λ r. ⌜ twoOf r ≡ twoNumbers (drop at (now (line .entry))) ⌝ }
+fn two_numbers(request: &[u8], at: usize) -> Two
+    requires { ⌜ at ≤ length (now request) ⌝ }
+    ensures { λ r. ⌜ twoOf r ≡ twoNumbers (drop at (now (request .entry))) ⌝ }
 {
-    let Number::Value(a, next) = number_after(line, at) else {
+    let NumberWord::Value(a, next) = number_after(request, at) else {
         return Two::Neither;
     };
-    let Number::Value(b, end) = number_after(line, next) else {
+    let NumberWord::Value(b, end) = number_after(request, next) else {
         return Two::Neither;
     };
-    if end < line.len() {
+    if end < request.len() {
         return Two::Neither;
     }
     Two::Both(a, b)
 }
 
 // The word after a position, where nothing follows it.
-fn one_name(line: &[u8], at: usize) -> Word
-    requires { ⌜ at ≤ length (now line) ⌝ }
-    ensures { λ r. ⌜ NameIs (now (line .entry)) at r ⌝ }
+fn one_name(request: &[u8], at: usize) -> Word
+    requires { ⌜ at ≤ length (now request) ⌝ }
+    ensures { λ r. ⌜ NameIs (now (request .entry)) at r ⌝ }
 {
-    let Word::At(name) = word_after(line, at) else {
+    let Word::At(name) = word_after(request, at) else {
         return Word::Missing;
     };
-    if name.to < line.len() {
+    if name.to < request.len() {
         return Word::Missing;
     }
     Word::At(name)
 }
 
 // The arguments `INPUT VALUE` of pin.
-fn read_pin(line: &[u8], at: usize) -> Task
-    requires { ⌜ at ≤ length (now line) ⌝ }
-    ensures { λ r. ⌜ TaskIs (now (line .entry)) (pinOf (drop at (now (line .entry)))) r ⌝ }
+fn read_pin(request: &[u8], at: usize) -> Task
+    requires { ⌜ at ≤ length (now request) ⌝ }
+    ensures { λ r. ⌜ TaskIs (now (request .entry)) (pinOf (drop at (now (request .entry)))) r ⌝ }
 {
-    let Two::Both(input, value) = two_numbers(line, at) else {
+    let Two::Both(input, value) = two_numbers(request, at) else {
         return Task::Malformed;
     };
     Task::Ask(Query::Pin(input, value))
 }
 
 // The arguments `b k D` of search.
-fn read_search(line: &[u8], at: usize) -> Task
-    requires { ⌜ at ≤ length (now line) ⌝ }
-    ensures { λ r. ⌜ TaskIs (now (line .entry)) (searchOf (drop at (now (line .entry)))) r ⌝ }
+fn read_search(request: &[u8], at: usize) -> Task
+    requires { ⌜ at ≤ length (now request) ⌝ }
+    ensures { λ r. ⌜ TaskIs (now (request .entry)) (searchOf (drop at (now (request .entry)))) r ⌝ }
 {
-    let Number::Value(b, next) = number_after(line, at) else {
+    let NumberWord::Value(b, next) = number_after(request, at) else {
         return Task::Malformed;
     };
-    let Two::Both(k, d) = two_numbers(line, next) else {
+    let Two::Both(k, d) = two_numbers(request, next) else {
         return Task::Malformed;
     };
     Task::Ask(Query::Search(b, k, d))
 }
 
 // The arguments `b t` of fold.
-fn read_fold(line: &[u8], at: usize) -> Task
-    requires { ⌜ at ≤ length (now line) ⌝ }
-    ensures { λ r. ⌜ TaskIs (now (line .entry)) (foldOf (drop at (now (line .entry)))) r ⌝ }
+fn read_fold(request: &[u8], at: usize) -> Task
+    requires { ⌜ at ≤ length (now request) ⌝ }
+    ensures { λ r. ⌜ TaskIs (now (request .entry)) (foldOf (drop at (now (request .entry)))) r ⌝ }
 {
-    let Two::Both(b, t) = two_numbers(line, at) else {
+    let Two::Both(b, t) = two_numbers(request, at) else {
         return Task::Malformed;
     };
     Task::Ask(Query::Fold(b, t))
 }
 
 // The argument FILE of load.
-fn read_load(line: &[u8], at: usize) -> Task
-    requires { ⌜ at ≤ length (now line) ⌝ }
-    ensures { λ r. ⌜ TaskIs (now (line .entry)) (loadOf (drop at (now (line .entry)))) r ⌝ }
+fn read_load(request: &[u8], at: usize) -> Task
+    requires { ⌜ at ≤ length (now request) ⌝ }
+    ensures { λ r. ⌜ TaskIs (now (request .entry)) (loadOf (drop at (now (request .entry)))) r ⌝ }
 {
-    let Word::At(file) = one_name(line, at) else {
+    let Word::At(file) = one_name(request, at) else {
         return Task::Malformed;
     };
     Task::Load(file)
 }
 
 // The argument FILE of preview.
-fn read_preview(line: &[u8], at: usize) -> Task
-    requires { ⌜ at ≤ length (now line) ⌝ }
-    ensures { λ r. ⌜ TaskIs (now (line .entry)) (previewOf (drop at (now (line .entry)))) r ⌝ }
+fn read_preview(request: &[u8], at: usize) -> Task
+    requires { ⌜ at ≤ length (now request) ⌝ }
+    ensures { λ r. ⌜ TaskIs (now (request .entry)) (previewOf (drop at (now (request .entry)))) r ⌝ }
 {
-    let Word::At(file) = one_name(line, at) else {
+    let Word::At(file) = one_name(request, at) else {
         return Task::Malformed;
     };
     Task::Preview(file)
 }
 
-// Whether a part of a line is a word.
-fn is_word(line: &[u8], part: Part, text: &[u8]) -> bool
-    requires { ⌜ Inside (now line) part ⌝ }
-    ensures { λ r. ⌜ r ≡ same (textOf (now (line .entry)) part) (now (text .entry)) ⌝ }
+// Whether a part of a request is a word.
+fn is_word(request: &[u8], part: Part, word: &[u8]) -> bool
+    requires { ⌜ Inside (now request) part ⌝ }
+    ensures { λ r. ⌜ r ≡ same (bytesOf (now (request .entry)) part) (now (word .entry)) ⌝ }
 {
     let from = part.from;
     let to = part.to;
-    check::same(&line[from..to], text)
+    check::same(&request[from..to], word)
 }
 
 // The arguments `OLD NEW` of join.
-fn read_join(line: &[u8], at: usize) -> Task
-    requires { ⌜ at ≤ length (now line) ⌝ }
-    ensures { λ r. ⌜ TaskIs (now (line .entry)) (joinOf (drop at (now (line .entry)))) r ⌝ }
+fn read_join(request: &[u8], at: usize) -> Task
+    requires { ⌜ at ≤ length (now request) ⌝ }
+    ensures { λ r. ⌜ TaskIs (now (request .entry)) (joinOf (drop at (now (request .entry)))) r ⌝ }
 {
-    let Word::At(old) = word_after(line, at) else {
+    let Word::At(old) = word_after(request, at) else {
         return Task::Malformed;
     };
-    let Word::At(new) = one_name(line, old.to) else {
+    let Word::At(new) = one_name(request, old.to) else {
         return Task::Malformed;
     };
     Task::Join(old, new)
 }
 
 // The argument WITNESS of a view.
-fn read_view(line: &[u8], at: usize, view: View) -> Task
-    requires { ⌜ at ≤ length (now line) ⌝ }
-    ensures { λ r. ⌜ TaskIs (now (line .entry)) (viewOf view (drop at (now (line .entry)))) r ⌝ }
+fn read_view(request: &[u8], at: usize, view: View) -> Task
+    requires { ⌜ at ≤ length (now request) ⌝ }
+    ensures { λ r. ⌜ TaskIs (now (request .entry)) (viewOf view (drop at (now (request .entry)))) r ⌝ }
 {
-    let Word::At(witness) = one_name(line, at) else {
+    let Word::At(witness) = one_name(request, at) else {
         return Task::Malformed;
     };
     Task::Witness(view, witness)
 }
 
 // Whether a word that may be given is all that follows a position, or nothing does.
-fn read_flag(line: &[u8], at: usize, text: &[u8]) -> Flag
-    requires { ⌜ at ≤ length (now line) ⌝ }
-    ensures { λ r. ⌜ givenOf r ≡ flagOf (now (text .entry)) (drop at (now (line .entry))) ⌝ }
+fn read_flag(request: &[u8], at: usize, word: &[u8]) -> Flag
+    requires { ⌜ at ≤ length (now request) ⌝ }
+    ensures { λ r. ⌜ givenOf r ≡ flagOf (now (word .entry)) (drop at (now (request .entry))) ⌝ }
 {
-    if at == line.len() {
+    if at == request.len() {
         return Flag::Given(false);
     }
-    let Word::At(word) = one_name(line, at) else {
+    let Word::At(given) = one_name(request, at) else {
         return Flag::Unknown;
     };
-    if is_word(line, word, text) {
+    if is_word(request, given, word) {
         return Flag::Given(true);
     }
     Flag::Unknown
 }
 
 // The argument `[binary]` of write.
-fn read_write(line: &[u8], at: usize) -> Task
-    requires { ⌜ at ≤ length (now line) ⌝ }
-    ensures { λ r. ⌜ TaskIs (now (line .entry)) (writeOf (drop at (now (line .entry)))) r ⌝ }
+fn read_write(request: &[u8], at: usize) -> Task
+    requires { ⌜ at ≤ length (now request) ⌝ }
+    ensures { λ r. ⌜ TaskIs (now (request .entry)) (writeOf (drop at (now (request .entry)))) r ⌝ }
 {
-    let Flag::Given(binary) = read_flag(line, at, b"binary") else {
+    let Flag::Given(binary) = read_flag(request, at, b"binary") else {
         return Task::Malformed;
     };
     if binary {
@@ -313,69 +313,69 @@ fn read_write(line: &[u8], at: usize) -> Task
 }
 
 // The arguments `WITNESS [inputs]` of waveform.
-fn read_waveform(line: &[u8], at: usize) -> Task
-    requires { ⌜ at ≤ length (now line) ⌝ }
-    ensures { λ r. ⌜ TaskIs (now (line .entry)) (waveformOf (drop at (now (line .entry)))) r ⌝ }
+fn read_waveform(request: &[u8], at: usize) -> Task
+    requires { ⌜ at ≤ length (now request) ⌝ }
+    ensures { λ r. ⌜ TaskIs (now (request .entry)) (waveformOf (drop at (now (request .entry)))) r ⌝ }
 {
-    let Word::At(witness) = word_after(line, at) else {
+    let Word::At(witness) = word_after(request, at) else {
         return Task::Malformed;
     };
-    let Flag::Given(only) = read_flag(line, witness.to, b"inputs") else {
+    let Flag::Given(only) = read_flag(request, witness.to, b"inputs") else {
         return Task::Malformed;
     };
     Task::Witness(View::Waveform(only), witness)
 }
 
-// A verb where a part of a line is its text, and another where it is not.
-fn verb_where(line: &[u8], part: Part, text: &[u8], verb: Verb, other: Verb) -> Verb
-    requires { ⌜ Inside (now line) part ⌝ }
-    ensures { λ r. ⌜ r ≡ cond (same (textOf (now (line .entry)) part) (now (text .entry))) verb other ⌝ }
+// A verb where a part of a request is its word, and another where it is not.
+fn verb_where(request: &[u8], part: Part, word: &[u8], verb: Verb, other: Verb) -> Verb
+    requires { ⌜ Inside (now request) part ⌝ }
+    ensures { λ r. ⌜ r ≡ cond (same (bytesOf (now (request .entry)) part) (now (word .entry))) verb other ⌝ }
 {
-    if is_word(line, part, text) {
+    if is_word(request, part, word) {
         return verb;
     }
     other
 }
 
-// The verb that a part of a line is.
-fn verb_of(line: &[u8], part: Part) -> Verb
-    requires { ⌜ Inside (now line) part ⌝ }
-    ensures { λ r. ⌜ r ≡ verbOf (textOf (now (line .entry)) part) ⌝ }
+// The verb that a part of a request is.
+fn verb_of(request: &[u8], part: Part) -> Verb
+    requires { ⌜ Inside (now request) part ⌝ }
+    ensures { λ r. ⌜ r ≡ verbOf (bytesOf (now (request .entry)) part) ⌝ }
 {
     let verb = Verb::Unknown;
-    let verb = verb_where(line, part, b"waveform", Verb::Waveform, verb);
-    let verb = verb_where(line, part, b"widen", Verb::Widen, verb);
-    let verb = verb_where(line, part, b"replay", Verb::Replay, verb);
-    let verb = verb_where(line, part, b"join", Verb::Join, verb);
-    let verb = verb_where(line, part, b"preview", Verb::Preview, verb);
-    let verb = verb_where(line, part, b"load", Verb::Load, verb);
-    let verb = verb_where(line, part, b"write", Verb::Write, verb);
-    let verb = verb_where(line, part, b"fold", Verb::Fold, verb);
-    let verb = verb_where(line, part, b"search", Verb::Search, verb);
-    verb_where(line, part, b"pin", Verb::Pin, verb)
+    let verb = verb_where(request, part, b"waveform", Verb::Waveform, verb);
+    let verb = verb_where(request, part, b"widen", Verb::Widen, verb);
+    let verb = verb_where(request, part, b"replay", Verb::Replay, verb);
+    let verb = verb_where(request, part, b"join", Verb::Join, verb);
+    let verb = verb_where(request, part, b"preview", Verb::Preview, verb);
+    let verb = verb_where(request, part, b"load", Verb::Load, verb);
+    let verb = verb_where(request, part, b"write", Verb::Write, verb);
+    let verb = verb_where(request, part, b"fold", Verb::Fold, verb);
+    let verb = verb_where(request, part, b"search", Verb::Search, verb);
+    verb_where(request, part, b"pin", Verb::Pin, verb)
 }
 
 // The command of a verb, with what follows it.
-fn read_task(line: &[u8], at: usize, verb: Verb) -> Task
-    requires { ⌜ at ≤ length (now line) ⌝ }
-    ensures { λ r. ⌜ TaskIs (now (line .entry)) (commandOf verb (drop at (now (line .entry)))) r ⌝ }
+fn read_task(request: &[u8], at: usize, verb: Verb) -> Task
+    requires { ⌜ at ≤ length (now request) ⌝ }
+    ensures { λ r. ⌜ TaskIs (now (request .entry)) (commandOf verb (drop at (now (request .entry)))) r ⌝ }
 {
     match verb {
-        Verb::Pin => read_pin(line, at),
-        Verb::Search => read_search(line, at),
-        Verb::Fold => read_fold(line, at),
-        Verb::Write => read_write(line, at),
-        Verb::Load => read_load(line, at),
-        Verb::Preview => read_preview(line, at),
-        Verb::Join => read_join(line, at),
-        Verb::Replay => read_view(line, at, View::Replay),
-        Verb::Widen => read_view(line, at, View::Widen),
-        Verb::Waveform => read_waveform(line, at),
+        Verb::Pin => read_pin(request, at),
+        Verb::Search => read_search(request, at),
+        Verb::Fold => read_fold(request, at),
+        Verb::Write => read_write(request, at),
+        Verb::Load => read_load(request, at),
+        Verb::Preview => read_preview(request, at),
+        Verb::Join => read_join(request, at),
+        Verb::Replay => read_view(request, at, View::Replay),
+        Verb::Widen => read_view(request, at, View::Widen),
+        Verb::Waveform => read_waveform(request, at),
         Verb::Unknown => Task::Malformed,
     }
 }
 
-// What is answered to a line that is no command.
+// What is read from a request that is no command.
 fn malformed() -> Request
     ensures { λ r. ⌜ r .task ≡ Task.Malformed ⌝ }
 {
@@ -385,20 +385,20 @@ fn malformed() -> Request
     }
 }
 
-// The request that a line is, without the line feed that ends it.
-pub fn read_request(line: &[u8]) -> Request
-    ensures { λ r. ⌜ RequestIs (now (line .entry)) (request (now (line .entry))) r ⌝ }
+// The user and the task of a request. The line feed that ended its line is no part of it.
+pub fn read_request(request: &[u8]) -> Request
+    ensures { λ r. ⌜ RequestIs (now (request .entry)) (parse (now (request .entry))) r ⌝ }
 {
-    if 4096 < line.len() {
+    if 4096 < request.len() {
         return malformed();
     }
-    let end = word_end(line, 0);
-    let Argument::Number(user) = arguments::read_argument(&line[..end]) else {
+    let end = word_end(request, 0);
+    let Argument::Number(user) = arguments::read_argument(&request[..end]) else {
         return malformed();
     };
-    let Word::At(part) = word_after(line, end) else {
+    let Word::At(part) = word_after(request, end) else {
         return malformed();
     };
-    let task = read_task(line, part.to, verb_of(line, part));
+    let task = read_task(request, part.to, verb_of(request, part));
     Request { user, task }
 }

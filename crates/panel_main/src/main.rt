@@ -1,17 +1,18 @@
-// The resident program: commands of two users, line by line from standard input, on one circuit memory, working memory and pin memory.
+// The resident program: requests of two users, each a line of standard input, on one circuit memory, working memory and pin memory.
 use files::say;
 use libc::STDIN_FILENO;
 use panel_session::Names;
-use panel_session::Said;
+use panel_session::Response;
 ghost use mathlib.Core.Path.{_≡_};
 ghost use Prim.Native.Nat.{_+_, _≤_, _<_};
 ghost use lib.ListN.{length, set};
 ghost use Rattle.io.specs.Counts.{Counts};
-ghost use Rattle.panel_lines.specs.Grammar.{request};
+ghost use Rattle.panel_lines.specs.Grammar.{parse};
 ghost use Rattle.panel_session.specs.Naming.{namedBy};
+ghost use Rattle.panel_session.specs.Session.{start};
 
-// How many bytes of a line were kept, and whether the input had ended before it.
-struct Line {
+// How many bytes of a request were kept, and whether the input had ended before it.
+struct Received {
     count: usize,
     ended: bool,
 }
@@ -74,12 +75,12 @@ fn next_byte() -> Byte {
     Byte::Value(byte[0])
 }
 
-// The line of n bytes in buf, after which the input goes on or has ended.
-fn line_of(n: usize, ended: bool, buf: &[u8]) -> Line
+// The request of n bytes in buf, after which the input goes on or has ended.
+fn received_of(n: usize, ended: bool, buf: &[u8]) -> Received
     requires { ⌜ n ≤ length (now buf) ⌝ }
     ensures { λ r. ⌜ Counts (r .count) (now (buf .entry)) × (r .count ≡ n) × (r .ended ≡ ended) ⌝ }
 {
-    Line { count: n, ended }
+    Received { count: n, ended }
 }
 
 // Stores a byte after the first n of buf, where there is room. The answer is how many there are then.
@@ -97,39 +98,39 @@ fn keep(b: u8, n: usize, buf: &mut [u8]) -> usize
     n + 1
 }
 
-// Reads a line into the front of buf, as much as has room, and passes over the rest of it. The loop counts its turns down from a number
-// that no run uses up, since nothing says that a line ends.
-fn read_line(buf: &mut [u8]) -> Line
+// Reads a request, a line of the input, into the front of buf, as much as has room, and passes over the rest of it. The loop counts its
+// turns down from a number that no run uses up, since nothing says that a line ends.
+fn read_request(buf: &mut [u8]) -> Received
     ensures { λ r. ⌜ Counts (r .count) (now (buf .exit)) ⌝ }
 {
     let mut n: usize = 0;
     let mut turns = u64::MAX;
     while 0 < turns {
         let Byte::Value(b) = next_byte() else {
-            return line_of(n, n == 0, buf);
+            return received_of(n, n == 0, buf);
         };
         if b == b'\n' {
-            return line_of(n, false, buf);
+            return received_of(n, false, buf);
         }
         n = keep(b, n, buf);
         turns -= 1;
     }
-    line_of(n, false, buf)
+    received_of(n, false, buf)
 }
 
-// Prints what was said of a line.
-fn tell(said: Said, out: &[u8])
-    requires { ⌜ (said .count ≤ length (said .line)) × (said .out ≤ length (now out)) ⌝ }
+// Prints the response to a request.
+fn tell(response: Response, out: &[u8])
+    requires { ⌜ (response .count ≤ length (response .line)) × (response .out ≤ length (now out)) ⌝ }
 {
-    let line = said.line;
-    let count = said.count;
-    let written = said.out;
+    let line = response.line;
+    let count = response.count;
+    let written = response.out;
     answer(&line[..count], &out[..written]);
 }
 
-// Answers a line that names one file. A witness has at most 66,825 bytes.
+// Answers a request that names one file. A witness has at most 66,825 bytes.
 fn with_one(
-    text: &[u8],
+    request: &[u8],
     name: &[u8],
     m: &mut [u32],
     work: &mut [u32],
@@ -137,22 +138,22 @@ fn with_one(
     out: &mut [u8],
 )
     requires { ⌜ (length (now m) ≡ 33032) × (length (now out) ≡ 1572928) ⌝ }
-    requires { ⌜ 1 ≤ length (namedBy (request (now text))) ⌝ }
+    requires { ⌜ 1 ≤ length (namedBy (parse (now request))) ⌝ }
 {
     let mut file = [0u8; 66826];
     let got = files::read_named(name, &mut file);
     if got.failed {
-        tell(panel_session::unreadable(text), out);
+        tell(panel_session::unreadable(request), out);
         return;
     }
     let n = got.count;
-    let said = panel_session::respond(text, &file[..n], b"", m, work, pins, out);
-    tell(said, out);
+    let response = panel_session::respond(request, &file[..n], b"", m, work, pins, out);
+    tell(response, out);
 }
 
-// Answers a line that names two files.
+// Answers a request that names two files.
 fn with_two(
-    text: &[u8],
+    request: &[u8],
     first: &[u8],
     second: &[u8],
     m: &mut [u32],
@@ -161,66 +162,75 @@ fn with_two(
     out: &mut [u8],
 )
     requires { ⌜ (length (now m) ≡ 33032) × (length (now out) ≡ 1572928) ⌝ }
-    requires { ⌜ 1 ≤ length (namedBy (request (now text))) ⌝ }
+    requires { ⌜ 1 ≤ length (namedBy (parse (now request))) ⌝ }
 {
     let mut old = [0u8; 65537];
     let mut new = [0u8; 65537];
     let from = files::read_named(first, &mut old);
     let to = files::read_named(second, &mut new);
     if from.failed | to.failed {
-        tell(panel_session::unreadable(text), out);
+        tell(panel_session::unreadable(request), out);
         return;
     }
     let n = from.count;
     let k = to.count;
-    let said = panel_session::respond(text, &old[..n], &new[..k], m, work, pins, out);
-    tell(said, out);
+    let response = panel_session::respond(request, &old[..n], &new[..k], m, work, pins, out);
+    tell(response, out);
 }
 
-// Answers a line.
-fn do_line(text: &[u8], m: &mut [u32], work: &mut [u32], pins: &mut [u8], out: &mut [u8])
+// Answers a request.
+fn do_request(request: &[u8], m: &mut [u32], work: &mut [u32], pins: &mut [u8], out: &mut [u8])
     requires { ⌜ (length (now m) ≡ 33032) × (length (now out) ≡ 1572928) ⌝ }
 {
-    match panel_session::files_of(text) {
+    match panel_session::files_of(request) {
         Names::Zero => {
-            let said = panel_session::respond(text, b"", b"", m, work, pins, out);
-            tell(said, out);
+            let response = panel_session::respond(request, b"", b"", m, work, pins, out);
+            tell(response, out);
         }
         Names::One(file) => {
             let from = file.from;
             let to = file.to;
-            with_one(text, &text[from..to], m, work, pins, out);
+            with_one(request, &request[from..to], m, work, pins, out);
         }
         Names::Two(old, new) => {
             let from = old.from;
             let to = old.to;
             let start = new.from;
             let end = new.to;
-            with_two(text, &text[from..to], &text[start..end], m, work, pins, out);
+            with_two(
+                request,
+                &request[from..to],
+                &request[start..end],
+                m,
+                work,
+                pins,
+                out,
+            );
         }
     }
 }
 
-// Reads a line and answers it. The answer is whether there was one.
-fn one_line(m: &mut [u32], work: &mut [u32], pins: &mut [u8], out: &mut [u8]) -> bool
+// Reads a request and answers it. The answer is whether there was one.
+fn one_request(m: &mut [u32], work: &mut [u32], pins: &mut [u8], out: &mut [u8]) -> bool
     requires { ⌜ (length (now m) ≡ 33032) × (length (now out) ≡ 1572928) ⌝ }
 {
-    let mut text = [0u8; 4097];
-    let line = read_line(&mut text);
-    if line.ended {
+    let mut request = [0u8; 4097];
+    let got = read_request(&mut request);
+    if got.ended {
         return false;
     }
-    let n = line.count;
-    do_line(&text[..n], m, work, pins, out);
+    let n = got.count;
+    do_request(&request[..n], m, work, pins, out);
     true
 }
 
-// Answers lines until the input ends.
+// Answers requests until the input ends, from the state in which sessions start.
 fn session(m: &mut [u32], work: &mut [u32], pins: &mut [u8], out: &mut [u8])
     requires { ⌜ (length (now m) ≡ 33032) × (length (now out) ≡ 1572928) ⌝ }
+    requires { ⌜ (record { memory = now m; work = now work; pins = now pins }) ≡ start ⌝ }
 {
     let mut turns = u64::MAX;
-    while turns > 0 && one_line(m, work, pins, out) {
+    while turns > 0 && one_request(m, work, pins, out) {
         turns -= 1;
     }
 }
@@ -228,6 +238,7 @@ fn session(m: &mut [u32], work: &mut [u32], pins: &mut [u8], out: &mut [u8])
 // Lends the circuit memory of the greatest M, 4,096, which holds no circuit at first, and the pins of both users, all free.
 fn session_with(work: &mut [u32], out: &mut [u8])
     requires { ⌜ length (now out) ≡ 1572928 ⌝ }
+    requires { ⌜ now work ≡ start .work ⌝ }
 {
     let mut m = [4294967295u32; 33032];
     let mut pins = [2u8; 512];

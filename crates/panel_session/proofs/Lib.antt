@@ -3,3 +3,4 @@ pub mod Turns
 pub mod Requests
 pub mod Lacking
 pub mod Undisturbed
+pub mod Start

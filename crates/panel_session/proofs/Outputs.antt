@@ -117,36 +117,36 @@ binary-told {out = out} {out₀ = out₀} e x =
     (λ c h j n s f. record { text = writeBinary c; long = f .count; left = f .shows; again = record { count = f .count; shows = refl } }) p)
     x
 
-pub waveform-told : {m text out out₀ out′ : List ℕ} {user : ℕ} {only : Bool} {a : Answer ℕ} → length out ≡ length out₀
-    → UserWaveformed m user only text out a out′ → Told out out₀ out′ (textLength a) (UserWaveformed m user only text out₀ a)
-waveform-told {text = text} {out = out} {out₀ = out₀} {only = only} e x =
+pub waveform-told : {m witness out out₀ out′ : List ℕ} {user : ℕ} {only : Bool} {a : Answer ℕ} → length out ≡ length out₀
+    → UserWaveformed m user only witness out a out′ → Told out out₀ out′ (textLength a) (UserWaveformed m user only witness out₀ a)
+waveform-told {witness = witness} {out = out} {out₀ = out₀} {only = only} e x =
     for-told textLength (λ n. refl)
     (λ a s p.
-    operated-told textLength (λ n. refl) (λ c. ap (λ (n : ℕ). waveformTests c only text n) e)
+    operated-told textLength (λ n. refl) (λ c. ap (λ (n : ℕ). waveformTests c only witness n) e)
     (λ c h j n s f.
-    record { text = waveformOf c only (readEither c text); long = f .count; left = f .shows; again = record { count = f .count; shows = refl } }) p)
+    record { text = waveformOf c only (readEither c witness); long = f .count; left = f .shows; again = record { count = f .count; shows = refl } }) p)
     x
 
 -- a widened witness is as long as the witness
-widened-long : (c : Circuit) (q : ℕ → ℕ) (text : List ℕ) (b : ℕ) (body : List ℕ) → readEither c text ≡ some (b, body)
-    → length text ≡ length (pinnedWidenedText c q text (b, body))
+widened-long : (c : Circuit) (q : ℕ → ℕ) (witness : List ℕ) (b : ℕ) (body : List ℕ) → readEither c witness ≡ some (b, body)
+    → length witness ≡ length (pinnedWidenedText c q witness (b, body))
 unfolding pinnedWidenedText
-widened-long c q text b body r =
-    let H = headed text b body (read-heading c text (b, body) r) in
-    let z : length text ≡ length (H .lines) + length body = ap length (H .text-is) ∙ length-append (H .lines) body in
-    sym (length-append (take (length text - length body) text) (widened (pinnedShows c q b) body)
-    ∙ omega (arith, length-take (length text - length body) text, z, widened-wider (pinnedShows c q b) body .size))
+widened-long c q witness b body r =
+    let H = headed witness b body (read-heading c witness (b, body) r) in
+    let z : length witness ≡ length (H .lines) + length body = ap length (H .text-is) ∙ length-append (H .lines) body in
+    sym (length-append (take (length witness - length body) witness) (widened (pinnedShows c q b) body)
+    ∙ omega (arith, length-take (length witness - length body) witness, z, widened-wider (pinnedShows c q b) body .size))
 
-pub widen-told : (pins : List ℕ) {m text out out₀ out′ : List ℕ} {user : ℕ} {a : Answer ℕ} → length out ≡ length out₀
-    → UserWidened m pins user text out a out′ → Told out out₀ out′ (textLength a) (UserWidened m pins user text out₀ a)
-widen-told pins {text = text} {out = out} {out₀ = out₀} {user = user} e x =
+pub widen-told : (pins : List ℕ) {m witness out out₀ out′ : List ℕ} {user : ℕ} {a : Answer ℕ} → length out ≡ length out₀
+    → UserWidened m pins user witness out a out′ → Told out out₀ out′ (textLength a) (UserWidened m pins user witness out₀ a)
+widen-told pins {witness = witness} {out = out} {out₀ = out₀} {user = user} e x =
     for-told textLength (λ n. refl)
     (λ a s p.
-    operated-told textLength (λ n. refl) (λ c. ap (λ (n : ℕ). widenTests c text n) e)
+    operated-told textLength (λ n. refl) (λ c. ap (λ (n : ℕ). widenTests c witness n) e)
     (λ c h j n s f.
     record {
-      text = pinnedWidenedText c (pinsOf pins user) text (f .bad, f .body);
-      long = f .count ∙ widened-long c (pinsOf pins user) text (f .bad) (f .body) (f .reads);
+      text = pinnedWidenedText c (pinsOf pins user) witness (f .bad, f .body);
+      long = f .count ∙ widened-long c (pinsOf pins user) witness (f .bad) (f .body) (f .reads);
       left = f .writes;
       again = record { bad = f .bad; body = f .body; reads = f .reads; count = f .count; writes = refl };
     }) p)

@@ -1,4 +1,4 @@
--- From what the commands leave to the turn that a line is. Assumes nothing.
+-- From what the commands leave to the turn that a request is. Assumes nothing.
 use mathlib.Core.Path.{_≡_, refl, sym, ap, _∙_, subst}
 use mathlib.Core.Bool.{Bool, true, false, cond}
 use mathlib.Core.List.{List, [], _∷_, _++_}
@@ -33,17 +33,17 @@ use Rattle.replies.proofs.Putting.{fronts-none, fronts-taken, fronts-inside}
 use Rattle.job.specs.Replies.{Shows}
 use Rattle.history.specs.History as History
 use Rattle.preview_command.specs.Texts.{previewLine, previewReply, wordsLine}
-use Rattle.panel_lines.specs.Grammar.{Command, request}
+use Rattle.panel_lines.specs.Grammar.{Command, parse}
 use Rattle.panel_lines.specs.declared.Query.{Query}
 use Rattle.panel_lines.specs.declared.Query.the-variants.{Pin, Search, Fold, Write, WriteBinary}
 use Rattle.panel_lines.specs.declared.View.{View}
 use Rattle.panel_lines.specs.declared.View.the-variants.{Replay, Widen, Waveform}
-use Rattle.panel.specs.Answers.{loadWords, LoadSaid, Queried, previewSaid}
+use Rattle.panel.specs.Answers.{loadWords, LoadReported, Queried, previewReplyTo}
 use Rattle.panel_files.specs.Files.{Viewed}
-use Rattle.panel_join.specs.Joins.{NewJoined, FilesJoined, JoinSaid}
-use Rattle.panel_session.specs.Session.{Files, Action, fileWords, joinAction, queryCall, viewCall, actionOf, lineAction, told, badOf, Turn}
-use Rattle.panel_session.specs.Answered.{Says, Answered}
-use Rattle.panel_session.specs.declared.Said.{Said}
+use Rattle.panel_join.specs.Joins.{NewJoined, FilesJoined, JoinReported}
+use Rattle.panel_session.specs.Session.{Files, Action, fileWords, joinAction, queryCall, viewCall, actionOf, requestAction, replyTo, badOf, Turn}
+use Rattle.panel_session.specs.Answered.{LineAlone, Answered}
+use Rattle.panel_session.specs.declared.Response.{Response}
 use Rattle.panel_session.proofs.Outputs.{
   Told,
   search-told,
@@ -54,11 +54,11 @@ use Rattle.panel_session.proofs.Outputs.{
   waveform-told,
 }
 
--- what a report says of a line's bytes and of the output, for an action
+-- what a report says of the printed line and of the output, for an action
 pub record Taken (room : ℕ) (action : Action) (s : History.State) (line out : List ℕ) (r : Report) (s′ : History.State) (line′ out′ : List ℕ) : Type 0 where
   pub reply : Reply
   pub loaded : Bool
-  pub turn : (text : List ℕ) (files : Files) → lineAction room files (request text) ≡ action → Turn room text files s reply loaded s′
+  pub turn : (request : List ℕ) (files : Files) → requestAction room files (parse request) ≡ action → Turn room request files s reply loaded s′
   pub line-is : Fronts (reply .line) line (r .line) line′
   pub out-is : Fronts (reply .out) out (r .out) out′
 
@@ -150,7 +150,7 @@ module _ {m w p line out : List ℕ} {r : Report} {line′ out′ : List ℕ} wh
       }
   query-taken user (Search b k D) x = go (x .permitted)
     where
-      go : {s′ : History.State} → History.Step (record { memory = m; work = w; pins = p }) (History.Call.search user b k D out) (History.Reply.searched (x .answer) out′) s′
+      go : {s′ : History.State} → History.Step (record { memory = m; work = w; pins = p }) (History.Call.search user b k D out) (History.Returned.searched (x .answer) out′) s′
           → Taken (length out) (Action.calls (queryCall (length out) user (Search b k D))) (record { memory = m; work = w; pins = p }) line out r s′ line′ out′
       go (History.Step.searches y l) =
           let t = search-told p (as-long out) y in
@@ -163,7 +163,7 @@ module _ {m w p line out : List ℕ} {r : Report} {line′ out′ : List ℕ} wh
           }
   query-taken user (Fold b t) x = go (x .permitted)
     where
-      go : {s′ : History.State} → History.Step (record { memory = m; work = w; pins = p }) (History.Call.fold user b t out) (History.Reply.folded (x .answer) out′) s′
+      go : {s′ : History.State} → History.Step (record { memory = m; work = w; pins = p }) (History.Call.fold user b t out) (History.Returned.folded (x .answer) out′) s′
           → Taken (length out) (Action.calls (queryCall (length out) user (Fold b t))) (record { memory = m; work = w; pins = p }) line out r s′ line′ out′
       go (History.Step.folds y l) =
           let t = fold-told p (as-long out) y in
@@ -176,7 +176,7 @@ module _ {m w p line out : List ℕ} {r : Report} {line′ out′ : List ℕ} wh
           }
   query-taken user Write x = go (x .permitted)
     where
-      go : {s′ : History.State} → History.Step (record { memory = m; work = w; pins = p }) (History.Call.write user out) (History.Reply.written (x .answer) out′) s′
+      go : {s′ : History.State} → History.Step (record { memory = m; work = w; pins = p }) (History.Call.write user out) (History.Returned.written (x .answer) out′) s′
           → Taken (length out) (Action.calls (queryCall (length out) user Write)) (record { memory = m; work = w; pins = p }) line out r s′ line′ out′
       go (History.Step.writes y) =
           let t = write-told (as-long out) y in
@@ -189,7 +189,7 @@ module _ {m w p line out : List ℕ} {r : Report} {line′ out′ : List ℕ} wh
           }
   query-taken user WriteBinary x = go (x .permitted)
     where
-      go : {s′ : History.State} → History.Step (record { memory = m; work = w; pins = p }) (History.Call.writeBinary user out) (History.Reply.written (x .answer) out′) s′
+      go : {s′ : History.State} → History.Step (record { memory = m; work = w; pins = p }) (History.Call.writeBinary user out) (History.Returned.written (x .answer) out′) s′
           → Taken (length out) (Action.calls (queryCall (length out) user WriteBinary)) (record { memory = m; work = w; pins = p }) line out r s′ line′ out′
       go (History.Step.writesBinary y) =
           let t = binary-told (as-long out) y in
@@ -203,9 +203,9 @@ module _ {m w p line out : List ℕ} {r : Report} {line′ out′ : List ℕ} wh
 
   -- ---- views
 
-  pub view-taken : (user : ℕ) (v : View) (text : List ℕ) → Viewed v user text m p out line r out′ line′
-      → Taken (length out) (Action.calls (viewCall (length out) user text v)) (record { memory = m; work = w; pins = p }) line out r (record { memory = m; work = w; pins = p }) line′ out′
-  view-taken user Replay text x =
+  pub view-taken : (user : ℕ) (v : View) (witness : List ℕ) → Viewed v user witness m p out line r out′ line′
+      → Taken (length out) (Action.calls (viewCall (length out) user witness v)) (record { memory = m; work = w; pins = p }) line out r (record { memory = m; work = w; pins = p }) line′ out′
+  view-taken user Replay witness x =
       record {
         reply = _;
         loaded = _;
@@ -213,7 +213,7 @@ module _ {m w p line out : List ℕ} {r : Report} {line′ out′ : List ℕ} wh
         line-is = x .line-is;
         out-is = untouched (x .out-is) (x .permitted .1);
       }
-  view-taken user Widen text x =
+  view-taken user Widen witness x =
       let t = widen-told p (as-long out) (x .permitted) in
       record {
         reply = _;
@@ -222,7 +222,7 @@ module _ {m w p line out : List ℕ} {r : Report} {line′ out′ : List ℕ} wh
         line-is = x .line-is;
         out-is = printed (t .text) (replicate (length out) 0) (x .out-is) (t .long) (t .left);
       }
-  view-taken user (Waveform only) text x =
+  view-taken user (Waveform only) witness x =
       let t = waveform-told (as-long out) (x .permitted) in
       record {
         reply = _;
@@ -234,7 +234,7 @@ module _ {m w p line out : List ℕ} {r : Report} {line′ out′ : List ℕ} wh
 
   -- ---- commands that name files of circuits
 
-  pub load-taken : (user : ℕ) (file : List ℕ) {m′ p′ : List ℕ} → LoadSaid user file m p line r m′ p′ line′ → out′ ≡ out
+  pub load-taken : (user : ℕ) (file : List ℕ) {m′ p′ : List ℕ} → LoadReported user file m p line r m′ p′ line′ → out′ ≡ out
       → Taken (length out) (Action.calls (History.Call.load user file)) (record { memory = m; work = w; pins = p }) line out r (record { memory = m′; work = w; pins = p′ }) line′ out′
   load-taken user file x o =
       record {
@@ -245,7 +245,7 @@ module _ {m w p line out : List ℕ} {r : Report} {line′ out′ : List ℕ} wh
         out-is = untouched (x .out-is) o;
       }
 
-  pub preview-taken : (user : ℕ) (file : List ℕ) → length m ≡ 33032 → Leaves (previewSaid user file) line out r line′ out′
+  pub preview-taken : (user : ℕ) (file : List ℕ) → length m ≡ 33032 → Leaves (previewReplyTo user file) line out r line′ out′
       → Taken (length out) (Action.calls (History.Call.preview user file)) (record { memory = m; work = w; pins = p }) line out r (record { memory = m; work = w; pins = p }) line′ out′
   unfolding previewReply
   preview-taken user file l x =
@@ -274,7 +274,7 @@ module _ {m w p line out : List ℕ} {r : Report} {line′ out′ : List ℕ} wh
             }
       ]
 
-  pub join-taken : (user : ℕ) (old new first second : List ℕ) {m′ p′ : List ℕ} → JoinSaid (λ a. FilesJoined first second m p user a m′ p′) line r line′
+  pub join-taken : (user : ℕ) (old new first second : List ℕ) {m′ p′ : List ℕ} → JoinReported (λ a. FilesJoined first second m p user a m′ p′) line r line′
       → out′ ≡ out
       → Taken (length out) (actionOf (length out) user first second (Command.join old new)) (record { memory = m; work = w; pins = p }) line out r (record { memory = m′; work = w; pins = p′ }) line′
       out′
@@ -311,17 +311,17 @@ module _ {m w p line out : List ℕ} {r : Report} {line′ out′ : List ℕ} wh
   malformed-taken t f e o =
       record { reply = record { line = t; out = [] }; loaded = false; turn = λ u g q. Turn.prints q; line-is = f; out-is = untouched e o }
 
--- ---- a line
+-- ---- a request
 
-module _ {text first second : List ℕ} {s : History.State} {line out : List ℕ} {r : Report} {s′ : History.State} {line′ out′ : List ℕ} {user : ℕ} {c : Command} where
-  -- what is left for a line whose files were read
-  pub answers : request text ≡ some (user, c) → Taken (length out) (actionOf (length out) user first second c) s line out r s′ line′ out′ → (q : Said)
-      → q .line ≡ line′ → q .count ≡ r .line → q .out ≡ r .out → Answered text (Files.read first second) s out q s′ out′
+module _ {request first second : List ℕ} {s : History.State} {line out : List ℕ} {r : Report} {s′ : History.State} {line′ out′ : List ℕ} {user : ℕ} {c : Command} where
+  -- what is left for a request whose files were read
+  pub answers : parse request ≡ some (user, c) → Taken (length out) (actionOf (length out) user first second c) s line out r s′ line′ out′ → (q : Response)
+      → q .line ≡ line′ → q .count ≡ r .line → q .out ≡ r .out → Answered request (Files.read first second) s out q s′ out′
   answers e t q l n o =
       record {
         reply = t .reply;
         loaded = t .loaded;
-        turn = t .turn text (Files.read first second) (ap (lineAction (length out) (Files.read first second)) e);
+        turn = t .turn request (Files.read first second) (ap (requestAction (length out) (Files.read first second)) e);
         line-is = record {
           inside = rw (l, n) (fronts-inside (t .line-is));
           contents = rw (l, n) (fronts-taken (t .line-is));
@@ -330,15 +330,15 @@ module _ {text first second : List ℕ} {s : History.State} {line out : List ℕ
       }
 
 -- a line alone
-pub says-alone : {text : List ℕ} {files : Files} {s : History.State} (out : List ℕ) {t : List ℕ} {r : Said}
-    → lineAction (length out) files (request text) ≡ Action.prints t → Says r t → Answered text files s out r s out
-says-alone out {t} e y =
+pub answered-alone : {request : List ℕ} {files : Files} {s : History.State} (out : List ℕ) {t : List ℕ} {r : Response}
+    → requestAction (length out) files (parse request) ≡ Action.prints t → LineAlone r t → Answered request files s out r s out
+answered-alone out {t} e y =
     record { reply = record { line = t; out = [] }; loaded = false; turn = Turn.prints e; line-is = y .line-is; out-is = untouched (y .out-is) refl }
 
-pub says-fronts : {t line line′ : List ℕ} {n : ℕ} (r : Said) → Fronts t line n line′ → r .line ≡ line′ → r .count ≡ n → r .out ≡ 0 → Says r t
-says-fronts r f l n o = record { line-is = record { inside = rw (l, n) (fronts-inside f); contents = rw (l, n) (fronts-taken f) }; out-is = o }
+pub alone-fronts : {t line line′ : List ℕ} {n : ℕ} (r : Response) → Fronts t line n line′ → r .line ≡ line′ → r .count ≡ n → r .out ≡ 0 → LineAlone r t
+alone-fronts r f l n o = record { line-is = record { inside = rw (l, n) (fronts-inside f); contents = rw (l, n) (fronts-taken f) }; out-is = o }
 
--- what is to be printed lies in the answer's bytes and in the output
-pub answered-inside : {text : List ℕ} {files : Files} {s : History.State} {out : List ℕ} {r : Said} {s′ : History.State} {out′ : List ℕ}
-    → Answered text files s out r s′ out′ → (r .count ≤ length (r .line)) × (r .out ≤ length out′)
+-- what is to be printed lies in the response's bytes and in the output
+pub answered-inside : {request : List ℕ} {files : Files} {s : History.State} {out : List ℕ} {r : Response} {s′ : History.State} {out′ : List ℕ}
+    → Answered request files s out r s′ out′ → (r .count ≤ length (r .line)) × (r .out ≤ length out′)
 answered-inside x = (x .line-is .inside, fronts-inside (x .out-is))

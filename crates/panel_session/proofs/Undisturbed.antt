@@ -21,7 +21,7 @@ use Rattle.history.specs.History as History
 use Rattle.history.specs.History.{Same}
 use Rattle.history.proofs.Calls.{own-step, load-step, other-step}
 use Rattle.history.proofs.Moves.{Moved, own-moves, accepted-moves}
-use Rattle.panel_lines.specs.Grammar.{Command, request}
+use Rattle.panel_lines.specs.Grammar.{Command, parse}
 use Rattle.panel_lines.specs.declared.Query.{Query}
 use Rattle.panel_lines.specs.declared.Query.the-variants.{Pin, Search, Fold, Write, WriteBinary}
 use Rattle.panel_lines.specs.declared.View.{View}
@@ -35,9 +35,9 @@ use Rattle.panel_session.specs.Session.{
   actionOf,
   mayAsk,
   filesOf,
-  lineAction,
+  requestAction,
   badOf,
-  told,
+  replyTo,
   Turn,
   Exchange,
   Session,
@@ -45,7 +45,7 @@ use Rattle.panel_session.specs.Session.{
   concerning,
 }
 
--- ---- whose call a line is
+-- ---- whose call a request is
 
 query-user : (room user : ℕ) (q : Query) → History.userOf (queryCall room user q) ≡ user
 query-user room user (Pin input value) = refl
@@ -54,10 +54,10 @@ query-user room user (Fold b t) = refl
 query-user room user Write = refl
 query-user room user WriteBinary = refl
 
-view-user : (room user : ℕ) (text : List ℕ) (v : View) → History.userOf (viewCall room user text v) ≡ user
-view-user room user text Replay = refl
-view-user room user text Widen = refl
-view-user room user text (Waveform only) = refl
+view-user : (room user : ℕ) (witness : List ℕ) (v : View) → History.userOf (viewCall room user witness v) ≡ user
+view-user room user witness Replay = refl
+view-user room user witness Widen = refl
+view-user room user witness (Waveform only) = refl
 
 -- the call of an action
 abbrev CallsFor : ℕ → Action → Type 0
@@ -80,76 +80,76 @@ action-user room user first second (Command.join old new) = go (eqb user 0) (λ 
     go false e = tt
 action-user room user first second (Command.view v f) = view-user room user first v
 
-line-user : (room : ℕ) (files : Files) (r : ℕ × Command) → CallsFor (r .0) (lineAction room files (some r))
-line-user room Files.missing r = go (eqb (length (filesOf (r .1))) 0)
+request-user : (room : ℕ) (files : Files) (r : ℕ × Command) → CallsFor (r .0) (requestAction room files (some r))
+request-user room Files.missing r = go (eqb (length (filesOf (r .1))) 0)
   where
     go : (b : Bool) → CallsFor (r .0) (cond b (actionOf room (r .0) [] [] (r .1)) (Action.prints (cond (mayAsk (r .0) (r .1)) (bytes "unreadable\n") (refusalText 18))))
     go true = action-user room (r .0) [] [] (r .1)
     go false = tt
-line-user room (Files.read first second) r = action-user room (r .0) first second (r .1)
+request-user room (Files.read first second) r = action-user room (r .0) first second (r .1)
 
--- a line that is a call of user u is a line of user u
-caller : (room : ℕ) (files : Files) (u : ℕ) (o : Option (ℕ × Command)) {c : History.Call} → lineAction room files o ≡ Action.calls c
+-- a request that is a call of user u is a request of user u
+caller : (room : ℕ) (files : Files) (u : ℕ) (o : Option (ℕ × Command)) {c : History.Call} → requestAction room files o ≡ Action.calls c
     → (T (isOf u o) → History.userOf c ≡ u) × (History.userOf c ≡ u → T (isOf u o))
 caller room files u none e = let z : _≡_ {A = ℕ} 0 1 = cc in absurd (omega arith)
 caller room files u (some r) {c} e =
-    let h : CallsFor (r .0) (Action.calls c) = subst (CallsFor (r .0)) e (line-user room files r) in
+    let h : CallsFor (r .0) (Action.calls c) = subst (CallsFor (r .0)) e (request-user room files r) in
     ((λ t. h ∙ eqb→eq (r .0) u t), λ q. eqb-of (sym h ∙ q))
 
--- ---- one line
+-- ---- one request
 
 false-not : (b : Bool) → b ≡ false → T b → ⊥
 false-not true e t = subst T e t
 false-not false e t = t
 
 -- a turn from t, to a state that is the same to user u as s₁
-record Turned (u room : ℕ) (line : List ℕ) (files : Files) (t : History.State) (reply : Reply) (loaded : Bool) (s₁ : History.State) : Type 0 where
+record Turned (u room : ℕ) (request : List ℕ) (files : Files) (t : History.State) (reply : Reply) (loaded : Bool) (s₁ : History.State) : Type 0 where
   next : History.State
-  turn : Turn room line files t reply loaded next
+  turn : Turn room request files t reply loaded next
   same : Same u s₁ next
 
-module _ (u : ℕ) {room : ℕ} {line : List ℕ} {files : Files} {s t : History.State} (a : Same u s t) where
+module _ (u : ℕ) {room : ℕ} {request : List ℕ} {files : Files} {s t : History.State} (a : Same u s t) where
   -- what concerns user u is answered the same from any state that is the same to u
-  turned : {reply : Reply} {loaded : Bool} {s₁ : History.State} → T (isOf u (request line) || loaded) → Turn room line files s reply loaded s₁
-      → Turned u room line files t reply loaded s₁
+  turned : {reply : Reply} {loaded : Bool} {s₁ : History.State} → T (isOf u (parse request) || loaded) → Turn room request files s reply loaded s₁
+      → Turned u room request files t reply loaded s₁
   turned h (Turn.prints e) = record { next = t; turn = Turn.prints e; same = a }
-  turned h (Turn.calls {call = c} {reply = r} {s′ = s₁} e x) =
+  turned h (Turn.calls {call = c} {returned = r} {s′ = s₁} e x) =
       let m : Moved u t c r s₁ =
       ⊎-elim
       (λ k.
-      let q = caller room files u (request line) e .0 k in
+      let q = caller room files u (parse request) e .0 k in
       subst (λ (v : ℕ). Moved v t c r s₁) q (own-moves (subst (λ (v : ℕ). Same v s t) (sym q) a) x))
       (λ k. accepted-moves u a k x)
-      (or-cases (isOf u (request line)) (History.isAccepted r) h) in
+      (or-cases (isOf u (parse request)) (History.isAccepted r) h) in
       record {
         next = m .next;
-        turn = subst (λ (w : List ℕ). Turn room line files t (told (circuitIn w) (badOf c) r) (History.isAccepted r) (m .next)) (sym (a .memory))
+        turn = subst (λ (w : List ℕ). Turn room request files t (replyTo (circuitIn w) (badOf c) r) (History.isAccepted r) (m .next)) (sym (a .memory))
             (Turn.calls e (m .step));
         same = m .same;
       }
 
   -- what does not concern user u leaves a state that is the same to u
-  passed : {reply : Reply} {loaded : Bool} {s₁ : History.State} → (T (isOf u (request line) || loaded) → ⊥) → Turn room line files s reply loaded s₁ → Same u s₁ t
+  passed : {reply : Reply} {loaded : Bool} {s₁ : History.State} → (T (isOf u (parse request) || loaded) → ⊥) → Turn room request files s reply loaded s₁ → Same u s₁ t
   passed h (Turn.prints e) = a
-  passed h (Turn.calls {reply = r} e x) =
-      other-step u a (λ q. h (or-left (isOf u (request line)) (History.isAccepted r) (caller room files u (request line) e .1 q)))
-      (λ q. h (or-right (isOf u (request line)) (History.isAccepted r) q)) x
+  passed h (Turn.calls {returned = r} e x) =
+      other-step u a (λ q. h (or-left (isOf u (parse request)) (History.isAccepted r) (caller room files u (parse request) e .1 q)))
+      (λ q. h (or-right (isOf u (parse request)) (History.isAccepted r) q)) x
 
 -- the theorem: the exchanges that concern user u are a session by themselves, with the same replies
 pub apart : (u : ℕ) {room : ℕ} (es : List Exchange) {s t : History.State} → Same u s t → Session room s es → Session room t (concerning u es)
 unfolding concerning
 apart u [] a h = Session.ends
 apart u {room} (x ∷ xs) {s} {t} a (Session.goes {s′ = s₁} st h) =
-    go (isOf u (request (x .line)) || x .loaded) refl (λ t′ b. apart u xs {s = s₁} {t = t′} b h)
+    go (isOf u (parse (x .request)) || x .loaded) refl (λ t′ b. apart u xs {s = s₁} {t = t′} b h)
   where
-    go : (b : Bool) → (isOf u (request (x .line)) || x .loaded) ≡ b → ((t′ : History.State) → Same u s₁ t′ → Session room t′ (concerning u xs))
+    go : (b : Bool) → (isOf u (parse (x .request)) || x .loaded) ≡ b → ((t′ : History.State) → Same u s₁ t′ → Session room t′ (concerning u xs))
         → Session room t (cond b (x ∷ concerning u xs) (concerning u xs))
     go true c f = let m = turned u a (T-true c) st in Session.goes (m .turn) (f (m .next) (m .same))
-    go false c f = f t (passed u a (λ q. false-not (isOf u (request (x .line)) || x .loaded) c q) st)
+    go false c f = f t (passed u a (λ q. false-not (isOf u (parse (x .request)) || x .loaded) c q) st)
 
 -- ---- a session has one outcome
 
--- the two actions of one line are one
+-- the two actions of one request are one
 calls-one : {c d : History.Call} → Action.calls c ≡ Action.calls d → c ≡ d
 calls-one {c} {d} e = ap callOf e
   where
@@ -157,61 +157,61 @@ calls-one {c} {d} e = ap callOf e
     callOf (Action.calls x) = x
     callOf (Action.prints x) = c
 
-module _ (u : ℕ) {room : ℕ} {line : List ℕ} {files : Files} {s t : History.State} (a : Same u s t) where
+module _ (u : ℕ) {room : ℕ} {request : List ℕ} {files : Files} {s t : History.State} (a : Same u s t) where
   -- what concerns user u has one reply
-  turn-one : {reply reply′ : Reply} {loaded loaded′ : Bool} {s₁ t₁ : History.State} → T (isOf u (request line) || loaded)
-      → Turn room line files s reply loaded s₁ → Turn room line files t reply′ loaded′ t₁ → (reply ≡ reply′) × (loaded ≡ loaded′) × Same u s₁ t₁
+  turn-one : {reply reply′ : Reply} {loaded loaded′ : Bool} {s₁ t₁ : History.State} → T (isOf u (parse request) || loaded)
+      → Turn room request files s reply loaded s₁ → Turn room request files t reply′ loaded′ t₁ → (reply ≡ reply′) × (loaded ≡ loaded′) × Same u s₁ t₁
   turn-one h (Turn.prints e) (Turn.prints f) =
       let z = sym e ∙ f in
       (ap (λ (v : List ℕ). record { line = v; out = [] }) (let q : _≡_ {A = List ℕ} _ _ = cc in q), refl, a)
   turn-one h (Turn.prints e) (Turn.calls f y) = let z : _≡_ {A = ℕ} 0 1 = cc in absurd (omega arith)
   turn-one h (Turn.calls e x) (Turn.prints f) = let z : _≡_ {A = ℕ} 0 1 = cc in absurd (omega arith)
-  turn-one h (Turn.calls {call = c} {reply = r} {s′ = s₁} e x) (Turn.calls {call = d} {reply = r′} {s′ = t₁} f y) =
+  turn-one h (Turn.calls {call = c} {returned = r} {s′ = s₁} e x) (Turn.calls {call = d} {returned = r′} {s′ = t₁} f y) =
       let q : d ≡ c = calls-one (sym f ∙ e) in
       let y′ : History.Step t c r′ t₁ = subst (λ (v : History.Call). History.Step t v r′ t₁) q y in
       let z : (r ≡ r′) × Same u s₁ t₁ =
       ⊎-elim
       (λ k.
-      let o = caller room files u (request line) e .0 k in
+      let o = caller room files u (parse request) e .0 k in
       let v = own-step (subst (λ (i : ℕ). Same i s t) (sym o) a) x y′ in
       (v .0, subst (λ (i : ℕ). Same i s₁ t₁) o (v .1)))
       (λ k. load-step u a k x y′)
-      (or-cases (isOf u (request line)) (History.isAccepted r) h) in (
-        ap (λ (w : List ℕ). told (circuitIn w) (badOf c) r) (a .memory) ∙ ap (told (circuitIn (t .memory)) (badOf c)) (z .0)
-            ∙ ap (λ (v : History.Call). told (circuitIn (t .memory)) (badOf v) r′) (sym q),
+      (or-cases (isOf u (parse request)) (History.isAccepted r) h) in (
+        ap (λ (w : List ℕ). replyTo (circuitIn w) (badOf c) r) (a .memory) ∙ ap (replyTo (circuitIn (t .memory)) (badOf c)) (z .0)
+            ∙ ap (λ (v : History.Call). replyTo (circuitIn (t .memory)) (badOf v) r′) (sym q),
         ap History.isAccepted (z .0),
         z .1,
       )
 
 -- what was asked, and what was printed
 abbrev asked : List Exchange → List (List ℕ × Files)
-asked es = map {B = List ℕ × Files} (λ (e : Exchange). (e .line, e .files)) es
+asked es = map {B = List ℕ × Files} (λ (e : Exchange). (e .request, e .files)) es
 
 abbrev printed : List Exchange → List Reply
 printed es = map (λ (e : Exchange). e .reply) es
 
--- the theorem: let two sessions start from states that are the same to user u. If the second has just those lines of the first that concern
--- u, with the same files, then it prints the same replies to them
+-- the theorem: let two sessions start from states that are the same to user u. If the second has just those requests of the first that
+-- concern u, with the same files, then it prints the same replies to them
 pub undisturbed : (u : ℕ) {room : ℕ} (es es₂ : List Exchange) {s t : History.State} → Same u s t → Session room s es → Session room t es₂
-    → map {B = List ℕ × Files} (λ (e : Exchange). (e .line, e .files)) es₂ ≡ map {B = List ℕ × Files} (λ (e : Exchange). (e .line, e .files)) (concerning u es)
+    → map {B = List ℕ × Files} (λ (e : Exchange). (e .request, e .files)) es₂ ≡ map {B = List ℕ × Files} (λ (e : Exchange). (e .request, e .files)) (concerning u es)
     → map (λ (e : Exchange). e .reply) es₂ ≡ map (λ (e : Exchange). e .reply) (concerning u es)
 unfolding concerning
 undisturbed u [] [] a h k e = refl
 undisturbed u [] (x ∷ xs) a h k e = let z : _≡_ {A = ℕ} 0 1 = cc in absurd (omega arith)
 undisturbed u {room} (x ∷ xs) es₂ {s} {t} a (Session.goes {s′ = s₁} st h) k e =
-    go (isOf u (request (x .line)) || x .loaded) refl es₂ k e (λ ys t′ b l d. undisturbed u xs ys {s = s₁} {t = t′} b h l d)
+    go (isOf u (parse (x .request)) || x .loaded) refl es₂ k e (λ ys t′ b l d. undisturbed u xs ys {s = s₁} {t = t′} b h l d)
   where
-    go : (b : Bool) → (isOf u (request (x .line)) || x .loaded) ≡ b → (es₂ : List Exchange) → Session room t es₂
+    go : (b : Bool) → (isOf u (parse (x .request)) || x .loaded) ≡ b → (es₂ : List Exchange) → Session room t es₂
         → asked es₂ ≡ asked (cond b (x ∷ concerning u xs) (concerning u xs))
         → ((ys : List Exchange) (t′ : History.State) → Same u s₁ t′ → Session room t′ ys → asked ys ≡ asked (concerning u xs)
         → printed ys ≡ printed (concerning u xs))
         → printed es₂ ≡ printed (cond b (x ∷ concerning u xs) (concerning u xs))
     go true c [] k d f = let z : _≡_ {A = ℕ} 0 1 = cc in absurd (omega arith)
     go true c (y ∷ ys) (Session.goes {s′ = t₁} su l) d f =
-        let one : _≡_ {A = List ℕ × Files} (y .line, y .files) (x .line, x .files) = cc in
+        let one : _≡_ {A = List ℕ × Files} (y .request, y .files) (x .request, x .files) = cc in
         let rest : asked ys ≡ asked (concerning u xs) = cc in
         let z =
         turn-one u a (T-true c) st
         (subst (λ (v : List ℕ × Files). Turn room (v .0) (v .1) t (y .reply) (y .loaded) t₁) one su) in
         ap₂ _∷_ (sym (z .0)) (f ys t₁ (z .2) l rest)
-    go false c ys k d f = f ys t (passed u a (λ q. false-not (isOf u (request (x .line)) || x .loaded) c q) st) k d
+    go false c ys k d f = f ys t (passed u a (λ q. false-not (isOf u (parse (x .request)) || x .loaded) c q) st) k d

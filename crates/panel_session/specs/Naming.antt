@@ -1,25 +1,25 @@
--- Which parts of a line are names of files. Assumes nothing.
+-- Which parts of a request are names of files. Assumes nothing.
 use mathlib.Core.List.{List, [], _∷_}
 use mathlib.Core.Option.{Option, none, some}
 use Prim.Native.Nat.{ℕ}
 use Rattle.panel_lines.specs.Grammar.{Command}
-use Rattle.panel_lines.specs.Reading.{Inside, textOf}
+use Rattle.panel_lines.specs.Reading.{Inside, bytesOf}
 use Rattle.panel_session.specs.Session.{filesOf}
 use Rattle.panel_session.specs.declared.Names.{Names}
 use Rattle.panel_session.specs.declared.Names.the-variants.{Zero, One, Two}
 
--- the files that a line names
+-- the files that a request names
 abbrev pub namedBy : Option (ℕ × Command) → List (List ℕ)
 namedBy none = []
 namedBy (some r) = filesOf (r .1)
 
--- the same, as parts of the line
+-- the same, as parts of the request
 abbrev pub namesOf : List ℕ → Names → List (List ℕ)
 namesOf s Zero = []
-namesOf s (One p) = textOf s p ∷ []
-namesOf s (Two p q) = textOf s p ∷ textOf s q ∷ []
+namesOf s (One p) = bytesOf s p ∷ []
+namesOf s (Two p q) = bytesOf s p ∷ bytesOf s q ∷ []
 
--- they lie in the line
+-- they lie in the request
 abbrev pub NamesInside : List ℕ → Names → Type 0
 NamesInside s Zero = Unit {0}
 NamesInside s (One p) = Inside s p

@@ -1,4 +1,5 @@
--- Clause 12.7: the resident program line by line. A line is a call of two users' history, or a text is printed at once and nothing changes.
+-- Clause 12.7: the resident program request by request. A request is a call of two users' history, or a line is printed at once and nothing
+-- changes.
 -- Assumes nothing.
 use mathlib.Core.Path.{_≡_}
 use mathlib.Core.Bool.{Bool, true, false, cond, _||_}
@@ -19,7 +20,7 @@ use Rattle.replies.specs.Reply.{Reply, refusal}
 use Rattle.search_command.specs.Texts.{saidWords}
 use Rattle.preview_command.specs.Texts.{wordsLine}
 use Rattle.history.specs.History as History
-use Rattle.panel_lines.specs.Grammar.{Command, request}
+use Rattle.panel_lines.specs.Grammar.{Command, parse}
 use Rattle.panel_lines.specs.declared.Query.{Query}
 use Rattle.panel_lines.specs.declared.Query.the-variants.{Pin, Search, Fold, Write, WriteBinary}
 use Rattle.panel_lines.specs.declared.View.{View}
@@ -27,9 +28,9 @@ use Rattle.panel_lines.specs.declared.View.the-variants.{Replay, Widen, Wavefor
 use Rattle.panel.specs.Answers.{loadWords, pinWords, textWords, textLength}
 use Rattle.panel_files.specs.Files.{verdictWords}
 
--- ---- what a line asks
+-- ---- what a request asks
 
--- the files that a line names: at least one of them cannot be read; or the bytes of the first and of the second. Of a file that is
+-- the files that a request names: at least one of them cannot be read; or the bytes of the first and of the second. Of a file that is
 -- longer than any circuit file or witness these are its first bytes, more than 66,825, or 65,536 in a join: it is refused with the same
 -- number
 pub data Files : Type 0 where
@@ -61,9 +62,9 @@ queryCall room user WriteBinary = History.Call.writeBinary user (replicate room 
 
 -- a view of a witness
 abbrev pub viewCall : ℕ → ℕ → List ℕ → View → History.Call
-viewCall room user text Replay = History.Call.replay user text
-viewCall room user text Widen = History.Call.widen user text (replicate room 0)
-viewCall room user text (Waveform only) = History.Call.waveform user only text (replicate room 0)
+viewCall room user witness Replay = History.Call.replay user witness
+viewCall room user witness Widen = History.Call.widen user witness (replicate room 0)
+viewCall room user witness (Waveform only) = History.Call.waveform user only witness (replicate room 0)
 
 -- a command whose files were read. A join by another user than 0 gets 18 before its files are judged
 abbrev pub actionOf : ℕ → ℕ → List ℕ → List ℕ → Command → Action
@@ -97,12 +98,12 @@ commandAction room Files.missing user c =
     (Action.prints (cond (mayAsk user c) (bytes "unreadable\n") (refusalText 18)))
 commandAction room (Files.read first second) user c = actionOf room user first second c
 
--- a line that is no command is `malformed`
-abbrev pub lineAction : ℕ → Files → Option (ℕ × Command) → Action
-lineAction room files none = Action.prints (bytes "malformed\n")
-lineAction room files (some r) = commandAction room files (r .0) (r .1)
+-- a request that is no command is `malformed`
+abbrev pub requestAction : ℕ → Files → Option (ℕ × Command) → Action
+requestAction room files none = Action.prints (bytes "malformed\n")
+requestAction room files (some r) = commandAction room files (r .0) (r .1)
 
--- ---- what is printed for a reply
+-- ---- what is printed for what a call returned
 
 -- the bad line of a search, on which the length of its witness depends; 0 for other calls
 abbrev pub badOf : History.Call → ℕ
@@ -114,50 +115,55 @@ badOf (History.Call.write user out) = 0
 badOf (History.Call.writeBinary user out) = 0
 badOf (History.Call.preview user file) = 0
 badOf (History.Call.join user first second) = 0
-badOf (History.Call.replay user text) = 0
-badOf (History.Call.widen user text out) = 0
-badOf (History.Call.waveform user only text out) = 0
+badOf (History.Call.replay user witness) = 0
+badOf (History.Call.widen user witness out) = 0
+badOf (History.Call.waveform user only witness out) = 0
 
 -- a line, and the text after it, for a circuit c and a bad line b. A preview answers 0 words where none are told, and `wordsLine 0` is
 -- empty
-abbrev pub told : Circuit → ℕ → History.Reply → Reply
-told c b (History.Reply.loaded a) = record { line = loadWords a; out = [] }
-told c b (History.Reply.pinned a) = record { line = pinWords a; out = [] }
-told c b (History.Reply.searched a out) = record { line = saidWords a; out = take (shownLength c b a) out }
-told c b (History.Reply.folded a out) = record { line = textWords a; out = take (textLength a) out }
-told c b (History.Reply.written a out) = record { line = textWords a; out = take (textLength a) out }
-told c b (History.Reply.previewed a n) = record { line = loadWords a; out = wordsLine n }
-told c b (History.Reply.replayed a) = record { line = verdictWords a; out = [] }
+abbrev pub replyTo : Circuit → ℕ → History.Returned → Reply
+replyTo c b (History.Returned.loaded a) = record { line = loadWords a; out = [] }
+replyTo c b (History.Returned.pinned a) = record { line = pinWords a; out = [] }
+replyTo c b (History.Returned.searched a out) = record { line = saidWords a; out = take (shownLength c b a) out }
+replyTo c b (History.Returned.folded a out) = record { line = textWords a; out = take (textLength a) out }
+replyTo c b (History.Returned.written a out) = record { line = textWords a; out = take (textLength a) out }
+replyTo c b (History.Returned.previewed a n) = record { line = loadWords a; out = wordsLine n }
+replyTo c b (History.Returned.replayed a) = record { line = verdictWords a; out = [] }
 
--- ---- a line, and a session
+-- ---- a request, and a session
 
--- what is printed for a line, whether a circuit was loaded, and the state after it
-pub data Turn (room : ℕ) (line : List ℕ) (files : Files) (s : History.State) : Reply → Bool → History.State → Type 0 where
-  prints : {text : List ℕ} → lineAction room files (request line) ≡ Action.prints text
-      → Turn room line files s (record { line = text; out = [] }) false s
-  calls : {call : History.Call} {reply : History.Reply} {s′ : History.State} → lineAction room files (request line) ≡ Action.calls call
-      → History.Step s call reply s′ → Turn room line files s (told (circuitIn (s .memory)) (badOf call) reply)
-      (History.isAccepted reply) s′
+-- what is printed for a request, whether a circuit was loaded, and the state after it
+pub data Turn (room : ℕ) (request : List ℕ) (files : Files) (s : History.State) : Reply → Bool → History.State → Type 0 where
+  prints : {line : List ℕ} → requestAction room files (parse request) ≡ Action.prints line
+      → Turn room request files s (record { line = line; out = [] }) false s
+  calls : {call : History.Call} {returned : History.Returned} {s′ : History.State}
+      → requestAction room files (parse request) ≡ Action.calls call → History.Step s call returned s′
+      → Turn room request files s (replyTo (circuitIn (s .memory)) (badOf call) returned) (History.isAccepted returned) s′
 
--- a line that was answered
+-- a request that was answered
 pub record Exchange : Type 0 where
-  pub line : List ℕ
+  pub request : List ℕ
   pub files : Files
   pub reply : Reply
   pub loaded : Bool
 
--- lines that are answered one after the other, from a state
+-- the state in which the resident program starts: a circuit memory of 33,032 words, those that M 4,096 needs, which holds no circuit; a
+-- working memory of 1,048,576 words, those that the greatest size needs; and the pins of both users, all free
+unfoldable pub start : History.State
+start = record { memory = replicate 33032 4294967295; work = replicate 1048576 0; pins = replicate 512 2 }
+
+-- requests that are answered one after the other, from a state
 pub data Session (room : ℕ) : History.State → List Exchange → Type 0 where
   ends : {s : History.State} → Session room s []
-  goes : {s s′ : History.State} {e : Exchange} {es : List Exchange} → Turn room (e .line) (e .files) s (e .reply) (e .loaded) s′
+  goes : {s s′ : History.State} {e : Exchange} {es : List Exchange} → Turn room (e .request) (e .files) s (e .reply) (e .loaded) s′
       → Session room s′ es → Session room s (e ∷ es)
 
--- whether a line is a command of user u
+-- whether a request is a command of user u
 abbrev pub isOf : ℕ → Option (ℕ × Command) → Bool
 isOf u none = false
 isOf u (some r) = eqb (r .0) u
 
--- the exchanges that concern user u: the user's own commands, and those by which a circuit was loaded. A malformed line is no one's
+-- the exchanges that concern user u: the user's own commands, and those by which a circuit was loaded. A malformed request is no one's
 unfoldable pub concerning : ℕ → List Exchange → List Exchange
 concerning u [] = []
-concerning u (e ∷ es) = cond (isOf u (request (e .line)) || e .loaded) (e ∷ concerning u es) (concerning u es)
+concerning u (e ∷ es) = cond (isOf u (parse (e .request)) || e .loaded) (e ∷ concerning u es) (concerning u es)

@@ -1,4 +1,4 @@
-// A line of the resident program, from its bytes and those of the files that it names to what is printed.
+// A request of the resident program, from its bytes and those of the files that it names to what is printed.
 use panel_lines::Part;
 use panel_lines::Task;
 use replies::Report;
@@ -10,12 +10,12 @@ ghost use lib.ListN.{length};
 ghost use Rattle.aiger.specs.Text.{bytes};
 ghost use Rattle.replies.specs.Refusal.{refusalText};
 ghost use Rattle.history.specs.History.{State};
-ghost use Rattle.panel_lines.specs.Grammar.{request};
+ghost use Rattle.panel_lines.specs.Grammar.{parse};
 ghost use Rattle.panel_session.specs.Session.{Files};
 ghost use Rattle.panel_session.specs.Naming.{namedBy, namesOf, NamesInside};
-ghost use Rattle.panel_session.specs.Answered.{Says, Answered};
+ghost use Rattle.panel_session.specs.Answered.{LineAlone, Answered};
 
-// The names of files in a line.
+// The names of files in a request.
 pub enum Names {
     Zero,
     One(Part),
@@ -23,20 +23,20 @@ pub enum Names {
 }
 
 // A line that is to be printed, its length, and how many bytes of the output follow it.
-pub struct Said {
+pub struct Response {
     pub line: [u8; 128],
     pub count: usize,
     pub out: usize,
 }
 
-// Which files a line names.
-pub fn files_of(text: &[u8]) -> Names
+// Which files a request names.
+pub fn files_of(request: &[u8]) -> Names
     ensures { λ r. ⌜
-        (namesOf (now (text .entry)) r ≡ namedBy (request (now (text .entry)))) × NamesInside (now (text .entry)) r
+        (namesOf (now (request .entry)) r ≡ namedBy (parse (now (request .entry)))) × NamesInside (now (request .entry)) r
         ⌝ }
 {
-    let request = panel_lines::read_request(text);
-    let task = request.task;
+    let asked = panel_lines::read_request(request);
+    let task = asked.task;
     match task {
         Task::Ask(_) => Names::Zero,
         Task::Load(file) => Names::One(file),
@@ -48,23 +48,23 @@ pub fn files_of(text: &[u8]) -> Names
 }
 
 // What is to be printed by a report.
-fn said_of(line: [u8; 128], r: Report) -> Said
+fn response_of(line: [u8; 128], r: Report) -> Response
     ensures { λ s. ⌜ (s .line ≡ line) × (s .count ≡ r .line) × (s .out ≡ r .out) ⌝ }
 {
-    Said {
+    Response {
         line,
         count: r.line,
         out: r.out,
     }
 }
 
-// Says that a line is no command.
-fn malformed() -> Said
-    ensures { λ r. ⌜ Says r (bytes "malformed\n") ⌝ }
+// Says that a request is no command.
+fn malformed() -> Response
+    ensures { λ r. ⌜ LineAlone r (bytes "malformed\n") ⌝ }
 {
     let mut line = [0u8; 128];
     let count = output::put(&mut line, 0, b"malformed\n");
-    Said {
+    Response {
         line,
         count,
         out: 0,
@@ -72,30 +72,30 @@ fn malformed() -> Said
 }
 
 // Says that a file cannot be read, or 18 to a user who may not ask.
-fn missing(may: bool) -> Said
-    ensures { λ r. ⌜ Says r (cond may (bytes "unreadable\n") (refusalText 18)) ⌝ }
+fn missing(may: bool) -> Response
+    ensures { λ r. ⌜ LineAlone r (cond may (bytes "unreadable\n") (refusalText 18)) ⌝ }
 {
     let mut line = [0u8; 128];
     if may {
         let count = output::put(&mut line, 0, b"unreadable\n");
-        return Said {
+        return Response {
             line,
             count,
             out: 0,
         };
     }
     let r = replies::refuse(&mut line, 18);
-    said_of(line, r)
+    response_of(line, r)
 }
 
-// Answers a line of whose files one cannot be read. A query names none.
-pub fn unreadable(text: &[u8]) -> Said
-    requires { ⌜ 1 ≤ length (namedBy (request (now text))) ⌝ }
-    ensures { λ r. ⌜ ((s : State) (out : List ℕ) → Answered (now (text .entry)) Files.missing s out r s out) ⌝ }
+// Answers a request of whose files one cannot be read. A query names none.
+pub fn unreadable(request: &[u8]) -> Response
+    requires { ⌜ 1 ≤ length (namedBy (parse (now request))) ⌝ }
+    ensures { λ r. ⌜ ((s : State) (out : List ℕ) → Answered (now (request .entry)) Files.missing s out r s out) ⌝ }
 {
-    let request = panel_lines::read_request(text);
-    let user = request.user;
-    let task = request.task;
+    let asked = panel_lines::read_request(request);
+    let user = asked.user;
+    let task = asked.task;
     match task {
         Task::Ask(_) => malformed(),
         Task::Load(_) => missing(user == 0),
@@ -106,47 +106,47 @@ pub fn unreadable(text: &[u8]) -> Said
     }
 }
 
-// Answers a line that names no file, or whose files were read.
+// Answers a request that names no file, or whose files were read.
 pub fn respond(
-    text: &[u8],
+    request: &[u8],
     first: &[u8],
     second: &[u8],
     m: &mut [u32],
     work: &mut [u32],
     pins: &mut [u8],
     out: &mut [u8],
-) -> Said
+) -> Response
     requires { ⌜ (length (now m) ≡ 33032) × (32 ≤ length (now out)) ⌝ }
     ensures { λ r. ⌜
-        Answered (now (text .entry)) (Files.read (now (first .entry)) (now (second .entry)))
+        Answered (now (request .entry)) (Files.read (now (first .entry)) (now (second .entry)))
         (record { memory = now (m .entry); work = now (work .entry); pins = now (pins .entry) }) (now (out .entry)) r
         (record { memory = now (m .exit); work = now (work .exit); pins = now (pins .exit) }) (now (out .exit))
         ⌝ }
 {
-    let request = panel_lines::read_request(text);
-    let user = request.user;
-    let task = request.task;
+    let asked = panel_lines::read_request(request);
+    let user = asked.user;
+    let task = asked.task;
     let mut line = [0u8; 128];
     match task {
         Task::Ask(q) => {
             let r = panel::query(user, q, m, work, pins, out, &mut line);
-            said_of(line, r)
+            response_of(line, r)
         }
         Task::Load(_) => {
             let r = panel::load(user, first, m, pins, &mut line);
-            said_of(line, r)
+            response_of(line, r)
         }
         Task::Preview(_) => {
             let r = panel::preview(user, first, m, out, &mut line);
-            said_of(line, r)
+            response_of(line, r)
         }
         Task::Join(_, _) => {
             let r = panel_join::join(user, first, second, m, pins, &mut line);
-            said_of(line, r)
+            response_of(line, r)
         }
         Task::Witness(v, _) => {
             let r = panel_files::view(user, v, first, m, pins, out, &mut line);
-            said_of(line, r)
+            response_of(line, r)
         }
         Task::Malformed => malformed(),
     }

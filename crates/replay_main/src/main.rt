@@ -14,11 +14,7 @@ fn say_help() {
         b"for each x, is a hit if its start agrees with every reset and its last frame is a hit of its bad line. Prints all\n",
     );
     say(b"if every completion is a hit, no if none is, otherwise mixed.\n\n");
-    say(b"What is not accepted is refused with a number and its cause:\n");
-    help::say_refusals(1, 3);
-    help::say_refusals(5, 8);
-    help::say_refusals(14, 14);
-    help::say_refusals(16, 16);
+    help::say_witness_refusals();
     say(
         b"\nExample: ./yunverok replay crates/replay_main/data/s.aag crates/replay_main/data/s.witness\n",
     );

@@ -2,6 +2,7 @@
 use load::LoadAnswer;
 use replies::Report;
 use search::SearchAnswer;
+use search::Terms;
 ghost use mathlib.Core.Path.{_≡_};
 ghost use Prim.Native.Nat.{_≤_};
 ghost use lib.ListN.{length};
@@ -11,13 +12,6 @@ ghost use Rattle.search.specs.Chosen.{said};
 ghost use Rattle.replies.specs.Reply.{Fronts, Leaves};
 ghost use Rattle.replies.specs.Loading.{loadedWords};
 ghost use Rattle.search_command.specs.Texts.{saidWords, searchedReply, searchReply};
-
-// The terms of a search: a bad line, a bound, and a budget for each frame.
-pub struct Terms {
-    pub b: u64,
-    pub k: u64,
-    pub d: u64,
-}
 
 // Writes what a search says to the front of line: with its cause in words where it refuses.
 pub fn write_answer(line: &mut [u8], answer: SearchAnswer) -> usize

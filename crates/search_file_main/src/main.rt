@@ -2,7 +2,7 @@
 use arguments::Argument;
 use files::say;
 use files::say_front;
-use search_command::Terms;
+use search::Terms;
 ghost use mathlib.Core.Path.{_≡_};
 ghost use lib.ListN.{length};
 
@@ -19,17 +19,9 @@ fn say_help() {
     say(
         b"    spent t   frames before t have none; frame t has more than D sequences, and none of the first D hits\n\n",
     );
-    say(b"What is not accepted is refused with a number and its cause:\n");
-    help::say_refusals(1, 3);
-    help::say_refusals(5, 8);
+    help::say_file_refusals();
     help::say_refusals(10, 12);
     say(b"\nExample: ./yunverok search examples/uart.aag 0 60 1048576\n");
-}
-
-fn number_of(i: usize) -> Argument {
-    let mut word = io::buffer();
-    let length = os::arg(i, &mut word);
-    arguments::read_argument(&word[..length])
 }
 
 // Searches the circuit of the file that argument 1 names. No witness is longer than the output.
@@ -61,15 +53,15 @@ fn main() {
         say_help();
         return;
     }
-    let Argument::Number(b) = number_of(2) else {
+    let Argument::Number(b) = files::read_number(2) else {
         say_help();
         return;
     };
-    let Argument::Number(k) = number_of(3) else {
+    let Argument::Number(k) = files::read_number(3) else {
         say_help();
         return;
     };
-    let Argument::Number(d) = number_of(4) else {
+    let Argument::Number(d) = files::read_number(4) else {
         say_help();
         return;
     };

@@ -16,11 +16,7 @@ fn say_help() {
         b"c0 .., with --inputs the inputs alone. x may stand in WITNESS for up to 16 bits that may be either: then a wire is\n",
     );
     say(b"0 or 1 where it has that value for both values of each x, else x.\n\n");
-    say(b"What is not accepted is refused with a number and its cause:\n");
-    help::say_refusals(1, 3);
-    help::say_refusals(5, 8);
-    help::say_refusals(14, 14);
-    help::say_refusals(16, 16);
+    help::say_witness_refusals();
     say(
         b"\nExample: ./yunverok waveform crates/waveform_main/data/s.aag crates/waveform_main/data/s.witness\n",
     );

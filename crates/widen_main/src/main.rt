@@ -11,11 +11,7 @@ fn say_help() {
         b"bits that may be either: from the last bit to the first, wherever every completion is still a hit, until the text\n",
     );
     say(b"holds 16. A witness to which replay does not say all is printed as it is.\n\n");
-    say(b"What is not accepted is refused with a number and its cause:\n");
-    help::say_refusals(1, 3);
-    help::say_refusals(5, 8);
-    help::say_refusals(14, 14);
-    help::say_refusals(16, 16);
+    help::say_witness_refusals();
     say(
         b"\nExample: ./yunverok widen crates/widen_main/data/s.aag crates/widen_main/data/s.witness\n",
     );

@@ -9,7 +9,7 @@ returns : tie.Need-returns
 returns c =
     let at-word-after = c .before .before in
     let start = at-word-after .before .before in
-    wordless (start .args .line .now) (start .args .at) (rw (c .enum-told .given .1) at (at-word-after .word-after .ensures))
+    wordless (start .args .request .now) (start .args .at) (rw (c .enum-told .given .1) at (at-word-after .word-after .ensures))
 
 sub-read-argument : tie.Need-sub-read-argument
 sub-read-argument c =
@@ -37,7 +37,7 @@ returns-2 c =
     let at-part = at-read-argument .before .before .before in
     let at-word-after = at-part .before .before in
     let start = at-word-after .before .before in
-    a-number (start .args .line .now) (start .args .at) (rw (at-part .part .given .1) at (at-word-after .word-after .ensures))
+    a-number (start .args .request .now) (start .args .at) (rw (at-part .part .given .1) at (at-word-after .word-after .ensures))
     (rw (at-n .n .given .1) at (at-read-argument .read-argument .ensures))
 
 returns-3 : tie.Need-returns-3
@@ -46,7 +46,7 @@ returns-3 c =
     let at-part = at-read-argument .before .before .before in
     let at-word-after = at-part .before .before in
     let start = at-word-after .before .before in
-    no-number (start .args .line .now) (start .args .at) (rw (at-part .part .given .1) at (at-word-after .word-after .ensures))
+    no-number (start .args .request .now) (start .args .at) (rw (at-part .part .given .1) at (at-word-after .word-after .ensures))
     (rw (c .enum-told2 .given .1) at (at-read-argument .read-argument .ensures))
 
 pub number-after-spec : {M : Type 1} → statement M

@@ -9,14 +9,14 @@ returns : tie.Need-returns
 returns c =
     let at-word-after = c .before .before in
     let start = at-word-after .before .before in
-    name-none (start .args .line .now) (start .args .at) (rw (c .enum-told .given .1) at (at-word-after .word-after .ensures))
+    name-none (start .args .request .now) (start .args .at) (rw (c .enum-told .given .1) at (at-word-after .word-after .ensures))
 
 returns-2 : tie.Need-returns-2
 returns-2 c =
     let at-name = c .before .before .before in
     let at-word-after = at-name .before .before in
     let start = at-word-after .before .before in
-    name-more (start .args .line .now) (start .args .at) (rw (at-name .name .given .1) at (at-word-after .word-after .ensures))
+    name-more (start .args .request .now) (start .args .at) (rw (at-name .name .given .1) at (at-word-after .word-after .ensures))
     (c .if1 .taken)
 
 returns-3 : tie.Need-returns-3
@@ -24,7 +24,7 @@ returns-3 c =
     let at-name = c .before .before .before in
     let at-word-after = at-name .before .before in
     let start = at-word-after .before .before in
-    name-all (start .args .line .now) (start .args .at) (rw (at-name .name .given .1) at (at-word-after .word-after .ensures))
+    name-all (start .args .request .now) (start .args .at) (rw (at-name .name .given .1) at (at-word-after .word-after .ensures))
     (omega arith)
 
 pub one-name-spec : {M : Type 1} → statement M

@@ -8,7 +8,7 @@ returns : tie.Need-returns
 returns c =
     let at-word-after = c .before .before in
     let start = at-word-after .before .before in
-    join-none (start .args .line .now) (start .args .at) (rw (c .enum-told .given .1) at (at-word-after .word-after .ensures))
+    join-none (start .args .request .now) (start .args .at) (rw (c .enum-told .given .1) at (at-word-after .word-after .ensures))
 
 one-name-requires : tie.Need-one-name-requires
 one-name-requires c κs =
@@ -22,7 +22,7 @@ returns-2 c =
     let at-old = at-one-name .before .before in
     let at-word-after = at-old .before .before in
     let start = at-word-after .before .before in
-    join-half (start .args .line .now) (start .args .at) (rw (at-old .old .given .1) at (at-word-after .word-after .ensures))
+    join-half (start .args .request .now) (start .args .at) (rw (at-old .old .given .1) at (at-word-after .word-after .ensures))
     (rw (c .enum-told2 .given .1) at (at-one-name .one-name .ensures))
 
 returns-3 : tie.Need-returns-3
@@ -32,7 +32,7 @@ returns-3 c =
     let at-old = at-one-name .before .before in
     let at-word-after = at-old .before .before in
     let start = at-word-after .before .before in
-    join-all (start .args .line .now) (start .args .at) (rw (at-old .old .given .1) at (at-word-after .word-after .ensures))
+    join-all (start .args .request .now) (start .args .at) (rw (at-old .old .given .1) at (at-word-after .word-after .ensures))
     (rw (at-new .new .given .1) at (at-one-name .one-name .ensures))
 
 pub read-join-spec : {M : Type 1} → statement M

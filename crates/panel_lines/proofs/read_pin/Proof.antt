@@ -8,14 +8,14 @@ returns : tie.Need-returns
 returns c =
     let at-two-numbers = c .before .before in
     let start = at-two-numbers .before .before in
-    pin-none (start .args .line .now) (start .args .at) (rw (c .enum-told .given .1) at (at-two-numbers .two-numbers .ensures))
+    pin-none (start .args .request .now) (start .args .at) (rw (c .enum-told .given .1) at (at-two-numbers .two-numbers .ensures))
 
 returns-2 : tie.Need-returns-2
 returns-2 c =
     let at-input = c .before in
     let at-two-numbers = at-input .before .before in
     let start = at-two-numbers .before .before in
-    pin-all (start .args .line .now) (start .args .at) _ _ (rw (at-input .input .given .1) at (at-two-numbers .two-numbers .ensures))
+    pin-all (start .args .request .now) (start .args .at) _ _ (rw (at-input .input .given .1) at (at-two-numbers .two-numbers .ensures))
 
 pub read-pin-spec : {M : Type 1} → statement M
 read-pin-spec =

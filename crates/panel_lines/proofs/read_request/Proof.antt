@@ -10,13 +10,13 @@ use Rattle.panel_lines.proofs.read_request.Tie as tie
 returns : tie.Need-returns
 returns c =
     let start = c .before .before .before in
-    too-long (start .args .line .now) (c .malformed .result) (c .malformed .ensures) (omega arith)
+    too-long (start .args .request .now) (c .malformed .result) (c .malformed .ensures) (omega arith)
 
 slice-aggregate-read-argument : tie.Need-slice-aggregate-read-argument
 slice-aggregate-read-argument c =
     let at-word-end = c .before in
     let start = at-word-end .before .before .before in
-    sym (length-take-le (at-word-end .word-end .result) (start .args .line .now) ((at-word-end .word-end .ensures) .within))
+    sym (length-take-le (at-word-end .word-end .result) (start .args .request .now) ((at-word-end .word-end .ensures) .within))
 
 returns-2 : tie.Need-returns-2
 returns-2 c =
@@ -24,7 +24,7 @@ returns-2 c =
     let at-read-argument = at-enum-told .before .before in
     let at-word-end = at-read-argument .before .before in
     let start = at-word-end .before .before .before in
-    no-user (start .args .line .now) (c .malformed2 .result) (c .malformed2 .ensures) (omega arith) (at-word-end .word-end .ensures)
+    no-user (start .args .request .now) (c .malformed2 .result) (c .malformed2 .ensures) (omega arith) (at-word-end .word-end .ensures)
     (rw (at-enum-told .enum-told .given .1) at (at-read-argument .read-argument .ensures))
 
 returns-3 : tie.Need-returns-3
@@ -35,7 +35,7 @@ returns-3 c =
     let at-read-argument = at-user .before .before in
     let at-word-end = at-read-argument .before .before in
     let start = at-word-end .before .before .before in
-    no-verb (start .args .line .now) (c .malformed3 .result) (c .malformed3 .ensures) (omega arith) (at-word-end .word-end .ensures)
+    no-verb (start .args .request .now) (c .malformed3 .result) (c .malformed3 .ensures) (omega arith) (at-word-end .word-end .ensures)
     (rw (at-user .user .given .1) at (at-read-argument .read-argument .ensures))
     (rw (at-enum-told2 .enum-told2 .given .1) at (at-word-after .word-after .ensures))
 
@@ -60,7 +60,7 @@ returns-4 c =
     let at-read-argument = at-user .before .before in
     let at-word-end = at-read-argument .before .before in
     let start = at-word-end .before .before .before in
-    whole (start .args .line .now) (omega arith) (at-word-end .word-end .ensures)
+    whole (start .args .request .now) (omega arith) (at-word-end .word-end .ensures)
     (rw (at-user .user .given .1) at (at-read-argument .read-argument .ensures))
     (rw (at-part .part .given .1) at (at-word-after .word-after .ensures)) (at-verb-of .verb-of .ensures)
     (c .read-task .ensures)

@@ -8,7 +8,7 @@ returns : tie.Need-returns
 returns c =
     let at-number-after = c .before .before in
     let start = at-number-after .before .before in
-    search-none (start .args .line .now) (start .args .at) (rw (c .enum-told .given .1) at (at-number-after .number-after .ensures))
+    search-none (start .args .request .now) (start .args .at) (rw (c .enum-told .given .1) at (at-number-after .number-after .ensures))
 
 two-numbers-requires : tie.Need-two-numbers-requires
 two-numbers-requires c κs =
@@ -22,7 +22,7 @@ returns-2 c =
     let at-b = at-two-numbers .before .before in
     let at-number-after = at-b .before .before in
     let start = at-number-after .before .before in
-    search-half (start .args .line .now) (start .args .at) (rw (at-b .b .given .1) at (at-number-after .number-after .ensures))
+    search-half (start .args .request .now) (start .args .at) (rw (at-b .b .given .1) at (at-number-after .number-after .ensures))
     (rw (c .enum-told2 .given .1) at (at-two-numbers .two-numbers .ensures))
 
 returns-3 : tie.Need-returns-3
@@ -32,7 +32,7 @@ returns-3 c =
     let at-b = at-two-numbers .before .before in
     let at-number-after = at-b .before .before in
     let start = at-number-after .before .before in
-    search-all (start .args .line .now) (start .args .at) (rw (at-b .b .given .1) at (at-number-after .number-after .ensures)) _ _
+    search-all (start .args .request .now) (start .args .at) (rw (at-b .b .given .1) at (at-number-after .number-after .ensures)) _ _
     (rw (at-k .k .given .1) at (at-two-numbers .two-numbers .ensures))
 
 pub read-search-spec : {M : Type 1} → statement M

@@ -8,7 +8,7 @@ returns : tie.Need-returns
 returns c =
     let at-one-name = c .before .before in
     let start = at-one-name .before .before in
-    view-none (start .args .line .now) (start .args .at) (start .args .view)
+    view-none (start .args .request .now) (start .args .at) (start .args .view)
     (rw (c .enum-told .given .1) at (at-one-name .one-name .ensures))
 
 returns-2 : tie.Need-returns-2
@@ -16,7 +16,7 @@ returns-2 c =
     let at-witness = c .before in
     let at-one-name = at-witness .before .before in
     let start = at-one-name .before .before in
-    view-all (start .args .line .now) (start .args .at) (start .args .view)
+    view-all (start .args .request .now) (start .args .at) (start .args .view)
     (rw (at-witness .witness .given .1) at (at-one-name .one-name .ensures))
 
 pub read-view-spec : {M : Type 1} → statement M

@@ -8,7 +8,7 @@ returns : tie.Need-returns
 returns c =
     let at-word-after = c .before .before in
     let start = at-word-after .before .before in
-    waveform-none (start .args .line .now) (start .args .at) (rw (c .enum-told .given .1) at (at-word-after .word-after .ensures))
+    waveform-none (start .args .request .now) (start .args .at) (rw (c .enum-told .given .1) at (at-word-after .word-after .ensures))
 
 read-flag-requires : tie.Need-read-flag-requires
 read-flag-requires c κs =
@@ -22,7 +22,7 @@ returns-2 c =
     let at-witness = at-read-flag .before .before .before in
     let at-word-after = at-witness .before .before in
     let start = at-word-after .before .before in
-    waveform-half (start .args .line .now) (start .args .at)
+    waveform-half (start .args .request .now) (start .args .at)
     (rw (at-witness .witness .given .1) at (at-word-after .word-after .ensures))
     (rw (c .enum-told2 .given .1) at (at-read-flag .read-flag .ensures))
 
@@ -33,7 +33,7 @@ returns-3 c =
     let at-witness = at-read-flag .before .before .before in
     let at-word-after = at-witness .before .before in
     let start = at-word-after .before .before in
-    waveform-all (start .args .line .now) (start .args .at)
+    waveform-all (start .args .request .now) (start .args .at)
     (rw (at-witness .witness .given .1) at (at-word-after .word-after .ensures)) _
     (rw (at-only .only .given .1) at (at-read-flag .read-flag .ensures))
 

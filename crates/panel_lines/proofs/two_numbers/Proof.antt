@@ -9,7 +9,7 @@ returns : tie.Need-returns
 returns c =
     let at-number-after = c .before .before in
     let start = at-number-after .before .before in
-    two-none (start .args .line .now) (start .args .at) (rw (c .enum-told .given .1) at (at-number-after .number-after .ensures))
+    two-none (start .args .request .now) (start .args .at) (rw (c .enum-told .given .1) at (at-number-after .number-after .ensures))
 
 number-after-requires-2 : tie.Need-number-after-requires-2
 number-after-requires-2 c κs =
@@ -23,7 +23,7 @@ returns-2 c =
     let at-a = at-number-after2 .before .before in
     let at-number-after = at-a .before .before in
     let start = at-number-after .before .before in
-    two-half (start .args .line .now) (start .args .at) (rw (at-a .a .given .1) at (at-number-after .number-after .ensures))
+    two-half (start .args .request .now) (start .args .at) (rw (at-a .a .given .1) at (at-number-after .number-after .ensures))
     (rw (c .enum-told2 .given .1) at (at-number-after2 .number-after2 .ensures))
 
 returns-3 : tie.Need-returns-3
@@ -33,7 +33,7 @@ returns-3 c =
     let at-a = at-number-after2 .before .before in
     let at-number-after = at-a .before .before in
     let start = at-number-after .before .before in
-    two-more (start .args .line .now) (start .args .at) (rw (at-a .a .given .1) at (at-number-after .number-after .ensures))
+    two-more (start .args .request .now) (start .args .at) (rw (at-a .a .given .1) at (at-number-after .number-after .ensures))
     (rw (at-b .b .given .1) at (at-number-after2 .number-after2 .ensures)) (c .if1 .taken)
 
 returns-4 : tie.Need-returns-4
@@ -43,7 +43,7 @@ returns-4 c =
     let at-a = at-number-after2 .before .before in
     let at-number-after = at-a .before .before in
     let start = at-number-after .before .before in
-    two-all (start .args .line .now) (start .args .at) (rw (at-a .a .given .1) at (at-number-after .number-after .ensures))
+    two-all (start .args .request .now) (start .args .at) (rw (at-a .a .given .1) at (at-number-after .number-after .ensures))
     (rw (at-b .b .given .1) at (at-number-after2 .number-after2 .ensures)) (omega arith)
 
 pub two-numbers-spec : {M : Type 1} → statement M

@@ -6,20 +6,20 @@ use Rattle.panel_lines.proofs.word_after.Statement.{statement}
 use Rattle.panel_lines.proofs.word_after.Tie as tie
 
 returns : tie.Need-returns
-returns c = let start = c .before .before in no-word (start .args .line .now) (start .args .at) (omega arith)
+returns c = let start = c .before .before in no-word (start .args .request .now) (start .args .at) (omega arith)
 
 returns-2 : tie.Need-returns-2
 returns-2 c =
     let at-word-end = c .before in
     let start = at-word-end .before .before .before in
-    empty-word (start .args .line .now) (start .args .at) (at-word-end .word-end .result) (omega arith) (at-word-end .word-end .ensures)
+    empty-word (start .args .request .now) (start .args .at) (at-word-end .word-end .result) (omega arith) (at-word-end .word-end .ensures)
     (omega arith)
 
 returns-3 : tie.Need-returns-3
 returns-3 c =
     let at-word-end = c .before in
     let start = at-word-end .before .before .before in
-    a-word (start .args .line .now) (start .args .at) (at-word-end .word-end .result) (omega arith) (at-word-end .word-end .ensures)
+    a-word (start .args .request .now) (start .args .at) (at-word-end .word-end .result) (omega arith) (at-word-end .word-end .ensures)
     (omega (arith, at-word-end .word-end .ensures .forward))
 
 pub word-after-spec : {M : Type 1} → statement M

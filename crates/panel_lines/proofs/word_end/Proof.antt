@@ -7,10 +7,10 @@ use Rattle.panel_lines.proofs.word_end.Statement.{statement}
 use Rattle.panel_lines.proofs.word_end.Tie as tie
 
 abbrev Inv-loop : tie.InvT-loop
-Inv-loop line from i₀ i = Reaches line from i
+Inv-loop request from i₀ i = Reaches request from i
 
 abbrev μ-loop : tie.MeasureT-loop
-μ-loop line from i₀ i = length line - i
+μ-loop request from i₀ i = length request - i
 
 loop-holds : tie.Need-loop-holds Inv-loop μ-loop
 loop-holds c = starts _ _ (c .pre)

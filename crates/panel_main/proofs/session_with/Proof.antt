@@ -1,9 +1,20 @@
--- The lengths of circuit memory and pins. Assumes nothing.
+-- The state in which sessions start. Assumes nothing.
+use Prim.Native.Nat.{ℕ}
+use lib.ListN.{replicate, length-replicate}
+use Rattle.panel_session.specs.Session.{start}
 use borrow.Author.Needs.{needs}
 use Rattle.panel_main.proofs.session_with.Statement.{statement}
 use Rattle.panel_main.proofs.session_with.Tie as tie
 
+session-requires : tie.Need-session-requires
+unfolding start
+session-requires c κs =
+    let pre = c .before .before .before .before .before .before .pre in (
+      (length-replicate {A = ℕ} 33032 4294967295, pre .0),
+      λ i. record { memory = replicate 33032 4294967295; work = pre .1 i; pins = replicate 512 2 },
+    )
+
 pub session-with-spec : {M : Type 1} → statement M
 session-with-spec =
     tie.close
-    (tie.spec (λ c. search needs) (λ c. search needs) (λ c κs. search needs) (λ c. search needs) (λ c. search needs) (λ c. search needs))
+    (tie.spec (λ c. search needs) (λ c. search needs) session-requires (λ c. search needs) (λ c. search needs) (λ c. search needs))

@@ -11,12 +11,12 @@ array-share-prefix-line c = c .before .before .pre .0
 slice-aggregate-answer : tie.Need-slice-aggregate-answer
 slice-aggregate-answer c =
     let start = c .before .before .before in
-    omega (arith, length-take (start .args .said .count) (start .args .said .line), start .pre .0)
+    omega (arith, length-take (start .args .response .count) (start .args .response .line), start .pre .0)
 
 slice-aggregate-answer-2 : tie.Need-slice-aggregate-answer-2
 slice-aggregate-answer-2 c =
     let start = c .before .before .before .before in
-    omega (arith, length-take (start .args .said .out) (start .args .out .now), start .pre .1)
+    omega (arith, length-take (start .args .response .out) (start .args .out .now), start .pre .1)
 
 pub tell-spec : {M : Type 1} → statement M
 tell-spec =

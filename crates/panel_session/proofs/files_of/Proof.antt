@@ -18,7 +18,7 @@ returns-2 c =
     let at-read = at-task .before .before in
     let start = at-read .before .before in (
       sym (ap namedBy (requested (at-read .read-request .ensures) (at-task .task .given .1) refl)),
-      subst (PartsInside (start .args .text .now)) (at-task .task .given .1) (at-read .read-request .ensures .parts),
+      subst (PartsInside (start .args .request .now)) (at-task .task .given .1) (at-read .read-request .ensures .parts),
     )
 
 returns-3 : tie.Need-returns-3
@@ -27,7 +27,7 @@ returns-3 c =
     let at-read = at-task .before .before in
     let start = at-read .before .before in (
       sym (ap namedBy (requested (at-read .read-request .ensures) (at-task .task2 .given .1) refl)),
-      subst (PartsInside (start .args .text .now)) (at-task .task2 .given .1) (at-read .read-request .ensures .parts),
+      subst (PartsInside (start .args .request .now)) (at-task .task2 .given .1) (at-read .read-request .ensures .parts),
     )
 
 returns-4 : tie.Need-returns-4
@@ -36,7 +36,7 @@ returns-4 c =
     let at-read = at-task .before .before in
     let start = at-read .before .before in (
       sym (ap namedBy (requested (at-read .read-request .ensures) (at-task .task3 .given .1) refl)),
-      subst (PartsInside (start .args .text .now)) (at-task .task3 .given .1) (at-read .read-request .ensures .parts),
+      subst (PartsInside (start .args .request .now)) (at-task .task3 .given .1) (at-read .read-request .ensures .parts),
     )
 
 returns-5 : tie.Need-returns-5
@@ -45,7 +45,7 @@ returns-5 c =
     let at-read = at-task .before .before in
     let start = at-read .before .before in (
       sym (ap namedBy (requested (at-read .read-request .ensures) (at-task .task4 .given .1) refl)),
-      subst (PartsInside (start .args .text .now)) (at-task .task4 .given .1) (at-read .read-request .ensures .parts),
+      subst (PartsInside (start .args .request .now)) (at-task .task4 .given .1) (at-read .read-request .ensures .parts),
     )
 
 returns-6 : tie.Need-returns-6

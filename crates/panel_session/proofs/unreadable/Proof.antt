@@ -1,9 +1,9 @@
 -- `panel_session::unreadable` meets its contract. Assumes nothing.
 use mathlib.Core.Path.{refl, ap}
 use lib.ListN.{length}
-use Rattle.panel_session.specs.Session.{Files, lineAction}
+use Rattle.panel_session.specs.Session.{Files, requestAction}
 use Rattle.panel_session.proofs.Requests.{unrequested}
-use Rattle.panel_session.proofs.Turns.{says-alone}
+use Rattle.panel_session.proofs.Turns.{answered-alone}
 use Rattle.panel_session.proofs.Lacking.{lacks, unnamed}
 use borrow.Author.Needs.{needs}
 use Rattle.panel_session.proofs.unreadable.Statement.{statement}
@@ -45,7 +45,7 @@ returns-6 c =
     let at-told = c .before in
     let at-read = at-told .before .before in
     λ s out.
-    says-alone out (ap (lineAction (length out) Files.missing) (unrequested (at-read .read-request .ensures) (at-told .enum-told6 .given .1)))
+    answered-alone out (ap (requestAction (length out) Files.missing) (unrequested (at-read .read-request .ensures) (at-told .enum-told6 .given .1)))
     (c .malformed2 .ensures)
 
 pub unreadable-spec : {M : Type 1} → statement M

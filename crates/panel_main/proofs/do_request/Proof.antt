@@ -1,11 +1,11 @@
--- `panel_main::do_line` meets its contract. Assumes nothing.
+-- `panel_main::do_request` meets its contract. Assumes nothing.
 use mathlib.Core.Path.{ap}
 use native.Mathlib.Omega.{arith}
 use lib.ListN.{length}
 use Rattle.panel_session.proofs.Turns.{answered-inside}
 use borrow.Author.Needs.{needs}
-use Rattle.panel_main.proofs.do_line.Statement.{statement}
-use Rattle.panel_main.proofs.do_line.Tie as tie
+use Rattle.panel_main.proofs.do_request.Statement.{statement}
+use Rattle.panel_main.proofs.do_request.Tie as tie
 
 tell-requires : tie.Need-tell-requires
 tell-requires c κs =
@@ -91,8 +91,8 @@ with-two-requires c κs =
       omega (arith, ap length (rw (at-old .old .given .1) at (at-files-of .files-of .ensures .0))),
     )
 
-pub do-line-spec : {M : Type 1} → statement M
-do-line-spec =
+pub do-request-spec : {M : Type 1} → statement M
+do-request-spec =
     tie.close
     (tie.spec
     (λ c κs. search needs) (λ c. search needs) (λ c. search needs) (λ c. search needs) (λ c κs. search needs) tell-requires
