@@ -143,7 +143,8 @@ fn write_folded(work: &[u32], g: Graph, root: Edge, kept: usize, out: &mut [u8])
     write_gates(work, g, out, gates)
 }
 
-// The number of the first of the tests 10 to 13 that fails, or that all pass. room is the words of working memory and len the bytes of output.
+// The number of the first of the tests 10 to 13 that fails, or that all pass. room is the words of working memory and len the bytes of
+// output.
 pub fn check_fold(layout: Layout, b: u64, t: u64, room: usize, len: usize) -> Ruling
     requires { ⌜ Limited layout ⌝ }
     ensures { λ r. ⌜ ((c : Circuit) → CountsOf c layout → judge (foldTests c b t room len) ≡ told r) ⌝ }

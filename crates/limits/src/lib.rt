@@ -27,7 +27,8 @@ pub fn witness_length(layout: Layout, b: u32, k: usize) -> usize
     3 + number + 1 + (layout.l + 1) + (k + 1) * (layout.i + 1) + 2
 }
 
-// The number of the first of the tests 10, 11 and 12 that fails, or that all pass. budget is whether the budget is right, and room the words of working memory.
+// The number of the first of the tests 10, 11 and 12 that fails, or that all pass. budget is whether the budget is right, and room the
+// words of working memory.
 pub fn check_bounds(layout: Layout, b: u64, k: u64, budget: bool, room: usize) -> Ruling
     requires { ⌜ Limited layout ⌝ }
     ensures { λ r. ⌜ RulingIs layout b k budget room r ⌝ }

@@ -38,7 +38,8 @@ fn is_budget(d: u64) -> bool
     (1 <= d) & (d <= 4294967296)
 }
 
-// The number of the first of the tests 10 to 13 that fails, or that all pass. room is the words of working memory and len the bytes of output.
+// The number of the first of the tests 10 to 13 that fails, or that all pass. room is the words of working memory and len the bytes of
+// output.
 pub fn check_search(layout: Layout, b: u64, k: u64, d: u64, room: usize, len: usize) -> Ruling
     requires { ⌜ Limited layout ⌝ }
     ensures { λ r. ⌜ ((c : Circuit) → CountsOf c layout → judge (searchTests c b k d room len) ≡ told r) ⌝ }
