@@ -1,57 +1,45 @@
 -- What join answers, by the counts of the two circuits. Assumes nothing.
-use mathlib.Core.Path.{_≡_, refl, sym, ap, ap₂, _∙_, subst, subst₂}
+use mathlib.Core.Path.{_≡_, refl, sym, ap, ap₂, _∙_, subst₂}
 use mathlib.Core.Bool.{Bool, true, false, _&&_}
 use mathlib.Core.List.{List, [], _∷_, _++_, map}
-use mathlib.Core.Logic.{inl, inr}
 use Prim.Native.Nat.{ℕ, _+_, _*_, _≤_, _<_}
 use native.Mathlib.Omega.{arith}
 use borrow.Author.Tests.{le-leb, lt-leb}
 use lib.Dec.{T, leb, eqb, leb→le, eqb→eq}
 use lib.ListN.{length, length-map, length-append}
-use Rattle.aiger.specs.Lists.{upto}
 use Rattle.aiger.specs.Circuit.{Circuit, Latch, Gate}
 use Rattle.aiger.specs.File.{Header, countTests, countsFit, headerOf}
-use Rattle.aiger.specs.Load.{Answer, refused, gives, needed}
+use Rattle.aiger.specs.Load.{refused, gives, needed}
 use Rattle.aiger.specs.Write.{countRow}
 use Rattle.aiger.specs.Memory.{Holds, image}
-use Rattle.aiger.specs.Operations.{front, HoldsNone, judge, need}
-use Rattle.aiger.proofs.Tests.{T-true, true-T, and-left, and-right, all-at}
-use Rattle.layout.specs.Words.{word, circuitIn}
+use Rattle.aiger.specs.Operations.{front, judge, need}
+use Rattle.aiger.proofs.Tests.{T-true, and-left, and-right, all-at}
+use Rattle.layout.specs.Words.{circuitIn}
 use Rattle.layout.specs.Layout.{LayoutOf}
 use Rattle.layout.specs.declared.Layout.{Layout}
 use Rattle.meaning.proofs.Lists.{length-map-upto}
-use Rattle.roundtrip.proofs.LoadWrite.{Counts, counts-fit}
-use Rattle.frames.proofs.Facts.{top-is, latch-count, gate-count, constraint-count, counts}
+use Rattle.roundtrip.proofs.LoadWrite.{Counts}
+use Rattle.frames.proofs.Facts.{counts}
 use Rattle.load.specs.declared.Counts as load
 use Rattle.load.specs.declared.LoadAnswer.the-variants.{Loaded}
 use Rattle.load.specs.Answers.{answered, numbers}
 use Rattle.load.specs.Steps.{headerMeant}
 use Rattle.limits.specs.declared.Ruling.the-variants.{Accepted, Refused}
 use Rattle.limits.proofs.Refusals.{not-accepted}
-use Rattle.joined.specs.Joined.{literalUnder, latchUnder, gateUnder, pairsGates, firstNumber, secondNumber, pairsFrom, joined, canPair, joinTests, JoinedInto}
+use Rattle.joined.specs.Joined.{literalUnder, latchUnder, gateUnder, pairsGates, firstNumber, secondNumber, pairsFrom, joined, canPair}
+use Rattle.joined.specs.Joined.{JoinedInto}
 use Rattle.parting.proofs.Shape.{pairs-length}
-use Rattle.renumber.proofs.Naming.{input-count}
-use Rattle.pairing.specs.Words.{Small, Joins, variables}
-use Rattle.pairing.proofs.Images.{output-count}
-use Rattle.join.specs.Answers.{CountsAre, countsOf, RulingIs}
+use Rattle.pairing.specs.Words.{CountsAre, Small, variables}
+use Rattle.pairing.proofs.Images.{layout-counts}
+use Rattle.join.specs.Answers.{countsOf, RulingIs}
 
 -- ---- counts
 
 module _ {m : List ℕ} {p : Layout} (a : LayoutOf m p) where
-  pub counts-are : CountsAre (circuitIn m) p
-  counts-are =
-      record {
-        inputs = a .i-is ∙ sym (input-count m);
-        latches = a .l-is ∙ sym (latch-count m);
-        outputs = a .o-is ∙ sym (output-count m);
-        gates = a .a-is ∙ sym (gate-count m);
-        constraints = a .c-is ∙ sym (constraint-count m);
-      }
-
   pub small : Holds m (circuitIn m) → Small p
   small h =
       let k = counts h in
-      let e = counts-are in
+      let e = layout-counts a in
       record {
         inputs = omega (arith, k .inputs, e .inputs);
         latches = omega (arith, k .latches, e .latches);
@@ -188,14 +176,14 @@ module _ {m₁ m₂ m : List ℕ} {p q : Layout} (h : Holds m₁ (circuitIn m₁
     (a′ : LayoutOf m₂ q) where
   pub refuses-in : {n : ℕ} → RulingIs p q (length m) (Refused n) → JoinedInto m₁ m₂ m (refused n) m
   refuses-in t =
-      JoinedInto.refuses (circuitIn m₁) (circuitIn m₂) h h′ (t .tests (circuitIn m₁) (circuitIn m₂) (counts-are a) (counts-are a′))
+      JoinedInto.refuses (circuitIn m₁) (circuitIn m₂) h h′ (t .tests (circuitIn m₁) (circuitIn m₂) (layout-counts a) (layout-counts a′))
 
   pub stores-in : RulingIs p q (length m) Accepted → {after : List ℕ} {k : load.Counts}
       → after ≡ front (image (joined (circuitIn m₁) (circuitIn m₂))) m → k ≡ countsOf p q → JoinedInto m₁ m₂ m (answered (Loaded k)) after
   stores-in t {after} {k} e f =
       let J = joined (circuitIn m₁) (circuitIn m₂) in
       let passed = t .passes refl in
-      let hd = header-is (counts-are a) (counts-are a′) (passed .0 .outputs) in
+      let hd = header-is (layout-counts a) (layout-counts a′) (passed .0 .outputs) in
       let row : numbers k ≡ J .maxVar ∷ countRow J = ap numbers f ∙ sym (ap (λ (x : Header). x .M ∷ x .I ∷ x .L ∷ x .O ∷ x .A ∷ x .B ∷ x .C ∷ []) hd) in
       subst₂ (λ (x : List ℕ) (y : List ℕ). JoinedInto m₁ m₂ m (gives x) y) (sym row) (sym e)
-      (JoinedInto.stores (circuitIn m₁) (circuitIn m₂) h h′ (t .tests (circuitIn m₁) (circuitIn m₂) (counts-are a) (counts-are a′)))
+      (JoinedInto.stores (circuitIn m₁) (circuitIn m₂) h h′ (t .tests (circuitIn m₁) (circuitIn m₂) (layout-counts a) (layout-counts a′)))

@@ -1,7 +1,6 @@
 -- The counts of the joined circuit, and what join's tests answer. Assumes nothing.
 use mathlib.Core.Path.{_≡_}
 use Prim.Native.Nat.{ℕ, _+_, _*_, _≤_}
-use lib.ListN.{length}
 use Rattle.aiger.specs.Circuit.{Circuit}
 use Rattle.aiger.specs.Load.{needed}
 use Rattle.aiger.specs.Operations.{judge}
@@ -11,15 +10,7 @@ use Rattle.limits.specs.Limits.{told}
 use Rattle.limits.specs.declared.Ruling.{Ruling}
 use Rattle.limits.specs.declared.Ruling.the-variants.{Accepted}
 use Rattle.joined.specs.Joined.{joinTests}
-use Rattle.pairing.specs.Words.{variables, Joins}
-
--- the counts of circuit c that join asks for
-pub record CountsAre (c : Circuit) (p : Layout) : Type 0 where
-  pub inputs : p .i ≡ length (c .inputs)
-  pub latches : p .l ≡ length (c .latches)
-  pub outputs : p .o ≡ length (c .outputs)
-  pub gates : p .a ≡ length (c .gates)
-  pub constraints : p .c ≡ length (c .constraints)
+use Rattle.pairing.specs.Words.{CountsAre, variables, Joins}
 
 -- the counts of the joined circuit
 abbrev pub countsOf : Layout → Layout → Counts

@@ -1,23 +1,23 @@
 -- The words of all sections are the content of the joined circuit. Assumes nothing.
-use mathlib.Core.Path.{_≡_, refl, sym, ap, ap₂, _∙_, subst, subst₂}
+use mathlib.Core.Path.{_≡_, refl, sym, ap, ap₂, _∙_, subst₂}
 use mathlib.Core.List.{List, [], _∷_, _++_, map, append-assoc, append-nil}
-use Prim.Native.Nat.{ℕ, zero, suc, _+_, _-_, _*_, _/_, _%_, _≤_, _<_}
+use Prim.Native.Nat.{ℕ, zero, suc, _+_, _*_, _/_, _%_, _<_}
 use native.Mathlib.Omega.{arith}
-use lib.Dec.{T}
 use lib.ListN.{length, getD, length-map, length-append}
 use Rattle.aiger.specs.Lists.{upto, from}
-use Rattle.aiger.specs.Circuit.{Circuit, Latch, Gate, var}
+use Rattle.aiger.specs.Circuit.{Circuit, Latch, Gate}
 use Rattle.aiger.specs.Memory.{Holds, latchWords, gateWords, content}
 use Rattle.aiger.specs.Write.{countRow}
-use Rattle.layout.specs.Words.{word, latchesAt, outputsAt, constraintsAt, gatesAt, circuitIn}
+use Rattle.layout.specs.Words.{word, outputsAt, circuitIn}
 use Rattle.layout.specs.Layout.{LayoutOf}
 use Rattle.layout.specs.declared.Layout.{Layout}
 use Rattle.roundtrip.proofs.Lists.{upto-length, upto-get}
 use Rattle.meaning.proofs.Lists.{map-upto-eq, getD-map, length-map-upto}
 use Rattle.frames.proofs.Facts.{latch-count, gate-count, constraint-count}
-use Rattle.joined.specs.Joined.{numberOf, literalUnder, latchUnder, gateUnder, complement, pairGates, pairsGates, firstNumber, secondNumber, pairsFrom, joined}
+use Rattle.joined.specs.Joined.{literalUnder, latchUnder, gateUnder, complement, pairsGates, firstNumber, secondNumber, pairsFrom, joined}
 use Rattle.renumber.specs.Names.{under, Named}
-use Rattle.pairing.specs.Words.{renamedWords, pairWord, pairsWord, countWords, definitionWords, propertyWords, gateWordsOf, pairsVar}
+use Rattle.pairing.specs.Words.{CountsAre, renamedWords, pairWord, pairsWord, countWords, definitionWords, propertyWords}
+use Rattle.pairing.specs.Words.{gateWordsOf, pairsVar}
 use Rattle.parting.proofs.Shape.{pairs-length}
 use Rattle.renumber.proofs.Naming.{input-count}
 use Rattle.pairing.proofs.Contents.{latches-renamed, gates-renamed, constraints-renamed, outputs-renamed}
@@ -90,6 +90,17 @@ output-at : (m : List ℕ) (j : ℕ) → j < word m 3 → getD (circuitIn m .out
 unfolding circuitIn
 output-at m j h = upto-get (λ k. word m (outputsAt m + 1 * k)) (word m 3) j 0 h ∙ ap (word m) (omega arith)
 
+module _ {m : List ℕ} {p : Layout} (a : LayoutOf m p) where
+  pub layout-counts : CountsAre (circuitIn m) p
+  layout-counts =
+      record {
+        inputs = a .i-is ∙ sym (input-count m);
+        latches = a .l-is ∙ sym (latch-count m);
+        outputs = a .o-is ∙ sym (output-count m);
+        gates = a .a-is ∙ sym (gate-count m);
+        constraints = a .c-is ∙ sym (constraint-count m);
+      }
+
 module _ {a b : List ℕ} (ha : Holds a (circuitIn a)) (hb : Holds b (circuitIn b)) (p q : Layout) (la : LayoutOf a p) (lb : LayoutOf b q)
     (first second : List ℕ) (nf : Named (circuitIn a) (p .i + 1) (p .i + p .l + q .l + 1) first)
     (ns : Named (circuitIn b) (p .i + p .l + 1) (p .i + p .l + q .l + p .a + 1) second) (outputs : p .o ≡ q .o) where
@@ -105,39 +116,21 @@ module _ {a b : List ℕ} (ha : Holds a (circuitIn a)) (hb : Holds b (circuitIn 
   abbrev τ : ℕ → ℕ
   τ = secondNumber c d
 
-  I-is : p .i ≡ length (c .inputs)
-  I-is = la .i-is ∙ sym (input-count a)
+  abbrev of-c : CountsAre (circuitIn a) p
+  of-c = layout-counts la
 
-  L-is : p .l ≡ length (c .latches)
-  L-is = la .l-is ∙ sym (latch-count a)
-
-  K-is : q .l ≡ length (d .latches)
-  K-is = lb .l-is ∙ sym (latch-count b)
-
-  A-is : p .a ≡ length (c .gates)
-  A-is = la .a-is ∙ sym (gate-count a)
-
-  B-is : q .a ≡ length (d .gates)
-  B-is = lb .a-is ∙ sym (gate-count b)
-
-  O-is : p .o ≡ length (c .outputs)
-  O-is = la .o-is ∙ sym (output-count a)
-
-  C-is : p .c ≡ length (c .constraints)
-  C-is = la .c-is ∙ sym (constraint-count a)
-
-  D-is : q .c ≡ length (d .constraints)
-  D-is = lb .c-is ∙ sym (constraint-count b)
+  abbrev of-d : CountsAre (circuitIn b) q
+  of-d = layout-counts lb
 
   -- the tables have the numbers of the joined circuit
   first-named : Named c (length (c .inputs) + 1) (length (c .inputs) + length (c .latches) + length (d .latches) + 1) first
-  first-named = subst₂ (λ (x y : ℕ). Named c x y first) (ap (λ (x : ℕ). x + 1) I-is) (omega (arith, I-is, L-is, K-is)) nf
+  first-named = subst₂ (λ (x y : ℕ). Named c x y first) (ap (λ (x : ℕ). x + 1) (of-c .inputs)) (omega (arith, of-c .inputs, of-c .latches, of-d .latches)) nf
 
   second-named : Named d (length (c .inputs) + length (c .latches) + 1) (length (c .inputs) + length (c .latches) + length (d .latches) + length (c .gates) + 1) second
-  second-named = subst₂ (λ (x y : ℕ). Named d x y second) (omega (arith, I-is, L-is)) (omega (arith, I-is, L-is, K-is, A-is)) ns
+  second-named = subst₂ (λ (x y : ℕ). Named d x y second) (omega (arith, of-c .inputs, of-c .latches)) (omega (arith, of-c .inputs, of-c .latches, of-d .latches, of-c .gates)) ns
 
   same-outputs : length (c .outputs) ≡ length (d .outputs)
-  same-outputs = omega (arith, O-is, outputs, lb .o-is, output-count b)
+  same-outputs = omega (arith, of-c .outputs, outputs, lb .o-is, output-count b)
 
   first-words : renamedWords first a (p .latches) (3 * p .l) ≡ latchWords (map (latchUnder σ) (c .latches))
   first-words = ap₂ (λ (x y : ℕ). renamedWords first a x (3 * y)) (la .latches-is) (la .l-is) ∙ latches-renamed ha _ _ first first-named
@@ -170,7 +163,7 @@ module _ {a b : List ℕ} (ha : Holds a (circuitIn a)) (hb : Holds b (circuitIn 
   first-output j h =
       let k : j < word a 3 = omega (arith, la .o-is) in
       ap (λ (x : ℕ). under first (word a (x + j))) (la .outputs-is) ∙ outputs-renamed ha _ _ first first-named j k
-      ∙ ap (literalUnder σ) (sym (output-at a j k)) ∙ sym (getD-map (literalUnder σ) (c .outputs) j 0 0 (omega (arith, O-is)))
+      ∙ ap (literalUnder σ) (sym (output-at a j k)) ∙ sym (getD-map (literalUnder σ) (c .outputs) j 0 0 (omega (arith, of-c .outputs)))
 
   second-output : (j : ℕ) → j < p .o → under second (word b (q .outputs + j)) ≡ getD qs j 0
   second-output j h =
@@ -179,12 +172,12 @@ module _ {a b : List ℕ} (ha : Holds a (circuitIn a)) (hb : Holds b (circuitIn 
       ∙ ap (literalUnder τ) (sym (output-at b j k)) ∙ sym (getD-map (literalUnder τ) (d .outputs) j 0 0 (omega (arith, output-count b)))
 
   pairs-var : pairsVar p q ≡ pairsFrom c d
-  pairs-var = omega (arith, I-is, L-is, K-is, A-is, B-is)
+  pairs-var = omega (arith, of-c .inputs, of-c .latches, of-d .latches, of-c .gates, of-d .gates)
 
   pair-words : map (pairsWord (pairsVar p q) (λ j. under first (word a (p .outputs + j))) (λ j. under second (word b (q .outputs + j)))) (upto (9 * p .o))
       ≡ gateWords (pairsGates (pairsFrom c d) ps qs)
   pair-words =
-      let n : p .o ≡ length ps = O-is ∙ sym (length-map (c .outputs) (literalUnder σ)) in
+      let n : p .o ≡ length ps = of-c .outputs ∙ sym (length-map (c .outputs) (literalUnder σ)) in
       map-upto-eq (pairsWord (pairsVar p q) (λ j. under first (word a (p .outputs + j))) (λ j. under second (word b (q .outputs + j))))
       (pairsWord (pairsFrom c d) (λ j. getD ps j 0) (λ j. getD qs j 0)) (9 * p .o)
       (λ i h.
@@ -198,17 +191,17 @@ module _ {a b : List ℕ} (ha : Holds a (circuitIn a)) (hb : Holds b (circuitIn 
   counts-are =
       let xs = map (gateUnder σ) (c .gates) in
       let ys = map (gateUnder τ) (d .gates) in
-      cons (omega (arith, I-is, L-is, K-is, A-is, B-is, O-is))
-      (cons (I-is ∙ sym (length-map-upto (λ i. 2 * (i + 1)) (length (c .inputs))))
+      cons (omega (arith, of-c .inputs, of-c .latches, of-d .latches, of-c .gates, of-d .gates, of-c .outputs))
+      (cons (of-c .inputs ∙ sym (length-map-upto (λ i. 2 * (i + 1)) (length (c .inputs))))
       (cons
-      (omega (arith, L-is, K-is, length-append (map (latchUnder σ) (c .latches)) (map (latchUnder τ) (d .latches)), length-map (c .latches) (latchUnder σ), length-map (d .latches) (latchUnder τ)))
+      (omega (arith, of-c .latches, of-d .latches, length-append (map (latchUnder σ) (c .latches)) (map (latchUnder τ) (d .latches)), length-map (c .latches) (latchUnder σ), length-map (d .latches) (latchUnder τ)))
       (cons refl
       (cons
       (omega (
         arith,
-        A-is,
-        B-is,
-        O-is,
+        of-c .gates,
+        of-d .gates,
+        of-c .outputs,
         length-append (xs ++ ys) (pairsGates (pairsFrom c d) ps qs),
         length-append xs ys,
         length-map (c .gates) (gateUnder σ),
@@ -216,12 +209,12 @@ module _ {a b : List ℕ} (ha : Holds a (circuitIn a)) (hb : Holds b (circuitIn 
         pairs-length (pairsFrom c d) ps qs same-pairs,
         length-map (c .outputs) (literalUnder σ),
       ))
-      (cons (O-is ∙ sym (length-map-upto (λ j. 2 * (pairsFrom c d + 3 * j + 2) + 1) (length (c .outputs))))
+      (cons (of-c .outputs ∙ sym (length-map-upto (λ j. 2 * (pairsFrom c d + 3 * j + 2) + 1) (length (c .outputs))))
       (cons
       (omega (
         arith,
-        C-is,
-        D-is,
+        of-c .constraints,
+        of-d .constraints,
         length-append (map (literalUnder σ) (c .constraints)) (map (literalUnder τ) (d .constraints)),
         length-map (c .constraints) (literalUnder σ),
         length-map (d .constraints) (literalUnder τ),
@@ -235,8 +228,8 @@ module _ {a b : List ℕ} (ha : Holds a (circuitIn a)) (hb : Holds b (circuitIn 
       let bads : List ℕ = map (λ j. 2 * (pairsFrom c d + 3 * j + 2) + 1) (upto (length (c .outputs))) in
       let ins : List ℕ = map (λ i. 2 * (i + 1)) (upto (length (c .inputs))) in
       let bads-are : map (λ j. 2 * (pairsVar p q + 3 * j + 2) + 1) (upto (p .o)) ≡ bads =
-      ap₂ (λ (v n : ℕ). map (λ j. 2 * (v + 3 * j + 2) + 1) (upto n)) pairs-var O-is in
-      let ins-are : map (λ i. 2 * (i + 1)) (upto (p .i)) ≡ ins = ap (λ (n : ℕ). map (λ i. 2 * (i + 1)) (upto n)) I-is in
+      ap₂ (λ (v n : ℕ). map (λ j. 2 * (v + 3 * j + 2) + 1) (upto n)) pairs-var (of-c .outputs) in
+      let ins-are : map (λ i. 2 * (i + 1)) (upto (p .i)) ≡ ins = ap (λ (n : ℕ). map (λ i. 2 * (i + 1)) (upto n)) (of-c .inputs) in
       let k : List ℕ = joined c d .maxVar ∷ countRow (joined c d) in
       let r₁ : List ℕ = latchWords (map (latchUnder σ) (c .latches)) in
       let r₂ : List ℕ = latchWords (map (latchUnder τ) (d .latches)) in

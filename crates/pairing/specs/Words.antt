@@ -25,6 +25,14 @@ pairWord v p q j = getD (2 * v ∷ p ∷ complement q ∷ 2 * (v + 1) ∷ comple
 abbrev pub pairsWord : ℕ → (ℕ → ℕ) → (ℕ → ℕ) → ℕ → ℕ
 pairsWord v p q i = pairWord (v + 3 * (i / 9)) (p (i / 9)) (q (i / 9)) (i % 9)
 
+-- the counts of circuit c that join asks for
+pub record CountsAre (c : Circuit) (p : Layout) : Type 0 where
+  pub inputs : p .i ≡ length (c .inputs)
+  pub latches : p .l ≡ length (c .latches)
+  pub outputs : p .o ≡ length (c .outputs)
+  pub gates : p .a ≡ length (c .gates)
+  pub constraints : p .c ≡ length (c .constraints)
+
 -- counts within load's limits
 pub record Small (p : Layout) : Type 0 where
   pub inputs : p .i ≤ 256
