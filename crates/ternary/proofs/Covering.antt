@@ -7,6 +7,7 @@ use native.Mathlib.Decide.{ℕ-discrete}
 use native.Mathlib.Omega.{arith}
 use borrow.Author.Tests.{eq-eqb, ne-eqb}
 use lib.Dec.{T, eqb}
+use lib.Bits.{bitXor, differ, xor-step, xor-zero-r}
 use lib.ListN.{length, getD, set, replicate, length-set, length-replicate, getD-replicate}
 use lib.Seq.{getD-set-same, getD-set-other}
 use Rattle.aiger.specs.Bits.{nonzero, odd}
@@ -82,6 +83,22 @@ word-bound l = go (l .0 .0) (l .1)
 
 pub literal-inside : (l : Lit) (n : ℕ) → 2 * l .0 .0 + 1 < n → (wordOf l < n) × (wordOf (complemented l) < n)
 literal-inside l n h = (omega (arith, word-bound l), omega (arith, word-bound (complemented l)))
+
+-- the word of the complement differs in the last bit
+pub complement-word : (l : Lit) → bitXor (wordOf l) 1 ≡ wordOf (complemented l)
+complement-word l = go (l .0 .0) (l .1)
+  where
+    go : (v : ℕ) (b : Bool) → bitXor (2 * v + cond b 1 0) 1 ≡ 2 * v + cond (not b) 1 0
+    go v true =
+        let half : (2 * v + 1) / 2 ≡ v = omega arith in
+        let last : (2 * v + 1) % 2 ≡ 1 = omega arith in
+        let one : differ 1 1 ≡ 0 = refl in
+        xor-step (2 * v + 1) 1 ∙ (λ i. bitXor (half i) 0 * 2 + differ (last i) 1) ∙ omega (arith, xor-zero-r v, one)
+    go v false =
+        let half : (2 * v + 0) / 2 ≡ v = omega arith in
+        let last : (2 * v + 0) % 2 ≡ 0 = omega arith in
+        let one : differ 0 1 ≡ 1 = refl in
+        xor-step (2 * v + 0) 1 ∙ (λ i. bitXor (half i) 0 * 2 + differ (last i) 1) ∙ omega (arith, xor-zero-r v, one)
 
 flips : (w : ℕ → Bool) (l : Lit) → value w (wordOf (complemented l)) ≡ not (value w (wordOf l))
 flips w l = go (l .0 .0) (l .1)

@@ -1,8 +1,8 @@
--- What literals may be in some completion, as entries of a list, and what the functions do to them. Assumes nothing.
+-- What entries of literals and bytes of a witness allow, and what the functions ask of the memory. Assumes nothing.
 use mathlib.Core.Path.{_≡_}
-use mathlib.Core.Bool.{Bool, not, _&&_}
+use mathlib.Core.Bool.{Bool, not}
 use mathlib.Core.List.{List}
-use Prim.Native.Nat.{ℕ, _+_, _*_, _/_, _≤_, _<_}
+use Prim.Native.Nat.{ℕ, _+_, _*_, _≤_, _<_}
 use lib.Dec.{T}
 use lib.ListN.{length, getD}
 use Rattle.aiger.specs.Circuit.{var}

@@ -80,7 +80,8 @@ startAgrees lit reset byte = eqb reset lit || cond (eqb byte 49) (eqb reset 1) (
 abbrev pub startsAgree : Circuit → List ℕ → Bool
 startsAgree c body = everyBelow (length (c .latches)) (λ j. startAgrees (latchAt c j .lit) (latchAt c j .reset) (getD body j 0))
 
--- the start values agree with the resets, every constraint is true in every frame and bad line b in the last one, in every completion
+-- what is seen of Clause 12.2: in every completion the start values agree with the resets, every constraint is true in every frame and bad
+-- line b in the last one
 unfoldable pub seesHit : ℕ → Circuit → List ℕ → ℕ → ℕ → List ℕ → Bool
 seesHit n c order b frames body =
     startsAgree c body

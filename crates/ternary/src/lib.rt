@@ -49,16 +49,15 @@ struct May {
     low: u8,
 }
 
-// What literal l may be.
+// What literal l may be. The word of its complement differs in the last bit.
 fn read(can: &[u8], l: Lit) -> May
     requires { ⌜ 2 * l .0 .0 + 1 < length (now can) ⌝ }
     ensures { λ r. ⌜ r ≡ mayOf (now (can .entry)) l ⌝ }
 {
     let own = l.word() as usize;
-    let other = l.complement().word() as usize;
     May {
         high: can[own],
-        low: can[other],
+        low: can[own ^ 1],
     }
 }
 
