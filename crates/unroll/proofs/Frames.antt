@@ -48,7 +48,8 @@ pub record FirstMapped (c : Circuit) (n : ℕ) (work : List ℕ) (g : Graph) (la
   pub follows : pairsOf work g ≡ [] → Agrees (firstMade c n) last h after
 
 -- the gates of the frame after u, where its first input has free bit `first`
-pub record NextMapped (c : Circuit) (n first : ℕ) (work : List ℕ) (g : Graph) (map last : List ℕ) (h : Graph) (after : List ℕ) : Type 0 where
+pub record NextMapped (c : Circuit) (n first : ℕ) (work : List ℕ) (g : Graph) (map last : List ℕ) (h : Graph) (after : List ℕ)
+    : Type 0 where
   pub grown : Grown n (length (c .gates)) work g last h
   pub edges : Edges h after
   pub values : (t u : ℕ) → n ≡ freeBits c t → u < t → first ≡ freeStarts c + length (c .inputs) * (u + 1) → Valued c t u n work g map
@@ -245,7 +246,8 @@ module _ {m : List ℕ} {layout : Layout} {order : List ℕ} {count : ℕ} (r : 
   pub framed-next : (first : ℕ) {work mid last map after : List ℕ} {before : Made} {h : Graph} {made : Made}
       → NextMapped (circuitIn m) (before .graph .free) first work (before .graph) map mid h after
       → ConstrainedMapped (circuitIn m) (before .edge) (h .free) mid h after last made → (t u room : ℕ) → u < t
-      → first ≡ freeStarts (circuitIn m) + length (circuitIn m .inputs) * (u + 1) → Framed (circuitIn m) t u (before .graph .free) room work before map
+      → first ≡ freeStarts (circuitIn m) + length (circuitIn m .inputs) * (u + 1)
+      → Framed (circuitIn m) t u (before .graph .free) room work before map
       → Framed (circuitIn m) t (u + 1) (before .graph .free) room last made after
   framed-next first {work = work} {mid = mid} {last = last} {map = map} {after = after} {before = before} {h = h} {made = made} s k′ t u room less at f =
       let c = circuitIn m in

@@ -25,13 +25,15 @@ returns : tie.Need-returns
 returns c = let a = c .before .before .before .args in passed-none (now (a .work)) (a .k) (omega arith)
 
 left-read : (c : tie.After-struct-known2)
-    → (let a = c .before .before .before .before .before .before .before .before .before .args in c .before .before .before .before .from-word .result .0 .0 ≡ nodeOf (field (now (a .work)) (a .k) 0))
+    → (let a = c .before .before .before .before .before .before .before .before .before .args in
+    c .before .before .before .before .from-word .result .0 .0 ≡ nodeOf (field (now (a .work)) (a .k) 0))
 left-read c =
     let a = c .before .before .before .before .before .before .before .before .before .args in
     left-node (now (a .work)) (a .k) (c .before .before .before .before .from-word .ensures)
 
 right-read : (c : tie.After-struct-known2)
-    → (let a = c .before .before .before .before .before .before .before .before .before .args in c .before .before .from-word2 .result .0 .0 ≡ nodeOf (field (now (a .work)) (a .k) 1))
+    → (let a = c .before .before .before .before .before .before .before .before .before .args in
+    c .before .before .from-word2 .result .0 .0 ≡ nodeOf (field (now (a .work)) (a .k) 1))
 right-read c =
     let a = c .before .before .before .before .before .before .before .before .before .args in
     right-node (now (a .work)) (a .k) (c .before .before .from-word2 .ensures)
@@ -39,7 +41,8 @@ right-read c =
 -- the records of both nodes are before that of the gate
 inside : (c : tie.After-struct-known2)
     → (let a = c .before .before .before .before .before .before .before .before .before .args in
-    (16 * c .before .before .before .before .from-word .result .0 .0 + 16 ≤ length (now (a .work))) × (16 * c .before .before .from-word2 .result .0 .0 + 16 ≤ length (now (a .work))))
+    (16 * c .before .before .before .before .from-word .result .0 .0 + 16 ≤ length (now (a .work)))
+    × (16 * c .before .before .from-word2 .result .0 .0 + 16 ≤ length (now (a .work))))
 inside c =
     let p = c .before .before .before .before .before .before .before .before .before .pre in
     (omega (arith, left-read c, p .held, p .left), omega (arith, right-read c, p .held, p .right))
