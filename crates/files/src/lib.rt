@@ -2,7 +2,11 @@
 use arguments::Argument;
 use input::Got;
 use libc::STDOUT_FILENO;
+ghost use mathlib.Core.Path.{_≡_};
+ghost use mathlib.Core.List.{List};
+ghost use Prim.Native.Nat.{ℕ};
 ghost use Rattle.io.specs.Counts.{Counts};
+ghost use Rattle.arguments.specs.Arguments.{numberOf, meant};
 
 // Writes a text to standard output.
 pub fn say(text: &[u8]) {
@@ -72,8 +76,10 @@ pub fn read_argument(i: usize, buf: &mut [u8]) -> Got
     read_named(&name[..length], buf)
 }
 
-// Reads the number that argument i is.
-pub fn read_number(i: usize) -> Argument {
+// Reads the number that argument i is: the answer is that of some text.
+pub fn read_number(i: usize) -> Argument
+    ensures { λ r. ⌜ ((text : List ℕ) × (meant r ≡ numberOf text)) ⌝ }
+{
     let mut word = io::buffer();
     let length = os::arg(i, &mut word);
     arguments::read_argument(&word[..length])
