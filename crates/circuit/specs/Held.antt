@@ -15,11 +15,7 @@ use Rattle.layout.specs.Layout.{LayoutOf}
 use Rattle.layout.specs.Order.{Ordered}
 use Rattle.circuit.specs.declared.Held.{Held}
 use Rattle.circuit.specs.declared.Held.the-variants.{Circuit, Nothing}
-
--- the answer of a test of P
-abbrev pub Says : Bool → Type 0 → Type 0
-Says true P = P
-Says false P = P → ⊥
+pub use Rattle.variables.specs.Table.{Says}
 
 -- the words from position a up to position b are 0
 abbrev pub Zeros : List ℕ → ℕ → ℕ → Type 0

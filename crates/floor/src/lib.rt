@@ -63,7 +63,7 @@ fn later(net: Netlist, l: u32, top: u32) -> u32
 
 // What the first n literals of the working clause are: not false where one of them is wrong, else false by the free bits up to the last
 // that they name.
-fn judge(work: &[u32], net: Netlist, arena: Arena, n: u32) -> AtFloor
+fn test_clause(work: &[u32], net: Netlist, arena: Arena, n: u32) -> AtFloor
     ensures { λ r. ⌜ r ≡ P.judged (now (work .entry)) net arena n 0 ⌝ }
 {
     let mut left = n;
@@ -129,7 +129,7 @@ pub fn refute(work: &mut [u32], net: Netlist, arena: Arena, d: Draft) -> Refutat
     ensures { λ r. ⌜ P.Told (now (work .exit)) r (P.refuted (now (work .entry)) net arena d) ⌝ }
 {
     if d.whole {
-        let AtFloor::FalseBy(m) = judge(work, net, arena, d.length) else {
+        let AtFloor::FalseBy(m) = test_clause(work, net, arena, d.length) else {
             return Refutation::Unlearnt;
         };
         return raise(work, net.nodes, m, net.free);

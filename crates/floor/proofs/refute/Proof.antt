@@ -7,7 +7,7 @@ use Rattle.floor.proofs.refute.Tie as tie
 
 returns : tie.Need-returns
 unfolding P.refuted P.raisedBy
-returns c = rw (← c .before .before .judge .ensures, c .before .before .before .before .if1 .taken, c .enum-told .given .1) (record {
+returns c = rw (← c .before .before .test-clause .ensures, c .before .before .before .before .if1 .taken, c .enum-told .given .1) (record {
   words = refl;
   says = refl;
 })
@@ -15,7 +15,7 @@ returns c = rw (← c .before .before .judge .ensures, c .before .before .before
 returns-2 : tie.Need-returns-2
 unfolding P.refuted P.raisedBy
 returns-2 c = rw (
-  ← c .before .before .before .before .before .before .before .judge .ensures,
+  ← c .before .before .before .before .before .before .before .test-clause .ensures,
   c .before .before .before .before .before
       .before .before .before .before .if1 .taken,
   c .before .before .before .before .before .m .given .1,

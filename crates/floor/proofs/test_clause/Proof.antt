@@ -1,11 +1,11 @@
--- `floor::judge` meets its contract. The invariant: what is left of the clause is judged as all of it. Assumes nothing.
+-- `floor::test_clause` meets its contract. The invariant: what is left of the clause is judged as all of it. Assumes nothing.
 use Rattle.floor.proofs.Turns.{judged-none, judged-wrong, judged-more}
 use Rattle.floor.specs.Place.{judged}
 use native.Mathlib.Omega.{arith}
 use mathlib.Core.Path.{_≡_, refl, sym, ap, _∙_}
 use borrow.Author.Needs.{needs}
-use Rattle.floor.proofs.judge.Statement.{statement}
-use Rattle.floor.proofs.judge.Tie as tie
+use Rattle.floor.proofs.test_clause.Statement.{statement}
+use Rattle.floor.proofs.test_clause.Tie as tie
 
 abbrev Inv-loop : tie.InvT-loop
 Inv-loop work net arena n left₀ top₀ left top =
@@ -43,8 +43,8 @@ returns-2 c =
     let s = c .before .before .before .args in
     sym (judged-none (s .work .now) (s .net) (s .arena) (l .left) (l .top) (omega arith)) ∙ l .inv
 
-pub judge-spec : {M : Type 1} → statement M
-judge-spec =
+pub test-clause-spec : {M : Type 1} → statement M
+test-clause-spec =
     tie.close
     (tie.spec
     Inv-loop μ-loop loop-holds sub-left (λ c κs. search needs) (λ c κs. search needs) returns (λ c κs. search needs) loop-less
