@@ -132,6 +132,7 @@ fn agree_word(m: &[u32], layout: Layout, order: &[u32], values: &[u64]) -> u64
 }
 
 // Gives the inputs the row at the cursor and evaluates the gates. The answer is the number of x up to the row's end.
+// The words of inputs and gates are promised where the word of the constant is 0.
 pub fn put_frame(
     m: &[u32],
     layout: Layout,

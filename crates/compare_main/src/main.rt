@@ -11,7 +11,7 @@ ghost use Rattle.layout.specs.Words.{circuitIn};
 fn say_help() {
     say(b"compare OLD NEW k D\n\n");
     say(
-        b"Loads the ASCII AIGER 1.9 files OLD and NEW, the old trigger and the new one, which have the same numbers of inputs\n",
+        b"Loads the AIGER 1.9 files OLD and NEW, the old trigger and the new one, which have the same numbers of inputs\n",
     );
     say(
         b"and of outputs, and asks for each output j whether allowed runs of both on the same inputs part it in frames 0 to k,\n",

@@ -76,7 +76,8 @@ pub fn read_argument(i: usize, buf: &mut [u8]) -> Got
     read_named(&name[..length], buf)
 }
 
-// Reads the number that argument i is: the answer is that of some text.
+// Reads the number that argument i is. The answer is that of some text: which text an argument is, is said by the system, and nothing is
+// promised of it.
 pub fn read_number(i: usize) -> Argument
     ensures { λ r. ⌜ ((text : List ℕ) × (meant r ≡ numberOf text)) ⌝ }
 {

@@ -19,7 +19,7 @@ pub record Risen : Type 0 where
   pub words : List ℕ
   pub says : Refutation
 
-pub record Told (w : List ℕ) (r : Refutation) (to : Risen) : Type 0 where
+pub record RiseLeft (w : List ℕ) (r : Refutation) (to : Risen) : Type 0 where
   pub words : w ≡ to .words
   pub says : r ≡ to .says
 

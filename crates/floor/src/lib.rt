@@ -110,7 +110,7 @@ fn can_rise(work: &[u32], nodes: u32, m: u32, v: u32) -> bool
 // The floor becomes the next place after those that share its bits up to node m, among those that are 0 where the hit does not depend on
 // the bit, if there is such a place.
 fn raise(work: &mut [u32], nodes: u32, m: u32, n: u32) -> Refutation
-    ensures { λ r. ⌜ P.Told (now (work .exit)) r (P.raised (now (work .entry)) nodes m n) ⌝ }
+    ensures { λ r. ⌜ P.RiseLeft (now (work .exit)) r (P.raised (now (work .entry)) nodes m n) ⌝ }
 {
     let mut v = n;
     while 0 < v {
@@ -126,7 +126,7 @@ fn raise(work: &mut [u32], nodes: u32, m: u32, n: u32) -> Refutation
 
 // Raises the floor by the working clause, if that is whole and false there.
 pub fn refute(work: &mut [u32], net: Netlist, arena: Arena, d: Draft) -> Refutation
-    ensures { λ r. ⌜ P.Told (now (work .exit)) r (P.refuted (now (work .entry)) net arena d) ⌝ }
+    ensures { λ r. ⌜ P.RiseLeft (now (work .exit)) r (P.refuted (now (work .entry)) net arena d) ⌝ }
 {
     if d.whole {
         let AtFloor::FalseBy(m) = test_clause(work, net, arena, d.length) else {

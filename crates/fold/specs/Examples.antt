@@ -32,7 +32,7 @@ texts =
       text =
           "aag 5 2 0 1 3 0 0\n2\n4\n11\n6 5 2\n8 4 3\n10 9 7\n";
     }
-    -- an input with the complement of (its complement and another one) is that input, by a rule one gate down
+    -- an input with the complement of (its complement and the complement of the other) is that input, by a rule one gate down
     ∷ record { file = "aag 4 2 0 0 2 1\n2\n4\n8\n6 3 5\n8 2 7\n"; b = 0; t = 0; text = "aag 2 2 0 1 0 0 0\n2\n4\n2\n" }
     -- a gate that is equal in function to an input is merged: the input with the other one, or with its complement
     ∷ record { file = "aag 5 2 0 0 3 1\n2\n4\n11\n6 2 4\n8 2 5\n10 7 9\n"; b = 0; t = 0; text = "aag 2 2 0 1 0 0 0\n2\n4\n2\n" }

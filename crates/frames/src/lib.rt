@@ -44,8 +44,8 @@ fn eval_place(table: &[u32], order: &[u32], k: usize, values: &mut [u64])
     eval_gate(table, 3 * g, values);
 }
 
-// Evaluates all gates, where the constant, the inputs and the latches have their words. A turn of the loop is two gates, since counting
-// costs a seventh of a gate.
+// Evaluates all gates, where the constant, the inputs and the latches have their words. A turn of the loop is two gates, so that
+// turns are counted half as often.
 pub fn eval_gates(m: &[u32], layout: Layout, order: &[u32], values: &mut [u64])
     requires { ⌜ Ready (now m) layout (now order) (length (now values)) ⌝ }
     ensures { λ _. ⌜ Evaluated (circuitIn (now (m .entry))) (now (values .entry)) (now (values .exit)) ⌝ }

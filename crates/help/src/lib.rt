@@ -31,6 +31,7 @@ pub fn say_file_refusals() {
     say(b"What is not accepted is refused with a number and its cause:\n");
     say_refusals(1, 3);
     say_refusals(5, 8);
+    say_refusals(15, 15);
 }
 
 // Prints what a program refuses that loads a file and reads a witness.

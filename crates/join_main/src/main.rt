@@ -7,7 +7,7 @@ ghost use lib.ListN.{length};
 fn say_help() {
     say(b"join OLD NEW\n\n");
     say(
-        b"Loads the ASCII AIGER 1.9 files OLD and NEW, the old trigger and the new one, which have the same numbers of inputs\n",
+        b"Loads the AIGER 1.9 files OLD and NEW, the old trigger and the new one, which have the same numbers of inputs\n",
     );
     say(
         b"and of outputs, and prints one circuit of both: the same inputs for both, and bad line j true where outputs j differ.\n\n",

@@ -14,7 +14,7 @@ use Rattle.machine.proofs.Expand.{quotient-below}
 use Rattle.machine.proofs.First.{none-is}
 use Rattle.states.specs.declared.Tally.{Tally}
 use Rattle.states.specs.declared.Tally.the-variants.{Records, TooMany}
-use Rattle.states.specs.Table.{Fits, countOf, Within}
+use Rattle.states.specs.Table.{Fits, countOf, TallyFits}
 use Rattle.states.specs.Trace.{Trace, Holds}
 use Rattle.states.proofs.Laws.{trace-kept, holds-next}
 use Rattle.influence.specs.Part.{Part, Closed}
@@ -127,7 +127,7 @@ module _ (c : Part) (b lo hi quota : ℕ) (r₀ hd₀ : List ℕ) where
             omega arith,
           )
 
-    pub asking-end : {q : ℕ} {r hd : List ℕ} (met : Tally) → Asking q (countOf quota met) r hd → Within quota met → q ≡ (hi - lo) * blocks
+    pub asking-end : {q : ℕ} {r hd : List ℕ} (met : Tally) → Asking q (countOf quota met) r hd → TallyFits quota met → q ≡ (hi - lo) * blocks
         → (t : ℕ) (es : List Entry) → Holds rows t lo quota hi r₀ hd₀ es → AskedOf c b t lo quota r hd es (askedOf met)
     unfolding AskedOf
     asking-end {q} {r} {hd} met k w e t es h = go met k w
@@ -142,6 +142,6 @@ module _ (c : Part) (b lo hi quota : ℕ) (r₀ hd₀ : List ℕ) where
             (machineOf c b) es lo))
         holds {n} k = subst (λ (x : ℕ). Holds rows (suc t) (length es) quota n r hd (expanded (machineOf c b) es lo x)) lt (k .holds t es h)
 
-        go : (met : Tally) → Asking q (countOf quota met) r hd → Within quota met → AskedOf c b t lo quota r hd es (askedOf met)
+        go : (met : Tally) → Asking q (countOf quota met) r hd → TallyFits quota met → AskedOf c b t lo quota r hd es (askedOf met)
         go (Records n) k w = (quiet k, holds k, w)
         go TooMany k w = (quiet k, holds k)

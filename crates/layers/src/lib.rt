@@ -14,7 +14,7 @@ ghost use Rattle.aiger.specs.Frames.{value};
 ghost use Rattle.layout.specs.Words.{word, circuitIn};
 ghost use Rattle.frames.specs.Lanes.{lane, Ready};
 ghost use Rattle.machine.specs.Layers.{Entry, started};
-ghost use Rattle.states.specs.Table.{Fits, countOf, Within};
+ghost use Rattle.states.specs.Table.{Fits, countOf, TallyFits};
 ghost use Rattle.aiger.specs.Memory.{Holds};
 ghost use Rattle.layout.specs.Layout.{LayoutOf};
 ghost use Rattle.states.specs.Trace as trace;
@@ -132,12 +132,12 @@ fn meet_row(
     heads: &mut [u32],
 ) -> Pending
     requires { ⌜ Fits (span .quota) (countOf (span .quota) (pending .met)) (now records) (now heads) ⌝ }
-    requires { ⌜ (length (now state) ≤ 32) × (p < 64) × (span .first ≤ 65536) × Within (span .quota) (pending .met) ⌝ }
+    requires { ⌜ (length (now state) ≤ 32) × (p < 64) × (span .first ≤ 65536) × TallyFits (span .quota) (pending .met) ⌝ }
     ensures { λ r. ⌜
         RowStep (λ q. numberOf (map (λ w. bit w q) (now (state .entry)))) (span .quota) (span .e) (span .first + p) p
         (countOf (span .quota) (pending .met)) (pending .left) (now (records .entry)) (now (heads .entry)) (countOf (span .quota) (r .met))
         (r .left) (now (records .exit)) (now (heads .exit))
-        × Within (span .quota) (r .met)
+        × TallyFits (span .quota) (r .met)
         ⌝ }
 {
     let tally = pending.met;
@@ -163,12 +163,12 @@ fn meet_rows(
     heads: &mut [u32],
 ) -> Tally
     requires { ⌜ Fits (span .quota) (countOf (span .quota) (start .met)) (now records) (now heads) ⌝ }
-    requires { ⌜ (length (now state) ≤ 32) × (span .n ≤ 64) × (span .first ≤ 65536) × Within (span .quota) (start .met) ⌝ }
+    requires { ⌜ (length (now state) ≤ 32) × (span .n ≤ 64) × (span .first ≤ 65536) × TallyFits (span .quota) (start .met) ⌝ }
     ensures { λ r. ⌜
         RowsMet (λ p. leading (start .left) (λ q. numberOf (map (λ w. bit w q) (now (state .entry)))) p) (span .quota)
         (countOf (span .quota) (start .met)) (span .e) (span .first) (span .n) (now (records .entry)) (now (heads .entry))
         (countOf (span .quota) r) (now (records .exit)) (now (heads .exit))
-        × Within (span .quota) r
+        × TallyFits (span .quota) r
         ⌝ }
 {
     let n = span.n;
@@ -263,13 +263,13 @@ fn meet_block(
     requires { ⌜ Fits (block .quota) (countOf (block .quota) (block .met)) (now records) (now heads) ⌝ }
     requires { ⌜
         (length (now kept) ≤ 32) × (layout .i ≤ 16) × (block .block ≤ 1024) × Listed (partIn (now m) (now kept))
-        × Allowed (circuitIn (now m)) (now values) (block .allowed) × Within (block .quota) (block .met)
+        × Allowed (circuitIn (now m)) (now values) (block .allowed) × TallyFits (block .quota) (block .met)
         ⌝ }
     ensures { λ r. ⌜
         BlockMet (partIn (now (m .entry)) (now (kept .entry))) (now (values .entry)) (block .quota) (countOf (block .quota) (block .met))
         (block .e) (block .block) (now (records .entry)) (now (heads .entry)) (countOf (block .quota) r) (now (records .exit))
         (now (heads .exit))
-        × Within (block .quota) r
+        × TallyFits (block .quota) r
         ⌝ }
 {
     let met = block.met;
@@ -296,6 +296,8 @@ fn meet_block(
 }
 
 // Asks a layer, each record with each row, for its first hit; the states that they lead to are met on the way, up to quota records.
+// What values holds afterwards is left open, and after a hit, or where there are too many states, so is what the trace does not need of the
+// records and the buckets.
 pub fn ask_layer(
     m: &[u32],
     order: &[u32],
@@ -362,6 +364,7 @@ pub fn ask_layer(
 }
 
 // Meets the states of start places, in a table without records. Once they are too many the others are not looked at.
+// What state holds afterwards is left open, and where there are too many so are records and buckets.
 pub fn meet_starts(
     m: &[u32],
     layout: Layout,
@@ -381,7 +384,7 @@ pub fn meet_starts(
         ((rows b : ℕ) → trace.Holds rows 0 0 (starts .quota) 0 (now (records .entry)) (now (heads .entry)) []
         → trace.Holds rows 0 0 (starts .quota) (countOf (starts .quota) r) (now (records .exit)) (now (heads .exit))
         (started (machineOf (partIn (now (m .entry)) (now (kept .entry))) b) (starts .count)))
-        × Within (starts .quota) r
+        × TallyFits (starts .quota) r
         ⌝ }
 {
     let count = starts.count;

@@ -153,7 +153,7 @@ fn assert(work: &mut [u32], net: Netlist, s: Search, l: u32, why: u32) -> Search
     with_trail(s, u)
 }
 
-// The two of literals a and b, the one of the higher level first.
+// Literals a and b, the one of the higher level first.
 fn rank_two(work: &[u32], nodes: u32, a: u32, b: u32) -> TopTwo
     ensures { λ r. ⌜ r ≡ Ln.rankedTwo (now (work .entry)) nodes a b ⌝ }
 {

@@ -13,7 +13,7 @@ use Rattle.layout.specs.declared.Layout.{Layout}
 use Rattle.limits.specs.declared.Ruling.{Ruling}
 use Rattle.limits.specs.declared.Ruling.the-variants.{Accepted, Refused}
 
--- counts within document 01's limits
+-- counts within document 01's limits, and no more free starts than latches
 pub record Limited (p : Layout) : Type 0 where
   pub inputs : p .i ≤ 256
   pub latches : p .l ≤ 1024

@@ -14,8 +14,8 @@ use Rattle.joined.specs.Joined.{complement}
 use Rattle.renumber.specs.Names.{Within, under, Named}
 
 -- the three words of a gate
-abbrev pub gateWord : ℕ → ℕ → ℕ → ℕ → ℕ
-gateWord lit left right j = getD (lit ∷ left ∷ right ∷ []) j 0
+abbrev pub tripleWord : ℕ → ℕ → ℕ → ℕ → ℕ
+tripleWord lit left right j = getD (lit ∷ left ∷ right ∷ []) j 0
 
 -- the nine words of the gates of a pair
 abbrev pub pairWord : ℕ → ℕ → ℕ → ℕ → ℕ

@@ -15,7 +15,7 @@ ghost use Rattle.layout.specs.Words.{word, circuitIn};
 ghost use Rattle.joined.specs.Joined.{joined};
 ghost use Rattle.renumber.specs.Names.{Put, Within, under};
 ghost use Rattle.pairing.specs.Words.{
-  gateWord,
+  tripleWord,
   pairWord,
   pairsWord,
   Small,
@@ -70,7 +70,7 @@ fn copy_words(from: &[u32], n: usize, m: &mut [u32], to: usize)
 // Writes the words of a gate from `to` on.
 fn put_gate(m: &mut [u32], to: usize, lit: Lit, left: Lit, right: Lit)
     requires { ⌜ (wordOf lit ≤ 10005) × (wordOf left ≤ 10005) × (wordOf right ≤ 10005) × (to + 3 ≤ length (now m)) ⌝ }
-    ensures { λ _. ⌜ Put to (gateWord (wordOf lit) (wordOf left) (wordOf right)) 3 (now (m .entry)) (now (m .exit)) ⌝ }
+    ensures { λ _. ⌜ Put to (tripleWord (wordOf lit) (wordOf left) (wordOf right)) 3 (now (m .entry)) (now (m .exit)) ⌝ }
 {
     let row = [lit.word() as u32, left.word() as u32, right.word() as u32];
     copy_words(&row, 3, m, to);

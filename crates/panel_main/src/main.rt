@@ -100,7 +100,7 @@ fn keep(b: u8, n: usize, buf: &mut [u8]) -> usize
 
 // Reads a request, a line of the input, into the front of buf, as much as has room, and passes over the rest of it. The loop counts its
 // turns down from a number that no run uses up, since nothing says that a line ends.
-fn read_request(buf: &mut [u8]) -> Received
+fn receive(buf: &mut [u8]) -> Received
     ensures { λ r. ⌜ Counts (r .count) (now (buf .exit)) ⌝ }
 {
     let mut n: usize = 0;
@@ -215,7 +215,7 @@ fn one_request(m: &mut [u32], work: &mut [u32], pins: &mut [u8], out: &mut [u8])
     requires { ⌜ (length (now m) ≡ 33032) × (length (now out) ≡ 1572928) ⌝ }
 {
     let mut request = [0u8; 4097];
-    let got = read_request(&mut request);
+    let got = receive(&mut request);
     if got.ended {
         return false;
     }

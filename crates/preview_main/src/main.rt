@@ -10,10 +10,7 @@ fn say_help() {
     say(
         b"the seven counts M I L O A B C, and in a line after it words and how many words of circuit memory its circuit needs.\n\n",
     );
-    say(b"A file that would not be accepted is refused with a number and its cause:\n");
-    help::say_refusals(1, 3);
-    help::say_refusals(5, 8);
-    help::say_refusals(15, 15);
+    help::say_file_refusals();
     say(b"With 5 to 8 and 15 the counts are known, and the words needed are printed too.\n");
     say(b"\nExample: ./yunverok preview crates/preview_main/data/s.aag\n");
 }

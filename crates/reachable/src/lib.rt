@@ -15,7 +15,7 @@ ghost use Rattle.layout.specs.Layout.{LayoutOf};
 ghost use Rattle.frames.specs.Lanes.{Ready};
 ghost use Rattle.enumeration.specs.Frame.{FreeBits};
 ghost use Rattle.machine.specs.Layers.{started};
-ghost use Rattle.states.specs.Table.{Fits, countOf, Within};
+ghost use Rattle.states.specs.Table.{Fits, countOf, TallyFits};
 ghost use Rattle.states.specs.Trace as trace;
 ghost use Rattle.influence.specs.Part.{Listed, Closed, partIn};
 ghost use Rattle.influence.specs.Cone.{partOf};
@@ -108,7 +108,7 @@ fn meet_starts(
         ((rows b : ℕ) → trace.Holds rows 0 0 quota 0 (now (records .entry)) (now (heads .entry)) []
         → trace.Holds rows 0 0 quota (countOf quota r) (now (records .exit)) (now (heads .exit))
         (started (machineOf (partIn (now (m .entry)) (now (kept .entry))) b) (2 ^ layout .u)))
-        × Within quota r
+        × TallyFits quota r
         ⌝ }
 {
     let count = power(layout.u);

@@ -18,8 +18,8 @@ answered Mixed = gives mixed
 answered (Refused n) = refused n
 
 -- the same question of a body whose `x` are counted
-abbrev pub counted : Instance → List ℕ → Instance
-counted w body =
+abbrev pub recounted : Instance → List ℕ → Instance
+recounted w body =
     record { layout = w .layout; q = record { bad = w .q .bad; frames = w .q .frames; eithers = eithers body } }
 
 -- r is the verdict on a body

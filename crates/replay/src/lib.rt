@@ -19,7 +19,7 @@ ghost use Rattle.completions.specs.Forms.{isSymbol, SameForm};
 ghost use Rattle.witness.specs.Line.{LineAt};
 ghost use Rattle.blocks.specs.Runs.{Posed};
 ghost use Rattle.pinned_runs.specs.Obeys.{PinnedReplayed};
-ghost use Rattle.replay.specs.Answer.{answered, counted, Judged, demotedAnswer, SettledJudged, JudgedUnder};
+ghost use Rattle.replay.specs.Answer.{answered, recounted, Judged, demotedAnswer, SettledJudged, JudgedUnder};
 ghost use Rattle.replay.specs.Texts.{CountsOf, Counted, FramesRead, WitnessRead, HeldRead};
 
 // What replay answers.
@@ -166,7 +166,8 @@ fn read_witness(layout: Layout, text: &[u8]) -> Reading
     Reading::Read(start, Instance { layout, q })
 }
 
-// Reads a witness of the circuit that m holds; order then begins with its gates in an order of evaluation.
+// Reads a witness of the circuit that m holds; order then begins with its gates, operands before gates, and is after them as it was. Where m
+// holds none the answer is 9, and order is all 0.
 pub fn read_held(m: &[u32], text: &[u8], order: &mut [u32]) -> Reading
     requires { ⌜ 3072 ≤ length (now order) ⌝ }
     ensures { λ r. ⌜ HeldRead (now (m .entry)) (now (text .entry)) (now (order .entry)) (now (order .exit)) r ⌝ }
@@ -223,7 +224,7 @@ fn demote(answer: ReplayAnswer) -> ReplayAnswer
 
 // Judges a body whose `x` are to be counted.
 fn judge_counted(m: &[u32], order: &[u32], w: Instance, body: &[u8]) -> ReplayAnswer
-    requires { ⌜ Posed (now m) (now order) (counted w (now body)) (now body) 4097 ⌝ }
+    requires { ⌜ Posed (now m) (now order) (recounted w (now body)) (now body) 4097 ⌝ }
     ensures { λ r. ⌜ Judged (circuitIn (now (m .entry))) (w .q .bad) (now (body .entry)) r ⌝ }
 {
     let layout = w.layout;

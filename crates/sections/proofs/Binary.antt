@@ -30,7 +30,7 @@ use Rattle.binary.proofs.Latches as latches
 use Rattle.binary.proofs.Differences as gates
 use Rattle.sections.specs.Sections.{headerAt, latchNumbers, lineNumbers, numbersWithin, BodyAt, PastKept}
 use Rattle.sections.specs.declared.Body.the-variants.{Read, Large}
-use Rattle.sections.specs.Spans.{Runs, Stops}
+use Rattle.sections.specs.Spans.{SpanRead, Stops}
 use Rattle.sections.proofs.Lines.{Begins, rows-short, within-flat, past, flat-ones}
 use Rattle.sections.proofs.Parts.{
   headerIn,
@@ -106,7 +106,7 @@ module _ (s : List ℕ) (at : ℕ) (p : Layout) (limit : ℕ) (w : List ℕ) (q 
     pub bad-lines : Stops s (slice 2 5 (table p)) a2 → sections true (headerAt w) (drop at s) ≡ refused 5
     bad-lines h = after-latches ∙ stopped h ends
 
-    module _ {w3 : List ℕ} {a3 : ℕ} {f3 : Bool} (r3 : Runs s limit a3 w3 f3 (slice 2 5 (table p)) a2 w2 true) where
+    module _ {w3 : List ℕ} {a3 : ℕ} {f3 : Bool} (r3 : SpanRead s limit a3 w3 f3 (slice 2 5 (table p)) a2 w2 true) where
       after-lines : sections true (headerAt w) (drop at s) ≡ ends (lines r3) (drop a3 s)
       after-lines = after-latches ∙ answered r3 ends
 

@@ -27,8 +27,8 @@ use Rattle.layout.specs.Table.{table, sectionAt, Chained}
 use Rattle.layout.proofs.Table.{chained}
 use Rattle.sections.specs.Sections.{headerAt, lineNumbers, numbersWithin, BodyAt, PastKept}
 use Rattle.sections.specs.declared.Body.the-variants.{Read, Large}
-use Rattle.sections.specs.Spans.{sectionEnd, Runs, Stops}
-use Rattle.sections.specs.Spans.Runs.{done, more}
+use Rattle.sections.specs.Spans.{sectionEnd, SpanRead, Stops}
+use Rattle.sections.specs.Spans.SpanRead.{done, more}
 use Rattle.sections.specs.Spans.Stops.{here, later}
 use Rattle.sections.proofs.Lines.{
   Begins,
@@ -156,30 +156,30 @@ pub section-end : (p : Layout) (k : ℕ) → k < 6 → Chained (table p) 7 (p .e
 section-end p k h c = chained-end (table p) 7 (p .end) c k _ h
 
 module _ {s : List ℕ} {limit n : ℕ} {w′ : List ℕ} {f′ : Bool} where
-  abbrev pub lines : {ts : List Section} {at : ℕ} {w : List ℕ} {f : Bool} → Runs s limit n w′ f′ ts at w f → Lines
+  abbrev pub lines : {ts : List Section} {at : ℕ} {w : List ℕ} {f : Bool} → SpanRead s limit n w′ f′ ts at w f → Lines
   lines done = []
   lines (more r q) = r .lines ∷ lines q
 
-  pub answered : {ts : List Section} {at : ℕ} {w : List ℕ} {f : Bool} (r : Runs s limit n w′ f′ ts at w f)
+  pub answered : {ts : List Section} {at : ℕ} {w : List ℕ} {f : Bool} (r : SpanRead s limit n w′ f′ ts at w f)
       (k : Lines → List ℕ → Answer Circuit) → answer ts k (drop at s) ≡ k (lines r) (drop n s)
   answered done k = refl
   answered (more r q) k = rw (r .meaning) (answered q (λ ls. k (r .lines ∷ ls)))
 
-  pub runs-inside : {ts : List Section} {at : ℕ} {w : List ℕ} {f : Bool} → Runs s limit n w′ f′ ts at w f → at ≤ length s → n ≤ length s
+  pub runs-inside : {ts : List Section} {at : ℕ} {w : List ℕ} {f : Bool} → SpanRead s limit n w′ f′ ts at w f → at ≤ length s → n ≤ length s
   runs-inside done h = h
   runs-inside (more r q) h = runs-inside q (r .inside)
 
-  pub counted : {ts : List Section} {at : ℕ} {w : List ℕ} {f : Bool} (r : Runs s limit n w′ f′ ts at w f) → Counted ts (lines r)
+  pub counted : {ts : List Section} {at : ℕ} {w : List ℕ} {f : Bool} (r : SpanRead s limit n w′ f′ ts at w f) → Counted ts (lines r)
   counted done = tt
   counted (more r q) = (lines-length r, counted q)
 
   -- what passes at the end passed before
-  passed : {ts : List Section} {at : ℕ} {w : List ℕ} {f : Bool} → Runs s limit n w′ f′ ts at w f → f′ ≡ true → f ≡ true
+  passed : {ts : List Section} {at : ℕ} {w : List ℕ} {f : Bool} → SpanRead s limit n w′ f′ ts at w f → f′ ≡ true → f ≡ true
   passed done e = e
   passed (more {f = f} {f₁ = f₁} r q) e = two f f₁ (passed q e) .0
 
   -- the test is that of the words
-  pub fits : {ts : List Section} {at : ℕ} {w : List ℕ} {f : Bool} (r : Runs s limit n w′ f′ ts at w f) (xs : List ℕ)
+  pub fits : {ts : List Section} {at : ℕ} {w : List ℕ} {f : Bool} (r : SpanRead s limit n w′ f′ ts at w f) (xs : List ℕ)
       → f ≡ within limit xs → f′ ≡ within limit (stacked xs ts (lines r))
   fits done xs e = e
   fits (more {t = t} r q) xs e =
@@ -187,7 +187,7 @@ module _ {s : List ℕ} {limit n : ℕ} {w′ : List ℕ} {f′ : Bool} where
       fits q (xs ++ ys) (ap₂ (λ (a b : Bool). a && b) e (run-fits r) ∙ sym (every-append (λ x. leb x limit) xs ys))
 
   -- each section's words stand after those before
-  pub begins : {ts : List Section} {at : ℕ} {w : List ℕ} {f : Bool} (r : Runs s limit n w′ f′ ts at w f) → f′ ≡ true
+  pub begins : {ts : List Section} {at : ℕ} {w : List ℕ} {f : Bool} (r : SpanRead s limit n w′ f′ ts at w f) → f′ ≡ true
       → {start end : ℕ} {xs : List ℕ} → Chained ts start end → Begins w start xs → Begins w′ end (stacked xs ts (lines r))
   begins done e c b = moved c b
   begins (more {t = t} {f = f} {f₁ = f₁} r q) e c b =
@@ -195,7 +195,7 @@ module _ {s : List ℕ} {limit n : ℕ} {w′ : List ℕ} {f′ : Bool} where
       (moved (ap (λ (k : ℕ). k + t .rows * t .most) (c .0)) (run-begins r (two f f₁ (passed q e) .1) (moved (sym (c .0)) b)))
 
   -- what stands past the last of them stays, and so does the number of words
-  pub past-all : {ts : List Section} {at : ℕ} {w : List ℕ} {f : Bool} → Runs s limit n w′ f′ ts at w f → f′ ≡ true
+  pub past-all : {ts : List Section} {at : ℕ} {w : List ℕ} {f : Bool} → SpanRead s limit n w′ f′ ts at w f → f′ ≡ true
       → (start end : ℕ) → Chained ts start end → (past : ℕ) → end ≤ past → past ≤ length w
       → (drop past w′ ≡ drop past w) × (length w′ ≡ length w)
   past-all done e start end c past h l = (refl, refl)
@@ -214,7 +214,7 @@ module _ (s : List ℕ) (at : ℕ) (p : Layout) (limit : ℕ) (w : List ℕ) (q 
   pub no-lines : Stops s (table p) at → sections false (headerAt w) (drop at s) ≡ refused 5
   no-lines h = same-body ∙ parse-answer (table p) (finish (p .m)) (drop at s) ∙ stopped h (λ ls g. read 5 (finish (p .m) ls g))
 
-  module _ {n : ℕ} {w′ : List ℕ} {f′ : Bool} (r : Runs s limit n w′ f′ (table p) at w true) where
+  module _ {n : ℕ} {w′ : List ℕ} {f′ : Bool} (r : SpanRead s limit n w′ f′ (table p) at w true) where
     whole : sections false (headerAt w) (drop at s) ≡ read 5 (finish (p .m) (lines r) (drop n s))
     whole = same-body ∙ parse-answer (table p) (finish (p .m)) (drop at s) ∙ answered r (λ ls g. read 5 (finish (p .m) ls g))
 

@@ -9,7 +9,7 @@ use lib.Seq.{slice, slice-cons, slice-empty}
 use Rattle.layout.specs.declared.Layout.{Layout}
 use Rattle.layout.specs.Table.{table, sectionAt}
 use Rattle.lines.specs.declared.Rows.the-variants.{Read, Malformed}
-use Rattle.sections.specs.Spans.{SectionAt, Runs, Stops}
+use Rattle.sections.specs.Spans.{SectionAt, SpanRead, Stops}
 
 -- the sections before section k are read: where those from it up to `end` stop all do, and where they are read all are
 pub record Reached (s : List ℕ) (at : ℕ) (p : Layout) (first end limit : ℕ) (w : List ℕ) (k next : ℕ) (fit : Bool) (w₁ : List ℕ)
@@ -17,8 +17,8 @@ pub record Reached (s : List ℕ) (at : ℕ) (p : Layout) (first end limit : ℕ
   pub inside : next ≤ length s
   pub size : length w₁ ≡ length w
   pub stops : Stops s (slice k end (table p)) next → Stops s (slice first end (table p)) at
-  pub runs : (n : ℕ) (w′ : List ℕ) (f′ : Bool) → Runs s limit n w′ f′ (slice k end (table p)) next w₁ fit
-      → Runs s limit n w′ f′ (slice first end (table p)) at w true
+  pub runs : (n : ℕ) (w′ : List ℕ) (f′ : Bool) → SpanRead s limit n w′ f′ (slice k end (table p)) next w₁ fit
+      → SpanRead s limit n w′ f′ (slice first end (table p)) at w true
 
 pub reached-none : (s : List ℕ) (at : ℕ) (p : Layout) (first end limit : ℕ) (w : List ℕ) → at ≤ length s
     → Reached s at p first end limit w first at true w
@@ -40,7 +40,7 @@ module _ {s : List ℕ} {at : ℕ} {p : Layout} {first end limit : ℕ} {w : Lis
             inside = q .inside;
             size = e ∙ r .size;
             stops = λ x. r .stops (rw others (Stops.later (q .lines) after (q .meaning) x));
-            runs = λ n w′ f′ y. r .runs n w′ f′ (rw others (Runs.more q y));
+            runs = λ n w′ f′ y. r .runs n w′ f′ (rw others (SpanRead.more q y));
           })
 
       -- it is malformed
@@ -48,5 +48,5 @@ module _ {s : List ℕ} {at : ℕ} {p : Layout} {first end limit : ℕ} {w : Lis
       reached-stops w₂ q = r .stops (rw others (Stops.here q))
 
     -- all sections are read
-    pub reached-all : k ≡ end → Runs s limit next w₁ fit (slice first end (table p)) at w true
-    reached-all e = r .runs next w₁ fit (rw (e, slice-empty end (table p)) Runs.done)
+    pub reached-all : k ≡ end → SpanRead s limit next w₁ fit (slice first end (table p)) at w true
+    reached-all e = r .runs next w₁ fit (rw (e, slice-empty end (table p)) SpanRead.done)

@@ -29,7 +29,7 @@ unfoldable pub lineNumbers : Bool → Circuit → List ℕ
 lineNumbers false c = drop 7 (content c)
 lineNumbers true c = latchNumbers (c .latches) ++ c .outputs ++ c .bads ++ c .constraints
 
--- Clauses 1.8 and 6.1: every number in the lines after the header is at most 2M + 1
+-- Clause 6.1: every number in the lines after the header is at most 2M + 1
 unfoldable pub numbersWithin : Bool → Circuit → Bool
 numbersWithin binary c = within (2 * c .maxVar + 1) (lineNumbers binary c)
 

@@ -20,12 +20,13 @@ abbrev pub SectionAt : List ℕ → ℕ → Section → ℕ → List ℕ → Lis
 SectionAt s at t limit w w₁ r = RowsAt s at (t .least) (t .most) (t .rows) limit w (t .at) w₁ r
 
 -- Clause 1.4: the lines of the sections are read one section after the other, from `at` on into w, where what stood before them passed the
--- test f: they end at n, and leave w′ and the test f′
-pub data Runs (s : List ℕ) (limit n : ℕ) (w′ : List ℕ) (f′ : Bool) : List Section → ℕ → List ℕ → Bool → Type 0 where
-  done : Runs s limit n w′ f′ [] n w′ f′
+-- test f: they end at n and pass the test f′, and where
+-- every number is within the limit they leave w′
+pub data SpanRead (s : List ℕ) (limit n : ℕ) (w′ : List ℕ) (f′ : Bool) : List Section → ℕ → List ℕ → Bool → Type 0 where
+  done : SpanRead s limit n w′ f′ [] n w′ f′
   more : {t : Section} {ts : List Section} {at : ℕ} {w : List ℕ} {f : Bool} {w₁ : List ℕ} {a₁ : ℕ} {f₁ : Bool}
-      → RowsRead s at (t .least) (t .most) (t .rows) limit w (t .at) w₁ a₁ f₁ → Runs s limit n w′ f′ ts a₁ w₁ (f && f₁)
-      → Runs s limit n w′ f′ (t ∷ ts) at w f
+      → RowsRead s at (t .least) (t .most) (t .rows) limit w (t .at) w₁ a₁ f₁ → SpanRead s limit n w′ f′ ts a₁ w₁ (f && f₁)
+      → SpanRead s limit n w′ f′ (t ∷ ts) at w f
 
 -- Clause 1.4: a section has a malformed line, and those before it are read
 pub data Stops (s : List ℕ) : List Section → ℕ → Type 0 where
@@ -35,5 +36,5 @@ pub data Stops (s : List ℕ) : List Section → ℕ → Type 0 where
 
 -- the lines of the sections ts stand from `at` on, or one is malformed
 abbrev pub SpanAt : List ℕ → ℕ → List Section → ℕ → List ℕ → List ℕ → Rows → Type 0
-SpanAt s at ts limit w w₁ (Read next fits) = Runs s limit next w₁ fits ts at w true
+SpanAt s at ts limit w w₁ (Read next fits) = SpanRead s limit next w₁ fits ts at w true
 SpanAt s at ts limit w w₁ Malformed = Stops s ts at

@@ -41,9 +41,9 @@ countOf quota (Records n) = n
 countOf quota TooMany = quota + 1
 
 -- there are quota records at most
-abbrev pub Within : ℕ → Tally → Type 0
-Within quota (Records n) = n ≤ quota
-Within quota TooMany = Unit {0}
+abbrev pub TallyFits : ℕ → Tally → Type 0
+TallyFits quota (Records n) = n ≤ quota
+TallyFits quota TooMany = Unit {0}
 
 -- the table has room for quota records, and holds count of them if these are not more than quota
 pub record Fits (quota count : ℕ) (records heads : List ℕ) : Type 0 where

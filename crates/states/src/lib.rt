@@ -5,7 +5,7 @@ ghost use mathlib.Core.List.{List};
 ghost use Prim.Native.Nat.{_+_, _*_, _≤_, _<_};
 ghost use lib.ListN.{length, getD, set};
 ghost use Rattle.machine.specs.Layers.{Entry, met};
-ghost use Rattle.states.specs.Table.{bucketOf, Stored, written, Fits, Meets, countOf, Within};
+ghost use Rattle.states.specs.Table.{bucketOf, Stored, written, Fits, Meets, countOf, TallyFits};
 
 // How many states were met: as many as there are records, or more than there may be.
 pub enum Tally {
@@ -64,11 +64,11 @@ pub fn meet(
     parent: u32,
     row: u32,
 ) -> Tally
-    requires { ⌜ Fits quota (countOf quota tally) (now records) (now heads) × Within quota tally ⌝ }
+    requires { ⌜ Fits quota (countOf quota tally) (now records) (now heads) × TallyFits quota tally ⌝ }
     ensures { λ r. ⌜
         Meets quota (countOf quota tally) s parent row (now (records .entry)) (now (heads .entry)) (countOf quota r) (now (records .exit))
         (now (heads .exit))
-        × Within quota r
+        × TallyFits quota r
         ⌝ }
 {
     let Tally::Records(count) = tally else {

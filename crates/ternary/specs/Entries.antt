@@ -24,7 +24,7 @@ put v x can = set (set can (2 * v) (x .high)) (2 * v + 1) (x .low)
 abbrev pub conjunction : May → May → May
 conjunction x y = record { high = cond (eqb (x .high) 1) (y .high) 0; low = cond (eqb (x .low) 1) 1 (y .low) }
 
--- what stands for a byte of a witness may be: `0` and `1` themselves only
+-- what the bit in place of a byte of a witness may be: for `0` and `1` that bit only, else either
 abbrev pub ofByte : ℕ → May
 ofByte byte = record { high = cond (eqb byte 48) 0 1; low = cond (eqb byte 49) 0 1 }
 
@@ -70,6 +70,7 @@ entriesAt n c order body (suc t) =
 abbrev pub sure : List ℕ → ℕ → Bool
 sure can l = eqb (mayOf can (literal l) .low) 0
 
+-- every constraint is
 abbrev pub sureBelow : Circuit → List ℕ → Bool
 sureBelow c can = everyBelow (length (c .constraints)) (λ k. sure can (getD (c .constraints) k 0))
 

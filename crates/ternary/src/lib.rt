@@ -108,7 +108,7 @@ fn conjunction(x: May, y: May) -> May
     }
 }
 
-// What stands for a byte of a witness may be.
+// What the bit in place of a byte of a witness may be.
 fn from_byte(byte: u8) -> May
     ensures { λ r. ⌜ r ≡ ofByte byte ⌝ }
 {
@@ -386,8 +386,8 @@ fn simulate(
     surely_bad(m, layout, order, q.bad, can)
 }
 
-// Whether a three-valued pass over a body shows that every completion hits. Where it does, every one does; where it does not, they may all
-// the same.
+// Whether a three-valued pass over a body shows that every completion hits. Where it does, every one does; where it does not, every
+// completion may still hit.
 pub fn every_completion(m: &[u32], layout: Layout, order: &[u32], q: Question, body: &[u8]) -> bool
     requires { ⌜
         Ready (now m) layout (now order) 4097 × (q .bad < word (now m) 5)

@@ -204,7 +204,7 @@ fn put_state(m: &[u32], layout: Layout, state: &[u32], map: &mut [u32])
 }
 
 // Gives latches and inputs their edges in the next frame, whose first input has free bit `first`. The next literals' edges are all read
-// before the first is written.
+// before the first is written. What state holds afterwards is left open.
 fn put_leaves(m: &[u32], layout: Layout, first: usize, state: &mut [u32], map: &mut [u32])
     requires { ⌜ Prepared (now m) layout (length (now map)) ⌝ }
     requires { ⌜ (first + layout .i ≤ 65536) × (1024 ≤ length (now state)) ⌝ }

@@ -5,7 +5,7 @@ use files::say_front;
 fn say_help() {
     say(b"widen FILE WITNESS\n\n");
     say(
-        b"Loads the ASCII AIGER 1.9 file FILE, reads the witness WITNESS as replay does, and prints it with x in place of the\n",
+        b"Loads the AIGER 1.9 file FILE, reads the witness WITNESS as replay does, and prints it with x in place of the\n",
     );
     say(
         b"bits that may be either: from the last bit to the first, wherever every completion is still a hit, until the text\n",

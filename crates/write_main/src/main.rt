@@ -14,10 +14,7 @@ fn say_help() {
     say(
         b"latches, then gates, each time the earliest listed gate whose operands have numbers.\n\n",
     );
-    say(b"A file that is not accepted is refused with a number and its cause:\n");
-    help::say_refusals(1, 3);
-    help::say_refusals(5, 8);
-    help::say_refusals(15, 15);
+    help::say_file_refusals();
     say(b"\nExample: ./yunverok write crates/write_main/data/s.aag\n");
 }
 

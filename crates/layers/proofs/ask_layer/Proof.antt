@@ -13,7 +13,7 @@ use Rattle.machine.specs.Layers.{Entry}
 use Rattle.machine.proofs.Expand.{quotient-below}
 use Rattle.states.specs.Trace.{Holds}
 use Rattle.states.specs.declared.Tally.{Tally}
-use Rattle.states.specs.Table.{countOf, Within}
+use Rattle.states.specs.Table.{countOf, TallyFits}
 use Rattle.layers.specs.Rows.{FirstRow, BlockMet}
 use Rattle.layers.specs.Asked.{AskedOf}
 use Rattle.layers.specs.declared.Asked.the-variants.{Hit}
@@ -26,7 +26,7 @@ abbrev Inv-loop : tie.InvT-loop
 Inv-loop m order records₀ heads₀ values₀ kept layout b lo hi quota words n total met₀ q₀ records heads values met q =
     (q ≤ total) × (length records ≡ length records₀) × (length heads ≡ length heads₀) × (length values ≡ length values₀)
     × Asking (partIn m kept) b lo hi quota records₀ heads₀ q (countOf quota met) records heads
-    × Within quota met
+    × TallyFits quota met
 
 abbrev μ-loop : tie.MeasureT-loop
 μ-loop m order records₀ heads₀ values₀ kept layout b lo hi quota words n total met₀ q₀ records heads values met q = total - q

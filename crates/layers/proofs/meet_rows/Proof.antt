@@ -9,7 +9,7 @@ use native.Mathlib.Omega.{arith}
 use lib.ListN.{length, getD}
 use Rattle.aiger.specs.Bits.{bit}
 use Rattle.transitions.specs.Transitions.{numberOf}
-use Rattle.states.specs.Table.{countOf, Within}
+use Rattle.states.specs.Table.{countOf, TallyFits}
 use Rattle.layers.specs.Rows.{leading, RowsMet}
 use Rattle.layers.proofs.Rows.{Treated, treated-none, treated-more}
 use borrow.Author.Needs.{needs}
@@ -25,7 +25,7 @@ Inv-loop state span records₀ heads₀ n pending₀ p₀ records heads pending 
     × Treated (pending₀ .left) (numbers state) (span .quota) (countOf (span .quota) (pending₀ .met)) (span .e) (span .first) p records₀
     heads₀
     (countOf (span .quota) (pending .met)) (pending .left) records heads
-    × Within (span .quota) (pending .met)
+    × TallyFits (span .quota) (pending .met)
 
 abbrev μ-loop : tie.MeasureT-loop
 μ-loop state span records₀ heads₀ n pending₀ p₀ records heads pending p = n - p

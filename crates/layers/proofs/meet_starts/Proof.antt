@@ -4,7 +4,7 @@ use Prim.Native.Nat.{ℕ, _+_, _-_, _≤_, _<_}
 use native.Mathlib.Omega.{arith}
 use lib.ListN.{length}
 use Rattle.states.specs.declared.Tally.{Tally}
-use Rattle.states.specs.Table.{countOf, Within}
+use Rattle.states.specs.Table.{countOf, TallyFits}
 use Rattle.influence.specs.Part.{partIn}
 use Rattle.layers.proofs.Begin.{Beginning, beginning-start, beginning-more, beginning-lost}
 use borrow.Author.Needs.{needs}
@@ -15,7 +15,7 @@ abbrev Inv-loop : tie.InvT-loop
 Inv-loop m layout records₀ heads₀ kept state₀ count quota met₀ y₀ records heads state met y =
     (y ≤ count) × (length records ≡ length records₀) × (length heads ≡ length heads₀) × (length state ≡ length state₀)
     × Beginning (partIn m kept) quota records₀ heads₀ y (countOf quota met) records heads
-    × Within quota met
+    × TallyFits quota met
 
 abbrev μ-loop : tie.MeasureT-loop
 μ-loop m layout records₀ heads₀ kept state₀ count quota met₀ y₀ records heads state met y = count - y

@@ -10,7 +10,7 @@ use Rattle.frames.proofs.Places.{inputs-are}
 use Rattle.frames.proofs.Facts.{ready-with}
 use Rattle.machine.specs.Layers.{started}
 use Rattle.states.specs.declared.Tally.{Tally}
-use Rattle.states.specs.Table.{countOf, Within}
+use Rattle.states.specs.Table.{countOf, TallyFits}
 use Rattle.states.specs.Trace.{Holds}
 use Rattle.states.proofs.Laws.{holds-none, holds-fits}
 use Rattle.transitions.specs.Transitions.{machineOf}
@@ -177,7 +177,7 @@ loop-holds c =
     let q = f .quota .result in
     let s = c .before .before .before .before .before .before .before .meet-starts in
     let told = c .before .starts .given .1 in
-    let few-starts : c .before .starts .given .0 .0 ≤ q = subst (Within q) told (s .ensures .1) in (
+    let few-starts : c .before .starts .given .0 .0 ≤ q = subst (TallyFits q) told (s .ensures .1) in (
       omega arith,
       omega arith,
       omega (arith, few-starts, f .quota .ensures),

@@ -6,7 +6,7 @@ use native.Mathlib.Omega.{arith}
 use lib.ListN.{length, getD, set, length-set}
 use Rattle.states.specs.declared.Tally.{Tally}
 use Rattle.states.specs.declared.Tally.the-variants.{Records, TooMany}
-use Rattle.states.specs.Table.{bucketOf, written, Fits, Meets, countOf, Within}
+use Rattle.states.specs.Table.{bucketOf, written, Fits, Meets, countOf, TallyFits}
 use borrow.Author.Needs.{needs}
 use Rattle.states.proofs.meet.Statement.{statement}
 use Rattle.states.proofs.meet.Tie as tie
@@ -38,7 +38,7 @@ module _ (c : tie.After-tally) where
       known-tally (start .pre .0)
 
   within : count ≤ start .args .quota
-  within = subst (Within (start .args .quota)) known-tally (start .pre .1)
+  within = subst (TallyFits (start .args .quota)) known-tally (start .pre .1)
 
   met : {n : ℕ} {r hd : List ℕ}
       → Meets (start .args .quota) count (start .args .s) (start .args .parent) (start .args .row) (start .args .records .now)
