@@ -29,7 +29,7 @@ first-places-requires : tie.Need-first-places-requires
 first-places-requires c κs =
     let s = c .before .before .before in
     let f = limited (s .pre .ready .held) (s .pre .ready .layout-of) in
-    (f .inputs, f .starts, s .pre .last)
+    (f .inputs, omega (arith, f .starts, f .latches), s .pre .last)
 
 first-hit-requires : tie.Need-first-hit-requires
 first-hit-requires c κs =
