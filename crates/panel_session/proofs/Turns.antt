@@ -127,10 +127,10 @@ module _ {first second first₀ second₀ : List ℕ} {c d : Circuit} (h : Holds
 
 module _ {m w p line out : List ℕ} {r : Report} {line′ out′ : List ℕ} where
   -- a call, by its step and by what is printed of its reply
-  called : {call : History.Call} {reply : History.Reply} {s′ : History.State}
+  called : {call : History.Call} {reply : History.Returned} {s′ : History.State}
       → History.Step (record { memory = m; work = w; pins = p }) call reply s′
-      → Fronts (told (circuitIn m) (badOf call) reply .line) line (r .line) line′
-      → Fronts (told (circuitIn m) (badOf call) reply .out) out (r .out) out′
+      → Fronts (replyTo (circuitIn m) (badOf call) reply .line) line (r .line) line′
+      → Fronts (replyTo (circuitIn m) (badOf call) reply .out) out (r .out) out′
       → Taken (length out) (Action.calls call) (record { memory = m; work = w; pins = p }) line out r s′ line′ out′
   called y f g = record { reply = _; loaded = _; turn = λ u i e. Turn.calls e y; line-is = f; out-is = g }
 
