@@ -4,4 +4,5 @@ pub mod View
 pub mod Stores
 pub mod Sound
 pub mod Follow
-pub mod Begin
+pub mod Flips
+pub mod Beginning

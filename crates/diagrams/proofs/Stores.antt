@@ -261,3 +261,13 @@ module _ (w : List ℕ) (f g h i at : ℕ) (ei : i ≡ bucketOf (length w / 16) 
             ∙ ap (λ (c : List ℕ). set c (4 * i + 2) h)
             (cache-set one (4 * i + 1) (at + 1) g (omega arith) (omega arith)
             ∙ ap (λ (c : List ℕ). set c (4 * i + 1) g) (cache-set w (4 * i) at f (omega arith) (omega arith))))
+
+-- ---- the same by the lists that calls leave
+
+pub added-by : (w : List ℕ) (k h v lo hi next at : ℕ) (u x : List ℕ) (i : ℕ) → k ≡ getD w 0 0 → k < roomOf (length w)
+    → next ≡ getD (stateOf w .heads) h 0 → at ≡ wordOf (length w) k → i ≡ length w - length w / 16 + h
+    → u ≡ set (fourSet w at lo hi v next) i k → x ≡ set u 0 (k + 1) → stateOf x ≡ added (stateOf w) h v lo hi
+added-by w k h v lo hi next at u x i ek less en ea ei eu ex =
+    ap stateOf
+    (ex ∙ ap (λ (l : List ℕ). set l 0 (k + 1)) (eu ∙ ap (λ (j : ℕ). set (fourSet w at lo hi v next) j k) ei))
+    ∙ added-left w k h v lo hi next at ek less en ea

@@ -151,11 +151,12 @@ fn add(w: &mut [u32], h: usize, v: u32, lo: u32, hi: u32)
     let k = get(w, 0);
     let next = head(w, h);
     let at = 4 * (w.len() / 16 + (k as usize)) + 4;
+    let first = w.len() - w.len() / 16 + h;
     w[at] = lo;
     w[at + 1] = hi;
     w[at + 2] = v;
     w[at + 3] = next;
-    put(w, w.len() - w.len() / 16 + h, k);
+    put(w, first, k);
     put(w, 0, k + 1);
 }
 
@@ -263,8 +264,9 @@ fn clear(w: &mut [u32])
 pub fn begin(w: &mut [u32], looks: u32)
     ensures { λ _. ⌜ now (w .exit) ≡ S.begun (length (now (w .entry))) looks ⌝ }
 {
+    let var = 4 * (w.len() / 16) + 6;
     clear(w);
     put(w, 0, 1);
     put(w, 1, looks);
-    put(w, 4 * (w.len() / 16) + 6, 4294967295);
+    put(w, var, 4294967295);
 }
