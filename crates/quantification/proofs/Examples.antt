@@ -20,5 +20,6 @@ from level c =
 
 -- no variable, the later variable, both variables
 examples : (from 2 0 ≡ some 6) × (from 1 0 ≡ some 2) × (from 0 0 ≡ some 1) × (from 2 1 ≡ some 7) × (from 1 1 ≡ some 1)
-unfolding start bucketOf flip edgeTo isNode found isAbove added appended foundOrAppended made paid isPaid entryAt entryOf lookedUp stored keeping remembered finished orPlain fromHalves turn existsWithin exists
+unfolding start bucketOf flip edgeTo isNode found isAbove added appended foundOrAppended made paid isPaid entryAt entryOf lookedUp
+    stored keeping remembered finished orPlain fromHalves turn existsWithin exists
 examples = (refl, refl, refl, refl, refl)
