@@ -93,26 +93,67 @@ def drawn(seed):
     return "".join(" ".join(map(str, row)) + "\n" for row in rows)
 
 
+def listed(folder):
+    """Name, text and bound of each circuit that the table of a folder's README lists."""
+    if not os.path.isdir(folder):
+        return
+    table = open(os.path.join(folder, "README.md"), encoding="utf-8").read()
+    for name, k in re.findall(r"^\| (\w+) \| (\d+) \|", table, flags=re.M):
+        if os.path.exists(os.path.join(folder, name + ".aag")):
+            yield name, one_bad_line(open(os.path.join(folder, name + ".aag"), encoding="ascii").read(), 0), int(k)
+
+
+def shifted(bits):
+    """A shift register of so many bits behind an input, a counter of samples modulo 16, and a bad line: all bits 1 where the counter is 15."""
+    first = 2 + bits + 4
+    gates, top = [], first - 1
+
+    def gate(x, y):
+        nonlocal top
+        top += 1
+        gates.append([2 * top, x, y])
+        return 2 * top
+
+    count = [2 * (2 + bits + j) for j in range(4)]
+    carry, nexts = 1, []
+    for c in count:
+        both = gate(c, carry) if carry != 1 else c
+        nexts.append(gate(gate(c, carry) ^ 1, gate(c ^ 1, carry ^ 1) ^ 1) if carry != 1 else c ^ 1)
+        carry = both
+    latches = [[2 * (2 + j), 2 if j == 0 else 2 * (1 + j)] for j in range(bits)] + [[c, n] for c, n in zip(count, nexts)]
+    all_set = carry
+    for j in range(bits):
+        all_set = gate(all_set, 2 * (2 + j))
+    rows = [["aag", top, 1, bits + 4, 0, len(gates), 1], [2]] + latches + [[all_set]] + gates
+    return "".join(" ".join(map(str, row)) + "\n" for row in rows)
+
+
 def queries(machines):
-    """Name, text with one bad line, bound, and the answer that the file itself gives, where it gives one."""
-    if os.path.isdir(SHARED):
-        table = open(os.path.join(SHARED, "README.md"), encoding="utf-8").read()
-        for name, k in re.findall(r"^\| (\w+) \| (\d+) \|", table, flags=re.M):
-            if os.path.exists(os.path.join(SHARED, name + ".aag")):
-                yield name, one_bad_line(open(os.path.join(SHARED, name + ".aag"), encoding="ascii").read(), 0), int(k), None
+    """Family, name, text with one bad line, bound, and the answer that the file itself gives, where it gives one."""
+    triggers = list(listed(os.path.join(SHARED, "triggers")))
+    for name, text, k in triggers:
+        yield "triggers", name, text, k, None
+    for name, text, k in listed(SHARED):
+        yield "circuits", name, text, k, None
     for name in sorted(os.listdir(EXAMPLES)):
         if name.endswith(".search"):
             head, text = open(os.path.join(EXAMPLES, name), encoding="ascii").read().split("\n", 1)
             _, b, k, _ = head.split()
             if not parse(text)[0][6]:
-                yield name[:-7], one_bad_line(text, int(b)), int(k), None
+                yield "examples", name[:-7], one_bad_line(text, int(b)), int(k), None
     for name in sorted(os.listdir(EXAMPLES)):
         if name.endswith(".aag"):
             text = open(os.path.join(EXAMPLES, name), encoding="ascii").read()
             for b, k, answer in re.findall(r"^Ask: search \S+ (\d+) (\d+) \d+\nAnswer: (\w+ \d+)", text, flags=re.M):
-                yield f"{name[:-4]} {b}", one_bad_line(text, int(b)), int(k), answer
+                yield "examples", f"{name[:-4]} {b}", one_bad_line(text, int(b)), int(k), answer
     for seed in range(1, machines + 1):
-        yield f"drawn {seed}", drawn(seed), 20, None
+        yield "drawn machines", f"drawn {seed}", drawn(seed), 20, None
+    for name, text, _ in triggers:
+        if name.split("_")[0] in ("t01", "t08", "t31"):
+            for k in (16, 32, 64, 128, 192, 255):
+                yield "growth with the bound", f"{name} {k}", text, k, None
+    for bits in (4, 8, 12, 16, 20, 24, 28, 32):
+        yield "growth with width", f"shifted {bits}", shifted(bits), 64, None
 
 
 # Tools: the answer, wall time of the process, time of the work alone where the tool tells it, both in milliseconds, peak memory in MB
@@ -163,24 +204,45 @@ def mean(ratios):
     return math.exp(sum(map(math.log, ratios)) / len(ratios)) if ratios else None
 
 
+def taken(result, at, limit):
+    """The time of an answer, whole process (1) or work (2); a tool that was stopped, and a search that is spent, counts the limit."""
+    return result[at] if result[0].split()[0] in ("found", "none") and result[at] is not None else 1000.0 * limit
+
+
+def means(rows):
+    """For each family: how many were asked and answered by each, and how many times longer the others take."""
+    lines = ["| family | asked | answered | by bmc3 | by CaDiCaL | bmc3 / ours | CaDiCaL / ours | CaDiCaL / ours, work |", "|---|---|---|---|---|---|---|---|"]
+    for family in dict.fromkeys(row[0] for row in rows):
+        own = [row[1:] for row in rows if row[0] == family]
+        counts = [sum(row[i][0].split()[0] in ("found", "none") for row in own) for i in range(3)]
+        ratio = lambda other, at: shown(mean([row[3 + other][at] / row[3][at] for row in own]))
+        lines.append(f"| {family} | {len(own)} | {counts[0]} | {counts[1]} | {counts[2]} | {ratio(1, 0)} | {ratio(2, 0)} | {ratio(2, 1)} |")
+    return lines
+
+
 def main():
     args = argparse.ArgumentParser()
     args.add_argument("--machines", type=int, default=8, help="how many random machines are drawn")
     args.add_argument("--runs", type=int, default=5, help="runs of which the median is taken, where one takes less than a second")
     args.add_argument("--limit", type=int, default=30, help="seconds for a query")
+    args.add_argument("--family", default="", help="ask only the families whose name has this word")
     args.add_argument("--write", action="store_true", help="put the table into docs/COST.md")
     args = args.parse_args()
     load = os.getloadavg()[0]
     start = statistics.median(run(["berkeley-abc", "-c", "quit"], 30)[1] for _ in range(5))
     out = ["| query | k | this search | ms | work ms | MB | bmc3 | ms | MB | CaDiCaL | ms | work ms | MB | bmc3 / ours | CaDiCaL / ours, work |",
            "|---|---|---|---|---|---|---|---|---|---|---|---|---|---|---|"]
-    ratios, work_ratios, answered, asked, differ = [], [], 0, 0, []
-    for name, text, k, given in queries(args.machines):
+    ratios, work_ratios, answered, asked, differ, rows = [], [], 0, 0, [], []
+    for family, name, text, k, given in queries(args.machines):
+        if args.family and args.family not in family:
+            continue
         open(os.path.join(WORK, "query.aag"), "w", encoding="ascii").write(text)
         open(os.path.join(WORK, "query.aig"), "wb").write(binary(text))
         ours = repeated(lambda: told(["./ask", "query.aag", "0", str(k), str(BUDGET)], args.limit), args.runs)
         abc = repeated(lambda: bmc3(k, args.limit), args.runs)
         sat = repeated(lambda: told(["./incremental", "query.aag", str(k)], args.limit), args.runs)
+        times = [(taken(r, 1, args.limit), taken(r, 2, args.limit)) for r in (ours, abc, sat)]
+        rows.append((family, ours, abc, sat, *times))
         decided = ours[0].split()[0] in ("found", "none")
         asked += 1
         answered += decided
@@ -201,7 +263,8 @@ def main():
             f"at most {args.limit} s a query; the median of {args.runs} runs where one takes less than a second.",
             f"ms is the wall time of the whole process, of which ABC's start alone takes {start:.0f} ms; work ms is load and search, or reading, unrolling and solving,"
             " without the start of the process. MB is the peak of the process.", ""]
-    tail = ["", f"Answered (found or none): {answered} of {asked}. Geometric mean over the answered: bmc3 takes {shown(mean(ratios)) or '-'} times the time of this search"
+    tail = ["", *means(rows), "", "In the table of families a tool that was stopped, and a search that is spent, counts the whole limit. bmc3's work alone is not told, so its time is that of the process.",
+            "", f"Answered (found or none): {answered} of {asked}. Geometric mean over the answered: bmc3 takes {shown(mean(ratios)) or '-'} times the time of this search"
             f" (whole processes), CaDiCaL {shown(mean(work_ratios)) or '-'} times (work alone). Answers that differ: {', '.join(differ) or 'none'}."]
     print("\n".join(head + tail))
     if args.write:
