@@ -10,10 +10,9 @@ use Rattle.aiger.specs.Search.{Outcome}
 use Rattle.aiger.specs.Operations.{judge, searchTests}
 use Rattle.search.specs.Chosen.{chosen}
 use Rattle.job.specs.Replies.{shownLength}
-use Rattle.job.proofs.Replying.{Judged}
+use Rattle.job.proofs.Replying.{Judged, shows}
 use Rattle.replies.specs.Reply.{Fronts, Leaves}
 use Rattle.replies.proofs.Putting.{refused-leaves}
-use Rattle.search_command.proofs.Searching.{shows}
 use Rattle.compare_command.specs.declared.Said.{Said}
 use Rattle.compare_command.specs.Texts.{saidWords, isRefused, pairAnswer, pairReply, PairSaid}
 

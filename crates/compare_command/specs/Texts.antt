@@ -11,7 +11,7 @@ use Rattle.aiger.specs.Operations.{judge, searchTests}
 use Rattle.search.specs.Chosen.{chosen}
 use Rattle.replies.specs.Refusal.{refusalText}
 use Rattle.replies.specs.Reply.{Reply, replyOf, Leaves}
-use Rattle.search_command.specs.Texts.{witnessOf}
+use Rattle.job.specs.Replies.{witnessOf}
 use Rattle.compare_command.specs.declared.Said.{Said}
 
 -- a line that begins with the number of the output

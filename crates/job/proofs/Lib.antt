@@ -1,5 +1,5 @@
 pub mod Requests
-pub mod Lines
 pub mod Replying
 pub mod Printing
+pub mod Running
 pub mod Theorems

@@ -1,25 +1,25 @@
--- From the parts of the work to what may be printed. Assumes nothing.
-use mathlib.Core.Path.{_≡_, sym, subst}
-use mathlib.Core.List.{List, _++_}
-use mathlib.Core.Option.{none, some}
-use Prim.Native.Nat.{ℕ, _-_, _≤_, _<_}
+-- What load leaves, and that what a job answers may be printed. Assumes nothing.
+use mathlib.Core.Path.{_≡_, refl, sym, subst}
+use mathlib.Core.Bool.{Bool, true, false}
+use mathlib.Core.List.{List, _++_, append-nil}
+use mathlib.Core.Option.{Option, none, some}
+use Prim.Native.Nat.{ℕ, _≤_}
 use native.Mathlib.Omega.{arith}
-use lib.ListN.{length, take, drop, length-drop}
-use lib.Seq.{take-all}
+use borrow.Author.Tests.{leb-true, leb-false}
+use lib.Dec.{leb}
+use lib.ListN.{length}
 use Rattle.aiger.specs.Circuit.{Circuit}
-use Rattle.aiger.specs.Load.{Answer, refused, gives, load}
+use Rattle.aiger.specs.Load.{Answer, refused, gives, test, read, load, _>>=_, _>>_}
+use Rattle.aiger.specs.Search.{Outcome}
 use Rattle.aiger.specs.Memory.{Holds}
-use Rattle.aiger.specs.Operations.{Loaded}
-use Rattle.aiger.specs.Program.{request, refusalLine, Prints}
+use Rattle.aiger.specs.Operations.{Loaded, judge, searchTests}
+use Rattle.aiger.specs.Program.{Request, request, report, refusalLine, Prints}
 use Rattle.layout.specs.Words.{circuitIn}
 use Rattle.roundtrip.proofs.Holding.{held, loaded-holds}
-use Rattle.job.specs.declared.Query.{Query}
-use Rattle.job.specs.declared.Report.{Report}
-use Rattle.job.specs.Query.{requestOf}
 use Rattle.search.specs.Chosen.{chosen}
-use Rattle.job.specs.Replies.{Refuses, Printed, Replies}
-use Rattle.job.proofs.Replying.{alone}
-pub use Rattle.roundtrip.proofs.Lists.{take-rest as whole-rest}
+use Rattle.search.proofs.Theorems.{always-permitted}
+use Rattle.job.specs.Replies.{outcomeWords}
+use Rattle.job.specs.Job.{requested, searched, requestAnswer, jobAnswer, Result, replyTo}
 
 -- an answer of load, taken apart
 pub not-loaded : {m f m′ : List ℕ} {a : Answer (List ℕ)} {n : ℕ} → Loaded m f a m′ → a ≡ refused n → load (length m) f ≡ refused n
@@ -39,31 +39,50 @@ stored {m} {f} (Loaded.stores c e) q = record { circuit = c; accepted = e; holds
 pub stored-in : {m f m′ : List ℕ} → Stored m f m′ → Holds m′ (circuitIn m′)
 stored-in {m′ = m′} s = subst (Holds m′) (sym (held (s .holds))) (s .holds)
 
+-- what is printed for an answer, by the cases in which it comes
 module _ (input : List ℕ) where
-  refused-text : {line : List ℕ} (out : List ℕ) {n : ℕ} {r : Report} → Refuses line n r → Prints chosen input (refusalLine n)
-      → Prints chosen input (take (r .line) line ++ take (r .witness) out)
-  refused-text out f p = rw (alone out (f .line-is) (f .no-witness)) p
+  abbrev Printed : Answer Result → Type 0
+  Printed a = Prints chosen input (replyTo a .line ++ replyTo a .out)
 
-  pub too-long : 65536 < length input → {line : List ℕ} (out : List ℕ) {r : Report} → Refuses line 1 r
-      → Prints chosen input (take (r .line) line ++ take (r .witness) out)
-  too-long h out f = refused-text out f (Prints.tooLong h)
+  refusal : (n : ℕ) → Prints chosen input (refusalLine n) → Printed (refused n)
+  refusal n p = rw (append-nil (refusalLine n)) p
 
-  module _ (h : length input ≤ 65536) where
-    pub no-request : request input ≡ none → {line : List ℕ} (out : List ℕ) {r : Report} → Refuses line 11 r
-        → Prints chosen input (take (r .line) line ++ take (r .witness) out)
-    no-request e out f = refused-text out f (Prints.noRequest h e)
+  module _ (h : length input ≤ 65536) (q : Request) (e : request input ≡ some q) where
+    reported : (c : Circuit) (o : Outcome) → Prints chosen input (report c (q .b) o)
+        → Printed (gives (record { circuit = c; b = q .b; outcome = o }))
+    unfolding report
+    reported c (Outcome.found t) p = p
+    reported c (Outcome.none k) p = rw (append-nil (outcomeWords (Outcome.none k))) p
+    reported c (Outcome.spent t) p = rw (append-nil (outcomeWords (Outcome.spent t))) p
 
-    module _ (q : Query) (e : request input ≡ some (requestOf input q)) (m : List ℕ) (room : length m ≡ 8192) where
-      pub refused-load : {n : ℕ} → load (length m) (drop (q .file) input) ≡ refused n → {line : List ℕ} (out : List ℕ) {r : Report} → Refuses line n r
-          → Prints chosen input (take (r .line) line ++ take (r .witness) out)
-      refused-load l out f = refused-text out f (Prints.notLoaded h (requestOf input q) e (rw room at l))
+    by-tests : (c : Circuit) → load 8192 (q .file) ≡ gives c → Printed (searched c (q .b) (q .k) (q .D) 8192 2048)
+    unfolding searched
+    by-tests c l = go (judge (searchTests c (q .b) (q .k) (q .D) 8192 2048)) refl
+      where
+        o : Outcome
+        o = chosen c (q .b) (q .k) (q .D)
 
-      prints : {c : Circuit} → load 8192 (drop (q .file) input) ≡ gives c → {text : List ℕ} → Printed c q 8192 2048 text → Prints chosen input text
-      prints {c} l (Printed.refuses t) = Prints.notSearched h (requestOf input q) e c l t
-      prints {c} l (Printed.answers t o i p) = Prints.answers h (requestOf input q) e c l t o i p
+        go : (a : Answer (Unit {0})) → judge (searchTests c (q .b) (q .k) (q .D) 8192 2048) ≡ a
+            → Printed (a >> gives (record { circuit = c; b = q .b; outcome = o }))
+        go (refused n) t = refusal n (Prints.notSearched h q e c l t)
+        go (gives u) t = reported c o (Prints.answers h q e c l t o refl (always-permitted c (q .b) (q .k) (q .D)))
 
-      pub replied : {m′ : List ℕ} → Stored m (drop (q .file) input) m′ → {w o : ℕ} → w ≡ 8192 → o ≡ 2048 → {line out : List ℕ} {r : Report}
-          → Replies (circuitIn m′) q w o line out r → Prints chosen input (take (r .line) line ++ take (r .witness) out)
-      replied s a b {line} {out} {r} t =
-          prints (rw room at (s .accepted))
-          (subst (λ (x : Circuit). Printed x q 8192 2048 (take (r .line) line ++ take (r .witness) out)) (held (s .holds)) (rw (a, b) at (t .text)))
+    by-load : Printed (requestAnswer q)
+    by-load = go (load 8192 (q .file)) refl
+      where
+        go : (a : Answer Circuit) → load 8192 (q .file) ≡ a → Printed (a >>= λ c. searched c (q .b) (q .k) (q .D) 8192 2048)
+        go (refused n) l = refusal n (Prints.notLoaded h q e l)
+        go (gives c) l = by-tests c l
+
+  by-request : length input ≤ 65536 → (a : Option Request) → request input ≡ a → Printed (read 11 a >>= requestAnswer)
+  by-request h none e = refusal 11 (Prints.noRequest h e)
+  by-request h (some q) e = by-load h q e
+
+  -- Clauses 8.1 to 8.3: the reply to what a job answers may be printed
+  pub job-prints : Printed (jobAnswer input)
+  unfolding jobAnswer requested
+  job-prints = go (leb (length input) 65536) refl
+    where
+      go : (b : Bool) → leb (length input) 65536 ≡ b → Printed (test 1 b >> read 11 (request input) >>= requestAnswer)
+      go true e = by-request (leb-true (length input) 65536 e) (request input) refl
+      go false e = refusal 1 (Prints.tooLong (leb-false (length input) 65536 e))

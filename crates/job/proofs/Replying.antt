@@ -1,34 +1,32 @@
 -- What a search answers, as it is printed. Assumes nothing.
 use mathlib.Core.Path.{_≡_, refl, sym, ap, _∙_, subst}
-use mathlib.Core.List.{List, [], _∷_, _++_, append-nil}
+use mathlib.Core.List.{List, [], _∷_}
 use mathlib.Core.Logic.{_⊎_, inl, inr}
 use Prim.Native.Nat.{ℕ, _≤_, _<_}
 use native.Mathlib.Omega.{arith}
 use denote.Enum.Declared.{tagOf}
 use lib.Dec.{T, leb}
-use lib.ListN.{length, take, drop}
-use lib.Seq.{take-at}
-use Rattle.aiger.specs.Text.{bytes, digits}
+use lib.ListN.{length}
 use Rattle.aiger.specs.Circuit.{Circuit}
 use Rattle.aiger.specs.Load.{Answer, refused, gives}
-use Rattle.aiger.specs.Search.{question, Outcome, permitted, firstWitness}
+use Rattle.aiger.specs.Search.{question, Outcome, permitted}
 use Rattle.aiger.specs.Witness.{witnessLength}
 use Rattle.aiger.specs.Memory.{Holds}
-use Rattle.aiger.specs.Operations.{need, judge, budgetRight, shown, front, Searched, searchTests}
-use Rattle.aiger.specs.Program.{report}
+use Rattle.aiger.specs.Operations.{need, judge, budgetRight, shown, Searched, searchTests}
+use Rattle.aiger.specs.Program.{refusalLine}
 use Rattle.layout.specs.Words.{circuitIn}
 use Rattle.roundtrip.proofs.Determined.{acted, refused-as}
 use Rattle.roundtrip.proofs.Witness.{run-length}
 use Rattle.meaning.proofs.Outcomes.{found-out, first-witness}
-use Rattle.witness.proofs.Put.{front-length}
 use Rattle.search.specs.Chosen.{chosen, said}
 use Rattle.search.specs.declared.SearchAnswer.{SearchAnswer}
 use Rattle.search.specs.declared.SearchAnswer.the-variants.{Found, Nothing, Spent, Refused}
 use Rattle.search.proofs.SearchAnswer.{the-type}
-use Rattle.limits.proofs.Sizes.{length-within}
-use Rattle.limits.proofs.Refusals.{passed, length-enough}
-use Rattle.job.specs.declared.Query.{Query}
-use Rattle.job.specs.Replies.{Shows, saidText, shownLength, ShownFits, Printed}
+use Rattle.limits.proofs.Refusals.{passed}
+use Rattle.replies.specs.Reply.{Fronts}
+use Rattle.replies.specs.declared.Report.{Report}
+use Rattle.job.specs.Replies.{saidText, witnessOf, shownLength, ShownFits}
+use Rattle.job.specs.Job.{searched, Replied}
 
 -- what a search of the held circuit answers and leaves
 pub data Judged (c : Circuit) (b k D room : ℕ) (out : List ℕ) : Answer Outcome → List ℕ → Type 0 where
@@ -80,32 +78,36 @@ other-length c b (Nothing k) e = refl
 other-length c b (Spent t) e = refl
 other-length c b (Refused n) e = refl
 
--- the line alone
-pub alone : {line text : List ℕ} (out : List ℕ) {l w : ℕ} → Shows line l text → w ≡ 0 → take l line ++ take w out ≡ text
-alone {text = text} out s e = rw (s .contents, e) (append-nil text)
+-- the witness, or nothing, stands at the front of the output
+pub shows : (c : Circuit) (b k D : ℕ) (out : List ℕ) {w : ℕ} (o : Outcome) → T (permitted c b k D o) → w ≡ shownLength c b (gives o)
+    → Fronts (witnessOf c b o) out w (shown c b o out)
+shows c b k D out (Outcome.found t) p e =
+    let f = found-out (question c b) k D t p in
+    let n = ap length (first-witness c b t (f .place) (f .first)) ∙ run-length c b t (f .place) in
+    record { long = e ∙ sym n; contents = refl }
+shows c b k D out (Outcome.none j) p e = record { long = e; contents = refl }
+shows c b k D out (Outcome.spent t) p e = record { long = e; contents = refl }
 
-module _ (c : Circuit) (q : Query) (room : ℕ) (out line : List ℕ) (l w : ℕ) where
-  abbrev Left : List ℕ → Type 0
-  Left out′ = Printed c q room (length out) (take l line ++ take w out′) × (w ≤ length out′)
+-- the line of a refusal alone
+pub refused-replied : (n : ℕ) (work out : List ℕ) {line line′ : List ℕ} {r : Report} → Fronts (refusalLine n) line (r .line) line′
+    → r .out ≡ 0 → Replied (refused n) work out line r work out line′
+refused-replied n work out f z = record { texts = record { line-is = f; out-is = record { long = z; contents = refl } }; working = refl }
 
-  answered : judge (searchTests c (q .b) (q .k) (q .d) room (length out)) ≡ gives tt → (o : Outcome) → chosen c (q .b) (q .k) (q .d) ≡ o
-      → T (permitted c (q .b) (q .k) (q .d) o) → Shows line l (saidText (gives o)) → w ≡ shownLength c (q .b) (gives o) → Left (shown c (q .b) o out)
-  unfolding report
-  answered e (Outcome.found t) i p s z =
-      let W = firstWitness c (q .b) t in
-      let f = found-out (question c (q .b)) (q .k) (q .d) t p in
-      let n : length W ≡ witnessLength c (q .b) t =
-      ap length (first-witness c (q .b) t (f .place) (f .first)) ∙ run-length c (q .b) t (f .place) in
-      let r = passed c (q .b) (q .k) (budgetRight (q .d)) room (need 13 (leb (witnessLength c (q .b) (q .k)) (length out)) ∷ []) e in
-      let enough = length-enough (witnessLength c (q .b) (q .k)) (length out) (r .1) in
-      let h : length W ≤ length out = omega (arith, length-within c (q .b) t (q .k) (f .within)) in
-      let text : take l line ++ take w (front W out) ≡ bytes "found " ++ digits t ++ bytes "\n" ++ W =
-      rw (s .contents, take-at W (drop (length W) out) w (omega arith)) in
-      (rw text (Printed.answers e (Outcome.found t) i p), omega (arith, front-length out W h))
-  answered e (Outcome.none j) i p s z = (rw (alone out s z) (Printed.answers e (Outcome.none j) i p), omega arith)
-  answered e (Outcome.spent t) i p s z = (rw (alone out s z) (Printed.answers e (Outcome.spent t) i p), omega arith)
-
-  pub printed : {a : Answer Outcome} {out′ : List ℕ} → Judged c (q .b) (q .k) (q .d) room out a out′ → Shows line l (saidText a) → w ≡ shownLength c (q .b) a
-      → Left out′
-  printed (Judged.refuses e) s z = (rw (alone out s z) (Printed.refuses e), omega arith)
-  printed (Judged.answers e o i p) s z = answered e o i p s z
+-- what a search answers and leaves, and the line for it, are the reply
+pub search-replied : {m work out work′ out′ : List ℕ} {c : Circuit} {b k D : ℕ} (a : Answer Outcome) → Holds m c
+    → Searched chosen m b k D work out a work′ out′ → {line line′ : List ℕ} {l w : ℕ}
+    → Fronts (saidText a) line l line′ → w ≡ shownLength c b a
+    → Replied (searched c b k D (length work) (length out)) work out line (record { line = l; out = w }) work′ out′ line′
+unfolding searched
+search-replied {m} {work} {out} {work′} {out′} {c} {b} {k} {D} (refused n) h s {line} {line′} {l} {w} f z =
+    let e = refused-as h s refl in
+    rw (
+      e .0,
+      ap (λ (p : List ℕ × List ℕ). p .0) (e .1),
+      ap (λ (p : List ℕ × List ℕ). p .1) (e .1),
+    )
+    (refused-replied n work out {r = record { line = l; out = w }} f z)
+search-replied {m} {work} {out} {work′} {out′} {c} {b} {k} {D} (gives o) h s {line} {line′} {l} {w} f z =
+    let e = acted h s refl in
+    rw (e .0, sym (e .1 .chose), e .1 .shows)
+    (record { texts = record { line-is = f; out-is = shows c b k D out o (e .1 .allowed) z }; working = tt })

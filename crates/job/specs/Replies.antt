@@ -1,35 +1,40 @@
--- What is left to be printed: the line, and the witness. Assumes nothing.
+-- What is printed for what a search answers: the line, and the witness. Assumes nothing.
 use mathlib.Core.Path.{_≡_}
-use mathlib.Core.List.{List, _++_}
+use mathlib.Core.List.{List, [], _++_}
 use Prim.Native.Nat.{ℕ, _≤_, _<_}
-use lib.Dec.{T}
 use lib.ListN.{length, take}
 use Rattle.aiger.specs.Text.{bytes, digits}
 use Rattle.aiger.specs.Circuit.{Circuit}
 use Rattle.aiger.specs.Load.{Answer, refused, gives}
-use Rattle.aiger.specs.Search.{Outcome, permitted}
+use Rattle.aiger.specs.Search.{Outcome, firstWitness}
 use Rattle.aiger.specs.Witness.{witnessLength}
 use Rattle.aiger.specs.Memory.{Holds}
-use Rattle.aiger.specs.Operations.{judge, searchTests}
-use Rattle.aiger.specs.Program.{report, refusalLine}
+use Rattle.aiger.specs.Program.{refusalLine}
 use Rattle.layout.specs.Words.{circuitIn}
-use Rattle.search.specs.Chosen.{chosen}
 use Rattle.search.specs.declared.SearchAnswer.{SearchAnswer}
 use Rattle.search.specs.declared.SearchAnswer.the-variants.{Found, Nothing, Spent, Refused}
-use Rattle.job.specs.declared.Query.{Query}
-use Rattle.job.specs.declared.Report.{Report}
 
 -- the first n bytes are a text
 pub record Shows (out : List ℕ) (n : ℕ) (text : List ℕ) : Type 0 where
   pub inside : n ≤ length out
   pub contents : take n out ≡ text
 
+-- the line for an outcome
+abbrev pub outcomeWords : Outcome → List ℕ
+outcomeWords (Outcome.found t) = bytes "found " ++ digits t ++ bytes "\n"
+outcomeWords (Outcome.none k) = bytes "none " ++ digits k ++ bytes "\n"
+outcomeWords (Outcome.spent t) = bytes "spent " ++ digits t ++ bytes "\n"
+
 -- the line for what a search answers
 abbrev pub saidText : Answer Outcome → List ℕ
 saidText (refused n) = refusalLine n
-saidText (gives (Outcome.found t)) = bytes "found " ++ digits t ++ bytes "\n"
-saidText (gives (Outcome.none k)) = bytes "none " ++ digits k ++ bytes "\n"
-saidText (gives (Outcome.spent t)) = bytes "spent " ++ digits t ++ bytes "\n"
+saidText (gives o) = outcomeWords o
+
+-- the witness for b that is printed after the line of an outcome
+abbrev pub witnessOf : Circuit → ℕ → Outcome → List ℕ
+witnessOf c b (Outcome.found t) = firstWitness c b t
+witnessOf c b (Outcome.none k) = []
+witnessOf c b (Outcome.spent t) = []
 
 -- the length of the witness for b that stands at the front of the output
 abbrev pub shownLength : Circuit → ℕ → Answer Outcome → ℕ
@@ -49,21 +54,3 @@ ShownFits m b (Found t) = FoundFits m b t
 ShownFits m b (Nothing k) = Unit {0}
 ShownFits m b (Spent t) = Unit {0}
 ShownFits m b (Refused n) = Unit {0}
-
--- the line of refusal n, and no witness
-pub record Refuses (line : List ℕ) (n : ℕ) (r : Report) : Type 0 where
-  pub line-is : Shows line (r .line) (refusalLine n)
-  pub no-witness : r .witness ≡ 0
-
--- what may be printed for a loaded circuit, where working memory has `room` words and the output `len` bytes
-pub data Printed (c : Circuit) (q : Query) (room len : ℕ) : List ℕ → Type 0 where
-  refuses : {n : ℕ} → judge (searchTests c (q .b) (q .k) (q .d) room len) ≡ refused n → Printed c q room len (refusalLine n)
-  answers : judge (searchTests c (q .b) (q .k) (q .d) room len) ≡ gives tt → (o : Outcome) → chosen c (q .b) (q .k) (q .d) ≡ o
-      → T (permitted c (q .b) (q .k) (q .d) o)
-      → Printed c q room len (report c (q .b) o)
-
--- the line and the witness are left at the fronts of line and out
-pub record Replies (c : Circuit) (q : Query) (room len : ℕ) (line out : List ℕ) (r : Report) : Type 0 where
-  pub text : Printed c q room len (take (r .line) line ++ take (r .witness) out)
-  pub line-inside : r .line ≤ length line
-  pub witness-inside : r .witness ≤ length out

@@ -1,25 +1,22 @@
 // The work of the search program: from what standard input holds to what is printed.
 use lines::Row;
 use load::LoadAnswer;
+use replies::Report;
 use search::SearchAnswer;
 ghost use mathlib.Core.Path.{_≡_};
 ghost use mathlib.Core.List.{_++_};
-ghost use Prim.Native.Nat.{_+_, _≤_};
+ghost use Prim.Native.Nat.{_≤_};
 ghost use lib.ListN.{length, take};
 ghost use Rattle.aiger.specs.Lists.{same};
-ghost use Rattle.aiger.specs.Text.{bytes, digits};
+ghost use Rattle.aiger.specs.Text.{bytes};
 ghost use Rattle.aiger.specs.Memory.{Holds};
-ghost use Rattle.aiger.specs.Program.{Prints};
+ghost use Rattle.aiger.specs.Program.{Prints, refusalLine};
 ghost use Rattle.layout.specs.Words.{circuitIn};
 ghost use Rattle.search.specs.Chosen.{chosen, said};
-ghost use Rattle.job.specs.Replies.{Shows, saidText, shownLength, ShownFits, Replies, Refuses};
+ghost use Rattle.replies.specs.Reply.{Fronts};
 ghost use Rattle.job.specs.Query.{queryOf, FirstLineIs};
-
-// How many bytes of the line and of the output are to be printed.
-pub struct Report {
-    pub line: usize,
-    pub witness: usize,
-}
+ghost use Rattle.job.specs.Replies.{saidText, shownLength, ShownFits};
+ghost use Rattle.job.specs.Job.{searched, Replied, Ran};
 
 // A request: a bad line, a bound, a budget, and the position of the file.
 struct Query {
@@ -73,37 +70,28 @@ fn read_request(input: &[u8]) -> FirstLine
     FirstLine::Search(query_of(&list, next))
 }
 
-// Writes a word, n and a line feed to the front of line. The answer is their length.
-fn write_line(line: &mut [u8], word: &[u8], n: u32) -> usize
-    requires { ⌜ length (now word) + 11 ≤ length (now line) ⌝ }
-    ensures { λ r. ⌜ Shows (now (line .exit)) r (now (word .entry) ++ digits n ++ bytes "\n") ⌝ }
-{
-    let number = output::put(line, 0, word);
-    output::put_ended(line, number, n, 0)
-}
-
 // Writes what a search says to the front of line.
 fn write_answer(line: &mut [u8], answer: SearchAnswer) -> usize
     requires { ⌜ 32 ≤ length (now line) ⌝ }
-    ensures { λ r. ⌜ Shows (now (line .exit)) r (saidText (said answer)) ⌝ }
+    ensures { λ r. ⌜ Fronts (saidText (said answer)) (now (line .entry)) r (now (line .exit)) ⌝ }
 {
     match answer {
-        SearchAnswer::Found(t) => write_line(line, b"found ", t),
-        SearchAnswer::Nothing(k) => write_line(line, b"none ", k),
-        SearchAnswer::Spent(t) => write_line(line, b"spent ", t),
-        SearchAnswer::Refused(n) => write_line(line, b"refused ", n),
+        SearchAnswer::Found(t) => replies::write_line(line, b"found ", t),
+        SearchAnswer::Nothing(k) => replies::write_line(line, b"none ", k),
+        SearchAnswer::Spent(t) => replies::write_line(line, b"spent ", t),
+        SearchAnswer::Refused(n) => replies::write_line(line, b"refused ", n),
     }
 }
 
 // Writes the line of a refusal.
 fn refuse(line: &mut [u8], n: u32) -> Report
     requires { ⌜ 32 ≤ length (now line) ⌝ }
-    ensures { λ r. ⌜ Refuses (now (line .exit)) n r ⌝ }
+    ensures { λ r. ⌜ Fronts (refusalLine n) (now (line .entry)) (r .line) (now (line .exit)) × (r .out ≡ 0) ⌝ }
 {
-    let length = write_line(line, b"refused ", n);
+    let length = replies::write_line(line, b"refused ", n);
     Report {
         line: length,
-        witness: 0,
+        out: 0,
     }
 }
 
@@ -121,11 +109,11 @@ pub fn shown_length(m: &[u32], b: u64, answer: SearchAnswer) -> usize
 
 // Searches the circuit in m.
 fn reply(m: &[u32], q: Query, work: &mut [u32], out: &mut [u8], line: &mut [u8]) -> Report
-    requires { ⌜ Holds (now m) (circuitIn (now m)) ⌝ }
-    requires { ⌜ 32 ≤ length (now line) ⌝ }
+    requires { ⌜ Holds (now m) (circuitIn (now m)) × (32 ≤ length (now line)) ⌝ }
     ensures { λ r. ⌜
-        Replies (circuitIn (now (m .entry))) q (length (now (work .entry))) (length (now (out .entry))) (now (line .exit))
-        (now (out .exit)) r
+        Replied
+        (searched (circuitIn (now (m .entry))) (q .b) (q .k) (q .d) (length (now (work .entry))) (length (now (out .entry))))
+        (now (work .entry)) (now (out .entry)) (now (line .entry)) r (now (work .exit)) (now (out .exit)) (now (line .exit))
         ⌝ }
 {
     let answer = search::search(m, q.b, q.k, q.d, work, out);
@@ -133,17 +121,21 @@ fn reply(m: &[u32], q: Query, work: &mut [u32], out: &mut [u8], line: &mut [u8])
     let length = write_answer(line, answer);
     Report {
         line: length,
-        witness,
+        out: witness,
     }
 }
 
 // Reads the request, loads the file and searches. What is to be printed is left at the fronts of line and out.
 pub fn run(input: &[u8], m: &mut [u32], work: &mut [u32], out: &mut [u8], line: &mut [u8]) -> Report
     requires { ⌜ (length (now m) ≡ 8192) × (length (now work) ≡ 8192) × (length (now out) ≡ 2048) × (32 ≤ length (now line)) ⌝ }
-    ensures prints { λ r. ⌜
-        Prints chosen (now (input .entry)) (take (r .line) (now (line .exit)) ++ take (r .witness) (now (out .exit)))
+    ensures ran { λ r. ⌜
+        Ran (now (input .entry)) (now (m .entry)) (now (work .entry)) (now (out .entry)) (now (line .entry)) r (now (m .exit))
+        (now (work .exit)) (now (out .exit)) (now (line .exit))
         ⌝ }
-    ensures within { λ r. ⌜ (r .line ≤ length (now (line .exit))) × (r .witness ≤ length (now (out .exit))) ⌝ }
+    ensures prints { λ r. ⌜
+        Prints chosen (now (input .entry)) (take (r .line) (now (line .exit)) ++ take (r .out) (now (out .exit)))
+        ⌝ }
+    ensures within { λ r. ⌜ (r .line ≤ length (now (line .exit))) × (r .out ≤ length (now (out .exit))) ⌝ }
 {
     if 65536 < input.len() {
         return refuse(line, 1);

@@ -1,36 +1,23 @@
 -- What a search answers, as it is left to be printed. Assumes nothing.
-use mathlib.Core.Path.{_≡_, refl, sym, ap, _∙_}
+use mathlib.Core.Path.{_≡_}
 use mathlib.Core.List.{List}
 use Prim.Native.Nat.{ℕ}
-use lib.Dec.{T}
 use lib.ListN.{length}
 use Rattle.aiger.specs.Circuit.{Circuit}
 use Rattle.aiger.specs.Load.{Answer, refused, gives, load}
-use Rattle.aiger.specs.Search.{question, Outcome, permitted}
-use Rattle.aiger.specs.Operations.{shown}
+use Rattle.aiger.specs.Search.{Outcome}
 use Rattle.layout.specs.Words.{circuitIn}
 use Rattle.roundtrip.proofs.Holding.{held}
-use Rattle.roundtrip.proofs.Witness.{run-length}
-use Rattle.meaning.proofs.Outcomes.{found-out, first-witness}
 use Rattle.job.specs.Replies.{shownLength}
 use Rattle.job.proofs.Printing.{Stored}
-use Rattle.job.proofs.Replying.{Judged}
+use Rattle.job.proofs.Replying.{Judged, shows}
 use Rattle.replies.specs.Refusal.{refusalText}
 use Rattle.replies.specs.Reply.{Fronts, Leaves}
 use Rattle.replies.specs.declared.Report.{Report}
 use Rattle.replies.proofs.Putting.{refused-leaves}
-use Rattle.search_command.specs.Texts.{saidWords, witnessOf, searchedReply, searchReply}
+use Rattle.search_command.specs.Texts.{saidWords, searchedReply, searchReply}
 
--- the witness, or nothing, stands at the front of the output
-pub shows : (c : Circuit) (b k D : ℕ) (out : List ℕ) {w : ℕ} (o : Outcome) → T (permitted c b k D o) → w ≡ shownLength c b (gives o)
-    → Fronts (witnessOf c b o) out w (shown c b o out)
-shows c b k D out (Outcome.found t) p e =
-    let f = found-out (question c b) k D t p in
-    let n = ap length (first-witness c b t (f .place) (f .first)) ∙ run-length c b t (f .place) in
-    record { long = e ∙ sym n; contents = refl }
-shows c b k D out (Outcome.none j) p e = record { long = e; contents = refl }
-shows c b k D out (Outcome.spent t) p e = record { long = e; contents = refl }
-
+-- what a search answers and leaves, and the line for it, are the reply
 pub left : (c : Circuit) (b k D room : ℕ) (out line : List ℕ) (l w : ℕ) {line′ : List ℕ} {a : Answer Outcome} {out′ : List ℕ}
     → Judged c b k D room out a out′ → Fronts (saidWords a) line l line′ → w ≡ shownLength c b a
     → Leaves (searchedReply c b k D room (length out)) line out (record { line = l; out = w }) line′ out′

@@ -1,30 +1,19 @@
 -- What the command `search FILE b k D` prints. Assumes nothing.
-use mathlib.Core.List.{List, [], _++_}
+use mathlib.Core.List.{List}
 use Prim.Native.Nat.{ℕ}
-use Rattle.aiger.specs.Text.{bytes, digits}
 use Rattle.aiger.specs.Circuit.{Circuit}
 use Rattle.aiger.specs.Load.{Answer, refused, gives, load, _>>=_}
-use Rattle.aiger.specs.Search.{Outcome, firstWitness}
+use Rattle.aiger.specs.Search.{Outcome}
 use Rattle.aiger.specs.Operations.{judge, searchTests}
 use Rattle.search.specs.Chosen.{chosen}
+use Rattle.job.specs.Replies.{outcomeWords, witnessOf}
 use Rattle.replies.specs.Refusal.{refusalText}
 use Rattle.replies.specs.Reply.{Reply, replyOf}
 
--- the line for what a search answers
-abbrev pub outcomeWords : Outcome → List ℕ
-outcomeWords (Outcome.found t) = bytes "found " ++ digits t ++ bytes "\n"
-outcomeWords (Outcome.none k) = bytes "none " ++ digits k ++ bytes "\n"
-outcomeWords (Outcome.spent t) = bytes "spent " ++ digits t ++ bytes "\n"
-
+-- the line for what a search answers: a refusal with its cause in words
 abbrev pub saidWords : Answer Outcome → List ℕ
 saidWords (refused n) = refusalText n
 saidWords (gives o) = outcomeWords o
-
--- the witness that is printed after it
-abbrev pub witnessOf : Circuit → ℕ → Outcome → List ℕ
-witnessOf c b (Outcome.found t) = firstWitness c b t
-witnessOf c b (Outcome.none k) = []
-witnessOf c b (Outcome.spent t) = []
 
 -- the reply on a loaded circuit, where working memory has `room` words and the output `len` bytes
 unfoldable pub searchedReply : Circuit → ℕ → ℕ → ℕ → ℕ → ℕ → Reply

@@ -25,7 +25,7 @@ fn main() {
     let n = got.count;
     let report = job::run(&text[..n], &mut m, &mut work, &mut out, &mut line);
     let said = report.line;
-    let witness = report.witness;
+    let witness = report.out;
     say(&line[..said]);
     say(&out[..witness]);
 }

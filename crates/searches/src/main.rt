@@ -9,7 +9,7 @@ fn say_search(input: &[u8]) {
     let report = job::run(input, &mut m, &mut work, &mut out, &mut line);
     let said = io::count(report.line as isize, &line);
     say(&line[..said]);
-    let witness = io::count(report.witness as isize, &out);
+    let witness = io::count(report.out as isize, &out);
     say(&out[..witness]);
 }
 

@@ -7,7 +7,7 @@ use Rattle.job.proofs.refuse.Tie as tie
 
 returns : tie.Need-returns
 unfolding refusalLine
-returns c = record { line-is = c .before .before .write-line .ensures; no-witness = refl }
+returns c = (c .before .before .write-line .ensures, refl)
 
 pub refuse-spec : {M : Type 1} → statement M
 refuse-spec =

@@ -1,7 +1,8 @@
 -- `job::reply` meets its contract. Assumes nothing.
 use lib.ListN.{length}
 use Rattle.layout.specs.Words.{circuitIn}
-use Rattle.job.proofs.Replying.{judged, shown-fits, printed}
+use Rattle.search.specs.Chosen.{said}
+use Rattle.job.proofs.Replying.{judged, shown-fits, search-replied}
 use borrow.Author.Needs.{needs}
 use Rattle.job.proofs.reply.Statement.{statement}
 use Rattle.job.proofs.reply.Tie as tie
@@ -20,11 +21,7 @@ returns c =
     let l = w .before .before in
     let n = l .before .before .before .before .before in
     let s = n .before .before .before .before .before .before .before in
-    let a = s .args in
-    let p =
-    printed (circuitIn (a .m .now)) (a .q) (length (a .work .now)) (a .out .now) (w .write-answer .last .0) (w .write-answer .result)
-    (l .shown-length .result) (judged (s .pre .0) (n .search .ensures)) (w .write-answer .ensures) (l .shown-length .ensures) in
-    record { text = p .0; line-inside = w .write-answer .ensures .inside; witness-inside = p .1 }
+    search-replied (said (n .search .result)) (s .pre .0) (n .search .ensures) (w .write-answer .ensures) (l .shown-length .ensures)
 
 pub reply-spec : {M : Type 1} → statement M
 reply-spec =

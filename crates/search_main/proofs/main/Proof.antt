@@ -6,10 +6,10 @@ use Rattle.search_main.proofs.main.Statement.{statement}
 use Rattle.search_main.proofs.main.Tie as tie
 
 slice-aggregate-say : tie.Need-slice-aggregate-say
-slice-aggregate-say c = let r = c .before .before .before .before .before .run in sym (length-take-le (r .result .line) (r .last .1 .1 .1 .1 .0) (r .ensures .1 .0))
+slice-aggregate-say c = let r = c .before .before .before .before .before .run in sym (length-take-le (r .result .line) (r .last .1 .1 .1 .1 .0) (r .ensures .1 .1 .0))
 
 slice-aggregate-say-2 : tie.Need-slice-aggregate-say-2
-slice-aggregate-say-2 c = let r = c .before .before .before .before .before .before .before .run in sym (length-take-le (r .result .witness) (r .last .1 .1 .1 .0) (r .ensures .1 .1))
+slice-aggregate-say-2 c = let r = c .before .before .before .before .before .before .before .run in sym (length-take-le (r .result .out) (r .last .1 .1 .1 .0) (r .ensures .1 .1 .1))
 
 pub main-spec : {M : Type 1} → statement M
 main-spec =
