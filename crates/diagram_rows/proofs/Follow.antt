@@ -1,28 +1,27 @@
 -- The steps of the code, each taken by the definitions. Assumes nothing.
-use mathlib.Core.Path.{_≡_, refl, sym, ap, ap₂, _∙_, subst}
-use mathlib.Core.Bool.{Bool, true, false, not, cond, _&&_}
+use mathlib.Core.Path.{_≡_, refl, sym, ap, ap₂, _∙_}
+use mathlib.Core.Bool.{Bool, true, false, cond, _&&_}
 use mathlib.Core.List.{List, [], _∷_, _++_, map}
 use mathlib.Core.Option.{Option, none, some}
-use Prim.Native.Nat.{ℕ, zero, suc, _+_, _-_, _*_, _/_, _%_, _^_, _≤_, _<_}
+use Prim.Native.Nat.{ℕ, zero, suc, _+_, _-_, _/_, _%_, _^_, _≤_, _<_}
 use native.Mathlib.Nat.{not-suc-le-zero, le-of-suc-le-suc}
 use native.Mathlib.Decide.{ℕ-discrete, decLt}
 use native.Mathlib.Numerals.{add-one}
 use native.Mathlib.Omega.{arith}
 use borrow.Author.Tests.{lt-ltb, le-ltb}
-use lib.Dec.{eqb, ltb}
-use lib.ListN.{length, getD, set, take, drop, replicate, length-set, length-append, length-map, length-drop, length-take, List·getD-append, List·getD-eq-default}
+use lib.ListN.{length, getD, set, take, drop, length-set, length-append, length-map, length-drop, length-take, List·getD-append}
 use lib.Pow.{shr-shr}
-use lib.Seq.{drop-cons, set-out, getD-set-same, getD-set-other, getD-at, ext-getD, getD-append-add}
+use lib.Seq.{drop-cons, getD-set-same, getD-set-other, getD-at, ext-getD, getD-append-add}
 use Rattle.aiger.specs.Lists.{every}
-use Rattle.aiger.specs.Circuit.{Circuit, Gate}
+use Rattle.aiger.specs.Circuit.{Circuit}
 use Rattle.literals.specs.Literal.{literal}
 use Rattle.literals.specs.declared.Lit.{Lit}
 use Rattle.layout.specs.Words.{word}
-use Rattle.meaning.specs.Frame.{inputAt, latchAt, gateAt}
+use Rattle.meaning.specs.Frame.{inputAt, gateAt}
 use Rattle.meaning.proofs.Lists.{getD-map}
-use Rattle.diagrams.specs.States.{State, Outcome, stateOf, outcome, onEdge, andThen, made}
+use Rattle.diagrams.specs.States.{State, Outcome, outcome, andThen, made}
 use Rattle.conjunction.specs.Conjunction.{both}
-use Rattle.diagram_rows.specs.Rows.{absent, isPresent, edgeIn, Filled, filled, onWords, fillThen, onMade, fillFrom, wordsOf, leaves, noted, notedIn, latchLiteral, nextLiteral, latchesPut, bitsPut, gatePut, gatePutIn, gatesPut, withLiteral, withLiterals, rowWords, rowEnd, Plan, blank, rowMade, planOf, planLength, rowIn, Written}
+use Rattle.diagram_rows.specs.Rows.{isPresent, edgeIn, Filled, filled, fillThen, fillFrom, leaves, notedIn, latchLiteral, nextLiteral, latchesPut, bitsPut, gatePut, gatePutIn, gatesPut, withLiteral, withLiterals, rowWords, rowEnd, blank, rowMade, planOf, planLength, rowIn}
 
 -- ---- one thing after the other
 

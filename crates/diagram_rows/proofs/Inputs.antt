@@ -1,21 +1,18 @@
 -- The rows of the inputs that matter among the rows of all inputs: bit by bit, and in their order. Assumes nothing.
-use mathlib.Core.Path.{_≡_, refl, sym, ap, ap₂, _∙_, subst}
+use mathlib.Core.Path.{_≡_, sym, ap, ap₂, _∙_, subst}
 use mathlib.Core.Bool.{Bool, true, false, cond, _&&_}
 use mathlib.Core.List.{List, [], _∷_, _++_}
-use Prim.Native.Nat.{ℕ, zero, suc, _+_, _-_, _*_, _/_, _%_, _^_, _≤_, _<_}
-use native.Mathlib.Nat.{not-suc-le-zero}
+use Prim.Native.Nat.{ℕ, zero, suc, _+_, _-_, _^_, _≤_, _<_}
 use native.Mathlib.Decide.{decLt}
-use native.Mathlib.Numerals.{add-one}
 use native.Mathlib.Omega.{arith}
-use lib.Dec.{T}
 use lib.ListN.{length, getD, length-append, List·getD-append}
 use lib.Seq.{getD-at}
 use Rattle.aiger.specs.Bits.{bit}
 use Rattle.aiger.specs.Frames.{freeBit}
-use Rattle.aiger.proofs.Tests.{T-true, true-T, false-of}
+use Rattle.aiger.proofs.Tests.{T-true, true-T}
 use Rattle.influence.specs.Cone.{keptBelow}
 use Rattle.influence.proofs.Kept.{chosen}
-use Rattle.support.specs.Counting.{rank, spread}
+use Rattle.support.specs.Counting.{rank}
 use Rattle.support.proofs.Counting.{rank-more, rank-zero, spread-bit, spread-lt, spread-mono, gather, gather-lt, gather-le, gather-bit}
 use Rattle.diagram_rows.specs.Inputs.{positions, wideRow, SameBits}
 

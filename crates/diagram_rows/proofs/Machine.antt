@@ -1,8 +1,8 @@
 -- What the words of a row say of a frame, and of a state of the machine of a circuit with a row of all inputs. Assumes nothing.
-use mathlib.Core.Path.{_≡_, refl, sym, ap, ap₂, _∙_, subst}
+use mathlib.Core.Path.{_≡_, refl, sym, ap, _∙_, subst}
 use mathlib.Core.Bool.{Bool, true, false, _&&_}
-use mathlib.Core.List.{List}
-use Prim.Native.Nat.{ℕ, _+_, _≤_, _<_}
+use mathlib.Core.List.{List, map}
+use Prim.Native.Nat.{ℕ, _<_}
 use native.Mathlib.Decide.{decLt}
 use native.Mathlib.Omega.{arith}
 use lib.Dec.{T}
@@ -11,17 +11,18 @@ use Rattle.aiger.specs.Circuit.{Circuit, Gate, var, literalsRight, acyclic}
 use Rattle.aiger.specs.Frames.{freeBit}
 use Rattle.aiger.specs.Frames as frames
 use Rattle.aiger.specs.Bits.{bit}
-use Rattle.meaning.specs.Frame.{noGate, inputAt, latchAt, gateAt, Valuation}
+use Rattle.meaning.specs.Frame.{noGate, latchAt, gateAt, Valuation}
 use Rattle.meaning.proofs.Lists.{getD-map-upto}
 use Rattle.meaning.proofs.Values.{frame-valuation}
-use Rattle.frames.specs.Lanes.{constrainedIn, hitIn}
-use Rattle.influence.specs.Part.{Part}
-use Rattle.transitions.specs.Transitions.{latchesOf, rankIn, rowOf, valuesIn}
+use Rattle.influence.specs.Part.{Part, Listed}
+use Rattle.transitions.specs.Transitions.{numberOf, latchesOf, rankIn, rowOf, valuesIn, nextNumber}
+use Rattle.transitions.proofs.Numbers.{bit-number, rank-at, map-at}
 use Rattle.diagrams.specs.declared.Vertex.{Vertex}
-use Rattle.diagrams.specs.Meaning.{Assignment, value}
+use Rattle.diagrams.specs.Meaning.{Assignment}
 use Rattle.diagram_rows.specs.Rows.{Plan}
 use Rattle.diagram_rows.specs.Inputs.{SameBits}
-use Rattle.diagram_rows.specs.Meaning.{Matches, Means, RowMeans}
+use Rattle.diagram_rows.specs.Meaning.{Matches, RowMeans}
+use Rattle.diagram_rows.specs.Machine.{assignmentOf, KeptPlan, RowSays}
 
 -- the equation of a gate, also past the last one, where all is false
 gate-any : (c : Circuit) (row st : List Bool) (w : ℕ → Bool) → Valuation c row st w → (i : ℕ)
@@ -50,13 +51,6 @@ frame-matches c p r row st w x v latch below bits =
       gate = gate-any c row st w v;
     }
 
--- the values of a row's words at a state of the machine with a row of all inputs
-pub record RowSays (part : Part) (b : ℕ) (p : Plan) (s q : ℕ) (ns : List Vertex) (ws : List ℕ) (x : Assignment) : Type 0 where
-  pub next : (v : ℕ) → v < length (p .latches)
-      → value ns x (getD ws v 0) ≡ frames.value (valuesIn part s q) (latchAt (part .circuit) (getD (p .latches) v 0) .next)
-  pub con : value ns x (getD ws (length (p .latches)) 0) ≡ constrainedIn (part .circuit) (valuesIn part s q)
-  pub hit : value ns x (getD ws (length (p .latches) + 1) 0) ≡ hitIn (part .circuit) b (valuesIn part s q)
-
 module _ (part : Part) (right : T (literalsRight (part .circuit))) (no-cycle : T (acyclic (part .circuit))) (b : ℕ) (p : Plan) where
   abbrev c : Circuit
   c = part .circuit
@@ -80,15 +74,33 @@ module _ (part : Part) (right : T (literalsRight (part .circuit))) (no-cycle : T
       frame-matches c p r (rowOf c q) (latchesOf part s) (valuesIn part s q) x (frame-valuation c right no-cycle (latchesOf part s) (rowOf c q))
       latch (same .below) (λ k h. row-bit q (getD (p .inputs) k 0) (same .below k h) ∙ same .bits k h)
 
-  -- the corollary
-  pub row-says : (s q r : ℕ) (ns : List Vertex) (ws : List ℕ) (x : Assignment) → RowMeans (part .circuit) b p r ns ws
-      → SameBits (length (part .circuit .inputs)) (p .inputs) q r
-      → ((v : ℕ) → v < length (p .latches) → x v ≡ valuesIn part s q (var (latchAt (part .circuit) (getD (p .latches) v 0) .lit)))
-      → RowSays part b p s q ns ws x
-  row-says s q r ns ws x m same latch =
-      let h = state-matches s q r x same latch in
-      record {
-        next = λ v l. m .next v l .same (valuesIn part s q) x h;
-        con = m .con .same (valuesIn part s q) x h;
-        hit = m .hit .same (valuesIn part s q) x h;
-      }
+  module _ (listed : Listed part) (kept : KeptPlan part p) where
+    -- the latch of variable v
+    latch-below : (v : ℕ) → v < length (p .latches) → getD (p .latches) v 0 < length (part .circuit .latches)
+    latch-below v h =
+        subst (λ (j : ℕ). j < length (part .circuit .latches)) (kept .at v h .2) (listed .inside (kept .at v h .0) (kept .at v h .1))
+
+    -- the assignment of the next state has the values of the next literals
+    next-bit : (s q v : ℕ) → v < length (p .latches)
+        → assignmentOf part p (nextNumber part s q) v ≡ frames.value (valuesIn part s q) (latchAt (part .circuit) (getD (p .latches) v 0) .next)
+    unfolding nextNumber
+    next-bit s q v h =
+        let f : ℕ → Bool = λ j. frames.value (valuesIn part s q) (latchAt c j .next) in
+        let i = kept .at v h .0 in
+        let l = kept .at v h .1 in
+        ap (λ (j : ℕ). bit (numberOf (map f (part .kept))) (rankIn (part .kept) j)) (sym (kept .at v h .2))
+        ∙ ap (bit (numberOf (map f (part .kept)))) (rank-at (part .kept) (listed .rising) i l)
+        ∙ bit-number (map f (part .kept)) i ∙ map-at f (part .kept) i l ∙ ap f (kept .at v h .2)
+
+    -- every row of all inputs that has the bits of row r at the inputs that matter
+    pub row-says : (s q r : ℕ) (ns : List Vertex) (ws : List ℕ) → RowMeans (part .circuit) b p r ns ws
+        → SameBits (length (part .circuit .inputs)) (p .inputs) q r → RowSays part b p s q ns ws
+    row-says s q r ns ws m same =
+        let x = assignmentOf part p s in
+        let h =
+        state-matches s q r x same (λ v l. sym (latch-value s q (getD (p .latches) v 0) (latch-below v l))) in
+        record {
+          next = λ v l. m .next v l .same (valuesIn part s q) x h ∙ sym (next-bit s q v l);
+          con = m .con .same (valuesIn part s q) x h;
+          hit = m .hit .same (valuesIn part s q) x h;
+        }

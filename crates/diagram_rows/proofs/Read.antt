@@ -1,6 +1,6 @@
 -- The literals that are read by their places in the file are those of the circuit. Assumes nothing.
-use mathlib.Core.Path.{_≡_, refl, sym, ap, _∙_}
-use mathlib.Core.Bool.{Bool, true, false, cond}
+use mathlib.Core.Path.{_≡_, sym, ap, _∙_}
+use mathlib.Core.Bool.{cond}
 use mathlib.Core.List.{List}
 use Prim.Native.Nat.{ℕ, _+_, _*_, _≤_, _<_}
 use native.Mathlib.Decide.{decLt}
@@ -9,7 +9,7 @@ use borrow.Author.Tests.{lt-ltb, le-ltb}
 use lib.Dec.{ltb}
 use lib.ListN.{length, getD, List·getD-eq-default}
 use Rattle.aiger.specs.Circuit.{Latch, Gate}
-use Rattle.layout.specs.Words.{word, circuitIn, latchIn, gateIn}
+use Rattle.layout.specs.Words.{word, circuitIn}
 use Rattle.layout.specs.declared.Layout.{Layout}
 use Rattle.meaning.specs.Frame.{noLatch, noGate, inputAt, latchAt, gateAt}
 use Rattle.frames.specs.Lanes.{Ready}

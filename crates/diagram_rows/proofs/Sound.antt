@@ -3,35 +3,33 @@ use mathlib.Core.Path.{_≡_, refl, sym, ap, ap₂, _∙_, subst}
 use mathlib.Core.Bool.{Bool, true, false, not, cond, _&&_}
 use mathlib.Core.List.{List, [], _∷_, _++_, map}
 use mathlib.Core.Option.{Option, none, some}
-use mathlib.Core.Logic.{_⊎_, inl, inr, ⊎-elim}
-use Prim.Native.Nat.{ℕ, zero, suc, _+_, _-_, _*_, _/_, _%_, _^_, _≤_, _<_}
-use native.Mathlib.Nat.{not-suc-le-zero, le-of-suc-le-suc, mod-lt}
+use Prim.Native.Nat.{ℕ, zero, suc, _+_, _-_, _/_, _%_, _^_, _<_}
+use native.Mathlib.Nat.{mod-lt}
 use native.Mathlib.Decide.{ℕ-discrete, decLt}
 use native.Mathlib.Omega.{arith}
-use borrow.Author.Tests.{eqb-false, eq-eqb, not-true}
-use lib.Dec.{T, eqb}
-use lib.ListN.{length, getD, set, replicate, length-append, length-map, List·getD-append, List·getD-eq-default}
+use borrow.Author.Tests.{eqb-false, not-true}
+use lib.Dec.{eqb, ltb}
+use lib.ListN.{length, getD, set, replicate, length-append, length-map, List·getD-append}
 use lib.Seq.{getD-at, getD-append-add, set-out, getD-set-same, getD-set-other}
 use Rattle.aiger.specs.Lists.{every}
 use Rattle.aiger.specs.Bits.{nonzero, odd, bit}
-use Rattle.aiger.specs.Circuit.{Circuit, Gate, var}
-use Rattle.aiger.specs.Frames.{freeBit}
+use Rattle.aiger.specs.Circuit.{Circuit, var}
 use Rattle.aiger.specs.Frames as frames
 use Rattle.aiger.proofs.Tests.{T-true, true-T}
 use Rattle.literals.specs.Literal.{literal}
-use Rattle.meaning.specs.Frame.{inputAt, latchAt, gateAt, noGate, Valuation}
+use Rattle.meaning.specs.Frame.{inputAt, latchAt, gateAt}
 use Rattle.meaning.proofs.Lists.{getD-map, getD-same, every-at}
-use Rattle.frames.specs.Lanes.{constrainedIn, badIn, hitIn}
-use Rattle.diagrams.specs.States.{State, Outcome, outcome, onEdge, andThen, made}
+use Rattle.frames.specs.Lanes.{constrainedIn, hitIn}
+use Rattle.diagrams.specs.States.{State, Outcome, made}
 use Rattle.diagrams.specs.declared.Vertex.{Vertex}
 use Rattle.diagrams.specs.Words.{flip}
-use Rattle.diagrams.specs.Meaning.{Assignment, value, In, Terms, Good, Front, Built, Branch, Both, Answer, no-edge, is-edge, Right}
-use Rattle.diagrams.proofs.Values.{flip-in, value-not, value-false, value-true, front-same, front-more, front-value, front-in, front-length}
+use Rattle.diagrams.specs.Meaning.{value, Terms, Good, Front, Built, Both, Answer, no-edge, is-edge, Right}
+use Rattle.diagrams.proofs.Values.{flip-in, value-not, value-false, value-true, front-same, front-more, front-value, front-in}
 use Rattle.diagrams.proofs.Sound.{right-as, right-here, right-then, right-if, made-right}
 use Rattle.conjunction.specs.Conjunction.{both}
 use Rattle.conjunction.proofs.Sound.{both-right}
-use Rattle.diagram_rows.specs.Rows.{absent, isPresent, edgeIn, Filled, filled, onWords, fillThen, onMade, fillFrom, noted, notedIn, latchLiteral, nextLiteral, latchesPut, bitsPut, gatePut, gatePutIn, gatesPut, withLiteral, withLiterals, rowWords, rowEnd, Plan, blank, rowMade}
-use Rattle.diagram_rows.specs.Meaning.{Matches, Means, MapMeans, RowMeans, Got, no-words, has-words, RightFilled}
+use Rattle.diagram_rows.specs.Rows.{absent, isPresent, edgeIn, Filled, filled, onWords, fillThen, onMade, fillFrom, noted, notedIn, latchLiteral, nextLiteral, latchesPut, bitsPut, gatePut, gatePutIn, gatesPut, withLiteral, withLiterals, rowWords, rowEnd, Plan, blank, rowMade, planOf, planLength, rowIn}
+use Rattle.diagram_rows.specs.Meaning.{Means, MapMeans, RowMeans, Got, no-words, has-words, RightFilled}
 
 -- ---- answers
 
@@ -334,3 +332,10 @@ module _ (c : Circuit) (p : Plan) (r : ℕ) where
       let n = gates-right terms (o .state) (q .good) (p .gates) m u in
       filled-then (gatesPut c (p .gates) (o .state) m) (rowEnd c b (p .latches)) n
       (λ k y. end-right terms b (gatesPut c (p .gates) (o .state) m .state) (n .good) k y))
+
+-- the row of a plan in words
+pub row-in-right : (c : Circuit) (b : ℕ) (ws : List ℕ) (r : ℕ) (terms : Terms) (s : State) → Good terms s
+    → RightFilled terms s (RowMeans c b (planOf ws) r) (rowIn c b ws r s)
+unfolding rowIn
+row-in-right c b ws r terms s g =
+    filled-if (ltb (length ws) (planLength ws)) _ _ (λ e. filled-here g none no-words) (λ e. row-right c (planOf ws) r terms b s g)

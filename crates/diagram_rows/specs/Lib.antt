@@ -3,3 +3,4 @@ pub mod Rows
 pub mod Words
 pub mod Meaning
 pub mod Inputs
+pub mod Machine

@@ -34,15 +34,6 @@ fn entry(edges: &[u32], v: Var) -> u32
     }
 }
 
-// Stores x at i, unless that is past the end.
-pub fn put(words: &mut [u32], i: usize, x: u32)
-    ensures { λ _. ⌜ now (words .exit) ≡ set (now (words .entry)) i x ⌝ }
-{
-    if i < words.len() {
-        words[i] = x;
-    }
-}
-
 // Whether the variable of a literal has an edge.
 fn is_present(edges: &[u32], l: Lit) -> bool
     ensures { λ r. ⌜ r ≡ R.isPresent (now (edges .entry)) l ⌝ }
@@ -67,7 +58,7 @@ fn note(made: Made, v: Var, edges: &mut [u32]) -> bool
 {
     match made {
         Made::Edge(e) => {
-            put(edges, v.0 as usize, e);
+            memory::put(edges, v.0 as usize, e);
             true
         }
         Made::Full => false,
@@ -144,7 +135,7 @@ fn put_bits(m: &[u32], layout: Layout, inputs: &[u32], r: u32, edges: &mut [u32]
         k -= 1;
         let l = single_at(m, 7, layout.i, inputs[k] as usize);
         let v = l.var();
-        put(edges, v.0 as usize, left % 2);
+        memory::put(edges, v.0 as usize, left % 2);
         left = left / 2;
     }
 }

@@ -1,24 +1,23 @@
 -- The steps of the code, each taken by the definitions. Assumes nothing.
 use mathlib.Core.Path.{_≡_, refl, sym, ap, ap₂, _∙_, subst}
-use mathlib.Core.Bool.{Bool, true, false, not, cond}
-use mathlib.Core.List.{List, [], _∷_, _++_, map, append-nil, append-assoc}
-use Prim.Native.Nat.{ℕ, zero, suc, _+_, _-_, _*_, _%_, _≤_, _<_}
+use mathlib.Core.Bool.{Bool, true, false, cond}
+use mathlib.Core.List.{List, [], _∷_, _++_, map, append-nil}
+use Prim.Native.Nat.{ℕ, zero, suc, _+_, _-_, _%_, _≤_, _<_}
 use native.Mathlib.Nat.{not-suc-le-zero, le-of-suc-le-suc}
 use native.Mathlib.Numerals.{add-one}
 use native.Mathlib.Omega.{arith}
-use borrow.Author.Tests.{lt-ltb, le-ltb, eq-eqb, ne-eqb}
-use lib.Dec.{eqb, ltb, leb}
-use lib.ListN.{length, getD, set, take, drop, replicate, length-set, length-append, length-map, length-take}
-use lib.Seq.{sets, length-sets, sets-eq, set-comm, drop-cons, getD-take, ext-getD}
-use Rattle.aiger.specs.Lists.{from, upto}
+use borrow.Author.Tests.{lt-ltb, le-ltb}
+use lib.Dec.{ltb, leb}
+use lib.ListN.{length, getD, set, take, drop, length-append}
+use lib.Seq.{sets, set-comm, drop-cons, getD-take}
+use Rattle.aiger.specs.Lists.{upto}
 use Rattle.aiger.specs.Bits.{nonzero, odd}
 use Rattle.aiger.specs.Circuit.{Circuit, Gate, var}
-use Rattle.layout.specs.Order.{depthFirst}
-use Rattle.meaning.specs.Frame.{inputAt, latchAt, gateAt}
+use Rattle.meaning.specs.Frame.{latchAt, gateAt}
 use Rattle.meaning.proofs.Lists.{map-upto-suc, length-map-upto}
 use Rattle.influence.specs.Cone.{marked, keptBelow}
-use Rattle.diagram_rows.specs.Rows.{Plan, planOf, planLength}
-use Rattle.row_plans.specs.Plans.{inputsOf, listed, gatesOf, Meeting, meetingOf, numbered, met, metGate, metGates, metAll, metFirst, metLatches, unmet, meeting, turned, arranged, planned, planWords, Listed, Planned}
+use Rattle.diagram_rows.specs.Rows.{Plan}
+use Rattle.row_plans.specs.Plans.{inputsOf, listed, gatesOf, Meeting, meetingOf, numbered, met, metGate, metGates, metAll, metFirst, metLatches, copied, unmet, meeting, turned, arranged, planned, Listed, Planned}
 
 -- ---- lists in words
 
@@ -179,7 +178,7 @@ first-yes c order which s h = sym (rw (lt-ltb 1 which h))
 pub first-no : (c : Circuit) (order : List ℕ) (which : ℕ) (s : Meeting) → which ≤ 1 → s ≡ metFirst c order which s
 first-no c order which s h = sym (rw (le-ltb 1 which h))
 
-pub meeting-is : (c : Circuit) (ms ns order : List ℕ) (which : ℕ) (js xs : List ℕ) (s t : Meeting) → ns ≡ numbered c js ms → xs ≡ replicate 1024 0
+pub meeting-is : (c : Circuit) (ms ns order : List ℕ) (which : ℕ) (js xs : List ℕ) (s t : Meeting) → ns ≡ numbered c js ms → xs ≡ copied js
     → s ≡ metFirst c order which (meetingOf ns xs 0) → t ≡ metLatches c js s → t .list ≡ meeting c ms order which js .list
 unfolding meeting
 meeting-is c ms ns order which js xs s t e f p q =
@@ -195,14 +194,14 @@ pub turned-odd : (xs : List ℕ) (n which k r : ℕ) → (which % 2 ≡ 0 → �
 turned-odd xs n which k r e q =
     let z : which % 2 ≡ 1 = omega arith in q ∙ sym (ap (λ (z : ℕ). getD xs (cond (nonzero z) (n - (k + 1)) k) 0) z)
 
-pub turned-more : (b : Bool) (n k : ℕ) (xs l m : List ℕ) (x : ℕ) → x ≡ getD xs (cond b (n - (k + 1)) k) 0
-    → m ≡ sets l 3 (map (λ i. getD xs (cond b (n - (i + 1)) i) 0) (upto k))
-    → set m (3 + k) x ≡ sets l 3 (map (λ i. getD xs (cond b (n - (i + 1)) i) 0) (upto (k + 1)))
-turned-more b n k xs l m x e q =
+pub turned-more : (b : Bool) (n k at : ℕ) (xs l m : List ℕ) (x : ℕ) → x ≡ getD xs (cond b (n - (k + 1)) k) 0
+    → m ≡ sets l at (map (λ i. getD xs (cond b (n - (i + 1)) i) 0) (upto k))
+    → set m (at + k) x ≡ sets l at (map (λ i. getD xs (cond b (n - (i + 1)) i) 0) (upto (k + 1)))
+turned-more b n k at xs l m x e q =
     let f : ℕ → ℕ = λ i. getD xs (cond b (n - (i + 1)) i) 0 in
-    let z : 3 + length (map f (upto k)) ≡ 3 + k = omega (arith, length-map-upto f k) in
-    (λ i. set (q i) (3 + k) (e i)) ∙ ap (λ (j : ℕ). set (sets l 3 (map f (upto k))) j (f k)) (sym z)
-    ∙ sym (sets-append l 3 (map f (upto k)) (f k ∷ [])) ∙ ap (sets l 3) (sym (ap (λ (j : ℕ). map f (upto j)) (add-one k) ∙ map-upto-suc f k))
+    let z : at + length (map f (upto k)) ≡ at + k = omega (arith, length-map-upto f k) in
+    (λ i. set (q i) (at + k) (e i)) ∙ ap (λ (j : ℕ). set (sets l at (map f (upto k))) j (f k)) (sym z)
+    ∙ sym (sets-append l at (map f (upto k)) (f k ∷ [])) ∙ ap (sets l at) (sym (ap (λ (j : ℕ). map f (upto j)) (add-one k) ∙ map-upto-suc f k))
 
 -- ---- the whole plan
 

@@ -1,9 +1,9 @@
 -- Which inputs and gates a bad line needs, and orders of the latches as variables of a diagram. What an order is good for is no part of any
 -- claim: it is a function of the circuit. Assumes nothing.
 use mathlib.Core.Path.{_≡_}
-use mathlib.Core.Bool.{Bool, cond}
+use mathlib.Core.Bool.{Bool, false, cond}
 use mathlib.Core.List.{List, [], _∷_, _++_, map}
-use Prim.Native.Nat.{ℕ, zero, suc, _+_, _-_, _%_, _≤_}
+use Prim.Native.Nat.{ℕ, zero, suc, _+_, _-_, _%_}
 use lib.Dec.{ltb, leb}
 use lib.ListN.{length, getD, set, replicate}
 use lib.Seq.{sets}
@@ -63,9 +63,17 @@ unfoldable pub metLatches : Circuit → List ℕ → Meeting → Meeting
 metLatches c [] s = s
 metLatches c (j ∷ js) s = metLatches c js (met (var (latchAt c j .lit)) s)
 
--- before any latch was met
+-- n words of a list from the first on, or from the n-th on backward
+abbrev pub turned : Bool → ℕ → List ℕ → List ℕ
+turned backward n xs = map (λ k. getD xs (cond backward (n - (k + 1)) k) 0) (upto n)
+
+-- so many words with these latches at the front
+abbrev pub copied : List ℕ → List ℕ
+copied js = sets (replicate 1024 0) 0 (turned false (length js) js)
+
+-- before any latch was met; the latches stand in the list, so that it holds no others
 abbrev pub unmet : Circuit → List ℕ → List ℕ → Meeting
-unmet c js ms = record { marks = numbered c js ms; list = replicate 1024 0; count = 0 }
+unmet c js ms = record { marks = numbered c js ms; list = copied js; count = 0 }
 
 -- the operands of all gates that are marked, in the order that is given, the last one first
 abbrev pub metAll : Circuit → List ℕ → Meeting → Meeting
@@ -78,10 +86,6 @@ metFirst c order which s = cond (ltb 1 which) (metAll c order s) s
 -- latches as the gates meet them, from `which` 2 on; then those that are left, in the order of the file
 unfoldable pub meeting : Circuit → List ℕ → List ℕ → ℕ → List ℕ → Meeting
 meeting c ms order which js = metLatches c js (metFirst c order which (unmet c js ms))
-
--- n words of a list from the first on, or from the n-th on backward
-abbrev pub turned : Bool → ℕ → List ℕ → List ℕ
-turned backward n xs = map (λ k. getD xs (cond backward (n - (k + 1)) k) 0) (upto n)
 
 -- Orders of latches: 0 file, 1 file backward, 2 as the gates meet them from the last one down, 3 that backward.
 unfoldable pub arranged : Circuit → List ℕ → List ℕ → ℕ → List ℕ → List ℕ

@@ -19,19 +19,12 @@ ghost use Rattle.influence.specs.Cone.{marks};
 ghost use Rattle.diagram_rows.specs.Words.{Prepared};
 ghost use Rattle.row_plans.specs.Plans as P;
 
-// Word i, or 0 past the end.
-fn get(words: &[u32], i: usize) -> u32
-    ensures { λ r. ⌜ r ≡ getD (now (words .entry)) i 0 ⌝ }
-{
-    if i < words.len() { words[i] } else { 0 }
-}
-
 // The mark of a literal's variable.
 fn mark_of(marks: &[u32], l: Lit) -> u32
     ensures { λ r. ⌜ r ≡ getD (now (marks .entry)) (l .0 .0) 0 ⌝ }
 {
     let v = l.var();
-    get(marks, v.0 as usize)
+    memory::get(marks, v.0 as usize)
 }
 
 // Whether the variable of a literal is marked.
@@ -49,7 +42,7 @@ fn list_if(plan: &mut [u32], n: usize, x: u32, passes: bool) -> usize
     ensures { λ r. ⌜ P.Listed (cond passes (x ∷ []) []) n (now (plan .entry)) (now (plan .exit)) r ⌝ }
 {
     if passes {
-        diagram_rows::put(plan, n, x);
+        memory::put(plan, n, x);
         return n + 1;
     }
     n
@@ -93,7 +86,7 @@ fn list_gates(
     let mut n = at;
     let mut k = 0;
     while k < count {
-        let g = get(order, k);
+        let g = memory::get(order, k);
         let l = diagram_rows::triple_at(m, gates, count, g as usize, 0);
         n = list_if(plan, n, g, is_marked(marks, l));
         k += 1;
@@ -114,7 +107,7 @@ fn number_latches(m: &[u32], layout: Layout, latches: &[u32], marks: &mut [u32])
         let j = latches[k];
         let l = diagram_rows::triple_at(m, layout.latches, layout.l, j as usize, 0);
         let v = l.var();
-        diagram_rows::put(marks, v.0 as usize, ((j as u64 + 2) % 4294967296) as u32);
+        memory::put(marks, v.0 as usize, ((j as u64 + 2) % 4294967296) as u32);
         k += 1;
     }
 }
@@ -131,8 +124,8 @@ fn meet(marks: &mut [u32], list: &mut [u32], n: usize, l: Lit) -> usize
     if n < list.len() {
         if 1 < x {
             let v = l.var();
-            diagram_rows::put(marks, v.0 as usize, 1);
-            diagram_rows::put(list, n, x - 2);
+            memory::put(marks, v.0 as usize, 1);
+            memory::put(list, n, x - 2);
             return n + 1;
         }
     }
@@ -183,7 +176,7 @@ fn meet_gates(
     let mut k = layout.a;
     while 0 < k {
         k -= 1;
-        let g = get(order, k);
+        let g = memory::get(order, k);
         n = meet_gate(m, layout, g as usize, marks, list, n);
     }
     n
@@ -248,7 +241,7 @@ fn arrange(
     list: &mut [u32],
 )
     requires { ⌜ Prepared (now m) layout ⌝ }
-    requires { ⌜ now list ≡ replicate 1024 0 ⌝ }
+    requires { ⌜ now list ≡ P.copied (now latches) ⌝ }
     ensures { λ _. ⌜
         now (list .exit)
         ≡ P.meeting (circuitIn (now (m .entry))) (now (marks .entry)) (now (order .entry)) which (now (latches .entry)) .list
@@ -265,20 +258,20 @@ fn turned_at(list: &[u32], n: usize, which: u32, k: usize) -> u32
     ensures { λ r. ⌜ r ≡ getD (now (list .entry)) (cond (odd which) (n - (k + 1)) k) 0 ⌝ }
 {
     if which % 2 == 0 {
-        return get(list, k);
+        return memory::get(list, k);
     }
-    get(list, n - (k + 1))
+    memory::get(list, n - (k + 1))
 }
 
-// Writes n words of the list from place 3 on, from the n-th on backward where `which` is odd.
-fn put_list(list: &[u32], n: usize, which: u32, plan: &mut [u32])
-    requires { ⌜ n ≤ 65536 ⌝ }
-    ensures { λ _. ⌜ now (plan .exit) ≡ sets (now (plan .entry)) 3 (P.turned (odd which) n (now (list .entry))) ⌝ }
+// Writes n words of the list from place `at` on, from the n-th on backward where `which` is odd.
+fn put_list(list: &[u32], n: usize, which: u32, plan: &mut [u32], at: usize)
+    requires { ⌜ (n ≤ 65536) × (at ≤ 65536) ⌝ }
+    ensures { λ _. ⌜ now (plan .exit) ≡ sets (now (plan .entry)) at (P.turned (odd which) n (now (list .entry))) ⌝ }
 {
     let mut k = 0;
     while k < n {
         let x = turned_at(list, n, which, k);
-        diagram_rows::put(plan, 3 + k, x);
+        memory::put(plan, at + k, x);
         k += 1;
     }
 }
@@ -310,10 +303,11 @@ pub fn make_plan(
     let inputs = 3 + count;
     let gates = list_inputs(m, layout, &marks, plan, inputs);
     let end = list_gates(m, layout, order, &marks, plan, gates);
+    put_list(latches, count, 0, &mut list, 0);
     arrange(m, layout, order, which, latches, &mut marks, &mut list);
-    put_list(&list, count, which, plan);
-    diagram_rows::put(plan, 0, count as u32);
-    diagram_rows::put(plan, 1, (gates - inputs) as u32);
-    diagram_rows::put(plan, 2, (end - gates) as u32);
+    put_list(&list, count, which, plan, 3);
+    memory::put(plan, 0, count as u32);
+    memory::put(plan, 1, (gates - inputs) as u32);
+    memory::put(plan, 2, (end - gates) as u32);
     gates - inputs <= 4
 }

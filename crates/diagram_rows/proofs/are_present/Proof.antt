@@ -1,16 +1,13 @@
--- `diagram_rows::are_present` meets its contract. The loop's invariant: what is left of the latches passes where all of them pass. Assumes nothing.
-use mathlib.Core.Path.{_≡_, refl, sym, ap, ap₂, _∙_, subst}
-use mathlib.Core.Bool.{Bool, true, false, not, cond}
-use mathlib.Core.List.{List, []}
-use mathlib.Core.Option.{Option, none, some}
-use Prim.Native.Nat.{ℕ, _+_, _-_, _*_, _/_, _^_, _≤_, _<_}
+-- `diagram_rows::are_present` meets its contract. The loop's invariant: what is left of the latches passes where all of them pass.
+-- Assumes nothing.
+use mathlib.Core.Path.{_≡_, refl, sym, ap, _∙_}
+use Prim.Native.Nat.{_-_, _≤_}
 use native.Mathlib.Omega.{arith}
 use borrow.Author.Needs.{needs}
 use borrow.Author.Tests.{not-true, not-false}
-use lib.ListN.{length, getD, set, take, drop}
+use lib.ListN.{getD, drop}
 use Rattle.aiger.specs.Lists.{every}
 use Rattle.literals.specs.Literal.{literal}
-use Rattle.literals.specs.declared.Lit.{Lit}
 use Rattle.layout.specs.Words.{circuitIn}
 use Rattle.diagram_rows.specs.Rows.{isPresent, nextLiteral}
 use Rattle.diagram_rows.proofs.Read.{latches-fit, next-read}

@@ -1,17 +1,13 @@
--- `diagram_rows::constrain` meets its contract. The loop's invariant: what is left of the constraints, from the diagram and the edge that there are, gives what all of them give. Assumes nothing.
-use mathlib.Core.Path.{_≡_, refl, sym, ap, ap₂, _∙_, subst}
-use mathlib.Core.Bool.{Bool, true, false, not, cond}
-use mathlib.Core.List.{List, []}
-use mathlib.Core.Option.{Option, none, some}
-use Prim.Native.Nat.{ℕ, _+_, _-_, _*_, _/_, _^_, _≤_, _<_}
+-- `diagram_rows::constrain` meets its contract. The loop's invariant: what is left of the constraints, from the diagram and the edge that
+-- there are, gives what all of them give. Assumes nothing.
+use mathlib.Core.Path.{_≡_, refl, sym, ap, _∙_}
+use Prim.Native.Nat.{_-_, _≤_, _<_}
 use native.Mathlib.Omega.{arith}
 use borrow.Author.Needs.{needs}
-use borrow.Author.Tests.{not-true, not-false}
-use lib.ListN.{length, getD, set, take, drop}
+use lib.ListN.{length, drop}
 use Rattle.literals.specs.Literal.{literal}
-use Rattle.layout.specs.Words.{word, circuitIn}
+use Rattle.layout.specs.Words.{circuitIn}
 use Rattle.diagrams.specs.States.{stateOf, left}
-use Rattle.diagrams.specs.declared.Made.{Made}
 use Rattle.diagram_rows.specs.Rows.{withLiterals}
 use Rattle.diagram_rows.proofs.Read.{constraint-read, constraint-fits, constraint-number}
 use Rattle.diagram_rows.proofs.Follow.{lines-done, lines-full, lines-more}

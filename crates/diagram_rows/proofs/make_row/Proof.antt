@@ -1,17 +1,13 @@
 -- `diagram_rows::make_row` meets its contract. Assumes nothing.
-use mathlib.Core.Path.{_≡_, refl, sym, ap, ap₂, _∙_, subst}
-use mathlib.Core.Bool.{Bool, true, false, not, cond}
-use mathlib.Core.List.{List, []}
-use mathlib.Core.Option.{Option, none, some}
-use Prim.Native.Nat.{ℕ, _+_, _-_, _*_, _/_, _^_, _≤_, _<_}
+use mathlib.Core.Path.{refl, _∙_}
+use mathlib.Core.Bool.{true, false}
+use Prim.Native.Nat.{_+_, _-_}
 use native.Mathlib.Omega.{arith}
 use borrow.Author.Needs.{needs}
 use borrow.Author.Tests.{not-true, not-false}
-use lib.ListN.{length, getD, set, take, drop}
-use lib.ListN.{replicate, length-set, length-replicate}
+use lib.ListN.{take, drop}
 use Rattle.layout.specs.Words.{word, circuitIn}
 use Rattle.diagrams.specs.States.{stateOf}
-use Rattle.diagram_rows.specs.Rows.{leaves}
 use Rattle.diagram_rows.proofs.Follow.{leaves-as, part-length, part-short, latches-part, inputs-part, gates-part, row-short, row-first, row-second, row-third}
 use Rattle.diagram_rows.proofs.make_row.Statement.{statement}
 use Rattle.diagram_rows.proofs.make_row.Tie as tie

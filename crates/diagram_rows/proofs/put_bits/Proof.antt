@@ -1,13 +1,10 @@
--- `diagram_rows::put_bits` meets its contract. The loop's invariant: the inputs from place k on have their bits, and what is left of the number is for those before it. Assumes nothing.
-use mathlib.Core.Path.{_≡_, refl, sym, ap, ap₂, _∙_, subst}
-use mathlib.Core.Bool.{Bool, true, false, not, cond}
-use mathlib.Core.List.{List, []}
-use mathlib.Core.Option.{Option, none, some}
-use Prim.Native.Nat.{ℕ, _+_, _-_, _*_, _/_, _%_, _^_, _≤_, _<_}
+-- `diagram_rows::put_bits` meets its contract. The loop's invariant: the inputs from place k on have their bits, and what is left of the
+-- number is for those before it. Assumes nothing.
+use mathlib.Core.Path.{_≡_, refl, ap, _∙_}
+use Prim.Native.Nat.{ℕ, _-_, _/_, _%_, _^_, _≤_}
 use native.Mathlib.Omega.{arith}
 use borrow.Author.Needs.{needs}
-use borrow.Author.Tests.{not-true, not-false}
-use lib.ListN.{length, getD, set, take, drop}
+use lib.ListN.{length, getD, set, drop}
 use Rattle.literals.specs.Literal.{literal}
 use Rattle.literals.specs.declared.Var.{Var}
 use Rattle.layout.specs.Words.{circuitIn}

@@ -1,16 +1,11 @@
 -- `diagram_rows::put_gate` meets its contract. Assumes nothing.
-use mathlib.Core.Path.{_≡_, refl, sym, ap, ap₂, _∙_, subst}
-use mathlib.Core.Bool.{Bool, true, false, not, cond}
-use mathlib.Core.List.{List, []}
-use mathlib.Core.Option.{Option, none, some}
-use Prim.Native.Nat.{ℕ, _+_, _-_, _*_, _/_, _^_, _≤_, _<_}
-use native.Mathlib.Omega.{arith}
+use mathlib.Core.Path.{sym, ap, ap₂, _∙_}
+use Prim.Native.Nat.{_-_}
 use borrow.Author.Needs.{needs}
 use borrow.Author.Tests.{not-true, not-false}
-use lib.ListN.{length, getD, set, take, drop}
-use Rattle.diagrams.specs.States.{Outcome, stateOf, edgeOf, left}
+use Rattle.diagrams.specs.States.{Outcome, stateOf, left}
 use Rattle.conjunction.specs.Conjunction.{both}
-use Rattle.diagram_rows.specs.Rows.{filled, noted, notedIn}
+use Rattle.diagram_rows.specs.Rows.{filled, notedIn}
 use Rattle.diagram_rows.proofs.Follow.{gate-left, gate-right, gate-made}
 use Rattle.diagram_rows.proofs.put_gate.Statement.{statement}
 use Rattle.diagram_rows.proofs.put_gate.Tie as tie

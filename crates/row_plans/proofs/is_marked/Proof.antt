@@ -1,13 +1,7 @@
 -- `row_plans::is_marked` meets its contract. Assumes nothing.
-use mathlib.Core.Path.{_≡_, refl, sym, ap, ap₂, _∙_, subst}
-use mathlib.Core.Bool.{Bool, true, false, not, cond}
-use mathlib.Core.List.{List, []}
-use Prim.Native.Nat.{ℕ, _+_, _-_, _*_, _%_, _≤_, _<_}
-use native.Mathlib.Omega.{arith}
+use mathlib.Core.Path.{ap, _∙_}
+use Prim.Native.Nat.{_-_}
 use borrow.Author.Needs.{needs}
-use borrow.Author.Tests.{not-true, not-false}
-use lib.ListN.{length, getD, set, take, drop, replicate}
-use lib.Dec.{eqb}
 use Rattle.aiger.specs.Bits.{nonzero}
 use Rattle.influence.proofs.Marks.{mark-test}
 use Rattle.row_plans.proofs.is_marked.Statement.{statement}

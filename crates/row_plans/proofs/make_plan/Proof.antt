@@ -1,12 +1,10 @@
 -- `row_plans::make_plan` meets its contract. Assumes nothing.
-use mathlib.Core.Path.{_≡_, refl, sym, ap, ap₂, _∙_, subst}
-use mathlib.Core.Bool.{Bool, true, false, not, cond}
-use mathlib.Core.List.{List, []}
-use Prim.Native.Nat.{ℕ, _+_, _-_, _*_, _%_, _≤_, _<_}
+use mathlib.Core.Path.{refl, _∙_, subst}
+use Prim.Native.Nat.{_+_, _-_}
 use native.Mathlib.Omega.{arith}
 use borrow.Author.Needs.{needs}
 use lib.Dec.{leb}
-use lib.ListN.{length, getD, set, take, drop, replicate}
+use lib.ListN.{length, getD}
 use Rattle.layout.specs.Words.{circuitIn}
 use Rattle.layout.specs.Order.{depthFirst}
 use Rattle.meaning.specs.Frame.{inputAt, gateAt}
@@ -15,7 +13,7 @@ use Rattle.frames.proofs.Places.{inputs-are, inputs-few}
 use Rattle.influence.specs.Cone.{marked, marks}
 use Rattle.influence.proofs.Rooms.{cone-marks}
 use Rattle.diagram_rows.specs.Rows.{Plan}
-use Rattle.row_plans.specs.Plans.{planned, Planned}
+use Rattle.row_plans.specs.Plans.{Planned}
 use Rattle.row_plans.proofs.Steps.{kept-few, listing-few, planned-same, order-same, plan-made}
 use Rattle.row_plans.proofs.make_plan.Statement.{statement}
 use Rattle.row_plans.proofs.make_plan.Tie as tie
@@ -39,62 +37,65 @@ list-gates-requires c κs =
       omega (arith, c .before .before .before .before .list-inputs .ensures .end, few, inputs-few (s .pre .0 .held) (s .pre .0 .layout-of), inputs-are (s .pre .0 .held) (s .pre .0 .layout-of), s .pre .1 .1),
     )
 
-arrange-requires : tie.Need-arrange-requires
-arrange-requires c κs = let s = c .before .before .before .before .before .before .before .before .before .before .before .before .before .before .before .before .before .before .before in ((s .args .order .now, s .pre .0), refl)
-
 put-list-requires : tie.Need-put-list-requires
-put-list-requires c κs = omega (arith, c .before .before .before .before .before .before .before .before .before .before .before .before .before .before .before .before .before .before .before .before .before .before .before .before .pre .1 .1)
+put-list-requires c κs = (omega (arith, c .before .before .before .before .before .before .before .before .before .before .before .before .before .before .before .before .before .before .pre .1 .1), omega arith)
+
+arrange-requires : tie.Need-arrange-requires
+arrange-requires c κs = let s = c .before .before .before .before .before .before .before .before .before .before .before .before .before .before .before .before .before .before .before .before .before .before in ((s .args .order .now, s .pre .0), c .before .before .before .put-list .ensures)
+
+put-list-requires-2 : tie.Need-put-list-requires-2
+put-list-requires-2 c κs = (omega (arith, c .before .before .before .before .before .before .before .before .before .before .before .before .before .before .before .before .before .before .before .before .before .before .before .before .before .before .before .pre .1 .1), omega arith)
 
 cast-put : tie.Need-cast-put
-cast-put c = omega (arith, c .before .before .before .before .before .before .before .before .before .before .before .before .before .before .before .before .before .before .before .before .before .before .before .before .before .before .before .before .pre .1 .1)
+cast-put c = omega (arith, c .before .before .before .before .before .before .before .before .before .before .before .before .before .before .before .before .before .before .before .before .before .before .before .before .before .before .before .before .before .before .before .pre .1 .1)
 
 sub-put : tie.Need-sub-put
-sub-put c = omega (arith, c .before .before .before .before .before .before .before .before .before .before .before .before .before .before .before .before .before .before .before .before .before .before .list-inputs .ensures .end)
+sub-put c = omega (arith, c .before .before .before .before .before .before .before .before .before .before .before .before .before .before .before .before .before .before .before .before .before .before .before .before .before .list-inputs .ensures .end)
 
 cast-put-2 : tie.Need-cast-put-2
 cast-put-2 c =
-    let s = c .before .before .before .before .before .before .before .before .before .before .before .before .before .before .before .before .before .before .before .before .before .before .before .before .before .before .before .before .before .before .before .before in
+    let s = c .before .before .before .before .before .before .before .before .before .before .before .before .before .before .before .before .before .before .before .before .before .before .before .before .before .before .before .before .before .before .before .before .before .before .before in
     let a = s .args in
-    let ms = c .before .before .before .before .before .before .before .before .before .before .before .before .before .before .before .before .before .before .before .before .before .before .before .before .before .before .mark-cone .last .1 .1 .1 .1 .0 in
+    let ms = c .before .before .before .before .before .before .before .before .before .before .before .before .before .before .before .before .before .before .before .before .before .before .before .before .before .before .before .before .before .mark-cone .last .1 .1 .1 .1 .0 in
     let few = kept-few (λ i. marked ms (inputAt (circuitIn (a .m .now)) i)) (length (circuitIn (a .m .now) .inputs)) in
-    omega (arith, c .before .before .before .before .before .before .before .before .before .before .before .before .before .before .before .before .before .before .before .before .before .before .list-inputs .ensures .end, few, inputs-few (s .pre .0 .held) (s .pre .0 .layout-of), inputs-are (s .pre .0 .held) (s .pre .0 .layout-of))
+    omega (arith, c .before .before .before .before .before .before .before .before .before .before .before .before .before .before .before .before .before .before .before .before .before .before .before .before .before .list-inputs .ensures .end, few, inputs-few (s .pre .0 .held) (s .pre .0 .layout-of), inputs-are (s .pre .0 .held) (s .pre .0 .layout-of))
 
 sub-put-2 : tie.Need-sub-put-2
-sub-put-2 c = omega (arith, c .before .before .before .before .before .before .before .before .before .before .before .before .before .before .before .before .before .before .before .before .before .list-gates .ensures .end)
+sub-put-2 c = omega (arith, c .before .before .before .before .before .before .before .before .before .before .before .before .before .before .before .before .before .before .before .before .before .before .before .before .list-gates .ensures .end)
 
 cast-put-3 : tie.Need-cast-put-3
 cast-put-3 c =
-    let s = c .before .before .before .before .before .before .before .before .before .before .before .before .before .before .before .before .before .before .before .before .before .before .before .before .before .before .before .before .before .before .before .before .before .before .before .before in
+    let s = c .before .before .before .before .before .before .before .before .before .before .before .before .before .before .before .before .before .before .before .before .before .before .before .before .before .before .before .before .before .before .before .before .before .before .before .before .before .before .before in
     let a = s .args in
-    let ms = c .before .before .before .before .before .before .before .before .before .before .before .before .before .before .before .before .before .before .before .before .before .before .before .before .before .before .before .before .before .before .mark-cone .last .1 .1 .1 .1 .0 in
+    let ms = c .before .before .before .before .before .before .before .before .before .before .before .before .before .before .before .before .before .before .before .before .before .before .before .before .before .before .before .before .before .before .before .before .before .mark-cone .last .1 .1 .1 .1 .0 in
     let o = a .order .now in
     let few = listing-few (λ k. marked ms (gateAt (circuitIn (a .m .now)) (getD o k 0) .lit)) (λ k. getD o k 0) (length (circuitIn (a .m .now) .gates)) in
-    omega (arith, c .before .before .before .before .before .before .before .before .before .before .before .before .before .before .before .before .before .before .before .before .before .list-gates .ensures .end, few, gates-few (s .pre .0), gates-are (s .pre .0))
+    omega (arith, c .before .before .before .before .before .before .before .before .before .before .before .before .before .before .before .before .before .before .before .before .before .before .before .before .list-gates .ensures .end, few, gates-few (s .pre .0), gates-are (s .pre .0))
 
 sub-result : tie.Need-sub-result
-sub-result c = omega (arith, c .before .before .before .before .before .before .before .before .before .before .before .before .before .before .before .before .before .before .before .before .before .before .before .before .before .before .before .before .before .list-inputs .ensures .end)
+sub-result c = omega (arith, c .before .before .before .before .before .before .before .before .before .before .before .before .before .before .before .before .before .before .before .before .before .before .before .before .before .before .before .before .before .before .before .before .list-inputs .ensures .end)
 
 same-length : tie.Need-same-length
 same-length c =
-    c .before .before .put3 .kept .0 ∙ c .before .before .before .before .before .before .put2 .kept .0 ∙ c .before .before .before .before .before .before .before .before .before .before .put .kept .0 ∙ c .before .before .before .before .before .before .before .before .before .before .before .before .before .before .put-list .kept .1 .1 .1 .0
-    ∙ c .before .before .before .before .before .before .before .before .before .before .before .before .before .before .before .before .before .before .before .before .before .before .before .before .list-gates .kept .1 .1 .1 .1 .0 ∙ c .before .before .before .before .before .before .before .before .before .before .before .before .before .before .before .before .before .before .before .before .before .before .before .before .before .before .before .before .before .list-inputs .kept .1 .1 .1 .0
+    c .before .before .put3 .kept .0 ∙ c .before .before .before .before .before .before .put2 .kept .0 ∙ c .before .before .before .before .before .before .before .before .before .before .put .kept .0 ∙ c .before .before .before .before .before .before .before .before .before .before .before .before .before .before .put-list2 .kept .1 .1 .1 .0
+    ∙ c .before .before .before .before .before .before .before .before .before .before .before .before .before .before .before .before .before .before .before .before .before .before .before .before .before .before .before .list-gates .kept .1 .1 .1 .1 .0 ∙ c .before .before .before .before .before .before .before .before .before .before .before .before .before .before .before .before .before .before .before .before .before .before .before .before .before .before .before .before .before .before .before .before .list-inputs .kept .1 .1 .1 .0
 
 returns : tie.Need-returns
 returns c =
-    let s = c .before .before .before .before .before .before .before .before .before .before .before .before .before .before .before .before .before .before .before .before .before .before .before .before .before .before .before .before .before .before .before .before .before .before .before .before .before .before .before in
+    let s = c .before .before .before .before .before .before .before .before .before .before .before .before .before .before .before .before .before .before .before .before .before .before .before .before .before .before .before .before .before .before .before .before .before .before .before .before .before .before .before .before .before .before in
     let a = s .args in
     let k = circuitIn (a .m .now) in
     let o = a .order .now in
-    let n = c .before .before .before .before .before .before .before .before .before .before .before .before .before .before .before .before .before .before .before .before .before .before .before .before .before .before .before .before .before .before .before .before .before .mark-cone in
+    let n = c .before .before .before .before .before .before .before .before .before .before .before .before .before .before .before .before .before .before .before .before .before .before .before .before .before .before .before .before .before .before .before .before .before .before .before .before .mark-cone in
     let ms = n .last .1 .1 .1 .1 .0 in
-    let i = c .before .before .before .before .before .before .before .before .before .before .before .before .before .before .before .before .before .before .before .before .before .before .before .before .before .before .before .before .before .list-inputs in
-    let g = c .before .before .before .before .before .before .before .before .before .before .before .before .before .before .before .before .before .before .before .before .before .before .before .before .list-gates in
+    let i = c .before .before .before .before .before .before .before .before .before .before .before .before .before .before .before .before .before .before .before .before .before .before .before .before .before .before .before .before .before .before .before .before .list-inputs in
+    let g = c .before .before .before .before .before .before .before .before .before .before .before .before .before .before .before .before .before .before .before .before .before .before .before .before .before .before .before .list-gates in
     let r = c .before .before .before .before .before .before .before .before .before .before .before .before .before .before .before .before .before .before .before .arrange in
     let e = cone-marks (s .pre .0) (a .b) (s .pre .1 .0) ms (n .ensures) in
     let made =
     plan-made k ms o (a .which) (a .latches .now) (r .last .1 .1 .1 .1 .1 .1 .0) (a .plan .now) (i .last .1 .1 .1 .0) (g .last .1 .1 .1 .1 .0)
-    (c .before .before .before .before .before .before .before .before .before .before .before .before .before .before .put-list .last .1 .1 .1 .0) (c .before .before .before .before .before .before .before .before .before .before .put .last .0) (c .before .before .before .before .before .before .put2 .last .0) (c .before .before .put3 .last .0) (length (a .latches .now))
-    (i .result) (g .result) refl (i .ensures) (g .ensures) (r .ensures) (c .before .before .before .before .before .before .before .before .before .before .before .before .before .before .put-list .ensures) (c .before .before .before .before .before .before .before .before .before .before .put .ensures) (c .before .before .before .before .before .before .put2 .ensures) (c .before .before .put3 .ensures) in
+    (c .before .before .before .before .before .before .before .before .before .before .before .before .before .before .put-list2 .last .1 .1 .1 .0) (c .before .before .before .before .before .before .before .before .before .before .put .last .0) (c .before .before .before .before .before .before .put2 .last .0) (c .before .before .put3 .last .0) (length (a .latches .now))
+    (i .result) (g .result) refl (i .ensures) (g .ensures) (r .ensures) (c .before .before .before .before .before .before .before .before .before .before .before .before .before .before .put-list2 .ensures) (c .before .before .before .before .before .before .before .before .before .before .put .ensures) (c .before .before .before .before .before .before .put2 .ensures) (c .before .before .put3 .ensures) in
     subst (λ (p : Plan). Planned p (a .plan .now) (c .before .before .put3 .last .0) (leb (i .result - (3 + length (a .latches .now))) 4))
     (planned-same k ms (marks k (a .b)) o (depthFirst k) (a .which) (a .latches .now) e
     (order-same o (depthFirst k) (length (k .gates)) (s .pre .0 .ordered .chosen)))
@@ -105,6 +106,6 @@ make-plan-spec =
     tie.close
     (tie.spec
     (λ c. search needs) mark-cone-requires add-inputs (λ c. search needs) list-inputs-requires (λ c. search needs)
-    list-gates-requires (λ c. search needs) (λ c. search needs) arrange-requires (λ c. search needs) put-list-requires cast-put
-    (λ c κs. search needs) sub-put cast-put-2 (λ c κs. search needs) sub-put-2 cast-put-3 (λ c κs. search needs) sub-result
-    same-length returns)
+    list-gates-requires (λ c. search needs) put-list-requires (λ c. search needs) (λ c. search needs) arrange-requires
+    (λ c. search needs) put-list-requires-2 cast-put (λ c κs. search needs) sub-put cast-put-2 (λ c κs. search needs) sub-put-2
+    cast-put-3 (λ c κs. search needs) sub-result same-length returns)

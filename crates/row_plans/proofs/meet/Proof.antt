@@ -1,14 +1,12 @@
 -- `row_plans::meet` meets its contract. Assumes nothing.
-use mathlib.Core.Path.{_≡_, refl, sym, ap, ap₂, _∙_, subst}
-use mathlib.Core.Bool.{Bool, true, false, not, cond}
-use mathlib.Core.List.{List, []}
-use Prim.Native.Nat.{ℕ, _+_, _-_, _*_, _%_, _≤_, _<_}
+use mathlib.Core.Path.{_≡_, ap, ap₂, _∙_}
+use mathlib.Core.List.{List}
+use Prim.Native.Nat.{ℕ, _+_, _-_}
 use native.Mathlib.Omega.{arith}
 use borrow.Author.Needs.{needs}
-use borrow.Author.Tests.{not-true, not-false}
-use lib.ListN.{length, getD, set, take, drop, replicate}
+use lib.ListN.{getD, set}
 use Rattle.literals.specs.declared.Var.{Var}
-use Rattle.row_plans.specs.Plans.{Meeting, meetingOf}
+use Rattle.row_plans.specs.Plans.{meetingOf}
 use Rattle.row_plans.proofs.Steps.{met-full, met-not, met-now}
 use Rattle.row_plans.proofs.meet.Statement.{statement}
 use Rattle.row_plans.proofs.meet.Tie as tie

@@ -1,17 +1,14 @@
 -- `row_plans::meet_gates` meets its contract. The loop's invariant: what is left of the gates gives what all of them give. Assumes nothing.
-use mathlib.Core.Path.{_≡_, refl, sym, ap, ap₂, _∙_, subst}
-use mathlib.Core.Bool.{Bool, true, false, not, cond}
-use mathlib.Core.List.{List, []}
-use Prim.Native.Nat.{ℕ, _+_, _-_, _*_, _%_, _≤_, _<_}
+use mathlib.Core.Path.{_≡_, refl, ap, _∙_}
+use Prim.Native.Nat.{ℕ, _-_}
 use native.Mathlib.Omega.{arith}
 use borrow.Author.Needs.{needs}
-use borrow.Author.Tests.{not-true, not-false}
-use lib.ListN.{length, getD, set, take, drop, replicate}
+use lib.ListN.{length, getD}
 use Rattle.aiger.specs.Circuit.{Gate}
 use Rattle.layout.specs.Words.{circuitIn}
 use Rattle.meaning.specs.Frame.{gateAt}
 use Rattle.frames.proofs.Facts.{gates-are}
-use Rattle.row_plans.specs.Plans.{Meeting, meetingOf, metGate, metGates}
+use Rattle.row_plans.specs.Plans.{meetingOf, metGate, metGates}
 use Rattle.row_plans.proofs.Steps.{gates-more, gates-none}
 use Rattle.row_plans.proofs.meet_gates.Statement.{statement}
 use Rattle.row_plans.proofs.meet_gates.Tie as tie

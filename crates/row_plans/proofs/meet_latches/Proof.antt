@@ -1,17 +1,15 @@
--- `row_plans::meet_latches` meets its contract. The loop's invariant: what is left of the latches gives what all of them give. Assumes nothing.
-use mathlib.Core.Path.{_≡_, refl, sym, ap, ap₂, _∙_, subst}
-use mathlib.Core.Bool.{Bool, true, false, not, cond}
-use mathlib.Core.List.{List, []}
-use Prim.Native.Nat.{ℕ, _+_, _-_, _*_, _%_, _≤_, _<_}
+-- `row_plans::meet_latches` meets its contract. The loop's invariant: what is left of the latches gives what all of them give. Assumes
+-- nothing.
+use mathlib.Core.Path.{_≡_, refl, ap, _∙_}
+use Prim.Native.Nat.{_-_, _≤_}
 use native.Mathlib.Omega.{arith}
 use borrow.Author.Needs.{needs}
-use borrow.Author.Tests.{not-true, not-false}
-use lib.ListN.{length, getD, set, take, drop, replicate}
+use lib.ListN.{length, getD, drop}
 use Rattle.literals.specs.Literal.{literal}
 use Rattle.literals.specs.declared.Lit.{Lit}
 use Rattle.layout.specs.Words.{circuitIn}
 use Rattle.diagram_rows.proofs.Read.{latches-fit, latch-read}
-use Rattle.row_plans.specs.Plans.{Meeting, meetingOf, metLatches}
+use Rattle.row_plans.specs.Plans.{meetingOf, metLatches}
 use Rattle.row_plans.proofs.Steps.{latches-done, latches-more}
 use Rattle.row_plans.proofs.meet_latches.Statement.{statement}
 use Rattle.row_plans.proofs.meet_latches.Tie as tie

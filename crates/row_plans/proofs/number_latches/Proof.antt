@@ -1,12 +1,10 @@
--- `row_plans::number_latches` meets its contract. The loop's invariant: what is left of the latches gives what all of them give. Assumes nothing.
-use mathlib.Core.Path.{_≡_, refl, sym, ap, ap₂, _∙_, subst}
-use mathlib.Core.Bool.{Bool, true, false, not, cond}
-use mathlib.Core.List.{List, []}
-use Prim.Native.Nat.{ℕ, _+_, _-_, _*_, _%_, _≤_, _<_}
+-- `row_plans::number_latches` meets its contract. The loop's invariant: what is left of the latches gives what all of them give. Assumes
+-- nothing.
+use mathlib.Core.Path.{_≡_, refl, ap, _∙_}
+use Prim.Native.Nat.{_-_, _≤_}
 use native.Mathlib.Omega.{arith}
 use borrow.Author.Needs.{needs}
-use borrow.Author.Tests.{not-true, not-false}
-use lib.ListN.{length, getD, set, take, drop, replicate}
+use lib.ListN.{length, getD, drop}
 use Rattle.literals.specs.Literal.{literal}
 use Rattle.literals.specs.declared.Var.{Var}
 use Rattle.literals.specs.declared.Lit.{Lit}
