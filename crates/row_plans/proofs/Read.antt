@@ -14,7 +14,7 @@ use Rattle.diagrams.specs.States.{State}
 use Rattle.diagram_rows.specs.Rows.{Plan, planOf, planLength, rowMade, rowIn}
 use Rattle.diagram_rows.specs.Machine.{KeptPlan}
 use Rattle.influence.specs.Part.{Part, keptAt}
-use Rattle.row_plans.specs.Plans.{meeting, arranged, planned, planWords, Planned}
+use Rattle.row_plans.specs.Plans.{inputsOf, meeting, arranged, planned, planWords, Planned}
 use Rattle.row_plans.proofs.Kept.{Small, arranged-kept}
 
 -- words that begin with a plan
@@ -62,10 +62,20 @@ planned-row p before after d h c b r s =
     ∙ rw (le-ltb (length (sets before 0 (planWords p))) (planLength (sets before 0 (planWords p))) (plan-fits p before h))
     (ap (λ (x : Plan). rowMade c b x r s) (plan-read p before h))
 
+-- the inputs of a plan, by which rows of the machine are told
+pub planned-inputs : (c : Circuit) (ms order : List ℕ) (which : ℕ) (js : List ℕ) → planned c ms order which js .inputs ≡ inputsOf c ms
+unfolding planned
+planned-inputs c ms order which js = refl
+
 size : (c : Circuit) (ms order : List ℕ) (which : ℕ) (js : List ℕ) → length (arranged c ms order which js) ≡ length js
 unfolding arranged
 size c ms order which js =
     length-map-upto (λ k. getD (meeting c ms order which js .list) (cond (odd which) (length js - (k + 1)) k) 0) (length js)
+
+-- it has as many latches as were given
+pub planned-size : (c : Circuit) (ms order : List ℕ) (which : ℕ) (js : List ℕ) → length (planned c ms order which js .latches) ≡ length js
+unfolding planned
+planned-size c ms order which js = size c ms order which js
 
 -- its latches are those that are kept
 pub planned-kept : (part : Part) (ms order : List ℕ) (which : ℕ) → Small ms → length (part .kept) ≤ 1024
