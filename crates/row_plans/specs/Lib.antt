@@ -1,0 +1,2 @@
+-- What the contracts of `row_plans` cite. Assumes nothing.
+pub mod Plans
