@@ -69,6 +69,11 @@ pub room-is : (w : List ℕ) → stateOf w .room ≡ roomOf (length w)
 unfolding stateOf
 room-is w = refl
 
+-- a node by its words
+pub node-at : (w : List ℕ) (k : ℕ) → k < getD w 0 0 → nodeAt (stateOf w .nodes) k ≡ nodeIn w k
+unfolding stateOf
+node-at w k h = view-at w (getD w 0 0) k h
+
 pub read-whole : (w : List ℕ) (n k at : ℕ) → n ≡ getD w 0 0 → at ≡ wordOf (length w) k → k < n → at + 3 < length w
     → nodeAt (stateOf w .nodes) k
     ≡ record { lo = getD w at 0; hi = getD w (at + 1) 0; var = getD w (at + 2) 0; next = getD w (at + 3) 0 }

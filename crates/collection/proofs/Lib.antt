@@ -1,0 +1,3 @@
+-- The laws of `collection`. Assumes nothing.
+pub mod Words
+pub mod Turns

@@ -1,0 +1,3 @@
+-- What the contracts of `collection` cite. Assumes nothing.
+pub mod Collecting
+pub mod Zeros
