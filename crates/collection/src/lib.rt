@@ -174,10 +174,10 @@ fn pack(w: &mut [u32], last: u32) -> u32
 fn rename(w: &[u32], roots: &mut [u32])
     ensures { λ _. ⌜ now (roots .exit) ≡ map (C.renamedIn (S.stateOf (now (w .entry)) .nodes)) (now (roots .entry)) ⌝ }
 {
-    let mut i = 0;
-    while i < roots.len() {
-        roots[i] = renamed(w, roots[i]);
-        i += 1;
+    let mut at = 0;
+    while at < roots.len() {
+        roots[at] = renamed(w, roots[at]);
+        at += 1;
     }
 }
 

@@ -11,10 +11,10 @@ use Rattle.collection.proofs.rename.Statement.{statement}
 use Rattle.collection.proofs.rename.Tie as tie
 
 abbrev Inv-loop : tie.InvT-loop
-Inv-loop w roots₀ i₀ roots i = Mapped (renamedIn (stateOf w .nodes)) roots₀ roots i
+Inv-loop w roots₀ at₀ roots at = Mapped (renamedIn (stateOf w .nodes)) roots₀ roots at
 
 abbrev μ-loop : tie.MeasureT-loop
-μ-loop w roots₀ i₀ roots i = length roots₀ - i
+μ-loop w roots₀ at₀ roots at = length roots₀ - at
 
 loop-holds : tie.Need-loop-holds Inv-loop μ-loop
 loop-holds c = mapped-none (renamedIn (stateOf (c .before .before .args .w .now) .nodes)) (c .before .before .args .roots .now)
@@ -22,7 +22,7 @@ loop-holds c = mapped-none (renamedIn (stateOf (c .before .before .args .w .now)
 loop-again : tie.Need-loop-again Inv-loop μ-loop
 loop-again c =
     let l = c .before .before .before .loop in
-    mapped-more (renamedIn (stateOf (c .before .before .before .before .before .before .args .w .now) .nodes)) (c .before .before .before .before .before .before .args .roots .now) (l .roots) (l .i) (c .renamed .result) (omega arith) (c .renamed .ensures) (l .inv)
+    mapped-more (renamedIn (stateOf (c .before .before .before .before .before .before .args .w .now) .nodes)) (c .before .before .before .before .before .before .args .roots .now) (l .roots) (l .at) (c .renamed .result) (omega arith) (c .renamed .ensures) (l .inv)
 
 same-length : tie.Need-same-length Inv-loop μ-loop
 same-length c = c .before .loop .inv .long
@@ -30,7 +30,7 @@ same-length c = c .before .loop .inv .long
 returns : tie.Need-returns Inv-loop μ-loop
 returns c =
     let l = c .before .loop in
-    mapped-all (renamedIn (stateOf (c .before .before .before .before .args .w .now) .nodes)) (c .before .before .before .before .args .roots .now) (l .roots) (l .i) (omega arith) (l .inv)
+    mapped-all (renamedIn (stateOf (c .before .before .before .before .args .w .now) .nodes)) (c .before .before .before .before .args .roots .now) (l .roots) (l .at) (omega arith) (l .inv)
 
 pub rename-spec : {M : Type 1} → statement M
 rename-spec =
