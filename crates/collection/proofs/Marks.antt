@@ -153,7 +153,8 @@ rooted-marks roots (suc i) ns j l h = go (rooted-marks roots i ns j) (ℕ-discre
     go f (yes z) =
         subst (λ (m : ℕ). Marked (linkedIn (rootedIn roots i ns) (getD roots i 0 / 2) 1) (getD roots m 0 / 2)) (sym z)
         (mark-here (rootedIn roots i ns) (getD roots i 0 / 2)
-        (subst (λ (m : ℕ). getD roots i 0 / 2 < m) (sym (length-rooted roots i ns)) (subst (λ (m : ℕ). getD roots m 0 / 2 < length ns) z h)))
+        (subst (λ (m : ℕ). getD roots i 0 / 2 < m) (sym (length-rooted roots i ns))
+        (subst (λ (m : ℕ). getD roots m 0 / 2 < length ns) z h)))
 
 -- ---- the sweep
 
@@ -203,13 +204,18 @@ closed-step ns ms n s c k l m = go (ℕ-discrete k n)
     before : Marked ns k
     before = subst (λ (x : ℕ). 0 < x) (s .above k l) m
 
-    to : Marked ms (nodeAt ns k .lo / 2) × Marked ms (nodeAt ns k .hi / 2) → Marked ms (nodeAt ms k .lo / 2) × Marked ms (nodeAt ms k .hi / 2)
-    to p =
-        (subst (λ (e : ℕ). Marked ms (e / 2)) (sym (s .alike .lo k)) (p .0), subst (λ (e : ℕ). Marked ms (e / 2)) (sym (s .alike .hi k)) (p .1))
+    to : Marked ms (nodeAt ns k .lo / 2) × Marked ms (nodeAt ns k .hi / 2) → Marked ms (nodeAt ms k .lo / 2) × Marked ms
+        (nodeAt ms k .hi / 2)
+    to p = (
+      subst (λ (e : ℕ). Marked ms (e / 2)) (sym (s .alike .lo k)) (p .0),
+      subst (λ (e : ℕ). Marked ms (e / 2)) (sym (s .alike .hi k))
+          (p .1),
+    )
 
     go : Dec (k ≡ n) → Marked ms (nodeAt ms k .lo / 2) × Marked ms (nodeAt ms k .hi / 2)
     go (yes z) =
-        to (subst (λ (i : ℕ). Marked ms (nodeAt ns i .lo / 2) × Marked ms (nodeAt ns i .hi / 2)) (sym z) (s .here (subst (λ (i : ℕ). Marked ns i) z before)))
+        to (subst (λ (i : ℕ). Marked ms (nodeAt ns i .lo / 2) × Marked ms (nodeAt ns i .hi / 2)) (sym z)
+        (s .here (subst (λ (i : ℕ). Marked ns i) z before)))
     go (no n) = let p = c k (omega arith) before in to (s .stay (nodeAt ns k .lo / 2) (p .0), s .stay (nodeAt ns k .hi / 2) (p .1))
 
 -- after j steps from the last node down
@@ -272,7 +278,8 @@ module _ (roots : List ℕ) (ns : List Vertex) (b : Built ns) where
   unfolding swept
   swept-from =
       let a = rooted-from in
-      swept-by rooted (λ k p h. omega (arith, a .long, a .lo k, b .lo k p (omega (arith, a .long)))) (λ k p h. omega (arith, a .long, a .hi k, b .hi k p (omega (arith, a .long))))
+      swept-by rooted (λ k p h. omega (arith, a .long, a .lo k, b .lo k p (omega (arith, a .long))))
+      (λ k p h. omega (arith, a .long, a .hi k, b .hi k p (omega (arith, a .long))))
       (length ns - 1) (omega (arith, a .long, b .some-node)) (length ns - 1) (omega arith)
 
   -- a mark is not lost but at node 0
@@ -291,13 +298,21 @@ module _ (roots : List ℕ) (ns : List Vertex) (b : Built ns) where
       let f = b .first in
       record {
         alike = w;
-        first = (λ i. record { lo = (w .lo 0 ∙ ap (λ (v : Vertex). v .lo) f) i; hi = (w .hi 0 ∙ ap (λ (v : Vertex). v .hi) f) i; var = (w .var 0 ∙ ap (λ (v : Vertex). v .var) f) i; next = z i });
+        first = (λ i. record {
+          lo = (w .lo 0 ∙ ap (λ (v : Vertex). v .lo) f) i;
+          hi = (w .hi 0 ∙ ap (λ (v : Vertex). v .hi) f) i;
+          var =
+              (w .var 0 ∙ ap (λ (v : Vertex). v .var) f) i;
+          next = z i;
+        });
         lo-live = λ k p m.
             let q : Marked swept k = subst (λ (v : Vertex). 0 < v .next) (linked-other swept 0 0 k (λ e. omega arith)) m in
-            subst (λ (e : ℕ). Live (linkedIn swept 0 0) (e / 2)) (sym (l .lo k)) (live-after (nodeAt swept k .lo / 2) (s .closed k (omega arith) q .0));
+            subst (λ (e : ℕ). Live (linkedIn swept 0 0) (e / 2)) (sym (l .lo k))
+            (live-after (nodeAt swept k .lo / 2) (s .closed k (omega arith) q .0));
         hi-live = λ k p m.
             let q : Marked swept k = subst (λ (v : Vertex). 0 < v .next) (linked-other swept 0 0 k (λ e. omega arith)) m in
-            subst (λ (e : ℕ). Live (linkedIn swept 0 0) (e / 2)) (sym (l .hi k)) (live-after (nodeAt swept k .hi / 2) (s .closed k (omega arith) q .1));
+            subst (λ (e : ℕ). Live (linkedIn swept 0 0) (e / 2)) (sym (l .hi k))
+            (live-after (nodeAt swept k .hi / 2) (s .closed k (omega arith) q .1));
       }
 
   -- the nodes of the roots are live
@@ -305,4 +320,5 @@ module _ (roots : List ℕ) (ns : List Vertex) (b : Built ns) where
   unfolding markedIn swept rooted unmarked
   roots-live j h i =
       live-after (getD roots j 0 / 2)
-      (swept-from .stay (getD roots j 0 / 2) (rooted-marks roots (length roots) (unmarkedIn (length ns) ns) j h (omega (arith, length-unmarked (length ns) ns))))
+      (swept-from .stay (getD roots j 0 / 2) (rooted-marks roots (length roots) (unmarkedIn (length ns) ns) j h
+      (omega (arith, length-unmarked (length ns) ns))))

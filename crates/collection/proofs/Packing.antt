@@ -1,5 +1,5 @@
--- Marked nodes that are moved to the front in their order: new numbers rise, each stands at its number with its edges renamed, and the front
--- is a diagram. Assumes nothing.
+-- Marked nodes that are moved to the front in their order: new numbers rise, each stands at its number with its edges renamed, and the
+-- front is a diagram. Assumes nothing.
 use mathlib.Core.Path.{_≡_, refl, sym, ap, ap₂, _∙_, subst}
 use mathlib.Core.Bool.{Bool, true, false, cond}
 use mathlib.Core.List.{List, [], _∷_}
@@ -38,7 +38,13 @@ renamed-same ts us e h = ap (λ (x : ℕ). flip (edgeTo x) e) h
 
 module _ (ts : List Vertex) (n k : ℕ) (n-in : n < length ts) (k-in : k < length ts) where
   abbrev new : Vertex
-  new = record { lo = renamedIn ts (nodeAt ts n .lo); hi = renamedIn ts (nodeAt ts n .hi); var = nodeAt ts n .var; next = nodeAt ts k .next }
+  new = record {
+    lo = renamedIn ts (nodeAt ts n .lo);
+    hi = renamedIn ts
+        (nodeAt ts n .hi);
+    var = nodeAt ts n .var;
+    next = nodeAt ts k .next;
+  }
 
   moved-next : (i : ℕ) → (i ≡ n → ⊥) → nodeAt (movedIn ts n k) i .next ≡ nodeAt ts i .next
   unfolding movedIn
@@ -115,7 +121,8 @@ module _ (ms : List Vertex) (b : Built ms) (small : length ms ≤ 1073741824)
         first = b .first;
         live = λ k p h m. absurd (omega arith);
         below = λ k h.
-            let e : nodeAt ms k .next ≡ 0 = ap (λ (i : ℕ). nodeAt ms i .next) (omega arith) ∙ ap (λ (v : Vertex). v .next) (b .first) in omega arith;
+            let e : nodeAt ms k .next ≡ 0 = ap (λ (i : ℕ). nodeAt ms i .next) (omega arith) ∙ ap (λ (v : Vertex). v .next)
+            (b .first) in omega arith;
         rising = λ i k p l h m r. absurd (omega arith);
         edge = λ side k p h m. absurd (omega arith);
         var = λ k p h m. absurd (omega arith);
@@ -251,7 +258,8 @@ module _ (ms : List Vertex) (b : Built ms) (small : length ms ≤ 1073741824)
           go : Dec (a ≡ c) → (t : Bool) → ltb a c ≡ t → a ≡ c
           go (yes z) t x = z
           go (no z) true x = absurd (let l = number-less a c (ltb-true a c x) i p q in omega arith)
-          go (no z) false x = absurd (let d : (a ≡ c → ⊥) = z in let l = number-less c a (let y = ltb-false a c x in omega arith) h q p in omega arith)
+          go (no z) false x = absurd (let d : (a ≡ c → ⊥) = z in let l = number-less c a
+              (let y = ltb-false a c x in omega arith) h q p in omega arith)
 
       kid-live : (side : Bool) → Live ms (kid side)
       unfolding kid
@@ -321,7 +329,8 @@ module _ (ms : List Vertex) (b : Built ms) (small : length ms ≤ 1073741824)
           edge-of : (side : Bool) (k : ℕ) → 0 < k → Marked ms k → (k ≤ j) ⊎ (k ≡ suc j)
               → pick side (nodeAt us (nodeAt us k .next)) ≡ renamedIn us (pick side (nodeAt ms k))
           edge-of side k p r (inl l) =
-              ap (λ (i : ℕ). pick side (nodeAt us i)) (next-old k l) ∙ pick-old side (nodeAt ts k .next) (m .below k l) ∙ m .edge side k p l r
+              ap (λ (i : ℕ). pick side (nodeAt us i)) (next-old k l) ∙ pick-old side (nodeAt ts k .next) (m .below k l)
+              ∙ m .edge side k p l r
               ∙ sym (renamed-old (pick side (nodeAt ms k)) (let q = down side k p (omega arith) in omega arith))
           edge-of side k p r (inr e) =
               ap (λ (i : ℕ). pick side (nodeAt us i)) (ap (λ (i : ℕ). nodeAt us i .next) e ∙ next-new) ∙ pick-last side
@@ -344,7 +353,8 @@ module _ (ms : List Vertex) (b : Built ms) (small : length ms ≤ 1073741824)
           apart-of q p (inl l) e = m .apart q p l (sym (pick-old true q l) ∙ e ∙ pick-old false q l)
           apart-of q p (inr z) e = last-apart (subst (λ (i : ℕ). nodeAt us i .lo ≡ nodeAt us i .hi) z e)
 
-          above-of : (side : Bool) (q : ℕ) → 0 < q → (q < count) ⊎ (q ≡ count) → nodeAt us q .var < nodeAt us (pick side (nodeAt us q) / 2) .var
+          above-of : (side : Bool) (q : ℕ) → 0 < q → (q < count) ⊎ (q ≡ count) → nodeAt us q .var < nodeAt us
+              (pick side (nodeAt us q) / 2) .var
           above-of side q p (inl l) =
               let w = m .above side q p l in
               let d = m .less side q p l in
@@ -365,7 +375,11 @@ module _ (ms : List Vertex) (b : Built ms) (small : length ms ≤ 1073741824)
 
       go : (t : Bool) → eqb (nodeAt (packedIn j ms .nodes) (suc j) .next) 0 ≡ t → Moving ms j (packedIn j ms .nodes) (packedIn j ms .count)
           → Moving ms (suc j)
-          (cond t (packedIn j ms) (record { nodes = movedIn (packedIn j ms .nodes) (suc j) (packedIn j ms .count); count = suc (packedIn j ms .count) }) .nodes)
-          (cond t (packedIn j ms) (record { nodes = movedIn (packedIn j ms .nodes) (suc j) (packedIn j ms .count); count = suc (packedIn j ms .count) }) .count)
-      go true e m = moving-skip j (packedIn j ms .nodes) (packedIn j ms .count) h m (eqb-true (nodeAt (packedIn j ms .nodes) (suc j) .next) 0 e)
-      go false e m = moving-more j (packedIn j ms .nodes) (packedIn j ms .count) h m (eqb-false (nodeAt (packedIn j ms .nodes) (suc j) .next) 0 e)
+          (cond t (packedIn j ms)
+          (record { nodes = movedIn (packedIn j ms .nodes) (suc j) (packedIn j ms .count); count = suc (packedIn j ms .count) }) .nodes)
+          (cond t (packedIn j ms)
+          (record { nodes = movedIn (packedIn j ms .nodes) (suc j) (packedIn j ms .count); count = suc (packedIn j ms .count) }) .count)
+      go true e m = moving-skip j (packedIn j ms .nodes) (packedIn j ms .count) h m
+          (eqb-true (nodeAt (packedIn j ms .nodes) (suc j) .next) 0 e)
+      go false e m = moving-more j (packedIn j ms .nodes) (packedIn j ms .count) h m
+          (eqb-false (nodeAt (packedIn j ms .nodes) (suc j) .next) 0 e)

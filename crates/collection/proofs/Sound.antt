@@ -254,15 +254,18 @@ collected-right terms s roots g =
     let t = paid s (n / 4) in
     let u = paid-good s (n / 4) g in
     go (eqb n 0) (ltb (s .room) n) (isPaid s (n / 4))
-    (subst (λ (ns : List Vertex). Keeps ns roots (gathered t roots)) (paid-nodes s (n / 4)) (gathered-keeps t roots (u .built) (u .small) (u .fits)))
+    (subst (λ (ns : List Vertex). Keeps ns roots (gathered t roots)) (paid-nodes s (n / 4))
+    (gathered-keeps t roots (u .built) (u .small) (u .fits)))
   where
     n : ℕ
     n = length (s .nodes)
 
     go : (a b c : Bool) → Keeps (s .nodes) roots (gathered (paid s (length (s .nodes) / 4)) roots)
-        → cond a (collection s roots false) (cond b (collection s roots false) (cond c (gathered (paid s (length (s .nodes) / 4)) roots) (collection (paid s (length (s .nodes) / 4)) roots false))) .kept ≡ true
+        → cond a (collection s roots false) (cond b (collection s roots false)
+        (cond c (gathered (paid s (length (s .nodes) / 4)) roots) (collection (paid s (length (s .nodes) / 4)) roots false))) .kept ≡ true
         → Keeps (s .nodes) roots
-        (cond a (collection s roots false) (cond b (collection s roots false) (cond c (gathered (paid s (length (s .nodes) / 4)) roots) (collection (paid s (length (s .nodes) / 4)) roots false))))
+        (cond a (collection s roots false) (cond b (collection s roots false)
+        (cond c (gathered (paid s (length (s .nodes) / 4)) roots) (collection (paid s (length (s .nodes) / 4)) roots false))))
     go true b c k h = false-true h
     go false true c k h = false-true h
     go false false false k h = false-true h

@@ -29,7 +29,8 @@ inside-by s t ns e l h =
     omega arith
 
 -- one change of the nodes after another
-pub again : (s t : State) (f : List Vertex → List Vertex) (ns : List Vertex) → t ≡ withNodes s ns → withNodes t (f (t .nodes)) ≡ withNodes s (f ns)
+pub again : (s t : State) (f : List Vertex → List Vertex) (ns : List Vertex) → t ≡ withNodes s ns → withNodes t
+    (f (t .nodes)) ≡ withNodes s (f ns)
 again s t f ns e = ap (λ (u : State). withNodes u (f (u .nodes))) e
 
 -- ---- lengths
@@ -71,14 +72,21 @@ length-marked roots ns =
 pub length-moved : (ns : List Vertex) (n k : ℕ) → length (movedIn ns n k) ≡ length ns
 unfolding movedIn
 length-moved ns n k =
-    let v : Vertex = record { lo = renamedIn ns (nodeAt ns n .lo); hi = renamedIn ns (nodeAt ns n .hi); var = nodeAt ns n .var; next = nodeAt ns k .next } in
+    let v : Vertex = record {
+      lo = renamedIn ns (nodeAt ns n .lo);
+      hi = renamedIn ns
+          (nodeAt ns n .hi);
+      var = nodeAt ns n .var;
+      next = nodeAt ns k .next;
+    } in
     length-linked (set ns k v) n k ∙ length-set ns k v
 
 pub length-one : (p : Packed) (n : ℕ) → length (packedOne p n .nodes) ≡ length (p .nodes)
 unfolding packedOne
 length-one p n = go (eqb (nodeAt (p .nodes) n .next) 0)
   where
-    go : (b : Bool) → length (cond b p (record { nodes = movedIn (p .nodes) n (p .count); count = suc (p .count) }) .nodes) ≡ length (p .nodes)
+    go : (b : Bool) → length (cond b p (record { nodes = movedIn (p .nodes) n (p .count); count = suc (p .count) }) .nodes) ≡ length
+        (p .nodes)
     go true = refl
     go false = length-moved (p .nodes) n (p .count)
 
@@ -97,7 +105,8 @@ pub unmarked-none : (ns : List Vertex) → ns ≡ unmarkedIn 0 ns
 unfolding unmarkedIn
 unmarked-none ns = refl
 
-pub rooted-more : (roots : List ℕ) (i : ℕ) (ns : List Vertex) → linkedIn (rootedIn roots i ns) (getD roots i 0 / 2) 1 ≡ rootedIn roots (i + 1) ns
+pub rooted-more : (roots : List ℕ) (i : ℕ) (ns : List Vertex) → linkedIn (rootedIn roots i ns) (getD roots i 0 / 2) 1 ≡ rootedIn roots
+    (i + 1) ns
 unfolding rootedIn
 rooted-more roots i ns = sym (ap (λ (k : ℕ). rootedIn roots k ns) (add-one i))
 
@@ -124,7 +133,8 @@ pub swept-none : (last : ℕ) (ns : List Vertex) → ns ≡ sweptIn last 0 ns
 unfolding sweptIn
 swept-none last ns = refl
 
-pub marked-by : (s a b c d : State) (roots : List ℕ) (n : ℕ) → n ≡ length (s .nodes) → a ≡ withNodes s (unmarkedIn (length (s .nodes)) (s .nodes))
+pub marked-by : (s a b c d : State) (roots : List ℕ) (n : ℕ) → n ≡ length (s .nodes) → a ≡ withNodes s
+    (unmarkedIn (length (s .nodes)) (s .nodes))
     → b ≡ withNodes a (rootedIn roots (length roots) (a .nodes)) → c ≡ withNodes b (sweptIn (n - 1) (n - 1) (b .nodes))
     → d ≡ withNodes c (linkedIn (c .nodes) 0 0) → d ≡ withNodes s (markedIn roots (s .nodes))
 unfolding markedIn
@@ -141,7 +151,8 @@ pub renamed-by : (ns : List Vertex) (e : ℕ) (n : Vertex) (d r : ℕ) → n ≡
 unfolding renamedIn
 renamed-by ns e n d r en ed er = er ∙ ap (λ (x : ℕ). flip x e) (ed ∙ ap (λ (x : Vertex). edgeTo (x .next)) en)
 
-pub moved-by : (s a b : State) (n k lo hi : ℕ) (p q : Vertex) → p ≡ nodeAt (s .nodes) n → q ≡ nodeAt (s .nodes) k → lo ≡ renamedIn (s .nodes) (p .lo)
+pub moved-by : (s a b : State) (n k lo hi : ℕ) (p q : Vertex) → p ≡ nodeAt (s .nodes) n → q ≡ nodeAt (s .nodes) k → lo ≡ renamedIn
+    (s .nodes) (p .lo)
     → hi ≡ renamedIn (s .nodes) (p .hi) → a ≡ withNodes s (set (s .nodes) k (record { lo = lo; hi = hi; var = p .var; next = q .next }))
     → b ≡ withNodes a (linkedIn (a .nodes) n k) → b ≡ withNodes s (movedIn (s .nodes) n k)
 unfolding movedIn
@@ -179,8 +190,14 @@ packed-count zero ns = (omega arith, omega arith)
 packed-count (suc j) ns = go (eqb (nodeAt (packedIn j ns .nodes) (suc j) .next) 0) (packed-count j ns)
   where
     go : (b : Bool) → (packedIn j ns .count ≤ j + 1) × (0 < packedIn j ns .count)
-        → (cond b (packedIn j ns) (record { nodes = movedIn (packedIn j ns .nodes) (suc j) (packedIn j ns .count); count = suc (packedIn j ns .count) }) .count ≤ suc j + 1)
-        × (0 < cond b (packedIn j ns) (record { nodes = movedIn (packedIn j ns .nodes) (suc j) (packedIn j ns .count); count = suc (packedIn j ns .count) }) .count)
+        → (cond b (packedIn j ns)
+        (record {
+          nodes = movedIn (packedIn j ns .nodes) (suc j) (packedIn j ns .count);
+          count = suc
+              (packedIn j ns .count);
+        }) .count ≤ suc j + 1)
+        × (0 < cond b (packedIn j ns)
+        (record { nodes = movedIn (packedIn j ns .nodes) (suc j) (packedIn j ns .count); count = suc (packedIn j ns .count) }) .count)
     go true h = (omega (arith, h .0), h .1)
     go false h = (omega (arith, h .0), omega (arith, h .1))
 
@@ -206,7 +223,8 @@ mapped-more f old new i x h e c =
   where
     go : (j : ℕ) → j < i + 1 → j < length old → Dec (j ≡ i) → getD (set new i x) j 0 ≡ f (getD old j 0)
     go j l q (yes z) =
-        ap (λ (k : ℕ). getD (set new i x) k 0) z ∙ getD-set-same new i x 0 h ∙ e ∙ ap f (c .left i (omega arith)) ∙ ap (λ (k : ℕ). f (getD old k 0)) (sym z)
+        ap (λ (k : ℕ). getD (set new i x) k 0) z ∙ getD-set-same new i x 0 h ∙ e ∙ ap f (c .left i (omega arith)) ∙ ap
+        (λ (k : ℕ). f (getD old k 0)) (sym z)
     go j l q (no n) = getD-set-other new i j x 0 n ∙ c .done j (omega arith) q
 
 getD-mapped : (f : ℕ → ℕ) (l : List ℕ) (j : ℕ) → j < length l → getD (map f l) j 0 ≡ f (getD l j 0)
@@ -228,7 +246,8 @@ mapped-all f old new i h c =
 pub zeroed-none : (w : List ℕ) (from : ℕ) → Zeroed w w from from
 zeroed-none w from = record { long = refl; inside = λ j p q. absurd (omega arith); outside = λ j p. refl }
 
-pub zeroed-more : (old new : List ℕ) (from i : ℕ) → from ≤ i → i < length new → Zeroed old new from i → Zeroed old (set new i 0) from (i + 1)
+pub zeroed-more : (old new : List ℕ) (from i : ℕ) → from ≤ i → i < length new → Zeroed old new from i → Zeroed old (set new i 0) from
+    (i + 1)
 zeroed-more old new from i l h z =
     record {
       long = length-set new i 0 ∙ z .long;
@@ -250,7 +269,8 @@ zeroed-more old new from i l h z =
 
 -- ---- hash lists
 
-pub hashed-by : (s t o : State) (p : Vertex) (n h next : ℕ) → p ≡ nodeAt (s .nodes) n → h ≡ bucketOf (length (s .heads)) (p .lo) (p .hi) (p .var)
+pub hashed-by : (s t o : State) (p : Vertex) (n h next : ℕ) → p ≡ nodeAt (s .nodes) n → h ≡ bucketOf (length (s .heads)) (p .lo) (p .hi)
+    (p .var)
     → next ≡ getD (s .heads) h 0 → t ≡ withNodes s (linkedIn (s .nodes) n next)
     → o ≡ record { room = t .room; looks = t .looks; nodes = t .nodes; heads = set (t .heads) h n; cache = t .cache } → o ≡ hashed s n
 unfolding hashed
@@ -285,7 +305,8 @@ inside-same s t e h = subst (λ (u : State). length (u .nodes) ≤ u .room) (sym
 
 -- ---- the whole
 
-pub gathered-by : (s a b c d e : State) (roots new : List ℕ) (n k : ℕ) (r : Bool) → n ≡ length (s .nodes) → a ≡ withNodes s (markedIn roots (s .nodes))
+pub gathered-by : (s a b c d e : State) (roots new : List ℕ) (n k : ℕ) (r : Bool) → n ≡ length (s .nodes) → a ≡ withNodes s
+    (markedIn roots (s .nodes))
     → b ≡ withNodes a (packedIn (n - 1) (a .nodes) .nodes) → k ≡ packedIn (n - 1) (a .nodes) .count → new ≡ map (renamedIn (b .nodes)) roots
     → c ≡ trimmed b k → d ≡ rehashed (k - 1) c → e ≡ paid d (k / 2) → r ≡ isPaid d (k / 2) → collection e new r ≡ gathered s roots
 unfolding gathered gatheredBy settled
@@ -344,6 +365,7 @@ paid-room s n = go (ltb (s .looks) n)
 pub paid-inside : (s t : State) (n : ℕ) → t ≡ paid s n → length (s .nodes) ≤ s .room → 0 < length (s .nodes)
     → (length (t .nodes) ≤ t .room) × (0 < length (t .nodes))
 paid-inside s t n e h p =
-    let a : length (t .nodes) ≡ length (s .nodes) = ap (λ (u : State). length (u .nodes)) e ∙ ap (λ (ns : List Vertex). length ns) (paid-nodes s n) in
+    let a : length (t .nodes) ≡ length (s .nodes) = ap (λ (u : State). length (u .nodes)) e ∙ ap (λ (ns : List Vertex). length ns)
+    (paid-nodes s n) in
     let b : t .room ≡ s .room = ap (λ (u : State). u .room) e ∙ paid-room s n in
     (omega arith, omega arith)

@@ -19,7 +19,8 @@ use Rattle.collection.specs.Collecting.{withNodes, trimmed}
 use Rattle.collection.specs.Zeros.{Zeroed}
 
 -- nodes that are the same by position
-nodes-eq : (u : List ℕ) (ns : List Vertex) → getD u 0 0 ≡ length ns → ((k : ℕ) → k < length ns → nodeIn u k ≡ nodeAt ns k) → stateOf u .nodes ≡ ns
+nodes-eq : (u : List ℕ) (ns : List Vertex) → getD u 0 0 ≡ length ns → ((k : ℕ) → k < length ns → nodeIn u k ≡ nodeAt ns k)
+    → stateOf u .nodes ≡ ns
 nodes-eq u ns l same =
     let c = count-is u in
     ext-getD noVertex (stateOf u .nodes) ns (c ∙ l) (λ k h. node-at u k (omega arith) ∙ same k (omega arith))
@@ -27,7 +28,8 @@ nodes-eq u ns l same =
 -- ---- a node
 
 module _ (w : List ℕ) (k at : ℕ) (n : Vertex) (ea : at ≡ wordOf (length w) k) where
-  pub store-in : k < roomOf (length w) → stateOf (fourSet w at (n .lo) (n .hi) (n .var) (n .next)) ≡ withNodes (stateOf w) (set (stateOf w .nodes) k n)
+  pub store-in : k < roomOf (length w) → stateOf (fourSet w at (n .lo) (n .hi) (n .var) (n .next)) ≡ withNodes (stateOf w)
+      (set (stateOf w .nodes) k n)
   store-in l =
       let u = fourSet w at (n .lo) (n .hi) (n .var) (n .next) in
       let long = length-four w at (n .lo) (n .hi) (n .var) (n .next) in
@@ -69,7 +71,14 @@ module _ (w : List ℕ) (k at : ℕ) (n : Vertex) (ea : at ≡ wordOf (length w)
 module _ (w : List ℕ) (h at x : ℕ) (ea : at ≡ length w - length w / 16 + h) (inside : length (stateOf w .nodes) ≤ stateOf w .room) where
   abbrev headed : State
   headed =
-      record { room = stateOf w .room; looks = stateOf w .looks; nodes = stateOf w .nodes; heads = set (stateOf w .heads) h x; cache = stateOf w .cache }
+      record {
+        room = stateOf w .room;
+        looks = stateOf w .looks;
+        nodes = stateOf w .nodes;
+        heads = set
+            (stateOf w .heads) h x;
+        cache = stateOf w .cache;
+      }
 
   pub head-left : stateOf (set w at x) ≡ headed
   head-left = go (ltb (length w) 16) refl
@@ -111,7 +120,8 @@ zeros-eq : (l : List ℕ) (n : ℕ) → length l ≡ n → ((i : ℕ) → i < le
 zeros-eq l n e h =
     ext-getD 0 l (replicate n 0) (e ∙ sym (length-replicate {A = ℕ} n 0)) (λ i p. h i p ∙ sym (zeros-at n i))
 
-module _ (w u x y : List ℕ) (k : ℕ) (less : k ≤ length (stateOf w .nodes)) (inside : length (stateOf w .nodes) ≤ stateOf w .room) (some : 0 < k)
+module _ (w u x y : List ℕ) (k : ℕ) (less : k ≤ length (stateOf w .nodes)) (inside : length (stateOf w .nodes) ≤ stateOf w .room)
+    (some : 0 < k)
     (eu : u ≡ set w 0 k) (ex : Zeroed u x 4 (4 * (length w / 16) + 4)) (ey : Zeroed x y (length w - length w / 16) (length w)) where
   pub trim-left : stateOf y ≡ trimmed (stateOf w) k
   unfolding trimmed
@@ -122,8 +132,10 @@ module _ (w u x y : List ℕ) (k : ℕ) (less : k ≤ length (stateOf w .nodes))
       let long : length y ≡ length w = ey .long ∙ ex .long ∙ lu in
       let big = room-fits (length w) 0 (omega arith) in
       let first : getD y 0 0 ≡ k =
-      ey .outside 0 (inl (omega arith)) ∙ ex .outside 0 (inl (omega arith)) ∙ ap (λ (l : List ℕ). getD l 0 0) eu ∙ getD-set-same w 0 k 0 (omega arith) in
-      let below : (j : ℕ) → 0 < j → (j < 4) ⊎ (4 * (length w / 16) + 4 ≤ j) → j < length w - length w / 16 → getD y j 0 ≡ getD w j 0 = λ j p q t.
+      ey .outside 0 (inl (omega arith)) ∙ ex .outside 0 (inl (omega arith)) ∙ ap (λ (l : List ℕ). getD l 0 0) eu ∙ getD-set-same w 0 k 0
+      (omega arith) in
+      let below : (j : ℕ) → 0 < j → (j < 4) ⊎ (4 * (length w / 16) + 4 ≤ j) → j < length w - length w / 16
+      → getD y j 0 ≡ getD w j 0 = λ j p q t.
       ey .outside j (inl t) ∙ ex .outside j q ∙ ap (λ (l : List ℕ). getD l j 0) eu ∙ getD-set-other w 0 j k 0 (λ z. omega arith) in
       let taken = length-take-le k (stateOf w .nodes) less in
       state-eq (room-same y w long) (looks-is y ∙ below 1 (omega arith) (inl (omega arith)) (omega arith) ∙ sym (looks-is w))

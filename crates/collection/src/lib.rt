@@ -32,7 +32,8 @@ fn store(w: &mut [u32], k: u32, n: diagrams::Vertex)
 // Writes the last word of node k.
 fn link(w: &mut [u32], k: u32, x: u32)
     requires { ⌜ length (S.stateOf (now w) .nodes) ≤ S.stateOf (now w) .room ⌝ }
-    ensures { λ _. ⌜ S.stateOf (now (w .exit)) ≡ C.withNodes (S.stateOf (now (w .entry))) (C.linkedIn (S.stateOf (now (w .entry)) .nodes) k x) ⌝ }
+    ensures { λ _. ⌜ S.stateOf (now (w .exit))
+        ≡ C.withNodes (S.stateOf (now (w .entry))) (C.linkedIn (S.stateOf (now (w .entry)) .nodes) k x) ⌝ }
 {
     let n = diagrams::read(w, k);
     store(
@@ -77,7 +78,8 @@ fn mark_roots(w: &mut [u32], roots: &[u32])
 // Marks the two nodes under node n, where it is marked.
 fn mark_edges(w: &mut [u32], n: u32)
     requires { ⌜ length (S.stateOf (now w) .nodes) ≤ S.stateOf (now w) .room ⌝ }
-    ensures { λ _. ⌜ S.stateOf (now (w .exit)) ≡ C.withNodes (S.stateOf (now (w .entry))) (C.edgesMarked (S.stateOf (now (w .entry)) .nodes) n) ⌝ }
+    ensures { λ _. ⌜ S.stateOf (now (w .exit))
+        ≡ C.withNodes (S.stateOf (now (w .entry))) (C.edgesMarked (S.stateOf (now (w .entry)) .nodes) n) ⌝ }
 {
     let p = diagrams::read(w, n);
     if p.next != 0 {
@@ -89,7 +91,8 @@ fn mark_edges(w: &mut [u32], n: u32)
 // The same for all nodes but node 0, from the last one down.
 fn sweep(w: &mut [u32], last: u32)
     requires { ⌜ length (S.stateOf (now w) .nodes) ≤ S.stateOf (now w) .room ⌝ }
-    ensures { λ _. ⌜ S.stateOf (now (w .exit)) ≡ C.withNodes (S.stateOf (now (w .entry))) (C.sweptIn last last (S.stateOf (now (w .entry)) .nodes)) ⌝ }
+    ensures { λ _. ⌜ S.stateOf (now (w .exit))
+        ≡ C.withNodes (S.stateOf (now (w .entry))) (C.sweptIn last last (S.stateOf (now (w .entry)) .nodes)) ⌝ }
 {
     let mut j = 0;
     while j < last {
@@ -122,7 +125,8 @@ fn renamed(w: &[u32], e: u32) -> u32
 // Moves node n to number k.
 fn move_node(w: &mut [u32], n: u32, k: u32)
     requires { ⌜ length (S.stateOf (now w) .nodes) ≤ S.stateOf (now w) .room ⌝ }
-    ensures { λ _. ⌜ S.stateOf (now (w .exit)) ≡ C.withNodes (S.stateOf (now (w .entry))) (C.movedIn (S.stateOf (now (w .entry)) .nodes) n k) ⌝ }
+    ensures { λ _. ⌜ S.stateOf (now (w .exit))
+        ≡ C.withNodes (S.stateOf (now (w .entry))) (C.movedIn (S.stateOf (now (w .entry)) .nodes) n k) ⌝ }
 {
     let p = diagrams::read(w, n);
     let q = diagrams::read(w, k);
@@ -144,7 +148,8 @@ fn move_node(w: &mut [u32], n: u32, k: u32)
 // Moves node n to number k, where it is marked. Answers the next number.
 fn pack_one(w: &mut [u32], n: u32, k: u32) -> u32
     requires { ⌜ (length (S.stateOf (now w) .nodes) ≤ S.stateOf (now w) .room) × (k < 4294967295) ⌝ }
-    ensures { λ r. ⌜ (S.stateOf (now (w .exit)) ≡ C.withNodes (S.stateOf (now (w .entry))) (C.packedOne (C.packed (S.stateOf (now (w .entry)) .nodes) k) n .nodes))
+    ensures { λ r. ⌜ (S.stateOf (now (w .exit))
+        ≡ C.withNodes (S.stateOf (now (w .entry))) (C.packedOne (C.packed (S.stateOf (now (w .entry)) .nodes) k) n .nodes))
         × (r ≡ C.packedOne (C.packed (S.stateOf (now (w .entry)) .nodes) k) n .count) ⌝ }
 {
     let p = diagrams::read(w, n);
@@ -158,7 +163,8 @@ fn pack_one(w: &mut [u32], n: u32, k: u32) -> u32
 // Moves the marked nodes from 1 to last to the front, in their order. Answers how many nodes there are then, with node 0.
 fn pack(w: &mut [u32], last: u32) -> u32
     requires { ⌜ (length (S.stateOf (now w) .nodes) ≤ S.stateOf (now w) .room) × (last < 4294967295) ⌝ }
-    ensures { λ r. ⌜ (S.stateOf (now (w .exit)) ≡ C.withNodes (S.stateOf (now (w .entry))) (C.packedIn last (S.stateOf (now (w .entry)) .nodes) .nodes))
+    ensures { λ r. ⌜ (S.stateOf (now (w .exit))
+        ≡ C.withNodes (S.stateOf (now (w .entry))) (C.packedIn last (S.stateOf (now (w .entry)) .nodes) .nodes))
         × (r ≡ C.packedIn last (S.stateOf (now (w .entry)) .nodes) .count) ⌝ }
 {
     let mut k = 1;

@@ -1,8 +1,8 @@
-// Decision diagrams in one slice of lent words. An edge is 2 * node + complement; node 0 is false, so edge 0 is false and edge 1 true. Where things
-// stand follows from the length alone: word 0 is the number of nodes and word 1 the number of looks that are left; entries of the cache from
-// word 4 on, nodes after them, and the heads of the hash lists at the end. A node has four words: the edges to go along where its variable
-// is false and where it is true, the variable, and the next node of its hash list, 0 for none. Nothing is asked of the words: a word past
-// the end is 0, and a store past it changes nothing.
+// Decision diagrams in one slice of lent words. An edge is 2 * node + complement; node 0 is false, so edge 0 is false and edge 1 true.
+// Where things stand follows from the length alone: word 0 is the number of nodes and word 1 the number of looks that are left; entries of
+// the cache from word 4 on, nodes after them, and the heads of the hash lists at the end. A node has four words: the edges to go along
+// where its variable is false and where it is true, the variable, and the next node of its hash list, 0 for none. Nothing is asked of the
+// words: a word past the end is 0, and a store past it changes nothing.
 ghost use mathlib.Core.Path.{_≡_};
 ghost use mathlib.Core.List.{List};
 ghost use Prim.Native.Nat.{ℕ, _<_, _/_};
@@ -196,7 +196,8 @@ fn find_or_append(w: &mut [u32], v: u32, lo: u32, hi: u32) -> Made
     append(w, h, v, lo, hi)
 }
 
-// The edge that is hi where variable v is true and lo where it is false. In a node lo is no complement: that of the result is taken in its place.
+// The edge that is hi where variable v is true and lo where it is false. In a node lo is no complement: that of the result is taken in its
+// place.
 pub fn node(w: &mut [u32], v: u32, lo: u32, hi: u32) -> Made
     ensures { λ r. ⌜ S.left (now (w .exit)) r ≡ S.made (S.stateOf (now (w .entry))) v lo hi ⌝ }
 {

@@ -34,11 +34,17 @@ returns c =
     let u = m .last .0 in
     let h = b .result in
     let at = length w - length w / 16 + h in
-    hashed-by s (stateOf u) (stateOf (c .before .before .put .last .0)) p (a .n) h (c .before .before .before .before .before .before .before .before .head .result) (c .before .before .before .before .before .before .before .before .before .before .before .read .ensures)
-    (b .ensures .0 ∙ ap (λ (n : ℕ). bucketOf n (p .lo) (p .hi) (p .var)) (sym (length-heads w))) (c .before .before .before .before .before .before .before .before .head .ensures) (m .ensures)
+    hashed-by s (stateOf u) (stateOf (c .before .before .put .last .0)) p (a .n) h
+    (c .before .before .before .before .before .before .before .before .head .result)
+    (c .before .before .before .before .before .before .before .before .before .before .before .read .ensures)
+    (b .ensures .0 ∙ ap (λ (n : ℕ). bucketOf n (p .lo) (p .hi) (p .var)) (sym (length-heads w)))
+    (c .before .before .before .before .before .before .before .before .head .ensures) (m .ensures)
     (ap stateOf (c .before .before .put .ensures)
     ∙ head-left u h at (a .n) (ap (λ (n : ℕ). n - n / 16 + h) (sym (m .kept .0)))
-    (inside-by s (stateOf u) (linkedIn (s .nodes) (a .n) (c .before .before .before .before .before .before .before .before .head .result)) (m .ensures) (length-linked (s .nodes) (a .n) (c .before .before .before .before .before .before .before .before .head .result)) (c .before .before .before .before .before .before .before .before .before .before .before .before .before .before .pre)))
+    (inside-by s (stateOf u) (linkedIn (s .nodes) (a .n)
+    (c .before .before .before .before .before .before .before .before .head .result)) (m .ensures)
+    (length-linked (s .nodes) (a .n) (c .before .before .before .before .before .before .before .before .head .result))
+    (c .before .before .before .before .before .before .before .before .before .before .before .before .before .before .pre)))
 
 pub hash-spec : {M : Type 1} → statement M
 hash-spec =

@@ -19,7 +19,8 @@ returns c =
     let a = c .before .before .before .before .before .before .before .args in
     let s = stateOf (a .w .now) in
     c .before .before .store .ensures
-    ∙ ap (λ (n : Vertex). withNodes s (set (s .nodes) (a .k) (record { lo = n .lo; hi = n .hi; var = n .var; next = a .x }))) (c .before .before .before .before .read .ensures)
+    ∙ ap (λ (n : Vertex). withNodes s (set (s .nodes) (a .k) (record { lo = n .lo; hi = n .hi; var = n .var; next = a .x })))
+    (c .before .before .before .before .read .ensures)
 
 pub link-spec : {M : Type 1} → statement M
 link-spec =

@@ -18,13 +18,20 @@ abbrev μ-loop : tie.MeasureT-loop
 μ-loop w₀ roots i₀ w i = length roots - i
 
 loop-holds : tie.Need-loop-holds Inv-loop μ-loop
-loop-holds c = (refl, ap (withNodes (stateOf (c .before .before .args .w .now))) (rooted-none (c .before .before .args .roots .now) (stateOf (c .before .before .args .w .now) .nodes)), omega arith)
+loop-holds c = (
+  refl,
+  ap (withNodes (stateOf (c .before .before .args .w .now)))
+      (rooted-none (c .before .before .args .roots .now) (stateOf (c .before .before .args .w .now) .nodes)),
+  omega arith,
+)
 
 link-requires : tie.Need-link-requires Inv-loop μ-loop
 link-requires c κs =
     let s = stateOf (c .before .before .before .before .before .before .args .w .now) in
     let l = c .before .before .before .loop in
-    inside-by s (stateOf (l .w)) (rootedIn (c .before .before .before .before .before .before .args .roots .now) (l .i) (s .nodes)) (l .inv .1) (length-rooted (c .before .before .before .before .before .before .args .roots .now) (l .i) (s .nodes)) (c .before .before .before .before .before .before .pre)
+    inside-by s (stateOf (l .w)) (rootedIn (c .before .before .before .before .before .before .args .roots .now) (l .i) (s .nodes))
+    (l .inv .1) (length-rooted (c .before .before .before .before .before .before .args .roots .now) (l .i) (s .nodes))
+    (c .before .before .before .before .before .before .pre)
 
 loop-again : tie.Need-loop-again Inv-loop μ-loop
 loop-again c =
@@ -32,7 +39,8 @@ loop-again c =
     let roots = c .before .before .before .before .before .before .before .before .before .args .roots .now in
     let l = c .before .before .before .before .before .before .loop in (
       c .before .before .link .kept .0 ∙ l .inv .0,
-      c .before .before .link .ensures ∙ again s (stateOf (l .w)) (λ ns. linkedIn ns (getD roots (l .i) 0 / 2) 1) (rootedIn roots (l .i) (s .nodes)) (l .inv .1)
+      c .before .before .link .ensures ∙ again s (stateOf (l .w)) (λ ns. linkedIn ns (getD roots (l .i) 0 / 2) 1)
+          (rootedIn roots (l .i) (s .nodes)) (l .inv .1)
           ∙ ap (withNodes s) (rooted-more roots (l .i) (s .nodes)),
       omega (arith, c .before .before .before .before .before .loop-test .taken),
     )

@@ -14,7 +14,8 @@ use Rattle.collection.proofs.pack.Tie as tie
 
 abbrev Inv-loop : tie.InvT-loop
 Inv-loop w₀ last k₀ j₀ w k j =
-    (length w ≡ length w₀) × (stateOf w ≡ withNodes (stateOf w₀) (packedIn j (stateOf w₀ .nodes) .nodes)) × (k ≡ packedIn j (stateOf w₀ .nodes) .count) × (j ≤ last)
+    (length w ≡ length w₀) × (stateOf w ≡ withNodes (stateOf w₀) (packedIn j (stateOf w₀ .nodes) .nodes)) ×
+    (k ≡ packedIn j (stateOf w₀ .nodes) .count) × (j ≤ last)
 
 abbrev μ-loop : tie.MeasureT-loop
 μ-loop w₀ last k₀ j₀ w k j = last - j
@@ -32,7 +33,8 @@ pack-one-requires : tie.Need-pack-one-requires Inv-loop μ-loop
 pack-one-requires c κs =
     let s = stateOf (c .before .before .before .before .args .w .now) in
     let l = c .before .before .loop in (
-      inside-by s (stateOf (l .w)) (packedIn (l .j) (s .nodes) .nodes) (l .inv .1) (length-packed (l .j) (s .nodes)) (c .before .before .before .before .pre .0),
+      inside-by s (stateOf (l .w)) (packedIn (l .j) (s .nodes) .nodes) (l .inv .1) (length-packed (l .j) (s .nodes))
+          (c .before .before .before .before .pre .0),
       omega (arith, l .inv .2, packed-count (l .j) (s .nodes) .0, c .before .loop-test .taken, c .before .before .before .before .pre .1),
     )
 
@@ -42,7 +44,8 @@ loop-again c =
     let l = c .before .before .before .before .before .loop in
     let o = c .before .before .pack-one in
     let q : packed (stateOf (l .w) .nodes) (l .k) ≡ packedIn (l .j) (s .nodes) = λ i. packed (l .inv .1 i .nodes) (l .inv .2 i) in
-    let e : packedOne (packed (stateOf (l .w) .nodes) (l .k)) (l .j + 1) ≡ packedIn (l .j + 1) (s .nodes) = ap (λ (p : Packed). packedOne p (l .j + 1)) q ∙ packed-more (l .j) (s .nodes) in (
+    let e : packedOne (packed (stateOf (l .w) .nodes) (l .k)) (l .j + 1) ≡ packedIn (l .j + 1) (s .nodes) = ap
+    (λ (p : Packed). packedOne p (l .j + 1)) q ∙ packed-more (l .j) (s .nodes) in (
       o .kept .0 ∙ l .inv .0,
       o .ensures .0 ∙ (λ i. withNodes (l .inv .1 i) (e i .nodes)),
       o .ensures .1 ∙ ap (λ (p : Packed). p .count) e,

@@ -23,7 +23,8 @@ returns-2 : tie.Need-returns-2
 returns-2 c =
     let a = c .before .before .before .before .before .before .before .before .before .args in
     let s = stateOf (a .w .now) in
-    let e = one-moved (s .nodes) (a .n) (a .k) (c .before .before .before .before .before .before .read .result) (c .before .before .before .before .before .before .read .ensures) (c .before .before .before .before .if1 .left) in
+    let e = one-moved (s .nodes) (a .n) (a .k) (c .before .before .before .before .before .before .read .result)
+    (c .before .before .before .before .before .before .read .ensures) (c .before .before .before .before .if1 .left) in
     (c .before .before .move-node .ensures ∙ ap (λ (p : Packed). withNodes s (p .nodes)) e, ap (λ (p : Packed). p .count) e)
 
 pub pack-one-spec : {M : Type 1} → statement M

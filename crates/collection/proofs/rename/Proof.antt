@@ -22,7 +22,9 @@ loop-holds c = mapped-none (renamedIn (stateOf (c .before .before .args .w .now)
 loop-again : tie.Need-loop-again Inv-loop μ-loop
 loop-again c =
     let l = c .before .before .before .loop in
-    mapped-more (renamedIn (stateOf (c .before .before .before .before .before .before .args .w .now) .nodes)) (c .before .before .before .before .before .before .args .roots .now) (l .roots) (l .at) (c .renamed .result) (omega arith) (c .renamed .ensures) (l .inv)
+    mapped-more (renamedIn (stateOf (c .before .before .before .before .before .before .args .w .now) .nodes))
+    (c .before .before .before .before .before .before .args .roots .now) (l .roots) (l .at) (c .renamed .result) (omega arith)
+    (c .renamed .ensures) (l .inv)
 
 same-length : tie.Need-same-length Inv-loop μ-loop
 same-length c = c .before .loop .inv .long
@@ -30,7 +32,8 @@ same-length c = c .before .loop .inv .long
 returns : tie.Need-returns Inv-loop μ-loop
 returns c =
     let l = c .before .loop in
-    mapped-all (renamedIn (stateOf (c .before .before .before .before .args .w .now) .nodes)) (c .before .before .before .before .args .roots .now) (l .roots) (l .at) (omega arith) (l .inv)
+    mapped-all (renamedIn (stateOf (c .before .before .before .before .args .w .now) .nodes))
+    (c .before .before .before .before .args .roots .now) (l .roots) (l .at) (omega arith) (l .inv)
 
 pub rename-spec : {M : Type 1} → statement M
 rename-spec =

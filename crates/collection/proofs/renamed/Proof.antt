@@ -11,7 +11,8 @@ use Rattle.collection.proofs.renamed.Tie as tie
 returns : tie.Need-returns
 returns c =
     let a = c .before .before .before .before .args in
-    renamed-by (stateOf (a .w .now) .nodes) (a .e) (c .before .before .read .result) (c .before .edge-to .result) (c .flip .result) (c .before .before .read .ensures) (c .before .edge-to .ensures) (c .flip .ensures)
+    renamed-by (stateOf (a .w .now) .nodes) (a .e) (c .before .before .read .result) (c .before .edge-to .result) (c .flip .result)
+    (c .before .before .read .ensures) (c .before .edge-to .ensures) (c .flip .ensures)
 
 pub renamed-spec : {M : Type 1} → statement M
 renamed-spec =

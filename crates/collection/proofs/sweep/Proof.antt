@@ -18,13 +18,19 @@ abbrev μ-loop : tie.MeasureT-loop
 μ-loop w₀ last j₀ w j = last - j
 
 loop-holds : tie.Need-loop-holds Inv-loop μ-loop
-loop-holds c = (refl, ap (withNodes (stateOf (c .before .args .w .now))) (swept-none (c .before .args .last) (stateOf (c .before .args .w .now) .nodes)), omega arith)
+loop-holds c = (
+  refl,
+  ap (withNodes (stateOf (c .before .args .w .now)))
+      (swept-none (c .before .args .last) (stateOf (c .before .args .w .now) .nodes)),
+  omega arith,
+)
 
 mark-edges-requires : tie.Need-mark-edges-requires Inv-loop μ-loop
 mark-edges-requires c κs =
     let s = stateOf (c .before .before .before .before .args .w .now) in
     let l = c .before .before .loop in
-    inside-by s (stateOf (l .w)) (sweptIn (c .before .before .before .before .args .last) (l .j) (s .nodes)) (l .inv .1) (length-swept (c .before .before .before .before .args .last) (l .j) (s .nodes)) (c .before .before .before .before .pre)
+    inside-by s (stateOf (l .w)) (sweptIn (c .before .before .before .before .args .last) (l .j) (s .nodes)) (l .inv .1)
+    (length-swept (c .before .before .before .before .args .last) (l .j) (s .nodes)) (c .before .before .before .before .pre)
 
 loop-again : tie.Need-loop-again Inv-loop μ-loop
 loop-again c =
@@ -32,7 +38,8 @@ loop-again c =
     let last = c .before .before .before .before .before .before .before .args .last in
     let l = c .before .before .before .before .before .loop in (
       c .before .before .mark-edges .kept .0 ∙ l .inv .0,
-      c .before .before .mark-edges .ensures ∙ again s (stateOf (l .w)) (λ ns. edgesMarked ns (last - l .j)) (sweptIn last (l .j) (s .nodes)) (l .inv .1)
+      c .before .before .mark-edges .ensures ∙ again s (stateOf (l .w)) (λ ns. edgesMarked ns (last - l .j))
+          (sweptIn last (l .j) (s .nodes)) (l .inv .1)
           ∙ ap (withNodes s) (swept-more last (l .j) (s .nodes)),
       omega (arith, c .before .before .before .before .loop-test .taken),
     )

@@ -21,13 +21,19 @@ abbrev μ-loop : tie.MeasureT-loop
 μ-loop w₀ n i₀ w i = n - i
 
 loop-holds : tie.Need-loop-holds Inv-loop μ-loop
-loop-holds c = (refl, ap (withNodes (stateOf (c .before .before .before .args .w .now))) (unmarked-none (stateOf (c .before .before .before .args .w .now) .nodes)), omega arith)
+loop-holds c = (
+  refl,
+  ap (withNodes (stateOf (c .before .before .before .args .w .now)))
+      (unmarked-none (stateOf (c .before .before .before .args .w .now) .nodes)),
+  omega arith,
+)
 
 link-requires : tie.Need-link-requires Inv-loop μ-loop
 link-requires c κs =
     let s = stateOf (c .before .before .before .before .before .before .args .w .now) in
     let l = c .before .before .loop in
-    inside-by s (stateOf (l .w)) (unmarkedIn (l .i) (s .nodes)) (l .inv .1) (length-unmarked (l .i) (s .nodes)) (c .before .before .before .before .before .before .pre)
+    inside-by s (stateOf (l .w)) (unmarkedIn (l .i) (s .nodes)) (l .inv .1) (length-unmarked (l .i) (s .nodes))
+    (c .before .before .before .before .before .before .pre)
 
 loop-again : tie.Need-loop-again Inv-loop μ-loop
 loop-again c =

@@ -26,7 +26,8 @@ loop-again : tie.Need-loop-again Inv-loop μ-loop
 loop-again c =
     let l = c .before .loop in
     let h = l .inv .0 .long in (
-      zeroed-more (c .before .before .args .w .now) (l .w) (c .before .before .args .from) (l .i) (l .inv .1) (omega (arith, h, c .before .before .pre .1, c .loop-test .taken)) (l .inv .0),
+      zeroed-more (c .before .before .args .w .now) (l .w) (c .before .before .args .from) (l .i) (l .inv .1)
+          (omega (arith, h, c .before .before .pre .1, c .loop-test .taken)) (l .inv .0),
       omega (arith, l .inv .1),
       omega (arith, c .loop-test .taken),
     )
