@@ -5,6 +5,7 @@ use libc::STDOUT_FILENO;
 ghost use mathlib.Core.Path.{_≡_};
 ghost use mathlib.Core.List.{List};
 ghost use Prim.Native.Nat.{ℕ};
+ghost use lib.ListN.{take};
 ghost use Rattle.io.specs.Counts.{Counts};
 ghost use Rattle.arguments.specs.Arguments.{numberOf, meant};
 
@@ -63,27 +64,56 @@ pub fn read_named(name: &[u8], buf: &mut [u8]) -> Got
     got
 }
 
+// An argument of the program: its bytes at the front, how many they are, and whether it is all there.
+pub struct Word {
+    pub bytes: [u8; 4096],
+    pub count: usize,
+    pub whole: bool,
+}
+
+// Argument i. Which text it is, is said by the system.
+pub fn argument(i: usize) -> Word
+    ensures { λ r. ⌜ Counts (r .count) (r .bytes) ⌝ }
+{
+    let mut bytes = io::buffer();
+    let count = os::arg(i, &mut bytes);
+    let whole = os::errno() == 0;
+    Word {
+        bytes,
+        count,
+        whole,
+    }
+}
+
 // Reads the file that argument i names.
 pub fn read_argument(i: usize, buf: &mut [u8]) -> Got
     ensures { λ r. ⌜ Counts (r .count) (now (buf .exit)) ⌝ }
 {
-    let mut name = io::buffer();
-    let length = os::arg(i, &mut name);
-    if os::errno() != 0 {
+    let word = argument(i);
+    if !word.whole {
         os::fail(b"argument");
         return nothing(buf);
     }
-    read_named(&name[..length], buf)
+    let name = word.bytes;
+    let count = word.count;
+    read_named(&name[..count], buf)
 }
 
-// Reads the number that argument i is. The answer is that of some text: which text an argument is, is said by the system, and nothing is
-// promised of it.
+// The number that a word is.
+pub fn number_of(word: Word) -> Argument
+    requires { ⌜ Counts (word .count) (word .bytes) ⌝ }
+    ensures { λ r. ⌜ meant r ≡ numberOf (take (word .count) (word .bytes)) ⌝ }
+{
+    let bytes = word.bytes;
+    let count = word.count;
+    arguments::read_argument(&bytes[..count])
+}
+
+// Reads the number that argument i is.
 pub fn read_number(i: usize) -> Argument
     ensures { λ r. ⌜ ((text : List ℕ) × (meant r ≡ numberOf text)) ⌝ }
 {
-    let mut word = io::buffer();
-    let length = os::arg(i, &mut word);
-    arguments::read_argument(&word[..length])
+    number_of(argument(i))
 }
 
 // How much was read of two files, and whether one of them was not read.
@@ -116,8 +146,9 @@ pub fn read_two(i: usize, j: usize, first: &mut [u8], second: &mut [u8]) -> Two
 
 // Prints argument i and what is to stand after it.
 pub fn say_argument(i: usize, after: &[u8]) {
-    let mut word = io::buffer();
-    let length = os::arg(i, &mut word);
-    say(&word[..length]);
+    let word = argument(i);
+    let bytes = word.bytes;
+    let count = word.count;
+    say(&bytes[..count]);
     say(after);
 }

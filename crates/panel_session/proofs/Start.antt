@@ -2,12 +2,12 @@
 -- session prints that starts there with these requests, and those by which a circuit was loaded, and no others. Clause 12.7.
 -- Assumes nothing.
 use mathlib.Core.Path.{_≡_, refl, sym, ap, _∙_}
-use mathlib.Core.List.{List, map}
+use mathlib.Core.List.{List, [], _∷_, _++_, map}
 use Prim.Native.Nat.{ℕ, _+_, _*_}
 use native.Mathlib.Omega.{arith}
 use native.Mathlib.Decide.{decLt}
 use lib.Seq.{getD-take, getD-drop}
-use lib.ListN.{length, take, drop, replicate, length-replicate, length-take, getD-replicate, List·getD-eq-default}
+use lib.ListN.{length, take, drop, replicate, length-append, length-replicate, length-take, getD-replicate, List·getD-eq-default}
 use Rattle.aiger.specs.Circuit.{Circuit}
 use Rattle.aiger.specs.Operations.{HoldsNone}
 use Rattle.meaning.proofs.Lists.{getD-same}
@@ -15,8 +15,8 @@ use Rattle.layout.specs.Words.{word, circuitIn}
 use Rattle.roundtrip.proofs.Holding.{held, held-valid}
 use Rattle.pins.specs.Pins.{pinsOf}
 use Rattle.history.specs.History.{State, Same}
-use Rattle.panel_session.specs.Session.{Files, Exchange, Session, concerning, start}
-use Rattle.panel_session.proofs.Undisturbed.{apart, undisturbed}
+use Rattle.panel_session.specs.Session.{Files, Turn, Exchange, Session, Ran, concerning, start}
+use Rattle.panel_session.proofs.Undisturbed.{Apart, apart, undisturbed}
 
 -- a first word that is the M of no circuit
 no-circuit : (m : List ℕ) → length m ≡ 33032 → word m 0 ≡ 4294967295 → HoldsNone m
@@ -44,12 +44,32 @@ start-free user i =
 itself : (u : ℕ) (s : State) → Same u s s
 itself u s = record { memory = refl; work = refl; room = refl; own = λ i l. refl }
 
--- the theorems from the start on
-pub start-apart : (u : ℕ) {room : ℕ} (es : List Exchange) → Session room start es → Session room start (concerning u es)
-start-apart u es h = apart u es (itself u start) h
+-- the theorems of what the loop of the resident program ensures, from the start on. Its exchanges that concern user u are a session by
+-- themselves, which starts there too
+pub ran-apart : (u : ℕ) {room n : ℕ} {t : State} (a : Ran room start n t) → Apart u room start (concerning u (a .exchanges)) t
+ran-apart u a = apart u (a .exchanges) (itself u start) (a .session)
 
-pub start-undisturbed : (u : ℕ) {room : ℕ} (es es₂ : List Exchange) → Session room start es → Session room start es₂
-    → map {B = List ℕ × Files} (λ (e : Exchange). (e .request, e .files)) es₂
-    ≡ map {B = List ℕ × Files} (λ (e : Exchange). (e .request, e .files)) (concerning u es)
-    → map (λ (e : Exchange). e .reply) es₂ ≡ map (λ (e : Exchange). e .reply) (concerning u es)
-start-undisturbed u es es₂ h k = undisturbed u es es₂ (itself u start) h k
+-- let two runs have the same requests that concern u, with the same files, and the second no others: it prints the same replies to them,
+-- and leaves a state that is the same to u
+pub ran-undisturbed : (u : ℕ) {room n n₂ : ℕ} {t t₂ : State} (a : Ran room start n t) (b : Ran room start n₂ t₂)
+    → map {B = List ℕ × Files} (λ (e : Exchange). (e .request, e .files)) (b .exchanges)
+    ≡ map {B = List ℕ × Files} (λ (e : Exchange). (e .request, e .files)) (concerning u (a .exchanges))
+    → (map (λ (e : Exchange). e .reply) (b .exchanges) ≡ map (λ (e : Exchange). e .reply) (concerning u (a .exchanges))) × Same u t t₂
+ran-undisturbed u a b = undisturbed u (a .exchanges) (b .exchanges) (itself u start) (a .session) (b .session)
+
+-- no requests, and one more: the loop goes on from there
+pub ran-none : {room : ℕ} (s : State) → Ran room s 0 s
+ran-none s = record { exchanges = []; count = refl; session = Session.ends }
+
+session-more : {room : ℕ} (es : List Exchange) (e : Exchange) {s s′ t : State} → Session room s es s′
+    → Turn room (e .request) (e .files) s′ (e .reply) (e .loaded) t → Session room s (es ++ (e ∷ [])) t
+session-more [] e Session.ends x = Session.goes x Session.ends
+session-more (y ∷ ys) e (Session.goes z h) x = Session.goes z (session-more ys e h x)
+
+pub ran-more : {room n : ℕ} {s s′ t : State} (e : Exchange) → Ran room s n s′ → Turn room (e .request) (e .files) s′ (e .reply) (e .loaded) t → Ran room s (n + 1) t
+ran-more e a x =
+    record {
+      exchanges = a .exchanges ++ (e ∷ []);
+      count = length-append (a .exchanges) (e ∷ []) ∙ ap (λ (k : ℕ). k + 1) (a .count);
+      session = session-more (a .exchanges) e (a .session) x;
+    }

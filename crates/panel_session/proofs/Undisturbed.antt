@@ -65,6 +65,7 @@ action-user room user first second (Command.join old new) = go (eqb user 0) (λ 
 action-user room user first second (Command.view v f) = view-user room user first v
 
 request-user : (room : ℕ) (files : Files) (r : ℕ × Command) → CallsFor (r .0) (requestAction room files (some r))
+request-user room Files.unread r = tt
 request-user room Files.missing r = go (eqb (length (filesOf (r .1))) 0)
   where
     go : (b : Bool) → CallsFor (r .0) (cond b (actionOf room (r .0) [] [] (r .1)) (Action.prints (cond (mayAsk (r .0) (r .1)) (bytes "unreadable\n") (refusalText 18))))
@@ -75,7 +76,9 @@ request-user room (Files.read first second) r = action-user room (r .0) first se
 -- a request that is a call of user u is a request of user u
 caller : (room : ℕ) (files : Files) (u : ℕ) (o : Option (ℕ × Command)) {c : History.Call} → requestAction room files o ≡ Action.calls c
     → (T (isOf u o) → History.userOf c ≡ u) × (History.userOf c ≡ u → T (isOf u o))
-caller room files u none e = let z : _≡_ {A = ℕ} 0 1 = cc in absurd (omega arith)
+caller room Files.unread u none e = let z : _≡_ {A = ℕ} 0 1 = cc in absurd (omega arith)
+caller room Files.missing u none e = let z : _≡_ {A = ℕ} 0 1 = cc in absurd (omega arith)
+caller room (Files.read first second) u none e = let z : _≡_ {A = ℕ} 0 1 = cc in absurd (omega arith)
 caller room files u (some r) {c} e =
     let h : CallsFor (r .0) (Action.calls c) = subst (CallsFor (r .0)) e (request-user room files r) in
     ((λ t. h ∙ eqb→eq (r .0) u t), λ q. eqb-of (sym h ∙ q))
@@ -119,16 +122,25 @@ module _ (u : ℕ) {room : ℕ} {request : List ℕ} {files : Files} {s t : Hist
       other-step u a (λ q. h (or-left (isOf u (parse request)) (History.isAccepted r) (caller room files u (parse request) e .1 q)))
       (λ q. h (or-right (isOf u (parse request)) (History.isAccepted r) q)) x
 
--- the theorem: the exchanges that concern user u are a session by themselves, with the same replies
-pub apart : (u : ℕ) {room : ℕ} (es : List Exchange) {s t : History.State} → Same u s t → Session room s es → Session room t (concerning u es)
+-- a session from t, to a state that is the same to user u as s′
+pub record Apart (u room : ℕ) (t : History.State) (es : List Exchange) (s′ : History.State) : Type 0 where
+  pub final : History.State
+  pub session : Session room t es final
+  pub same : Same u s′ final
+
+-- the theorem: the exchanges that concern user u are a session by themselves, with the same replies, to a state that is the same to u
+pub apart : (u : ℕ) {room : ℕ} (es : List Exchange) {s t s′ : History.State} → Same u s t → Session room s es s′ → Apart u room t (concerning u es) s′
 unfolding concerning
-apart u [] a h = Session.ends
-apart u {room} (x ∷ xs) {s} {t} a (Session.goes {s′ = s₁} st h) =
+apart u [] {t = t} a Session.ends = record { final = t; session = Session.ends; same = a }
+apart u {room} (x ∷ xs) {s} {t} {s′} a (Session.goes {s′ = s₁} st h) =
     go (isOf u (parse (x .request)) || x .loaded) refl (λ t′ b. apart u xs {s = s₁} {t = t′} b h)
   where
-    go : (b : Bool) → (isOf u (parse (x .request)) || x .loaded) ≡ b → ((t′ : History.State) → Same u s₁ t′ → Session room t′ (concerning u xs))
-        → Session room t (cond b (x ∷ concerning u xs) (concerning u xs))
-    go true c f = let m = turned u a (T-true c) st in Session.goes (m .turn) (f (m .next) (m .same))
+    go : (b : Bool) → (isOf u (parse (x .request)) || x .loaded) ≡ b → ((t′ : History.State) → Same u s₁ t′ → Apart u room t′ (concerning u xs) s′)
+        → Apart u room t (cond b (x ∷ concerning u xs) (concerning u xs)) s′
+    go true c f =
+        let m = turned u a (T-true c) st in
+        let k = f (m .next) (m .same) in
+        record { final = k .final; session = Session.goes (m .turn) (k .session); same = k .same }
     go false c f = f t (passed u a (λ q. false-not (isOf u (parse (x .request)) || x .loaded) c q) st)
 
 -- ---- a session has one outcome
@@ -175,21 +187,21 @@ abbrev printed : List Exchange → List Reply
 printed es = map (λ (e : Exchange). e .reply) es
 
 -- the theorem: let two sessions start from states that are the same to user u. If the second has just those requests of the first that
--- concern u, with the same files, then it prints the same replies to them
-pub undisturbed : (u : ℕ) {room : ℕ} (es es₂ : List Exchange) {s t : History.State} → Same u s t → Session room s es → Session room t es₂
+-- concern u, with the same files, then it prints the same replies to them, and the two end in states that are the same to u
+pub undisturbed : (u : ℕ) {room : ℕ} (es es₂ : List Exchange) {s t s′ t′ : History.State} → Same u s t → Session room s es s′ → Session room t es₂ t′
     → map {B = List ℕ × Files} (λ (e : Exchange). (e .request, e .files)) es₂ ≡ map {B = List ℕ × Files} (λ (e : Exchange). (e .request, e .files)) (concerning u es)
-    → map (λ (e : Exchange). e .reply) es₂ ≡ map (λ (e : Exchange). e .reply) (concerning u es)
+    → (map (λ (e : Exchange). e .reply) es₂ ≡ map (λ (e : Exchange). e .reply) (concerning u es)) × Same u s′ t′
 unfolding concerning
-undisturbed u [] [] a h k e = refl
+undisturbed u [] [] a Session.ends Session.ends e = (refl, a)
 undisturbed u [] (x ∷ xs) a h k e = let z : _≡_ {A = ℕ} 0 1 = cc in absurd (omega arith)
-undisturbed u {room} (x ∷ xs) es₂ {s} {t} a (Session.goes {s′ = s₁} st h) k e =
-    go (isOf u (parse (x .request)) || x .loaded) refl es₂ k e (λ ys t′ b l d. undisturbed u xs ys {s = s₁} {t = t′} b h l d)
+undisturbed u {room} (x ∷ xs) es₂ {s} {t} {s′} {t′} a (Session.goes {s′ = s₁} st h) k e =
+    go (isOf u (parse (x .request)) || x .loaded) refl es₂ k e (λ ys v b l d. undisturbed u xs ys {s = s₁} {t = v} b h l d)
   where
-    go : (b : Bool) → (isOf u (parse (x .request)) || x .loaded) ≡ b → (es₂ : List Exchange) → Session room t es₂
+    go : (b : Bool) → (isOf u (parse (x .request)) || x .loaded) ≡ b → (es₂ : List Exchange) → Session room t es₂ t′
         → asked es₂ ≡ asked (cond b (x ∷ concerning u xs) (concerning u xs))
-        → ((ys : List Exchange) (t′ : History.State) → Same u s₁ t′ → Session room t′ ys → asked ys ≡ asked (concerning u xs)
-        → printed ys ≡ printed (concerning u xs))
-        → printed es₂ ≡ printed (cond b (x ∷ concerning u xs) (concerning u xs))
+        → ((ys : List Exchange) (v : History.State) → Same u s₁ v → Session room v ys t′ → asked ys ≡ asked (concerning u xs)
+        → (printed ys ≡ printed (concerning u xs)) × Same u s′ t′)
+        → (printed es₂ ≡ printed (cond b (x ∷ concerning u xs) (concerning u xs))) × Same u s′ t′
     go true c [] k d f = let z : _≡_ {A = ℕ} 0 1 = cc in absurd (omega arith)
     go true c (y ∷ ys) (Session.goes {s′ = t₁} su l) d f =
         let one : _≡_ {A = List ℕ × Files} (y .request, y .files) (x .request, x .files) = cc in
@@ -197,5 +209,6 @@ undisturbed u {room} (x ∷ xs) es₂ {s} {t} a (Session.goes {s′ = s₁} st h
         let z =
         turn-one u a (T-true c) st
         (subst (λ (v : List ℕ × Files). Turn room (v .0) (v .1) t (y .reply) (y .loaded) t₁) one su) in
-        ap₂ _∷_ (sym (z .0)) (f ys t₁ (z .2) l rest)
+        let q = f ys t₁ (z .2) l rest in
+        (ap₂ _∷_ (sym (z .0)) (q .0), q .1)
     go false c ys k d f = f ys t (passed u a (λ q. false-not (isOf u (parse (x .request)) || x .loaded) c q) st) k d

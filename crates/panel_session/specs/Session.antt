@@ -30,10 +30,11 @@ use Rattle.panel_files.specs.Files.{verdictWords}
 
 -- ---- what a request asks
 
--- the files that a request names: at least one of them cannot be read; or the bytes of the first and of the second. Of a file that is
--- longer than any circuit file or witness these are its first bytes, more than 66,825, or 65,536 in a join: it is refused with the same
--- number
+-- what was read for a request: a read of its own line failed; at least one of the files that it names cannot be read; or the bytes of the
+-- first file and of the second. Of a file that is longer than any circuit file or witness these are its first bytes, more than 66,825, or
+-- 65,536 in a join: it is refused with the same number
 pub data Files : Type 0 where
+  unread : Files
   missing : Files
   read : (first second : List ℕ) → Files
 
@@ -91,17 +92,19 @@ filesOf (Command.preview file) = file ∷ []
 filesOf (Command.join old new) = old ∷ new ∷ []
 filesOf (Command.view v file) = file ∷ []
 
--- a command: 18 comes before `unreadable`, and a command that names no file needs none
-abbrev pub commandAction : ℕ → Files → ℕ → Command → Action
-commandAction room Files.missing user c =
+-- a command of whose files one cannot be read: 18 comes before `unreadable`, and a command that names no file needs none
+abbrev pub missingAction : ℕ → ℕ → Command → Action
+missingAction room user c =
     cond (eqb (length (filesOf c)) 0) (actionOf room user [] [] c)
     (Action.prints (cond (mayAsk user c) (bytes "unreadable\n") (refusalText 18)))
-commandAction room (Files.read first second) user c = actionOf room user first second c
 
--- a request that is no command is `malformed`
+-- a request whose line was not read is `unreadable`, whatever was read of it; one that is no command is `malformed`
 abbrev pub requestAction : ℕ → Files → Option (ℕ × Command) → Action
-requestAction room files none = Action.prints (bytes "malformed\n")
-requestAction room files (some r) = commandAction room files (r .0) (r .1)
+requestAction room Files.unread r = Action.prints (bytes "unreadable\n")
+requestAction room Files.missing none = Action.prints (bytes "malformed\n")
+requestAction room Files.missing (some r) = missingAction room (r .0) (r .1)
+requestAction room (Files.read first second) none = Action.prints (bytes "malformed\n")
+requestAction room (Files.read first second) (some r) = actionOf room (r .0) first second (r .1)
 
 -- ---- what is printed for what a call returned
 
@@ -152,11 +155,17 @@ pub record Exchange : Type 0 where
 unfoldable pub start : History.State
 start = record { memory = replicate 33032 4294967295; work = replicate 1048576 0; pins = replicate 512 2 }
 
--- requests that are answered one after the other, from a state
-pub data Session (room : ℕ) : History.State → List Exchange → Type 0 where
-  ends : {s : History.State} → Session room s []
-  goes : {s s′ : History.State} {e : Exchange} {es : List Exchange} → Turn room (e .request) (e .files) s (e .reply) (e .loaded) s′
-      → Session room s′ es → Session room s (e ∷ es)
+-- requests that are answered one after the other, from a state to a state
+pub data Session (room : ℕ) : History.State → List Exchange → History.State → Type 0 where
+  ends : {s : History.State} → Session room s [] s
+  goes : {s s′ t : History.State} {e : Exchange} {es : List Exchange} → Turn room (e .request) (e .files) s (e .reply) (e .loaded) s′
+      → Session room s′ es t → Session room s (e ∷ es) t
+
+-- what the loop of the resident program does: n requests are answered, each from the state that the one before left
+pub record Ran (room : ℕ) (s : History.State) (n : ℕ) (t : History.State) : Type 0 where
+  pub exchanges : List Exchange
+  pub count : length exchanges ≡ n
+  pub session : Session room s exchanges t
 
 -- whether a request is a command of user u
 abbrev pub isOf : ℕ → Option (ℕ × Command) → Bool

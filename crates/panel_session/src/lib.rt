@@ -88,6 +88,13 @@ fn missing(may: bool) -> Response
     response_of(line, r)
 }
 
+// Answers a request whose own line was not read: a read failed before it ended.
+pub fn unread() -> Response
+    ensures { λ r. ⌜ ((request : List ℕ) (s : State) (out : List ℕ) → Answered request Files.unread s out r s out) ⌝ }
+{
+    missing(true)
+}
+
 // Answers a request of whose files one cannot be read. A query names none.
 pub fn unreadable(request: &[u8]) -> Response
     requires { ⌜ 1 ≤ length (namedBy (parse (now request))) ⌝ }

@@ -17,7 +17,11 @@ session-with-requires : tie.Need-session-with-requires
 unfolding start
 session-with-requires c κs = (length-replicate {A = ℕ} 1572928 0, refl)
 
+returns : tie.Need-returns
+returns c = c .before .before .session-with .ensures
+
 pub session-of-both-spec : {M : Type 1} → statement M
 session-of-both-spec =
     tie.close
-    (tie.spec slice-aggregate-session-with slice-aggregate-session-with-2 session-with-requires (λ c. search needs))
+    (tie.spec
+    slice-aggregate-session-with slice-aggregate-session-with-2 session-with-requires returns)

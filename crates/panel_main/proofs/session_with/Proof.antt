@@ -6,15 +6,21 @@ use borrow.Author.Needs.{needs}
 use Rattle.panel_main.proofs.session_with.Statement.{statement}
 use Rattle.panel_main.proofs.session_with.Tie as tie
 
-session-requires : tie.Need-session-requires
+session-from-requires : tie.Need-session-from-requires
 unfolding start
-session-requires c κs =
+session-from-requires c κs =
     let pre = c .before .before .before .before .before .before .pre in (
       (length-replicate {A = ℕ} 33032 4294967295, pre .0),
       λ i. record { memory = replicate 33032 4294967295; work = pre .1 i; pins = replicate 512 2 },
     )
 
+returns : tie.Need-returns
+returns c =
+    let at-session = c .before .before .before .before .before .before in
+    (_, at-session .session-from .ensures)
+
 pub session-with-spec : {M : Type 1} → statement M
 session-with-spec =
     tie.close
-    (tie.spec (λ c. search needs) (λ c. search needs) session-requires (λ c. search needs) (λ c. search needs) (λ c. search needs))
+    (tie.spec
+    (λ c. search needs) (λ c. search needs) session-from-requires (λ c. search needs) (λ c. search needs) returns)

@@ -2,7 +2,7 @@
 use mathlib.Core.Path.{refl, ap}
 use mathlib.Core.List.{[]}
 use lib.ListN.{length}
-use Rattle.panel_session.specs.Session.{requestAction}
+use Rattle.panel_session.specs.Session.{Files, requestAction}
 use Rattle.panel_session.proofs.Turns.{
   query-taken,
   view-taken,
@@ -73,7 +73,7 @@ returns-6 c =
     let at-read = c .before .before .before in
     let start = c .before .before .before .before .before .before .before .before .before .before .before in
     answered-alone (start .args .out .now)
-    (ap (requestAction (length (start .args .out .now)) _) (unrequested (at-read .read-request .ensures) (at-told .enum-told4 .given .1)))
+    (ap (requestAction (length (start .args .out .now)) (Files.read (start .args .first .now) (start .args .second .now))) (unrequested (at-read .read-request .ensures) (at-told .enum-told4 .given .1)))
     (c .malformed .ensures)
 
 pub respond-spec : {M : Type 1} → statement M

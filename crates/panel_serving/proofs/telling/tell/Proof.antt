@@ -1,9 +1,9 @@
--- `panel_main::tell` meets its contract. Assumes nothing.
+-- `panel_serving::tell` meets its contract. Assumes nothing.
 use native.Mathlib.Omega.{arith}
 use lib.ListN.{length-take}
 use borrow.Author.Needs.{needs}
-use Rattle.panel_main.proofs.tell.Statement.{statement}
-use Rattle.panel_main.proofs.tell.Tie as tie
+use Rattle.panel_serving.proofs.telling.tell.Statement.{statement}
+use Rattle.panel_serving.proofs.telling.tell.Tie as tie
 
 array-share-prefix-line : tie.Need-array-share-prefix-line
 array-share-prefix-line c = c .before .before .pre .0

@@ -1,10 +1,10 @@
--- `panel_main::keep` meets its contract. Assumes nothing.
+-- `panel_input::keep` meets its contract. Assumes nothing.
 use mathlib.Core.Path.{refl}
 use native.Mathlib.Omega.{arith}
 use lib.ListN.{length-set}
 use borrow.Author.Needs.{needs}
-use Rattle.panel_main.proofs.keep.Statement.{statement}
-use Rattle.panel_main.proofs.keep.Tie as tie
+use Rattle.panel_input.proofs.keep.Statement.{statement}
+use Rattle.panel_input.proofs.keep.Tie as tie
 
 returns : tie.Need-returns
 returns c = (omega arith, (λ e. (refl, refl)), λ h. absurd (omega (arith, h)))

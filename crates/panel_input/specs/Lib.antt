@@ -1,0 +1,2 @@
+-- What the contracts of `panel_input` cite. Assumes nothing.
+pub mod Line
