@@ -113,7 +113,14 @@ fn is_small(s: usize, nodes: usize, d: u64) -> bool
 }
 
 // The graph of the hit, with the marks of its cone.
-pub fn prepare(m: &[u32], layout: Layout, order: &[u32], b: usize, t: usize, work: &mut [u32]) -> Made
+pub fn prepare(
+    m: &[u32],
+    layout: Layout,
+    order: &[u32],
+    b: usize,
+    t: usize,
+    work: &mut [u32],
+) -> Made
     requires { ⌜ FrameFits (now work) (now m) layout (now order) b t 1 ⌝ }
     ensures { λ r. ⌜ Prepared (circuitIn (now (m .entry))) b t (now (work .exit)) r ⌝ }
 {
