@@ -61,7 +61,7 @@ module _ (w : List ℕ) (net : Netlist) (s : Search) where
 
 pub ran-by : (w : List ℕ) (net : Netlist) (effort : ℕ) {w1 w2 w3 : List ℕ} {h : Heap} {s t : Search} {v : Verdict} → w1 ≡ prepared w net
     → w2 ≡ filled w1 net (heapOf 0 1024) 1 (net .free) .words → h ≡ filled w1 net (heapOf 0 1024) 1 (net .free) .heap → s ≡ initial h
-    → w3 ≡ steps w2 net s effort effort .words → t ≡ steps w2 net s effort effort .search → v ≡ verdictOf (t .order .verdict)
+    → w3 ≡ steps w2 net s effort effort .words → t ≡ steps w2 net s effort effort .search → v ≡ verdictOf (t .order .verdict) (t .order .ticks)
     → record { words = w3; verdict = v } ≡ ran w net effort
 unfolding ran
 ran-by w net effort a b c d e f g = rw (g, f, e, d, c, b, a)

@@ -23,45 +23,45 @@ use Rattle.conflicts.proofs.Begin.{begin-standing}
 use Rattle.conflicts.proofs.Sound.{steps-hold}
 use Rattle.conflicts.proofs.Turns.{steps-over, steps-more}
 
-module _ (x : ℕ) where
-  found-one : verdictOf x ≡ Verdict.Found → x ≡ 1
+module _ (x n : ℕ) where
+  found-one : verdictOf x n ≡ Verdict.Found → x ≡ 1
   unfolding verdictOf
   found-one e = go (ℕ-discrete x 1) (ℕ-discrete x 2)
     where
       go : Dec (x ≡ 1) → Dec (x ≡ 2) → x ≡ 1
       go (yes p) q = p
       go (no p) (yes q) =
-          let f : Verdict.Clear ≡ Verdict.Found = rw (ne-eqb x 1 p, eq-eqb x 2 q) at e in
+          let f : Verdict.Clear n ≡ Verdict.Found = rw (ne-eqb x 1 p, eq-eqb x 2 q) at e in
           absurd (let z : _≡_ {A = ℕ} 0 1 = cc in omega arith)
       go (no p) (no q) =
           let f : Verdict.Out ≡ Verdict.Found = rw (ne-eqb x 1 p, ne-eqb x 2 q) at e in
           absurd (let z : _≡_ {A = ℕ} 0 1 = cc in omega arith)
 
-  clear-two : verdictOf x ≡ Verdict.Clear → x ≡ 2
+  clear-two : {m : ℕ} → verdictOf x n ≡ Verdict.Clear m → x ≡ 2
   unfolding verdictOf
-  clear-two e = go (ℕ-discrete x 1) (ℕ-discrete x 2)
+  clear-two {m} e = go (ℕ-discrete x 1) (ℕ-discrete x 2)
     where
       go : Dec (x ≡ 1) → Dec (x ≡ 2) → x ≡ 2
       go (yes p) q =
-          let f : Verdict.Found ≡ Verdict.Clear = rw (eq-eqb x 1 p) at e in
+          let f : Verdict.Found ≡ Verdict.Clear m = rw (eq-eqb x 1 p) at e in
           absurd (let z : _≡_ {A = ℕ} 0 1 = cc in omega arith)
       go (no p) (yes q) = q
       go (no p) (no q) =
-          let f : Verdict.Out ≡ Verdict.Clear = rw (ne-eqb x 1 p, ne-eqb x 2 q) at e in
+          let f : Verdict.Out ≡ Verdict.Clear m = rw (ne-eqb x 1 p, ne-eqb x 2 q) at e in
           absurd (let z : _≡_ {A = ℕ} 0 1 = cc in omega arith)
 
-  found-out : x ≡ 1 → verdictOf x ≡ Verdict.Out → ⊥
+  found-out : x ≡ 1 → verdictOf x n ≡ Verdict.Out → ⊥
   unfolding verdictOf
   found-out p e =
       let f : Verdict.Found ≡ Verdict.Out = rw (eq-eqb x 1 p) at e in
       let z : _≡_ {A = ℕ} 0 1 = cc in
       omega arith
 
-  clear-out : x ≡ 2 → verdictOf x ≡ Verdict.Out → ⊥
+  clear-out : x ≡ 2 → verdictOf x n ≡ Verdict.Out → ⊥
   unfolding verdictOf
   clear-out p e =
-      let n : (x ≡ 1 → ⊥) = λ q. omega arith in
-      let f : Verdict.Clear ≡ Verdict.Out = rw (ne-eqb x 1 n, eq-eqb x 2 p) at e in
+      let other : (x ≡ 1 → ⊥) = λ q. omega arith in
+      let f : Verdict.Clear n ≡ Verdict.Out = rw (ne-eqb x 1 other, eq-eqb x 2 p) at e in
       let z : _≡_ {A = ℕ} 0 1 = cc in
       omega arith
 
@@ -78,19 +78,20 @@ module _ (hit : (ℕ → Bool) → Type 0) (hits : ℕ → Type 0) (val : ℕ �
   pub found-first : ran w net effort .verdict ≡ Verdict.Found
       → Floor hits (floorAt net (ran w net effort .words)) × T (value (val (floorAt net (ran w net effort .words))) (net .root))
   unfolding ran
-  found-first e = end-holds .found (found-one (run w net effort .search .order .verdict) e)
+  found-first e = end-holds .found (found-one (run w net effort .search .order .verdict) (run w net effort .search .order .ticks) e)
 
   -- Clear: no place is looked for
-  pub clear-none : ran w net effort .verdict ≡ Verdict.Clear → (x : ℕ) → hits x → ⊥
+  pub clear-none : {n : ℕ} → ran w net effort .verdict ≡ Verdict.Clear n → (x : ℕ) → hits x → ⊥
   unfolding ran
-  clear-none e = end-holds .clear (clear-two (run w net effort .search .order .verdict) e)
+  clear-none e = end-holds .clear (clear-two (run w net effort .search .order .verdict) (run w net effort .search .order .ticks) e)
 
   -- Out: no place below the floor is looked for
   pub out-floor : ran w net effort .verdict ≡ Verdict.Out → Floor hits (floorAt net (ran w net effort .words))
   unfolding ran
   out-floor e =
       let x = run w net effort .search .order .verdict in
-      end-holds .out (λ z. found-out x z e) (λ z. clear-out x z e)
+      let n = run w net effort .search .order .ticks in
+      end-holds .out (λ z. found-out x n z e) (λ z. clear-out x n z e)
 
 -- ---- the floor is a place
 
@@ -122,16 +123,18 @@ steps-again w net s e f (suc k) j l m n =
     go true p false q h rec =
         steps-more w net s f j (omega arith) (eqb-true (s .order .verdict) 0 p) (omega (arith, leb-false e (s .order .ticks) q)) ∙ rec h
 
-out-zero : verdictOf 0 ≡ Verdict.Out
+out-zero : (n : ℕ) → verdictOf 0 n ≡ Verdict.Out
 unfolding verdictOf
-out-zero = refl
+out-zero n = refl
 
--- a search that ends with Found or Clear ends so with every larger effort, and leaves the same words
+-- a search that ends with Found or Clear ends so with every larger effort, after the same work, and leaves the same words
 pub more-effort : (w : List ℕ) (net : Netlist) (e f : ℕ) → e ≤ f → (ran w net e .verdict ≡ Verdict.Out → ⊥) → ran w net f ≡ ran w net e
 unfolding ran
 more-effort w net e f l n =
     let h = begun w net in
     let s = initial (h .heap) in
-    let same = steps-again (h .words) net s e f e f l l (λ z. n (ap verdictOf z ∙ out-zero)) in
-    let result : Searched → Result = λ t. record { words = t .words; verdict = verdictOf (t .search .order .verdict) } in
+    let ticks = run w net e .search .order .ticks in
+    let same = steps-again (h .words) net s e f e f l l (λ z. n (ap (λ (x : ℕ). verdictOf x ticks) z ∙ out-zero ticks)) in
+    let result : Searched → Result =
+    λ t. record { words = t .words; verdict = verdictOf (t .search .order .verdict) (t .search .order .ticks) } in
     ap result same

@@ -145,8 +145,9 @@ steps w net s effort (suc k) =
 
 -- ---- the search
 
-unfoldable pub verdictOf : ℕ → Verdict
-verdictOf x = cond (eqb x 1) Verdict.Found (cond (eqb x 2) Verdict.Clear Verdict.Out)
+-- the verdict's number as a verdict, after so much work
+unfoldable pub verdictOf : ℕ → ℕ → Verdict
+verdictOf x ticks = cond (eqb x 1) Verdict.Found (cond (eqb x 2) (Verdict.Clear ticks) Verdict.Out)
 
 -- what the search leaves: the words and the verdict
 pub record Result : Type 0 where
@@ -164,4 +165,8 @@ abbrev pub run : List ℕ → Netlist → ℕ → Searched
 run w net effort = steps (begun w net .words) net (initial (begun w net .heap)) effort effort
 
 unfoldable pub ran : List ℕ → Netlist → ℕ → Result
-ran w net effort = record { words = run w net effort .words; verdict = verdictOf (run w net effort .search .order .verdict) }
+ran w net effort =
+    record {
+      words = run w net effort .words;
+      verdict = verdictOf (run w net effort .search .order .verdict) (run w net effort .search .order .ticks);
+    }

@@ -24,10 +24,10 @@ ghost use Rattle.heap.specs.Heap as Hp;
 ghost use Rattle.learning.specs.Learning as Ln;
 ghost use Rattle.conflicts.specs.Conflicts as Cf;
 
-// What the search has come to: the floor is the first place that hits, no place hits, or it is given up.
+// What the search has come to: the floor is the first place that hits; no place hits, which took so much of the effort; or it is given up.
 pub enum Verdict {
     Found,
-    Clear,
+    Clear(u64),
     Out,
 }
 
@@ -270,15 +270,15 @@ fn steps(work: &mut [u32], net: Netlist, s: Search, effort: u64) -> Search
     u
 }
 
-// The verdict's number as a verdict.
-fn verdict_of(x: u32) -> Verdict
-    ensures { λ r. ⌜ r ≡ Cf.verdictOf x ⌝ }
+// The verdict's number as a verdict, after so much work.
+fn verdict_of(x: u32, ticks: u64) -> Verdict
+    ensures { λ r. ⌜ r ≡ Cf.verdictOf x ticks ⌝ }
 {
     if x == 1 {
         return Verdict::Found;
     }
     if x == 2 {
-        return Verdict::Clear;
+        return Verdict::Clear(ticks);
     }
     Verdict::Out
 }
@@ -298,6 +298,6 @@ pub fn run(work: &mut [u32], net: Netlist, effort: u64) -> Verdict
         net.free,
     );
     let s = steps(work, net, initial(h), effort);
-    let x = s.order.verdict;
-    verdict_of(x)
+    let o = s.order;
+    verdict_of(o.verdict, o.ticks)
 }

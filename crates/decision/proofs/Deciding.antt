@@ -72,7 +72,7 @@ module _ (c : Circuit) (b t D : ℕ) where
     where
       go : (v : Verdict) → decidedOr v (2 ^ freeBits c t) (tried c b t D) ≤ 2 ^ freeBits c t
       go Found = omega arith
-      go Clear = omega arith
+      go (Clear used) = omega arith
       go Out = tried-most
 
   -- what is tried is passed
@@ -82,7 +82,7 @@ module _ (c : Circuit) (b t D : ℕ) where
     where
       go : (v : Verdict) → tried c b t D ≤ decidedOr v (2 ^ freeBits c t) (tried c b t D)
       go Found = tried-most
-      go Clear = tried-most
+      go (Clear used) = tried-most
       go Out = omega arith
 
   -- the first D sequences, and the first 16,384
@@ -187,10 +187,28 @@ reach-more c b t D E h = go (searched c b t D) refl
     go : (v : Verdict) → searched c b t D ≡ v
         → decidedOr v (2 ^ freeBits c t) (tried c b t D) ≤ decidedOr (searched c b t E) (2 ^ freeBits c t) (tried c b t E)
     go Found e = all Found e (λ q. let z : _≡_ {A = ℕ} 0 1 = cc in omega arith)
-    go Clear e = all Clear e (λ q. let z : _≡_ {A = ℕ} 0 1 = cc in omega arith)
+    go (Clear used) e = all (Clear used) e (λ q. let z : _≡_ {A = ℕ} 0 1 = cc in omega arith)
     go Out e = out (searched c b t E)
       where
         out : (v : Verdict) → tried c b t D ≤ decidedOr v (2 ^ freeBits c t) (tried c b t E)
         out Found = tried-most c b t D
-        out Clear = tried-most c b t D
+        out (Clear used) = tried-most c b t D
         out Out = tried-more c b t D E h
+
+-- Request 13: what is decided of a frame with a budget of D, a first hit or no hit, is decided with every larger one. Which places are scanned
+-- before any conflict search is no part of it: where they are all tried, all sequences are passed anyway
+pub decided-more : (c : Circuit) (b t D E : ℕ) → D ≤ E → (decisionOf c b t D ≡ Decision.spent → ⊥) → decisionOf c b t E ≡ decisionOf c b t D
+unfolding decisionOf
+decided-more c b t D E h n = go (decisionAt (question c b) t (reach c b t D)) refl n
+  where
+    go : (d : Decision) → decisionAt (question c b) t (reach c b t D) ≡ d → (d ≡ Decision.spent → ⊥) → decisionAt (question c b) t (reach c b t E) ≡ d
+    go (Decision.hit x) e n =
+        let f = hit-first (reaches c b t) (2 ^ freeBits c t) 0 (reach c b t D) e in
+        hit-at (reaches c b t) (2 ^ freeBits c t) (reach c b t E) x
+        (omega (arith, hit-tried (reaches c b t) (2 ^ freeBits c t) (reach c b t D) e, reach-more c b t D E h)) (f .fits) (f .hit)
+        (λ y l. f .first y (omega arith) l)
+    go Decision.clear e n =
+        clear-at (reaches c b t) (2 ^ freeBits c t) (reach c b t E)
+        (omega (arith, clear-tried (reaches c b t) (2 ^ freeBits c t) (reach c b t D) e, reach-more c b t D E h))
+        (λ y l. clear-none (reaches c b t) (2 ^ freeBits c t) 0 (reach c b t D) e y (omega arith) l)
+    go Decision.spent e n = absurd (n refl)

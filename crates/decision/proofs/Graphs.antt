@@ -207,7 +207,7 @@ module _ {c : Circuit} {b t : ℕ} {work : List ℕ} {made : Made} (u : Prepared
     unfolding reach
     reach-found o = ap (λ (v : Verdict). decidedOr v (2 ^ freeBits c t) (tried c b t D)) o
 
-    reach-clear : searched c b t D ≡ Clear → reach c b t D ≡ 2 ^ freeBits c t
+    reach-clear : {used : ℕ} → searched c b t D ≡ Clear used → reach c b t D ≡ 2 ^ freeBits c t
     unfolding reach
     reach-clear o = ap (λ (v : Verdict). decidedOr v (2 ^ freeBits c t) (tried c b t D)) o
 
@@ -226,7 +226,8 @@ module _ {c : Circuit} {b t : ℕ} {work : List ℕ} {made : Made} (u : Prepared
             subst (λ (m : ℕ). FreeBits m x after) (u .free) (h .bits),
           )
 
-      pub solved-clear : SolvedIs (made .graph .free) (pairsOf work (made .graph)) (edgeWord (made .edge)) work e after Clear → FrameDecided c b t D after F.Clear
+      pub solved-clear : {used : ℕ}
+          → SolvedIs (made .graph .free) (pairsOf work (made .graph)) (edgeWord (made .edge)) work e after (Clear used) → FrameDecided c b t D after F.Clear
       unfolding decisionOf
       solved-clear f =
           let r = reach-clear (sym (searched-is long e q) ∙ f .0) in

@@ -21,6 +21,10 @@ use Rattle.conflicts.specs.declared.Verdict.the-variants.{Found, Clear, Out}
 use Rattle.solver.specs.Solved.{solved, solvedFloor}
 use Rattle.resume.specs.Resume.{before}
 
+-- how many sequences are tried on the circuit, where there are n free bits: all of them up to 12 free bits
+unfoldable pub firstPlaces : ℕ → ℕ
+firstPlaces n = cond (leb n 12) 4096 64
+
 -- the effort of the conflict search, in steps of its work, at a size and a budget of D: it does not fall with D
 unfoldable pub effort : ℕ → ℕ → ℕ
 effort units D = 16384 + 16 * units + 32 * min D 8388608
@@ -36,7 +40,7 @@ Undecided c b t D = searched c b t D ≡ Out
 -- all, where the search comes to an end, else a part
 abbrev pub decidedOr : Verdict → ℕ → ℕ → ℕ
 decidedOr Found all part = all
-decidedOr Clear all part = all
+decidedOr (Clear used) all part = all
 decidedOr Out all part = part
 
 -- how many sequences of frame t are passed when D places of the support are tried, and no fewer than 16,384

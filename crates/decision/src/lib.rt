@@ -45,9 +45,9 @@ fn places(d: u64) -> u64
 }
 
 // How many sequences are tried on the circuit.
-fn first_places(layout: Layout, t: usize) -> u64
+pub fn first_places(layout: Layout, t: usize) -> u64
     requires { ⌜ (layout .i ≤ 256) × (layout .u ≤ 1024) × (t ≤ 255) ⌝ }
-    ensures { λ r. ⌜ (64 ≤ r) × (r ≤ 16384) ⌝ }
+    ensures { λ r. ⌜ (64 ≤ r) × (r ≤ 16384) × (r ≡ R.firstPlaces (layout .u + layout .i * (t + 1))) ⌝ }
 {
     if layout.u + layout.i * (t + 1) <= 12 {
         FEW
@@ -64,7 +64,7 @@ fn share(d: u64) -> u64
 }
 
 // The effort of the conflict search at a size and a budget.
-fn effort(size: usize, d: u64) -> u64
+pub fn effort(size: usize, d: u64) -> u64
     requires { ⌜ size ≤ 65536 ⌝ }
     ensures { λ r. ⌜ r ≡ R.effort size d ⌝ }
 {
@@ -80,7 +80,7 @@ fn mark_of(work: &[u32], k: usize) -> usize
 }
 
 // How many free bits are marked.
-fn support_size(work: &[u32], g: Graph) -> usize
+pub fn support_size(work: &[u32], g: Graph) -> usize
     requires { ⌜ Sized g (length (now work)) ⌝ }
     ensures { λ r. ⌜
         ((root : ℕ) → Marks (pairsOf (now (work .entry)) g) (now (work .entry)) g root → r
@@ -113,7 +113,14 @@ fn is_small(s: usize, nodes: usize, d: u64) -> bool
 }
 
 // The graph of the hit, with the marks of its cone.
-fn prepare(m: &[u32], layout: Layout, order: &[u32], b: usize, t: usize, work: &mut [u32]) -> Made
+pub fn prepare(
+    m: &[u32],
+    layout: Layout,
+    order: &[u32],
+    b: usize,
+    t: usize,
+    work: &mut [u32],
+) -> Made
     requires { ⌜ FrameFits (now work) (now m) layout (now order) b t 1 ⌝ }
     ensures { λ r. ⌜ Prepared (circuitIn (now (m .entry))) b t (now (work .exit)) r ⌝ }
 {
@@ -245,7 +252,7 @@ fn search_graph(
     let e = effort(graph.room, d);
     match solver::first_hit(work, graph, root, e) {
         Verdict::Found => Frame::Hit,
-        Verdict::Clear => Frame::Clear,
+        Verdict::Clear(_) => Frame::Clear,
         Verdict::Out => {
             if graph.free <= HELD {
                 return search_support(m, layout, order, b, t, d, work);

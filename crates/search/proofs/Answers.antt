@@ -51,6 +51,8 @@ module _ {m : List ℕ} (held : Holds m (circuitIn m)) {b k D : ℕ} {work out :
       → {a : Answer Outcome} {work′ out′ : List ℕ}
       → Answered (circuitIn m) b k D out a out′ → Searched chosen m b k D work out a work′ out′
   answered-with e {a} {work′} {out′} w =
+      let W = witnessLength (circuitIn m) b k in
+      let both = passed (circuitIn m) b k (budgetRight D) (length work) (need 13 (leb W (length out)) ∷ []) e in
       subst (λ (r : Answer Outcome). Searched chosen m b k D work out r work′ out′) (sym (w .says))
       (Operated.acts (circuitIn m) held e
-      (record { chose = refl; allowed = chosen-permitted (circuitIn m) b k D; shows = w .shows }))
+      (record { chose = refl; allowed = chosen-permitted (circuitIn m) b k D (both .0 .bound); shows = w .shows }))

@@ -1,22 +1,24 @@
--- What the search chooses: frame after frame, and always a permitted outcome. Assumes nothing.
+-- What the search chooses: by its stages, and what they leave frame after frame. It is always a permitted outcome, and request 13 holds of it.
+-- Assumes nothing.
 use mathlib.Core.Path.{_≡_, refl, sym, ap, _∙_, subst}
-use mathlib.Core.List.{List}
-use Prim.Native.Nat.{ℕ, zero, suc, _+_, _-_, _≤_, _<_, _^_}
+use mathlib.Core.Bool.{Bool, cond}
+use mathlib.Core.List.{List, [], _∷_}
+use Prim.Native.Nat.{ℕ, suc, _+_, _-_, _≤_, _<_, max}
+use native.Mathlib.Decide.{decLt}
 use native.Mathlib.Numerals.{add-one}
 use native.Mathlib.Omega.{arith}
-use borrow.Author.Count.{below-more}
+use borrow.Author.Tests.{le-leb, lt-leb}
 use lib.Dec.{T}
 use Rattle.aiger.specs.Circuit.{Circuit}
 use Rattle.aiger.specs.Load.{gives}
-use Rattle.aiger.specs.Search.{Question, question, Decision, Outcome, permittedOf, reaches, permitted, firstWitness}
-use Rattle.aiger.specs.Frames.{freeBits, run}
+use Rattle.aiger.specs.Search.{question, Decision, Outcome, permitted, firstWitness}
+use Rattle.aiger.specs.Frames.{run}
 use Rattle.aiger.specs.Witness.{witness}
 use Rattle.aiger.specs.Operations.{shown}
-use Rattle.meaning.proofs.Decisions as decisions
-use Rattle.meaning.proofs.Outcomes.{Clear, Quiet, found-in, none-in, spent-in, first-witness}
+use Rattle.meaning.proofs.Outcomes.{Decided, first-witness}
 use Rattle.decision.specs.Reach.{decisionOf}
-use Rattle.decision.proofs.Deciding.{decided-says}
-use Rattle.machine.specs.Layers.{Layered}
+use Rattle.decision.proofs.Deciding.{decided-says, decided-more}
+use Rattle.machine.specs.Layers as machine
 use Rattle.machine.proofs.Theorems.{QuietBefore, Says, layered-says}
 use Rattle.influence.specs.Cone.{partOf}
 use Rattle.influence.proofs.Cone.{part-closed}
@@ -24,88 +26,157 @@ use Rattle.transitions.specs.Transitions.{machineOf}
 use Rattle.transitions.proofs.Bridge.{fair, reaches-of, prefixes-of}
 use Rattle.reachable.specs.Quota.{quota}
 use Rattle.reachable.specs.Layers.{layered}
-use Rattle.search.specs.Chosen.{outcomeOf, chosenFrom, byLayers, chosen}
+use Rattle.stages.specs.Endings.{Ending, Cut, Stage, anyBudget, cutAt, NoneBefore, FirstAt, EndsRight, Sound, AllSound}
+use Rattle.stages.specs.Layers.{ofLayers, fromStart, layersEnding}
+use Rattle.stages.specs.Choice.{outcomeOf, chosenFrom, chosenBy}
+use Rattle.stages.proofs.Choice.{Leads, first-of, stage-leads, no-stage, on-past}
+use Rattle.stages.proofs.Choice as stages
+use Rattle.stages.proofs.More as more
+use Rattle.stages.proofs.Layers.{layers-sound, layers-cut}
+use Rattle.search.specs.Chosen.{stagesOf, chosen}
 use Rattle.search.specs.Steps.{Answered}
 
-module _ (q : Question) (f : ℕ → Decision) (k D : ℕ) (right : (t : ℕ) → decisions.Says (q .hitting t) (q .places t) 0 D (f t)) where
-  -- one frame, where the later ones give a permitted outcome
-  step : (t : ℕ) → t ≤ k → Quiet q t → (later : Outcome) → (Quiet q (t + 1) → T (permittedOf q k D later)) → (d : Decision)
-      → decisions.Says (q .hitting t) (q .places t) 0 D d → T (permittedOf q k D (outcomeOf d t later))
-  step t l h later r (Decision.hit x) s = found-in q k D t (record { within = l; quiet = h; place = x; first = s })
-  step t l h later r Decision.clear s = r (below-more (λ u. Clear q u (q .places u)) t h s)
-  step t l h later r Decision.spent s = spent-in q k D t (record { within = l; quiet = h; first = s })
+-- ---- the layers of states
 
-  -- frames from t on, where none before it has a hit
-  pub from : (n t : ℕ) → t + n ≡ k + 1 → Quiet q t → T (permittedOf q k D (chosenFrom f k t n))
-  unfolding chosenFrom
-  from zero t e h = none-in q k D k (record { bound = refl; quiet = subst (Quiet q) (omega arith) h })
-  from (suc n) t e h =
-      step t (omega arith) h (chosenFrom f k (suc t) n) (λ r. from n (suc t) (omega arith) (subst (Quiet q) (add-one t) r)) (f t) (right t)
-
-module _ (c : Circuit) (b k D : ℕ) where
+module _ (c : Circuit) (b : ℕ) where
   -- frames of the machine without a hit are frames of the circuit without one
-  quiet-of : (t : ℕ) → QuietBefore (machineOf (partOf c b) b) t → Quiet (question c b) t
-  quiet-of t q u l x a h r = q u l x (subst (λ (n : ℕ). x < n) (sym (prefixes-of (partOf c b) b u)) h)
-      (subst T (reaches-of (partOf c b) b (part-closed c b) u x) r)
+  none-of : (t : ℕ) → QuietBefore (machineOf (partOf c b) b) t → NoneBefore (question c b) t
+  none-of t q u l x h r =
+      q u l x (subst (λ (n : ℕ). x < n) (sym (prefixes-of (partOf c b) b u)) h) (subst T (reaches-of (partOf c b) b (part-closed c b) u x) r)
 
-  -- the first hit of the machine is that of the circuit
-  first-of : {t x : ℕ} → Says (machineOf (partOf c b) b) (fair (partOf c b) b) (k + 1) (Layered.hit t x)
-      → decisions.FirstHit (reaches c b t) (2 ^ freeBits c t) 0 x
-  first-of {t} {x} (l, q, f) =
-      record {
-        from = omega arith;
-        fits = subst (λ (n : ℕ). x < n) (prefixes-of (partOf c b) b t) (f .fits);
-        first = λ y a h r. f .first y h (subst T (reaches-of (partOf c b) b (part-closed c b) t y) r);
-        hit = subst T (sym (reaches-of (partOf c b) b (part-closed c b) t x)) (f .hits);
-      }
+  -- what they say of the machine is so of the circuit
+  layers-right : (o : machine.Layered) → Says (machineOf (partOf c b) b) (fair (partOf c b) b) 256 o → EndsRight (question c b) 0 (ofLayers o)
+  layers-right (machine.Layered.hit t x) (l, q, f) = (
+    omega arith,
+    omega arith,
+    none-of t q,
+    record {
+      fits = subst (λ (n : ℕ). x < n) (prefixes-of (partOf c b) b t) (f .fits);
+      hits = subst T (sym (reaches-of (partOf c b) b (part-closed c b) t x)) (f .hits);
+      first = λ y h r. f .first y h (subst T (reaches-of (partOf c b) b (part-closed c b) t y) r);
+    },
+  )
+  layers-right machine.Layered.clear q = none-of 256 q
+  layers-right (machine.Layered.gaveUp t) (l, q) = (omega arith, l, none-of t q)
 
-  -- what the layers say is permitted
-  layers-permitted : (o : Layered) → Says (machineOf (partOf c b) b) (fair (partOf c b) b) (k + 1) o
-      → T (permitted c b k D (byLayers c b k D o))
-  layers-permitted (Layered.hit t x) (l, q, f) =
-      found-in (question c b) k D t (record { within = omega arith; quiet = quiet-of t q; place = x; first = first-of (l, q, f) })
-  layers-permitted Layered.clear q = none-in (question c b) k D k (record { bound = refl; quiet = quiet-of (k + 1) q })
-  layers-permitted (Layered.gaveUp t) (l, q) =
-      from (question c b) (λ u. decisionOf c b u D) k D (λ u. decided-says c b u D (decisionOf c b u D) refl) (k + 1 - t) t (omega arith)
-      (quiet-of t q)
+  -- ---- all stages
+
+  abbrev layerStage : Stage
+  layerStage = anyBudget (layersEnding (machineOf (partOf c b) b) (quota (partOf c b)))
+
+  layer-sound : Sound (question c b) layerStage
+  layer-sound =
+      layers-sound (question c b) (machineOf (partOf c b) b) (quota (partOf c b))
+      (layers-right (machine.layered (machineOf (partOf c b) b) (quota (partOf c b)) 256)
+      (layered-says (machineOf (partOf c b) b) (fair (partOf c b) b) (quota (partOf c b)) 256))
+
+  pub stages-sound : AllSound (question c b) (stagesOf c b)
+  unfolding stagesOf
+  stages-sound = (layer-sound, tt)
 
   -- the chosen outcome is permitted
-  pub chosen-permitted : T (permitted c b k D (chosen c b k D))
-  unfolding chosen layered
-  chosen-permitted = layers-permitted (layered (partOf c b) b k)
-      (layered-says (machineOf (partOf c b) b) (fair (partOf c b) b) (quota (partOf c b)) (k + 1))
+  pub chosen-permitted : (k D : ℕ) → k ≤ 255 → T (permitted c b k D (chosen c b k D))
+  unfolding chosen
+  chosen-permitted k D small =
+      stages.chosen-permitted (question c b) (stagesOf c b) stages-sound (decisionOf c b) k D small (λ t. decided-says c b t D (decisionOf c b t D) refl)
 
+  -- Request 13: found with a bound and a budget is found with every larger bound and every larger budget
+  pub found-stays : (k k′ D E t : ℕ) → k ≤ k′ → k′ ≤ 255 → D ≤ E → chosen c b k D ≡ Outcome.found t → chosen c b k′ E ≡ Outcome.found t
+  unfolding chosen
+  found-stays k k′ D E t l small m e =
+      more.found-stays (question c b) (stagesOf c b) stages-sound (decisionOf c b) (λ t D. decided-says c b t D (decisionOf c b t D) refl)
+      (λ t D E h n. decided-more c b t D E h n) k k′ D E t l small m e
+
+  -- none with a bound and a budget is none with every smaller bound and every larger budget
+  pub none-stays : (k j D E i : ℕ) → j ≤ k → D ≤ E → chosen c b k D ≡ Outcome.none i → chosen c b j E ≡ Outcome.none j
+  unfolding chosen
+  none-stays k j D E i l m e =
+      more.none-stays (question c b) (stagesOf c b) stages-sound (decisionOf c b) (λ t D. decided-says c b t D (decisionOf c b t D) refl)
+      (λ t D E h n. decided-more c b t D E h n) k j D E i l m e
+
+  -- what is not spent is chosen with every larger budget
+  pub answer-stays : (k D E : ℕ) → k ≤ 255 → D ≤ E → Decided (chosen c b k D) → chosen c b k E ≡ chosen c b k D
+  unfolding chosen
+  answer-stays k D E small m d =
+      more.answer-stays (question c b) (stagesOf c b) stages-sound (decisionOf c b) (λ t D. decided-says c b t D (decisionOf c b t D) refl)
+      (λ t D E h n. decided-more c b t D E h n) k D E small m d
+
+  -- the layers are given up at a frame up to the one after the bound, and no frame before it has a hit
+  given-up : (k : ℕ) {t : ℕ} → layered (partOf c b) b k ≡ machine.Layered.gaveUp t → (t ≤ k + 1) × NoneBefore (question c b) t
+  unfolding layered
+  given-up k {t} e =
+      let s =
+      subst (Says (machineOf (partOf c b) b) (fair (partOf c b) b) (k + 1)) e
+      (layered-says (machineOf (partOf c b) b) (fair (partOf c b) b) (quota (partOf c b)) (k + 1)) in
+      (s .0, none-of t (s .1))
+
+module _ (c : Circuit) (b k D : ℕ) where
   -- the outcome is what frames t to k give
   abbrev pub Left : ℕ → Type 0
   Left t = chosen c b k D ≡ chosenFrom (λ u. decisionOf c b u D) k t (k + 1 - t)
 
-  -- the outcome is what the layers say
-  pub chosen-found : {t x : ℕ} → layered (partOf c b) b k ≡ Layered.hit t x → chosen c b k D ≡ Outcome.found t
-  unfolding chosen
-  chosen-found e = ap (byLayers c b k D) e
+  -- the answer that says and shows an outcome
+  pub answered : (o : Outcome) → chosen c b k D ≡ o → {out out′ : List ℕ} → out′ ≡ shown c b o out → Answered c b k D out (gives o) out′
+  answered o e {out} q =
+      record { says = sym (ap gives e); shows = q ∙ sym (ap (λ (x : Outcome). shown c b x out) e) }
 
-  -- and the first hit that they say is the one that is shown
-  pub layers-shown : {t x : ℕ} → layered (partOf c b) b k ≡ Layered.hit t x → witness b (run c t x) ≡ firstWitness c b t
-  unfolding layered
-  layers-shown {t} {x} e =
-      sym
-      (first-witness c b t x
-      (first-of (subst (Says (machineOf (partOf c b) b) (fair (partOf c b) b) (k + 1)) e
-      (layered-says (machineOf (partOf c b) b) (fair (partOf c b) b) (quota (partOf c b)) (k + 1)))))
+  -- the first hit of a frame is the one that is shown
+  first-shown : {t x : ℕ} → FirstAt (question c b) t x → witness b (run c t x) ≡ firstWitness c b t
+  first-shown {t} {x} f = sym (first-witness c b t x (first-of (question c b) f))
 
-  pub chosen-none : layered (partOf c b) b k ≡ Layered.clear → chosen c b k D ≡ Outcome.none k
-  unfolding chosen
-  chosen-none e = ap (byLayers c b k D) e
+  -- ---- stage by stage
 
-  pub chosen-left : {t : ℕ} → layered (partOf c b) b k ≡ Layered.gaveUp t → Left t
-  unfolding chosen
-  chosen-left e = ap (byLayers c b k D) e
+  abbrev After : Cut → Type 0
+  After s = Leads (question c b) [] (decisionOf c b) k D (chosen c b k D) s
 
-  -- they are given up at a frame up to the one after the bound
-  pub left-within : {t : ℕ} → layered (partOf c b) b k ≡ Layered.gaveUp t → t ≤ k + 1
-  unfolding layered
-  left-within e = subst (Says (machineOf (partOf c b) b) (fair (partOf c b) b) (k + 1)) e
-      (layered-says (machineOf (partOf c b) b) (fair (partOf c b) b) (quota (partOf c b)) (k + 1)) .0
+  none-at-start : NoneBefore (question c b) 0
+  none-at-start u l x h r = omega arith
+
+  -- what the layers up to the bound lead to
+  layers-lead : k ≤ 255 → After (cutAt k (ofLayers (layered (partOf c b) b k)))
+  unfolding chosen chosenBy stagesOf layersEnding layered
+  layers-lead small =
+      let m = machineOf (partOf c b) b in
+      let first = machine.layered m (quota (partOf c b)) 256 in
+      subst (After) (start first ∙ layers-cut m (quota (partOf c b)) k small)
+      (stage-leads (question c b) [] tt (decisionOf c b) k D (layerStage c b) (layer-sound c b) 0
+      (omega arith) none-at-start)
+    where
+      start : (o : machine.Layered) → cutAt k (fromStart (ofLayers o) 0) ≡ cutAt k (ofLayers o)
+      start (machine.Layered.hit t x) = refl
+      start machine.Layered.clear = refl
+      start (machine.Layered.gaveUp t) = let e : max t 0 ≡ t = omega arith in ap (λ (u : ℕ). cutAt k (Ending.gaveUp u)) e
+
+  pub layers-found : k ≤ 255 → {t x : ℕ} → t ≤ k → layered (partOf c b) b k ≡ machine.Layered.hit t x
+      → (chosen c b k D ≡ Outcome.found t) × (witness b (run c t x) ≡ firstWitness c b t)
+  layers-found small {t} {x} l e =
+      let h : After (Cut.hit t x) =
+      subst (After) (ap (λ (o : machine.Layered). cutAt k (ofLayers o)) e
+      ∙ ap (λ (p : Bool). cond p (Cut.hit t x) Cut.none) (le-leb t k l)) (layers-lead small) in
+      (h .1, first-shown (h .2))
+
+  pub layers-none : k ≤ 255 → layered (partOf c b) b k ≡ machine.Layered.clear → chosen c b k D ≡ Outcome.none k
+  layers-none small e = subst (After) (ap (λ (o : machine.Layered). cutAt k (ofLayers o)) e) (layers-lead small)
+
+  -- where the layers are given up each frame is decided by itself
+  pub layers-left : k ≤ 255 → {t : ℕ} → layered (partOf c b) b k ≡ machine.Layered.gaveUp t → (t ≤ k + 1) × Left t
+  layers-left small {t} e =
+      let (l, n) = given-up c b k e in
+      let here = ap (λ (o : machine.Layered). cutAt k (ofLayers o)) e in (
+        l,
+        elim (decLt k t) [
+          | yes h ↦
+              let o : chosen c b k D ≡ Outcome.none k =
+              subst After (here ∙ ap (λ (p : Bool). cond p (Cut.gaveUp t) Cut.none) (lt-leb t k h)) (layers-lead small) in
+              o ∙ sym (on-past (λ u. decisionOf c b u D) k t h)
+          | no h ↦
+              let o : After (Cut.gaveUp t) =
+              subst After (here ∙ ap (λ (p : Bool). cond p (Cut.gaveUp t) Cut.none) (le-leb t k (omega arith))) (layers-lead small) in
+              o .gives ∙ no-stage (decisionOf c b) k D t (omega arith)
+        ],
+      )
+
+  -- ---- frame by frame
 
   -- what frame t decides
   unroll : (t : ℕ) → t ≤ k → chosenFrom (λ u. decisionOf c b u D) k t (k + 1 - t) ≡ outcomeOf (decisionOf c b t D) t
@@ -136,10 +207,4 @@ module _ (c : Circuit) (b k D : ℕ) where
   left-more t l i e = decide t l i e
 
   pub left-none : (t : ℕ) → k < t → Left t → chosen c b k D ≡ Outcome.none k
-  unfolding chosenFrom
-  left-none t l i = let e : k + 1 - t ≡ 0 = omega arith in i ∙ ap (chosenFrom (λ u. decisionOf c b u D) k t) e
-
-  -- the answer that says and shows an outcome
-  pub answered : (o : Outcome) → chosen c b k D ≡ o → {out out′ : List ℕ} → out′ ≡ shown c b o out → Answered c b k D out (gives o) out′
-  answered o e {out} q =
-      record { says = sym (ap gives e); shows = q ∙ sym (ap (λ (x : Outcome). shown c b x out) e) }
+  left-none t l i = i ∙ on-past (λ u. decisionOf c b u D) k t l

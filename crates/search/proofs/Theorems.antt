@@ -1,22 +1,24 @@
 -- What the contract of the search says of its answers. Clauses 3.2, 3.3, 3.4, 3.6, 3.7. Assumes nothing.
-use mathlib.Core.Path.{_≡_, refl, sym, ap, _∙_}
-use mathlib.Core.List.{List}
-use Prim.Native.Nat.{ℕ}
-use lib.Dec.{T}
+use mathlib.Core.Path.{_≡_, refl, sym, ap, _∙_, subst}
+use mathlib.Core.List.{List, [], _∷_}
+use Prim.Native.Nat.{ℕ, _≤_}
+use lib.Dec.{T, leb}
 use lib.ListN.{length}
 use Rattle.aiger.specs.Circuit.{Circuit}
 use Rattle.aiger.specs.Load.{Answer, gives}
 use Rattle.aiger.specs.Search.{question, Outcome, permitted, firstWitness}
 use Rattle.aiger.specs.Memory.{Holds}
-use Rattle.aiger.specs.Operations.{Searched, SearchEffect, shown, front}
+use Rattle.aiger.specs.Witness.{witnessLength}
+use Rattle.aiger.specs.Operations.{need, budgetRight, Searched, SearchEffect, shown, front}
 use Rattle.meaning.proofs.Outcomes.{Decided, Found, None, Spent, answer-same, found-out, none-out, spent-out}
 use Rattle.roundtrip.proofs.Determined.{OneText, alike-held, acted, searched-same, shown-text, shownText}
 use Rattle.search.specs.Chosen.{chosen}
-use Rattle.search.proofs.Choice.{chosen-permitted}
+use Rattle.limits.proofs.Refusals.{passed}
+use Rattle.search.proofs.Choice.{chosen-permitted, answer-stays, found-stays, none-stays}
 
--- the chosen outcome is always permitted
-pub always-permitted : (c : Circuit) (b k D : ℕ) → T (permitted c b k D (chosen c b k D))
-always-permitted c b k D = chosen-permitted c b k D
+-- the chosen outcome is always permitted, for every bound that is not refused
+pub always-permitted : (c : Circuit) (b k D : ℕ) → k ≤ 255 → T (permitted c b k D (chosen c b k D))
+always-permitted c b k D small = chosen-permitted c b k D small
 
 -- earlier contents of working memory and output never matter, nor does which memory holds the circuit: two searches answer one thing and
 -- write one text
@@ -59,3 +61,45 @@ determined {out = out} {out′ = out′} {c = c} {b = b} {k = k} {D = D} {D′ =
         second = q .1 ∙ sym (ap (λ (x : Outcome). shown c b x out′) e) ∙ shown-text c b o out′;
       },
     )
+
+-- ---- Request 13: more budget keeps an answer. Of any two searches of a circuit, whatever their memories, that are not refused
+
+-- what a search that is not refused answers is chosen, and its bound is at most 255
+asked : {m w out w₁ o₁ : List ℕ} {c : Circuit} {b k D : ℕ} {o : Outcome} → Holds m c → Searched chosen m b k D w out (gives o) w₁ o₁
+    → (k ≤ 255) × (o ≡ chosen c b k D) × (o₁ ≡ shown c b o out)
+asked {w = w} {out = out} {c = c} {b = b} {k = k} {D = D} h s =
+    let a = acted h s refl in
+    let p = passed c b k (budgetRight D) (length w) (need 13 (leb (witnessLength c b k) (length out)) ∷ []) (a .0) in
+    (p .0 .bound, a .1 .chose, a .1 .shows)
+
+-- two outputs that show one outcome have one text
+one-text : (c : Circuit) (b : ℕ) (o : Outcome) {out o₁ out′ o₂ : List ℕ} → o₁ ≡ shown c b o out → o₂ ≡ shown c b o out′ → OneText out o₁ out′ o₂
+one-text c b o {out} {out′ = out′} p q = record { text = shownText c b o; first = p ∙ shown-text c b o out; second = q ∙ shown-text c b o out′ }
+
+module _ {m m′ w w′ w₁ w₂ out out′ o₁ o₂ : List ℕ} {c : Circuit} {b k k′ D E : ℕ} {o o′ : Outcome} (h : Holds m c) (h′ : Holds m′ c) (more : D ≤ E)
+    (s : Searched chosen m b k D w out (gives o) w₁ o₁) (s′ : Searched chosen m′ b k′ E w′ out′ (gives o′) w₂ o₂) where
+  -- what is not spent is answered with every larger budget, with the same witness
+  pub budget-kept : k ≡ k′ → Decided o → (o′ ≡ o) × OneText out o₁ out′ o₂
+  budget-kept same d =
+      let (small, p, shows) = asked h s in
+      let (small′, p′, shows′) = asked h′ s′ in
+      let e : o′ ≡ o =
+      p′ ∙ ap (λ (n : ℕ). chosen c b n E) (sym same) ∙ answer-stays c b k D E small more (subst Decided p d) ∙ sym p in
+      (e, one-text c b o shows (shows′ ∙ ap (λ (z : Outcome). shown c b z out′) e))
+
+  -- found is answered with every larger bound too, with the same witness
+  pub found-kept : (t : ℕ) → k ≤ k′ → o ≡ Outcome.found t → (o′ ≡ Outcome.found t) × OneText out o₁ out′ o₂
+  found-kept t l f =
+      let (small, p, shows) = asked h s in
+      let (small′, p′, shows′) = asked h′ s′ in
+      let e : o′ ≡ Outcome.found t = p′ ∙ found-stays c b k k′ D E t l small′ more (sym p ∙ f) in (
+        e,
+        one-text c b (Outcome.found t) (shows ∙ ap (λ (z : Outcome). shown c b z out) f) (shows′ ∙ ap (λ (z : Outcome). shown c b z out′) e),
+      )
+
+  -- none is answered with every smaller bound
+  pub none-kept : (i : ℕ) → k′ ≤ k → o ≡ Outcome.none i → o′ ≡ Outcome.none k′
+  none-kept i l f =
+      let (small, p, shows) = asked h s in
+      let (small′, p′, shows′) = asked h′ s′ in
+      p′ ∙ none-stays c b k k′ D E i l more (sym p ∙ f)

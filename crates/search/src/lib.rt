@@ -12,7 +12,8 @@ ghost use Rattle.aiger.specs.Operations.{judge, budgetRight, searchTests, Searc
 ghost use Rattle.layout.specs.Words.{circuitIn};
 ghost use Rattle.limits.specs.Limits.{Limited, CountsOf, told};
 ghost use Rattle.decision.specs.Reach.{decisionOf};
-ghost use Rattle.search.specs.Chosen.{chosenFrom, chosen, said};
+ghost use Rattle.stages.specs.Choice.{chosenFrom};
+ghost use Rattle.search.specs.Chosen.{chosen, said};
 ghost use Rattle.search.specs.Steps.{SearchFits, Answered};
 
 // What a search answers: the first frame with a hit; no frame up to the bound has one; the frame whose budget is spent; the number of a

@@ -89,7 +89,7 @@ module _ (n : ℕ) (gs : List Pair) (root words : ℕ) (room : 14 * netNodes n g
         bits = put-free (ended e .words) (netNodes n gs root) n (nodes-more n gs root words room) (omega arith);
       }
 
-  pub clear-false : (e : ℕ) → ended e .verdict ≡ Clear → NoneBelow n gs root (2 ^ n)
+  pub clear-false : (e : ℕ) {used : ℕ} → ended e .verdict ≡ Clear used → NoneBelow n gs root (2 ^ n)
   clear-false e q x l =
       none-true n gs root words room built inside
       (clear-none (Hit n gs root words room built inside) (Hits n gs root words room built inside) (val n gs root words room built inside)
@@ -156,7 +156,7 @@ module _ (work mid last : List ℕ) (g : Graph) (root e : ℕ) (k : Marked work 
           subst (FirstTrue (g .free) (pairsOf work g) root (prefix (bits left N) (g .free))) (sym (last-words end put)) f,
         ),
       )
-  solved-is end Clear q size put = (
+  solved-is end (Clear used) q size put = (
     same-verdict ∙ q,
     clear-false (g .free) (pairsOf work g) root (length work) (net-room work g root k) (k .built) (net-inside work g root k) e
         (same-verdict ∙ q),

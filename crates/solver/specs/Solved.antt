@@ -47,6 +47,6 @@ pub record FloorLeft (n : ℕ) (gs : List Pair) (root x : ℕ) (words : List ℕ
 
 abbrev pub SolvedIs : ℕ → List Pair → ℕ → List ℕ → ℕ → List ℕ → Verdict → Type 0
 SolvedIs n gs root work effort last Found = (solved n gs root (length work) effort ≡ Found) × ((x : ℕ) × FirstTrue n gs root x last)
-SolvedIs n gs root work effort last Clear = (solved n gs root (length work) effort ≡ Clear) × NoneBelow n gs root (2 ^ n)
+SolvedIs n gs root work effort last (Clear used) = (solved n gs root (length work) effort ≡ Clear used) × NoneBelow n gs root (2 ^ n)
 SolvedIs n gs root work effort last Out =
     (solved n gs root (length work) effort ≡ Out) × FloorLeft n gs root (solvedFloor n gs root (length work) effort) last

@@ -11,7 +11,7 @@ use Rattle.aiger.specs.Operations.{front}
 use Rattle.layout.specs.Words.{circuitIn}
 use Rattle.frames.proofs.Facts.{bad-count}
 use Rattle.limits.proofs.Sizes.{bits-within, length-within, limited}
-use Rattle.search.proofs.Choice.{chosen-found, layers-shown, chosen-none, chosen-left, left-within, answered}
+use Rattle.search.proofs.Choice.{layers-found, layers-none, layers-left, answered}
 use Rattle.search.proofs.ByLayers.{of-hit, of-clear, of-left}
 use borrow.Author.Needs.{needs}
 use Rattle.search.proofs.search_frames.Statement.{statement}
@@ -83,7 +83,7 @@ search-from-requires c κs =
         room = omega (arith, p .room, z);
         output = p .output;
       },
-      (left-within C (s .args .q .b) (s .args .q .k) (s .args .q .d) e, chosen-left C (s .args .q .b) (s .args .q .k) (s .args .q .d) e),
+      layers-left C (s .args .q .b) (s .args .q .k) (s .args .q .d) (p .bound) e,
     )
 
 same-length : tie.Need-same-length
@@ -101,9 +101,11 @@ returns c =
     .last .1 .1 .1 .1 .1 .0) (c .before .before .before .before .before .before .before .before .before .before .search-layers
     .result) (c .before .before .before .before .before .before .before .before .before .before .search-layers .ensures)
     (c .before .before .before .before .before .before .t .given .1) in
-    answered C (s .q .b) (s .q .k) (s .q .d) (Outcome.found _) (chosen-found C (s .q .b) (s .q .k) (s .q .d) (h .says))
+    let f = layers-found C (s .q .b) (s .q .k) (s .q .d) (c .before .before .before .before .before .before .before .before .before .before .before .before .before .before .before
+    .before .pre .bound) (h .within) (h .says) in
+    answered C (s .q .b) (s .q .k) (s .q .d) (Outcome.found _) (f .0)
     (c .before .before .write-witness .ensures (h .place) (h .bits)
-    ∙ ap (λ (z : List ℕ). front z (s .out .now)) (layers-shown C (s .q .b) (s .q .k) (s .q .d) (h .says)))
+    ∙ ap (λ (z : List ℕ). front z (s .out .now)) (f .1))
 
 same-length-3 : tie.Need-same-length-3
 same-length-3 c = c .before .before .before .before .search-layers .kept .1 .1 .1 .1 .1 .0
@@ -113,7 +115,7 @@ returns-2 c =
     let s = c .before .before .before .before .before .before .before .before .before .before .args in
     let C = circuitIn (s .m .now) in
     answered C (s .q .b) (s .q .k) (s .q .d) (Outcome.none (s .q .k))
-    (chosen-none C (s .q .b) (s .q .k) (s .q .d) (of-clear C (s .q .b) (s .q .k)
+    (layers-none C (s .q .b) (s .q .k) (s .q .d) (c .before .before .before .before .before .before .before .before .before .before .pre .bound) (of-clear C (s .q .b) (s .q .k)
     (c .before .before .before .before .search-layers .last .1 .1 .1 .1 .1 .0)
     (c .before .before .before .before .search-layers .result) (c .before .before .before .before .search-layers .ensures)
     (c .enum-told .given .1))) refl

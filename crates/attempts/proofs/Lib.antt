@@ -1,0 +1,4 @@
+pub mod Small
+pub mod Sound
+pub mod Graphs
+pub mod Frames

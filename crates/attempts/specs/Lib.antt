@@ -1,0 +1,3 @@
+-- What the contracts of `attempts` cite. Assumes nothing.
+pub mod Attempts
+pub mod Stage

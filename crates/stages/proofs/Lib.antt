@@ -1,0 +1,5 @@
+pub mod Lists
+pub mod Attempts
+pub mod Choice
+pub mod More
+pub mod Layers

@@ -1,0 +1,4 @@
+pub mod Endings
+pub mod Conflicts
+pub mod Choice
+pub mod Layers
