@@ -1,0 +1,2 @@
+-- What the contracts of `conjunction` cite. Assumes nothing.
+pub mod Conjunction
