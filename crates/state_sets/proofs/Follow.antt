@@ -10,6 +10,7 @@ use lib.Dec.{ltb}
 use lib.ListN.{length, getD, set, take, drop}
 use Rattle.diagrams.specs.Words.{flip}
 use Rattle.diagrams.specs.States.{State, stateOf, Outcome, outcome, andThen}
+use Rattle.diagrams.proofs.Follow.{then-full, then-edge}
 use Rattle.conjunction.specs.Conjunction.{both, either}
 use Rattle.substitution.specs.Substitution.{substituted}
 use Rattle.collection.specs.Collection.{Gathered, gathered, collected}
@@ -24,13 +25,6 @@ refused false h = refl
 pub granted : (b : Bool) → not b ≡ false → b ≡ true
 granted true h = refl
 granted false h = sym h
-
--- one call after the other: what a match on the answer of a call asks
-pub then-full : (o : Outcome) (k : State → ℕ → Outcome) (t : State) → outcome t none ≡ o → outcome t none ≡ andThen o k
-then-full o k t h = ap (λ (x : Outcome). andThen x k) h
-
-pub then-edge : (o : Outcome) (k : State → ℕ → Outcome) (t : State) (e : ℕ) (x : Outcome) → outcome t (some e) ≡ o → x ≡ k t e → x ≡ andThen o k
-then-edge o k t e x h q = q ∙ ap (λ (y : Outcome). andThen y k) h
 
 -- ---- the states before
 

@@ -20,7 +20,7 @@ use Rattle.backward.specs.Sets.{anyBelow, into, hitsNow, preimage, ahead, neare
 use Rattle.backward.proofs.Ahead.{any-in, any-out, nearest-zero, nearest-suc}
 use Rattle.state_sets.specs.Shape.{rowAt}
 use Rattle.state_sets.specs.Sets.{nextOf}
-use Rattle.state_sets.specs.Meaning.{Values, valuesOf, Coded, isSome, Alike, RowsOf, adds, metBefore}
+use Rattle.state_sets.specs.Meaning.{Values, valuesOf, Coded, isSome, Alike, RowsOf, leadsTo, rowValue, adds, metBefore}
 use Rattle.state_sets.proofs.Room.{row-is}
 
 and-true : (b : Bool) → (b && true) ≡ b
@@ -29,19 +29,12 @@ and-true false = refl
 
 -- ---- where a row leads
 
--- the values of row k under an assignment, as an assignment
-abbrev pub leadsTo : Values → ℕ → ℕ → Assignment → Assignment
-leadsTo vs vars k x v = cond (ltb v vars) (vs (rowAt vars k + v) x) false
-
 -- the vector of a row puts these in place of the variables
 pub after-row : (ns : List Vertex) → Built ns → (table : List ℕ) (vars k : ℕ) (x : Assignment)
     → after ns (nextOf vars k table) x ≡ leadsTo (valuesOf ns table) vars k x
 unfolding after nextOf valuesOf
 after-row ns b table vars k x = λ i v. at v i
   where
-    word : ℕ → ℕ
-    word v = getD (take vars (drop (rowAt vars k) table)) v 0
-
     at : (v : ℕ) → value ns x (getD (take vars (drop (rowAt vars k) table)) v 0) ≡ cond (ltb v vars) (value ns x (getD table (rowAt vars k + v) 0)) false
     at v = elim (decLt v vars) [
       | yes l ↦
@@ -53,15 +46,10 @@ after-row ns b table vars k x = λ i v. at v i
           ∙ sym (ap (λ (t : Bool). cond t (value ns x (getD table (rowAt vars k + v) 0)) false) (le-ltb v vars (omega arith)))
     ]
 
--- what row k adds to set `next`, by the values of the table
-abbrev pub rowValue : Values → ℕ → ℕ → ℕ → Assignment → Bool
-rowValue vs vars zero k x = vs (rowAt vars k + vars + 1) x
-rowValue vs vars (suc last) k x = vs (rowAt vars k + vars) x && vs last (leadsTo vs vars k x)
-
 module _ (m : Machine) (n : ℕ) (inside : Inside m n) (at : ℕ → Assignment) (vars rows : ℕ) (coded : Coded at vars) (vs : Values)
     (rows-of : RowsOf m n at vars rows vs) where
   -- a row that is allowed leads to its next state
-  leads-state : (r s x : ℕ) → r < m .rows → s < n → m .step s r ≡ some x → leadsTo vs vars (rows-of .like r) (at s) ≡ at x
+  pub leads-state : (r s x : ℕ) → r < m .rows → s < n → m .step s r ≡ some x → leadsTo vs vars (rows-of .like r) (at s) ≡ at x
   leads-state r s x rl sl e = λ i v. go v i
     where
       k : ℕ

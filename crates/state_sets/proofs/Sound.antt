@@ -28,9 +28,9 @@ use Rattle.backward.specs.Sets.{anyBelow, ahead, nearest, Inside}
 use Rattle.backward.proofs.Frames.{EmptyBelow}
 use Rattle.state_sets.specs.Shape.{rowAt}
 use Rattle.state_sets.specs.Sets.{Sets, Tried, tried, onDone, whereDone, nextOf, before, rowPart, withRow, partIn, addedRow, setIn, closed, stepOf, afterCollection, onKept, orAgain, again, stepsFrom, advanced, startsIn}
-use Rattle.state_sets.specs.Meaning.{Values, valuesOf, Coded, Alike, RowsOf, adds, metBefore, Standing, vectorsFrom, termsOf, Tabled, Held}
+use Rattle.state_sets.specs.Meaning.{Values, valuesOf, Coded, Alike, RowsOf, leadsTo, rowValue, adds, metBefore, Standing, vectorsFrom, termsOf, Tabled, Held}
 use Rattle.state_sets.proofs.Room.{row-is}
-use Rattle.state_sets.proofs.Rows.{leadsTo, after-row, rowValue, row-adds, row-adds-first, all-rows, adds-nearest}
+use Rattle.state_sets.proofs.Rows.{after-row, row-adds, row-adds-first, all-rows, adds-nearest}
 
 -- ---- values of words
 

@@ -1,10 +1,10 @@
 -- What the edges of a table mean for the states of a machine. Assumes nothing.
 use mathlib.Core.Path.{_≡_}
-use mathlib.Core.Bool.{Bool, true, false, not, _&&_}
+use mathlib.Core.Bool.{Bool, true, false, not, cond, _&&_}
 use mathlib.Core.List.{List, [], _∷_}
 use mathlib.Core.Option.{Option, none, some}
 use Prim.Native.Nat.{ℕ, zero, suc, _+_, _≤_, _<_}
-use lib.Dec.{T}
+use lib.Dec.{ltb}
 use lib.ListN.{length, getD}
 use Rattle.diagrams.specs.declared.Vertex.{Vertex}
 use Rattle.diagrams.specs.Meaning.{Assignment, value, In, Terms, Good}
@@ -47,6 +47,15 @@ pub record RowsOf (m : Machine) (n : ℕ) (at : ℕ → Assignment) (vars rows :
   pub first-order : (k l : ℕ) → k ≤ l → l < rows → first k ≤ first l
   pub alike : (r s : ℕ) → r < m .rows → s < n → Alike m at vars (like r) r s vs
   pub begins : (y : ℕ) → y < m .starts → vs (rowAt vars rows) (at (m .start y)) ≡ true
+
+-- the next values in row k of a table under an assignment, as an assignment
+abbrev pub leadsTo : Values → ℕ → ℕ → Assignment → Assignment
+leadsTo vs vars k x v = cond (ltb v vars) (vs (rowAt vars k + v) x) false
+
+-- whether row k of a table hits, where next is 0, and else is allowed and leads into the set before
+abbrev pub rowValue : Values → ℕ → ℕ → ℕ → Assignment → Bool
+rowValue vs vars zero k x = vs (rowAt vars k + vars + 1) x
+rowValue vs vars (suc last) k x = vs (rowAt vars k + vars) x && vs last (leadsTo vs vars k x)
 
 -- row r of state s hits, where next is 0, and else leads into the set before
 abbrev pub adds : Machine → ℕ → ℕ → ℕ → Bool
