@@ -1,0 +1,4 @@
+-- The proofs of `set_walk`. Assumes nothing.
+pub mod Evaluation
+pub mod Steps
+pub mod Picks
