@@ -458,6 +458,15 @@ paid-nodes s n = go (ltb (s .looks) n)
     go true = refl
     go false = refl
 
+pub paid-cache : (s : State) (n : ℕ) → paid s n .cache ≡ s .cache
+unfolding paid
+paid-cache s n = go (ltb (s .looks) n)
+  where
+    go : (b : Bool)
+        → cond b s (record { room = s .room; looks = s .looks - n; nodes = s .nodes; heads = s .heads; cache = s .cache }) .cache ≡ s .cache
+    go true = refl
+    go false = refl
+
 pub paid-good : {terms : Terms} (s : State) (n : ℕ) → Good terms s → Good terms (paid s n)
 unfolding paid
 paid-good {terms} s n g = go (ltb (s .looks) n)

@@ -1,0 +1,3 @@
+-- The laws of `conjunction`. Assumes nothing.
+pub mod Sound
+pub mod Follow

@@ -1,0 +1,2 @@
+-- What the contracts of `quantification` cite. Assumes nothing.
+pub mod Quantification

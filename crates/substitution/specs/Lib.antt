@@ -1,0 +1,2 @@
+-- What the contracts of `substitution` cite. Assumes nothing.
+pub mod Substitution
