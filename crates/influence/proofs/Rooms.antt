@@ -13,7 +13,7 @@ use Rattle.layout.specs.declared.Layout.{Layout}
 use Rattle.meaning.specs.Frame.{latchAt, gateAt}
 use Rattle.frames.specs.Lanes.{Ready}
 use Rattle.frames.proofs.Facts.{right, known, no-cycle, gate-place, latch-place, bad-place, constraint-place, gates-are, latches-are, constraints-are, gate-room, latches-inside, latches-apart, next-below, bad-inside, bad-below, constraint-inside, constraint-below}
-use Rattle.influence.specs.Cone.{marked, mark, markBelow, asGate, reachDown, spread, closedAt, closed, settle, marks, settled, keptBelow, keptLatches, gateBy, Rooms, Literals}
+use Rattle.influence.specs.Cone.{marked, mark, markBelow, asGate, reachDown, spread, closedAt, closed, settle, coneFrom, marks, settled, keptBelow, keptLatches, gateBy, Rooms, Literals}
 use Rattle.influence.proofs.Marks.{mark-one, mark-same, down-same, below-same}
 
 module _ {m : List ℕ} {layout : Layout} {order : List ℕ} {count : ℕ} (r : Ready m layout order count) where
@@ -86,16 +86,22 @@ module _ {m : List ℕ} {layout : Layout} {order : List ℕ} {count : ℕ} (r : 
         ∙ ap (λ (n : ℕ). everyBelow n (λ i. marked ms (getD (c .constraints) i 0))) (constraints-are r))))
 
     -- the marks at the end
-    pub marks-are : (one two three : List ℕ) → one ≡ markBelow (λ i. word m (layout .bads + b + i)) 1 (replicate 4097 0)
-        → two ≡ markBelow (λ i. word m (layout .constraints + i)) (layout .c) one → three ≡ settle 129 (circuitIn m) b two → three ≡ marks (circuitIn m) b
-    unfolding marks
-    marks-are one two three e f g =
+    pub marks-are : (ms one two three : List ℕ) → one ≡ markBelow (λ i. word m (layout .bads + b + i)) 1 ms
+        → two ≡ markBelow (λ i. word m (layout .constraints + i)) (layout .c) one → three ≡ settle 129 (circuitIn m) b two
+        → three ≡ coneFrom (circuitIn m) b ms
+    unfolding coneFrom
+    marks-are ms one two three e f g =
         g
         ∙ ap (settle 129 c b)
         (f
         ∙ mark-same (λ i. word m (layout .constraints + i)) (λ i. getD (c .constraints) i 0) (layout .c) one (constraint-is)
         ∙ ap₂ (λ (n : ℕ) (ms : List ℕ). markBelow (λ i. getD (c .constraints) i 0) n ms) (constraints-are r)
-        (e ∙ mark-one (λ i. word m (layout .bads + b + i)) (replicate 4097 0) ∙ ap (λ (l : ℕ). mark l (replicate 4097 0)) (bad-is 0 (omega arith))))
+        (e ∙ mark-one (λ i. word m (layout .bads + b + i)) ms ∙ ap (λ (l : ℕ). mark l ms) (bad-is 0 (omega arith))))
+
+    -- where nothing was marked before they are those of the cone
+    pub cone-marks : (ms : List ℕ) → ms ≡ coneFrom (circuitIn m) b (replicate 4097 0) → ms ≡ marks (circuitIn m) b
+    unfolding marks
+    cone-marks ms e = e
 
     -- whether they are the cone
     settled-is : closed (circuitIn m) b (marks (circuitIn m) b) ≡ settled (circuitIn m) b

@@ -57,11 +57,15 @@ unfoldable pub settle : ℕ → Circuit → ℕ → List ℕ → List ℕ
 settle zero c b ms = ms
 settle (suc n) c b ms = cond (closed c b ms) ms (settle n c b (spread c ms))
 
--- 129 rounds at most. Where gates stand after their operands a round goes through a whole frame, so that each round but the last marks a
+-- what is marked where the marks before are those; 129 rounds at most. Where gates stand after their operands a round goes through a whole frame, so that each round but the last marks a
 -- latch, of which a search by states has 32 at most; in another order a round may reach only some of the gates
+unfoldable pub coneFrom : Circuit → ℕ → List ℕ → List ℕ
+coneFrom c b ms =
+    settle 129 c b (markBelow (λ i. getD (c .constraints) i 0) (length (c .constraints)) (mark (getD (c .bads) b 0) ms))
+
+-- the marks of the cone
 unfoldable pub marks : Circuit → ℕ → List ℕ
-marks c b =
-    settle 129 c b (markBelow (λ i. getD (c .constraints) i 0) (length (c .constraints)) (mark (getD (c .bads) b 0) (replicate 4097 0)))
+marks c b = coneFrom c b (replicate 4097 0)
 
 -- whether the marks are the cone; else all latches are kept
 unfoldable pub settled : Circuit → ℕ → Bool

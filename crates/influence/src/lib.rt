@@ -21,6 +21,7 @@ ghost use Rattle.influence.specs.Cone.{
   closedAt,
   closed,
   settle,
+  coneFrom,
   keptBelow,
   keptLatches,
   gateBy,
@@ -211,6 +212,17 @@ fn keep(
     n
 }
 
+// Marks the cone of influence of bad line b, where nothing is marked before.
+pub fn mark_cone(m: &[u32], layout: Layout, order: &[u32], b: usize, marks: &mut [u32])
+    requires { ⌜ Ready (now m) layout (now order) (length (now marks)) ⌝ }
+    requires { ⌜ b < word (now m) 5 ⌝ }
+    ensures { λ _. ⌜ now (marks .exit) ≡ coneFrom (circuitIn (now (m .entry))) b (now (marks .entry)) ⌝ }
+{
+    mark_words(m, layout.bads + b, 1, marks);
+    mark_words(m, layout.constraints, layout.c, marks);
+    settle(m, layout, order, b, marks);
+}
+
 // Lists the latches in the cone of influence of bad line b, or all latches where the marks do not settle, by their places in the file;
 // answers how many there are. The words after them stay.
 pub fn kept_latches(m: &[u32], layout: Layout, order: &[u32], b: usize, kept: &mut [u32]) -> usize
@@ -222,9 +234,7 @@ pub fn kept_latches(m: &[u32], layout: Layout, order: &[u32], b: usize, kept: &m
         ⌝ }
 {
     let mut marks = [0u32; 4097];
-    mark_words(m, layout.bads + b, 1, &mut marks);
-    mark_words(m, layout.constraints, layout.c, &mut marks);
-    settle(m, layout, order, b, &mut marks);
+    mark_cone(m, layout, order, b, &mut marks);
     let whole = !is_settled(m, layout, order, b, &marks);
     keep(m, layout, order, whole, &marks, kept)
 }
