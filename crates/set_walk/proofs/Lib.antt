@@ -2,3 +2,5 @@
 pub mod Evaluation
 pub mod Steps
 pub mod Picks
+pub mod Order
+pub mod Starts

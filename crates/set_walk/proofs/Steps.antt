@@ -63,8 +63,7 @@ module _ {level : ℕ} {m : Machine} {n : ℕ} {at : ℕ → Assignment} {s : Sh
         → Least (adds m next (h .state)) (m .rows) (some (firstOf g r))
     least-of next nl r after a l =
         least-row m n (g .inside) at (s .vars) (s .rows) (g .coded) (valuesIn w table) (g .held .standing .rows-of) next r (h .state)
-        (sets-in next nl) state-below
-        (
+        (sets-in next nl) state-below (
           l,
           T-true (ap (rowValue (valuesIn w table) (s .vars) next r) (sym (h .here)) ∙ a .on l),
           λ k d v. absurd (clash (sym (true-T _ v) ∙ ap (rowValue (valuesIn w table) (s .vars) next k) (sym (h .here)) ∙ a .before k d)),
@@ -99,8 +98,7 @@ module _ {level : ℕ} {m : Machine} {n : ℕ} {at : ℕ → Assignment} {s : Sh
         let j = t - suc f in
         let d : next ≡ suc j = omega arith in
         let b = leads m t 0 f (prefixBy m (firstOf g) y trace f) (h .state) (h .walking) l in
-        some-row next (omega arith) r after a
-        (
+        some-row next (omega arith) r after a (
           b .0,
           b .1 .0,
           subst (λ (k : ℕ). T (adds m k (h .state) (b .0))) (sym d) (nearer (b .0) (b .1 .0) (b .1 .1)),
@@ -160,8 +158,7 @@ module _ {level : ℕ} {m : Machine} {n : ℕ} {at : ℕ → Assignment} {s : Sh
     walked-end tl r after a =
         let b = ends m t 0 (prefixBy m (firstOf g) y trace t) (h .state) (h .walking) in
         let rl = some-row t bits trace h 0 (omega arith) r after a (b .0, b .1 .0, b .1 .1) in
-        let best = least-of t bits trace h 0 (omega arith) r after a rl in
-        (
+        let best = least-of t bits trace h 0 (omega arith) r after a rl in (
           rl,
           record {
             done = refl;

@@ -1,14 +1,20 @@
 -- The least start state of a set: for each free latch in file order 0 where that leaves a start state, else 1. Assumes nothing.
+use mathlib.Core.Path.{_≡_}
 use mathlib.Core.Bool.{Bool, true, false, cond}
 use mathlib.Core.List.{List, [], _∷_}
 use mathlib.Core.Option.{Option, none, some}
-use Prim.Native.Nat.{ℕ}
-use lib.Dec.{ltb, eqb}
+use Prim.Native.Nat.{ℕ, _^_, _≤_, _<_}
+use lib.Dec.{T, ltb, eqb}
 use lib.ListN.{length, getD, set}
+use Rattle.aiger.specs.Bits.{nonzero}
+use Rattle.aiger.specs.Frames.{freeBit}
+use Rattle.machine.specs.Machine.{Machine}
+use Rattle.diagrams.specs.Meaning.{Assignment}
 use Rattle.diagrams.specs.Words.{flip}
 use Rattle.diagrams.specs.States.{State, Outcome, stateOf, edgeOf, andThen, made}
 use Rattle.diagrams.specs.declared.Made.{Made}
 use Rattle.conjunction.specs.Conjunction.{both}
+use Rattle.set_walk.specs.Walk.{bitsOf}
 
 -- a diagram, an edge unless it is full, and a state in words
 pub record Picked : Type 0 where
@@ -51,3 +57,22 @@ pickThen p k = onPicked (p .edge) (p .state) (p .bits) k
 unfoldable pub pickAll : List ℕ → State → ℕ → List ℕ → Picked
 pickAll [] s e bits = picked s (some e) bits
 pickAll (v ∷ vs) s e bits = pickThen (pickOne e v bits s) (pickAll vs)
+
+-- The start states of a machine as assignments of so many variables: start place y gives the free latches its bits, in their order, and the
+-- other variables have their words of `base`. The list has the variable of each free latch, or a number past the variables.
+pub record StartsOf (m : Machine) (at : ℕ → Assignment) (vars : ℕ) (frees base : List ℕ) : Type 0 where
+  pub places : m .starts ≡ 2 ^ length frees
+  pub wide : length base ≡ vars
+  pub past : (s v : ℕ) → vars ≤ v → at s v ≡ false
+  pub clear : (u : ℕ) → u < length frees → getD frees u 0 < vars → getD base (getD frees u 0) 0 ≡ 0
+  pub apart : (u i : ℕ) → u < length frees → i < length frees → getD frees u 0 < vars → getD frees u 0 ≡ getD frees i 0 → u ≡ i
+  pub free : (y u : ℕ) → y < m .starts → u < length frees → getD frees u 0 < vars → at (m .start y) (getD frees u 0) ≡ freeBit (length frees) y u
+  pub fixed : (y v : ℕ) → y < m .starts → v < vars → ((u : ℕ) → u < length frees → getD frees u 0 ≡ v → ⊥)
+      → at (m .start y) v ≡ nonzero (getD base v 0)
+
+-- bits are the state of the first start place, where it is one of these at all: no start place before it is
+pub record LeastStart (m : Machine) (at : ℕ → Assignment) (p : ℕ → Bool) (bits : List ℕ) : Type 0 where
+  pub place : ℕ
+  pub fits : place < m .starts
+  pub here : bitsOf bits ≡ at (m .start place)
+  pub first : (y : ℕ) → y < place → T (p y) → ⊥

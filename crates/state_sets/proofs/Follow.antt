@@ -31,7 +31,7 @@ granted false h = sym h
 module _ (vars last r : ℕ) (table : List ℕ) (s : State) (from to all : ℕ) (pf : from ≡ rowAt vars r) (pt : to ≡ from + vars)
     (pa : all ≡ flip (getD table 256 0) 1) where
   abbrev first : Outcome
-  first = substituted s (getD table last 0) (take (to - from) (drop from table)) r
+  first = substituted (take (to - from) (drop from table)) r s (getD table last 0)
 
   abbrev second : State → ℕ → Outcome
   second t x = both t (getD table to 0) x
@@ -44,7 +44,7 @@ module _ (vars last r : ℕ) (table : List ℕ) (s : State) (from to all : ℕ) 
   unfolding before
   before-from o h =
       h
-      ∙ (λ i. andThen (substituted s (getD table last 0) (part-same i) r) (λ t x. andThen (both t (getD table (at i) 0) x) (λ u y. both u (pa i) y)))
+      ∙ (λ i. andThen (substituted (part-same i) r s (getD table last 0)) (λ t x. andThen (both t (getD table (at i) 0) x) (λ u y. both u (pa i) y)))
     where
       at : to ≡ rowAt vars r + vars
       at = pt ∙ ap (λ (k : ℕ). k + vars) pf

@@ -175,7 +175,8 @@ pub record Did (p q : Sets → Type 0) (t : Tried) : Type 0 where
 not-both-ways : {A : Type 0} → true ≡ false → A
 not-both-ways e = absurd (let z : _≡_ {A = ℕ} 0 1 = cc in omega arith)
 
-module _ (level : ℕ) (m : Machine) (n : ℕ) (inside : Inside m n) (at : ℕ → Assignment) (vars rows : ℕ) (coded : Coded at vars) where
+module _ (level : ℕ) (m : Machine) (n : ℕ) (inside : Inside m n) (at : ℕ → Assignment) (vars rows : ℕ) (coded : Coded at vars)
+    (few : rows ≤ 16) where
   -- an edge of the diagram with these values at the states
   pub record Says (p : ℕ → Bool) (ns : List Vertex) (e : ℕ) : Type 0 where
     pub e-in : In ns e
@@ -223,10 +224,10 @@ module _ (level : ℕ) (m : Machine) (n : ℕ) (inside : Inside m n) (at : ℕ �
         let all-in = h .tabled .edges 256 in
         let none-in = flip-in (s .nodes) all 1 all-in in
         let vector : vectorOf terms k ≡ nextOf vars k table = vectors-at vars table rows 0 k kl ∙ ap (λ (i : ℕ). nextOf vars i table) (omega arith) in
-        let o₁ = substituted s (getD table last 0) (nextOf vars k table) k in
+        let o₁ = substituted (nextOf vars k table) k s (getD table last 0) in
         let r₁ : Right terms s (Composed (nextOf vars k table) (getD table last 0)) o₁ =
-        subst (λ (v : List ℕ). Right terms s (Composed v (getD table last 0)) (substituted s (getD table last 0) v k)) vector
-        (substituted-right terms s (h .tabled .good) (getD table last 0) k set-in (omega (arith, vectors-length vars table rows 0))) in
+        substituted-right terms k (omega (arith, vectors-length vars table rows 0)) (omega arith) (nextOf vars k table) vector s (h .tabled .good)
+        (getD table last 0) set-in in
         right-then o₁ (λ t x. andThen (both t con x) (λ u y. both u (flip all 1) y)) r₁
         (λ x cx.
         let t₁ = r₁ .grows in

@@ -48,7 +48,7 @@ nextOf vars r table = take vars (drop (rowAt vars r) table)
 -- the states that row r leads into set `last`, and that are in no set
 unfoldable pub before : ℕ → ℕ → ℕ → List ℕ → State → Outcome
 before vars last r table s =
-    andThen (substituted s (getD table last 0) (nextOf vars r table) r)
+    andThen (substituted (nextOf vars r table) r s (getD table last 0))
     (λ t x. andThen (both t (getD table (rowAt vars r + vars) 0) x) (λ u y. both u (flip (getD table 256 0) 1) y))
 
 -- what row r adds to set `next`: to set 0 the states that it hits in

@@ -45,7 +45,7 @@ value-of-requires-2 : tie.Need-value-of-requires-2
 value-of-requires-2 c κs = let s = c .before .before .before .before .before .before .before .before in (s .pre .0 .built, s .pre .0 .edges (c .before .before .before .row-at .result + s .args .s .vars))
 
 next-bits-requires : tie.Need-next-bits-requires
-next-bits-requires c κs = let s = c .before .before .before .before .before .before .before .before .before .before .before in (s .pre .0, s .pre .1 .0, (s .pre .1 .1 .0, s .pre .1 .1 .1))
+next-bits-requires c κs = let s = c .before .before .before .before .before .before .before .before .before .before .before in (s .pre .0, (s .pre .1 .0, (s .pre .1 .1 .0, s .pre .1 .1 .1)))
 
 sub-value-of : tie.Need-sub-value-of
 sub-value-of c = omega (arith, c .before .before .before .before .before .before .before .if1 .left)
@@ -60,13 +60,13 @@ value-of-requires-3 : tie.Need-value-of-requires-3
 value-of-requires-3 c κs = let s = c .before .before .before .before .before .before .before .before .before .before .before .before .before .before .before .before in (s .pre .0 .built, s .pre .0 .edges (s .args .next - 1))
 
 same-length : tie.Need-same-length
-same-length c = c .before .before .before .before .before .next-bits .kept .0
+same-length c = c .before .before .before .before .before .next-bits .kept .1 .1 .1 .1 .1 .0
 
 returns-2 : tie.Need-returns-2
 returns-2 c =
     let s = c .before .before .before .before .before .before .before .before .before .before .before .before .before .before .before .before .before in
     let a = s .args in
-    leads-on (a .w .now) (a .table .now) (a .s .vars) (a .next) (a .r) (a .bits .now) (c .before .before .before .before .before .next-bits .last .0) (a .next - 1)
+    leads-on (a .w .now) (a .table .now) (a .s .vars) (a .next) (a .r) (a .bits .now) (c .before .before .before .before .before .next-bits .last .1 .1 .1 .1 .1 .0) (a .next - 1)
     (c .before .before .before .before .before .before .before .before .before .before .before .before .row-at .result + a .s .vars) _ (omega (arith, c .before .before .before .before .before .before .before .before .before .before .if1 .left)) (ap (λ (k : ℕ). k + a .s .vars) (c .before .before .before .before .before .before .before .before .before .before .before .before .row-at .ensures))
     (sym (c .before .before .before .before .before .before .before .before .value-of2 .ensures) ∙ c .before .before .before .before .before .before .before .if2 .taken) (c .before .before .before .before .before .next-bits .ensures) (c .value-of3 .ensures)
 

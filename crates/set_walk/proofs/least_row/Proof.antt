@@ -19,17 +19,17 @@ loop-holds : tie.Need-loop-holds Inv-loop μ-loop
 loop-holds c = (refl, omega arith, refl, λ k l. absurd (omega arith))
 
 leads-requires : tie.Need-leads-requires Inv-loop μ-loop
-leads-requires c κs = let s = c .before .before .before .before .before .before .before in let l = c .before .before .loop in (s .pre .0, s .pre .1 .0, (omega (arith, l .inv .2), l .inv .0 ∙ s .pre .1 .1 .0, s .pre .1 .1 .1))
+leads-requires c κs = let s = c .before .before .before .before .before .before .before in let l = c .before .before .loop in (s .pre .0, (s .pre .1 .0, (omega (arith, l .inv .2), l .inv .0 ∙ s .pre .1 .1 .0, s .pre .1 .1 .1)))
 
 same-length : tie.Need-same-length Inv-loop μ-loop
-same-length c = c .before .before .before .leads .kept .0 ∙ c .before .before .before .before .before .before .loop .inv .0
+same-length c = c .before .before .before .leads .kept .1 .1 .1 .1 .1 .1 .0 ∙ c .before .before .before .before .before .before .loop .inv .0
 
 returns : tie.Need-returns Inv-loop μ-loop
 returns c =
     let a = c .before .before .before .before .before .before .before .before .before .before .before .args in
     let l = c .before .before .before .before .before .before .loop in
     let m = c .before .before .before .leads in
-    least-here (a .w .now) (a .table .now) (a .s .vars) (a .s .rows) (a .next) (a .bits .now) (l .r) (m .last .0) (m .result) (omega (arith, l .inv .2))
+    least-here (a .w .now) (a .table .now) (a .s .vars) (a .s .rows) (a .next) (a .bits .now) (l .r) (m .last .1 .1 .1 .1 .1 .1 .0) (m .result) (omega (arith, l .inv .2))
     (l .inv .3) (m .ensures) (c .if1 .taken)
 
 add-r : tie.Need-add-r Inv-loop μ-loop
@@ -42,13 +42,12 @@ loop-again : tie.Need-loop-again Inv-loop μ-loop
 loop-again c =
     let a = c .before .before .before .before .before .before .before .before .before .before .before .args in
     let l = c .before .before .before .before .before .before .loop in
-    let m = c .before .before .before .leads in
-    (
-      m .kept .0 ∙ l .inv .0,
+    let m = c .before .before .before .leads in (
+      m .kept .1 .1 .1 .1 .1 .1 .0 ∙ l .inv .0,
       omega arith,
       l .inv .2,
-      none-more (a .w .now) (a .table .now) (a .s .vars) (a .s .rows) (a .next) (a .bits .now) (l .r) (m .last .0) (m .result) (l .inv .3) (m .ensures)
-      (c .if1 .left),
+      none-more (a .w .now) (a .table .now) (a .s .vars) (a .s .rows) (a .next) (a .bits .now) (l .r) (m .last .1 .1 .1 .1 .1 .1 .0) (m .result) (l .inv .3) (m .ensures)
+          (c .if1 .left),
     )
 
 same-length-2 : tie.Need-same-length-2 Inv-loop μ-loop

@@ -27,15 +27,15 @@ same-length : tie.Need-same-length Inv-loop μ-loop
 same-length c = c .before .before .before .before .before .before .pick .kept .0 ∙ c .before .before .before .before .before .before .before .before .before .before .before .loop .inv .0
 
 same-length-2 : tie.Need-same-length-2 Inv-loop μ-loop
-same-length-2 c = c .before .before .before .before .before .before .pick .kept .1 .0 ∙ c .before .before .before .before .before .before .before .before .before .before .before .loop .inv .1
+same-length-2 c = c .before .before .before .before .before .before .pick .kept .1 .1 .1 .0 ∙ c .before .before .before .before .before .before .before .before .before .before .before .loop .inv .1
 
 returns : tie.Need-returns Inv-loop μ-loop
 returns c =
     let a = c .before .before .before .before .before .before .before .before .before .before .before .before .before .before .before .args in
     let l = c .before .before .before .before .before .before .before .before .before .before .before .loop in
     let m = c .before .before .before .before .before .before .pick in
-    all-full (a .frees .now) (l .u) (stateOf (l .w)) (l .from) (l .bits) (stateOf (m .last .0)) (m .last .1 .0) (omega arith)
-    (ap (λ (r : Made). leaves (m .last .0) r (m .last .1 .0)) (sym (c .enum-told .given .1)) ∙ m .ensures)
+    all-full (a .frees .now) (l .u) (stateOf (l .w)) (l .from) (l .bits) (stateOf (m .last .0)) (m .last .1 .1 .1 .0) (omega arith)
+    (ap (λ (r : Made). leaves (m .last .0) r (m .last .1 .1 .1 .0)) (sym (c .enum-told .given .1)) ∙ m .ensures)
     ∙ l .inv .3
 
 loop-less : tie.Need-loop-less Inv-loop μ-loop
@@ -46,14 +46,13 @@ loop-again c =
     let a = c .before .before .before .before .before .before .before .before .before .before .before .before .before .before .before .before .args in
     let l = c .before .before .before .before .before .before .before .before .before .before .before .before .loop in
     let m = c .before .before .before .before .before .before .before .pick in
-    let k = c .before .d .given in
-    (
+    let k = c .before .d .given in (
       m .kept .0 ∙ l .inv .0,
-      m .kept .1 .0 ∙ l .inv .1,
+      m .kept .1 .1 .1 .0 ∙ l .inv .1,
       omega arith,
-      all-more (a .frees .now) (l .u) (stateOf (l .w)) (l .from) (l .bits) (stateOf (m .last .0)) (k .0 .0) (m .last .1 .0) (omega arith)
-      (ap (λ (r : Made). leaves (m .last .0) r (m .last .1 .0)) (sym (k .1)) ∙ m .ensures)
-      ∙ l .inv .3,
+      all-more (a .frees .now) (l .u) (stateOf (l .w)) (l .from) (l .bits) (stateOf (m .last .0)) (k .0 .0) (m .last .1 .1 .1 .0) (omega arith)
+          (ap (λ (r : Made). leaves (m .last .0) r (m .last .1 .1 .1 .0)) (sym (k .1)) ∙ m .ensures)
+          ∙ l .inv .3,
     )
 
 same-length-3 : tie.Need-same-length-3 Inv-loop μ-loop

@@ -26,13 +26,13 @@ loop-holds : tie.Need-loop-holds Inv-loop μ-loop
 loop-holds c = (refl, refl, refl, omega arith, refl, λ level m n at g y h e. walked-start g y _ _ h e)
 
 least-row-requires : tie.Need-least-row-requires Inv-loop μ-loop
-least-row-requires c κs = let s = c .before .before .before .before .before .before .before .before .before in let l = c .before .before .before .loop in (s .pre .0, s .pre .1 .0, (l .inv .1 ∙ s .pre .1 .1 .1 .0, omega (arith, s .pre .1 .1)))
+least-row-requires c κs = let s = c .before .before .before .before .before .before .before .before .before in let l = c .before .before .before .loop in (s .pre .0, (s .pre .1 .0, (l .inv .1 ∙ s .pre .1 .1 .1, omega (arith, s .pre .1 .1 .2))))
 
 same-length : tie.Need-same-length Inv-loop μ-loop
 same-length c = c .before .before .before .before .before .before .before .loop .inv .0
 
 same-length-2 : tie.Need-same-length-2 Inv-loop μ-loop
-same-length-2 c = c .before .before .before .least-row .kept .0 ∙ c .before .before .before .before .before .before .before .loop .inv .1
+same-length-2 c = c .before .before .before .least-row .kept .1 .1 .1 .1 .1 .0 ∙ c .before .before .before .before .before .before .before .loop .inv .1
 
 same-length-3 : tie.Need-same-length-3 Inv-loop μ-loop
 same-length-3 c = c .before .before .before .before .before .before .before .loop .inv .2
@@ -44,9 +44,12 @@ returns c =
     let m = c .before .before .before .least-row in
     λ level k n at g y h e.
     absurd
-    (omega
-    (arith, c .if1 .taken, l .inv .4,
-    walked-row g y (l .f) (l .bits) (l .trace) (l .inv .5 level k n at g y h e) (omega arith) (a .t - l .f) (m .result) (m .last .0) refl (m .ensures)))
+    (omega (
+      arith,
+      c .if1 .taken,
+      l .inv .4,
+      walked-row g y (l .f) (l .bits) (l .trace) (l .inv .5 level k n at g y h e) (omega arith) (a .t - l .f) (m .result) (m .last .1 .1 .1 .1 .1 .0) refl (m .ensures),
+    ))
 
 cast-trace : tie.Need-cast-trace Inv-loop μ-loop
 cast-trace c = omega (arith, c .if1 .left, c .before .before .before .before .before .before .before .loop .inv .4, c .before .before .before .before .before .before .before .before .before .before .before .before .before .pre .1 .0 .rows)
@@ -55,7 +58,7 @@ slice-write-trace : tie.Need-slice-write-trace Inv-loop μ-loop
 slice-write-trace c = omega (arith, c .before .before .before .before .before .before .before .loop .inv .2, c .before .before .before .before .before .before .before .before .before .before .before .before .before .pre .1 .1)
 
 copy-requires : tie.Need-copy-requires Inv-loop μ-loop
-copy-requires c κs = let s = c .before .before .before .before .before .before .before .before .before .before .before .before .before .before .before in let l = c .before .before .before .before .before .before .before .before .before .loop in l .inv .0 ∙ s .pre .1 .1 .0 ∙ sym (c .before .before .before .before .before .least-row .kept .0 ∙ l .inv .1 ∙ s .pre .1 .1 .1 .0)
+copy-requires c κs = let s = c .before .before .before .before .before .before .before .before .before .before .before .before .before .before .before in let l = c .before .before .before .before .before .before .before .before .before .loop in l .inv .0 ∙ s .pre .1 .1 .0 ∙ sym (c .before .before .before .before .before .least-row .kept .1 .1 .1 .1 .1 .0 ∙ l .inv .1 ∙ s .pre .1 .1 .1)
 
 loop-less : tie.Need-loop-less Inv-loop μ-loop
 loop-less c = omega arith
@@ -66,27 +69,26 @@ loop-again c =
     let a = s .args in
     let l = c .before .before .before .before .before .before .before .before .before .before .before .before .loop in
     let m = c .before .before .before .before .before .before .before .before .least-row in
-    let p = c .before .before .copy in
-    (
-      p .kept .0 ∙ l .inv .0,
-      m .kept .0 ∙ l .inv .1,
+    let p = c .before .before .copy in (
+      p .kept .1 .0 ∙ l .inv .0,
+      m .kept .1 .1 .1 .1 .1 .0 ∙ l .inv .1,
       length-set (l .trace) (l .f) (m .result) ∙ l .inv .2,
-      omega arith,
+      omega (arith, c .before .before .before .before .before .before .before .before .before .before .before .loop-test),
       l .inv .4,
       λ level k n at g y h e.
-          walked-copied g y (l .f) (m .last .0) (p .last .0) (set (l .trace) (l .f) (m .result)) (p .ensures)
-          (walked-more g y (l .f) (l .bits) (l .trace) (l .inv .5 level k n at g y h e) (omega arith) (omega (arith, l .inv .2, s .pre .1 .1)) (a .t - l .f)
-          (m .result) (m .last .0) refl (m .ensures)),
+          walked-copied g y (l .f) (m .last .1 .1 .1 .1 .1 .0) (p .last .1 .0) (set (l .trace) (l .f) (m .result)) (p .ensures)
+          (walked-more g y (l .f) (l .bits) (l .trace) (l .inv .5 level k n at g y h e) (omega (arith, c .before .before .before .before .before .before .before .before .before .before .before .loop-test)) (omega (arith, l .inv .2, s .pre .1 .1, c .before .before .before .before .before .before .before .before .before .before .before .loop-test)) (a .t - l .f)
+          (m .result) (m .last .1 .1 .1 .1 .1 .0) refl (m .ensures)),
     )
 
 least-row-requires-2 : tie.Need-least-row-requires-2 Inv-loop μ-loop
-least-row-requires-2 c κs = let s = c .before .before .before .before .before .before .before .before .before in let l = c .before .before .before .loop in (s .pre .0, s .pre .1 .0, (l .inv .1 ∙ s .pre .1 .1 .1 .0, omega arith))
+least-row-requires-2 c κs = let s = c .before .before .before .before .before .before .before .before .before in let l = c .before .before .before .loop in (s .pre .0, (s .pre .1 .0, (l .inv .1 ∙ s .pre .1 .1 .1, omega arith)))
 
 same-length-4 : tie.Need-same-length-4 Inv-loop μ-loop
 same-length-4 c = c .before .before .before .before .before .before .before .loop .inv .0
 
 same-length-5 : tie.Need-same-length-5 Inv-loop μ-loop
-same-length-5 c = c .before .before .before .least-row2 .kept .0 ∙ c .before .before .before .before .before .before .before .loop .inv .1
+same-length-5 c = c .before .before .before .least-row2 .kept .1 .1 .1 .1 .1 .0 ∙ c .before .before .before .before .before .before .before .loop .inv .1
 
 same-length-6 : tie.Need-same-length-6 Inv-loop μ-loop
 same-length-6 c = c .before .before .before .before .before .before .before .loop .inv .2
@@ -99,10 +101,13 @@ returns-2 c =
     let m = c .before .before .before .least-row2 in
     λ level k n at g y h e.
     absurd
-    (omega
-    (arith, c .if2 .taken, l .inv .4,
-    walked-end g y (l .bits) (l .trace) (walked-at g y (l .f) (l .bits) (l .trace) (omega (arith, l .inv .3)) (l .inv .5 level k n at g y h e))
-    (omega (arith, l .inv .2, s .pre .1 .1)) (m .result) (m .last .0) (m .ensures) .0))
+    (omega (
+      arith,
+      c .if2 .taken,
+      l .inv .4,
+      walked-end g y (l .bits) (l .trace) (walked-at g y (l .f) (l .bits) (l .trace) (omega (arith, l .inv .3)) (l .inv .5 level k n at g y h e))
+          (omega (arith, l .inv .2, s .pre .1 .1)) (m .result) (m .last .1 .1 .1 .1 .1 .0) (m .ensures) .0,
+    ))
 
 cast-trace-2 : tie.Need-cast-trace-2 Inv-loop μ-loop
 cast-trace-2 c = omega (arith, c .if2 .left, c .before .before .before .before .before .before .before .loop .inv .4, c .before .before .before .before .before .before .before .before .before .before .before .before .before .pre .1 .0 .rows)
@@ -117,10 +122,10 @@ same-length-7 : tie.Need-same-length-7 Inv-loop μ-loop
 same-length-7 c = c .before .before .before .before .before .before .before .loop .inv .0
 
 same-length-8 : tie.Need-same-length-8 Inv-loop μ-loop
-same-length-8 c = c .before .before .before .least-row2 .kept .0 ∙ c .before .before .before .before .before .before .before .loop .inv .1
+same-length-8 c = c .before .before .before .least-row2 .kept .1 .1 .1 .1 .1 .0 ∙ c .before .before .before .before .before .before .before .loop .inv .1
 
 same-length-9 : tie.Need-same-length-9 Inv-loop μ-loop
-same-length-9 c =     let l = c .before .before .before .before .before .before .before .loop in length-set (l .trace) (c .before .before .before .before .before .before .before .before .before .before .before .before .before .args .t) (c .before .before .before .least-row2 .result) ∙ l .inv .2
+same-length-9 c = let l = c .before .before .before .before .before .before .before .loop in length-set (l .trace) (c .before .before .before .before .before .before .before .before .before .before .before .before .before .args .t) (c .before .before .before .least-row2 .result) ∙ l .inv .2
 
 returns-3 : tie.Need-returns-3 Inv-loop μ-loop
 returns-3 c =
@@ -130,7 +135,7 @@ returns-3 c =
     let m = c .before .before .before .least-row2 in
     λ level k n at g y h e.
     walked-end g y (l .bits) (l .trace) (walked-at g y (l .f) (l .bits) (l .trace) (omega (arith, l .inv .3)) (l .inv .5 level k n at g y h e))
-    (omega (arith, l .inv .2, s .pre .1 .1)) (m .result) (m .last .0) (m .ensures) .1
+    (omega (arith, l .inv .2, s .pre .1 .1)) (m .result) (m .last .1 .1 .1 .1 .1 .0) (m .ensures) .1
 
 pub walk-spec : {M : Type 1} → statement M
 walk-spec =
