@@ -13,9 +13,9 @@ use Rattle.diagrams.specs.States.{State, stateOf, Outcome, outcome, andThen}
 use Rattle.diagrams.proofs.Follow.{then-full, then-edge}
 use Rattle.conjunction.specs.Conjunction.{both, either}
 use Rattle.substitution.specs.Substitution.{substituted}
-use Rattle.collection.specs.Collection.{Gathered, gathered, collected}
+use Rattle.collection.specs.Collecting.{Collection, collection, collected}
 use Rattle.state_sets.specs.Shape.{rowAt}
-use Rattle.state_sets.specs.Sets.{Sets, setsOf, Tried, tried, left, onDone, whereDone, nextOf, before, rowPart, withRow, partIn, addedRow, setIn, closed, stepOf, afterCollection, orAgain, again, stepsFrom, advanced, startsIn}
+use Rattle.state_sets.specs.Sets.{Sets, setsOf, Tried, tried, left, onDone, whereDone, nextOf, before, rowPart, withRow, partIn, addedRow, setIn, closed, stepOf, afterCollection, orAgain, again, turns, advanced, startsIn}
 
 -- the test of an answer's complement
 pub refused : (b : Bool) → not b ≡ true → b ≡ false
@@ -125,35 +125,33 @@ module _ (step : Sets → Tried) (z : Sets) where
   again-done y h = ap ended h
 
   pub again-out : (y : Sets) (t : State) (table : List ℕ) → record { sets = y; done = false } ≡ step z
-      → gathered t table false ≡ collected (y .state) (y .table) → tried t table false ≡ again step z
-  again-out y t table h g = ap (λ (x : Gathered). afterCollection x step) g ∙ ap ended h
+      → collection t table false ≡ collected (y .state) (y .table) → tried t table false ≡ again step z
+  again-out y t table h g = ap (λ (x : Collection). afterCollection x step) g ∙ ap ended h
 
   pub again-more : (y : Sets) (t : State) (table : List ℕ) (x : Tried) → record { sets = y; done = false } ≡ step z
-      → gathered t table true ≡ collected (y .state) (y .table) → x ≡ step (record { state = t; table = table }) → x ≡ again step z
-  again-more y t table x h g q = q ∙ ap (λ (x : Gathered). afterCollection x step) g ∙ ap ended h
+      → collection t table true ≡ collected (y .state) (y .table) → x ≡ step (record { state = t; table = table }) → x ≡ again step z
+  again-more y t table x h g q = q ∙ ap (λ (x : Collection). afterCollection x step) g ∙ ap ended h
 
-module _ (vars rows next : ℕ) where
-  pub steps-none : (n r : ℕ) (z : Sets) → n ≡ 0 → stepsFrom vars rows next n r z ≡ record { sets = z; done = true }
-  unfolding stepsFrom
-  steps-none n r z e = ap (λ (k : ℕ). stepsFrom vars rows next k r z) e
+module _ (step : ℕ → Sets → Tried) where
+  pub turns-none : (n r : ℕ) (z : Sets) → n ≡ 0 → turns step n r z ≡ record { sets = z; done = true }
+  unfolding turns
+  turns-none n r z e = ap (λ (k : ℕ). turns step k r z) e
 
-  pub steps-stop : (n k r : ℕ) (z y : Sets) → n ≡ suc k → record { sets = y; done = false } ≡ again (stepOf vars rows next r) z
-      → record { sets = y; done = false } ≡ stepsFrom vars rows next n r z
-  unfolding stepsFrom
-  steps-stop n k r z y e h =
-      ap (λ (t : Tried). whereDone t (stepsFrom vars rows next k (suc r))) h ∙ sym (ap (λ (k : ℕ). stepsFrom vars rows next k r z) e)
+  pub turns-stop : (n k r : ℕ) (z y : Sets) → n ≡ suc k → record { sets = y; done = false } ≡ again (step r) z
+      → record { sets = y; done = false } ≡ turns step n r z
+  unfolding turns
+  turns-stop n k r z y e h = ap (λ (t : Tried). whereDone t (turns step k (suc r))) h ∙ sym (ap (λ (k : ℕ). turns step k r z) e)
 
-  pub steps-more : (n k r l : ℕ) (z y : Sets) → n ≡ suc k → l ≡ suc r → record { sets = y; done = true } ≡ again (stepOf vars rows next r) z
-      → stepsFrom vars rows next k l y ≡ stepsFrom vars rows next n r z
-  unfolding stepsFrom
-  steps-more n k r l z y e q h =
-      ap (λ (i : ℕ). stepsFrom vars rows next k i y) q
-      ∙ ap (λ (t : Tried). whereDone t (stepsFrom vars rows next k (suc r))) h
-      ∙ sym (ap (λ (k : ℕ). stepsFrom vars rows next k r z) e)
+  pub turns-more : (n k r l : ℕ) (z y : Sets) → n ≡ suc k → l ≡ suc r → record { sets = y; done = true } ≡ again (step r) z
+      → turns step k l y ≡ turns step n r z
+  unfolding turns
+  turns-more n k r l z y e q h =
+      ap (λ (i : ℕ). turns step k i y) q ∙ ap (λ (t : Tried). whereDone t (turns step k (suc r))) h
+      ∙ sym (ap (λ (k : ℕ). turns step k r z) e)
 
-  pub steps-all : (z : Sets) (n : ℕ) → n ≡ suc rows → stepsFrom vars rows next n 0 z ≡ advanced vars rows next z
-  unfolding advanced
-  steps-all z n e = ap (λ (k : ℕ). stepsFrom vars rows next k 0 z) e
+pub turns-all : (vars rows next : ℕ) (z : Sets) (n : ℕ) → n ≡ suc rows → turns (stepOf vars rows next) n 0 z ≡ advanced vars rows next z
+unfolding advanced
+turns-all vars rows next z n e = ap (λ (k : ℕ). turns (stepOf vars rows next) k 0 z) e
 
 pub starts-is : (vars rows t at : ℕ) (table : List ℕ) (s : State) (o : Outcome) → at ≡ rowAt vars rows
     → o ≡ both s (getD table t 0) (getD table at 0) → o ≡ startsIn vars rows t table s

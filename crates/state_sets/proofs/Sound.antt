@@ -21,13 +21,13 @@ use Rattle.conjunction.specs.Conjunction.{both, either}
 use Rattle.conjunction.proofs.Sound.{both-right, either-right}
 use Rattle.substitution.specs.Substitution.{substituted}
 use Rattle.substitution.proofs.Sound.{substituted-right}
-use Rattle.collection.specs.Collection.{Gathered, collected}
+use Rattle.collection.specs.Collecting.{Collection, collected}
 use Rattle.collection.proofs.Sound.{Collects, collected-right}
 use Rattle.machine.specs.Machine.{Machine}
 use Rattle.backward.specs.Sets.{anyBelow, ahead, nearest, Inside}
 use Rattle.backward.proofs.Frames.{EmptyBelow}
 use Rattle.state_sets.specs.Shape.{rowAt}
-use Rattle.state_sets.specs.Sets.{Sets, Tried, tried, onDone, whereDone, nextOf, before, rowPart, withRow, partIn, addedRow, setIn, closed, stepOf, afterCollection, onKept, orAgain, again, stepsFrom, advanced, startsIn}
+use Rattle.state_sets.specs.Sets.{Sets, Tried, tried, onDone, whereDone, nextOf, before, rowPart, withRow, partIn, addedRow, setIn, closed, stepOf, afterCollection, onKept, orAgain, again, turns, advanced, startsIn}
 use Rattle.state_sets.specs.Meaning.{Values, valuesOf, Coded, Alike, RowsOf, leadsTo, rowValue, adds, metBefore, Standing, vectorsFrom, termsOf, Tabled, Held}
 use Rattle.state_sets.proofs.Room.{row-is}
 use Rattle.state_sets.proofs.Rows.{after-row, row-adds, row-adds-first, all-rows, adds-nearest}
@@ -84,7 +84,7 @@ unfolding vectorsFrom
 vectors-set vars zero r i e table l = refl
 vectors-set vars (suc n) r i e table l = ap₂ (λ (a : List ℕ) (b : List (List ℕ)). a ∷ b) (next-set vars r i e table l) (vectors-set vars n (suc r) i e table l)
 
-word-in : (vars r v : ℕ) (ns : List Vertex) (table : List ℕ) → ((i : ℕ) → In ns (getD table i 0)) → In ns 0 → In ns (getD (nextOf vars r table) v 0)
+pub word-in : (vars r v : ℕ) (ns : List Vertex) (table : List ℕ) → ((i : ℕ) → In ns (getD table i 0)) → In ns 0 → In ns (getD (nextOf vars r table) v 0)
 unfolding nextOf
 word-in vars r v ns table h z = elim (decLt v vars) [
   | yes l ↦
@@ -95,7 +95,7 @@ word-in vars r v ns table h z = elim (decLt v vars) [
 ]
 
 -- the edges of the vectors are words of the table
-vectors-in : (level vars rows : ℕ) (ns : List Vertex) (table : List ℕ) → ((i : ℕ) → In ns (getD table i 0)) → VectorsIn (termsOf level vars rows table) ns
+pub vectors-in : (level vars rows : ℕ) (ns : List Vertex) (table : List ℕ) → ((i : ℕ) → In ns (getD table i 0)) → VectorsIn (termsOf level vars rows table) ns
 vectors-in level vars rows ns table h tag v = elim (decLt tag rows) [
   | yes l ↦ subst (λ (d : List ℕ). In ns (getD d v 0)) (sym (vectors-at vars table rows 0 tag l)) (next-in (0 + tag))
   | no l ↦
@@ -174,6 +174,46 @@ pub record Did (p q : Sets → Type 0) (t : Tried) : Type 0 where
 
 not-both-ways : {A : Type 0} → true ≡ false → A
 not-both-ways e = absurd (let z : _≡_ {A = ℕ} 0 1 = cc in omega arith)
+
+-- a collection that was done
+abbrev pub collectedOf : Sets → Sets
+collectedOf z = record { state = collected (z .state) (z .table) .state; table = collected (z .state) (z .table) .roots }
+
+-- a step, and once more after a collection
+pub again-right : (p q : Sets → Type 0) (step : Sets → Tried) → ((z : Sets) → p z → Did p q (step z))
+    → ((z : Sets) → p z → collected (z .state) (z .table) .kept ≡ true → p (collectedOf z)) → (z : Sets) → p z → again step z .done ≡ true
+    → q (again step z .sets)
+again-right p q step right keeps z h = go (step z .done) refl
+  where
+    more : (b : Bool) → collected (step z .sets .state) (step z .sets .table) .kept ≡ b → p (step z .sets)
+        → onKept b (collected (step z .sets .state) (step z .sets .table) .state) (collected (step z .sets .state) (step z .sets .table) .roots) step .done ≡ true
+        → q (onKept b (collected (step z .sets .state) (step z .sets .table) .state) (collected (step z .sets .state) (step z .sets .table) .roots) step .sets)
+    more true e w d = right _ (keeps (step z .sets) w e) .yes d
+    more false e w d = not-both-ways (sym d)
+
+    go : (b : Bool) → step z .done ≡ b → orAgain b (step z .sets) step .done ≡ true → q (orAgain b (step z .sets) step .sets)
+    go true e d = right z h .yes e
+    go false e d = more (collected (step z .sets .state) (step z .sets .table) .kept) refl (right z h .no e) d
+
+-- steps one after the other
+pub turns-right : (p : ℕ → Sets → Type 0) (step : ℕ → Sets → Tried) (n r : ℕ)
+    → ((i : ℕ) (z : Sets) → r ≤ i → i < r + n → p i z → Did (p i) (p (suc i)) (step i z))
+    → ((i : ℕ) (z : Sets) → r ≤ i → i < r + n → p i z → collected (z .state) (z .table) .kept ≡ true → p i (collectedOf z)) → (z : Sets) → p r z
+    → turns step n r z .done ≡ true → p (r + n) (turns step n r z .sets)
+unfolding turns
+turns-right p step zero r right keeps z h d = subst (λ (i : ℕ). p i z) (omega arith) h
+turns-right p step (suc n) r right keeps z h d =
+    go (again (step r) z .done) refl (again-right (p r) (p (suc r)) (step r) (λ y k. right r y (omega arith) (omega arith) k) (λ y k e. keeps r y (omega arith) (omega arith) k e) z h)
+    (λ y k e. turns-right p step n (suc r) (λ i x a b. right i x (omega arith) (omega arith)) (λ i x a b. keeps i x (omega arith) (omega arith)) y k e) d
+  where
+    go : (b : Bool) → again (step r) z .done ≡ b → (again (step r) z .done ≡ true → p (suc r) (again (step r) z .sets))
+        → ((y : Sets) → p (suc r) y → turns step n (suc r) y .done ≡ true → p (suc r + n) (turns step n (suc r) y .sets))
+        → onDone b (again (step r) z .sets) (turns step n (suc r)) .done ≡ true
+        → p (r + suc n) (onDone b (again (step r) z .sets) (turns step n (suc r)) .sets)
+    go true q h more d =
+        let e : suc r + n ≡ r + suc n = omega arith in
+        subst (λ (i : ℕ). p i (turns step n (suc r) (again (step r) z .sets) .sets)) e (more (again (step r) z .sets) (h q) d)
+    go false q h more d = not-both-ways (sym d)
 
 module _ (level : ℕ) (m : Machine) (n : ℕ) (inside : Inside m n) (at : ℕ → Assignment) (vars rows : ℕ) (coded : Coded at vars)
     (few : rows ≤ 16) where
@@ -432,28 +472,6 @@ module _ (level : ℕ) (m : Machine) (n : ℕ) (inside : Inside m n) (at : ℕ �
                   };
             }
 
-  -- ---- steps
-
-  -- after step r
-  abbrev Next : ℕ → ℕ → Sets → Type 0
-  Next next r z = cond (ltb r rows) (Holds next (suc r) z) (Holds (suc next) 0 z)
-
-  step-right : (next r : ℕ) → next < 256 → r ≤ rows → (z : Sets) → Holds next r z → Did (Holds next r) (Next next r) (stepOf vars rows next r z)
-  unfolding stepOf
-  step-right next r nl rl z h = elim (decLt r rows) [
-    | yes l ↦
-        let d = added-right next r (z .table) (z .state) h l (omega arith) in
-        subst (λ (b : Bool). Did (Holds next r) (λ y. cond b (Holds next (suc r) y) (Holds (suc next) 0 y)) (cond b (addedRow vars next r z) (closed next z)))
-        (sym (lt-ltb r rows l)) d
-    | no l ↦
-        let e : rows ≡ r = omega arith in
-        let d = closed-right next (z .table) (z .state) (subst (λ (i : ℕ). Holds next i z) (sym e) h) nl in
-        let c : Did (Holds next r) (Holds (suc next) 0) (closed next z) =
-        subst (λ (i : ℕ). Did (Holds next i) (Holds (suc next) 0) (closed next z)) e d in
-        subst (λ (b : Bool). Did (Holds next r) (λ y. cond b (Holds next (suc r) y) (Holds (suc next) 0 y)) (cond b (addedRow vars next r z) (closed next z)))
-        (sym (le-ltb r rows (omega arith))) c
-  ]
-
   -- a collection keeps all of it
   pub collected-held : (next k : ℕ) (z : Sets) → Holds next k z → collected (z .state) (z .table) .kept ≡ true
       → Holds next k (record { state = collected (z .state) (z .table) .state; table = collected (z .state) (z .table) .roots })
@@ -472,58 +490,45 @@ module _ (level : ℕ) (m : Machine) (n : ℕ) (inside : Inside m n) (at : ℕ �
             subst (Standing m n at vars rows next k) (λ i. λ j x. sym (c .same x j) i) (h .standing);
       }
 
-  again-right : (next k : ℕ) (q : Sets → Type 0) (step : Sets → Tried) → ((z : Sets) → Holds next k z → Did (Holds next k) q (step z)) → (z : Sets)
-      → Holds next k z → again step z .done ≡ true → q (again step z .sets)
-  again-right next k q step right z h = go (step z .done) refl
-    where
-      more : (b : Bool) → collected (step z .sets .state) (step z .sets .table) .kept ≡ b → Holds next k (step z .sets)
-          → onKept b (collected (step z .sets .state) (step z .sets .table) .state) (collected (step z .sets .state) (step z .sets .table) .roots) step .done ≡ true
-          → q (onKept b (collected (step z .sets .state) (step z .sets .table) .state) (collected (step z .sets .state) (step z .sets .table) .roots) step .sets)
-      more true e w d = right _ (collected-held next k (step z .sets) w e) .yes d
-      more false e w d = not-both-ways (sym d)
+  -- ---- steps
 
-      go : (b : Bool) → step z .done ≡ b → orAgain b (step z .sets) step .done ≡ true → q (orAgain b (step z .sets) step .sets)
-      go true e d = right z h .yes e
-      go false e d = more (collected (step z .sets .state) (step z .sets .table) .kept) refl (right z h .no e) d
+  -- what holds before step r
+  abbrev Before : ℕ → ℕ → Sets → Type 0
+  Before next r z = cond (ltb rows r) (Holds (suc next) 0 z) (Holds next r z)
 
-  steps-right : (next n r : ℕ) → next < 256 → r + n ≡ rows → (z : Sets) → Holds next r z → stepsFrom vars rows next (suc n) r z .done ≡ true
-      → Holds (suc next) 0 (stepsFrom vars rows next (suc n) r z .sets)
-  unfolding stepsFrom
-  steps-right next zero r nl e z h = go (again (stepOf vars rows next r) z .done) refl
-    where
-      t : Tried
-      t = again (stepOf vars rows next r) z
+  before-is : (next r : ℕ) (z : Sets) → r ≤ rows → Before next r z → Holds next r z
+  before-is next r z l h = subst (λ (b : Bool). cond b (Holds (suc next) 0 z) (Holds next r z)) (le-ltb rows r l) h
 
-      go : (b : Bool) → again (stepOf vars rows next r) z .done ≡ b
-          → onDone b (again (stepOf vars rows next r) z .sets) (stepsFrom vars rows next zero (suc r)) .done ≡ true
-          → Holds (suc next) 0 (onDone b (again (stepOf vars rows next r) z .sets) (stepsFrom vars rows next zero (suc r)) .sets)
-      go true q d =
-          subst (λ (b : Bool). cond b (Holds next (suc r) (t .sets)) (Holds (suc next) 0 (t .sets))) (le-ltb r rows (omega arith))
-          (again-right next r (Next next r) (stepOf vars rows next r) (step-right next r nl (omega arith)) z h q)
-      go false q d = not-both-ways (sym d)
-  steps-right next (suc n) r nl e z h =
-      go (λ y k d. steps-right next n (suc r) nl (omega arith) y k d) (again (stepOf vars rows next r) z .done) refl
-    where
-      t : Tried
-      t = again (stepOf vars rows next r) z
+  is-before : (next r : ℕ) (z : Sets) → r ≤ rows → Holds next r z → Before next r z
+  is-before next r z l h = subst (λ (b : Bool). cond b (Holds (suc next) 0 z) (Holds next r z)) (sym (le-ltb rows r l)) h
 
-      go : ((y : Sets) → Holds next (suc r) y → stepsFrom vars rows next (suc n) (suc r) y .done ≡ true
-          → Holds (suc next) 0 (stepsFrom vars rows next (suc n) (suc r) y .sets))
-          → (b : Bool) → again (stepOf vars rows next r) z .done ≡ b
-          → onDone b (again (stepOf vars rows next r) z .sets) (stepsFrom vars rows next (suc n) (suc r)) .done ≡ true
-          → Holds (suc next) 0 (onDone b (again (stepOf vars rows next r) z .sets) (stepsFrom vars rows next (suc n) (suc r)) .sets)
-      go more true q d =
-          more (t .sets)
-          (subst (λ (b : Bool). cond b (Holds next (suc r) (t .sets)) (Holds (suc next) 0 (t .sets))) (lt-ltb r rows (omega arith))
-          (again-right next r (Next next r) (stepOf vars rows next r) (step-right next r nl (omega arith)) z h q))
-          d
-      go more false q d = not-both-ways (sym d)
+  step-right : (next r : ℕ) → next < 256 → r ≤ rows → (z : Sets) → Before next r z → Did (Before next r) (Before next (suc r)) (stepOf vars rows next r z)
+  unfolding stepOf
+  step-right next r nl rl z w = elim (decLt r rows) [
+    | yes l ↦
+        let d = added-right next r (z .table) (z .state) (before-is next r z rl w) l (omega arith) in
+        subst (λ (b : Bool). Did (Before next r) (Before next (suc r)) (cond b (addedRow vars next r z) (closed next z))) (sym (lt-ltb r rows l))
+        (record { yes = λ q. is-before next (suc r) _ l (d .yes q); no = λ q. is-before next r _ rl (d .no q) })
+    | no l ↦
+        let e : r ≡ rows = omega arith in
+        let d = closed-right next (z .table) (z .state) (subst (λ (i : ℕ). Holds next i z) e (before-is next r z rl w)) nl in
+        let after : (y : Sets) → Holds (suc next) 0 y → Before next (suc r) y =
+        λ y h. subst (λ (b : Bool). cond b (Holds (suc next) 0 y) (Holds next (suc r) y)) (sym (lt-ltb rows (suc r) (omega arith))) h in
+        subst (λ (b : Bool). Did (Before next r) (Before next (suc r)) (cond b (addedRow vars next r z) (closed next z)))
+        (sym (le-ltb r rows (omega arith)))
+        (record { yes = λ q. after _ (d .yes q); no = λ q. is-before next r _ rl (subst (λ (i : ℕ). Holds next i (closed next z .sets)) (sym e) (d .no q)) })
+  ]
 
   -- one set more
   pub advanced-right : (next : ℕ) → next < 256 → (z : Sets) → Holds next 0 z → advanced vars rows next z .done ≡ true
       → Holds (suc next) 0 (advanced vars rows next z .sets)
   unfolding advanced
-  advanced-right next nl z h d = steps-right next rows 0 nl (omega arith) z h d
+  advanced-right next nl z h d =
+      let w =
+      turns-right (Before next) (stepOf vars rows next) (suc rows) 0 (λ i y a b. step-right next i nl (omega arith) y)
+      (λ i y a b k e. is-before next i _ (omega arith) (collected-held next i y (before-is next i y (omega arith) k) e)) z (is-before next 0 z (omega arith) h) d in
+      subst (λ (b : Bool). cond b (Holds (suc next) 0 (turns (stepOf vars rows next) (suc rows) 0 z .sets)) (Holds next (0 + suc rows) (turns (stepOf vars rows next) (suc rows) 0 z .sets)))
+      (lt-ltb rows (0 + suc rows) (omega arith)) w
 
   -- ---- what the sets say
 

@@ -10,7 +10,7 @@ use Rattle.diagrams.specs.Words.{flip}
 use Rattle.diagrams.specs.States.{State, stateOf, Outcome, outcome, andThen}
 use Rattle.conjunction.specs.Conjunction.{both, either}
 use Rattle.substitution.specs.Substitution.{substituted}
-use Rattle.collection.specs.Collection.{Gathered, collected}
+use Rattle.collection.specs.Collecting.{Collection, collected}
 use Rattle.state_sets.specs.Shape.{rowAt}
 
 -- a diagram, and a table of edges
@@ -91,7 +91,7 @@ abbrev pub onKept : Bool → State → List ℕ → (Sets → Tried) → Tried
 onKept true s table step = step (record { state = s; table = table })
 onKept false s table step = tried s table false
 
-abbrev pub afterCollection : Gathered → (Sets → Tried) → Tried
+abbrev pub afterCollection : Collection → (Sets → Tried) → Tried
 afterCollection g step = onKept (g .kept) (g .state) (g .roots) step
 
 -- where a step was not done, it once more after a collection
@@ -102,14 +102,14 @@ orAgain false z step = afterCollection (collected (z .state) (z .table)) step
 abbrev pub again : (Sets → Tried) → Sets → Tried
 again step z = orAgain (step z .done) (step z .sets) step
 
--- n steps to set `next` from step r on
-unfoldable pub stepsFrom : ℕ → ℕ → ℕ → ℕ → ℕ → Sets → Tried
-stepsFrom vars rows next zero r z = record { sets = z; done = true }
-stepsFrom vars rows next (suc n) r z = whereDone (again (stepOf vars rows next r) z) (stepsFrom vars rows next n (suc r))
+-- n steps from step r on, each once more after a collection where it is not done
+unfoldable pub turns : (ℕ → Sets → Tried) → ℕ → ℕ → Sets → Tried
+turns step zero r z = record { sets = z; done = true }
+turns step (suc n) r z = whereDone (again (step r) z) (turns step n (suc r))
 
 -- set `next` is made
 unfoldable pub advanced : ℕ → ℕ → ℕ → Sets → Tried
-advanced vars rows next z = stepsFrom vars rows next (suc rows) 0 z
+advanced vars rows next z = turns (stepOf vars rows next) (suc rows) 0 z
 
 -- the states of set t that are start states, whose edge stands after the rows
 unfoldable pub startsIn : ℕ → ℕ → ℕ → List ℕ → State → Outcome

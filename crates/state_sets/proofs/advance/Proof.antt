@@ -6,15 +6,15 @@ use borrow.Author.Needs.{needs}
 use lib.ListN.{length, getD, set}
 use Rattle.diagrams.specs.States.{stateOf}
 use Rattle.state_sets.specs.Shape.{Fits}
-use Rattle.state_sets.specs.Sets.{setsOf, left, stepsFrom, advanced}
-use Rattle.state_sets.proofs.Follow.{refused, granted, steps-none, steps-stop, steps-more, steps-all}
+use Rattle.state_sets.specs.Sets.{setsOf, left, stepOf, turns, advanced}
+use Rattle.state_sets.proofs.Follow.{refused, granted, turns-none, turns-stop, turns-more, turns-all}
 use Rattle.state_sets.proofs.advance.Statement.{statement}
 use Rattle.state_sets.proofs.advance.Tie as tie
 
 abbrev Inv-loop : tie.InvT-loop
 Inv-loop w₀ table₀ s next rows r₀ w table r =
     (length w ≡ length w₀) × (length table ≡ length table₀) × (r ≤ s .rows + 1) × (rows ≡ s .rows)
-    × (stepsFrom (s .vars) (s .rows) next (s .rows + 1 - r) r (setsOf w table) ≡ advanced (s .vars) (s .rows) next (setsOf w₀ table₀))
+    × (turns (stepOf (s .vars) (s .rows) next) (s .rows + 1 - r) r (setsOf w table) ≡ advanced (s .vars) (s .rows) next (setsOf w₀ table₀))
 
 abbrev μ-loop : tie.MeasureT-loop
 μ-loop w₀ table₀ s next rows r₀ w table r = s .rows + 1 - r
@@ -22,7 +22,7 @@ abbrev μ-loop : tie.MeasureT-loop
 loop-holds : tie.Need-loop-holds Inv-loop μ-loop
 loop-holds c =
     let a = c .before .before .args in
-    (refl, refl, omega arith, refl, steps-all (a .s .vars) (a .s .rows) (a .next) (setsOf (a .w .now) (a .table .now)) (a .s .rows + 1 - 0) (omega arith))
+    (refl, refl, omega arith, refl, turns-all (a .s .vars) (a .s .rows) (a .next) (setsOf (a .w .now) (a .table .now)) (a .s .rows + 1 - 0) (omega arith))
 
 step-again-requires : tie.Need-step-again-requires Inv-loop μ-loop
 step-again-requires c κs =
@@ -41,7 +41,7 @@ returns c =
     let a = c .before .before .before .before .before .before .before .before .before .before .before .before .args in
     let l = c .before .before .before .before .before .before .before .before .before .loop in
     let m = c .before .before .before .before .before .step-again in
-    steps-stop (a .s .vars) (a .s .rows) (a .next) (a .s .rows + 1 - l .r) (a .s .rows - l .r) (l .r) (setsOf (l .w) (l .table)) (setsOf (m .last .0) (m .last .1 .0))
+    turns-stop (stepOf (a .s .vars) (a .s .rows) (a .next)) (a .s .rows + 1 - l .r) (a .s .rows - l .r) (l .r) (setsOf (l .w) (l .table)) (setsOf (m .last .0) (m .last .1 .0))
     (omega (arith, c .before .before .before .before .before .before .before .before .loop-test, l .inv .3)) (ap (left (m .last .0) (m .last .1 .0)) (sym (refused (m .result) (c .if1 .taken))) ∙ m .ensures)
     ∙ l .inv .4
 
@@ -55,15 +55,16 @@ loop-again : tie.Need-loop-again Inv-loop μ-loop
 loop-again c =
     let a = c .before .before .before .before .before .before .before .before .before .before .before .before .args in
     let l = c .before .before .before .before .before .before .before .before .before .loop in
-    let m = c .before .before .before .before .before .step-again in (
+    let m = c .before .before .before .before .before .step-again in
+    (
       m .kept .0 ∙ l .inv .0,
       m .kept .1 .0 ∙ l .inv .1,
       omega (arith, l .inv .3),
       l .inv .3,
-      steps-more (a .s .vars) (a .s .rows) (a .next) (a .s .rows + 1 - l .r) (a .s .rows + 1 - (l .r + 1)) (l .r) (l .r + 1) (setsOf (l .w) (l .table))
-          (setsOf (m .last .0) (m .last .1 .0)) (omega (arith, l .inv .3)) (omega arith)
-          (ap (left (m .last .0) (m .last .1 .0)) (sym (granted (m .result) (c .if1 .left))) ∙ m .ensures)
-          ∙ l .inv .4,
+      turns-more (stepOf (a .s .vars) (a .s .rows) (a .next)) (a .s .rows + 1 - l .r) (a .s .rows + 1 - (l .r + 1)) (l .r) (l .r + 1) (setsOf (l .w) (l .table))
+      (setsOf (m .last .0) (m .last .1 .0)) (omega (arith, l .inv .3)) (omega arith)
+      (ap (left (m .last .0) (m .last .1 .0)) (sym (granted (m .result) (c .if1 .left))) ∙ m .ensures)
+      ∙ l .inv .4,
     )
 
 same-length-3 : tie.Need-same-length-3 Inv-loop μ-loop
@@ -76,7 +77,7 @@ returns-2 : tie.Need-returns-2 Inv-loop μ-loop
 returns-2 c =
     let a = c .before .before .before .before .args in
     let l = c .before .loop in
-    sym (steps-none (a .s .vars) (a .s .rows) (a .next) (a .s .rows + 1 - l .r) (l .r) (setsOf (l .w) (l .table)) (omega (arith, l .inv .3))) ∙ l .inv .4
+    sym (turns-none (stepOf (a .s .vars) (a .s .rows) (a .next)) (a .s .rows + 1 - l .r) (l .r) (setsOf (l .w) (l .table)) (omega (arith, l .inv .3))) ∙ l .inv .4
 
 pub advance-spec : {M : Type 1} → statement M
 advance-spec =

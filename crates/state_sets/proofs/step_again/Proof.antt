@@ -6,7 +6,8 @@ use borrow.Author.Needs.{needs}
 use lib.ListN.{length, getD, set}
 use mathlib.Core.Bool.{Bool}
 use Rattle.diagrams.specs.States.{stateOf}
-use Rattle.collection.specs.Collection as C
+use Rattle.collection.specs.Collecting as C
+use Rattle.collection.specs.declared.Collected.{Collected}
 use Rattle.state_sets.specs.Shape.{Fits}
 use Rattle.state_sets.specs.Sets.{setsOf, tried, left, stepOf}
 use Rattle.state_sets.proofs.Follow.{again-done, again-out, again-more}
@@ -48,7 +49,7 @@ returns-2 c =
     let q = c .before .before .before .before .before .before .collect in
     again-out (stepOf (a .s .vars) (a .s .rows) (a .next) (a .r)) (setsOf (a .w .now) (a .table .now)) (setsOf (m .last .0) (m .last .1 .0))
     (stateOf (q .last .0)) (q .last .1 .0) (ap (left (m .last .0) (m .last .1 .0)) (sym (c .before .before .before .before .before .before .before .before .before .if1 .left)) ∙ m .ensures)
-    (ap (C.left (q .last .0) (q .last .1 .0)) (sym (c .enum-told .given .1)) ∙ q .ensures)
+    (ap (λ (r : Collected). C.collection (stateOf (q .last .0)) (q .last .1 .0) (C.isKept r)) (sym (c .enum-told .given .1)) ∙ q .ensures)
 
 same-length-5 : tie.Need-same-length-5
 same-length-5 c = c .before .before .before .before .step2 .kept .0 ∙ c .before .before .before .before .before .before .before .before .before .before .before .before .before .collect .kept .0 ∙ c .before .before .before .before .before .before .before .before .before .before .before .before .before .before .before .before .before .before .before .before .before .step .kept .0
@@ -63,7 +64,7 @@ returns-3 c =
     let q = c .before .before .before .before .before .before .before .before .before .before .before .before .before .collect in
     again-more (stepOf (a .s .vars) (a .s .rows) (a .next) (a .r)) (setsOf (a .w .now) (a .table .now)) (setsOf (m .last .0) (m .last .1 .0))
     (stateOf (q .last .0)) (q .last .1 .0) _ (ap (left (m .last .0) (m .last .1 .0)) (sym (c .before .before .before .before .before .before .before .before .before .before .before .before .before .before .before .before .if1 .left)) ∙ m .ensures)
-    (ap (C.left (q .last .0) (q .last .1 .0)) (sym (c .before .before .before .before .before .before .before .enum-told2 .given .1)) ∙ q .ensures) (c .before .before .before .before .step2 .ensures)
+    (ap (λ (r : Collected). C.collection (stateOf (q .last .0)) (q .last .1 .0) (C.isKept r)) (sym (c .before .before .before .before .before .before .before .enum-told2 .given .1)) ∙ q .ensures) (c .before .before .before .before .step2 .ensures)
 
 pub step-again-spec : {M : Type 1} → statement M
 step-again-spec =
