@@ -4,3 +4,4 @@ pub mod Steps
 pub mod Picks
 pub mod Order
 pub mod Starts
+pub mod Found

@@ -12,9 +12,14 @@ use lib.ListN.{length, getD, set, drop, drop-of-length-le}
 use lib.Seq.{drop-cons}
 use Rattle.diagrams.specs.Words.{flip}
 use Rattle.diagrams.specs.States.{State, Outcome, outcome, made}
+use Rattle.diagrams.specs.Meaning.{value}
 use Rattle.diagrams.proofs.Follow.{then-full, then-edge}
 use Rattle.conjunction.specs.Conjunction.{both}
-use Rattle.set_walk.specs.Start.{Picked, picked, without, pickFrom, pickOne, pickThen, pickAll}
+use Rattle.state_sets.specs.Sets.{startsIn}
+use Rattle.set_walk.specs.declared.Start.{Start}
+use Rattle.set_walk.specs.declared.Start.the-variants as variants
+use Rattle.set_walk.specs.Walk.{bitsOf}
+use Rattle.set_walk.specs.Start.{Picked, picked, without, pickFrom, pickOne, pickThen, pickAll, Sought, sought, testPicked, seekFrom, seek}
 
 -- ---- the steps of the code
 
@@ -65,3 +70,32 @@ module _ (frees : List ℕ) (u : ℕ) (s : State) (e : ℕ) (bits : List ℕ) wh
   pub all-more : (t : State) (d : ℕ) (bs : List ℕ) → u < length frees → picked t (some d) bs ≡ pickOne e (getD frees u 0) bits s
       → pickAll (drop (u + 1) frees) t d bs ≡ pickAll (drop u frees) s e bits
   all-more t d bs l h = ap (λ (p : Picked). pickThen p (pickAll (drop (u + 1) frees))) h ∙ all-step l
+
+-- ---- a set and its start states
+
+module _ (vars rows t : ℕ) (frees table bits : List ℕ) (s : State) where
+  seek-from : (x : Sought) (o : Outcome) → o ≡ startsIn vars rows t table s → x ≡ seekFrom t frees table bits o → x ≡ seek vars rows t frees table bits s
+  unfolding seek
+  seek-from x o h q = q ∙ ap (seekFrom t frees table bits) h
+
+  pub seek-full : (u : State) → outcome u none ≡ startsIn vars rows t table s → sought u variants.Full bits ≡ seek vars rows t frees table bits s
+  seek-full u h = seek-from (sought u variants.Full bits) (outcome u none) h refl
+
+  pub seek-none : (u : State) (e : ℕ) → outcome u (some e) ≡ startsIn vars rows t table s → e ≡ 0
+      → sought u variants.Nowhere bits ≡ seek vars rows t frees table bits s
+  seek-none u e h z = seek-from (sought u variants.Nowhere bits) (outcome u (some e)) h (sym (rw (eq-eqb e 0 z)))
+
+  module _ (u : State) (e : ℕ) (h : outcome u (some e) ≡ startsIn vars rows t table s) (z : e ≡ 0 → ⊥) where
+    seek-picked : (x : Sought) (p : Picked) → p ≡ pickAll frees u e bits → x ≡ testPicked t table p → x ≡ seek vars rows t frees table bits s
+    seek-picked x p q k = seek-from x (outcome u (some e)) h (k ∙ ap (testPicked t table) q ∙ sym (rw (ne-eqb e 0 z)))
+
+    pub seek-out : (y : State) (bs : List ℕ) → picked y none bs ≡ pickAll frees u e bits → sought y variants.Full bs ≡ seek vars rows t frees table bits s
+    seek-out y bs q = seek-picked (sought y variants.Full bs) (picked y none bs) q refl
+
+    pub seek-least : (y : State) (d : ℕ) (bs : List ℕ) → picked y (some d) bs ≡ pickAll frees u e bits
+        → value (y .nodes) (bitsOf bs) (getD table t 0) ≡ true → sought y variants.Least bs ≡ seek vars rows t frees table bits s
+    seek-least y d bs q v = seek-picked (sought y variants.Least bs) (picked y (some d) bs) q (ap (λ (b : Bool). sought y (cond b variants.Least variants.Full) bs) (sym v))
+
+    pub seek-unknown : (y : State) (d : ℕ) (bs : List ℕ) → picked y (some d) bs ≡ pickAll frees u e bits
+        → value (y .nodes) (bitsOf bs) (getD table t 0) ≡ false → sought y variants.Full bs ≡ seek vars rows t frees table bits s
+    seek-unknown y d bs q v = seek-picked (sought y variants.Full bs) (picked y (some d) bs) q (ap (λ (b : Bool). sought y (cond b variants.Least variants.Full) bs) (sym v))

@@ -24,6 +24,8 @@ use Rattle.diagrams.proofs.Values.{flip-in, value-not, value-false, value-true,
 use Rattle.diagrams.proofs.Sound.{right-as, right-then, made-right}
 use Rattle.conjunction.specs.Conjunction.{both}
 use Rattle.conjunction.proofs.Sound.{both-right}
+use Rattle.state_sets.specs.Shape.{rowAt}
+use Rattle.state_sets.specs.Sets.{startsIn}
 use Rattle.set_walk.specs.Walk.{bitsOf}
 use Rattle.set_walk.specs.Start.{Picked, picked, without, pickFrom, pickOne, onPicked, pickThen, pickAll, StartsOf, LeastStart}
 use Rattle.set_walk.proofs.Evaluation.{bits-in, bits-past}
@@ -60,6 +62,65 @@ without-right terms s good e v e-in =
           ∙ choose (a v))),
     ))
     r₂)
+
+-- picks leave a good diagram with more nodes
+pub record Grown (terms : Terms) (s t : State) : Type 0 where
+  pub good : Good terms t
+  pub grows : Front (s .nodes) (t .nodes)
+
+grown-more : (terms : Terms) (s t u : State) → Grown terms s t → Grown terms t u → Grown terms s u
+grown-more terms s t u a b = record { good = b .good; grows = front-more (a .grows) (b .grows) }
+
+abbrev Fine : Terms → State → Picked → Type 0
+Fine terms s p = Grown terms s (p .state) × ((d : ℕ) → p .edge ≡ some d → In (p .state .nodes) d)
+
+pick-grows : (terms : Terms) (s : State) → Good terms s → (e v : ℕ) (bits : List ℕ) → In (s .nodes) e
+    → Fine terms s (pickOne e v bits s)
+unfolding pickOne
+pick-grows terms s g e v bits e-in = by (ltb v (length bits))
+  where
+    o : Outcome
+    o = without e v s
+
+    r : Right terms s (λ ns d. In ns d × ((x : Assignment) → value ns x d ≡ (value (s .nodes) x e && not (x v)))) (without e v s)
+    r = without-right terms s g e v e-in
+
+    whole : Grown terms s (without e v s .state)
+    whole = record { good = r .good; grows = r .grows }
+
+    chosen : (b : Bool) (d : ℕ) → In (without e v s .state .nodes) d
+        → Fine terms s (cond b (picked (without e v s .state) (some e) (set bits v 1)) (picked (without e v s .state) (some d) bits))
+    chosen true d i = (whole, λ k q. let z : e ≡ k = cc in subst (λ (x : ℕ). In (o .state .nodes) x) z (front-in (r .grows) e e-in))
+    chosen false d i = (whole, λ k q. let z : d ≡ k = cc in subst (λ (x : ℕ). In (o .state .nodes) x) z i)
+
+    found : (x : Option ℕ)
+        → Answer (λ d. In (without e v s .state .nodes) d
+        × ((x : Assignment) → value (without e v s .state .nodes) x d ≡ (value (s .nodes) x e && not (x v)))) x
+        → Fine terms s (pickFrom e v bits (outcome (without e v s .state) x))
+    found none a = (whole, λ d q. absurd (let z : _≡_ {A = ℕ} 0 1 = cc in omega arith))
+    found (some d) (is-edge w) = chosen (eqb d 0) d (w .0)
+
+    by : (b : Bool) → Fine terms s (cond b (pickFrom e v bits (without e v s)) (picked s (some e) bits))
+    by true = found (without e v s .edge) (r .answer)
+    by false = (
+      record { good = g; grows = front-same (s .nodes) },
+      λ d q. let z : e ≡ d = cc in subst (λ (x : ℕ). In (s .nodes) x) z e-in,
+    )
+
+pub picks-grow : (terms : Terms) (vs : List ℕ) (s : State) → Good terms s → (e : ℕ) (bits : List ℕ) → In (s .nodes) e → Grown terms s (pickAll vs s e bits .state)
+unfolding pickAll
+picks-grow terms [] s g e bits i = record { good = g; grows = front-same (s .nodes) }
+picks-grow terms (v ∷ vs) s g e bits i =
+    let h = pick-grows terms s g e v bits i in
+    go (pickOne e v bits s .edge) refl (h .0) (h .1) (λ d k. picks-grow terms vs (pickOne e v bits s .state) (h .0 .good) d (pickOne e v bits s .bits) k)
+  where
+    go : (x : Option ℕ) → pickOne e v bits s .edge ≡ x → Grown terms s (pickOne e v bits s .state)
+        → ((d : ℕ) → pickOne e v bits s .edge ≡ some d → In (pickOne e v bits s .state .nodes) d)
+        → ((d : ℕ) → In (pickOne e v bits s .state .nodes) d
+        → Grown terms (pickOne e v bits s .state) (pickAll vs (pickOne e v bits s .state) d (pickOne e v bits s .bits) .state))
+        → Grown terms s (onPicked x (pickOne e v bits s .state) (pickOne e v bits s .bits) (pickAll vs) .state)
+    go none q a k more = a
+    go (some d) q a k more = grown-more terms s (pickOne e v bits s .state) _ a (more d (k d q))
 
 module _ (terms : Terms) (m : Machine) (at : ℕ → Assignment) (vars : ℕ) (frees base : List ℕ) (starts : StartsOf m at vars frees base) (p : ℕ → Bool) where
   -- start place y has the values in bits of the first u free latches
@@ -306,3 +367,24 @@ module _ (terms : Terms) (m : Machine) (at : ℕ → Assignment) (vars : ℕ) (f
       } in
       let r = all-right frees 0 (omega arith) (λ i l. ap (λ (j : ℕ). getD frees j 0) (omega arith)) s e base h in
       (r .0, λ d q. least-start (pickAll frees s e base .state) d (pickAll frees s e base .bits) (r .1 d q))
+
+-- ---- a set and its start states
+
+-- what is left after the picks is a diagram with the edges of the table
+pub seek-legible : (vars rows t : ℕ) (frees table bits : List ℕ) (terms : Terms) (s : State) → Good terms s → ((i : ℕ) → In (s .nodes) (getD table i 0))
+    → (u : State) (e : ℕ) → outcome u (some e) ≡ startsIn vars rows t table s → (y : State) → y ≡ pickAll frees u e bits .state
+    → Built (y .nodes) × ((i : ℕ) → In (y .nodes) (getD table i 0))
+unfolding startsIn
+seek-legible vars rows t frees table bits terms s g h u e q y w =
+    let a = getD table t 0 in
+    let c = getD table (rowAt vars rows) 0 in
+    let r = subst (Right terms s (Both a c)) (sym q) (both-right terms s g a c (h t) (h (rowAt vars rows))) in
+    let k = picks-grow terms frees u (r .good) e bits (edge-in r) in
+    let all = front-more (r .grows) (k .grows) in
+    subst (λ (x : State). Built (x .nodes) × ((i : ℕ) → In (x .nodes) (getD table i 0))) (sym w) (k .good .built, λ i. front-in all (getD table i 0) (h i))
+  where
+    edge-in : {a c : ℕ} → Right terms s (Both a c) (outcome u (some e)) → In (u .nodes) e
+    edge-in {a} {c} r = go (r .answer)
+      where
+        go : Answer (Both a c (u .nodes)) (some e) → In (u .nodes) e
+        go (is-edge b) = b .r-in

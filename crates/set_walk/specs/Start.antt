@@ -9,11 +9,14 @@ use lib.ListN.{length, getD, set}
 use Rattle.aiger.specs.Bits.{nonzero}
 use Rattle.aiger.specs.Frames.{freeBit}
 use Rattle.machine.specs.Machine.{Machine}
-use Rattle.diagrams.specs.Meaning.{Assignment}
+use Rattle.diagrams.specs.Meaning.{Assignment, value}
 use Rattle.diagrams.specs.Words.{flip}
 use Rattle.diagrams.specs.States.{State, Outcome, stateOf, edgeOf, andThen, made}
 use Rattle.diagrams.specs.declared.Made.{Made}
 use Rattle.conjunction.specs.Conjunction.{both}
+use Rattle.state_sets.specs.Sets.{startsIn}
+use Rattle.set_walk.specs.declared.Start.{Start}
+use Rattle.set_walk.specs.declared.Start.the-variants as variants
 use Rattle.set_walk.specs.Walk.{bitsOf}
 
 -- a diagram, an edge unless it is full, and a state in words
@@ -57,6 +60,40 @@ pickThen p k = onPicked (p .edge) (p .state) (p .bits) k
 unfoldable pub pickAll : List ℕ → State → ℕ → List ℕ → Picked
 pickAll [] s e bits = picked s (some e) bits
 pickAll (v ∷ vs) s e bits = pickThen (pickOne e v bits s) (pickAll vs)
+
+-- ---- a set and its start states
+
+-- a diagram, what was found, and a state in words
+pub record Sought : Type 0 where
+  pub state : State
+  pub found : Start
+  pub bits : List ℕ
+
+abbrev pub sought : State → Start → List ℕ → Sought
+sought s found bits = record { state = s; found = found; bits = bits }
+
+-- the values of the free latches are a start state, where this is one of set t; else it is not known
+abbrev pub tested : ℕ → List ℕ → State → List ℕ → Sought
+tested t table s bits = sought s (cond (value (s .nodes) (bitsOf bits) (getD table t 0)) variants.Least variants.Full) bits
+
+abbrev pub testedIn : ℕ → List ℕ → State → List ℕ → Option ℕ → Sought
+testedIn t table s bits none = sought s variants.Full bits
+testedIn t table s bits (some e) = tested t table s bits
+
+abbrev pub testPicked : ℕ → List ℕ → Picked → Sought
+testPicked t table p = testedIn t table (p .state) (p .bits) (p .edge)
+
+-- with e the start states of set t
+abbrev pub seekIn : ℕ → List ℕ → List ℕ → List ℕ → State → Option ℕ → Sought
+seekIn t frees table bits s none = sought s variants.Full bits
+seekIn t frees table bits s (some e) = cond (eqb e 0) (sought s variants.Nowhere bits) (testPicked t table (pickAll frees s e bits))
+
+abbrev pub seekFrom : ℕ → List ℕ → List ℕ → List ℕ → Outcome → Sought
+seekFrom t frees table bits o = seekIn t frees table bits (o .state) (o .edge)
+
+-- the least start state of set t, where the others begin with the values in bits
+unfoldable pub seek : ℕ → ℕ → ℕ → List ℕ → List ℕ → List ℕ → State → Sought
+seek vars rows t frees table bits s = seekFrom t frees table bits (startsIn vars rows t table s)
 
 -- The start states of a machine as assignments of so many variables: start place y gives the free latches its bits, in their order, and the
 -- other variables have their words of `base`. The list has the variable of each free latch, or a number past the variables.

@@ -15,6 +15,13 @@ ghost use Rattle.state_sets.specs.Shape.{Fits, rowAt};
 ghost use Rattle.set_walk.specs.Walk as W;
 ghost use Rattle.set_walk.specs.Start as S;
 
+// The least start state of a set was found; the set has none; or it is not known.
+pub enum Start {
+    Least,
+    Nowhere,
+    Full,
+}
+
 fn word(b: bool) -> u32
     ensures { λ r. ⌜ nonzero r ≡ b ⌝ }
 {
@@ -231,4 +238,38 @@ fn pick_all(w: &mut [u32], e: u32, frees: &[u32], bits: &mut [u32]) -> Made
         u += 1;
     }
     Made::Edge(from)
+}
+
+// The least start state of set t. The words have the start values of the latches that are not free, and 0 for those that are; the free ones
+// are given by their variables in their order.
+pub fn least_start(
+    w: &mut [u32],
+    table: &[u32],
+    s: Shape,
+    t: usize,
+    frees: &[u32],
+    bits: &mut [u32],
+) -> Start
+    requires { ⌜ ((terms : M.Terms) × M.Good terms (D.stateOf (now w))) ⌝ }
+    requires { ⌜ ((i : ℕ) → M.In (D.stateOf (now w) .nodes) (getD (now table) i 0)) ⌝ }
+    requires { ⌜ Fits s (length (now table)) ⌝ }
+    requires { ⌜ t < 256 ⌝ }
+    ensures { λ r. ⌜
+        S.sought (D.stateOf (now (w .exit))) r (now (bits .exit))
+        ≡ S.seek (s .vars) (s .rows) t (now (frees .entry)) (now (table .entry)) (now (bits .entry)) (D.stateOf (now (w .entry)))
+        ⌝ }
+{
+    let Made::Edge(e) = state_sets::starts_in(w, table, s, t) else {
+        return Start::Full;
+    };
+    if e == 0 {
+        return Start::Nowhere;
+    }
+    let Made::Edge(_) = pick_all(w, e, frees, bits) else {
+        return Start::Full;
+    };
+    if value_of(w, table[t], bits) {
+        return Start::Least;
+    }
+    Start::Full
 }

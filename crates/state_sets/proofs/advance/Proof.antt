@@ -55,16 +55,15 @@ loop-again : tie.Need-loop-again Inv-loop μ-loop
 loop-again c =
     let a = c .before .before .before .before .before .before .before .before .before .before .before .before .args in
     let l = c .before .before .before .before .before .before .before .before .before .loop in
-    let m = c .before .before .before .before .before .step-again in
-    (
+    let m = c .before .before .before .before .before .step-again in (
       m .kept .0 ∙ l .inv .0,
       m .kept .1 .0 ∙ l .inv .1,
       omega (arith, l .inv .3),
       l .inv .3,
       turns-more (stepOf (a .s .vars) (a .s .rows) (a .next)) (a .s .rows + 1 - l .r) (a .s .rows + 1 - (l .r + 1)) (l .r) (l .r + 1) (setsOf (l .w) (l .table))
-      (setsOf (m .last .0) (m .last .1 .0)) (omega (arith, l .inv .3)) (omega arith)
-      (ap (left (m .last .0) (m .last .1 .0)) (sym (granted (m .result) (c .if1 .left))) ∙ m .ensures)
-      ∙ l .inv .4,
+          (setsOf (m .last .0) (m .last .1 .0)) (omega (arith, l .inv .3)) (omega arith)
+          (ap (left (m .last .0) (m .last .1 .0)) (sym (granted (m .result) (c .if1 .left))) ∙ m .ensures)
+          ∙ l .inv .4,
     )
 
 same-length-3 : tie.Need-same-length-3 Inv-loop μ-loop
