@@ -39,7 +39,8 @@ module _ (s t : State) (f g h : ℕ) (e : t ≡ paid s 1) where
 -- ---- a node that is kept
 
 module _ (s : State) (v lo hi f g h : ℕ) where
-  pub finished-edge : (t u : State) (e : ℕ) → outcome t (some e) ≡ made s v lo hi → u ≡ keeping t f g h e → outcome u (some e) ≡ finished s v lo hi f g h
+  pub finished-edge : (t u : State) (e : ℕ) → outcome t (some e) ≡ made s v lo hi → u ≡ keeping t f g h e → outcome u
+      (some e) ≡ finished s v lo hi f g h
   unfolding finished
   finished-edge t u e p q = remembered-edge (made s v lo hi) f g h t u e p q
 
@@ -149,7 +150,8 @@ module _ (s : State) (f g p q : ℕ) (ep : p ≡ flip f 1) (eq : q ≡ flip g 1)
 
   pub either-edge : (t : State) (e r : ℕ) → outcome t (some e) ≡ C.both s p q → r ≡ flip e 1 → outcome t (some r) ≡ C.either s f g
   either-edge t e r h er =
-      then-edge (C.both s p q) (λ t e. outcome t (some (flip e 1))) t e (outcome t (some r)) h (ap (λ (x : ℕ). outcome t (some x)) er) ∙ either-of
+      then-edge (C.both s p q) (λ t e. outcome t (some (flip e 1))) t e (outcome t (some r)) h (ap (λ (x : ℕ). outcome t (some x)) er)
+      ∙ either-of
 
   pub either-full : (t : State) → outcome t none ≡ C.both s p q → outcome t none ≡ C.either s f g
   either-full t h = then-full (C.both s p q) (λ t e. outcome t (some (flip e 1))) t h ∙ either-of

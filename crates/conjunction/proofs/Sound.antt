@@ -35,7 +35,8 @@ and-swap false false = refl
 
 -- ---- what is known
 
-module _ (terms : Terms) (s : State) (good : Good terms s) (f g : ℕ) (f-in : In (s .nodes) f) (g-in : In (s .nodes) g) (differ : f ≡ g → ⊥) where
+module _ (terms : Terms) (s : State) (good : Good terms s) (f g : ℕ) (f-in : In (s .nodes) f) (g-in : In (s .nodes) g)
+    (differ : f ≡ g → ⊥) where
   known-right : RightSeen terms s (Both f g (s .nodes)) (known s f g)
   unfolding known
   known-right =
@@ -59,7 +60,8 @@ module _ (terms : Terms) (s : State) (good : Good terms s) (f g : ℕ) (f-in : I
         f-in = f-in;
         g-in = g-in;
         r-in = zero-in;
-        same = λ x. value-false ns (good .built) x ∙ sym (ap (λ (b : Bool). b && v x g) (ap (v x) (eqb-true f 0 p) ∙ value-false ns (good .built) x));
+        same = λ x. value-false ns (good .built) x ∙ sym (ap (λ (b : Bool). b && v x g)
+            (ap (v x) (eqb-true f 0 p) ∙ value-false ns (good .built) x));
       }))
       (λ p.
       seen-if (eqb (f / 2) (g / 2)) _ _
@@ -86,7 +88,8 @@ cofactors-at ns b v e h = go (eqb (n .var) v) refl
     n = nodeAt ns (e / 2)
 
     go : (t : Bool) → eqb (n .var) v ≡ t → Cofactors ns v e (cond t (flip (n .lo) e) e) (cond t (flip (n .hi) e) e)
-    go true q = subst (λ (u : ℕ). Cofactors ns u e (flip (n .lo) e) (flip (n .hi) e)) (eqb-true (n .var) v q) (edge-cofactors ns b e h n refl)
+    go true q = subst (λ (u : ℕ). Cofactors ns u e (flip (n .lo) e) (flip (n .hi) e)) (eqb-true (n .var) v q)
+        (edge-cofactors ns b e h n refl)
     go false q = record { lo-in = h; hi-in = h; same = λ x. sym (same-either (x v) (value ns x e)) }
 
 and-parts : (p x y u w : Bool) → cond p (x && u) (y && w) ≡ (cond p x y && cond p u w)

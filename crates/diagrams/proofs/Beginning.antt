@@ -116,7 +116,8 @@ module _ (words looks : ℕ) where
           vectors-in = λ tag v. omega arith;
           entries = λ i h.
               let l = l₃ in
-              empty (cache-at three (4 * i) (omega (arith, length-cache three)) ∙ word-zero (4 + 4 * i) (omega arith) (λ z. omega (arith, length-cache three)));
+              empty (cache-at three (4 * i) (omega (arith, length-cache three)) ∙ word-zero (4 + 4 * i) (omega arith)
+              (λ z. omega (arith, length-cache three)));
         }
 
     -- it has one node and so many looks

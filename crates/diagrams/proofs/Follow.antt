@@ -20,7 +20,8 @@ use Rattle.diagrams.specs.States.{State, stateOf, Outcome, outcome, edge
 pub then-full : (o : Outcome) (k : State → ℕ → Outcome) (t : State) → outcome t none ≡ o → outcome t none ≡ andThen o k
 then-full o k t h = ap (λ (x : Outcome). andThen x k) h
 
-pub then-edge : (o : Outcome) (k : State → ℕ → Outcome) (t : State) (e : ℕ) (x : Outcome) → outcome t (some e) ≡ o → x ≡ k t e → x ≡ andThen o k
+pub then-edge : (o : Outcome) (k : State → ℕ → Outcome) (t : State) (e : ℕ) (x : Outcome) → outcome t (some e) ≡ o → x ≡ k t e
+    → x ≡ andThen o k
 then-edge o k t e x h q = q ∙ ap (λ (y : Outcome). andThen y k) h
 
 -- the same after a look
@@ -32,7 +33,8 @@ pub else-full : (x : Seen) (k : State → Outcome) (t : State) → record { stat
     → outcome t none ≡ orElse x k
 else-full x k t h = ap (λ (y : Seen). orElse y k) h
 
-pub else-nothing : (x : Seen) (k : State → Outcome) (t : State) (o : Outcome) → record { state = t; hint = hint-variants.Nothing } ≡ x → o ≡ k t
+pub else-nothing : (x : Seen) (k : State → Outcome) (t : State) (o : Outcome) → record { state = t; hint = hint-variants.Nothing } ≡ x
+    → o ≡ k t
     → o ≡ orElse x k
 else-nothing x k t o h q = q ∙ ap (λ (y : Seen). orElse y k) h
 
@@ -40,7 +42,8 @@ else-nothing x k t o h q = q ∙ ap (λ (y : Seen). orElse y k) h
 pub remembered-edge : (o : Outcome) (a b c : ℕ) (t u : State) (e : ℕ) → outcome t (some e) ≡ o → u ≡ keeping t a b c e
     → outcome u (some e) ≡ remembered o a b c
 unfolding remembered
-remembered-edge o a b c t u e h k = then-edge o (λ t e. outcome (keeping t a b c e) (some e)) t e (outcome u (some e)) h (ap (λ (s : State). outcome s (some e)) k)
+remembered-edge o a b c t u e h k = then-edge o (λ t e. outcome (keeping t a b c e) (some e)) t e (outcome u (some e)) h
+    (ap (λ (s : State). outcome s (some e)) k)
 
 pub remembered-full : (o : Outcome) (a b c : ℕ) (t : State) → outcome t none ≡ o → outcome t none ≡ remembered o a b c
 unfolding remembered
@@ -119,9 +122,11 @@ module _ (s : State) (v lo hi : ℕ) where
     made-of =
         ap₂ (λ (x y : ℕ). andThen (foundOrAppended s v x y) (λ u d. outcome u (some (flip d lo)))) ep eq ∙ sym (rw (ne-eqb lo hi differ))
 
-    pub made-edge : (t : State) (e r : ℕ) → outcome t (some e) ≡ foundOrAppended s v p q → r ≡ flip e lo → outcome t (some r) ≡ made s v lo hi
+    pub made-edge : (t : State) (e r : ℕ) → outcome t (some e) ≡ foundOrAppended s v p q → r ≡ flip e lo → outcome t
+        (some r) ≡ made s v lo hi
     made-edge t e r h er =
-        then-edge (foundOrAppended s v p q) (λ u d. outcome u (some (flip d lo))) t e (outcome t (some r)) h (ap (λ (x : ℕ). outcome t (some x)) er) ∙ made-of
+        then-edge (foundOrAppended s v p q) (λ u d. outcome u (some (flip d lo))) t e (outcome t (some r)) h
+        (ap (λ (x : ℕ). outcome t (some x)) er) ∙ made-of
 
     pub made-full : (t : State) → outcome t none ≡ foundOrAppended s v p q → outcome t none ≡ made s v lo hi
     made-full t h = then-full (foundOrAppended s v p q) (λ u d. outcome u (some (flip d lo))) t h ∙ made-of

@@ -66,7 +66,8 @@ front-above t v e i h = subst (λ (n : Vertex). v < n .var) (sym (front-node t (
 
 -- ---- what is asked stays where nodes are added
 
-pub branch-front : {v lo hi : ℕ} {ns ms : List Vertex} {r : ℕ} → Front ns ms → In ns lo → In ns hi → Branch v lo hi ns r → Branch v lo hi ms r
+pub branch-front : {v lo hi : ℕ} {ns ms : List Vertex} {r : ℕ} → Front ns ms → In ns lo → In ns hi → Branch v lo hi ns r
+    → Branch v lo hi ms r
 branch-front {v} {lo} {hi} {ns} {ms} {r} t i j b =
     record {
       r-in = front-in t r (b .r-in);
@@ -194,7 +195,8 @@ module _ {terms : Terms} {s : State} (vector : List ℕ) (i : (v : ℕ) → In (
       go : (b : Bool) → Dec (tag ≡ length (terms .vectors)) → ltb tag (length (terms .vectors)) ≡ b
           → In (s .nodes) (getD (vectorOf (withVector terms vector) tag) v 0)
       go true d e =
-          subst (λ (l : List ℕ). In (s .nodes) (getD l v 0)) (sym (before-vector tag (ltb-true tag (length (terms .vectors)) e))) (g .vectors-in tag v)
+          subst (λ (l : List ℕ). In (s .nodes) (getD l v 0)) (sym (before-vector tag (ltb-true tag (length (terms .vectors)) e)))
+          (g .vectors-in tag v)
       go false (yes z) e =
           subst (λ (l : List ℕ). In (s .nodes) (getD l v 0))
           (sym (ap (vectorOf (withVector terms vector)) z ∙ new-vector)) (i v)
@@ -225,7 +227,8 @@ above-is : (ns : List Vertex) (v e : ℕ) → isAbove ns v e ≡ true → Above 
 unfolding isAbove
 above-is ns v e h = ltb-true v (nodeAt ns (e / 2) .var) h
 
-module _ (ns : List Vertex) (n : Vertex) (b : Built ns) (lo-of : In ns (n .lo)) (hi-of : In ns (n .hi)) (lo-above : Above ns (n .var) (n .lo))
+module _ (ns : List Vertex) (n : Vertex) (b : Built ns) (lo-of : In ns (n .lo)) (hi-of : In ns (n .hi))
+    (lo-above : Above ns (n .var) (n .lo))
     (hi-above : Above ns (n .var) (n .hi)) (differ : n .lo ≡ n .hi → ⊥) where
   added-front : Front ns (ns ++ (n ∷ []))
   added-front = record { more = n ∷ []; same = refl }
@@ -335,7 +338,8 @@ found-is : (ns : List Vertex) (v lo hi n at : ℕ) → 0 < found ns v lo hi n at
 unfolding found
 found-is ns v lo hi zero at h = absurd (omega arith)
 found-is ns v lo hi (suc n) at h =
-    go (eqb at 0) (isNode (nodeAt ns at) v lo hi) refl (found ns v lo hi n (nodeAt ns at .next)) (found-is ns v lo hi n (nodeAt ns at .next)) h
+    go (eqb at 0) (isNode (nodeAt ns at) v lo hi) refl (found ns v lo hi n (nodeAt ns at .next))
+    (found-is ns v lo hi n (nodeAt ns at .next)) h
   where
     go : (p q : Bool) → isNode (nodeAt ns at) v lo hi ≡ q → (r : ℕ) → (0 < r → NodeIs (nodeAt ns r) v lo hi)
         → 0 < cond p 0 (cond q at r) → NodeIs (nodeAt ns (cond p 0 (cond q at r))) v lo hi
@@ -504,7 +508,8 @@ pub seen-here : {terms : Terms} {s : State} {p : ℕ → Type 0} → Good terms 
 seen-here g e q = record { good = g; same = refl; told = told-edge q }
 
 -- a look, and what is done where it tells nothing
-pub right-else : {terms : Terms} {s : State} {p : List Vertex → ℕ → Type 0} (x : Seen) (k : State → Outcome) → RightSeen terms s (p (s .nodes)) x
+pub right-else : {terms : Terms} {s : State} {p : List Vertex → ℕ → Type 0} (x : Seen) (k : State → Outcome) → RightSeen terms s
+    (p (s .nodes)) x
     → ((t : State) → Good terms t → t .nodes ≡ s .nodes → Right terms t p (k t)) → Right terms s p (orElse x k)
 right-else {terms} {s} {p} x k r f = go (r .told)
   where
@@ -538,7 +543,8 @@ module _ (terms : Terms) (s : State) (g : Good terms s) (a b c : ℕ) (asked : �
       let pq = and-left (p && q) t d in
       told-edge
       (has (getD l (4 * i + 3) 0)
-      (entry-as terms (s .nodes) (sym (eqb-true (getD l (4 * i) 0) a (and-left p q pq))) (sym (eqb-true (getD l (4 * i + 1) 0) b (and-right p q pq)))
+      (entry-as terms (s .nodes) (sym (eqb-true (getD l (4 * i) 0) a (and-left p q pq)))
+      (sym (eqb-true (getD l (4 * i + 1) 0) b (and-right p q pq)))
       (sym (eqb-true (getD l (4 * i + 2) 0) c (and-right (p && q) t d))) refl (g .entries i (ltb-true i (length l / 4) e)))))
       (λ d. told-nothing))
       (λ e. told-nothing)
@@ -573,7 +579,8 @@ module _ (terms : Terms) (ns : List Vertex) (l : List ℕ) (a b c r : ℕ) (old 
           (ap (λ (k : ℕ). getD new (4 * k + 3) 0) e ∙ four-fourth l (4 * i) a b c r f) here
       go (no e) =
           let n = length-four l (4 * i) a b c r in
-          let other : (k : ℕ) → k < 4 → getD new (4 * j + k) 0 ≡ getD l (4 * j + k) 0 = λ k q. four-other l (4 * i) a b c r (4 * j + k) (away k q) in
+          let other : (k : ℕ) → k < 4 → getD new (4 * j + k) 0 ≡ getD l (4 * j + k) 0 = λ k q. four-other l (4 * i) a b c r (4 * j + k)
+          (away k q) in
           entry-as terms ns (four-other l (4 * i) a b c r (4 * j) first) (other 1 (lit< tt)) (other 2 (lit< tt)) (other 3 (lit< tt))
           (old j (omega arith))
         where
@@ -601,7 +608,8 @@ stored-right terms ns l i a b c r old here = go (ltb i (length l / 4)) refl
     go false e = old
 
 -- a right result may be kept
-pub keeping-good : {terms : Terms} (s : State) (a b c r : ℕ) → Good terms s → Entry terms (s .nodes) a b c r → Good terms (keeping s a b c r)
+pub keeping-good : {terms : Terms} (s : State) (a b c r : ℕ) → Good terms s → Entry terms (s .nodes) a b c r → Good terms
+    (keeping s a b c r)
 unfolding keeping
 keeping-good {terms} s a b c r g e =
     record {

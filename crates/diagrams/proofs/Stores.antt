@@ -34,8 +34,12 @@ room-fits words n h =
     go true b p q l = absurd (omega arith)
     go false true p q l = omega (arith, ltb-false (words - words / 16) (4 * (words / 16) + 4) p)
     go false false p q l =
-        omega
-        (arith, ltb-false (words - words / 16) (4 * (words / 16) + 4) p, ltb-false ((words - words / 16 - (4 * (words / 16) + 4)) / 4) 1073741824 q)
+        omega (
+          arith,
+          ltb-false (words - words / 16) (4 * (words / 16) + 4) p,
+          ltb-false
+              ((words - words / 16 - (4 * (words / 16) + 4)) / 4) 1073741824 q,
+        )
 
 pub room-small : (words : ℕ) → roomOf words ≤ 1073741824
 unfolding roomOf
@@ -51,7 +55,8 @@ room-small words = go (ltb (words - words / 16) (4 * (words / 16) + 4)) (ltb q 1
 
 -- ---- one node more
 
-module _ (w : List ℕ) (k h v lo hi next at : ℕ) (ek : k ≡ getD w 0 0) (less : k < roomOf (length w)) (en : next ≡ getD (stateOf w .heads) h 0)
+module _ (w : List ℕ) (k h v lo hi next at : ℕ) (ek : k ≡ getD w 0 0) (less : k < roomOf (length w))
+    (en : next ≡ getD (stateOf w .heads) h 0)
     (ea : at ≡ wordOf (length w) k) where
   four : List ℕ
   four = fourSet w at lo hi v next
@@ -96,7 +101,8 @@ module _ (w : List ℕ) (k h v lo hi next at : ℕ) (ek : k ≡ getD w 0 0) (les
       let count : getD six 0 0 ≡ suc k = getD-set-same five 0 (k + 1) 0 (omega arith) ∙ add-one k in
       let last : nodeIn six k ≡ new =
       node-same six four (l₆ ∙ sym l₄) k
-      (λ j p q. getD-set-other five 0 j (k + 1) 0 (λ z. omega arith) ∙ getD-set-other four (length w - length w / 16 + h) j k 0 (λ z. omega arith))
+      (λ j p q. getD-set-other five 0 j (k + 1) 0 (λ z. omega arith) ∙ getD-set-other four (length w - length w / 16 + h) j k 0
+      (λ z. omega arith))
       ∙ four-node w at lo hi v next (omega arith) k ea ∙ ap (λ (x : ℕ). record { lo = lo; hi = hi; var = v; next = x }) en in
       ap (view six) count
       ∙ ap₂ (λ (ns : List Vertex) (x : Vertex). ns ++ (x ∷ []))
@@ -209,7 +215,14 @@ module _ (w : List ℕ) (f g h i at : ℕ) (ei : i ≡ bucketOf (length w / 16) 
       cache-at w (4 * i + j) (omega arith) ∙ ap (λ (x : ℕ). getD w x 0) (omega arith) in
       let first : getD cache (4 * i) 0 ≡ getD w at 0 = cache-at w (4 * i) (omega arith) ∙ ap (λ (x : ℕ). getD w x 0) (omega arith) in
       ap (λ (x : ℕ). entryAt cache x f g h) place-is
-      ∙ rw (lt-ltb i (length cache / 4) (omega arith), first, word 1 (at + 1) (lit< tt) refl, word 2 (at + 2) (lit< tt) refl, word 3 (at + 3) (lit< tt) refl)
+      ∙ rw (
+        lt-ltb i (length cache / 4) (omega arith),
+        first,
+        word 1 (at + 1) (lit< tt) refl,
+        word 2 (at + 2) (lit< tt) refl,
+        word 3
+            (at + 3) (lit< tt) refl,
+      )
 
   pub entry-out : length w / 16 ≤ i → entryOf cache f g h ≡ hint-variants.Nothing
   unfolding entryOf entryAt

@@ -102,7 +102,8 @@ value-not ns x e = value-flip ns x e 1
 
 -- ---- a node
 
-values-more : (ns : List Vertex) (n : Vertex) (x : Assignment) → values (ns ++ (n ∷ [])) x ≡ values ns x ++ (ifElse ns (n .var) (n .lo) (n .hi) x ∷ [])
+values-more : (ns : List Vertex) (n : Vertex) (x : Assignment) → values (ns ++ (n ∷ [])) x ≡ values ns x ++
+    (ifElse ns (n .var) (n .lo) (n .hi) x ∷ [])
 unfolding value grown
 values-more ns n x = grown-append x [] ns (n ∷ [])
 

@@ -46,7 +46,13 @@ pub node-whole : (w : List ℕ) (k at : ℕ) → at ≡ wordOf (length w) k → 
 unfolding nodeIn
 node-whole w k at e l =
     let here : nodeIn w k
-    ≡ record { lo = getD w (wordOf (length w) k) 0; hi = getD w (wordOf (length w) k + 1) 0; var = getD w (wordOf (length w) k + 2) 0; next = getD w (wordOf (length w) k + 3) 0 } =
+    ≡ record {
+      lo = getD w (wordOf (length w) k) 0;
+      hi = getD w (wordOf (length w) k + 1) 0;
+      var = getD w
+          (wordOf (length w) k + 2) 0;
+      next = getD w (wordOf (length w) k + 3) 0;
+    } =
     rw (lt-ltb (wordOf (length w) k + 3) (length w) (omega arith)) in
     here
     ∙ (let b = sym e in λ i. record { lo = getD w (b i) 0; hi = getD w (b i + 1) 0; var = getD w (b i + 2) 0; next = getD w (b i + 3) 0 })
@@ -68,6 +74,11 @@ looks-is w = refl
 pub room-is : (w : List ℕ) → stateOf w .room ≡ roomOf (length w)
 unfolding stateOf
 room-is w = refl
+
+-- a node by its words
+pub node-at : (w : List ℕ) (k : ℕ) → k < getD w 0 0 → nodeAt (stateOf w .nodes) k ≡ nodeIn w k
+unfolding stateOf
+node-at w k h = view-at w (getD w 0 0) k h
 
 pub read-whole : (w : List ℕ) (n k at : ℕ) → n ≡ getD w 0 0 → at ≡ wordOf (length w) k → k < n → at + 3 < length w
     → nodeAt (stateOf w .nodes) k
@@ -101,7 +112,8 @@ cache-at w i h = getD-take (4 * (length w / 16)) (drop 4 w) i 0 h ∙ getD-drop 
 
 -- ---- words of one length that agree in some places
 
-pub state-eq : {s t : State} → s .room ≡ t .room → s .looks ≡ t .looks → s .nodes ≡ t .nodes → s .heads ≡ t .heads → s .cache ≡ t .cache → s ≡ t
+pub state-eq : {s t : State} → s .room ≡ t .room → s .looks ≡ t .looks → s .nodes ≡ t .nodes → s .heads ≡ t .heads → s .cache ≡ t .cache
+    → s ≡ t
 state-eq p q r a b = λ i. record { room = p i; looks = q i; nodes = r i; heads = a i; cache = b i }
 
 module _ (u w : List ℕ) (long : length u ≡ length w) where
@@ -109,13 +121,20 @@ module _ (u w : List ℕ) (long : length u ≡ length w) where
   unfolding stateOf
   room-same = ap roomOf long
 
-  pub node-same : (k : ℕ) → ((j : ℕ) → wordOf (length w) k ≤ j → j ≤ wordOf (length w) k + 3 → getD u j 0 ≡ getD w j 0) → nodeIn u k ≡ nodeIn w k
+  pub node-same : (k : ℕ) → ((j : ℕ) → wordOf (length w) k ≤ j → j ≤ wordOf (length w) k + 3 → getD u j 0 ≡ getD w j 0)
+      → nodeIn u k ≡ nodeIn w k
   unfolding nodeIn
   node-same k same =
       let at = wordOf (length w) k in
       (λ t.
       cond (ltb (wordOf (long t) k + 3) (long t))
-      (record { lo = getD u (wordOf (long t) k) 0; hi = getD u (wordOf (long t) k + 1) 0; var = getD u (wordOf (long t) k + 2) 0; next = getD u (wordOf (long t) k + 3) 0 })
+      (record {
+        lo = getD u (wordOf (long t) k) 0;
+        hi = getD u (wordOf (long t) k + 1) 0;
+        var = getD u
+            (wordOf (long t) k + 2) 0;
+        next = getD u (wordOf (long t) k + 3) 0;
+      })
       noVertex)
       ∙ ap (λ (n : Vertex). cond (ltb (at + 3) (length w)) n noVertex)
       (node-eq (same at (omega arith) (omega arith)) (same (at + 1) (omega arith) (omega arith)) (same (at + 2) (omega arith) (omega arith))

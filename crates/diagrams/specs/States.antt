@@ -12,8 +12,8 @@ use Rattle.diagrams.specs.declared.Hint.{Hint}
 use Rattle.diagrams.specs.declared.Hint.the-variants as hint-variants
 use Rattle.diagrams.specs.Words.{noVertex, view, nodeAt, bucketOf, roomOf, flip, edgeTo, isNode}
 
--- how many nodes fit, how many looks are left, the nodes, the heads of the hash lists, and the cache, four words for each entry. Words past the
--- nodes are no part of it
+-- how many nodes fit, how many looks are left, the nodes, the heads of the hash lists, and the cache, four words for each entry. Words past
+-- the nodes are no part of it
 pub record State : Type 0 where
   pub room : ℕ
   pub looks : ℕ
@@ -99,7 +99,8 @@ foundOrAppended s v lo hi =
     orAppended s (listOf s v lo hi) v lo hi
     (found (s .nodes) v lo hi (length (s .nodes)) (getD (s .heads) (listOf s v lo hi) 0))
 
--- the edge that is hi where variable v is true and lo where it is false. In a node lo is no complement: that of the result is taken in its place
+-- the edge that is hi where variable v is true and lo where it is false. In a node lo is no complement: that of the result is taken in its
+-- place
 unfoldable pub made : State → ℕ → ℕ → ℕ → Outcome
 made s v lo hi =
     cond (eqb lo hi) (outcome s (some lo))

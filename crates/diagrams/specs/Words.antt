@@ -22,7 +22,13 @@ wordOf words k = 4 * (words / 16 + k) + 4
 unfoldable pub nodeIn : List ℕ → ℕ → Vertex
 nodeIn w k =
     cond (ltb (wordOf (length w) k + 3) (length w))
-    (record { lo = getD w (wordOf (length w) k) 0; hi = getD w (wordOf (length w) k + 1) 0; var = getD w (wordOf (length w) k + 2) 0; next = getD w (wordOf (length w) k + 3) 0 })
+    (record {
+      lo = getD w (wordOf (length w) k) 0;
+      hi = getD w (wordOf (length w) k + 1) 0;
+      var = getD w
+          (wordOf (length w) k + 2) 0;
+      next = getD w (wordOf (length w) k + 3) 0;
+    })
     noVertex
 
 -- the first n nodes
@@ -41,7 +47,8 @@ bucketOf size a b c = (a * 1327217885 + b * 889516853 + c * 1640531527) % 429496
 unfoldable pub roomOf : ℕ → ℕ
 roomOf words =
     cond (ltb (words - words / 16) (4 * (words / 16) + 4)) 0
-    (cond (ltb ((words - words / 16 - (4 * (words / 16) + 4)) / 4) 1073741824) ((words - words / 16 - (4 * (words / 16) + 4)) / 4) 1073741824)
+    (cond (ltb ((words - words / 16 - (4 * (words / 16) + 4)) / 4) 1073741824)
+    ((words - words / 16 - (4 * (words / 16) + 4)) / 4) 1073741824)
 
 -- the edge e, or its complement where c is odd
 unfoldable pub flip : ℕ → ℕ → ℕ

@@ -1,8 +1,8 @@
-// Decision diagrams in one slice of lent words. An edge is 2 * node + complement; node 0 is false, so edge 0 is false and edge 1 true. Where things
-// stand follows from the length alone: word 0 is the number of nodes and word 1 the number of looks that are left; entries of the cache from
-// word 4 on, nodes after them, and the heads of the hash lists at the end. A node has four words: the edges to go along where its variable
-// is false and where it is true, the variable, and the next node of its hash list, 0 for none. Nothing is asked of the words: a word past
-// the end is 0, and a store past it changes nothing.
+// Decision diagrams in one slice of lent words. An edge is 2 * node + complement; node 0 is false, so edge 0 is false and edge 1 true.
+// Where things stand follows from the length alone: word 0 is the number of nodes and word 1 the number of looks that are left; entries of
+// the cache from word 4 on, nodes after them, and the heads of the hash lists at the end. A node has four words: the edges to go along
+// where its variable is false and where it is true, the variable, and the next node of its hash list, 0 for none. Nothing is asked of the
+// words: a word past the end is 0, and a store past it changes nothing.
 ghost use mathlib.Core.Path.{_≡_};
 ghost use mathlib.Core.List.{List};
 ghost use Prim.Native.Nat.{ℕ, _<_, _/_};
@@ -32,14 +32,14 @@ pub enum Hint {
 }
 
 // Word i, or 0 past the end.
-fn get(w: &[u32], i: usize) -> u32
+pub fn get(w: &[u32], i: usize) -> u32
     ensures { λ r. ⌜ r ≡ getD (now (w .entry)) i 0 ⌝ }
 {
     if i < w.len() { w[i] } else { 0 }
 }
 
 // Stores x at i, unless that is past the end.
-fn put(w: &mut [u32], i: usize, x: u32)
+pub fn put(w: &mut [u32], i: usize, x: u32)
     ensures { λ _. ⌜ now (w .exit) ≡ set (now (w .entry)) i x ⌝ }
 {
     if i < w.len() {
@@ -86,7 +86,7 @@ pub fn read(w: &[u32], k: u32) -> Vertex
 }
 
 // The first node of hash list h, 0 for none.
-fn head(w: &[u32], h: usize) -> u32
+pub fn head(w: &[u32], h: usize) -> u32
     requires { ⌜ h < 4294967296 ⌝ }
     ensures { λ r. ⌜ r ≡ getD (S.stateOf (now (w .entry)) .heads) h 0 ⌝ }
 {
@@ -94,7 +94,7 @@ fn head(w: &[u32], h: usize) -> u32
 }
 
 // For how many nodes there is room in so many words.
-fn room(words: usize) -> u32
+pub fn room(words: usize) -> u32
     ensures { λ r. ⌜ r ≡ W.roomOf words ⌝ }
 {
     let free = words - words / 16;
@@ -161,7 +161,7 @@ fn add(w: &mut [u32], h: usize, v: u32, lo: u32, hi: u32)
 }
 
 // The edge to node k. The remainder only makes the function total: there is no node from 2^30 on.
-fn edge_to(k: u32) -> u32
+pub fn edge_to(k: u32) -> u32
     ensures { λ r. ⌜ r ≡ W.edgeTo k ⌝ }
 {
     (2 * (k as u64) % 4294967296) as u32
@@ -196,7 +196,8 @@ fn find_or_append(w: &mut [u32], v: u32, lo: u32, hi: u32) -> Made
     append(w, h, v, lo, hi)
 }
 
-// The edge that is hi where variable v is true and lo where it is false. In a node lo is no complement: that of the result is taken in its place.
+// The edge that is hi where variable v is true and lo where it is false. In a node lo is no complement: that of the result is taken in its
+// place.
 pub fn node(w: &mut [u32], v: u32, lo: u32, hi: u32) -> Made
     ensures { λ r. ⌜ S.left (now (w .exit)) r ≡ S.made (S.stateOf (now (w .entry))) v lo hi ⌝ }
 {

@@ -54,20 +54,41 @@ returns-2 : (t : ℕ) → both-within-lts.Need-returns-2 (claims t) (both-within
 returns-2 t c =
     let a = c .before .before .before .before .before .before .before .before .before .before .before .args in
     let k = c .before .before .before .before .before .known in
-    within-spent (stateOf (a .w .now)) (a .a) (a .b) (c .before .before .before .before .before .before .before .before .smaller .result) (c .before .before .before .before .before .before .before .larger .result) (c .before .before .before .before .before .before .before .before .before .if1 .left) (c .before .before .before .before .before .before .before .before .smaller .ensures) (c .before .before .before .before .before .before .before .larger .ensures)
+    within-spent (stateOf (a .w .now)) (a .a) (a .b) (c .before .before .before .before .before .before .before .before .smaller .result)
+    (c .before .before .before .before .before .before .before .larger .result)
+    (c .before .before .before .before .before .before .before .before .before .if1 .left)
+    (c .before .before .before .before .before .before .before .before .smaller .ensures)
+    (c .before .before .before .before .before .before .before .larger .ensures)
     (stateOf (k .last .0)) (ap (seen (k .last .0)) (sym (c .before .enum-told2 .given .1)) ∙ k .ensures) (a .turns) (c .if2 .taken)
 
 sub-both-within : (t : ℕ) → both-within-lts.Need-sub-both-within (claims t) (both-within-at t) both-within.Post
 sub-both-within t c = omega (arith, c .before .before .before .if2 .left)
 
 both-within-requires : (t : ℕ) → both-within-lts.Need-both-within-requires (claims t) (both-within-at t) both-within.Post
-both-within-requires t c κs = (omega (arith, c .before .before .before .if2 .left, c .before .before .before .before .before .before .before .before .before .before .before .before .before .before .pre .0), tt)
+both-within-requires t c κs = (
+  omega (
+    arith,
+    c .before .before .before .if2 .left,
+    c .before .before .before .before .before .before .before .before .before .before
+        .before .before .before .before .pre .0,
+  ),
+  tt,
+)
 
 sub-both-within-2 : (t : ℕ) → both-within-lts.Need-sub-both-within-2 (claims t) (both-within-at t) both-within.Post
 sub-both-within-2 t c = omega (arith, c .before .before .before .before .before .before .before .before .before .before .if2 .left)
 
 both-within-requires-2 : (t : ℕ) → both-within-lts.Need-both-within-requires-2 (claims t) (both-within-at t) both-within.Post
-both-within-requires-2 t c κs = (omega (arith, c .before .before .before .before .before .before .before .before .before .before .if2 .left, c .before .before .before .before .before .before .before .before .before .before .before .before .before .before .before .before .before .before .before .before .before .pre .0), tt)
+both-within-requires-2 t c κs = (
+  omega (
+    arith,
+    c .before .before .before .before .before .before .before .before .before .before .if2 .left,
+    c .before .before .before
+        .before .before .before .before .before .before .before .before .before .before .before .before .before .before .before .before
+        .before .before .pre .0,
+  ),
+  tt,
+)
 
 same-length-2 : (t : ℕ) → both-within-lts.Need-same-length-2 (claims t) (both-within-at t) both-within.Post
 same-length-2 t c = c .before .before .before .before .before .known .kept .0
@@ -76,7 +97,11 @@ returns-3 : (t : ℕ) → both-within-lts.Need-returns-3 (claims t) (both-within
 returns-3 t c =
     let a = c .before .before .before .before .before .before .before .before .before .before .before .args in
     let k = c .before .before .before .before .before .known in
-    within-known (stateOf (a .w .now)) (a .a) (a .b) (c .before .before .before .before .before .before .before .before .smaller .result) (c .before .before .before .before .before .before .before .larger .result) (c .before .before .before .before .before .before .before .before .before .if1 .left) (c .before .before .before .before .before .before .before .before .smaller .ensures) (c .before .before .before .before .before .before .before .larger .ensures)
+    within-known (stateOf (a .w .now)) (a .a) (a .b) (c .before .before .before .before .before .before .before .before .smaller .result)
+    (c .before .before .before .before .before .before .before .larger .result)
+    (c .before .before .before .before .before .before .before .before .before .if1 .left)
+    (c .before .before .before .before .before .before .before .before .smaller .ensures)
+    (c .before .before .before .before .before .before .before .larger .ensures)
     (a .turns) (stateOf (k .last .0)) (c .before .e .given .0 .0) (ap (seen (k .last .0)) (sym (c .before .e .given .1)) ∙ k .ensures)
 
 same-length-3 : (t : ℕ) → both-within-lts.Need-same-length-3 (claims t) (both-within-at t) both-within.Post
@@ -86,48 +111,126 @@ returns-4 : (t : ℕ) → both-within-lts.Need-returns-4 (claims t) (both-within
 returns-4 t c =
     let a = c .before .before .before .before .before .before .before .before .before .before .args in
     let k = c .before .before .before .before .known in
-    within-full (stateOf (a .w .now)) (a .a) (a .b) (c .before .before .before .before .before .before .before .smaller .result) (c .before .before .before .before .before .before .larger .result) (c .before .before .before .before .before .before .before .before .if1 .left) (c .before .before .before .before .before .before .before .smaller .ensures) (c .before .before .before .before .before .before .larger .ensures)
+    within-full (stateOf (a .w .now)) (a .a) (a .b) (c .before .before .before .before .before .before .before .smaller .result)
+    (c .before .before .before .before .before .before .larger .result)
+    (c .before .before .before .before .before .before .before .before .if1 .left)
+    (c .before .before .before .before .before .before .before .smaller .ensures)
+    (c .before .before .before .before .before .before .larger .ensures)
     (a .turns) (stateOf (k .last .0)) (ap (seen (k .last .0)) (sym (c .enum-told .given .1)) ∙ k .ensures)
 
 same-length-4 : (t : ℕ) → both-within-lts.Need-same-length-4 (claims t) (both-within-at t) both-within.Post
-same-length-4 t c = c .before .before .before .before .both-within .kept .0 ∙ c .before .before .before .before .before .before .before .before .before .before .before .before .before .known .kept .0
+same-length-4 t c = c .before .before .before .before .both-within .kept .0
+    ∙ c .before .before .before .before .before .before .before .before .before .before .before .before .before .known .kept .0
 
 returns-5 : (t : ℕ) → both-within-lts.Need-returns-5 (claims t) (both-within-at t) both-within.Post
 returns-5 t c =
-    let a = c .before .before .before .before .before .before .before .before .before .before .before .before .before .before .before .before .before .before .before .args in
+    let a = c .before .before .before .before .before .before .before .before .before .before .before .before .before .before .before
+    .before .before .before .before .args in
     let k = c .before .before .before .before .before .before .before .before .before .before .before .before .before .known in
     let m = c .before .before .before .before .both-within in
-    within-low (stateOf (a .w .now)) (a .a) (a .b) (c .before .before .before .before .before .before .before .before .before .before .before .before .before .before .before .before .smaller .result) (c .before .before .before .before .before .before .before .before .before .before .before .before .before .before .before .larger .result) (c .before .before .before .before .before .before .before .before .before .before .before .before .before .before .before .before .before .if1 .left) (c .before .before .before .before .before .before .before .before .before .before .before .before .before .before .before .before .smaller .ensures) (c .before .before .before .before .before .before .before .before .before .before .before .before .before .before .before .larger .ensures)
-    (stateOf (k .last .0)) (ap (seen (k .last .0)) (sym (c .before .before .before .before .before .before .before .before .before .enum-told2 .given .1)) ∙ k .ensures) (a .turns) (a .turns - 1) (omega (arith, c .before .before .before .before .before .before .before .before .if2 .left))
-    (c .before .before .before .before .before .before .cofactors .result) (c .before .before .before .before .before .before .cofactors .ensures) (stateOf (m .last .0)) (ap (left (m .last .0)) (sym (c .enum-told3 .given .1)) ∙ m .ensures)
+    within-low (stateOf (a .w .now)) (a .a) (a .b)
+    (c .before .before .before .before .before .before .before .before .before .before .before .before .before .before .before .before
+    .smaller .result)
+    (c .before .before .before .before .before .before .before .before .before .before .before .before .before .before .before .larger
+    .result) (c .before .before .before .before .before .before .before .before .before .before .before .before .before .before .before
+    .before .before .if1 .left)
+    (c .before .before .before .before .before .before .before .before .before .before .before .before .before .before .before .before
+    .smaller .ensures)
+    (c .before .before .before .before .before .before .before .before .before .before .before .before .before .before .before .larger
+    .ensures)
+    (stateOf (k .last .0)) (ap (seen (k .last .0))
+    (sym (c .before .before .before .before .before .before .before .before .before .enum-told2 .given .1)) ∙ k .ensures) (a .turns)
+    (a .turns - 1) (omega (arith, c .before .before .before .before .before .before .before .before .if2 .left))
+    (c .before .before .before .before .before .before .cofactors .result)
+    (c .before .before .before .before .before .before .cofactors .ensures) (stateOf (m .last .0))
+    (ap (left (m .last .0)) (sym (c .enum-told3 .given .1)) ∙ m .ensures)
 
 same-length-5 : (t : ℕ) → both-within-lts.Need-same-length-5 (claims t) (both-within-at t) both-within.Post
-same-length-5 t c = c .before .before .before .before .both-within2 .kept .0 ∙ c .before .before .before .before .before .before .before .before .before .before .before .both-within .kept .0 ∙ c .before .before .before .before .before .before .before .before .before .before .before .before .before .before .before .before .before .before .before .before .known .kept .0
+same-length-5 t c = c .before .before .before .before .both-within2 .kept .0
+    ∙ c .before .before .before .before .before .before .before .before .before .before .before .both-within .kept .0
+    ∙ c .before .before .before .before .before .before .before .before .before .before .before .before .before .before .before .before
+    .before .before .before .before .known .kept .0
 
 returns-6 : (t : ℕ) → both-within-lts.Need-returns-6 (claims t) (both-within-at t) both-within.Post
 returns-6 t c =
-    let a = c .before .before .before .before .before .before .before .before .before .before .before .before .before .before .before .before .before .before .before .before .before .before .before .before .before .before .args in
-    let k = c .before .before .before .before .before .before .before .before .before .before .before .before .before .before .before .before .before .before .before .before .known in
+    let a = c .before .before .before .before .before .before .before .before .before .before .before .before .before .before .before
+    .before .before .before .before .before .before .before .before .before .before .before .args in
+    let k = c .before .before .before .before .before .before .before .before .before .before .before .before .before .before .before
+    .before .before .before .before .before .known in
     let m = c .before .before .before .before .before .before .before .before .before .before .before .both-within in
     let q = c .before .before .before .before .both-within2 in
-    within-high (stateOf (a .w .now)) (a .a) (a .b) (c .before .before .before .before .before .before .before .before .before .before .before .before .before .before .before .before .before .before .before .before .before .before .before .smaller .result) (c .before .before .before .before .before .before .before .before .before .before .before .before .before .before .before .before .before .before .before .before .before .before .larger .result) (c .before .before .before .before .before .before .before .before .before .before .before .before .before .before .before .before .before .before .before .before .before .before .before .before .if1 .left) (c .before .before .before .before .before .before .before .before .before .before .before .before .before .before .before .before .before .before .before .before .before .before .before .smaller .ensures) (c .before .before .before .before .before .before .before .before .before .before .before .before .before .before .before .before .before .before .before .before .before .before .larger .ensures)
-    (stateOf (k .last .0)) (ap (seen (k .last .0)) (sym (c .before .before .before .before .before .before .before .before .before .before .before .before .before .before .before .before .enum-told2 .given .1)) ∙ k .ensures) (a .turns) (a .turns - 1) (omega (arith, c .before .before .before .before .before .before .before .before .before .before .before .before .before .before .before .if2 .left))
-    (c .before .before .before .before .before .before .before .before .before .before .before .before .before .cofactors .result) (c .before .before .before .before .before .before .before .before .before .before .before .before .before .cofactors .ensures) (stateOf (m .last .0)) (c .before .before .before .before .before .before .before .lo .given .0 .0) (ap (left (m .last .0)) (sym (c .before .before .before .before .before .before .before .lo .given .1)) ∙ m .ensures)
+    within-high (stateOf (a .w .now)) (a .a) (a .b)
+    (c .before .before .before .before .before .before .before .before .before .before .before .before .before .before .before .before
+    .before .before .before .before .before .before .before .smaller .result)
+    (c .before .before .before .before .before .before .before .before .before .before .before .before .before .before .before .before
+    .before .before .before .before .before .before .larger .result)
+    (c .before .before .before .before .before .before .before .before .before .before .before .before .before .before .before .before
+    .before .before .before .before .before .before .before .before .if1 .left)
+    (c .before .before .before .before .before .before .before .before .before .before .before .before .before .before .before .before
+    .before .before .before .before .before .before .before .smaller .ensures)
+    (c .before .before .before .before .before .before .before .before .before .before .before .before .before .before .before .before
+    .before .before .before .before .before .before .larger .ensures)
+    (stateOf (k .last .0)) (ap (seen (k .last .0))
+    (sym (c .before .before .before .before .before .before .before .before .before .before .before .before .before .before .before
+    .before .enum-told2 .given .1)) ∙ k .ensures) (a .turns) (a .turns - 1)
+    (omega (
+      arith,
+      c .before .before .before .before .before .before .before .before .before .before .before .before .before .before
+          .before .if2 .left,
+    ))
+    (c .before .before .before .before .before .before .before .before .before .before .before .before .before .cofactors .result)
+    (c .before .before .before .before .before .before .before .before .before .before .before .before .before .cofactors .ensures)
+    (stateOf (m .last .0)) (c .before .before .before .before .before .before .before .lo .given .0 .0)
+    (ap (left (m .last .0)) (sym (c .before .before .before .before .before .before .before .lo .given .1)) ∙ m .ensures)
     (stateOf (q .last .0)) (ap (left (q .last .0)) (sym (c .enum-told4 .given .1)) ∙ q .ensures)
 
 same-length-6 : (t : ℕ) → both-within-lts.Need-same-length-6 (claims t) (both-within-at t) both-within.Post
-same-length-6 t c = c .before .before .finish .kept .0 ∙ c .before .before .before .before .before .before .before .before .before .both-within2 .kept .0 ∙ c .before .before .before .before .before .before .before .before .before .before .before .before .before .before .before .before .both-within .kept .0 ∙ c .before .before .before .before .before .before .before .before .before .before .before .before .before .before .before .before .before .before .before .before .before .before .before .before .before .known .kept .0
+same-length-6 t c = c .before .before .finish .kept .0
+    ∙ c .before .before .before .before .before .before .before .before .before .both-within2 .kept .0
+    ∙ c .before .before .before .before .before .before .before .before .before .before .before .before .before .before .before .before
+    .both-within .kept .0
+    ∙ c .before .before .before .before .before .before .before .before .before .before .before .before .before .before .before .before
+    .before .before .before .before .before .before .before .before .before .known .kept .0
 
 returns-7 : (t : ℕ) → both-within-lts.Need-returns-7 (claims t) (both-within-at t) both-within.Post
 returns-7 t c =
-    let a = c .before .before .before .before .before .before .before .before .before .before .before .before .before .before .before .before .before .before .before .before .before .before .before .before .before .before .before .before .before .before .before .args in
-    let k = c .before .before .before .before .before .before .before .before .before .before .before .before .before .before .before .before .before .before .before .before .before .before .before .before .before .known in
-    let m = c .before .before .before .before .before .before .before .before .before .before .before .before .before .before .before .before .both-within in
+    let a = c .before .before .before .before .before .before .before .before .before .before .before .before .before .before .before
+    .before .before .before .before .before .before .before .before .before .before .before .before .before .before .before .before .args
+    in
+    let k = c .before .before .before .before .before .before .before .before .before .before .before .before .before .before .before
+    .before .before .before .before .before .before .before .before .before .before .known in
+    let m = c .before .before .before .before .before .before .before .before .before .before .before .before .before .before .before
+    .before .both-within in
     let q = c .before .before .before .before .before .before .before .before .before .both-within2 in
-    within-both (stateOf (a .w .now)) (a .a) (a .b) (c .before .before .before .before .before .before .before .before .before .before .before .before .before .before .before .before .before .before .before .before .before .before .before .before .before .before .before .before .smaller .result) (c .before .before .before .before .before .before .before .before .before .before .before .before .before .before .before .before .before .before .before .before .before .before .before .before .before .before .before .larger .result) (c .before .before .before .before .before .before .before .before .before .before .before .before .before .before .before .before .before .before .before .before .before .before .before .before .before .before .before .before .before .if1 .left) (c .before .before .before .before .before .before .before .before .before .before .before .before .before .before .before .before .before .before .before .before .before .before .before .before .before .before .before .before .smaller .ensures) (c .before .before .before .before .before .before .before .before .before .before .before .before .before .before .before .before .before .before .before .before .before .before .before .before .before .before .before .larger .ensures)
-    (stateOf (k .last .0)) (ap (seen (k .last .0)) (sym (c .before .before .before .before .before .before .before .before .before .before .before .before .before .before .before .before .before .before .before .before .before .enum-told2 .given .1)) ∙ k .ensures) (a .turns) (a .turns - 1) (omega (arith, c .before .before .before .before .before .before .before .before .before .before .before .before .before .before .before .before .before .before .before .before .if2 .left))
-    (c .before .before .before .before .before .before .before .before .before .before .before .before .before .before .before .before .before .before .cofactors .result) (c .before .before .before .before .before .before .before .before .before .before .before .before .before .before .before .before .before .before .cofactors .ensures) (stateOf (m .last .0)) (c .before .before .before .before .before .before .before .before .before .before .before .before .lo .given .0 .0) (ap (left (m .last .0)) (sym (c .before .before .before .before .before .before .before .before .before .before .before .before .lo .given .1)) ∙ m .ensures)
-    (stateOf (q .last .0)) (c .before .before .before .before .before .hi .given .0 .0) _ (ap (left (q .last .0)) (sym (c .before .before .before .before .before .hi .given .1)) ∙ q .ensures) (c .before .before .finish .ensures)
+    within-both (stateOf (a .w .now)) (a .a) (a .b)
+    (c .before .before .before .before .before .before .before .before .before .before .before .before .before .before .before .before
+    .before .before .before .before .before .before .before .before .before .before .before .before .smaller .result)
+    (c .before .before .before .before .before .before .before .before .before .before .before .before .before .before .before .before
+    .before .before .before .before .before .before .before .before .before .before .before .larger .result)
+    (c .before .before .before .before .before .before .before .before .before .before .before .before .before .before .before .before
+    .before .before .before .before .before .before .before .before .before .before .before .before .before .if1 .left)
+    (c .before .before .before .before .before .before .before .before .before .before .before .before .before .before .before .before
+    .before .before .before .before .before .before .before .before .before .before .before .before .smaller .ensures)
+    (c .before .before .before .before .before .before .before .before .before .before .before .before .before .before .before .before
+    .before .before .before .before .before .before .before .before .before .before .before .larger .ensures)
+    (stateOf (k .last .0)) (ap (seen (k .last .0))
+    (sym (c .before .before .before .before .before .before .before .before .before .before .before .before .before .before .before
+    .before .before .before .before .before .before .enum-told2 .given .1)) ∙ k .ensures) (a .turns) (a .turns - 1)
+    (omega (
+      arith,
+      c .before .before .before .before .before .before .before .before .before .before .before .before .before .before
+          .before .before .before .before .before .before .if2 .left,
+    ))
+    (c .before .before .before .before .before .before .before .before .before .before .before .before .before .before .before .before
+    .before .before .cofactors .result)
+    (c .before .before .before .before .before .before .before .before .before .before .before .before .before .before .before .before
+    .before .before .cofactors .ensures) (stateOf (m .last .0))
+    (c .before .before .before .before .before .before .before .before .before .before .before .before .lo .given .0 .0)
+    (ap (left (m .last .0)) (sym
+    (c .before .before .before .before .before .before .before .before .before .before .before .before .lo .given .1)) ∙ m .ensures)
+    (stateOf (q .last .0)) (c .before .before .before .before .before .hi .given .0 .0) _
+    (ap (left (q .last .0)) (sym (c .before .before .before .before .before .hi .given .1)) ∙ q .ensures)
+    (c .before .before .finish .ensures)
 
 pub +both-within-spec : {M : Type 1} → statement M
 +both-within-spec =

@@ -14,7 +14,8 @@ returns c =
     let a = c .before .before .before .before .before .before .before .before .before .before .before .before .args in
     let m = c .before .before .before .before .before .before .before .before .before .node in
     let k = c .before .before .before .before .before .e .given in
-    finished-edge (stateOf (a .w .now)) (a .v) (a .lo) (a .hi) (a .f) (a .g) (a .h) (stateOf (m .last .0)) (stateOf (c .before .before .keep .last .0)) (k .0 .0)
+    finished-edge (stateOf (a .w .now)) (a .v) (a .lo) (a .hi) (a .f) (a .g) (a .h) (stateOf (m .last .0))
+    (stateOf (c .before .before .keep .last .0)) (k .0 .0)
     (ap (left (m .last .0)) (sym (k .1)) ∙ m .ensures) (c .before .before .keep .ensures)
 
 returns-2 : tie.Need-returns-2

@@ -10,7 +10,8 @@ returns : tie.Need-returns
 returns c =
     let a = c .before .before .before .before .before .before .before .before .args in
     let p = c .before .before .before .before .before .pay in
-    looked-some (stateOf (a .w .now)) (stateOf (p .last .0)) (a .f) (a .g) (a .h) (p .ensures .0) (c .entry .result) (sym (p .ensures .1) ∙ c .before .before .if1 .taken) (c .entry .ensures)
+    looked-some (stateOf (a .w .now)) (stateOf (p .last .0)) (a .f) (a .g) (a .h) (p .ensures .0) (c .entry .result)
+    (sym (p .ensures .1) ∙ c .before .before .if1 .taken) (c .entry .ensures)
 
 returns-2 : tie.Need-returns-2
 returns-2 c =

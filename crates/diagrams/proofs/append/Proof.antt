@@ -11,31 +11,67 @@ use Rattle.diagrams.proofs.append.Statement.{statement}
 use Rattle.diagrams.proofs.append.Tie as tie
 
 add-requires : tie.Need-add-requires
-add-requires c κs = (c .before .before .before .before .before .before .before .before .before .before .before .before .pre, omega (arith, c .before .before .before .before .before .before .before .before .before .get .ensures, c .before .before .before .before .before .before .before .before .room .ensures, c .before .before .before .before .before .before .before .if1 .taken))
+add-requires c κs = (
+  c .before .before .before .before .before .before .before .before .before .before .before .before .pre,
+  omega (
+    arith,
+    c .before .before .before .before .before .before .before .before .before .get .ensures,
+    c .before .before .before .before
+        .before .before .before .before .room .ensures,
+    c .before .before .before .before .before .before .before .if1 .taken,
+  ),
+)
 
 returns : tie.Need-returns
 returns c =
-    let a = c .before .before .before .before .before .before .before .before .before .before .before .before .before .before .before .before .args in
+    let a = c .before .before .before .before .before .before .before .before .before .before .before .before .before .before .before
+    .before .args in
     let s = stateOf (a .w .now) in
-    let e : c .before .before .before .before .before .before .before .before .before .before .before .before .before .get .result ≡ length (s .nodes) = c .before .before .before .before .before .before .before .before .before .before .before .before .before .get .ensures ∙ sym (count-is (a .w .now)) in
-    appended-new s (a .h) (a .v) (a .lo) (a .hi) (omega (arith, e, room-is (a .w .now), c .before .before .before .before .before .before .before .before .before .before .before .before .room .ensures, c .before .before .before .before .before .before .before .before .before .before .before .if1 .taken)) (stateOf (c .before .before .before .add .last .0)) (c .edge-to .result)
-    (sym (c .before .before .before .before .before .before .before .before .before .is-above .ensures) ∙ c .before .before .before .before .before .before .before .before .if2 .taken) (sym (c .before .before .before .before .before .before .is-above2 .ensures) ∙ c .before .before .before .before .before .if3 .taken) (c .before .before .before .add .ensures)
+    let e : c .before .before .before .before .before .before .before .before .before .before .before .before .before .get .result ≡
+    length (s .nodes) = c .before .before .before .before .before .before .before .before .before .before .before .before .before .get
+    .ensures ∙ sym (count-is (a .w .now)) in
+    appended-new s (a .h) (a .v) (a .lo) (a .hi) (omega (
+      arith,
+      e,
+      room-is
+          (a .w .now),
+      c .before .before .before .before .before .before .before .before .before .before .before .before .room .ensures,
+      c
+          .before .before .before .before .before .before .before .before .before .before .before .if1 .taken,
+    ))
+    (stateOf (c .before .before .before .add .last .0)) (c .edge-to .result)
+    (sym (c .before .before .before .before .before .before .before .before .before .is-above .ensures)
+    ∙ c .before .before .before .before .before .before .before .before .if2 .taken)
+    (sym (c .before .before .before .before .before .before .is-above2 .ensures) ∙ c .before .before .before .before .before .if3 .taken)
+    (c .before .before .before .add .ensures)
     (c .edge-to .ensures ∙ ap edgeTo e)
 
 returns-2 : tie.Need-returns-2
 returns-2 c =
     let a = c .before .before .before .before .before .before .before .before .before .before .before .args in
     let s = stateOf (a .w .now) in
-    let e : c .before .before .before .before .before .before .before .before .get .result ≡ length (s .nodes) = c .before .before .before .before .before .before .before .before .get .ensures ∙ sym (count-is (a .w .now)) in
-    appended-high s (a .h) (a .v) (a .lo) (a .hi) (omega (arith, e, room-is (a .w .now), c .before .before .before .before .before .before .before .room .ensures, c .before .before .before .before .before .before .if1 .taken))
-    (sym (c .before .before .before .before .is-above .ensures) ∙ c .before .before .before .if2 .taken) (sym (c .before .is-above2 .ensures) ∙ c .if3 .left)
+    let e : c .before .before .before .before .before .before .before .before .get .result ≡ length
+    (s .nodes) = c .before .before .before .before .before .before .before .before .get .ensures ∙ sym (count-is (a .w .now)) in
+    appended-high s (a .h) (a .v) (a .lo) (a .hi) (omega (
+      arith,
+      e,
+      room-is
+          (a .w .now),
+      c .before .before .before .before .before .before .before .room .ensures,
+      c .before .before .before .before .before
+          .before .if1 .taken,
+    ))
+    (sym (c .before .before .before .before .is-above .ensures) ∙ c .before .before .before .if2 .taken)
+    (sym (c .before .is-above2 .ensures) ∙ c .if3 .left)
 
 returns-3 : tie.Need-returns-3
 returns-3 c =
     let a = c .before .before .before .before .before .before .before .before .args in
     let s = stateOf (a .w .now) in
-    let e : c .before .before .before .before .before .get .result ≡ length (s .nodes) = c .before .before .before .before .before .get .ensures ∙ sym (count-is (a .w .now)) in
-    appended-low s (a .h) (a .v) (a .lo) (a .hi) (omega (arith, e, room-is (a .w .now), c .before .before .before .before .room .ensures, c .before .before .before .if1 .taken))
+    let e : c .before .before .before .before .before .get .result ≡ length
+    (s .nodes) = c .before .before .before .before .before .get .ensures ∙ sym (count-is (a .w .now)) in
+    appended-low s (a .h) (a .v) (a .lo) (a .hi) (omega
+    (arith, e, room-is (a .w .now), c .before .before .before .before .room .ensures, c .before .before .before .if1 .taken))
     (sym (c .before .is-above .ensures) ∙ c .if2 .left)
 
 returns-4 : tie.Need-returns-4

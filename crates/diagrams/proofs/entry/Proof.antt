@@ -15,15 +15,18 @@ returns c =
     let a = c .before .before .before .before .before .before .before .before .args in
     let b = c .before .before .before .before .before .before .bucket in
     sym
-    (entry-in (a .w .now) (a .f) (a .g) (a .h) (b .result) (4 * (b .result) + 4) (b .ensures .0) refl (c .before .before .before .before .before .if1 .taken)
-    ∙ ap (λ (t : Bool). cond t (hint-variants.Edge (getD (a .w .now) (4 * (b .result) + 4 + 3) 0)) hint-variants.Nothing) (c .before .if2 .taken))
+    (entry-in (a .w .now) (a .f) (a .g) (a .h) (b .result) (4 * (b .result) + 4) (b .ensures .0) refl
+    (c .before .before .before .before .before .if1 .taken)
+    ∙ ap (λ (t : Bool). cond t (hint-variants.Edge (getD (a .w .now) (4 * (b .result) + 4 + 3) 0)) hint-variants.Nothing)
+    (c .before .if2 .taken))
 
 returns-2 : tie.Need-returns-2
 returns-2 c =
     let a = c .before .before .before .before .before .before .before .args in
     let b = c .before .before .before .before .before .bucket in
     sym
-    (entry-in (a .w .now) (a .f) (a .g) (a .h) (b .result) (4 * (b .result) + 4) (b .ensures .0) refl (c .before .before .before .before .if1 .taken)
+    (entry-in (a .w .now) (a .f) (a .g) (a .h) (b .result) (4 * (b .result) + 4) (b .ensures .0) refl
+    (c .before .before .before .before .if1 .taken)
     ∙ ap (λ (t : Bool). cond t (hint-variants.Edge (getD (a .w .now) (4 * (b .result) + 4 + 3) 0)) hint-variants.Nothing) (c .if2 .left))
 
 returns-3 : tie.Need-returns-3

@@ -29,7 +29,8 @@ returns : tie.Need-returns Inv-loop μ-loop
 returns c =
     let a = c .before .before .before .before .before .args in
     let l = c .before .before .loop in
-    sym (found-end (stateOf (a .w .now) .nodes) (a .v) (a .lo) (a .hi) (l .left) (l .left - 1) (l .at) (omega arith) (c .if1 .taken)) ∙ l .inv
+    sym (found-end (stateOf (a .w .now) .nodes) (a .v) (a .lo) (a .hi) (l .left) (l .left - 1) (l .at) (omega arith) (c .if1 .taken))
+    ∙ l .inv
 
 returns-2 : tie.Need-returns-2 Inv-loop μ-loop
 returns-2 c =
@@ -37,7 +38,8 @@ returns-2 c =
     let l = c .before .before .before .before .before .loop in
     let n = c .before .before .read in
     sym
-    (found-yes (stateOf (a .w .now) .nodes) (a .v) (a .lo) (a .hi) (l .left) (l .left - 1) (l .at) (omega arith) (c .before .before .before .if1 .left)
+    (found-yes (stateOf (a .w .now) .nodes) (a .v) (a .lo) (a .hi) (l .left) (l .left - 1) (l .at) (omega arith)
+    (c .before .before .before .if1 .left)
     (ap (λ (x : Vertex). isNode x (a .v) (a .lo) (a .hi)) (sym (n .ensures)) ∙ sym (c .before .is-node .ensures) ∙ c .if2 .taken))
     ∙ l .inv
 

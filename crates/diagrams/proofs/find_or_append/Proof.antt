@@ -18,7 +18,8 @@ returns c =
     let b = c .before .before .before .before .before .bucket in
     let s = stateOf (a .w .now) in
     found-here s (a .v) (a .lo) (a .hi) (b .result) (c .before .before .before .head .result) (c .before .before .find .result)
-    (b .ensures .0 ∙ ap (λ (n : ℕ). bucketOf n (a .lo) (a .hi) (a .v)) (sym (length-heads (a .w .now)))) (c .before .before .before .head .ensures) (c .before .before .find .ensures)
+    (b .ensures .0 ∙ ap (λ (n : ℕ). bucketOf n (a .lo) (a .hi) (a .v)) (sym (length-heads (a .w .now))))
+    (c .before .before .before .head .ensures) (c .before .before .find .ensures)
     (c .edge-to .result) (c .before .if1 .taken) (c .edge-to .ensures)
 
 append-requires : tie.Need-append-requires
@@ -29,8 +30,10 @@ returns-2 c =
     let a = c .before .before .before .before .before .before .before .before .before .before .args in
     let b = c .before .before .before .before .before .before .before .before .bucket in
     let s = stateOf (a .w .now) in
-    found-nowhere s (a .v) (a .lo) (a .hi) (b .result) (c .before .before .before .before .before .before .head .result) (c .before .before .before .before .before .find .result)
-    (b .ensures .0 ∙ ap (λ (n : ℕ). bucketOf n (a .lo) (a .hi) (a .v)) (sym (length-heads (a .w .now)))) (c .before .before .before .before .before .before .head .ensures) (c .before .before .before .before .before .find .ensures)
+    found-nowhere s (a .v) (a .lo) (a .hi) (b .result) (c .before .before .before .before .before .before .head .result)
+    (c .before .before .before .before .before .find .result)
+    (b .ensures .0 ∙ ap (λ (n : ℕ). bucketOf n (a .lo) (a .hi) (a .v)) (sym (length-heads (a .w .now))))
+    (c .before .before .before .before .before .before .head .ensures) (c .before .before .before .before .before .find .ensures)
     _ (c .before .before .before .before .if1 .left) (c .before .before .append .ensures)
 
 pub find-or-append-spec : {M : Type 1} → statement M

@@ -14,14 +14,22 @@ returns-2 c =
     let a = c .before .before .before .before .before .before .before .before .before .before .before .before .args in
     let m = c .before .before .before .before .before .before .find-or-append in
     let k = c .before .before .e .given in
-    made-edge (stateOf (a .w .now)) (a .v) (a .lo) (a .hi) (c .before .before .before .before .before .before .before .before .flip .result) (c .before .before .before .before .before .before .before .flip2 .result) (c .before .before .before .before .before .before .before .before .before .before .if1 .left) (c .before .before .before .before .before .before .before .before .flip .ensures) (c .before .before .before .before .before .before .before .flip2 .ensures)
+    made-edge (stateOf (a .w .now)) (a .v) (a .lo) (a .hi)
+    (c .before .before .before .before .before .before .before .before .flip .result)
+    (c .before .before .before .before .before .before .before .flip2 .result)
+    (c .before .before .before .before .before .before .before .before .before .before .if1 .left)
+    (c .before .before .before .before .before .before .before .before .flip .ensures)
+    (c .before .before .before .before .before .before .before .flip2 .ensures)
     (stateOf (m .last .0)) (k .0 .0) (c .flip3 .result) (ap (left (m .last .0)) (sym (k .1)) ∙ m .ensures) (c .flip3 .ensures)
 
 returns-3 : tie.Need-returns-3
 returns-3 c =
     let a = c .before .before .before .before .before .before .before .before .before .before .args in
     let m = c .before .before .before .before .find-or-append in
-    made-full (stateOf (a .w .now)) (a .v) (a .lo) (a .hi) (c .before .before .before .before .before .before .flip .result) (c .before .before .before .before .before .flip2 .result) (c .before .before .before .before .before .before .before .before .if1 .left) (c .before .before .before .before .before .before .flip .ensures) (c .before .before .before .before .before .flip2 .ensures)
+    made-full (stateOf (a .w .now)) (a .v) (a .lo) (a .hi) (c .before .before .before .before .before .before .flip .result)
+    (c .before .before .before .before .before .flip2 .result)
+    (c .before .before .before .before .before .before .before .before .if1 .left)
+    (c .before .before .before .before .before .before .flip .ensures) (c .before .before .before .before .before .flip2 .ensures)
     (stateOf (m .last .0)) (ap (left (m .last .0)) (sym (c .enum-told .given .1)) ∙ m .ensures)
 
 pub node-spec : {M : Type 1} → statement M

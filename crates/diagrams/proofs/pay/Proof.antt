@@ -11,15 +11,21 @@ use Rattle.diagrams.proofs.pay.Tie as tie
 
 returns : tie.Need-returns
 returns c =
-    let a = c .before .before .before .before .args in
-    (paid-none (a .w .now) (a .n) (omega (arith, c .before .get .ensures, c .if1 .taken)), not-paid (a .w .now) (a .n) (omega (arith, c .before .get .ensures, c .if1 .taken)))
+    let a = c .before .before .before .before .args in (
+      paid-none (a .w .now) (a .n) (omega (arith, c .before .get .ensures, c .if1 .taken)),
+      not-paid (a .w .now) (a .n)
+          (omega (arith, c .before .get .ensures, c .if1 .taken)),
+    )
 
 returns-2 : tie.Need-returns-2
 returns-2 c =
     let a = c .before .before .before .before .before .before .before .before .args in (
-      ap stateOf (c .before .before .put .ensures ∙ ap (λ (x : ℕ). set (a .w .now) 1 (x - a .n)) (c .before .before .before .before .before .get .ensures))
-          ∙ paid-some (a .w .now) (a .n) (omega (arith, c .before .before .before .before .before .get .ensures, c .before .before .before .before .if1 .left)),
-      is-paid (a .w .now) (a .n) (omega (arith, c .before .before .before .before .before .get .ensures, c .before .before .before .before .if1 .left)),
+      ap stateOf (c .before .before .put .ensures ∙ ap (λ (x : ℕ). set (a .w .now) 1 (x - a .n))
+          (c .before .before .before .before .before .get .ensures))
+          ∙ paid-some (a .w .now) (a .n) (omega
+          (arith, c .before .before .before .before .before .get .ensures, c .before .before .before .before .if1 .left)),
+      is-paid (a .w .now) (a .n) (omega
+          (arith, c .before .before .before .before .before .get .ensures, c .before .before .before .before .if1 .left)),
     )
 
 pub pay-spec : {M : Type 1} → statement M

@@ -1,0 +1,4 @@
+-- What the contracts of `collection` cite. Assumes nothing.
+pub mod Collecting
+pub mod Zeros
+pub mod Meaning
