@@ -2,4 +2,5 @@
 pub mod Room
 pub mod Follow
 pub mod Rows
+pub mod Collections
 pub mod Sound

@@ -22,7 +22,6 @@ use Rattle.conjunction.proofs.Sound.{both-right, either-right}
 use Rattle.substitution.specs.Substitution.{substituted}
 use Rattle.substitution.proofs.Sound.{substituted-right}
 use Rattle.collection.specs.Collecting.{Collection, collected}
-use Rattle.collection.proofs.Sound.{Collects, collected-right}
 use Rattle.machine.specs.Machine.{Machine}
 use Rattle.backward.specs.Sets.{anyBelow, ahead, nearest, Inside}
 use Rattle.backward.proofs.Frames.{EmptyBelow}
@@ -30,6 +29,7 @@ use Rattle.state_sets.specs.Shape.{rowAt}
 use Rattle.state_sets.specs.Sets.{Sets, Tried, tried, onDone, whereDone, nextOf, before, rowPart, withRow, partIn, addedRow, setIn, closed, stepOf, afterCollection, onKept, orAgain, again, turns, advanced, startsIn}
 use Rattle.state_sets.specs.Meaning.{Values, valuesOf, Coded, Alike, RowsOf, leadsTo, rowValue, adds, metBefore, Standing, vectorsFrom, termsOf, Tabled, Held}
 use Rattle.state_sets.proofs.Room.{row-is}
+use Rattle.state_sets.proofs.Collections.{collects}
 use Rattle.state_sets.proofs.Rows.{after-row, row-adds, row-adds-first, all-rows, adds-nearest}
 
 -- ---- values of words
@@ -478,7 +478,8 @@ module _ (level : ℕ) (m : Machine) (n : ℕ) (inside : Inside m n) (at : ℕ �
   unfolding valuesOf
   collected-held next k z h e =
       let g = collected (z .state) (z .table) in
-      let c = collected-right (termsOf level vars rows (z .table)) (z .state) (h .tabled .good) (z .table) (h .tabled .edges) e in
+      let c =
+      collects (termsOf level vars rows (z .table)) (z .state) (h .tabled .good) (z .table) (omega (arith, h .room)) (h .tabled .edges) e in
       record {
         room = omega (arith, h .room, c .lengths);
         tabled =
