@@ -23,14 +23,14 @@ use Rattle.diagrams.specs.Meaning.{Assignment, value, In, Front, Terms, withVec
 use Rattle.diagrams.proofs.Values.{front-in}
 use Rattle.diagrams.proofs.Sound.{vector-more}
 use Rattle.collection.specs.Collecting.{collected}
-use Rattle.collection.proofs.Sound.{Collects, collected-right}
 use Rattle.diagram_rows.specs.Rows.{Plan, planOf, planLength, Filled, filled, rowMade, rowIn}
 use Rattle.diagram_rows.specs.Meaning.{Matches, RowMeans, Got, no-words, has-words, RightFilled}
 use Rattle.diagram_rows.proofs.Sound.{row-right}
 use Rattle.state_sets.specs.Shape.{rowAt}
 use Rattle.state_sets.specs.Sets.{Sets, Tried, nextOf, turns}
 use Rattle.state_sets.specs.Meaning.{Values, valuesOf, RowsOf, Standing, Tabled, vectorsFrom, termsOf, Held}
-use Rattle.state_sets.proofs.Room.{row-is, row-inside, row-order}
+use Rattle.state_sets.proofs.Room.{row-is, row-inside}
+use Rattle.state_sets.proofs.Collections.{collects}
 use Rattle.state_sets.proofs.Sound.{values-front, values-at, word-in, Did, turns-right}
 use Rattle.set_stage.specs.Plans.{codeOf, Among, RowValued, RowsMade}
 use Rattle.set_stage.specs.Table.{splice, rowStored, rowStoredIn, rowPut, rowsPut}
@@ -105,7 +105,7 @@ module _ (level : ℕ) (part : Part) (b : ℕ) (plan : List ℕ) (whole : planLe
       → Laid k (record { state = collected (z .state) (z .table) .state; table = collected (z .state) (z .table) .roots })
   unfolding valuesOf
   laid-collected k z h e =
-      let q = collected-right (bare level) (z .state) (h .good) (z .table) (h .edges) e in
+      let q = collects (bare level) (z .state) (h .good) (z .table) (omega (arith, h .room)) (h .edges) e in
       record {
         good = q .good (bare level) (λ tag v. omega (arith, q .roots-in 0));
         edges = q .roots-in;

@@ -44,13 +44,15 @@ resetWord c j = cond (isFree (latchAt c j)) 0 (cond (eqb (latchAt c j .reset) 1)
 unfoldable pub baseOf : Circuit → List ℕ → List ℕ
 baseOf c latches = map (resetWord c) latches
 
--- the values of row k of a table are those of a plan's row k: in every frame whose latches are those of the assignment and whose inputs that
--- matter are the bits of k
+-- the values of row k of a table are those of a plan's row k: in every frame whose latches are those of the assignment and whose inputs
+-- that matter are the bits of k
 pub record RowValued (c : Circuit) (b : ℕ) (p : Plan) (k : ℕ) (vs : Values) : Type 0 where
   pub next : (v : ℕ) → v < length (p .latches) → (w : ℕ → Bool) (x : Assignment) → Matches c p k w x
       → vs (rowAt (length (p .latches)) k + v) x ≡ frames.value w (latchAt c (getD (p .latches) v 0) .next)
-  pub con : (w : ℕ → Bool) (x : Assignment) → Matches c p k w x → vs (rowAt (length (p .latches)) k + length (p .latches)) x ≡ constrainedIn c w
-  pub hit : (w : ℕ → Bool) (x : Assignment) → Matches c p k w x → vs (rowAt (length (p .latches)) k + length (p .latches) + 1) x ≡ hitIn c b w
+  pub con : (w : ℕ → Bool) (x : Assignment) → Matches c p k w x
+      → vs (rowAt (length (p .latches)) k + length (p .latches)) x ≡ constrainedIn c w
+  pub hit : (w : ℕ → Bool) (x : Assignment) → Matches c p k w x
+      → vs (rowAt (length (p .latches)) k + length (p .latches) + 1) x ≡ hitIn c b w
 
 -- the first k rows
 abbrev pub RowsMade : Circuit → ℕ → Plan → ℕ → Values → Type 0

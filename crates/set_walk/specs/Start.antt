@@ -103,7 +103,8 @@ pub record StartsOf (m : Machine) (at : ℕ → Assignment) (vars : ℕ) (frees 
   pub past : (s v : ℕ) → vars ≤ v → at s v ≡ false
   pub clear : (u : ℕ) → u < length frees → getD frees u 0 < vars → getD base (getD frees u 0) 0 ≡ 0
   pub apart : (u i : ℕ) → u < length frees → i < length frees → getD frees u 0 < vars → getD frees u 0 ≡ getD frees i 0 → u ≡ i
-  pub free : (y u : ℕ) → y < m .starts → u < length frees → getD frees u 0 < vars → at (m .start y) (getD frees u 0) ≡ freeBit (length frees) y u
+  pub free : (y u : ℕ) → y < m .starts → u < length frees → getD frees u 0 < vars
+      → at (m .start y) (getD frees u 0) ≡ freeBit (length frees) y u
   pub fixed : (y v : ℕ) → y < m .starts → v < vars → ((u : ℕ) → u < length frees → getD frees u 0 ≡ v → ⊥)
       → at (m .start y) v ≡ nonzero (getD base v 0)
 
