@@ -58,7 +58,7 @@ settle zero c b ms = ms
 settle (suc n) c b ms = cond (closed c b ms) ms (settle n c b (spread c ms))
 
 -- 129 rounds at most. Where gates stand after their operands a round goes through a whole frame, so that each round but the last marks a
--- latch, of which a search by states has 32 at most; in another order a round may reach only some of the gates
+-- latch; in another order a round may reach only some of the gates. Where the rounds do not suffice all latches are kept
 unfoldable pub marks : Circuit → ℕ → List ℕ
 marks c b =
     settle 129 c b (markBelow (λ i. getD (c .constraints) i 0) (length (c .constraints)) (mark (getD (c .bads) b 0) (replicate 4097 0)))

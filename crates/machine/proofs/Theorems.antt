@@ -12,7 +12,7 @@ use lib.Dec.{T, eqb, leb}
 use lib.ListN.{length, getD}
 use Rattle.meaning.proofs.Decisions.{Least, least-below}
 use Rattle.machine.specs.Machine.{Machine, prefixes, stepped, stateAfter, hitFrom, hitsAt}
-use Rattle.machine.specs.Layers.{Entry, stateOf, placeOf, started, slotPlace, slotHit, expanded, layerSlots, leastBelow, Layered, hit, clear, gaveUp, layersFrom, layered}
+use Rattle.machine.specs.Layers.{Entry, stateOf, placeOf, started, slotPlace, slotHit, expanded, layerSlots, leastBelow, Layered, hit, clear, never, gaveUp, layersFrom, layered}
 use Rattle.machine.proofs.Starts.{Known, Layer, layer-start}
 use Rattle.machine.proofs.Expand.{Fair, came, over, rest, under, quotient-below, Silent, all-quiet, layer-next, prefix-fits}
 
@@ -157,6 +157,7 @@ module _ (m : Machine) (f : Fair m) where
   abbrev pub Says : ℕ → Layered → Type 0
   Says end (hit t x) = (t < end) × QuietBefore m t × FirstHit m t x
   Says end clear = QuietBefore m end
+  Says end never = (t : ℕ) → Quiet m t
   Says end (gaveUp t) = (t ≤ end) × QuietBefore m t
 
   module _ (quota : ℕ → ℕ) where
@@ -174,10 +175,10 @@ module _ (m : Machine) (f : Fair m) where
             → (QuietBefore m (suc t) → Layer m (suc t) (expanded m es lo (layerSlots m es lo)) (length es)
             → Says end (layersFrom m quota n (suc t) (expanded m es lo (layerSlots m es lo)) (length es)))
             → (p q : Bool) → eqb (length (expanded m es lo (layerSlots m es lo))) (length es) ≡ q
-            → Says end (cond p (cond q clear (layersFrom m quota n (suc t) (expanded m es lo (layerSlots m es lo)) (length es))) (gaveUp (suc t)))
+            → Says end (cond p (cond q never (layersFrom m quota n (suc t) (expanded m es lo (layerSlots m es lo)) (length es))) (gaveUp (suc t)))
         rest-of s k false q w = (omega arith, before-more t b (frame-quiet t es lo layer s))
         rest-of s k true true w =
-            λ u l. elim (decLt t u) [
+            λ u. elim (decLt t u) [
               | yes h ↦ quiet-after t es lo layer s (eqb-true _ _ w) u h
               | no h ↦ before-more t b (frame-quiet t es lo layer s) u (omega arith)
             ]
@@ -190,7 +191,7 @@ module _ (m : Machine) (f : Fair m) where
               | some z ↦ hit t (slotPlace m es lo z)
               | none ↦
                   cond (leb (length (expanded m es lo (layerSlots m es lo))) (quota t))
-                  (cond (eqb (length (expanded m es lo (layerSlots m es lo))) (length es)) clear
+                  (cond (eqb (length (expanded m es lo (layerSlots m es lo))) (length es)) never
                   (layersFrom m quota n (suc t) (expanded m es lo (layerSlots m es lo)) (length es)))
                   (gaveUp (suc t))
             ])
@@ -198,7 +199,8 @@ module _ (m : Machine) (f : Fair m) where
         go none h k =
             rest-of h k (leb (length (expanded m es lo (layerSlots m es lo))) (quota t)) (eqb (length (expanded m es lo (layerSlots m es lo))) (length es)) refl
 
-    -- a hit is the first of the first frame that has one; clear: no frame before n has a hit; given up at t: no frame before t has one
+    -- a hit is the first of the first frame that has one; clear: no frame before n has a hit; never: no frame has one; given up at t: no frame
+    -- before t has one
     pub layered-says : (n : ℕ) → Says n (layered m quota n)
     unfolding layered
     layered-says n = go (leb (length (started m (m .starts))) (quota 0))

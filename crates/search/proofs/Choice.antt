@@ -22,9 +22,10 @@ use Rattle.influence.specs.Cone.{partOf}
 use Rattle.influence.proofs.Cone.{part-closed}
 use Rattle.transitions.specs.Transitions.{machineOf}
 use Rattle.transitions.proofs.Bridge.{fair, reaches-of, prefixes-of}
+use Rattle.reachable.specs.declared.Limit.{Limit}
 use Rattle.reachable.specs.Quota.{quota}
 use Rattle.reachable.specs.Layers.{layered}
-use Rattle.search.specs.Chosen.{outcomeOf, chosenFrom, byLayers, chosen}
+use Rattle.search.specs.Chosen.{outcomeOf, chosenFrom, layersLimit, byLayers, chosen}
 use Rattle.search.specs.Steps.{Answered}
 
 module _ (q : Question) (f : ℕ → Decision) (k D : ℕ) (right : (t : ℕ) → decisions.Says (q .hitting t) (q .places t) 0 D (f t)) where
@@ -65,6 +66,7 @@ module _ (c : Circuit) (b k D : ℕ) where
   layers-permitted (Layered.hit t x) (l, q, f) =
       found-in (question c b) k D t (record { within = omega arith; quiet = quiet-of t q; place = x; first = first-of (l, q, f) })
   layers-permitted Layered.clear q = none-in (question c b) k D k (record { bound = refl; quiet = quiet-of (k + 1) q })
+  layers-permitted Layered.never q = none-in (question c b) k D k (record { bound = refl; quiet = quiet-of (k + 1) (λ u l. q u) })
   layers-permitted (Layered.gaveUp t) (l, q) =
       from (question c b) (λ u. decisionOf c b u D) k D (λ u. decided-says c b u D (decisionOf c b u D) refl) (k + 1 - t) t (omega arith)
       (quiet-of t q)
@@ -72,40 +74,53 @@ module _ (c : Circuit) (b k D : ℕ) where
   -- the chosen outcome is permitted
   pub chosen-permitted : T (permitted c b k D (chosen c b k D))
   unfolding chosen layered
-  chosen-permitted = layers-permitted (layered (partOf c b) b k)
-      (layered-says (machineOf (partOf c b) b) (fair (partOf c b) b) (quota (partOf c b)) (k + 1))
+  chosen-permitted = layers-permitted (layered (partOf c b) b 0 layersLimit k)
+      (layered-says (machineOf (partOf c b) b) (fair (partOf c b) b) (quota (partOf c b) 0 layersLimit) (k + 1))
+
+  -- never: no frame at all has a hit, however late, whatever was known and whatever the limit
+  pub never-quiet : (first : ℕ) (limit : Limit) → layered (partOf c b) b first limit k ≡ Layered.never → (t : ℕ) → Quiet (question c b) t
+  unfolding layered
+  never-quiet first limit e t =
+      quiet-of t
+      (λ u l.
+      subst (Says (machineOf (partOf c b) b) (fair (partOf c b) b) (k + 1)) e
+      (layered-says (machineOf (partOf c b) b) (fair (partOf c b) b) (quota (partOf c b) first limit) (k + 1)) u)
 
   -- the outcome is what frames t to k give
   abbrev pub Left : ℕ → Type 0
   Left t = chosen c b k D ≡ chosenFrom (λ u. decisionOf c b u D) k t (k + 1 - t)
 
   -- the outcome is what the layers say
-  pub chosen-found : {t x : ℕ} → layered (partOf c b) b k ≡ Layered.hit t x → chosen c b k D ≡ Outcome.found t
+  pub chosen-found : {t x : ℕ} → layered (partOf c b) b 0 layersLimit k ≡ Layered.hit t x → chosen c b k D ≡ Outcome.found t
   unfolding chosen
   chosen-found e = ap (byLayers c b k D) e
 
   -- and the first hit that they say is the one that is shown
-  pub layers-shown : {t x : ℕ} → layered (partOf c b) b k ≡ Layered.hit t x → witness b (run c t x) ≡ firstWitness c b t
+  pub layers-shown : {t x : ℕ} → layered (partOf c b) b 0 layersLimit k ≡ Layered.hit t x → witness b (run c t x) ≡ firstWitness c b t
   unfolding layered
   layers-shown {t} {x} e =
       sym
       (first-witness c b t x
       (first-of (subst (Says (machineOf (partOf c b) b) (fair (partOf c b) b) (k + 1)) e
-      (layered-says (machineOf (partOf c b) b) (fair (partOf c b) b) (quota (partOf c b)) (k + 1)))))
+      (layered-says (machineOf (partOf c b) b) (fair (partOf c b) b) (quota (partOf c b) 0 layersLimit) (k + 1)))))
 
-  pub chosen-none : layered (partOf c b) b k ≡ Layered.clear → chosen c b k D ≡ Outcome.none k
+  pub chosen-none : layered (partOf c b) b 0 layersLimit k ≡ Layered.clear → chosen c b k D ≡ Outcome.none k
   unfolding chosen
   chosen-none e = ap (byLayers c b k D) e
 
-  pub chosen-left : {t : ℕ} → layered (partOf c b) b k ≡ Layered.gaveUp t → Left t
+  pub chosen-never : layered (partOf c b) b 0 layersLimit k ≡ Layered.never → chosen c b k D ≡ Outcome.none k
+  unfolding chosen
+  chosen-never e = ap (byLayers c b k D) e
+
+  pub chosen-left : {t : ℕ} → layered (partOf c b) b 0 layersLimit k ≡ Layered.gaveUp t → Left t
   unfolding chosen
   chosen-left e = ap (byLayers c b k D) e
 
   -- they are given up at a frame up to the one after the bound
-  pub left-within : {t : ℕ} → layered (partOf c b) b k ≡ Layered.gaveUp t → t ≤ k + 1
+  pub left-within : {t : ℕ} → layered (partOf c b) b 0 layersLimit k ≡ Layered.gaveUp t → t ≤ k + 1
   unfolding layered
   left-within e = subst (Says (machineOf (partOf c b) b) (fair (partOf c b) b) (k + 1)) e
-      (layered-says (machineOf (partOf c b) b) (fair (partOf c b) b) (quota (partOf c b)) (k + 1)) .0
+      (layered-says (machineOf (partOf c b) b) (fair (partOf c b) b) (quota (partOf c b) 0 layersLimit) (k + 1)) .0
 
   -- what frame t decides
   unroll : (t : ℕ) → t ≤ k → chosenFrom (λ u. decisionOf c b u D) k t (k + 1 - t) ≡ outcomeOf (decisionOf c b t D) t
