@@ -143,7 +143,8 @@ module _ (c : Part) (b lo hi : ℕ) (tab : Table) (quota : ℕ) (r₀ : List ℕ
 
         holds : {n : ℕ} → Asking q n r → Holds rows (suc t) (length es) tab quota n r (expanded (machineOf c b) es lo (layerSlots
             (machineOf c b) es lo))
-        holds {n} k = subst (λ (x : ℕ). Holds rows (suc t) (length es) tab quota n r (expanded (machineOf c b) es lo x)) lt (k .holds t es h)
+        holds {n} k = subst (λ (x : ℕ). Holds rows (suc t) (length es) tab quota n r (expanded (machineOf c b) es lo x)) lt (k .holds t
+            es h)
 
         go : (met : Tally) → Asking q (countOf quota met) r → TallyFits quota met → AskedOf c b t lo tab quota r es (askedOf met)
         go (Records n) k w = (quiet k, holds k, w)

@@ -31,7 +31,8 @@ started-longer m y (suc d) =
     )
 
 -- a table that lost a state has lost one, whatever is met after it
-pub holds-lost : {rows t lo : ℕ} {tab : Table} {quota count : ℕ} {r : List ℕ} {es : List Entry} (fs : List Entry) → quota < count → length es ≤ length fs
+pub holds-lost : {rows t lo : ℕ} {tab : Table} {quota count : ℕ} {r : List ℕ} {es : List Entry} (fs : List Entry) → quota < count →
+    length es ≤ length fs
     → Holds rows t lo tab quota count r es → Holds rows t lo tab quota count r fs
 holds-lost fs l k h =
     record {

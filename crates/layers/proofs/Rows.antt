@@ -48,7 +48,8 @@ unfolding Leads
 leads rows width r t count e row x l w h = (l, w, (x, h, refl))
 
 -- one more, whose state is met
-pub rows-more : (next : ℕ → Option ℕ) (tab : Table) (quota count e first n : ℕ) (r : List ℕ) (met : ℕ) (r₁ : List ℕ) (s met₂ : ℕ) (r₂ : List ℕ)
+pub rows-more : (next : ℕ → Option ℕ) (tab : Table) (quota count e first n : ℕ) (r : List ℕ) (met : ℕ) (r₁ : List ℕ) (s met₂ : ℕ) (r₂ :
+    List ℕ)
     → RowsMet next tab quota count e first n r met r₁ → next n ≡ some s → Meets tab quota met s e (first + n) r₁ met₂ r₂
     → RowsMet next tab quota count e first (n + 1) r met₂ r₂
 unfolding metRows
@@ -62,7 +63,8 @@ rows-more next tab quota count e first n r met r₁ s met₂ r₂ a q m =
           let before = a .holds rows t lo x es h k (omega arith) tr in
           let tr₁ : Trace rows (tab .width) r₁ t e x = trace-kept rows (tab .width) r r₁ count (a .words) t e x k tr in
           let y = x * rows + (first + n) in
-          let after = holds-met before s e (first + n) y (leads rows (tab .width) r₁ t met e (first + n) x (omega (arith, a .longer)) (omega arith)
+          let after = holds-met before s e (first + n) y (leads rows (tab .width) r₁ t met e (first + n) x (omega (arith, a .longer))
+          (omega arith)
           tr₁) m in
           subst (λ (z : ℕ). Holds rows (suc t) lo tab quota met₂ r₂ (metRows next (λ p. x * rows + (first + p)) z es)) (sym (add-one n))
           (subst (λ (o : Option ℕ). Holds rows (suc t) lo tab quota met₂ r₂ (meet o y (metRows next (λ p. x * rows + (first + p)) n es)))
@@ -155,7 +157,8 @@ Dropped start numbers p left =
     (q : ℕ) → q < 64 → bit left q ≡ false → (bit start q ≡ false) ⊎ ((z : ℕ) × (z < p) × (bit start z ≡ true) × (numbers z ≡ numbers q))
 
 -- The first n rows of those that are left at the start are met.
-pub record Treated (start : ℕ) (numbers : ℕ → ℕ) (tab : Table) (quota count e first n : ℕ) (r : List ℕ) (met₁ left : ℕ) (r₁ : List ℕ) : Type 0
+pub record Treated (start : ℕ) (numbers : ℕ → ℕ) (tab : Table) (quota count e first n : ℕ) (r : List ℕ) (met₁ left : ℕ) (r₁ : List ℕ) :
+    Type 0
   where
     pub rows : RowsMet (leading start numbers) tab quota count e first n r met₁ r₁
     pub dropped : Dropped start numbers n left

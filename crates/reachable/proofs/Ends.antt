@@ -53,7 +53,8 @@ module _ (c : Part) (b first : ℕ) (limit : Limit) (k : ℕ) (records : List �
 
     -- what writing the free bits asks
     pub asks : k ≤ 255 → u ≤ 16 → size (c .circuit) k ≤ length records
-        → (t ≤ 255) × (row < 2 ^ i) × (u ≤ 16) × (i ≤ 16) × ((width c + 4) * e + (width c + 4) ≤ length records) × (u + i * (t + 1) ≤ length records)
+        → (t ≤ 255) × (row < 2 ^ i) × (u ≤ 16) × (i ≤ 16) × ((width c + 4) * e + (width c + 4) ≤ length records) × (u + i * (t + 1) ≤
+        length records)
     asks l h w = (
       omega (arith, p .within),
       subst (λ (x : ℕ). row < 2 ^ x) (sym is) (p .row-in),

@@ -101,17 +101,20 @@ module _ (c : Part) (b first : ℕ) (limit : Limit) (k : ℕ) where
   abbrev begun : List Entry
   begun = started m (2 ^ freeStarts (c .circuit))
 
-  opened : layered c b first limit k ≡ cond (leb (length begun) (quota c first limit 0)) (layersFrom m (quota c first limit) (k + 1) 0 begun 0) (gaveUp 0)
+  opened : layered c b first limit k ≡ cond (leb (length begun) (quota c first limit 0)) (layersFrom m (quota c first limit) (k + 1) 0
+      begun 0) (gaveUp 0)
   unfolding layered machineOf spec.layered
   opened = refl
 
   pub rest-start : length (started (machineOf c b) (2 ^ freeStarts (c .circuit))) ≤ quota c first limit 0
       → Rest 0 (started (machineOf c b) (2 ^ freeStarts (c .circuit))) 0
   rest-start l =
-      opened ∙ ap (λ (a : Bool). cond a (layersFrom m (quota c first limit) (k + 1) 0 begun 0) (gaveUp 0)) (le-leb (length begun) (quota c first limit 0) l)
+      opened ∙ ap (λ (a : Bool). cond a (layersFrom m (quota c first limit) (k + 1) 0 begun 0) (gaveUp 0)) (le-leb (length begun) (quota
+      c first limit 0) l)
       ∙ ap (λ (n : ℕ). layersFrom m (quota c first limit) n 0 begun 0) {x = k + 1} {y = k + 1 - 0} (omega arith)
 
-  pub rest-full : quota c first limit 0 < length (started (machineOf c b) (2 ^ freeStarts (c .circuit))) → layered c b first limit k ≡ gaveUp 0
+  pub rest-full : quota c first limit 0 < length (started (machineOf c b) (2 ^ freeStarts (c .circuit))) → layered c b first limit k ≡
+      gaveUp 0
   rest-full l = opened ∙ ap (λ (a : Bool). cond a (layersFrom m (quota c first limit) (k + 1) 0 begun 0) (gaveUp 0))
       (lt-leb (length begun) (quota c first limit 0) l)
 

@@ -86,7 +86,8 @@ module _ (c : Part) where
             let a = size-by t u l in
             let w : limit .unit * sizeBy c first t ≤ limit .unit * sizeBy c first u = mul-le-mul-left (limit .unit) a in
             let d = quotient-mono (16 * sizeBy c first t) (16 * sizeBy c first u) (width c + 4) (omega arith) (omega arith) in
-            let e = quotient-mono (workOf limit (sizeBy c first t)) (workOf limit (sizeBy c first u)) (effort c) effort-some (omega arith) in
+            let e = quotient-mono (workOf limit (sizeBy c first t)) (workOf limit (sizeBy c first u)) (effort c) effort-some (omega
+            arith) in
             omega arith
         go false = omega arith
 

@@ -50,7 +50,8 @@ module _ (c : Part) (b first : ℕ) (limit : Limit) (k : ℕ) where
     pub wide : p .width ≡ width c
 
   -- the start states
-  pub standing-start : (n met quota₀ : ℕ) (p : Table) (records : List ℕ) → p .width ≡ width c → quota₀ ≡ quota c first limit 0 → met ≤ quota₀ → n ≡ 2 ^ freeStarts (c .circuit)
+  pub standing-start : (n met quota₀ : ℕ) (p : Table) (records : List ℕ) → p .width ≡ width c → quota₀ ≡ quota c first limit 0 → met ≤
+      quota₀ → n ≡ 2 ^ freeStarts (c .circuit)
       → Holds (2 ^ length (c .circuit .inputs)) 0 0 p quota₀ met records (started (machineOf c b) n) → Standing 0 0 met p records
   standing-start n met quota₀ p records w q l e h =
       let es = started (machineOf c b) n in
@@ -59,19 +60,23 @@ module _ (c : Part) (b first : ℕ) (limit : Limit) (k : ℕ) where
       record {
         entries = started (machineOf c b) (2 ^ freeStarts (c .circuit));
         holds = subst (Holds (2 ^ length (c .circuit .inputs)) 0 0 p met met records) f
-            (holds-with met (omega (arith, h .quota-room, record-order (p .width + 4) met quota₀ l)) (omega (arith, h .quota-small)) l (omega arith) h);
+            (holds-with met (omega (arith, h .quota-room, record-order (p .width + 4) met quota₀ l)) (omega (arith, h .quota-small)) l
+            (omega arith) h);
         left = rest-start c b first limit k (omega (arith, ap length f));
         low = omega arith;
         wide = w;
       }
 
-  pub started-full : (n met quota₀ : ℕ) (p : Table) (records : List ℕ) → quota₀ ≡ quota c first limit 0 → quota₀ < met → n ≡ 2 ^ freeStarts (c .circuit)
-      → Holds (2 ^ length (c .circuit .inputs)) 0 0 p quota₀ met records (started (machineOf c b) n) → FoundOf c b first limit k records (Left 0)
+  pub started-full : (n met quota₀ : ℕ) (p : Table) (records : List ℕ) → quota₀ ≡ quota c first limit 0 → quota₀ < met → n ≡ 2 ^
+      freeStarts (c .circuit)
+      → Holds (2 ^ length (c .circuit .inputs)) 0 0 p quota₀ met records (started (machineOf c b) n) → FoundOf c b first limit k records
+      (Left 0)
   unfolding FoundOf
   started-full n met quota₀ p records q l e h =
       rest-full c b first limit k (omega (arith, h .lost l, ap (λ (x : ℕ). length (started (machineOf c b) x)) e))
 
-  pub standing-end : (t lo hi : ℕ) (p : Table) (records : List ℕ) → Standing t lo hi p records → k < t → FoundOf c b first limit k records Nowhere
+  pub standing-end : (t lo hi : ℕ) (p : Table) (records : List ℕ) → Standing t lo hi p records → k < t → FoundOf c b first limit k
+      records Nowhere
   unfolding FoundOf
   standing-end t lo hi p records s l = rest-end c b first limit k t (s .entries) lo (s .left) l
 
@@ -119,7 +124,8 @@ module _ (c : Part) (b first : ℕ) (limit : Limit) (k : ℕ) where
     module _ (records : List ℕ) {a : Asked}
         (asked : (u : ℕ) (xs : List Entry) → Holds (2 ^ length (c .circuit .inputs)) u lo p most hi r₀ xs
         → AskedOf c b u lo p most records xs a) where
-      pub case-hit : length records ≡ length r₀ → length (c .circuit .inputs) ≤ 16 → {e row : ℕ} → a ≡ Hit e row → FoundOf c b first limit k records (At t e row)
+      pub case-hit : length records ≡ length r₀ → length (c .circuit .inputs) ≤ 16 → {e row : ℕ} → a ≡ Hit e row → FoundOf c b first
+          limit k records (At t e row)
       unfolding AskedOf FoundOf
       case-hit same w {e} {row} q =
           let (z, f, y, tr, rl, sp, el) = subst (AskedOf c b t lo p most records es) q (asked t es standing-holds) in (
@@ -148,7 +154,12 @@ module _ (c : Part) (b first : ℕ) (limit : Limit) (k : ℕ) where
 
       pub case-last : {met : ℕ} → a ≡ Next met → met ≡ hi → FoundOf c b first limit k records Ended
       unfolding FoundOf
-      case-last e w = let m = met-case e in rest-last c b first limit k t es lo rest (s .within) (m .0) (omega (arith, m .2, m .1 .counted (m .2)))
+      case-last e w = let m = met-case e in rest-last c b first limit k t es lo rest (s .within) (m .0) (omega (
+        arith,
+        m .2,
+        m .1
+            .counted (m .2),
+      ))
           (omega (arith, m .1 .counted (m .2), counted))
 
       pub met-few : {met : ℕ} → a ≡ Next met → met ≤ most
@@ -164,7 +175,8 @@ module _ (c : Part) (b first : ℕ) (limit : Limit) (k : ℕ) where
             entries = all;
             holds = subst (λ (u : ℕ). Holds (2 ^ length (c .circuit .inputs)) u hi p met met records all) (sym (add-one t))
                 (subst (λ (n : ℕ). Holds (2 ^ length (c .circuit .inputs)) (suc t) n p met met records all) counted
-                (holds-with met (omega (arith, m .1 .quota-room, record-order (p .width + 4) met most h)) (omega (arith, s .few)) h (omega arith) (m .1)));
+                (holds-with met (omega (arith, m .1 .quota-room, record-order (p .width + 4) met most h)) (omega (arith, s .few)) h
+                (omega arith) (m .1)));
             left = subst (λ (n : ℕ). Rest c b first limit k (t + 1) all n) counted
                 (rest-more c b first limit k t es lo rest (s .within) (m .0) (omega arith) (λ x. w (omega (arith, counted))));
             wide = s .standing .wide;

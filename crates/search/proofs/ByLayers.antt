@@ -22,7 +22,12 @@ module _ (c : Circuit) (b k : ℕ) (work : List ℕ) (r : Layers) (h : LayersOf 
 
   pub of-hit : {t : ℕ} → r ≡ Hit t → FirstBits t
   unfolding LayersOf
-  of-hit e = let (x, s, l, f) = subst (LayersOf (partOf c b) b 0 layersLimit k work) e h in record { place = x; says = s; within = l; bits = f }
+  of-hit e = let (x, s, l, f) = subst (LayersOf (partOf c b) b 0 layersLimit k work) e h in record {
+    place = x;
+    says = s;
+    within = l;
+    bits = f;
+  }
 
   pub of-clear : r ≡ Clear → layered (partOf c b) b 0 layersLimit k ≡ Layered.clear
   unfolding LayersOf

@@ -15,7 +15,22 @@ use Rattle.nodes.proofs.Last.{last-zero, last-yes, last-no, last-eq}
 use Rattle.machine.specs.Layers.{Entry, noEntry, stateOf, placeOf, met, meet}
 use Rattle.states.specs.declared.Table.{Table}
 use Rattle.states.specs.Number.{numberAt, bucketOf}
-use Rattle.states.specs.Table.{field, inBucket, States, Linked, Buckets, Stored, Kept, Copied, Put, linkedIn, Cleared, Filled, Fits, Meets}
+use Rattle.states.specs.Table.{
+  field,
+  inBucket,
+  States,
+  Linked,
+  Buckets,
+  Stored,
+  Kept,
+  Copied,
+  Put,
+  linkedIn,
+  Cleared,
+  Filled,
+  Fits,
+  Meets,
+}
 use Rattle.states.specs.Trace.{Trace, Placed, Holds, Leads}
 use Rattle.states.proofs.Numbers.{number-same, bucket-small}
 use Rattle.states.proofs.Places.{record-before, record-order, place-same, not-head, head-same}
@@ -236,7 +251,11 @@ module _ (p : Table) (r q : List ℕ) (es : List Entry) (s y parent row : ℕ) (
       record-room : c * (n + 1) ≡ c * n + c
       record-room = let e : n + 1 ≡ suc n = omega arith in ap (λ (x : ℕ). c * x) e ∙ mul-suc c n
 
-  pub stored-more : Stored p (linkedIn (p .width) q (length es) (bucketOf (p .width) (p .buckets) s)) (es ++ (record { state = s; place = y } ∷ []))
+  pub stored-more : Stored p (linkedIn (p .width) q (length es) (bucketOf (p .width) (p .buckets) s)) (es ++ (record {
+    state = s;
+    place =
+        y;
+  } ∷ []))
   stored-more =
       let e = length-linked p q n (bucketIn p s) in
       record {
@@ -253,7 +272,17 @@ module _ (p : Table) (r q : List ℕ) (es : List Entry) (s y parent row : ℕ) (
 pub holds-fits : {rows t lo : ℕ} {p : Table} {quota count : ℕ} {r : List ℕ} {es : List Entry} → Holds rows t lo p quota count r es
     → Fits p quota count r
 holds-fits {es = es} h =
-    record { quota-room = h .quota-room; quota-small = h .quota-small; count-small = h .count-small; stored = λ l. (es, h .counted l, h .stored l) }
+    record {
+      quota-room = h .quota-room;
+      quota-small = h .quota-small;
+      count-small = h .count-small;
+      stored = λ l. (
+        es,
+        h .counted l,
+        h
+            .stored l,
+      );
+    }
 
 -- there is room for a record more
 more-room : (p : Table) (quota n : ℕ) (r : List ℕ) → (p .width + 4) * quota ≤ length r → n < quota
@@ -374,7 +403,13 @@ module _ {rows t lo : ℕ} {p : Table} {quota count : ℕ} {r : List ℕ} {es : 
         stored = λ u. absurd (omega arith);
         placed = λ u. absurd (omega arith);
         lost = λ u.
-            omega (arith, ap length (meet-new s y es (f es (h .stored (omega arith)))), length-append es (record { state = s; place = y } ∷ []), h .counted (omega arith));
+            omega (
+              arith,
+              ap length (meet-new s y es (f es (h .stored (omega arith)))),
+              length-append es (record { state = s; place = y }
+                  ∷ []),
+              h .counted (omega arith),
+            );
       }
   holds-met (Meets.added l f q u) =
       let e = f es (h .stored (omega arith)) in

@@ -216,7 +216,8 @@ fn link_all(records: &mut [u32], table: Table, count: usize)
     requires { ⌜ ((table .width + 4) * count ≤ length (now records)) × (count < 4294967295) ⌝ }
     ensures { λ _. ⌜
         Kept (table .width) count (now (records .entry)) (now (records .exit))
-        × ((es : List Entry) → length es ≡ count → States (table .width) (now (records .entry)) es → Linked table (now (records .entry)) es 0
+        × ((es : List Entry) → length es ≡ count → States (table .width) (now (records .entry)) es
+        → Linked table (now (records .entry)) es 0
         → Stored table (now (records .exit)) es)
         ⌝ }
 {

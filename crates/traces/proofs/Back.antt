@@ -30,7 +30,8 @@ module _ (rows width : ℕ) (records : List ℕ) (t : ℕ) where
         trace-of = h;
         whole = λ other a d.
             let g : getD other (suc t) 0 ≡ row =
-            a (suc t) (omega arith) (omega arith) ∙ ap (λ (n : ℕ). getD (set trace (t + 1) row) n 0) (sym (add-one t)) ∙ getD-set-same trace (t + 1) row 0 l in
+            a (suc t) (omega arith) (omega arith) ∙ ap (λ (n : ℕ). getD (set trace (t + 1) row) n 0) (sym (add-one t)) ∙ getD-set-same
+            trace (t + 1) row 0 l in
             (omega arith, (y, d, omega arith));
       }
 
@@ -51,18 +52,24 @@ module _ (rows width : ℕ) (records : List ℕ) (t : ℕ) where
         whole = λ other a d.
             let g : getD other (suc u) 0 ≡ field width records i 3 =
             a (suc u) (omega arith) (omega arith) ∙ getD-set-same trace (suc u) (field width records i 3) 0 k in
-            f other (λ j l m. a j (omega arith) m ∙ getD-set-other trace (suc u) j (field width records i 3) 0 (λ q. omega arith)) (omega arith, (z, d, omega arith));
+            f other (λ j l m. a j (omega arith) m ∙ getD-set-other trace (suc u) j (field width records i 3) 0 (λ q. omega arith)) (
+              omega
+                  arith,
+              (z, d, omega arith),
+            );
       }
 
   pub back-more : (trace : List ℕ) (i u x : ℕ) → 0 < u → u < length trace → u ≤ t → Back rows width records trace t i u x
       → Back rows width records (set trace u (field width records i 3)) t (field width records i 2) (u - 1) x
   back-more trace i zero x l k w b = absurd (omega arith)
   back-more trace i (suc u) x l k w b =
-      subst (λ (n : ℕ). Back rows width records (set trace (suc u) (field width records i 3)) t (field width records i 2) n x) {x = u} {y = suc u - 1} (omega arith)
+      subst (λ (n : ℕ). Back rows width records (set trace (suc u) (field width records i 3)) t (field width records i 2) n x) {x = u} {y
+      = suc u - 1} (omega arith)
       (back-step trace i u x (b .prefix) k (omega arith) (b .trace-of) (b .whole))
 
   -- the start place
-  pub back-end : (trace : List ℕ) (i u x : ℕ) → u ≡ 0 → 0 < length trace → Back rows width records trace t i u x → Digits rows (set trace 0 (field width records i 3)) (suc t) x
+  pub back-end : (trace : List ℕ) (i u x : ℕ) → u ≡ 0 → 0 < length trace → Back rows width records trace t i u x → Digits rows (set trace
+      0 (field width records i 3)) (suc t) x
   unfolding Trace Digits
   back-end trace i zero x e l b =
       b .whole (set trace 0 (field width records i 3)) (λ j k m. getD-set-other trace 0 j (field width records i 3) 0 (λ q. omega arith))

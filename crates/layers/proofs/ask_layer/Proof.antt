@@ -47,45 +47,74 @@ abbrev part : tie.Start Inv-loop μ-loop → Part
 part s = partIn (s .args .m .now) (s .args .kept .now)
 
 words-few : (c : tie.After-blocks2 Inv-loop μ-loop) → (c .blocks2 .result ≤ 1024) × (0 < c .blocks2 .result)
-words-few c = few (c .before .before .before .before .before .before .before .before .before .args .layer .layout .i) (c .blocks2 .result) (c .before .before .before .before .before .before .before .before .before .pre .1 .0 .2) (c .blocks2 .ensures)
+words-few c = few (c .before .before .before .before .before .before .before .before .before .args .layer .layout .i) (c .blocks2
+    .result) (c .before .before .before .before .before .before .before .before .before .pre .1 .0 .2) (c .blocks2 .ensures)
 
-words-are : (c : tie.After-blocks2 Inv-loop μ-loop) → c .blocks2 .result ≡ 2 ^ (length (part (c .before .before .before .before .before .before .before .before .before) .circuit .inputs) - 6)
+words-are : (c : tie.After-blocks2 Inv-loop μ-loop) → c .blocks2 .result ≡ 2 ^ (length (part (c .before .before .before .before .before
+    .before .before .before .before) .circuit .inputs) - 6)
 words-are c =
-    c .blocks2 .ensures ∙ ap (λ (i : ℕ). 2 ^ (i - 6)) (inputs-are (c .before .before .before .before .before .before .before .before .before .pre .0 .held) (c .before .before .before .before .before .before .before .before .before .pre .0 .layout-of))
+    c .blocks2 .ensures ∙ ap (λ (i : ℕ). 2 ^ (i - 6)) (inputs-are (c .before .before .before .before .before .before .before .before
+    .before .pre .0 .held) (c .before .before .before .before .before .before .before .before .before .pre .0 .layout-of))
 
 slots-few : (c : tie.After-blocks2 Inv-loop μ-loop)
-    → (c .before .before .before .before .before .before .before .before .before .args .layer .hi - c .before .before .before .before .before .before .before .before .before .args .layer .lo) * c .blocks2 .result ≤ 268435456
+    → (c .before .before .before .before .before .before .before .before .before .args .layer .hi - c .before .before .before .before
+    .before .before .before .before .before .args .layer .lo) * c .blocks2 .result ≤ 268435456
 slots-few c =
-    pairs (c .before .before .before .before .before .before .before .before .before .args .layer .hi - c .before .before .before .before .before .before .before .before .before .args .layer .lo) (c .blocks2 .result)
-    (omega (arith, c .before .before .before .before .before .before .before .before .before .pre .1 .1 .1, c .before .before .before .before .before .before .before .before .before .pre .1 .1 .2)) (words-few c .0)
+    pairs (c .before .before .before .before .before .before .before .before .before .args .layer .hi - c .before .before .before .before
+    .before .before .before .before .before .args .layer .lo) (c .blocks2 .result)
+    (omega (
+      arith,
+      c .before .before .before .before .before .before .before .before .before .pre .1 .1 .1,
+      c .before .before .before
+          .before .before .before .before .before .before .pre .1 .1 .2,
+    )) (words-few c .0)
 
-lanes-are : (c : tie.After-lanes Inv-loop μ-loop) → c .lanes .result ≡ min 64 (2 ^ length (part (c .before .before .before .before .before .before .before .before .before .before) .circuit .inputs))
+lanes-are : (c : tie.After-lanes Inv-loop μ-loop) → c .lanes .result ≡ min 64 (2 ^ length (part (c .before .before .before .before
+    .before .before .before .before .before .before) .circuit .inputs))
 lanes-are c =
-    c .lanes .ensures ∙ ap (λ (i : ℕ). min 64 (2 ^ i)) (inputs-are (c .before .before .before .before .before .before .before .before .before .before .pre .0 .held) (c .before .before .before .before .before .before .before .before .before .before .pre .0 .layout-of))
+    c .lanes .ensures ∙ ap (λ (i : ℕ). min 64 (2 ^ i)) (inputs-are (c .before .before .before .before .before .before .before .before
+    .before .before .pre .0 .held) (c .before .before .before .before .before .before .before .before .before .before .pre .0 .layout-of))
 
 block-below : (c : tie.In-loop Inv-loop μ-loop) → c .before .loop .q % c .before .before .before .blocks2 .result < 1024
 block-below c = let w = words-few (c .before .before .before) in omega (arith, mod-lt (c .before .loop .q) (w .1), w .0)
 
 -- the record of a block
 entry-below : (c : tie.In-loop Inv-loop μ-loop)
-    → c .before .before .before .before .before .before .before .before .before .before .before .before .args .layer .lo + c .before .loop .q / c .before .before .before .blocks2 .result < c .before .before .before .before .before .before .before .before .before .before .before .before .args .layer .hi
+    → c .before .before .before .before .before .before .before .before .before .before .before .before .args .layer .lo + c .before
+    .loop .q / c .before .before .before .blocks2 .result < c .before .before .before .before .before .before .before .before .before
+    .before .before .before .args .layer .hi
 entry-below c =
     let l = c .before .before .before .before .before .before .before .before .before .before .before .before .args .layer in
     omega (arith, quotient-below (c .before .loop .q) (l .hi - l .lo) (c .before .before .before .blocks2 .result) (c .loop-test .taken))
 
-entry-small : (c : tie.In-loop Inv-loop μ-loop) → c .before .before .before .before .before .before .before .before .before .before .before .before .args .layer .lo + c .before .loop .q / c .before .before .before .blocks2 .result < 262144
-entry-small c = omega (arith, entry-below c, c .before .before .before .before .before .before .before .before .before .before .before .before .pre .1 .1 .1, c .before .before .before .before .before .before .before .before .before .before .before .before .pre .1 .1 .2)
+entry-small : (c : tie.In-loop Inv-loop μ-loop) → c .before .before .before .before .before .before .before .before .before .before
+    .before .before .args .layer .lo + c .before .loop .q / c .before .before .before .blocks2 .result < 262144
+entry-small c = omega (
+  arith,
+  entry-below c,
+  c .before .before .before .before .before .before .before .before .before .before .before
+      .before .pre .1 .1 .1,
+  c .before .before .before .before .before .before .before .before .before .before .before .before .pre .1 .1 .2,
+)
 
 -- its words are within the memory
 entry-in : (c : tie.In-loop Inv-loop μ-loop)
-    → (c .before .before .before .before .before .before .before .before .before .before .before .before .args .layer .table .width + 4) * (c .before .before .before .before .before .before .before .before .before .before .before .before .args .layer .lo + c .before .loop .q / c .before .before .before .blocks2 .result)
-    + (c .before .before .before .before .before .before .before .before .before .before .before .before .args .layer .table .width + 4) ≤ length (c .before .loop .records)
+    → (c .before .before .before .before .before .before .before .before .before .before .before .before .args .layer .table .width + 4)
+    * (c .before .before .before .before .before .before .before .before .before .before .before .before .args .layer .lo + c .before
+    .loop .q / c .before .before .before .blocks2 .result)
+    + (c .before .before .before .before .before .before .before .before .before .before .before .before .args .layer .table .width + 4)
+    ≤ length (c .before .loop .records)
 entry-in c =
     let l = c .before .before .before .before .before .before .before .before .before .before .before .before .args .layer in
     let e = l .lo + c .before .loop .q / c .before .before .before .blocks2 .result in
     omega (
       arith,
-      record-before (l .table .width + 4) e (l .quota) (omega (arith, entry-below c, c .before .before .before .before .before .before .before .before .before .before .before .before .pre .1 .1 .1)),
+      record-before (l .table .width + 4) e (l .quota) (omega (
+        arith,
+        entry-below c,
+        c .before .before .before .before .before .before
+            .before .before .before .before .before .before .pre .1 .1 .1,
+      )),
       c .before .loop .inv .4 .fits .quota-room,
     )
 
@@ -122,8 +151,10 @@ loop-holds c =
       refl,
       refl,
       refl,
-      asking-start (part (c .before .before .before .before .before .before .before .before .before .before)) (l .b) (l .lo) (l .hi) (l .table) (l .quota) (a .records .now) (c .before .before .before .before .before .before .before .before .before .before .pre .1 .1 .0)
-          (c .before .before .before .before .before .before .before .before .before .before .pre .1 .1 .1) (c .before .before .before .before .before .before .before .before .before .before .pre .1 .1 .3),
+      asking-start (part (c .before .before .before .before .before .before .before .before .before .before)) (l .b) (l .lo) (l .hi) (l
+          .table) (l .quota) (a .records .now) (c .before .before .before .before .before .before .before .before .before .before .pre .1 .1 .0)
+          (c .before .before .before .before .before .before .before .before .before .before .pre .1 .1 .1) (c .before .before .before
+          .before .before .before .before .before .before .before .pre .1 .1 .3),
       c .before .before .before .before .before .before .before .before .before .before .pre .1 .1 .1,
     )
 
@@ -162,10 +193,19 @@ part-judge-rows-end c = omega (arith, entry-in (c .before))
 
 judge-rows-requires : tie.Need-judge-rows-requires Inv-loop μ-loop
 judge-rows-requires c κs =
-    let p = c .before .before .before .before .before .before .before .before .before .before .before .before .before .before .before .pre .1 .0 in
-    let l = c .before .before .before .before .before .before .before .before .before .before .before .before .before .before .before .args .layer in
-    let q = state-at (l .table .width) (l .lo + c .before .before .before .before .loop .q / c .before .before .before .before .before .before .blocks2 .result) (c .before .before .before .before .loop .records) (entry-in (c .before .before .before)) in (
-      ready-with (c .before .before .before .before .before .before .before .before .before .before .before .before .before .before .before .pre .0) (omega (arith, c .before .before .before .before .loop .inv .2, c .before .before .before .before .before .before .before .before .before .before .before .before .before .before .before .pre .0 .room)),
+    let p = c .before .before .before .before .before .before .before .before .before .before .before .before .before .before .before
+    .pre .1 .0 in
+    let l = c .before .before .before .before .before .before .before .before .before .before .before .before .before .before .before
+    .args .layer in
+    let q = state-at (l .table .width) (l .lo + c .before .before .before .before .loop .q / c .before .before .before .before .before
+    .before .blocks2 .result) (c .before .before .before .before .loop .records) (entry-in (c .before .before .before)) in (
+      ready-with (c .before .before .before .before .before .before .before .before .before .before .before .before .before .before
+          .before .pre .0) (omega (
+            arith,
+            c .before .before .before .before .loop .inv .2,
+            c .before .before .before .before .before .before
+                .before .before .before .before .before .before .before .before .before .pre .0 .room,
+          )),
       (p .0, p .3, omega (arith, p .1 .enough, q .0)),
     )
 
@@ -173,40 +213,52 @@ mul-t39 : tie.Need-mul-t39 Inv-loop μ-loop
 mul-t39 c = omega (arith, block-below (c .before .before .before .before .before .before .before))
 
 add-t41 : tie.Need-add-t41 Inv-loop μ-loop
-add-t41 c = omega (arith, c .before .before .before .judge-rows .ensures .0 .within, block-below (c .before .before .before .before .before .before .before))
+add-t41 c = omega (
+  arith,
+  c .before .before .before .judge-rows .ensures .0 .within,
+  block-below (c .before .before .before .before
+      .before .before .before),
+)
 
 same-length : tie.Need-same-length Inv-loop μ-loop
 same-length c = c .before .before .before .before .before .before .before .before .loop .inv .1
 
 same-length-2 : tie.Need-same-length-2 Inv-loop μ-loop
-same-length-2 c = c .before .before .before .judge-rows .kept .1 .1 .1 .1 .1 .0 ∙ c .before .before .before .before .before .before .before .before .loop .inv .2
+same-length-2 c = c .before .before .before .judge-rows .kept .1 .1 .1 .1 .1 .0 ∙ c .before .before .before .before .before .before
+    .before .before .loop .inv .2
 
 same-length-3 : tie.Need-same-length-3 Inv-loop μ-loop
 same-length-3 c = c .before .before .before .before .before .before .before .before .loop .inv .3
 
 -- the first row of a block, of the state that its record holds
 first : (c : tie.After-judge-rows Inv-loop μ-loop)
-    → let l = c .before .before .before .before .before .before .before .before .before .before .before .before .before .before .before .before .args .layer in
+    → let l = c .before .before .before .before .before .before .before .before .before .before .before .before .before .before .before
+    .before .args .layer in
     let L = c .before .before .before .before .before .loop in
     let w = c .before .before .before .before .before .before .before .blocks2 .result in
-    FirstRow (part (c .before .before .before .before .before .before .before .before .before .before .before .before .before .before .before .before)) (l .b) (numberAt (L .records) ((l .table .width + 4) * (l .lo + L .q / w) + 4) (l .table .width)) (L .q % w)
+    FirstRow (part (c .before .before .before .before .before .before .before .before .before .before .before .before .before .before
+    .before .before)) (l .b) (numberAt (L .records) ((l .table .width + 4) * (l .lo + L .q / w) + 4) (l .table .width)) (L .q % w)
     (c .judge-rows .last .1 .1 .1 .1 .1 .0) (c .judge-rows .result .first)
 first c =
-    let l = c .before .before .before .before .before .before .before .before .before .before .before .before .before .before .before .before .args .layer in
+    let l = c .before .before .before .before .before .before .before .before .before .before .before .before .before .before .before
+    .before .args .layer in
     let L = c .before .before .before .before .before .loop in
     let w = c .before .before .before .before .before .before .before .blocks2 .result in
     let q = state-at (l .table .width) (l .lo + L .q / w) (L .records) (entry-in (c .before .before .before .before)) in
     subst
     (λ (s : ℕ).
-    FirstRow (part (c .before .before .before .before .before .before .before .before .before .before .before .before .before .before .before .before)) (l .b) s (L .q % w) (c .judge-rows .last .1 .1 .1 .1 .1 .0)
+    FirstRow (part (c .before .before .before .before .before .before .before .before .before .before .before .before .before .before
+    .before .before)) (l .b) s (L .q % w) (c .judge-rows .last .1 .1 .1 .1 .1 .0)
     (c .judge-rows .result .first)) (q .1) (c .judge-rows .ensures .0)
 
 returns : tie.Need-returns Inv-loop μ-loop
 returns c =
     λ t es h.
-    let a = c .before .before .before .before .before .before .before .before .before .before .before .before .before .before .before .before .before .before .before .args in
+    let a = c .before .before .before .before .before .before .before .before .before .before .before .before .before .before .before
+    .before .before .before .before .args in
     let l = a .layer in
-    let C = part (c .before .before .before .before .before .before .before .before .before .before .before .before .before .before .before .before .before .before .before) in
+    let C = part (c .before .before .before .before .before .before .before .before .before .before .before .before .before .before
+    .before .before .before .before .before) in
     let L = c .before .before .before .before .before .before .before .before .loop in
     let e = words-are (c .before .before .before .before .before .before .before .before .before .before) in
     let w = c .before .before .before .before .before .before .before .before .before .before .blocks2 .result in
@@ -216,7 +268,10 @@ returns c =
     let s = numberAt (L .records) ((l .table .width + 4) * (l .lo + L .q / w) + 4) (l .table .width) in
     subst (λ (x : ℕ). AskedOf C (l .b) t (l .lo) (l .table) (l .quota) (L .records) es (Hit (l .lo + L .q / x) (64 * (L .q % x) + p)))
     (sym e)
-    (asking-hit C (l .b) (l .lo) (l .hi) (l .table) (l .quota) (a .records .now) (c .before .before .before .before .before .before .before .before .before .before .before .before .before .before .before .before .before .before .before .pre .1 .1 .0) (c .before .before .before .before .before .before .before .before .before .before .before .before .before .before .before .before .before .before .before .pre .1 .1 .1) (L .inv .4)
+    (asking-hit C (l .b) (l .lo) (l .hi) (l .table) (l .quota) (a .records .now) (c .before .before .before .before .before .before
+    .before .before .before .before .before .before .before .before .before .before .before .before .before .pre .1 .1 .0) (c .before
+    .before .before .before .before .before .before .before .before .before .before .before .before .before .before .before .before
+    .before .before .pre .1 .1 .1) (L .inv .4)
     (omega (arith, c .before .before .before .before .before .before .before .loop-test .taken, ap (λ (x : ℕ). (l .hi - l .lo) * x) e)) s
     (ap (λ (x : ℕ). numberAt (L .records) ((l .table .width + 4) * (l .lo + L .q / x) + 4) (l .table .width)) e) v p
     (subst (λ (x : ℕ). FirstRow C (l .b) s (L .q % x) v p) e (first (c .before .before .before)))
@@ -229,11 +284,21 @@ meet-block-requires : tie.Need-meet-block-requires Inv-loop μ-loop
 meet-block-requires c κs =
     let L = c .before .before .before .before .before .before .before .before .before .before .before .loop in
     let j = c .before .before .before .before .before .before .judge-rows in
-    let p = c .before .before .before .before .before .before .before .before .before .before .before .before .before .before .before .before .before .before .before .before .before .before .pre .1 .0 in
+    let p = c .before .before .before .before .before .before .before .before .before .before .before .before .before .before .before
+    .before .before .before .before .before .before .before .pre .1 .0 in
     let f = p .1 in (
       (
-        c .before .before .before .before .before .before .before .before .before .before .before .before .before .before .before .before .before .before .before .before .before .before .args .order .now,
-        ready-with (c .before .before .before .before .before .before .before .before .before .before .before .before .before .before .before .before .before .before .before .before .before .before .pre .0) (omega (arith, j .kept .1 .1 .1 .1 .1 .0, L .inv .2, c .before .before .before .before .before .before .before .before .before .before .before .before .before .before .before .before .before .before .before .before .before .before .pre .0 .room)),
+        c .before .before .before .before .before .before .before .before .before .before .before .before .before .before .before .before
+            .before .before .before .before .before .before .args .order .now,
+        ready-with (c .before .before .before .before .before .before .before .before .before .before .before .before .before .before
+            .before .before .before .before .before .before .before .before .pre .0) (omega (
+              arith,
+              j .kept .1 .1 .1 .1 .1 .0,
+              L .inv .2,
+              c
+                  .before .before .before .before .before .before .before .before .before .before .before .before .before .before .before .before
+                  .before .before .before .before .before .before .pre .0 .room,
+            )),
       ),
       (
         L .inv .4 .fits,
@@ -249,33 +314,67 @@ meet-block-requires c κs =
     )
 
 add-q : tie.Need-add-q Inv-loop μ-loop
-add-q c = omega (arith, slots-few (c .before .before .before .before .before .before .before .before .before .before .before .before .before .before .before .before .before .before))
+add-q c = omega (
+  arith,
+  slots-few (c .before .before .before .before .before .before .before .before .before .before .before .before
+      .before .before .before .before .before .before),
+)
 
 loop-less : tie.Need-loop-less Inv-loop μ-loop
-loop-less c = omega (arith, c .before .before .before .before .before .before .before .before .before .before .before .before .before .before .before .loop-test .taken)
+loop-less c = omega (
+  arith,
+  c .before .before .before .before .before .before .before .before .before .before .before .before .before
+      .before .before .loop-test .taken,
+)
 
 loop-again : tie.Need-loop-again Inv-loop μ-loop
 loop-again c =
-    let a = c .before .before .before .before .before .before .before .before .before .before .before .before .before .before .before .before .before .before .before .before .before .before .before .before .before .before .before .args in
+    let a = c .before .before .before .before .before .before .before .before .before .before .before .before .before .before .before
+    .before .before .before .before .before .before .before .before .before .before .before .before .args in
     let l = a .layer in
-    let C = part (c .before .before .before .before .before .before .before .before .before .before .before .before .before .before .before .before .before .before .before .before .before .before .before .before .before .before .before) in
-    let L = c .before .before .before .before .before .before .before .before .before .before .before .before .before .before .before .before .loop in
+    let C = part (c .before .before .before .before .before .before .before .before .before .before .before .before .before .before
+    .before .before .before .before .before .before .before .before .before .before .before .before .before) in
+    let L = c .before .before .before .before .before .before .before .before .before .before .before .before .before .before .before
+    .before .loop in
     let E = c .before .before .before .before .meet-block in
-    let e = words-are (c .before .before .before .before .before .before .before .before .before .before .before .before .before .before .before .before .before .before) in
-    let w = c .before .before .before .before .before .before .before .before .before .before .before .before .before .before .before .before .before .before .blocks2 .result in
+    let e = words-are (c .before .before .before .before .before .before .before .before .before .before .before .before .before .before
+    .before .before .before .before) in
+    let w = c .before .before .before .before .before .before .before .before .before .before .before .before .before .before .before
+    .before .before .before .blocks2 .result in
     let j = c .before .before .before .before .before .before .before .before .before .before .before .judge-rows in
     let v = j .last .1 .1 .1 .1 .1 .0 in
     let p = j .result .first in
     let s = numberAt (L .records) ((l .table .width + 4) * (l .lo + L .q / w) + 4) (l .table .width) in (
-      omega (arith, c .before .before .before .before .before .before .before .before .before .before .before .before .before .before .before .loop-test .taken),
+      omega (
+        arith,
+        c .before .before .before .before .before .before .before .before .before .before .before .before .before .before
+            .before .loop-test .taken,
+      ),
       E .kept .1 .1 .1 .1 .1 .0 ∙ L .inv .1,
       j .kept .1 .1 .1 .1 .1 .0 ∙ L .inv .2,
       E .kept .1 .1 .1 .1 .1 .1 .0 ∙ L .inv .3,
-      asking-more C (l .b) (l .lo) (l .hi) (l .table) (l .quota) (a .records .now) (c .before .before .before .before .before .before .before .before .before .before .before .before .before .before .before .before .before .before .before .before .before .before .before .before .before .before .before .pre .1 .1 .0) (c .before .before .before .before .before .before .before .before .before .before .before .before .before .before .before .before .before .before .before .before .before .before .before .before .before .before .before .pre .1 .1 .1)
-          (L .inv .4) (omega (arith, c .before .before .before .before .before .before .before .before .before .before .before .before .before .before .before .loop-test .taken, ap (λ (x : ℕ). (l .hi - l .lo) * x) e)) s
+      asking-more C (l .b) (l .lo) (l .hi) (l .table) (l .quota) (a .records .now) (c .before .before .before .before .before .before
+          .before .before .before .before .before .before .before .before .before .before .before .before .before .before .before .before
+          .before .before .before .before .before .pre .1 .1 .0) (c .before .before .before .before .before .before .before .before .before
+          .before .before .before .before .before .before .before .before .before .before .before .before .before .before .before .before
+          .before .before .pre .1 .1 .1)
+          (L .inv .4) (omega (
+            arith,
+            c .before .before .before .before .before .before .before .before .before .before .before .before
+                .before .before .before .loop-test .taken,
+            ap (λ (x : ℕ). (l .hi - l .lo) * x) e,
+          )) s
           (ap (λ (x : ℕ). numberAt (L .records) ((l .table .width + 4) * (l .lo + L .q / x) + 4) (l .table .width)) e) v p
-          (subst (λ (x : ℕ). FirstRow C (l .b) s (L .q % x) v p) e (first (c .before .before .before .before .before .before .before .before .before .before .before))) (c .before .before .before .before .before .before .before .before .before .before .before .before .before .before .before .before .before .before .before .before .before .before .before .before .before .before .before .pre .1 .0 .3)
-          (omega (arith, c .before .before .before .before .before .before .before .before .if1 .left, lanes-are (c .before .before .before .before .before .before .before .before .before .before .before .before .before .before .before .before .before)))
+          (subst (λ (x : ℕ). FirstRow C (l .b) s (L .q % x) v p) e (first (c .before .before .before .before .before .before .before
+          .before .before .before .before))) (c .before .before .before .before .before .before .before .before .before .before .before
+          .before .before .before .before .before .before .before .before .before .before .before .before .before .before .before .before
+          .pre .1 .0 .3)
+          (omega (
+            arith,
+            c .before .before .before .before .before .before .before .before .if1 .left,
+            lanes-are (c .before .before
+                .before .before .before .before .before .before .before .before .before .before .before .before .before .before .before),
+          ))
           (subst (λ (x : ℕ). BlockMet C v (l .table) (l .quota) (countOf (l .quota) (L .met)) (l .lo + L .q / x) (L .q % x) (L .records)
           (countOf (l .quota) (E .result)) (E .last .1 .1 .1 .1 .1 .0)) e (E .ensures .0)),
       E .ensures .1,
@@ -286,14 +385,19 @@ ended : (c : tie.After-loop Inv-loop μ-loop)
     → let a = c .before .before .before .before .before .before .before .before .before .before .before .before .args in
     let L = c .before .loop in
     (t : ℕ) (es : List Entry)
-    → Holds (2 ^ length (part (c .before .before .before .before .before .before .before .before .before .before .before .before) .circuit .inputs)) t (a .layer .lo) (a .layer .table) (a .layer .quota) (a .layer .hi) (a .records .now) es
-    → AskedOf (part (c .before .before .before .before .before .before .before .before .before .before .before .before)) (a .layer .b) t (a .layer .lo) (a .layer .table) (a .layer .quota) (L .records) es (askedOf (L .met))
+    → Holds (2 ^ length (part (c .before .before .before .before .before .before .before .before .before .before .before .before)
+    .circuit .inputs)) t (a .layer .lo) (a .layer .table) (a .layer .quota) (a .layer .hi) (a .records .now) es
+    → AskedOf (part (c .before .before .before .before .before .before .before .before .before .before .before .before)) (a .layer .b) t
+    (a .layer .lo) (a .layer .table) (a .layer .quota) (L .records) es (askedOf (L .met))
 ended c t es h =
     let a = c .before .before .before .before .before .before .before .before .before .before .before .before .args in
     let l = a .layer in
     let L = c .before .loop in
-    asking-end (part (c .before .before .before .before .before .before .before .before .before .before .before .before)) (l .b) (l .lo) (l .hi) (l .table) (l .quota) (a .records .now) (c .before .before .before .before .before .before .before .before .before .before .before .before .pre .1 .1 .0)
-    (c .before .before .before .before .before .before .before .before .before .before .before .before .pre .1 .1 .1) (L .met) (L .inv .4) (L .inv .5)
+    asking-end (part (c .before .before .before .before .before .before .before .before .before .before .before .before)) (l .b) (l .lo)
+    (l .hi) (l .table) (l .quota) (a .records .now) (c .before .before .before .before .before .before .before .before .before .before
+    .before .before .pre .1 .1 .0)
+    (c .before .before .before .before .before .before .before .before .before .before .before .before .pre .1 .1 .1) (L .met) (L .inv
+    .4) (L .inv .5)
     (omega (arith, c .loop-test .left, ap (λ (x : ℕ). (l .hi - l .lo) * x) (words-are (c .before .before .before)))) t es h
 
 same-length-4 : tie.Need-same-length-4 Inv-loop μ-loop
@@ -308,9 +412,11 @@ same-length-6 c = c .before .before .before .before .loop .inv .3
 returns-2 : tie.Need-returns-2 Inv-loop μ-loop
 returns-2 c =
     λ t es h.
-    let l = c .before .before .before .before .before .before .before .before .before .before .before .before .before .before .before .args .layer in
+    let l = c .before .before .before .before .before .before .before .before .before .before .before .before .before .before .before
+    .args .layer in
     let L = c .before .before .before .before .loop in
-    subst (λ (m : Tally). AskedOf (part (c .before .before .before .before .before .before .before .before .before .before .before .before .before .before .before)) (l .b) t (l .lo) (l .table) (l .quota) (L .records) es (askedOf m))
+    subst (λ (m : Tally). AskedOf (part (c .before .before .before .before .before .before .before .before .before .before .before
+    .before .before .before .before)) (l .b) t (l .lo) (l .table) (l .quota) (L .records) es (askedOf m))
     (c .before .met .given .1) (ended (c .before .before .before) t es h)
 
 same-length-7 : tie.Need-same-length-7 Inv-loop μ-loop
@@ -325,9 +431,11 @@ same-length-9 c = c .before .before .before .loop .inv .3
 returns-3 : tie.Need-returns-3 Inv-loop μ-loop
 returns-3 c =
     λ t es h.
-    let l = c .before .before .before .before .before .before .before .before .before .before .before .before .before .before .args .layer in
+    let l = c .before .before .before .before .before .before .before .before .before .before .before .before .before .before .args
+    .layer in
     let L = c .before .before .before .loop in
-    subst (λ (m : Tally). AskedOf (part (c .before .before .before .before .before .before .before .before .before .before .before .before .before .before)) (l .b) t (l .lo) (l .table) (l .quota) (L .records) es (askedOf m))
+    subst (λ (m : Tally). AskedOf (part (c .before .before .before .before .before .before .before .before .before .before .before
+    .before .before .before)) (l .b) t (l .lo) (l .table) (l .quota) (L .records) es (askedOf m))
     (c .enum-told .given .1) (ended (c .before .before) t es h)
 
 pub ask-layer-spec : {M : Type 1} → statement M

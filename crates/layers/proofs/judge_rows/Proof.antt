@@ -41,7 +41,8 @@ bad-word-requires c κs = (
 )
 
 constrain-requires : tie.Need-constrain-requires
-constrain-requires c κs = ready-with (c .before .before .before .before .before .before .before .before .before .before .before .before .pre .0)
+constrain-requires c κs = ready-with (c .before .before .before .before .before .before .before .before .before .before .before .before
+    .pre .0)
     (omega (
       arith,
       c .before .before .before .before .before .eval-rows .kept .1 .1 .1 .1 .1 .0,
@@ -58,13 +59,16 @@ returns : tie.Need-returns
 returns c =
     let a = c .before .before .before .before .before .before .before .before .before .before .before .before .before .before .args in
     let C = partIn (a .m .now) (a .kept .now) in
-    let H = c .before .before .before .before .before .before .before .before .before .before .before .before .before .before .pre .0 .held in
+    let H = c .before .before .before .before .before .before .before .before .before .before .before .before .before .before .pre .0
+    .held in
     let v = c .before .before .before .before .before .before .before .eval-rows .last .1 .1 .1 .1 .1 .0 in
     let bad = c .before .before .before .bad-word .result in
     let allowed = c .before .constrain .result in
     let rows : Allowed (circuitIn (a .m .now)) v allowed = λ p l. all-rows p (constrainedIn (circuitIn (a .m .now)) (lane v p)) l
     (c .before .constrain .ensures p l) in (
-      first-row C (right H) (known H) (no-cycle H) (a .query .b) (c .before .before .before .before .before .before .before .before .before .before .before .before .before .before .pre .1 .1) (numberAt (a .s .now) 0 (length (a .s .now))) (a .query .block) v bad (bitAnd bad allowed)
+      first-row C (right H) (known H) (no-cycle H) (a .query .b) (c .before .before .before .before .before .before .before .before
+          .before .before .before .before .before .before .pre .1 .1) (numberAt (a .s .now) 0 (length (a .s .now))) (a .query .block) v bad
+          (bitAnd bad allowed)
           (c .first-difference .result) (c .before .before .before .before .before .before .before .eval-rows .ensures)
           (c .before .before .before .bad-word .ensures)
           (λ p l. bit-and bad allowed p ∙ ap (λ (x : Bool). bit bad p && x) (rows p l)) (c .first-difference .ensures),

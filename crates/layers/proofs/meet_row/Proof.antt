@@ -50,7 +50,12 @@ no-more true b e = e
 no-more false b e = refl
 
 pack-words-requires : tie.Need-pack-words-requires
-pack-words-requires c κs = (c .before .before .before .before .before .pre .1 .0, c .before .before .before .before .before .pre .1 .4, c .before .before .before .before .before .pre .1 .5)
+pack-words-requires c κs = (
+  c .before .before .before .before .before .pre .1 .0,
+  c .before .before .before .before .before .pre .1 .4,
+  c
+      .before .before .before .before .before .pre .1 .5,
+)
 
 same-rows-requires : tie.Need-same-rows-requires
 same-rows-requires c κs = c .before .before .before .before .before .before .before .before .pre .1 .0
@@ -59,10 +64,21 @@ literal-word-requires : tie.Need-literal-word-requires
 literal-word-requires c κs = tt
 
 add-meet : tie.Need-add-meet
-add-meet c = omega (arith, c .before .before .before .before .before .before .before .before .before .before .before .before .before .pre .1 .0, c .before .before .before .before .before .before .before .before .before .before .before .before .before .pre .1 .1)
+add-meet c = omega (
+  arith,
+  c .before .before .before .before .before .before .before .before .before .before .before .before .before .pre
+      .1 .0,
+  c .before .before .before .before .before .before .before .before .before .before .before .before .before .pre .1 .1,
+)
 
 meet-requires : tie.Need-meet-requires
-meet-requires c κs = (c .before .before .before .before .before .before .before .before .before .before .before .before .before .pre .0, c .before .before .before .before .before .before .before .before .before .before .before .before .before .pre .1 .2, c .before .before .before .before .before .before .before .pack-words .kept .1 .1 .0 ∙ c .before .before .before .before .before .before .before .before .before .before .before .before .before .pre .1 .3)
+meet-requires c κs = (
+  c .before .before .before .before .before .before .before .before .before .before .before .before .before .pre .0,
+  c .before .before .before .before .before .before .before .before .before .before .before .before .before .pre .1 .2,
+  c .before
+      .before .before .before .before .before .before .pack-words .kept .1 .1 .0 ∙ c .before .before .before .before .before .before
+      .before .before .before .before .before .before .before .pre .1 .3,
+)
 
 same-length : tie.Need-same-length
 same-length c = c .before .before .before .meet .kept .0
@@ -72,13 +88,15 @@ same-length-2 c = c .before .before .before .before .before .before .before .bef
 
 returns : tie.Need-returns
 returns c =
-    let a = c .before .before .before .before .before .before .before .before .before .before .before .before .before .before .before .before .before .args in
+    let a = c .before .before .before .before .before .before .before .before .before .before .before .before .before .before .before
+    .before .before .args in
     let E = c .before .before .before .meet in
     let s = c .before .before .before .before .before .before .before .before .before .before .before .pack-words .last .1 .1 .0 in
     let same = c .before .before .before .before .before .before .before .before .same-rows in
     let others = c .before .before .before .before .before .before .before .literal-word in
     let state : numberAt s 0 (length s) ≡ numberOf (map (λ w. bit w (a .p)) (a .state .now)) =
-    ap (numberAt s 0) (c .before .before .before .before .before .before .before .before .before .before .before .pack-words .kept .1 .1 .0) ∙ c .before .before .before .before .before .before .before .before .before .before .before .pack-words .ensures in (
+    ap (numberAt s 0) (c .before .before .before .before .before .before .before .before .before .before .before .pack-words .kept .1 .1
+    .0) ∙ c .before .before .before .before .before .before .before .before .before .before .before .pack-words .ensures in (
       record {
         meets = subst
             (λ (n : ℕ).
@@ -90,7 +108,8 @@ returns c =
         within = λ q g. left-in (a .pending .left) (others .result) q g;
         gone = bit-and (a .pending .left) (others .result) (a .p)
             ∙ no-more (bit (a .pending .left) (a .p)) (bit (others .result) (a .p))
-            (others .ensures (a .p) (c .before .before .before .before .before .before .before .before .before .before .before .before .before .before .before .before .before .pre .1 .0) ∙ ap (xor true) (same .ensures .1) ∙ xor-true true);
+            (others .ensures (a .p) (c .before .before .before .before .before .before .before .before .before .before .before .before
+            .before .before .before .before .before .pre .1 .0) ∙ ap (xor true) (same .ensures .1) ∙ xor-true true);
       },
       E .ensures .1,
     )

@@ -60,16 +60,28 @@ meet-row-requires c κs =
     )
 
 -- the next row that is left comes after row p
-later : (c : tie.After-first-difference2 Inv-loop μ-loop) → c .before .before .before .before .before .before .before .before .before .loop .p < c .first-difference2 .result
+later : (c : tie.After-first-difference2 Inv-loop μ-loop) → c .before .before .before .before .before .before .before .before .before
+    .loop .p < c .first-difference2 .result
 later c =
     let L = c .before .before .before .before .before .before .before .before .before .loop in
     let E = c .before .before .before .before .before .meet-row in
     next-later (L .pending .left) (E .result .left) (L .p) (c .first-difference2 .result) (L .inv .4)
-    (omega (arith, c .before .before .before .before .before .before .before .before .loop-test .taken, c .before .before .before .before .before .before .before .before .before .before .before .before .before .before .pre .1 .0)) (c .first-difference2 .ensures)
+    (omega (
+      arith,
+      c .before .before .before .before .before .before .before .before .loop-test .taken,
+      c .before .before .before .before
+          .before .before .before .before .before .before .before .before .before .before .pre .1 .0,
+    )) (c .first-difference2 .ensures)
     (E .ensures .0 .within) (E .ensures .0 .gone)
 
 loop-less : tie.Need-loop-less Inv-loop μ-loop
-loop-less c = omega (arith, later c, c .before .before .before .before .before .before .before .before .loop-test .taken, c .before .before .before .before .before .before .before .before .before .before .before .before .before .before .pre .1 .0)
+loop-less c = omega (
+  arith,
+  later c,
+  c .before .before .before .before .before .before .before .before .loop-test .taken,
+  c .before
+      .before .before .before .before .before .before .before .before .before .before .before .before .before .pre .1 .0,
+)
 
 loop-again : tie.Need-loop-again Inv-loop μ-loop
 loop-again c =
@@ -98,9 +110,17 @@ loop-again c =
           Treated (a .start .left) S (a .span .table) Q (countOf Q (a .start .met)) (a .span .e) (a .span .first) k (a .records .now)
           (countOf Q (E .result .met)) (E .result .left) (E .last .1 .1 .1 .1 .0)) z
           (treated-to (a .start .left) S (a .span .table) Q (countOf Q (a .start .met)) (a .span .e) (a .span .first) (p + 1) d
-          (a .records .now) (omega (arith, c .before .before .before .before .before .before .before .before .before .before .before .before .before .before .pre .1 .0)) (λ q l. none-before (E .result .left) p′ g q (omega arith))
+          (a .records .now) (omega (
+            arith,
+            c .before .before .before .before .before .before .before .before .before .before .before
+                .before .before .before .pre .1 .0,
+          )) (λ q l. none-before (E .result .left) p′ g q (omega arith))
           (treated-more (a .start .left) S (a .span .table) Q (countOf Q (a .start .met)) (a .span .e) (a .span .first) p
-          (a .records .now) (is-left (L .pending .left) p (L .inv .4) (omega (arith, c .before .before .before .before .before .before .before .before .before .before .before .before .before .before .pre .1 .0))) before (E .ensures .0))),
+          (a .records .now) (is-left (L .pending .left) p (L .inv .4) (omega (
+            arith,
+            c .before .before .before .before .before .before
+                .before .before .before .before .before .before .before .before .pre .1 .0,
+          ))) before (E .ensures .0))),
       E .ensures .1,
       g,
     )

@@ -28,7 +28,8 @@ loop-holds c =
       refl,
       refl,
       refl,
-      beginning-start (partIn (a .m .now) (a .kept .now)) (a .starts .table) (a .starts .quota) (a .records .now) (c .before .before .before .before .before .before .pre .1 .1 .2),
+      beginning-start (partIn (a .m .now) (a .kept .now)) (a .starts .table) (a .starts .quota) (a .records .now) (c .before .before
+          .before .before .before .before .pre .1 .1 .2),
       omega arith,
     )
 
@@ -69,25 +70,37 @@ start-state-requires c κs =
     )
 
 cast-meet : tie.Need-cast-meet Inv-loop μ-loop
-cast-meet c = omega (arith, c .before .before .before .before .before .before .before .before .before .before .before .before .before .before .before .before .before .before .before .pre .1 .1 .1)
+cast-meet c = omega (
+  arith,
+  c .before .before .before .before .before .before .before .before .before .before .before .before .before
+      .before .before .before .before .before .before .pre .1 .1 .1,
+)
 
 meet-requires : tie.Need-meet-requires Inv-loop μ-loop
 meet-requires c κs = (
   c .before .before .before .before .before .before .before .before .before .before .before .before .loop .inv .4 .fits,
   c .before .before .before .before .before .before .before .before .before .before .before .before .loop .inv .5,
-  c .before .before .before .before .before .before .start-state .kept .1 .1 .1 .1 .1 .0 ∙ c .before .before .before .before .before .before .before .before .before .before .before .before .loop .inv .3 ∙ c .before .before .before .before .before .before .before .before .before .before .before .before .before .before .before .before .before .before .before .pre .1 .1 .6,
+  c .before .before .before .before .before .before .start-state .kept .1 .1 .1 .1 .1 .0 ∙ c .before .before .before .before .before
+      .before .before .before .before .before .before .before .loop .inv .3 ∙ c .before .before .before .before .before .before .before
+      .before .before .before .before .before .before .before .before .before .before .before .before .pre .1 .1 .6,
 )
 
 add-y : tie.Need-add-y Inv-loop μ-loop
-add-y c = omega (arith, c .before .before .before .before .before .before .before .before .before .before .before .before .before .before .before .before .before .before .before .before .before .before .pre .1 .1 .1)
+add-y c = omega (
+  arith,
+  c .before .before .before .before .before .before .before .before .before .before .before .before .before .before
+      .before .before .before .before .before .before .before .before .pre .1 .1 .1,
+)
 
 loop-less : tie.Need-loop-less Inv-loop μ-loop
 loop-less c = omega arith
 
 loop-again : tie.Need-loop-again Inv-loop μ-loop
 loop-again c =
-    let a = c .before .before .before .before .before .before .before .before .before .before .before .before .before .before .before .before .before .before .before .before .before .before .args in
-    let L = c .before .before .before .before .before .before .before .before .before .before .before .before .before .before .before .loop in
+    let a = c .before .before .before .before .before .before .before .before .before .before .before .before .before .before .before
+    .before .before .before .before .before .before .before .args in
+    let L = c .before .before .before .before .before .before .before .before .before .before .before .before .before .before .before
+    .loop in
     let E = c .before .before .meet in
     let S = c .before .before .before .before .before .before .before .before .before .start-state in
     let s = S .last .1 .1 .1 .1 .1 .0 in (

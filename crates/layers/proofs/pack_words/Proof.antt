@@ -50,8 +50,11 @@ part-length n at ks l = omega (arith, length-take n (drop at ks))
 pack-requires : tie.Need-pack-requires Inv-loop μ-loop
 pack-requires c κs =
     let from = 32 * c .before .before .before .loop .j in
-    let e = c .before .word-end .ensures in
-    (part-length (c .before .word-end .result - from) from (c .before .before .before .before .before .before .args .state .now) (omega arith), c .before .before .before .before .before .before .pre .0)
+    let e = c .before .word-end .ensures in (
+      part-length (c .before .word-end .result - from) from (c .before .before .before .before .before .before .args .state .now) (omega
+          arith),
+      c .before .before .before .before .before .before .pre .0,
+    )
 
 slice-write-s : tie.Need-slice-write-s Inv-loop μ-loop
 slice-write-s c = omega (arith, c .before .before .before .before .loop .inv .1)

@@ -50,7 +50,8 @@ loop-again c =
           let t2 = both (bit (L .same) q) (bit (c .alike .result) q) (sym (bit-and (L .same) (c .alike .result) q) ∙ t) in
           below-more (λ k. bit (getD s k 0) q ≡ bit (getD s k 0) (c .before .before .before .before .before .args .p)) (L .i)
           (L .inv .1 q l (t2 .0)) (c .alike .ensures .0 q l (t2 .1)),
-      bit-and (L .same) (c .alike .result) (c .before .before .before .before .before .args .p) ∙ ap₂ (λ (x y : Bool). x && y) (L .inv .2) (c .alike .ensures .1),
+      bit-and (L .same) (c .alike .result) (c .before .before .before .before .before .args .p) ∙ ap₂ (λ (x y : Bool). x && y) (L .inv
+          .2) (c .alike .ensures .1),
     )
 
 returns : tie.Need-returns Inv-loop μ-loop

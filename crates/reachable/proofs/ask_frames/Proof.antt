@@ -87,35 +87,57 @@ module _ (e : Start) (t : ℕ) (l : t ≤ e .args .q .stage .k) where
 abbrev first-table : (c : tie.After-width Inv-loop μ-loop) → Table
 first-table c = record { width = c .width .result; buckets = c .before .quota .result }
 
-first-room : (c : tie.After-width Inv-loop μ-loop) → (c .width .result + 4) * c .before .quota .result ≤ length (c .before .before .before .before .before .before .before .before .before .before .args .records .now)
+first-room : (c : tie.After-width Inv-loop μ-loop) → (c .width .result + 4) * c .before .quota .result ≤ length (c .before .before
+    .before .before .before .before .before .before .before .before .args .records .now)
 first-room c =
-    subst (λ (w : ℕ). (w + 4) * c .before .quota .result ≤ length (c .before .before .before .before .before .before .before .before .before .before .args .records .now)) (sym (c .width .ensures))
-    (subst (λ (q : ℕ). (width (part (c .before .before .before .before .before .before .before .before .before .before)) + 4) * q ≤ length (c .before .before .before .before .before .before .before .before .before .before .args .records .now)) (sym (c .before .quota .ensures))
+    subst (λ (w : ℕ). (w + 4) * c .before .quota .result ≤ length (c .before .before .before .before .before .before .before .before
+    .before .before .args .records .now)) (sym (c .width .ensures))
+    (subst (λ (q : ℕ). (width (part (c .before .before .before .before .before .before .before .before .before .before)) + 4) * q ≤
+    length (c .before .before .before .before .before .before .before .before .before .before .args .records .now)) (sym (c .before
+    .quota .ensures))
     (size-in (c .before .before .before .before .before .before .before .before .before .before) 0 (omega arith)))
 
 first-few : (c : tie.After-width Inv-loop μ-loop) → c .before .quota .result ≤ 262144
-first-few c = omega (arith, c .before .quota .ensures, size-few (c .before .before .before .before .before .before .before .before .before .before) 0 (omega arith))
+first-few c = omega (
+  arith,
+  c .before .quota .ensures,
+  size-few (c .before .before .before .before .before .before .before .before
+      .before .before) 0 (omega arith),
+)
 
 -- the table before the start states are met, and after
 empty : (c : tie.After-fill Inv-loop μ-loop)
-    → Holds (rows (c .before .before .before .before .before .before .before .before .before .before .before .before)) 0 0 (first-table (c .before .before)) (c .before .before .before .quota .result) 0 (c .fill .last .0) []
+    → Holds (rows (c .before .before .before .before .before .before .before .before .before .before .before .before)) 0 0 (first-table
+    (c .before .before)) (c .before .before .before .quota .result) 0 (c .fill .last .0) []
 empty c =
-    holds-none (rows (c .before .before .before .before .before .before .before .before .before .before .before .before)) (c .before .before .before .quota .result) (first-table (c .before .before)) (c .before .before .before .before .before .before .before .before .before .before .before .before .args .records .now) (c .fill .last .0)
+    holds-none (rows (c .before .before .before .before .before .before .before .before .before .before .before .before)) (c .before
+    .before .before .quota .result) (first-table (c .before .before)) (c .before .before .before .before .before .before .before .before
+    .before .before .before .before .args .records .now) (c .fill .last .0)
     (omega (arith, c .fill .kept .0, first-room (c .before .before))) (omega (arith, first-few (c .before .before))) (c .fill .ensures)
 
 holds-started : (c : tie.After-meet-starts Inv-loop μ-loop)
     → let s = c .meet-starts in
     let q = c .before .before .before .before .before .before .before .before .quota .result in
-    Holds (rows (c .before .before .before .before .before .before .before .before .before .before .before .before .before .before .before .before .before)) 0 0 (first-table (c .before .before .before .before .before .before .before)) q (countOf q (s .result)) (s .last .1 .1 .1 .1 .0)
-    (started (machineOf (part (c .before .before .before .before .before .before .before .before .before .before .before .before .before .before .before .before .before)) (c .before .before .before .before .before .before .before .before .before .before .before .before .before .before .before .before .before .args .q .stage .b)) (2 ^ c .before .before .before .before .before .before .before .before .before .before .before .before .before .before .before .before .before .args .q .layout .u))
-holds-started c = c .meet-starts .ensures .0 (rows (c .before .before .before .before .before .before .before .before .before .before .before .before .before .before .before .before .before)) (c .before .before .before .before .before .before .before .before .before .before .before .before .before .before .before .before .before .args .q .stage .b) (empty (c .before .before .before .before .before))
+    Holds (rows (c .before .before .before .before .before .before .before .before .before .before .before .before .before .before
+    .before .before .before)) 0 0 (first-table (c .before .before .before .before .before .before .before)) q (countOf q (s .result)) (s
+    .last .1 .1 .1 .1 .0)
+    (started (machineOf (part (c .before .before .before .before .before .before .before .before .before .before .before .before .before
+    .before .before .before .before)) (c .before .before .before .before .before .before .before .before .before .before .before .before
+    .before .before .before .before .before .args .q .stage .b)) (2 ^ c .before .before .before .before .before .before .before .before
+    .before .before .before .before .before .before .before .before .before .args .q .layout .u))
+holds-started c = c .meet-starts .ensures .0 (rows (c .before .before .before .before .before .before .before .before .before .before
+    .before .before .before .before .before .before .before)) (c .before .before .before .before .before .before .before .before .before
+    .before .before .before .before .before .before .before .before .args .q .stage .b) (empty (c .before .before .before .before .before))
 
 -- lengths before the loop
 records-long : (c : tie.After-meet-starts Inv-loop μ-loop)
-    → length (c .meet-starts .last .1 .1 .1 .1 .0) ≡ length (c .before .before .before .before .before .before .before .before .before .before .before .before .before .before .before .before .before .args .records .now)
+    → length (c .meet-starts .last .1 .1 .1 .1 .0) ≡ length (c .before .before .before .before .before .before .before .before .before
+    .before .before .before .before .before .before .before .before .args .records .now)
 records-long c = c .meet-starts .kept .1 .1 .1 .1 .0 ∙ c .before .before .before .before .before .fill .kept .0
 
-within : (c : tie.In-loop Inv-loop μ-loop) → c .before .loop .t ≤ c .before .before .before .before .before .before .before .before .before .before .before .before .before .before .before .before .before .before .before .before .before .before .before .before .before .before .args .q .stage .k
+within : (c : tie.In-loop Inv-loop μ-loop) → c .before .loop .t ≤ c .before .before .before .before .before .before .before .before
+    .before .before .before .before .before .before .before .before .before .before .before .before .before .before .before .before
+    .before .before .args .q .stage .k
 within c = omega (arith, c .loop-test .taken)
 
 -- the records of the frame's quota are in the memory
@@ -123,27 +145,43 @@ frame-room : (c : tie.After-quota2 Inv-loop μ-loop)
     → (c .before .before .loop .table .width + 4) * c .quota2 .result ≤ length (c .before .before .loop .records)
 frame-room c =
     let L = c .before .before .loop in
-    let a = size-in (c .before .before .before .before .before .before .before .before .before .before .before .before .before .before .before .before .before .before .before .before .before .before .before .before .before .before .before) (L .t) (within (c .before)) in
+    let a = size-in (c .before .before .before .before .before .before .before .before .before .before .before .before .before .before
+    .before .before .before .before .before .before .before .before .before .before .before .before .before) (L .t) (within (c .before)) in
     subst (λ (w : ℕ). (w + 4) * c .quota2 .result ≤ length (L .records)) (sym (L .inv .6 .wide))
-    (subst (λ (q : ℕ). (width (part (c .before .before .before .before .before .before .before .before .before .before .before .before .before .before .before .before .before .before .before .before .before .before .before .before .before .before .before)) + 4) * q ≤ length (L .records)) (sym (c .quota2 .ensures))
+    (subst (λ (q : ℕ). (width (part (c .before .before .before .before .before .before .before .before .before .before .before .before
+    .before .before .before .before .before .before .before .before .before .before .before .before .before .before .before)) + 4) * q ≤
+    length (L .records)) (sym (c .quota2 .ensures))
     (omega (arith, a, L .inv .3, records-long (c .before .before .before .before .before .before .before .before .before .before))))
 
 frame-few : (c : tie.After-quota2 Inv-loop μ-loop) → c .quota2 .result ≤ 262144
-frame-few c = omega (arith, c .quota2 .ensures, size-few (c .before .before .before .before .before .before .before .before .before .before .before .before .before .before .before .before .before .before .before .before .before .before .before .before .before .before .before) (c .before .before .loop .t) (within (c .before)))
+frame-few c = omega (
+  arith,
+  c .quota2 .ensures,
+  size-few (c .before .before .before .before .before .before .before .before .before
+      .before .before .before .before .before .before .before .before .before .before .before .before .before .before .before .before
+      .before .before) (c .before .before .loop .t) (within (c .before)),
+)
 
 frame-high : (c : tie.After-quota2 Inv-loop μ-loop) → c .before .before .loop .hi ≤ c .quota2 .result
 frame-high c = omega (arith, c .quota2 .ensures, c .before .before .loop .inv .2)
 
 -- the table before a layer is asked
 asking : (c : tie.After-regrow Inv-loop μ-loop)
-    → let s = c .before .before .before .before .before .before .before .before .before .before .before .before .before .before .before .before .before .before .before .before .before .before .before .before .before .before .before .before .before .args .q .stage in
-    Asking (part (c .before .before .before .before .before .before .before .before .before .before .before .before .before .before .before .before .before .before .before .before .before .before .before .before .before .before .before .before .before)) (s .b) (s .first) (s .limit) (s .k) (c .before .before .before .before .loop .t) (c .before .before .before .before .loop .lo) (c .before .before .before .before .loop .hi)
+    → let s = c .before .before .before .before .before .before .before .before .before .before .before .before .before .before .before
+    .before .before .before .before .before .before .before .before .before .before .before .before .before .before .args .q .stage in
+    Asking (part (c .before .before .before .before .before .before .before .before .before .before .before .before .before .before
+    .before .before .before .before .before .before .before .before .before .before .before .before .before .before .before)) (s .b) (s
+    .first) (s .limit) (s .k) (c .before .before .before .before .loop .t) (c .before .before .before .before .loop .lo) (c .before
+    .before .before .before .loop .hi)
     (c .before .before .quota2 .result) (c .regrow .result) (c .regrow .last .0)
 asking c =
-    let s = c .before .before .before .before .before .before .before .before .before .before .before .before .before .before .before .before .before .before .before .before .before .before .before .before .before .before .before .before .before .args .q .stage in
+    let s = c .before .before .before .before .before .before .before .before .before .before .before .before .before .before .before
+    .before .before .before .before .before .before .before .before .before .before .before .before .before .before .args .q .stage in
     let L = c .before .before .before .before .loop in
     let r = c .regrow in
-    let stands = standing-regrown (part (c .before .before .before .before .before .before .before .before .before .before .before .before .before .before .before .before .before .before .before .before .before .before .before .before .before .before .before .before .before)) (s .b) (s .first) (s .limit) (s .k) (r .kept .0) (r .ensures) (L .inv .6) in
+    let stands = standing-regrown (part (c .before .before .before .before .before .before .before .before .before .before .before
+    .before .before .before .before .before .before .before .before .before .before .before .before .before .before .before .before
+    .before .before)) (s .b) (s .first) (s .limit) (s .k) (r .kept .0) (r .ensures) (L .inv .6) in
     let e : r .result .width ≡ L .table .width = stands .wide ∙ sym (L .inv .6 .wide) in
     record {
       standing = stands;
@@ -161,26 +199,50 @@ fitting kept w room e l r = record { enough = omega arith; fewest = omega arith;
 
 -- the lengths after a layer is asked
 same-records : (c : tie.After-ask-layer Inv-loop μ-loop)
-    → length (c .ask-layer .last .1 .1 .1 .0) ≡ length (c .before .before .before .before .before .before .before .before .before .before .before .before .before .before .before .before .before .before .before .before .before .before .before .before .before .before .before .before .before .before .before .before .before .before .before .args .records .now)
+    → length (c .ask-layer .last .1 .1 .1 .0) ≡ length (c .before .before .before .before .before .before .before .before .before .before
+    .before .before .before .before .before .before .before .before .before .before .before .before .before .before .before .before
+    .before .before .before .before .before .before .before .before .before .args .records .now)
 same-records c =
-    c .ask-layer .kept .1 .1 .1 .0 ∙ c .before .before .before .before .before .before .regrow .kept .0 ∙ c .before .before .before .before .before .before .before .before .before .before .loop .inv .3 ∙ records-long (c .before .before .before .before .before .before .before .before .before .before .before .before .before .before .before .before .before .before)
+    c .ask-layer .kept .1 .1 .1 .0 ∙ c .before .before .before .before .before .before .regrow .kept .0 ∙ c .before .before .before
+    .before .before .before .before .before .before .before .loop .inv .3 ∙ records-long (c .before .before .before .before .before
+    .before .before .before .before .before .before .before .before .before .before .before .before .before)
 
 same-values : (c : tie.After-ask-layer Inv-loop μ-loop)
-    → length (c .ask-layer .last .1 .1 .1 .1 .0) ≡ length (c .before .before .before .before .before .before .before .before .before .before .before .before .before .before .before .before .before .before .before .before .before .before .before .before .before .before .before .before .before .before .before .before .before .before .before .args .values .now)
-same-values c = c .ask-layer .kept .1 .1 .1 .1 .0 ∙ c .before .before .before .before .before .before .before .before .before .before .loop .inv .4
+    → length (c .ask-layer .last .1 .1 .1 .1 .0) ≡ length (c .before .before .before .before .before .before .before .before .before
+    .before .before .before .before .before .before .before .before .before .before .before .before .before .before .before .before
+    .before .before .before .before .before .before .before .before .before .before .args .values .now)
+same-values c = c .ask-layer .kept .1 .1 .1 .1 .0 ∙ c .before .before .before .before .before .before .before .before .before .before
+    .loop .inv .4
 
 same-state : (c : tie.After-ask-layer Inv-loop μ-loop)
-    → length (c .ask-layer .last .1 .1 .1 .1 .1 .1 .0) ≡ length (c .before .before .before .before .before .before .before .before .before .before .before .before .before .before .before .before .before .before .before .before .before .before .before .before .before .before .before .before .before .before .before .before .before .before .before .args .state .now)
+    → length (c .ask-layer .last .1 .1 .1 .1 .1 .1 .0) ≡ length (c .before .before .before .before .before .before .before .before
+    .before .before .before .before .before .before .before .before .before .before .before .before .before .before .before .before
+    .before .before .before .before .before .before .before .before .before .before .before .args .state .now)
 same-state c =
-    c .ask-layer .kept .1 .1 .1 .1 .1 .1 .0 ∙ c .before .before .before .before .before .before .before .before .before .before .loop .inv .5
-    ∙ c .before .before .before .before .before .before .before .before .before .before .before .before .before .before .before .before .before .before .meet-starts .kept .1 .1 .1 .1 .1 .1 .0
+    c .ask-layer .kept .1 .1 .1 .1 .1 .1 .0 ∙ c .before .before .before .before .before .before .before .before .before .before .loop
+    .inv .5
+    ∙ c .before .before .before .before .before .before .before .before .before .before .before .before .before .before .before .before
+    .before .before .meet-starts .kept .1 .1 .1 .1 .1 .1 .0
 
 -- ---- needs
 quota-requires : tie.Need-quota-requires Inv-loop μ-loop
 quota-requires c κs =
     let f = c .before .before .before .before .before .before .before .before .pre .1 .0 .fits in (
       c .before .before .before .before .before .before .before .before .pre .0 .held,
-      (c .before .before .before .before .before .before .before .before .pre .0 .layout-of, (omega arith, omega (arith, f .known, f .bound), f .moderate, c .before .before .before .before .before .before .before .before .pre .1 .0 .few)),
+      (
+        c .before .before .before .before .before .before .before .before .pre .0 .layout-of,
+        (
+          omega arith,
+          omega (
+            arith,
+            f .known,
+            f
+                .bound,
+          ),
+          f .moderate,
+          c .before .before .before .before .before .before .before .before .pre .1 .0 .few,
+        ),
+      ),
     )
 
 width-requires : tie.Need-width-requires Inv-loop μ-loop
@@ -189,7 +251,12 @@ width-requires c κs = c .before .before .before .before .before .before .before
 fill-requires : tie.Need-fill-requires Inv-loop μ-loop
 fill-requires c κs = (
   record {
-    some = omega (arith, c .before .before .quota .ensures, c .before .before .before .before .before .before .before .before .before .before .before .pre .1 .0 .some);
+    some = omega (
+      arith,
+      c .before .before .quota .ensures,
+      c .before .before .before .before .before .before .before .before .before
+          .before .before .pre .1 .0 .some,
+    );
     few = omega (arith, first-few (c .before));
     heads = first-room (c .before);
   },
@@ -198,10 +265,14 @@ fill-requires c κs = (
 
 meet-starts-requires : tie.Need-meet-starts-requires Inv-loop μ-loop
 meet-starts-requires c κs =
-    let R = c .before .before .before .before .before .before .before .before .before .before .before .before .before .before .before .before .pre .0 in
-    let A = c .before .before .before .before .before .before .before .before .before .before .before .before .before .before .before .before .pre .1 .0 in
-    let s = c .before .before .before .before .before .before .before .before .before .before .before .before .before .before .before .before .args .q .stage in
-    let q = quota-small (part (c .before .before .before .before .before .before .before .before .before .before .before .before .before .before .before .before)) (s .first) (s .limit) 0 (A .some) in (
+    let R = c .before .before .before .before .before .before .before .before .before .before .before .before .before .before .before
+    .before .pre .0 in
+    let A = c .before .before .before .before .before .before .before .before .before .before .before .before .before .before .before
+    .before .pre .1 .0 in
+    let s = c .before .before .before .before .before .before .before .before .before .before .before .before .before .before .before
+    .before .args .q .stage in
+    let q = quota-small (part (c .before .before .before .before .before .before .before .before .before .before .before .before .before
+    .before .before .before)) (s .first) (s .limit) 0 (A .some) in (
       R .held,
       (
         R .layout-of,
@@ -210,7 +281,8 @@ meet-starts-requires c κs =
           holds-fits (empty (c .before .before .before .before)),
           A .closed .listed,
           A .few,
-          c .before .before .before .before .before .before .before .before .before .before .before .before .before .before .before .before .pre .1 .1,
+          c .before .before .before .before .before .before .before .before .before .before .before .before .before .before .before
+              .before .pre .1 .1,
           c .before .before .before .before .before .before .width .ensures,
         ),
       ),
@@ -224,46 +296,85 @@ same-length-2 c = c .before .before .before .before .before .before .meet-starts
 
 returns : tie.Need-returns Inv-loop μ-loop
 returns c =
-    let a = c .before .before .before .before .before .before .before .before .before .before .before .before .before .before .before .before .before .before .before .before .before .before .before .args in
+    let a = c .before .before .before .before .before .before .before .before .before .before .before .before .before .before .before
+    .before .before .before .before .before .before .before .before .args in
     let s = a .q .stage in
-    let q = c .before .before .before .before .before .before .before .before .before .before .before .before .before .before .quota .result in
+    let q = c .before .before .before .before .before .before .before .before .before .before .before .before .before .before .quota
+    .result in
     let E = c .before .before .before .before .before .before .meet-starts in
-    started-full (part (c .before .before .before .before .before .before .before .before .before .before .before .before .before .before .before .before .before .before .before .before .before .before .before)) (s .b) (s .first) (s .limit) (s .k) (2 ^ a .q .layout .u) (q + 1) q (first-table (c .before .before .before .before .before .before .before .before .before .before .before .before .before))
-    (E .last .1 .1 .1 .1 .0) (c .before .before .before .before .before .before .before .before .before .before .before .before .before .before .quota .ensures) (omega arith) (ap (λ (x : ℕ). 2 ^ x) (c .before .before .before .before .before .before .before .before .before .before .before .before .before .before .before .before .before .before .before .before .before .before .before .pre .0 .layout-of .u-is))
+    started-full (part (c .before .before .before .before .before .before .before .before .before .before .before .before .before .before
+    .before .before .before .before .before .before .before .before .before)) (s .b) (s .first) (s .limit) (s .k) (2 ^ a .q .layout .u)
+    (q + 1) q (first-table (c .before .before .before .before .before .before .before .before .before .before .before .before .before))
+    (E .last .1 .1 .1 .1 .0) (c .before .before .before .before .before .before .before .before .before .before .before .before .before
+    .before .quota .ensures) (omega arith) (ap (λ (x : ℕ). 2 ^ x) (c .before .before .before .before .before .before .before .before
+    .before .before .before .before .before .before .before .before .before .before .before .before .before .before .before .pre .0
+    .layout-of .u-is))
     (subst
-    (λ (t : Tally). Holds (rows (c .before .before .before .before .before .before .before .before .before .before .before .before .before .before .before .before .before .before .before .before .before .before .before)) 0 0 (first-table (c .before .before .before .before .before .before .before .before .before .before .before .before .before)) q (countOf q t) (E .last .1 .1 .1 .1 .0)
-    (started (machineOf (part (c .before .before .before .before .before .before .before .before .before .before .before .before .before .before .before .before .before .before .before .before .before .before .before)) (s .b)) (2 ^ a .q .layout .u))) (c .enum-told .given .1) (holds-started (c .before .before .before .before .before .before)))
+    (λ (t : Tally). Holds (rows (c .before .before .before .before .before .before .before .before .before .before .before .before
+    .before .before .before .before .before .before .before .before .before .before .before)) 0 0 (first-table (c .before .before .before
+    .before .before .before .before .before .before .before .before .before .before)) q (countOf q t) (E .last .1 .1 .1 .1 .0)
+    (started (machineOf (part (c .before .before .before .before .before .before .before .before .before .before .before .before .before
+    .before .before .before .before .before .before .before .before .before .before)) (s .b)) (2 ^ a .q .layout .u))) (c .enum-told
+    .given .1) (holds-started (c .before .before .before .before .before .before)))
 
 loop-holds : tie.Need-loop-holds Inv-loop μ-loop
 loop-holds c =
-    let a = c .before .before .before .before .before .before .before .before .before .before .before .before .before .before .before .before .before .before .before .before .before .before .before .before .args in
+    let a = c .before .before .before .before .before .before .before .before .before .before .before .before .before .before .before
+    .before .before .before .before .before .before .before .before .before .args in
     let s = a .q .stage in
-    let q = c .before .before .before .before .before .before .before .before .before .before .before .before .before .before .before .quota .result in
+    let q = c .before .before .before .before .before .before .before .before .before .before .before .before .before .before .before
+    .quota .result in
     let E = c .before .before .before .before .before .before .before .meet-starts in
     let told = c .before .starts .given .1 in
     let n = c .before .starts .given .0 .0 in
     let few-starts : n ≤ q = subst (TallyFits q) told (E .ensures .1) in (
       omega arith,
       omega arith,
-      omega (arith, few-starts, c .before .before .before .before .before .before .before .before .before .before .before .before .before .before .before .quota .ensures),
+      omega (
+        arith,
+        few-starts,
+        c .before .before .before .before .before .before .before .before .before .before .before .before .before
+            .before .before .quota .ensures,
+      ),
       refl,
       refl,
       refl,
-      standing-start (part (c .before .before .before .before .before .before .before .before .before .before .before .before .before .before .before .before .before .before .before .before .before .before .before .before)) (s .b) (s .first) (s .limit) (s .k) (2 ^ a .q .layout .u) n q (first-table (c .before .before .before .before .before .before .before .before .before .before .before .before .before .before))
-          (E .last .1 .1 .1 .1 .0) (c .before .before .before .before .before .before .before .before .before .before .before .before .before .before .width .ensures) (c .before .before .before .before .before .before .before .before .before .before .before .before .before .before .before .quota .ensures) few-starts
-          (ap (λ (x : ℕ). 2 ^ x) (c .before .before .before .before .before .before .before .before .before .before .before .before .before .before .before .before .before .before .before .before .before .before .before .before .pre .0 .layout-of .u-is))
+      standing-start (part (c .before .before .before .before .before .before .before .before .before .before .before .before .before
+          .before .before .before .before .before .before .before .before .before .before .before)) (s .b) (s .first) (s .limit) (s .k) (2 ^
+          a .q .layout .u) n q (first-table (c .before .before .before .before .before .before .before .before .before .before .before
+          .before .before .before))
+          (E .last .1 .1 .1 .1 .0) (c .before .before .before .before .before .before .before .before .before .before .before .before
+          .before .before .width .ensures) (c .before .before .before .before .before .before .before .before .before .before .before
+          .before .before .before .before .quota .ensures) few-starts
+          (ap (λ (x : ℕ). 2 ^ x) (c .before .before .before .before .before .before .before .before .before .before .before .before
+          .before .before .before .before .before .before .before .before .before .before .before .before .pre .0 .layout-of .u-is))
           (subst
-          (λ (t : Tally). Holds (rows (c .before .before .before .before .before .before .before .before .before .before .before .before .before .before .before .before .before .before .before .before .before .before .before .before)) 0 0 (first-table (c .before .before .before .before .before .before .before .before .before .before .before .before .before .before)) q (countOf q t) (E .last .1 .1 .1 .1 .0)
-          (started (machineOf (part (c .before .before .before .before .before .before .before .before .before .before .before .before .before .before .before .before .before .before .before .before .before .before .before .before)) (s .b)) (2 ^ a .q .layout .u))) told (holds-started (c .before .before .before .before .before .before .before))),
+          (λ (t : Tally). Holds (rows (c .before .before .before .before .before .before .before .before .before .before .before .before
+          .before .before .before .before .before .before .before .before .before .before .before .before)) 0 0 (first-table (c .before
+          .before .before .before .before .before .before .before .before .before .before .before .before .before)) q (countOf q t) (E
+          .last .1 .1 .1 .1 .0)
+          (started (machineOf (part (c .before .before .before .before .before .before .before .before .before .before .before .before
+          .before .before .before .before .before .before .before .before .before .before .before .before)) (s .b)) (2 ^ a .q .layout
+          .u))) told (holds-started (c .before .before .before .before .before .before .before))),
     )
 
 quota-requires-2 : tie.Need-quota-requires-2 Inv-loop μ-loop
 quota-requires-2 c κs =
-    let f = c .before .before .before .before .before .before .before .before .before .before .before .before .before .before .before .before .before .before .before .before .before .before .before .before .before .before .pre .1 .0 .fits in (
-      c .before .before .before .before .before .before .before .before .before .before .before .before .before .before .before .before .before .before .before .before .before .before .before .before .before .before .pre .0 .held,
+    let f = c .before .before .before .before .before .before .before .before .before .before .before .before .before .before .before
+    .before .before .before .before .before .before .before .before .before .before .before .pre .1 .0 .fits in (
+      c .before .before .before .before .before .before .before .before .before .before .before .before .before .before .before .before
+          .before .before .before .before .before .before .before .before .before .before .pre .0 .held,
       (
-        c .before .before .before .before .before .before .before .before .before .before .before .before .before .before .before .before .before .before .before .before .before .before .before .before .before .before .pre .0 .layout-of,
-        (omega (arith, within (c), f .bound), omega (arith, f .known, f .bound), f .moderate, c .before .before .before .before .before .before .before .before .before .before .before .before .before .before .before .before .before .before .before .before .before .before .before .before .before .before .pre .1 .0 .few),
+        c .before .before .before .before .before .before .before .before .before .before .before .before .before .before .before .before
+            .before .before .before .before .before .before .before .before .before .before .pre .0 .layout-of,
+        (
+          omega (arith, within (c), f .bound),
+          omega (arith, f .known, f .bound),
+          f .moderate,
+          c .before .before .before .before .before
+              .before .before .before .before .before .before .before .before .before .before .before .before .before .before .before .before
+              .before .before .before .before .before .pre .1 .0 .few,
+        ),
       ),
     )
 
@@ -277,18 +388,37 @@ regrow-requires c κs = (
 
 ask-layer-requires : tie.Need-ask-layer-requires Inv-loop μ-loop
 ask-layer-requires c κs =
-    let R = c .before .before .before .before .before .before .before .before .before .before .before .before .before .before .before .before .before .before .before .before .before .before .before .before .before .before .before .before .before .before .before .before .before .before .pre .0 in
-    let A = c .before .before .before .before .before .before .before .before .before .before .before .before .before .before .before .before .before .before .before .before .before .before .before .before .before .before .before .before .before .before .before .before .before .before .pre .1 .0 in
-    let s = c .before .before .before .before .before .before .before .before .before .before .before .before .before .before .before .before .before .before .before .before .before .before .before .before .before .before .before .before .before .before .before .before .before .before .args .q .stage in
+    let R = c .before .before .before .before .before .before .before .before .before .before .before .before .before .before .before
+    .before .before .before .before .before .before .before .before .before .before .before .before .before .before .before .before
+    .before .before .before .pre .0 in
+    let A = c .before .before .before .before .before .before .before .before .before .before .before .before .before .before .before
+    .before .before .before .before .before .before .before .before .before .before .before .before .before .before .before .before
+    .before .before .before .pre .1 .0 in
+    let s = c .before .before .before .before .before .before .before .before .before .before .before .before .before .before .before
+    .before .before .before .before .before .before .before .before .before .before .before .before .before .before .before .before
+    .before .before .before .args .q .stage in
     let L = c .before .before .before .before .before .before .before .before .before .loop in
     let k = asking (c .before .before .before .before .before) in
-    let q = quota-small (part (c .before .before .before .before .before .before .before .before .before .before .before .before .before .before .before .before .before .before .before .before .before .before .before .before .before .before .before .before .before .before .before .before .before .before)) (s .first) (s .limit) 0 (A .some) in (
+    let q = quota-small (part (c .before .before .before .before .before .before .before .before .before .before .before .before .before
+    .before .before .before .before .before .before .before .before .before .before .before .before .before .before .before .before
+    .before .before .before .before .before)) (s .first) (s .limit) 0 (A .some) in (
       ready-with R (omega (arith, L .inv .4, R .room)),
       (
         (
           A .fits .bad,
-          fitting (length (c .before .before .before .before .before .before .before .before .before .before .before .before .before .before .before .before .before .before .before .before .before .before .before .before .before .before .before .before .before .before .before .before .before .before .args .kept .now)) (c .before .before .before .before .before .regrow .result .width) (length (L .state)) (k .standing .wide) (A .few)
-              (omega (arith, L .inv .5, c .before .before .before .before .before .before .before .before .before .before .before .before .before .before .before .before .before .meet-starts .kept .1 .1 .1 .1 .1 .1 .0, c .before .before .before .before .before .before .before .before .before .before .before .before .before .before .before .before .before .before .before .before .before .before .before .before .before .before .before .before .before .before .before .before .before .before .pre .1 .1)),
+          fitting (length (c .before .before .before .before .before .before .before .before .before .before .before .before .before
+              .before .before .before .before .before .before .before .before .before .before .before .before .before .before .before .before
+              .before .before .before .before .before .args .kept .now)) (c .before .before .before .before .before .regrow .result .width)
+              (length (L .state)) (k .standing .wide) (A .few)
+              (omega (
+                arith,
+                L .inv .5,
+                c .before .before .before .before .before .before .before .before .before .before .before .before
+                    .before .before .before .before .before .meet-starts .kept .1 .1 .1 .1 .1 .1 .0,
+                c .before .before .before .before .before
+                    .before .before .before .before .before .before .before .before .before .before .before .before .before .before .before
+                    .before .before .before .before .before .before .before .before .before .before .before .before .before .before .pre .1 .1,
+              )),
           omega (arith, q .0, inputs-are (R .held) (R .layout-of)),
           A .closed,
         ),
@@ -296,7 +426,9 @@ ask-layer-requires c κs =
           L .inv .1,
           k .high,
           k .few,
-          holds-fits (standing-holds (part (c .before .before .before .before .before .before .before .before .before .before .before .before .before .before .before .before .before .before .before .before .before .before .before .before .before .before .before .before .before .before .before .before .before .before)) (s .b) (s .first) (s .limit) (s .k) k),
+          holds-fits (standing-holds (part (c .before .before .before .before .before .before .before .before .before .before .before
+              .before .before .before .before .before .before .before .before .before .before .before .before .before .before .before .before
+              .before .before .before .before .before .before .before)) (s .b) (s .first) (s .limit) (s .k) k),
         ),
       ),
     )
@@ -312,13 +444,33 @@ same-length-5 c = same-state (c .before .before .before .before .before .before 
 
 returns-2 : tie.Need-returns-2 Inv-loop μ-loop
 returns-2 c =
-    let s = c .before .before .before .before .before .before .before .before .before .before .before .before .before .before .before .before .before .before .before .before .before .before .before .before .before .before .before .before .before .before .before .before .before .before .before .before .before .before .before .before .before .before .before .before .args .q .stage in
+    let s = c .before .before .before .before .before .before .before .before .before .before .before .before .before .before .before
+    .before .before .before .before .before .before .before .before .before .before .before .before .before .before .before .before
+    .before .before .before .before .before .before .before .before .before .before .before .before .before .args .q .stage in
     let E = c .before .before .before .before .before .before .before .before .before .ask-layer in
-    case-hit (part (c .before .before .before .before .before .before .before .before .before .before .before .before .before .before .before .before .before .before .before .before .before .before .before .before .before .before .before .before .before .before .before .before .before .before .before .before .before .before .before .before .before .before .before .before)) (s .b) (s .first) (s .limit) (s .k) (asking (c .before .before .before .before .before .before .before .before .before .before .before .before .before .before .before)) (E .last .1 .1 .1 .0) (E .ensures)
-    (E .kept .1 .1 .1 .0) (quota-small (part (c .before .before .before .before .before .before .before .before .before .before .before .before .before .before .before .before .before .before .before .before .before .before .before .before .before .before .before .before .before .before .before .before .before .before .before .before .before .before .before .before .before .before .before .before)) (s .first) (s .limit) 0 (c .before .before .before .before .before .before .before .before .before .before .before .before .before .before .before .before .before .before .before .before .before .before .before .before .before .before .before .before .before .before .before .before .before .before .before .before .before .before .before .before .before .before .before .before .pre .1 .0 .some) .0) (c .before .e .given .1)
+    case-hit (part (c .before .before .before .before .before .before .before .before .before .before .before .before .before .before
+    .before .before .before .before .before .before .before .before .before .before .before .before .before .before .before .before
+    .before .before .before .before .before .before .before .before .before .before .before .before .before .before)) (s .b) (s .first)
+    (s .limit) (s .k) (asking (c .before .before .before .before .before .before .before .before .before .before .before .before .before
+    .before .before)) (E .last .1 .1 .1 .0) (E .ensures)
+    (E .kept .1 .1 .1 .0) (quota-small (part (c .before .before .before .before .before .before .before .before .before .before .before
+    .before .before .before .before .before .before .before .before .before .before .before .before .before .before .before .before
+    .before .before .before .before .before .before .before .before .before .before .before .before .before .before .before .before
+    .before)) (s .first) (s .limit) 0 (c .before .before .before .before .before .before .before .before .before .before .before .before
+    .before .before .before .before .before .before .before .before .before .before .before .before .before .before .before .before
+    .before .before .before .before .before .before .before .before .before .before .before .before .before .before .before .before .pre
+    .1 .0 .some) .0) (c .before .e .given .1)
 
 add-t43 : tie.Need-add-t43 Inv-loop μ-loop
-add-t43 c = omega (arith, within (c .before .before .before .before .before .before .before .before .before .before .before .before .before .before .before .before .before), c .before .before .before .before .before .before .before .before .before .before .before .before .before .before .before .before .before .before .before .before .before .before .before .before .before .before .before .before .before .before .before .before .before .before .before .before .before .before .before .before .before .before .before .pre .1 .0 .fits .bound)
+add-t43 c = omega (
+  arith,
+  within (c .before .before .before .before .before .before .before .before .before .before .before .before
+      .before .before .before .before .before),
+  c .before .before .before .before .before .before .before .before .before .before .before
+      .before .before .before .before .before .before .before .before .before .before .before .before .before .before .before .before
+      .before .before .before .before .before .before .before .before .before .before .before .before .before .before .before .before .pre
+      .1 .0 .fits .bound,
+)
 
 same-length-6 : tie.Need-same-length-6 Inv-loop μ-loop
 same-length-6 c = same-records (c .before .before .before .before .before .before .before .before)
@@ -331,9 +483,15 @@ same-length-8 c = same-state (c .before .before .before .before .before .before 
 
 returns-3 : tie.Need-returns-3 Inv-loop μ-loop
 returns-3 c =
-    let s = c .before .before .before .before .before .before .before .before .before .before .before .before .before .before .before .before .before .before .before .before .before .before .before .before .before .before .before .before .before .before .before .before .before .before .before .before .before .before .before .before .before .before .before .args .q .stage in
+    let s = c .before .before .before .before .before .before .before .before .before .before .before .before .before .before .before
+    .before .before .before .before .before .before .before .before .before .before .before .before .before .before .before .before
+    .before .before .before .before .before .before .before .before .before .before .before .before .args .q .stage in
     let E = c .before .before .before .before .before .before .before .before .ask-layer in
-    case-lost (part (c .before .before .before .before .before .before .before .before .before .before .before .before .before .before .before .before .before .before .before .before .before .before .before .before .before .before .before .before .before .before .before .before .before .before .before .before .before .before .before .before .before .before .before)) (s .b) (s .first) (s .limit) (s .k) (asking (c .before .before .before .before .before .before .before .before .before .before .before .before .before .before)) (E .last .1 .1 .1 .0) (E .ensures)
+    case-lost (part (c .before .before .before .before .before .before .before .before .before .before .before .before .before .before
+    .before .before .before .before .before .before .before .before .before .before .before .before .before .before .before .before
+    .before .before .before .before .before .before .before .before .before .before .before .before .before)) (s .b) (s .first) (s
+    .limit) (s .k) (asking (c .before .before .before .before .before .before .before .before .before .before .before .before .before
+    .before)) (E .last .1 .1 .1 .0) (E .ensures)
     (c .enum-told2 .given .1)
 
 same-length-9 : tie.Need-same-length-9 Inv-loop μ-loop
@@ -347,34 +505,71 @@ same-length-11 c = same-state (c .before .before .before .before .before .before
 
 returns-4 : tie.Need-returns-4 Inv-loop μ-loop
 returns-4 c =
-    let s = c .before .before .before .before .before .before .before .before .before .before .before .before .before .before .before .before .before .before .before .before .before .before .before .before .before .before .before .before .before .before .before .before .before .before .before .before .before .before .before .before .before .before .before .before .before .args .q .stage in
+    let s = c .before .before .before .before .before .before .before .before .before .before .before .before .before .before .before
+    .before .before .before .before .before .before .before .before .before .before .before .before .before .before .before .before
+    .before .before .before .before .before .before .before .before .before .before .before .before .before .before .args .q .stage in
     let E = c .before .before .before .before .before .before .before .before .before .before .ask-layer in
-    case-last (part (c .before .before .before .before .before .before .before .before .before .before .before .before .before .before .before .before .before .before .before .before .before .before .before .before .before .before .before .before .before .before .before .before .before .before .before .before .before .before .before .before .before .before .before .before .before)) (s .b) (s .first) (s .limit) (s .k) (asking (c .before .before .before .before .before .before .before .before .before .before .before .before .before .before .before .before)) (E .last .1 .1 .1 .0) (E .ensures)
+    case-last (part (c .before .before .before .before .before .before .before .before .before .before .before .before .before .before
+    .before .before .before .before .before .before .before .before .before .before .before .before .before .before .before .before
+    .before .before .before .before .before .before .before .before .before .before .before .before .before .before .before)) (s .b) (s
+    .first) (s .limit) (s .k) (asking (c .before .before .before .before .before .before .before .before .before .before .before .before
+    .before .before .before .before)) (E .last .1 .1 .1 .0) (E .ensures)
     (c .before .before .met .given .1) (c .if1 .taken)
 
 add-t : tie.Need-add-t Inv-loop μ-loop
-add-t c = omega (arith, within (c .before .before .before .before .before .before .before .before .before .before .before .before .before .before .before .before .before .before .before), c .before .before .before .before .before .before .before .before .before .before .before .before .before .before .before .before .before .before .before .before .before .before .before .before .before .before .before .before .before .before .before .before .before .before .before .before .before .before .before .before .before .before .before .before .before .pre .1 .0 .fits .bound)
+add-t c = omega (
+  arith,
+  within (c .before .before .before .before .before .before .before .before .before .before .before .before .before
+      .before .before .before .before .before .before),
+  c .before .before .before .before .before .before .before .before .before .before
+      .before .before .before .before .before .before .before .before .before .before .before .before .before .before .before .before
+      .before .before .before .before .before .before .before .before .before .before .before .before .before .before .before .before
+      .before .before .before .pre .1 .0 .fits .bound,
+)
 
 loop-less : tie.Need-loop-less Inv-loop μ-loop
-loop-less c = omega (arith, within (c .before .before .before .before .before .before .before .before .before .before .before .before .before .before .before .before .before .before .before))
+loop-less c = omega (
+  arith,
+  within (c .before .before .before .before .before .before .before .before .before .before .before .before
+      .before .before .before .before .before .before .before),
+)
 
 loop-again : tie.Need-loop-again Inv-loop μ-loop
 loop-again c =
-    let s = c .before .before .before .before .before .before .before .before .before .before .before .before .before .before .before .before .before .before .before .before .before .before .before .before .before .before .before .before .before .before .before .before .before .before .before .before .before .before .before .before .before .before .before .before .before .args .q .stage in
-    let L = c .before .before .before .before .before .before .before .before .before .before .before .before .before .before .before .before .before .before .before .before .loop in
+    let s = c .before .before .before .before .before .before .before .before .before .before .before .before .before .before .before
+    .before .before .before .before .before .before .before .before .before .before .before .before .before .before .before .before
+    .before .before .before .before .before .before .before .before .before .before .before .before .before .before .args .q .stage in
+    let L = c .before .before .before .before .before .before .before .before .before .before .before .before .before .before .before
+    .before .before .before .before .before .loop in
     let E = c .before .before .before .before .before .before .before .before .before .before .ask-layer in
-    let k = asking (c .before .before .before .before .before .before .before .before .before .before .before .before .before .before .before .before) in
+    let k = asking (c .before .before .before .before .before .before .before .before .before .before .before .before .before .before
+    .before .before) in
     let told = c .before .before .met .given .1 in
-    let next = case-more (part (c .before .before .before .before .before .before .before .before .before .before .before .before .before .before .before .before .before .before .before .before .before .before .before .before .before .before .before .before .before .before .before .before .before .before .before .before .before .before .before .before .before .before .before .before .before)) (s .b) (s .first) (s .limit) (s .k) k (E .last .1 .1 .1 .0) (E .ensures) told (c .if1 .left) in (
-      omega (arith, within (c .before .before .before .before .before .before .before .before .before .before .before .before .before .before .before .before .before .before .before)),
+    let next = case-more (part (c .before .before .before .before .before .before .before .before .before .before .before .before .before
+    .before .before .before .before .before .before .before .before .before .before .before .before .before .before .before .before
+    .before .before .before .before .before .before .before .before .before .before .before .before .before .before .before .before)) (s
+    .b) (s .first) (s .limit) (s .k) k (E .last .1 .1 .1 .0) (E .ensures) told (c .if1 .left) in (
+      omega (
+        arith,
+        within (c .before .before .before .before .before .before .before .before .before .before .before .before .before
+            .before .before .before .before .before .before),
+      ),
       next .low,
       omega (
         arith,
-        met-few (part (c .before .before .before .before .before .before .before .before .before .before .before .before .before .before .before .before .before .before .before .before .before .before .before .before .before .before .before .before .before .before .before .before .before .before .before .before .before .before .before .before .before .before .before .before .before)) (s .b) (s .first) (s .limit) (s .k) k (E .last .1 .1 .1 .0) (E .ensures) told,
-        c .before .before .before .before .before .before .before .before .before .before .before .before .before .before .before .before .before .before .quota2 .ensures,
-        quota-mono (part (c .before .before .before .before .before .before .before .before .before .before .before .before .before .before .before .before .before .before .before .before .before .before .before .before .before .before .before .before .before .before .before .before .before .before .before .before .before .before .before .before .before .before .before .before .before)) (s .first) (s .limit) (L .t) (L .t + 1) (omega arith),
+        met-few (part (c .before .before .before .before .before .before .before .before .before .before .before .before .before .before
+            .before .before .before .before .before .before .before .before .before .before .before .before .before .before .before .before
+            .before .before .before .before .before .before .before .before .before .before .before .before .before .before .before)) (s .b)
+            (s .first) (s .limit) (s .k) k (E .last .1 .1 .1 .0) (E .ensures) told,
+        c .before .before .before .before .before .before .before .before .before .before .before .before .before .before .before .before
+            .before .before .quota2 .ensures,
+        quota-mono (part (c .before .before .before .before .before .before .before .before .before .before .before .before .before
+            .before .before .before .before .before .before .before .before .before .before .before .before .before .before .before .before
+            .before .before .before .before .before .before .before .before .before .before .before .before .before .before .before .before))
+            (s .first) (s .limit) (L .t) (L .t + 1) (omega arith),
       ),
-      E .kept .1 .1 .1 .0 ∙ c .before .before .before .before .before .before .before .before .before .before .before .before .before .before .before .before .regrow .kept .0 ∙ L .inv .3,
+      E .kept .1 .1 .1 .0 ∙ c .before .before .before .before .before .before .before .before .before .before .before .before .before
+          .before .before .before .regrow .kept .0 ∙ L .inv .3,
       E .kept .1 .1 .1 .1 .0 ∙ L .inv .4,
       E .kept .1 .1 .1 .1 .1 .1 .0 ∙ L .inv .5,
       next,
@@ -387,13 +582,17 @@ same-length-13 : tie.Need-same-length-13 Inv-loop μ-loop
 same-length-13 c = c .before .loop .inv .4
 
 same-length-14 : tie.Need-same-length-14 Inv-loop μ-loop
-same-length-14 c = c .before .loop .inv .5 ∙ c .before .before .before .before .before .before .before .before .before .meet-starts .kept .1 .1 .1 .1 .1 .1 .0
+same-length-14 c = c .before .loop .inv .5 ∙ c .before .before .before .before .before .before .before .before .before .meet-starts .kept
+    .1 .1 .1 .1 .1 .1 .0
 
 returns-5 : tie.Need-returns-5 Inv-loop μ-loop
 returns-5 c =
-    let s = c .before .before .before .before .before .before .before .before .before .before .before .before .before .before .before .before .before .before .before .before .before .before .before .before .before .before .args .q .stage in
+    let s = c .before .before .before .before .before .before .before .before .before .before .before .before .before .before .before
+    .before .before .before .before .before .before .before .before .before .before .before .args .q .stage in
     let L = c .before .loop in
-    standing-end (part (c .before .before .before .before .before .before .before .before .before .before .before .before .before .before .before .before .before .before .before .before .before .before .before .before .before .before)) (s .b) (s .first) (s .limit) (s .k) (L .t) (L .lo) (L .hi) (L .table) (L .records) (L .inv .6)
+    standing-end (part (c .before .before .before .before .before .before .before .before .before .before .before .before .before .before
+    .before .before .before .before .before .before .before .before .before .before .before .before)) (s .b) (s .first) (s .limit) (s .k)
+    (L .t) (L .lo) (L .hi) (L .table) (L .records) (L .inv .6)
     (omega (arith, c .loop-test .left))
 
 pub ask-frames-spec : {M : Type 1} → statement M

@@ -5,7 +5,14 @@ use Rattle.reachable.proofs.find_first.Statement.{statement}
 use Rattle.reachable.proofs.find_first.Tie as tie
 
 ask-frames-requires : tie.Need-ask-frames-requires
-ask-frames-requires c κs = (c .before .before .before .before .before .before .before .pre .0, (c .before .before .before .before .before .before .before .pre .1, omega arith))
+ask-frames-requires c κs = (
+  c .before .before .before .before .before .before .before .pre .0,
+  (
+    c .before .before .before .before .before
+        .before .before .pre .1,
+    omega arith,
+  ),
+)
 
 same-length : tie.Need-same-length
 same-length c = c .before .before .before .before .ask-frames .kept .1 .1 .1 .0

@@ -31,7 +31,8 @@ scratch : (w : ℕ) → w ≤ 32 → length (take w (replicate {A = ℕ} 32 0)) 
 scratch w l = length-take-le w (replicate {A = ℕ} 32 0) (omega (arith, length-replicate {A = ℕ} 32 0))
 
 slice-aggregate-meet-starts : tie.Need-slice-aggregate-meet-starts
-slice-aggregate-meet-starts c = sym (scratch (c .before .before .before .before .before .before .before .before .args .table .width) (narrow (c .before .before .before .before .before .before .before .before)))
+slice-aggregate-meet-starts c = sym (scratch (c .before .before .before .before .before .before .before .before .args .table .width)
+    (narrow (c .before .before .before .before .before .before .before .before)))
 
 meet-starts-requires : tie.Need-meet-starts-requires
 meet-starts-requires c κs =
@@ -51,7 +52,8 @@ meet-starts-requires c κs =
             most = narrow (c .before .before .before .before .before .before .before .before);
             each = omega (arith, P .3, P .4);
           },
-          scratch (c .before .before .before .before .before .before .before .before .args .table .width) (narrow (c .before .before .before .before .before .before .before .before)),
+          scratch (c .before .before .before .before .before .before .before .before .args .table .width) (narrow (c .before .before
+              .before .before .before .before .before .before)),
         ),
       ),
     )
@@ -69,7 +71,8 @@ returns c =
       λ rows b h.
           subst
           (λ (n : ℕ). Holds rows 0 0 (a .table) (a .quota) (countOf (a .quota) (E .result)) (E .last .1 .1 .1 .0)
-          (started (machineOf (partIn (a .m .now) (a .kept .now)) b) n)) (c .before .before .before .before .before .before .before .before .before .power .ensures .0) (E .ensures .0 rows b h),
+          (started (machineOf (partIn (a .m .now) (a .kept .now)) b) n)) (c .before .before .before .before .before .before .before
+          .before .before .power .ensures .0) (E .ensures .0 rows b h),
       E .ensures .1,
     )
 

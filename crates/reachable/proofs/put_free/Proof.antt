@@ -17,10 +17,21 @@ walk-requires c κs = (
   (
     c .before .before .before .pre .0 .0,
     omega arith,
-    omega (arith, c .before .before .before .pre .0 .1, pow-mono {i = c .before .before .before .args .width} {j = 16} (c .before .before .before .pre .0 .3)),
+    omega (
+      arith,
+      c .before .before .before .pre .0 .1,
+      pow-mono {i = c .before .before .before .args .width} {j = 16} (c .before .before
+          .before .pre .0 .3),
+    ),
     c .before .before .before .pre .0 .4,
   ),
-  (2 ^ c .before .before .before .args .width, c .before .before .before .pre .1 .0, c .before .before .before .pre .0 .1, c .before .before .before .pre .1 .1),
+  (
+    2 ^ c .before .before .before .args .width,
+    c .before .before .before .pre .1 .0,
+    c .before .before .before .pre .0 .1,
+    c .before
+        .before .before .pre .1 .1,
+  ),
 )
 
 add-put-trace : tie.Need-add-put-trace
@@ -28,18 +39,34 @@ add-put-trace c = omega (arith, c .before .before .before .before .before .befor
 
 mul-put-trace : tie.Need-mul-put-trace
 mul-put-trace c =
-    omega (arith, few (c .before .before .before .before .before .before .args .free) (c .before .before .before .before .before .before .args .width) (c .before .before .before .before .before .before .args .t) (c .before .before .before .before .before .before .pre .0 .0), c .before .before .before .before .before .before .pre .0 .3, c .before .before .before .before .before .before .pre .0 .2)
+    omega (
+      arith,
+      few (c .before .before .before .before .before .before .args .free) (c .before .before .before .before .before .before
+          .args .width) (c .before .before .before .before .before .before .args .t) (c .before .before .before .before .before .before .pre .0
+          .0),
+      c .before .before .before .before .before .before .pre .0 .3,
+      c .before .before .before .before .before .before .pre .0 .2,
+    )
 
 add-put-trace-2 : tie.Need-add-put-trace-2
 add-put-trace-2 c =
-    omega (arith, few (c .before .before .before .before .before .before .args .free) (c .before .before .before .before .before .before .args .width) (c .before .before .before .before .before .before .args .t) (c .before .before .before .before .before .before .pre .0 .0), c .before .before .before .before .before .before .pre .0 .3, c .before .before .before .before .before .before .pre .0 .2)
+    omega (
+      arith,
+      few (c .before .before .before .before .before .before .args .free) (c .before .before .before .before .before .before
+          .args .width) (c .before .before .before .before .before .before .args .t) (c .before .before .before .before .before .before .pre .0
+          .0),
+      c .before .before .before .before .before .before .pre .0 .3,
+      c .before .before .before .before .before .before .pre .0 .2,
+    )
 
 put-trace-requires : tie.Need-put-trace-requires
 put-trace-requires c κs = (
   omega (arith, c .before .before .before .walk .kept .1 .1 .1 .1 .1 .0),
   c .before .before .before .before .before .before .before .pre .0 .2,
   c .before .before .before .before .before .before .before .pre .0 .3,
-  few (c .before .before .before .before .before .before .before .args .free) (c .before .before .before .before .before .before .before .args .width) (c .before .before .before .before .before .before .before .args .t) (c .before .before .before .before .before .before .before .pre .0 .0),
+  few (c .before .before .before .before .before .before .before .args .free) (c .before .before .before .before .before .before .before
+      .args .width) (c .before .before .before .before .before .before .before .args .t) (c .before .before .before .before .before .before
+      .before .pre .0 .0),
   c .before .before .before .before .before .before .before .pre .0 .5,
 )
 
@@ -48,8 +75,12 @@ same-length c = c .before .before .put-trace .kept .1 .1 .1 .1 .0
 
 returns : tie.Need-returns
 returns c =
-    λ y h. c .before .before .put-trace .ensures (c .before .before .before .before .before .before .before .before .before .before .args .t) (y * 2 ^ c .before .before .before .before .before .before .before .before .before .before .args .width + c .before .before .before .before .before .before .before .before .before .before .args .row)
-    (c .before .before .before .before .before .before .walk .ensures (2 ^ c .before .before .before .before .before .before .before .before .before .before .args .width) y h (c .before .before .before .before .before .before .before .before .before .before .pre .0 .1)) refl
+    λ y h. c .before .before .put-trace .ensures (c .before .before .before .before .before .before .before .before .before .before .args
+    .t) (y * 2 ^ c .before .before .before .before .before .before .before .before .before .before .args .width + c .before .before
+    .before .before .before .before .before .before .before .before .args .row)
+    (c .before .before .before .before .before .before .walk .ensures (2 ^ c .before .before .before .before .before .before .before
+    .before .before .before .args .width) y h (c .before .before .before .before .before .before .before .before .before .before .pre .0
+    .1)) refl
 
 pub put-free-spec : {M : Type 1} → statement M
 put-free-spec =

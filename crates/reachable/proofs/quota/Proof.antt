@@ -15,26 +15,59 @@ use Rattle.reachable.proofs.quota.Tie as tie
 
 returns : tie.Need-returns
 returns c =
-    sym (quota-many (partIn (c .before .before .before .before .args .m .now) (c .before .before .before .before .args .kept .now)) (c .before .before .before .before .args .stage .first) (c .before .before .before .before .args .stage .limit)
-    (c .before .before .before .before .args .t) (omega (arith, c .if1 .taken, inputs-are (c .before .before .before .before .pre .0) (c .before .before .before .before .pre .1 .0))))
+    sym (quota-many (partIn (c .before .before .before .before .args .m .now) (c .before .before .before .before .args .kept .now)) (c
+    .before .before .before .before .args .stage .first) (c .before .before .before .before .args .stage .limit)
+    (c .before .before .before .before .args .t) (omega (
+      arith,
+      c .if1 .taken,
+      inputs-are (c .before .before .before .before .pre .0) (c
+          .before .before .before .before .pre .1 .0),
+    )))
 
 returns-2 : tie.Need-returns-2
 returns-2 c =
-    sym (quota-free (partIn (c .before .before .before .before .before .before .args .m .now) (c .before .before .before .before .before .before .args .kept .now)) (c .before .before .before .before .before .before .args .stage .first) (c .before .before .before .before .before .before .args .stage .limit)
-    (c .before .before .before .before .before .before .args .t) (omega (arith, c .before .before .if1 .left, inputs-are (c .before .before .before .before .before .before .pre .0) (c .before .before .before .before .before .before .pre .1 .0)))
+    sym (quota-free (partIn (c .before .before .before .before .before .before .args .m .now) (c .before .before .before .before .before
+    .before .args .kept .now)) (c .before .before .before .before .before .before .args .stage .first) (c .before .before .before .before
+    .before .before .args .stage .limit)
+    (c .before .before .before .before .before .before .args .t) (omega (
+      arith,
+      c .before .before .if1 .left,
+      inputs-are (c .before
+          .before .before .before .before .before .pre .0) (c .before .before .before .before .before .before .pre .1 .0),
+    ))
     (omega (arith, c .if2 .taken, c .before .before .before .before .before .before .pre .1 .0 .u-is)))
 
 -- the later frame is one of 255
 last-few : (c : tie.After-later) → c .later .result ≤ 255
-last-few c = omega (arith, c .later .ensures, c .before .before .before .before .before .before .before .before .pre .1 .1 .0, c .before .before .before .before .before .before .before .before .pre .1 .1 .1)
+last-few c = omega (
+  arith,
+  c .later .ensures,
+  c .before .before .before .before .before .before .before .before .pre .1 .1 .0,
+  c .before
+      .before .before .before .before .before .before .before .pre .1 .1 .1,
+)
 
 size-requires : tie.Need-size-requires
-size-requires c κs = (limited (c .before .before .before .before .before .before .before .before .pre .0) (c .before .before .before .before .before .before .before .before .pre .1 .0), last-few (c))
+size-requires c κs = (
+  limited (c .before .before .before .before .before .before .before .before .pre .0) (c .before .before .before
+      .before .before .before .before .before .pre .1 .0),
+  last-few (c),
+)
 
 effort-requires : tie.Need-effort-requires
 effort-requires c κs = (
   c .before .before .before .before .before .before .before .before .before .pre .0,
-  (c .before .before .before .before .before .before .before .before .before .pre .1 .0, (omega (arith, c .before .before .before .before .before .if1 .left), c .before .before .before .before .before .before .before .before .before .pre .1 .1 .3)),
+  (
+    c .before .before .before .before .before .before .before .before .before .pre .1 .0,
+    (
+      omega (
+        arith,
+        c .before .before .before .before
+            .before .if1 .left,
+      ),
+      c .before .before .before .before .before .before .before .before .before .pre .1 .1 .3,
+    ),
+  ),
 )
 
 width-requires : tie.Need-width-requires
@@ -46,11 +79,18 @@ few c =
     omega (
       arith,
       c .size .ensures,
-      size-few (c .before .before .before .before .before .before .before .before .before .args .kept .now) (c .before .before .before .before .before .before .before .before .before .pre .0) (c .before .before .before .before .before .before .before .before .before .pre .1 .0) (c .before .later .result) (last-few (c .before)),
+      size-few (c .before .before .before .before .before .before .before .before .before .args .kept .now) (c .before .before .before
+          .before .before .before .before .before .before .pre .0) (c .before .before .before .before .before .before .before .before .before
+          .pre .1 .0) (c .before .later .result) (last-few (c .before)),
     )
 
 add-stride : tie.Need-add-stride
-add-stride c = omega (arith, c .width .ensures, c .before .before .before .before .before .before .before .before .before .before .before .pre .1 .1 .3)
+add-stride c = omega (
+  arith,
+  c .width .ensures,
+  c .before .before .before .before .before .before .before .before .before .before .before
+      .pre .1 .1 .3,
+)
 
 mul-lesser : tie.Need-mul-lesser
 mul-lesser c = omega (arith, few (c .before .before))
@@ -62,29 +102,60 @@ mul-lesser-2 : tie.Need-mul-lesser-2
 mul-lesser-2 c =
     omega (
       arith,
-      work-few (c .before .before .before .before .before .before .before .before .before .before .before .before .args .kept .now) (c .before .before .before .before .before .before .before .before .before .before .before .before .pre .0) (c .before .before .before .before .before .before .before .before .before .before .before .before .pre .1 .0) (c .before .before .before .before .before .before .before .before .before .before .before .before .args .stage .limit) (c .before .before .before .size .result)
-          (c .before .before .before .before .before .before .before .before .before .before .before .before .pre .1 .1 .2) (few (c .before .before .before)),
+      work-few (c .before .before .before .before .before .before .before .before .before .before .before .before .args .kept .now) (c
+          .before .before .before .before .before .before .before .before .before .before .before .before .pre .0) (c .before .before .before
+          .before .before .before .before .before .before .before .before .before .pre .1 .0) (c .before .before .before .before .before
+          .before .before .before .before .before .before .before .args .stage .limit) (c .before .before .before .size .result)
+          (c .before .before .before .before .before .before .before .before .before .before .before .before .pre .1 .1 .2) (few (c
+          .before .before .before)),
     )
 
 add-lesser : tie.Need-add-lesser
 add-lesser c =
     omega (
       arith,
-      work-few (c .before .before .before .before .before .before .before .before .before .before .before .before .before .args .kept .now) (c .before .before .before .before .before .before .before .before .before .before .before .before .before .pre .0) (c .before .before .before .before .before .before .before .before .before .before .before .before .before .pre .1 .0) (c .before .before .before .before .before .before .before .before .before .before .before .before .before .args .stage .limit) (c .before .before .before .before .size .result)
-          (c .before .before .before .before .before .before .before .before .before .before .before .before .before .pre .1 .1 .2) (few (c .before .before .before .before)),
+      work-few (c .before .before .before .before .before .before .before .before .before .before .before .before .before .args .kept
+          .now) (c .before .before .before .before .before .before .before .before .before .before .before .before .before .pre .0) (c
+          .before .before .before .before .before .before .before .before .before .before .before .before .before .pre .1 .0) (c .before
+          .before .before .before .before .before .before .before .before .before .before .before .before .args .stage .limit) (c .before
+          .before .before .before .size .result)
+          (c .before .before .before .before .before .before .before .before .before .before .before .before .before .pre .1 .1 .2) (few
+          (c .before .before .before .before)),
       c .before .before .before .before .before .before .before .before .before .before .before .before .before .pre .1 .1 .2 .base-small,
     )
 
 div-lesser-2 : tie.Need-div-lesser-2
-div-lesser-2 c = omega (arith, c .before .before .before .effort .ensures, effort-some (partIn (c .before .before .before .before .before .before .before .before .before .before .before .before .before .args .m .now) (c .before .before .before .before .before .before .before .before .before .before .before .before .before .args .kept .now)))
+div-lesser-2 c = omega (
+  arith,
+  c .before .before .before .effort .ensures,
+  effort-some (partIn (c .before .before .before .before .before
+      .before .before .before .before .before .before .before .before .args .m .now) (c .before .before .before .before .before .before
+      .before .before .before .before .before .before .before .args .kept .now)),
+)
 
 returns-3 : tie.Need-returns-3
 returns-3 c =
     c .lesser .ensures
-    ∙ quota-from (c .before .before .before .before .before .before .before .before .before .before .before .before .before .before .args .kept .now) (c .before .before .before .before .before .before .before .before .before .before .before .before .before .before .pre .0) (c .before .before .before .before .before .before .before .before .before .before .before .before .before .before .pre .1 .0) (c .before .before .before .before .before .before .before .before .before .before .before .before .before .before .args .stage .first)
-    (c .before .before .before .before .before .before .before .before .before .before .before .before .before .before .args .stage .limit) (c .before .before .before .before .before .before .before .before .before .before .before .before .before .before .args .t) (c .before .before .before .before .before .size .result) (c .before .before .before .before .effort .result) (c .before .before .before .width .result + 4)
-    (c .before .before .before .before .before .size .ensures ∙ ap (sizeOf (c .before .before .before .before .before .before .before .before .before .before .before .before .before .before .args .layout)) (c .before .before .before .before .before .before .later .ensures)) (c .before .before .before .before .effort .ensures)
-    (ap (λ (x : ℕ). x + 4) (c .before .before .before .width .ensures)) (omega (arith, c .before .before .before .before .before .before .before .before .before .before .if1 .left)) (omega (arith, c .before .before .before .before .before .before .before .before .if2 .left))
+    ∙ quota-from (c .before .before .before .before .before .before .before .before .before .before .before .before .before .before .args
+    .kept .now) (c .before .before .before .before .before .before .before .before .before .before .before .before .before .before .pre
+    .0) (c .before .before .before .before .before .before .before .before .before .before .before .before .before .before .pre .1 .0) (c
+    .before .before .before .before .before .before .before .before .before .before .before .before .before .before .args .stage .first)
+    (c .before .before .before .before .before .before .before .before .before .before .before .before .before .before .args .stage
+    .limit) (c .before .before .before .before .before .before .before .before .before .before .before .before .before .before .args .t)
+    (c .before .before .before .before .before .size .result) (c .before .before .before .before .effort .result) (c .before .before
+    .before .width .result + 4)
+    (c .before .before .before .before .before .size .ensures ∙ ap (sizeOf (c .before .before .before .before .before .before .before
+    .before .before .before .before .before .before .before .args .layout)) (c .before .before .before .before .before .before .later
+    .ensures)) (c .before .before .before .before .effort .ensures)
+    (ap (λ (x : ℕ). x + 4) (c .before .before .before .width .ensures)) (omega (
+      arith,
+      c .before .before .before .before .before .before
+          .before .before .before .before .if1 .left,
+    )) (omega (
+      arith,
+      c .before .before .before .before .before .before .before .before .if2
+          .left,
+    ))
 
 pub quota-spec : {M : Type 1} → statement M
 quota-spec =

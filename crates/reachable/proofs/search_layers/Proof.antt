@@ -20,7 +20,12 @@ kept-latches-requires c κs = (c .before .before .before .before .pre .0, (c .be
 -- there are as many latches at most as there are words for them
 few : (c : tie.After-kept-latches) → c .kept-latches .result ≤ 1024
 few c =
-    omega (arith, c .kept-latches .ensures .0, latches-few (c .before .before .before .before .before .pre .0 .held) (c .before .before .before .before .before .pre .0 .layout-of))
+    omega (
+      arith,
+      c .kept-latches .ensures .0,
+      latches-few (c .before .before .before .before .before .pre .0 .held) (c .before .before
+          .before .before .before .pre .0 .layout-of),
+    )
 
 -- the latches that are kept
 long : (c : tie.After-kept-latches)

@@ -16,8 +16,22 @@ use Rattle.reachable.proofs.search_part.Tie as tie
 
 quota-requires : tie.Need-quota-requires
 quota-requires c κs =
-    let f = c .before .before .before .before .pre .1 .0 in
-    (c .before .before .before .before .pre .0 .held, (c .before .before .before .before .pre .0 .layout-of, (omega arith, omega (arith, f .known, f .bound), f .moderate, c .before .before .before .before .pre .1 .2)))
+    let f = c .before .before .before .before .pre .1 .0 in (
+      c .before .before .before .before .pre .0 .held,
+      (
+        c .before .before .before .before .pre .0 .layout-of,
+        (
+          omega arith,
+          omega (
+            arith,
+            f .known,
+            f .bound,
+          ),
+          f .moderate,
+          c .before .before .before .before .pre .1 .2,
+        ),
+      ),
+    )
 
 returns : tie.Need-returns
 unfolding LayersOf
@@ -44,24 +58,34 @@ width-requires c κs = c .before .before .before .before .before .before .before
 place : (c : tie.After-width)
     → let a = c .before .before .before .before .before .before .before .before .before .before .before .before .before .before .args in
     Place (partIn (a .m .now) (a .kept .now)) (a .stage .b) (a .stage .first) (a .stage .limit) (a .stage .k)
-    (c .before .before .before .before .before .before .find-first .last .1 .1 .1 .1 .0) (c .before .before .before .before .before .before .find-first .result) (c .before .before .before .before .before .before .find-first .ensures)
+    (c .before .before .before .before .before .before .find-first .last .1 .1 .1 .1 .0) (c .before .before .before .before .before
+    .before .find-first .result) (c .before .before .before .before .before .before .find-first .ensures)
     (c .before .before .t .given .0 .0) (c .before .before .t .given .0 .1 .0) (c .before .before .t .given .0 .1 .1 .0)
 place c =
     let a = c .before .before .before .before .before .before .before .before .before .before .before .before .before .before .args in
     place-of (partIn (a .m .now) (a .kept .now)) (a .stage .b) (a .stage .first) (a .stage .limit) (a .stage .k)
-    (c .before .before .before .before .before .before .find-first .last .1 .1 .1 .1 .0) (c .before .before .before .before .before .before .find-first .result) (c .before .before .before .before .before .before .find-first .ensures) (c .before .before .t .given .1)
+    (c .before .before .before .before .before .before .find-first .last .1 .1 .1 .1 .0) (c .before .before .before .before .before
+    .before .find-first .result) (c .before .before .before .before .before .before .find-first .ensures) (c .before .before .t .given .1)
 
 put-free-requires : tie.Need-put-free-requires
 put-free-requires c κs =
-    let a = c .before .before .before .before .before .before .before .before .before .before .before .before .before .before .before .args in
+    let a = c .before .before .before .before .before .before .before .before .before .before .before .before .before .before .before
+    .args in
     let C = partIn (a .m .now) (a .kept .now) in
-    let R = c .before .before .before .before .before .before .before .before .before .before .before .before .before .before .before .pre .0 in
+    let R = c .before .before .before .before .before .before .before .before .before .before .before .before .before .before .before
+    .pre .0 in
     let F = c .before .before .before .before .before .before .before .find-first in
-    let f = c .before .before .before .before .before .before .before .before .before .before .before .before .before .before .before .pre .1 .0 in
+    let f = c .before .before .before .before .before .before .before .before .before .before .before .before .before .before .before
+    .pre .1 .0 in
     let w = F .last .1 .1 .1 .1 .0 in
     let P = place (c .before) in
     let e = c .before .width .ensures in
-    let q = quota-small C (a .stage .first) (a .stage .limit) 0 (omega (arith, c .before .before .before .before .before .before .before .before .before .if1 .left, c .before .before .before .before .before .before .before .before .before .before .quota .ensures)) in
+    let q = quota-small C (a .stage .first) (a .stage .limit) 0 (omega (
+      arith,
+      c .before .before .before .before .before .before .before
+          .before .before .if1 .left,
+      c .before .before .before .before .before .before .before .before .before .before .quota .ensures,
+    )) in
     let A = asks C (a .stage .b) (a .stage .first) (a .stage .limit) (a .stage .k) w (F .result) (F .ensures) P (a .layout .i)
     (a .layout .u) (inputs-are (R .held) (R .layout-of)) (R .layout-of .u-is) (f .bound) (omega (arith, R .layout-of .u-is, q .1))
     (omega (arith, F .kept .1 .1 .1 .1 .0, f .words)) in
@@ -75,24 +99,33 @@ put-free-requires c κs =
         subst (λ (x : ℕ). (x + 4) * c .before .before .before .t .given .0 .1 .0 + (x + 4) ≤ length w) (sym e) (A .4),
         A .5,
       ),
-      (T .0, subst (λ (x : ℕ). Trace (2 ^ a .layout .i) x w (c .before .before .before .t .given .0 .0) (c .before .before .before .t .given .0 .1 .0) (T .0)) (sym e) (T .1)),
+      (
+        T .0,
+        subst (λ (x : ℕ). Trace (2 ^ a .layout .i) x w (c .before .before .before .t .given .0 .0) (c .before .before .before .t
+            .given .0 .1 .0) (T .0)) (sym e) (T .1),
+      ),
     )
 
 same-length : tie.Need-same-length
-same-length c = c .before .before .put-free .kept .1 .1 .1 .1 .1 .1 .0 ∙ c .before .before .before .before .before .before .before .before .before .before .find-first .kept .1 .1 .1 .1 .0
+same-length c = c .before .before .put-free .kept .1 .1 .1 .1 .1 .1 .0 ∙ c .before .before .before .before .before .before .before
+    .before .before .before .find-first .kept .1 .1 .1 .1 .0
 
 returns-2 : tie.Need-returns-2
 returns-2 c =
-    let a = c .before .before .before .before .before .before .before .before .before .before .before .before .before .before .before .before .before .before .args in
-    let R = c .before .before .before .before .before .before .before .before .before .before .before .before .before .before .before .before .before .before .pre .0 in
+    let a = c .before .before .before .before .before .before .before .before .before .before .before .before .before .before .before
+    .before .before .before .args in
+    let R = c .before .before .before .before .before .before .before .before .before .before .before .before .before .before .before
+    .before .before .before .pre .0 in
     let F = c .before .before .before .before .before .before .before .before .before .before .find-first in
     let w = F .last .1 .1 .1 .1 .0 in
     let E = c .before .before .put-free in
     let e = c .before .before .before .before .width .ensures in
     gives-bits (partIn (a .m .now) (a .kept .now)) (a .stage .b) (a .stage .first) (a .stage .limit) (a .stage .k) w (F .result)
-    (F .ensures) (place (c .before .before .before .before)) (a .layout .i) (a .layout .u) (inputs-are (R .held) (R .layout-of)) (R .layout-of .u-is)
+    (F .ensures) (place (c .before .before .before .before)) (a .layout .i) (a .layout .u) (inputs-are (R .held) (R .layout-of)) (R
+    .layout-of .u-is)
     (E .last .1 .1 .1 .1 .1 .1 .0)
-    (λ y h. E .ensures y (subst (λ (x : ℕ). Trace (2 ^ a .layout .i) x w (c .before .before .before .before .before .before .t .given .0 .0) (c .before .before .before .before .before .before .t .given .0 .1 .0) y) (sym e) h))
+    (λ y h. E .ensures y (subst (λ (x : ℕ). Trace (2 ^ a .layout .i) x w (c .before .before .before .before .before .before .t .given .0
+    .0) (c .before .before .before .before .before .before .t .given .0 .1 .0) y) (sym e) h))
 
 same-length-2 : tie.Need-same-length-2
 same-length-2 c = c .before .before .before .before .find-first .kept .1 .1 .1 .1 .0

@@ -39,7 +39,8 @@ write-witness-requires c κs =
     let s = c .before .before .before .before .before .before .before .before .before .before .before .before .before in
     let p = s .pre in
     let C = circuitIn (s .args .m .now) in
-    let h = of-hit C (s .args .q .b) (s .args .q .k) (c .before .before .before .before .before .before .before .search-layers .last .1 .1 .1 .1 .0) (c .before .before .before .before .before .before .before .search-layers .result)
+    let h = of-hit C (s .args .q .b) (s .args .q .k) (c .before .before .before .before .before .before .before .search-layers .last .1
+    .1 .1 .1 .0) (c .before .before .before .before .before .before .before .search-layers .result)
     (c .before .before .before .before .before .before .before .search-layers .ensures) (c .before .before .before .t .given .1) in
     record {
       holds = p .ready .held;
@@ -53,7 +54,10 @@ write-witness-requires c κs =
 
 cast-t20 : tie.Need-cast-t20
 cast-t20 c =
-    let h = of-hit (circuitIn (c .before .before .before .before .before .before .before .before .before .before .before .before .before .before .before .before .args .m .now)) (c .before .before .before .before .before .before .before .before .before .before .before .before .before .before .before .before .args .q .b) (c .before .before .before .before .before .before .before .before .before .before .before .before .before .before .before .before .args .q .k)
+    let h = of-hit (circuitIn (c .before .before .before .before .before .before .before .before .before .before .before .before .before
+    .before .before .before .args .m .now)) (c .before .before .before .before .before .before .before .before .before .before .before
+    .before .before .before .before .before .args .q .b) (c .before .before .before .before .before .before .before .before .before
+    .before .before .before .before .before .before .before .args .q .k)
     (c .before .before .before .before .before .before .before .before .before .before .search-layers .last .1 .1 .1 .1 .0)
     (c .before .before .before .before .before .before .before .before .before .before .search-layers .result)
     (c .before .before .before .before .before .before .before .before .before .before .search-layers .ensures)
@@ -61,7 +65,8 @@ cast-t20 c =
     omega (
       arith,
       h .within,
-      c .before .before .before .before .before .before .before .before .before .before .before .before .before .before .before .before .pre .bound,
+      c .before .before .before .before .before .before .before .before .before .before .before .before .before .before .before .before
+          .pre .bound,
     )
 
 cast-t23 : tie.Need-cast-t23
@@ -75,7 +80,8 @@ search-from-requires c κs =
     let s = c .before .before .before .before .before .before .before .before .before .before .before .before .before in
     let p = s .pre in
     let C = circuitIn (s .args .m .now) in
-    let e = of-left C (s .args .q .b) (s .args .q .k) (c .before .before .before .before .before .before .before .search-layers .last .1 .1 .1 .1 .0) (c .before .before .before .before .before .before .before .search-layers .result)
+    let e = of-left C (s .args .q .b) (s .args .q .k) (c .before .before .before .before .before .before .before .search-layers .last .1
+    .1 .1 .1 .0) (c .before .before .before .before .before .before .before .search-layers .result)
     (c .before .before .before .before .before .before .before .search-layers .ensures) (c .before .before .before .t2 .given .1) in
     let z = c .before .before .before .before .before .before .before .search-layers .kept .1 .1 .1 .1 .0 in (
       record {
@@ -100,9 +106,11 @@ same-length-2 c = c .before .before .write-witness .kept .0
 
 returns : tie.Need-returns
 returns c =
-    let s = c .before .before .before .before .before .before .before .before .before .before .before .before .before .before .before .before .args in
+    let s = c .before .before .before .before .before .before .before .before .before .before .before .before .before .before .before
+    .before .args in
     let C = circuitIn (s .m .now) in
-    let h = of-hit C (s .q .b) (s .q .k) (c .before .before .before .before .before .before .before .before .before .before .search-layers .last .1 .1 .1 .1 .0) (c .before .before .before .before .before .before .before .before .before .before .search-layers
+    let h = of-hit C (s .q .b) (s .q .k) (c .before .before .before .before .before .before .before .before .before .before
+    .search-layers .last .1 .1 .1 .1 .0) (c .before .before .before .before .before .before .before .before .before .before .search-layers
     .result) (c .before .before .before .before .before .before .before .before .before .before .search-layers .ensures)
     (c .before .before .before .before .before .before .t .given .1) in
     answered C (s .q .b) (s .q .k) (s .q .d) (Outcome.found _) (chosen-found C (s .q .b) (s .q .k) (s .q .d) (h .says))
@@ -135,7 +143,8 @@ returns-3 c =
     (c .before .before .before .before .search-layers .ensures) (c .enum-told2 .given .1))) refl
 
 same-length-5 : tie.Need-same-length-5
-same-length-5 c = c .before .before .before .before .search-from .kept .1 .1 .1 .1 .1 .0 ∙ c .before .before .before .before .before .before .before .before .before .before .before .before .search-layers .kept .1 .1 .1 .1 .0
+same-length-5 c = c .before .before .before .before .search-from .kept .1 .1 .1 .1 .1 .0 ∙ c .before .before .before .before .before
+    .before .before .before .before .before .before .before .search-layers .kept .1 .1 .1 .1 .0
 
 same-length-6 : tie.Need-same-length-6
 same-length-6 c = c .before .before .before .before .search-from .kept .1 .1 .1 .1 .1 .1 .0

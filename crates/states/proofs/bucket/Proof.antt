@@ -10,7 +10,8 @@ use Rattle.states.proofs.bucket.Tie as tie
 
 mul-result : tie.Need-mul-result
 mul-result c =
-    let a : c .hash .result * c .before .before .args .buckets ≤ 4294967295 * 4294967295 = mul-le-mul {n₁ = c .hash .result} {m₁ = c .before .before .args .buckets} {n₂ = 4294967295} {m₂ = 4294967295} (omega arith) (omega (arith, c .before .before .pre)) in
+    let a : c .hash .result * c .before .before .args .buckets ≤ 4294967295 * 4294967295 = mul-le-mul {n₁ = c .hash .result} {m₁ = c
+    .before .before .args .buckets} {n₂ = 4294967295} {m₂ = 4294967295} (omega arith) (omega (arith, c .before .before .pre)) in
     omega arith
 
 returns : tie.Need-returns

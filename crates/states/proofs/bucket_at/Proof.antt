@@ -42,7 +42,11 @@ returns c =
     let a = c .before .before .before .before .before .args in
     let at = (a .table .width + 4) * a .n + 4 in
     let e : at + a .table .width - at ≡ a .table .width = omega arith in
-    let q = part-number (a .records .now) at (at + a .table .width - at) (omega (arith, c .before .before .before .before .before .pre .1)) in
+    let q = part-number (a .records .now) at (at + a .table .width - at) (omega (
+      arith,
+      c .before .before .before .before .before .pre
+          .1,
+    )) in
     c .bucket .ensures ∙ ap₂ (λ (x : ℕ) (y : ℕ). bucketOf x (a .table .buckets) y) (q .0 ∙ e) (q .1 ∙ ap (numberAt (a .records .now) at) e)
 
 pub bucket-at-spec : {M : Type 1} → statement M

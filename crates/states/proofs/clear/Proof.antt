@@ -19,19 +19,41 @@ abbrev μ-loop : tie.MeasureT-loop
 μ-loop records₀ stride buckets h₀ records h = buckets - h
 
 add-stride : tie.Need-add-stride Inv-loop μ-loop
-add-stride c = omega (arith, c .before .pre .heads, c .before .pre .some, record-before (c .before .args .table .width + 4) 0 (c .before .args .table .buckets) (c .before .pre .some))
+add-stride c = omega (
+  arith,
+  c .before .pre .heads,
+  c .before .pre .some,
+  record-before (c .before .args .table .width + 4) 0 (c .before
+      .args .table .buckets) (c .before .pre .some),
+)
 
 loop-holds : tie.Need-loop-holds Inv-loop μ-loop
 loop-holds c = (omega arith, refl, λ g l. absurd (omega arith), λ j f. refl)
 
 mul-records : tie.Need-mul-records Inv-loop μ-loop
-mul-records c = omega (arith, c .before .before .before .pre .heads, record-before (c .before .before .before .args .table .width + 4) (c .before .loop .h) (c .before .before .before .args .table .buckets) (omega arith))
+mul-records c = omega (
+  arith,
+  c .before .before .before .pre .heads,
+  record-before (c .before .before .before .args .table .width + 4) (c
+      .before .loop .h) (c .before .before .before .args .table .buckets) (omega arith),
+)
 
 mul-records-2 : tie.Need-mul-records-2 Inv-loop μ-loop
-mul-records-2 c = omega (arith, c .before .before .before .pre .heads, record-before (c .before .before .before .args .table .width + 4) (c .before .loop .h) (c .before .before .before .args .table .buckets) (omega arith))
+mul-records-2 c = omega (
+  arith,
+  c .before .before .before .pre .heads,
+  record-before (c .before .before .before .args .table .width + 4)
+      (c .before .loop .h) (c .before .before .before .args .table .buckets) (omega arith),
+)
 
 slice-write-records : tie.Need-slice-write-records Inv-loop μ-loop
-slice-write-records c = omega (arith, c .before .loop .inv .1, c .before .before .before .pre .heads, record-before (c .before .before .before .args .table .width + 4) (c .before .loop .h) (c .before .before .before .args .table .buckets) (omega arith))
+slice-write-records c = omega (
+  arith,
+  c .before .loop .inv .1,
+  c .before .before .before .pre .heads,
+  record-before (c .before .before
+      .before .args .table .width + 4) (c .before .loop .h) (c .before .before .before .args .table .buckets) (omega arith),
+)
 
 loop-again : tie.Need-loop-again Inv-loop μ-loop
 loop-again c =
@@ -41,8 +63,15 @@ loop-again c =
       omega arith,
       length-set (L .records) _ _ ∙ L .inv .1,
       below-more (λ g. getD (set (L .records) at 0) (k * g) 0 ≡ 0) (L .h)
-          (λ g l. getD-set-other (L .records) at (k * g) 0 0 (λ e. let z = head-same k g (L .h) (omega arith) e in omega arith) ∙ L .inv .2 g l)
-          (getD-set-same (L .records) at 0 0 (omega (arith, L .inv .1, c .before .before .before .pre .heads, record-before k (L .h) (c .before .before .before .args .table .buckets) (omega arith)))),
+          (λ g l. getD-set-other (L .records) at (k * g) 0 0 (λ e. let z = head-same k g (L .h) (omega arith) e in omega arith) ∙ L .inv
+          .2 g l)
+          (getD-set-same (L .records) at 0 0 (omega (
+            arith,
+            L .inv .1,
+            c .before .before .before .pre .heads,
+            record-before k (L .h) (c
+                .before .before .before .args .table .buckets) (omega arith),
+          ))),
       λ j f. getD-set-other (L .records) at j 0 0 (f (L .h)) ∙ L .inv .3 j f,
     )
 

@@ -12,7 +12,15 @@ clear-requires : tie.Need-clear-requires
 clear-requires c κs = c .before .before .pre .0
 
 link-all-requires : tie.Need-link-all-requires
-link-all-requires c κs = (buckets-kept (c .before .before .before .clear .kept .0) (c .before .before .before .before .before .before .pre .0), (omega (arith, c .before .before .before .clear .kept .0, c .before .before .before .before .before .before .pre .1 .0), c .before .before .before .before .before .before .pre .1 .1))
+link-all-requires c κs = (
+  buckets-kept (c .before .before .before .clear .kept .0) (c .before .before .before .before .before .before
+      .pre .0),
+  (
+    omega (arith, c .before .before .before .clear .kept .0, c .before .before .before .before .before .before .pre .1 .0),
+    c
+        .before .before .before .before .before .before .pre .1 .1,
+  ),
+)
 
 same-length : tie.Need-same-length
 same-length c = c .before .before .link-all .kept .0 ∙ c .before .before .before .before .before .before .clear .kept .0
@@ -20,7 +28,9 @@ same-length c = c .before .before .link-all .kept .0 ∙ c .before .before .befo
 returns : tie.Need-returns
 returns c =
     let a = c .before .before .before .before .before .before .before .before .before .args in
-    filled-both (a .table) (a .count) (a .records .now) (c .before .before .before .before .before .before .clear .last .0) (c .before .before .link-all .last .0) (c .before .before .before .before .before .before .clear .kept .0) (c .before .before .before .before .before .before .clear .ensures)
+    filled-both (a .table) (a .count) (a .records .now) (c .before .before .before .before .before .before .clear .last .0) (c .before
+    .before .link-all .last .0) (c .before .before .before .before .before .before .clear .kept .0) (c .before .before .before .before
+    .before .before .clear .ensures)
     (c .before .before .link-all .ensures .0) (c .before .before .link-all .ensures .1)
 
 pub fill-spec : {M : Type 1} → statement M

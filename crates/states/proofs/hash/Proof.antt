@@ -23,7 +23,11 @@ loop-again c =
     let s = c .before .before .before .before .before .args .s .now in
     let L = c .before .before .before .loop in (
       omega (arith, L .inv .0),
-      hash-more s (length s) (L .i) (L .h) (c .mix .result) (omega arith) (L .inv .0) (omega (arith, c .before .shared-slice-known2 .given (L .i - 1))) (L .inv .1) (c .mix .ensures),
+      hash-more s (length s) (L .i) (L .h) (c .mix .result) (omega arith) (L .inv .0) (omega (
+        arith,
+        c .before .shared-slice-known2
+            .given (L .i - 1),
+      )) (L .inv .1) (c .mix .ensures),
     )
 
 returns : tie.Need-returns Inv-loop μ-loop

@@ -26,17 +26,35 @@ bucket-at-requires : tie.Need-bucket-at-requires Inv-loop μ-loop
 bucket-at-requires c κs =
     let a = c .before .before .before .before .args in (
       c .before .before .before .before .pre .0 .few,
-      omega (arith, c .before .before .loop .inv .1 .long, c .before .before .before .before .pre .1 .0, record-before (a .table .width + 4) (c .before .before .loop .n) (a .count) (omega arith)),
+      omega (
+        arith,
+        c .before .before .loop .inv .1 .long,
+        c .before .before .before .before .pre .1 .0,
+        record-before (a .table .width +
+            4) (c .before .before .loop .n) (a .count) (omega arith),
+      ),
     )
 
 link-requires : tie.Need-link-requires Inv-loop μ-loop
 link-requires c κs =
     let a = c .before .before .before .before .before .before .args in
     let p = a .table in
-    let h = bucket-small (p .width) (p .buckets) (numberAt (c .before .before .before .before .loop .records) ((p .width + 4) * c .before .before .before .before .loop .n + 4) (p .width)) (c .before .before .before .before .before .before .pre .0 .some) in
+    let h = bucket-small (p .width) (p .buckets) (numberAt (c .before .before .before .before .loop .records) ((p .width + 4) * c .before
+    .before .before .before .loop .n + 4) (p .width)) (c .before .before .before .before .before .before .pre .0 .some) in
     let hl : c .before .bucket-at .result < p .buckets = omega (arith, c .before .bucket-at .ensures) in (
-      omega (arith, c .before .before .before .before .loop .inv .1 .long, c .before .before .before .before .before .before .pre .1 .0, record-before (p .width + 4) (c .before .before .before .before .loop .n) (a .count) (omega arith)),
-      omega (arith, c .before .before .before .before .loop .inv .1 .long, c .before .before .before .before .before .before .pre .0 .heads, record-before (p .width + 4) (c .before .bucket-at .result) (p .buckets) hl),
+      omega (
+        arith,
+        c .before .before .before .before .loop .inv .1 .long,
+        c .before .before .before .before .before .before .pre .1 .0,
+        record-before (p .width + 4) (c .before .before .before .before .loop .n) (a .count) (omega arith),
+      ),
+      omega (
+        arith,
+        c .before .before .before .before .loop .inv .1 .long,
+        c .before .before .before .before .before .before .pre .0
+            .heads,
+        record-before (p .width + 4) (c .before .bucket-at .result) (p .buckets) hl,
+      ),
       omega (arith, c .before .before .before .before .before .before .pre .1 .1),
     )
 
@@ -49,7 +67,9 @@ loop-again c =
     let L = c .before .before .before .before .before .before .before .loop in (
       omega arith,
       subst (Filling (a .table) (a .count) (a .records .now) (L .n + 1)) (sym (c .before .before .link .ensures))
-          (filling-more (a .table) (a .count) (a .records .now) (L .n) (L .records) (c .before .before .before .before .bucket-at .result) (L .inv .1) (c .before .before .before .before .before .before .before .before .before .pre .0) (omega arith) (c .before .before .before .before .before .before .before .before .before .pre .1 .0)
+          (filling-more (a .table) (a .count) (a .records .now) (L .n) (L .records) (c .before .before .before .before .bucket-at
+          .result) (L .inv .1) (c .before .before .before .before .before .before .before .before .before .pre .0) (omega arith) (c
+          .before .before .before .before .before .before .before .before .before .pre .1 .0)
           (c .before .before .before .before .bucket-at .ensures)),
     )
 

@@ -20,7 +20,8 @@ returns c =
     let a = c .before .before .before .before .args in
     let S = numberAt (a .s .now) 0 (length (a .s .now)) in (
       subst
-          (λ (t : Tally). Meets (a .table) (a .quota) (countOf (a .quota) t) S (a .parent) (a .row) (a .records .now) (a .quota + 1) (a .records .now))
+          (λ (t : Tally). Meets (a .table) (a .quota) (countOf (a .quota) t) S (a .parent) (a .row) (a .records .now) (a .quota + 1) (a
+          .records .now))
           (sym (c .enum-told .given .1)) (Meets.lost (omega arith)),
       tt,
     )
@@ -30,7 +31,8 @@ bucket-requires c κs =
     let a = c .before .before .before .before .before .args in
     let count = c .before .tally .given .0 .0 in
     let told : a .tally ≡ Records count = c .before .tally .given .1 in
-    let fits = subst (λ (t : Tally). Fits (a .table) (a .quota) (countOf (a .quota) t) (a .records .now)) told (c .before .before .before .before .before .pre .0) in
+    let fits = subst (λ (t : Tally). Fits (a .table) (a .quota) (countOf (a .quota) t) (a .records .now)) told (c .before .before .before
+    .before .before .pre .0) in
     let within = subst (TallyFits (a .quota)) told (c .before .before .before .before .before .pre .1) in
     fits .stored within .2 .buckets .few
 
@@ -39,10 +41,18 @@ known-requires c κs =
     let a = c .before .before .before .before .before .before .before .args in
     let count = c .before .before .before .tally .given .0 .0 in
     let told : a .tally ≡ Records count = c .before .before .before .tally .given .1 in
-    let fits = subst (λ (t : Tally). Fits (a .table) (a .quota) (countOf (a .quota) t) (a .records .now)) told (c .before .before .before .before .before .before .before .pre .0) in
+    let fits = subst (λ (t : Tally). Fits (a .table) (a .quota) (countOf (a .quota) t) (a .records .now)) told (c .before .before .before
+    .before .before .before .before .pre .0) in
     let within = subst (TallyFits (a .quota)) told (c .before .before .before .before .before .before .before .pre .1) in
-    let st = fits .stored within in
-    ((st .0, st .2), (c .before .before .before .before .before .before .before .pre .2, c .before .bucket .ensures ∙ ap (λ (w : ℕ). bucketOf w (a .table .buckets) (numberAt (a .s .now) 0 (length (a .s .now)))) (c .before .before .before .before .before .before .before .pre .2)))
+    let st = fits .stored within in (
+      (st .0, st .2),
+      (
+        c .before .before .before .before .before .before .before .pre .2,
+        c .before .bucket .ensures ∙ ap (λ (w : ℕ).
+            bucketOf w (a .table .buckets) (numberAt (a .s .now) 0 (length (a .s .now)))) (c .before .before .before .before .before .before
+            .before .pre .2),
+      ),
+    )
 
 returns-2 : tie.Need-returns-2
 returns-2 c =
@@ -51,7 +61,8 @@ returns-2 c =
     let count = c .before .before .before .before .before .tally .given .0 .0 in
     let told : a .tally ≡ Records count = c .before .before .before .before .before .tally .given .1 in
     let within = subst (TallyFits (a .quota)) told (c .before .before .before .before .before .before .before .before .before .pre .1) in (
-      subst (λ (t : Tally). Meets (a .table) (a .quota) (countOf (a .quota) t) S (a .parent) (a .row) (a .records .now) count (a .records .now)) (sym told)
+      subst (λ (t : Tally). Meets (a .table) (a .quota) (countOf (a .quota) t) S (a .parent) (a .row) (a .records .now) count (a .records
+          .now)) (sym told)
           (Meets.again within (λ es t. sym (c .before .known .ensures es t) ∙ c .if1 .taken)),
       within,
     )
@@ -63,7 +74,8 @@ returns-3 c =
     let count = c .before .before .before .before .before .before .tally .given .0 .0 in
     let told : a .tally ≡ Records count = c .before .before .before .before .before .before .tally .given .1 in
     let e : count + 1 ≡ a .quota + 1 = ap (λ (x : ℕ). x + 1) (c .if2 .taken) in (
-      subst (λ (t : Tally). Meets (a .table) (a .quota) (countOf (a .quota) t) S (a .parent) (a .row) (a .records .now) (a .quota + 1) (a .records .now)) (sym told)
+      subst (λ (t : Tally). Meets (a .table) (a .quota) (countOf (a .quota) t) S (a .parent) (a .row) (a .records .now) (a .quota + 1) (a
+          .records .now)) (sym told)
           (subst (λ (x : ℕ). Meets (a .table) (a .quota) count S (a .parent) (a .row) (a .records .now) x (a .records .now)) e
           (Meets.full (c .if2 .taken) (λ es t. sym (c .before .before .known .ensures es t) ∙ c .before .if1 .left))),
       tt,
@@ -74,33 +86,63 @@ put-requires c κs =
     let a = c .before .before .before .before .before .before .before .before .before .before .before .args in
     let count = c .before .before .before .before .before .before .before .tally .given .0 .0 in
     let told : a .tally ≡ Records count = c .before .before .before .before .before .before .before .tally .given .1 in
-    let fits = subst (λ (t : Tally). Fits (a .table) (a .quota) (countOf (a .quota) t) (a .records .now)) told (c .before .before .before .before .before .before .before .before .before .before .before .pre .0) in
-    let within = subst (TallyFits (a .quota)) told (c .before .before .before .before .before .before .before .before .before .before .before .pre .1) in
-    subst (λ (w : ℕ). (w + 4) * count + (w + 4) ≤ length (a .records .now)) (sym (c .before .before .before .before .before .before .before .before .before .before .before .pre .2))
+    let fits = subst (λ (t : Tally). Fits (a .table) (a .quota) (countOf (a .quota) t) (a .records .now)) told (c .before .before .before
+    .before .before .before .before .before .before .before .before .pre .0) in
+    let within = subst (TallyFits (a .quota)) told (c .before .before .before .before .before .before .before .before .before .before
+    .before .pre .1) in
+    subst (λ (w : ℕ). (w + 4) * count + (w + 4) ≤ length (a .records .now)) (sym (c .before .before .before .before .before .before
+    .before .before .before .before .before .pre .2))
     (omega (arith, fits .quota-room, record-before (a .table .width + 4) count (a .quota) (omega (arith, within, c .before .if2 .left))))
 
 link-requires : tie.Need-link-requires
 link-requires c κs =
-    let a = c .before .before .before .before .before .before .before .before .before .before .before .before .before .before .before .args in
+    let a = c .before .before .before .before .before .before .before .before .before .before .before .before .before .before .before
+    .args in
     let p = a .table in
     let count = c .before .before .before .before .before .before .before .before .before .before .before .tally .given .0 .0 in
-    let told : a .tally ≡ Records count = c .before .before .before .before .before .before .before .before .before .before .before .tally .given .1 in
-    let fits = subst (λ (t : Tally). Fits (a .table) (a .quota) (countOf (a .quota) t) (a .records .now)) told (c .before .before .before .before .before .before .before .before .before .before .before .before .before .before .before .pre .0) in
-    let within = subst (TallyFits (a .quota)) told (c .before .before .before .before .before .before .before .before .before .before .before .before .before .before .before .pre .1) in
+    let told : a .tally ≡ Records count = c .before .before .before .before .before .before .before .before .before .before .before
+    .tally .given .1 in
+    let fits = subst (λ (t : Tally). Fits (a .table) (a .quota) (countOf (a .quota) t) (a .records .now)) told (c .before .before .before
+    .before .before .before .before .before .before .before .before .before .before .before .before .pre .0) in
+    let within = subst (TallyFits (a .quota)) told (c .before .before .before .before .before .before .before .before .before .before
+    .before .before .before .before .before .pre .1) in
     let b = fits .stored within .2 .buckets in
     let S = numberAt (a .s .now) 0 (length (a .s .now)) in
-    let hl : c .before .before .before .before .before .before .before .before .before .bucket .result < p .buckets = omega (arith, c .before .before .before .before .before .before .before .before .before .bucket .ensures, bucket-small (length (a .s .now)) (p .buckets) S (b .some)) in (
-      omega (arith, c .before .before .before .put .kept .0, fits .quota-room, record-before (p .width + 4) count (a .quota) (omega (arith, within, c .before .before .before .before .before .if2 .left))),
-      omega (arith, c .before .before .before .put .kept .0, b .heads, record-before (p .width + 4) (c .before .before .before .before .before .before .before .before .before .bucket .result) (p .buckets) hl),
+    let hl : c .before .before .before .before .before .before .before .before .before .bucket .result < p .buckets = omega (
+      arith,
+      c
+          .before .before .before .before .before .before .before .before .before .bucket .ensures,
+      bucket-small (length (a .s .now)) (p
+          .buckets) S (b .some),
+    ) in (
+      omega (
+        arith,
+        c .before .before .before .put .kept .0,
+        fits .quota-room,
+        record-before (p .width + 4) count (a .quota) (omega
+            (arith, within, c .before .before .before .before .before .if2 .left)),
+      ),
+      omega (
+        arith,
+        c .before .before .before .put .kept .0,
+        b .heads,
+        record-before (p .width + 4) (c .before .before .before .before
+            .before .before .before .before .before .bucket .result) (p .buckets) hl,
+      ),
       omega (arith, within, c .before .before .before .before .before .if2 .left, fits .quota-small),
     )
 
 add-t19 : tie.Need-add-t19
 add-t19 c =
-    let a = c .before .before .before .before .before .before .before .before .before .before .before .before .before .before .before .before .before .before .args in
-    let told : a .tally ≡ Records (c .before .before .before .before .before .before .before .before .before .before .before .before .before .before .tally .given .0 .0) = c .before .before .before .before .before .before .before .before .before .before .before .before .before .before .tally .given .1 in
-    let fits = subst (λ (t : Tally). Fits (a .table) (a .quota) (countOf (a .quota) t) (a .records .now)) told (c .before .before .before .before .before .before .before .before .before .before .before .before .before .before .before .before .before .before .pre .0) in
-    let within = subst (TallyFits (a .quota)) told (c .before .before .before .before .before .before .before .before .before .before .before .before .before .before .before .before .before .before .pre .1) in
+    let a = c .before .before .before .before .before .before .before .before .before .before .before .before .before .before .before
+    .before .before .before .args in
+    let told : a .tally ≡ Records (c .before .before .before .before .before .before .before .before .before .before .before .before
+    .before .before .tally .given .0 .0) = c .before .before .before .before .before .before .before .before .before .before .before
+    .before .before .before .tally .given .1 in
+    let fits = subst (λ (t : Tally). Fits (a .table) (a .quota) (countOf (a .quota) t) (a .records .now)) told (c .before .before .before
+    .before .before .before .before .before .before .before .before .before .before .before .before .before .before .before .pre .0) in
+    let within = subst (TallyFits (a .quota)) told (c .before .before .before .before .before .before .before .before .before .before
+    .before .before .before .before .before .before .before .before .pre .1) in
     omega (arith, within, fits .quota-small)
 
 same-length-3 : tie.Need-same-length-3
@@ -108,20 +150,34 @@ same-length-3 c = c .before .before .link .kept .0 ∙ c .before .before .before
 
 returns-4 : tie.Need-returns-4
 returns-4 c =
-    let a = c .before .before .before .before .before .before .before .before .before .before .before .before .before .before .before .before .before .before .args in
+    let a = c .before .before .before .before .before .before .before .before .before .before .before .before .before .before .before
+    .before .before .before .args in
     let p = a .table in
     let S = numberAt (a .s .now) 0 (length (a .s .now)) in
-    let count = c .before .before .before .before .before .before .before .before .before .before .before .before .before .before .tally .given .0 .0 in
-    let told : a .tally ≡ Records count = c .before .before .before .before .before .before .before .before .before .before .before .before .before .before .tally .given .1 in
-    let within = subst (TallyFits (a .quota)) told (c .before .before .before .before .before .before .before .before .before .before .before .before .before .before .before .before .before .before .pre .1) in
+    let count = c .before .before .before .before .before .before .before .before .before .before .before .before .before .before .tally
+    .given .0 .0 in
+    let told : a .tally ≡ Records count = c .before .before .before .before .before .before .before .before .before .before .before
+    .before .before .before .tally .given .1 in
+    let within = subst (TallyFits (a .quota)) told (c .before .before .before .before .before .before .before .before .before .before
+    .before .before .before .before .before .before .before .before .pre .1) in
     let less : count < a .quota = omega (arith, within, c .before .before .before .before .before .before .before .before .if2 .left) in
-    let u : Put (p .width) (a .records .now) count S (a .parent) (a .row) (c .before .before .before .before .before .before .put .last .0) =
-    subst (λ (w : ℕ). Put w (a .records .now) count S (a .parent) (a .row) (c .before .before .before .before .before .before .put .last .0)) (c .before .before .before .before .before .before .before .before .before .before .before .before .before .before .before .before .before .before .pre .2) (c .before .before .before .before .before .before .put .ensures) in
-    let e : c .before .before .before .before .before .before .before .before .before .before .before .before .bucket .result ≡ bucketOf (p .width) (p .buckets) S = c .before .before .before .before .before .before .before .before .before .before .before .before .bucket .ensures ∙ ap (λ (w : ℕ). bucketOf w (p .buckets) S) (c .before .before .before .before .before .before .before .before .before .before .before .before .before .before .before .before .before .before .pre .2) in (
-      subst (λ (t : Tally). Meets p (a .quota) (countOf (a .quota) t) S (a .parent) (a .row) (a .records .now) (count + 1) (c .before .before .link .last .0)) (sym told)
+    let u : Put (p .width) (a .records .now) count S (a .parent) (a .row) (c .before .before .before .before .before .before .put .last
+    .0) =
+    subst (λ (w : ℕ). Put w (a .records .now) count S (a .parent) (a .row) (c .before .before .before .before .before .before .put .last
+    .0)) (c .before .before .before .before .before .before .before .before .before .before .before .before .before .before .before
+    .before .before .before .pre .2) (c .before .before .before .before .before .before .put .ensures) in
+    let e : c .before .before .before .before .before .before .before .before .before .before .before .before .bucket .result ≡ bucketOf
+    (p .width) (p .buckets) S = c .before .before .before .before .before .before .before .before .before .before .before .before .bucket
+    .ensures ∙ ap (λ (w : ℕ). bucketOf w (p .buckets) S) (c .before .before .before .before .before .before .before .before .before
+    .before .before .before .before .before .before .before .before .before .pre .2) in (
+      subst (λ (t : Tally). Meets p (a .quota) (countOf (a .quota) t) S (a .parent) (a .row) (a .records .now) (count + 1) (c .before
+          .before .link .last .0)) (sym told)
           (subst (λ (r : List ℕ). Meets p (a .quota) count S (a .parent) (a .row) (a .records .now) (count + 1) r)
-          (sym (c .before .before .link .ensures ∙ ap (linkedIn (p .width) (c .before .before .before .before .before .before .put .last .0) count) e))
-          (Meets.added less (λ es t. sym (c .before .before .before .before .before .before .before .before .before .before .known .ensures es t) ∙ c .before .before .before .before .before .before .before .before .before .if1 .left) (c .before .before .before .before .before .before .put .last .0) u)),
+          (sym (c .before .before .link .ensures ∙ ap (linkedIn (p .width) (c .before .before .before .before .before .before .put .last
+          .0) count) e))
+          (Meets.added less (λ es t. sym (c .before .before .before .before .before .before .before .before .before .before .known
+          .ensures es t) ∙ c .before .before .before .before .before .before .before .before .before .if1 .left) (c .before .before
+          .before .before .before .before .put .last .0) u)),
       omega arith,
     )
 

@@ -37,13 +37,16 @@ copy-requires : tie.Need-copy-requires
 copy-requires c κs = simp length-set (omega (arith, c .before .before .before .pre))
 
 same-length : tie.Need-same-length
-same-length c = c .before .before .copy .kept .0 ∙ length-set (set (c .before .before .before .before .before .before .args .records .now) _ _) _ _ ∙ length-set (c .before .before .before .before .before .before .args .records .now) _ _
+same-length c = c .before .before .copy .kept .0 ∙ length-set (set (c .before .before .before .before .before .before .args .records
+    .now) _ _) _ _ ∙ length-set (c .before .before .before .before .before .before .args .records .now) _ _
 
 returns : tie.Need-returns
 returns c =
     let a = c .before .before .before .before .before .before .args in
-    written (a .records .now) (a .s .now) (c .before .before .copy .last .0) (a .n) (a .parent) (a .row) (c .before .before .before .before .before .before .pre)
-    (c .before .before .copy .kept .0 ∙ length-set (set (c .before .before .before .before .before .before .args .records .now) _ _) _ _ ∙ length-set (c .before .before .before .before .before .before .args .records .now) _ _) (c .before .before .copy .ensures)
+    written (a .records .now) (a .s .now) (c .before .before .copy .last .0) (a .n) (a .parent) (a .row) (c .before .before .before
+    .before .before .before .pre)
+    (c .before .before .copy .kept .0 ∙ length-set (set (c .before .before .before .before .before .before .args .records .now) _ _) _ _
+    ∙ length-set (c .before .before .before .before .before .before .args .records .now) _ _) (c .before .before .copy .ensures)
 
 pub put-spec : {M : Type 1} → statement M
 put-spec =

@@ -27,12 +27,19 @@ returns c =
     let i = c .before .before .before .before .loop .i in
     let z : 0 + i ≡ i = omega arith in
     sym (ne-eqb (numberAt r (c .before .before .before .before .before .args .at) (length s)) (numberAt s 0 (length s))
-    (λ e. c .if1 .taken (words-same r s (λ j. omega (arith, c .before .before .shared-slice-known .given j)) (λ j. omega (arith, c .before .shared-slice-known2 .given j)) (c .before .before .before .before .before .args .at) 0 (length s) i (omega arith) e ∙ ap (λ (x : ℕ). getD s x 0) z)))
+    (λ e. c .if1 .taken (words-same r s (λ j. omega (arith, c .before .before .shared-slice-known .given j)) (λ j. omega (
+      arith,
+      c
+          .before .shared-slice-known2 .given j,
+    )) (c .before .before .before .before .before .args .at) 0 (length s) i (omega arith) e ∙ ap (λ
+    (x : ℕ). getD s x 0) z)))
 
 loop-again : tie.Need-loop-again Inv-loop μ-loop
 loop-again c = (
   omega arith,
-  below-more (λ j. getD (c .before .before .before .before .before .args .records .now) (c .before .before .before .before .before .args .at + j) 0 ≡ getD (c .before .before .before .before .before .args .s .now) j 0) (c .before .before .before .before .loop .i) (c .before .before .before .before .loop .inv .1) (c .if1 .left),
+  below-more (λ j. getD (c .before .before .before .before .before .args .records .now) (c .before .before .before .before .before .args
+      .at + j) 0 ≡ getD (c .before .before .before .before .before .args .s .now) j 0) (c .before .before .before .before .loop .i) (c
+      .before .before .before .before .loop .inv .1) (c .if1 .left),
 )
 
 returns-2 : tie.Need-returns-2 Inv-loop μ-loop

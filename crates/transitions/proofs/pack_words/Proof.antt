@@ -59,7 +59,8 @@ pack-requires c κs =
     let from = 32 * c .before .before .before .loop .j in
     let n = c .before .word-end .result - from in
     let e = c .before .word-end .ensures in (
-      part-in n from (a .kept .now) (length (a .state .now)) (c .before .before .before .before .before .before .before .pre .0) (omega (arith, c .before .before .before .before .before .before .before .pre .2)),
+      part-in n from (a .kept .now) (length (a .state .now)) (c .before .before .before .before .before .before .before .pre .0) (omega
+          (arith, c .before .before .before .before .before .before .before .pre .2)),
       part-length n from (a .kept .now) (omega arith),
       omega arith,
     )
@@ -77,7 +78,8 @@ loop-again c =
       below-more (λ i. Packed (firsts (a .state .now)) (a .kept .now) i (getD (set (L .s) (L .j) v) i 0)) (L .j)
           (λ i l. getD-set-other (L .s) (L .j) i v 0 (λ e. omega arith) ∙ L .inv .2 i l)
           (getD-set-same (L .s) (L .j) v 0 (omega (arith, L .inv .1))
-          ∙ packed-part (firsts (a .state .now)) (a .kept .now) (L .j) (c .before .before .word-end .result) v (c .before .before .word-end .ensures)
+          ∙ packed-part (firsts (a .state .now)) (a .kept .now) (L .j) (c .before .before .word-end .result) v (c .before .before
+          .word-end .ensures)
           (c .pack .ensures)),
     )
 

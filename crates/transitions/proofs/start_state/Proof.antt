@@ -25,10 +25,37 @@ bit-unit true = refl
 bit-unit false = refl
 
 start-words-requires : tie.Need-start-words-requires
-start-words-requires c κs = (c .before .before .before .before .before .pre .0, (c .before .before .before .before .before .pre .1 .0, (c .before .before .before .before .before .pre .1 .1 .0, c .before .before .before .before .before .pre .1 .1 .1)))
+start-words-requires c κs = (
+  c .before .before .before .before .before .pre .0,
+  (
+    c .before .before .before .before .before .pre .1 .0,
+    (
+      c
+          .before .before .before .before .before .pre .1 .1 .0,
+      c .before .before .before .before .before .pre .1 .1 .1,
+    ),
+  ),
+)
 
 pack-words-requires : tie.Need-pack-words-requires
-pack-words-requires c κs = ((λ i l. omega (arith, c .before .before .before .before .before .before .before .before .before .before .pre .1 .1 .2 .inside i l, latches-are (c .before .before .before .before .before .before .before .before .before .before .pre .0) (c .before .before .before .before .before .before .before .before .before .before .pre .1 .0), latches-few (c .before .before .before .before .before .before .before .before .before .before .pre .0) (c .before .before .before .before .before .before .before .before .before .before .pre .1 .0), c .before .before .before .before .start-words .kept .1 .1 .1 .0, c .before .before .before .before .before .before .before .before .before .before .pre .1 .1 .1)), c .before .before .before .before .before .before .before .before .before .before .pre .1 .1 .3, c .before .before .before .before .before .before .before .before .before .before .pre .1 .1 .4)
+pack-words-requires c κs = (
+  (λ i l. omega (
+    arith,
+    c .before .before .before .before .before .before .before .before .before .before .pre
+        .1 .1 .2 .inside i l,
+    latches-are (c .before .before .before .before .before .before .before .before .before .before .pre .0) (c
+        .before .before .before .before .before .before .before .before .before .before .pre .1 .0),
+    latches-few (c .before .before .before
+        .before .before .before .before .before .before .before .pre .0) (c .before .before .before .before .before .before .before .before
+        .before .before .pre .1 .0),
+    c .before .before .before .before .start-words .kept .1 .1 .1 .0,
+    c .before .before .before .before
+        .before .before .before .before .before .before .pre .1 .1 .1,
+  )),
+  c .before .before .before .before .before .before .before .before
+      .before .before .pre .1 .1 .3,
+  c .before .before .before .before .before .before .before .before .before .before .pre .1 .1 .4,
+)
 
 same-length : tie.Need-same-length
 same-length c = c .before .before .before .before .before .before .before .start-words .kept .1 .1 .1 .0
@@ -38,20 +65,29 @@ same-length-2 c = c .before .before .pack-words .kept .1 .1 .0
 
 returns : tie.Need-returns
 returns c =
-    let C = circuitIn (c .before .before .before .before .before .before .before .before .before .before .before .before .before .args .m .now) in
+    let C = circuitIn (c .before .before .before .before .before .before .before .before .before .before .before .before .before .args .m
+    .now) in
     let ks = c .before .before .before .before .before .before .before .before .before .before .before .before .before .args .kept .now in
     let ls = c .before .before .before .before .before .before .before .before .before .before .before .before .before .pre .1 .1 .2 in
     let f : ℕ → Bool = λ j. bit (getD (c .before .before .before .before .before .before .before .start-words .last .1 .1 .1 .0) j 0) 0 in
-    let g = startBit C (freeStarts C) (c .before .before .before .before .before .before .before .before .before .before .before .before .before .args .y) in
+    let g = startBit C (freeStarts C) (c .before .before .before .before .before .before .before .before .before .before .before .before
+    .before .args .y) in
     c .before .before .pack-words .ensures
     ∙ ap numberOf
     (ext-getD false (map f ks) (map g ks) (length-map ks f ∙ sym (length-map ks g))
     (λ i l.
     let k : i < length ks = omega (arith, length-map ks f) in
     let j = getD ks i 0 in
-    map-at f ks i k ∙ ap (λ (w : ℕ). bit w 0) (c .before .before .before .before .before .before .before .start-words .ensures j (omega (arith, ls .inside i k, latches-are (c .before .before .before .before .before .before .before .before .before .before .before .before .before .pre .0) (c .before .before .before .before .before .before .before .before .before .before .before .before .before .pre .1 .0)))) ∙ bit-unit (g j)
+    map-at f ks i k ∙ ap (λ (w : ℕ). bit w 0) (c .before .before .before .before .before .before .before .start-words .ensures j (omega (
+      arith,
+      ls .inside i k,
+      latches-are (c .before .before .before .before .before .before .before .before .before .before .before
+          .before .before .pre .0) (c .before .before .before .before .before .before .before .before .before .before .before .before .before
+          .pre .1 .0),
+    ))) ∙ bit-unit (g j)
     ∙ sym (map-at g ks i k)))
-    ∙ start-list C (c .before .before .before .before .before .before .before .before .before .before .before .before .before .args .y) ks (ls .inside)
+    ∙ start-list C (c .before .before .before .before .before .before .before .before .before .before .before .before .before .args .y)
+    ks (ls .inside)
 
 pub start-state-spec : {M : Type 1} → statement M
 start-state-spec =
