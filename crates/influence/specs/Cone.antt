@@ -57,8 +57,9 @@ unfoldable pub settle : ℕ → Circuit → ℕ → List ℕ → List ℕ
 settle zero c b ms = ms
 settle (suc n) c b ms = cond (closed c b ms) ms (settle n c b (spread c ms))
 
--- what is marked where the marks before are those; 129 rounds at most. Where gates stand after their operands a round goes through a whole frame, so that each round but the last marks a
--- latch, of which a search by states has 32 at most; in another order a round may reach only some of the gates
+-- What is marked where the marks before are those; 129 rounds at most. Where gates stand after their operands a round goes through a whole
+-- frame, so that each round but the last marks a latch; in another order a round may reach only some of the gates. Where the rounds do not
+-- suffice all latches are kept
 unfoldable pub coneFrom : Circuit → ℕ → List ℕ → List ℕ
 coneFrom c b ms =
     settle 129 c b (markBelow (λ i. getD (c .constraints) i 0) (length (c .constraints)) (mark (getD (c .bads) b 0) ms))

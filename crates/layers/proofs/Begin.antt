@@ -9,6 +9,7 @@ use lib.ListN.{length}
 use Rattle.machine.specs.Machine.{Machine}
 use Rattle.machine.specs.Layers.{Entry, meet, started}
 use Rattle.machine.proofs.Meet.{meets}
+use Rattle.states.specs.declared.Table.{Table}
 use Rattle.states.specs.Table.{Fits, Meets}
 use Rattle.states.specs.Trace.{Holds, Leads}
 use Rattle.states.proofs.Laws.{holds-met, fits-met}
@@ -30,8 +31,9 @@ started-longer m y (suc d) =
     )
 
 -- a table that lost a state has lost one, whatever is met after it
-pub holds-lost : {rows t lo quota count : ℕ} {r hd : List ℕ} {es : List Entry} (fs : List Entry) → quota < count → length es ≤ length fs
-    → Holds rows t lo quota count r hd es → Holds rows t lo quota count r hd fs
+pub holds-lost : {rows t lo : ℕ} {tab : Table} {quota count : ℕ} {r : List ℕ} {es : List Entry} (fs : List Entry) → quota < count →
+    length es ≤ length fs
+    → Holds rows t lo tab quota count r es → Holds rows t lo tab quota count r fs
 holds-lost fs l k h =
     record {
       quota-room = h .quota-room;
@@ -41,38 +43,37 @@ holds-lost fs l k h =
       stored = λ x. absurd (omega arith);
       placed = λ x. absurd (omega arith);
       lost = λ x. omega (arith, h .lost x);
-      buckets = h .buckets;
     }
 
-module _ (c : Part) (quota : ℕ) (r₀ hd₀ : List ℕ) where
+module _ (c : Part) (tab : Table) (quota : ℕ) (r₀ : List ℕ) where
   -- the first y places are met
-  pub record Beginning (y met : ℕ) (r hd : List ℕ) : Type 0 where
-    pub fits : Fits quota met r hd
-    pub holds : (rows b : ℕ) → Holds rows 0 0 quota 0 r₀ hd₀ [] → Holds rows 0 0 quota met r hd (started (machineOf c b) y)
+  pub record Beginning (y met : ℕ) (r : List ℕ) : Type 0 where
+    pub fits : Fits tab quota met r
+    pub holds : (rows b : ℕ) → Holds rows 0 0 tab quota 0 r₀ [] → Holds rows 0 0 tab quota met r (started (machineOf c b) y)
 
-  pub beginning-start : Fits quota 0 r₀ hd₀ → Beginning 0 0 r₀ hd₀
+  pub beginning-start : Fits tab quota 0 r₀ → Beginning 0 0 r₀
   unfolding started
   beginning-start f = record { fits = f; holds = λ rows b h. h }
 
-  leads : (rows : ℕ) (r : List ℕ) (met y : ℕ) → Leads rows r 0 met 0 y y
+  leads : (rows : ℕ) (r : List ℕ) (met y : ℕ) → Leads rows (tab .width) r 0 met 0 y y
   unfolding Leads
   leads rows r met y = refl
 
-  pub beginning-more : {y met : ℕ} {r hd : List ℕ} → Beginning y met r hd → (s : ℕ) → s ≡ startNumber c y → {met₂ : ℕ} {r₂ hd₂ : List ℕ}
-      → Meets quota met s 0 y r hd met₂ r₂ hd₂ → Beginning (y + 1) met₂ r₂ hd₂
+  pub beginning-more : {y met : ℕ} {r : List ℕ} → Beginning y met r → (s : ℕ) → s ≡ startNumber c y → {met₂ : ℕ} {r₂ : List ℕ}
+      → Meets tab quota met s 0 y r met₂ r₂ → Beginning (y + 1) met₂ r₂
   unfolding started machineOf
-  beginning-more {y} {met} {r} {hd} k s e {met₂} {r₂} {hd₂} m =
+  beginning-more {y} {met} {r} k s e {met₂} {r₂} m =
       record {
         fits = fits-met (k .fits) m;
         holds = λ rows b h.
-            subst (λ (n : ℕ). Holds rows 0 0 quota met₂ r₂ hd₂ (started (machineOf c b) n)) (sym (add-one y))
-            (subst (λ (n : ℕ). Holds rows 0 0 quota met₂ r₂ hd₂ (meet (some n) y (started (machineOf c b) y))) e
+            subst (λ (n : ℕ). Holds rows 0 0 tab quota met₂ r₂ (started (machineOf c b) n)) (sym (add-one y))
+            (subst (λ (n : ℕ). Holds rows 0 0 tab quota met₂ r₂ (meet (some n) y (started (machineOf c b) y))) e
             (holds-met (k .holds rows b h) s 0 y y (leads rows r met y) m));
       }
 
   -- where a state is lost, the places after it change nothing
-  pub beginning-lost : {y met : ℕ} {r hd : List ℕ} → Beginning y met r hd → quota < met → (n : ℕ) → y ≤ n → Beginning n met r hd
-  beginning-lost {y} {met} {r} {hd} k l n h =
+  pub beginning-lost : {y met : ℕ} {r : List ℕ} → Beginning y met r → quota < met → (n : ℕ) → y ≤ n → Beginning n met r
+  beginning-lost {y} {met} {r} k l n h =
       let e : y + (n - y) ≡ n = omega arith in
       record {
         fits = k .fits;

@@ -9,7 +9,7 @@ use lib.ListN.{length, getD, length-map}
 use lib.Seq.{ext-getD}
 use mathlib.Core.Bool.{Bool, true, false, not, cond, _&&_}
 use mathlib.Core.Logic.{_⊎_, inl, inr, ⊎-elim}
-use native.Mathlib.Decide.{ℕ-discrete}
+use native.Mathlib.Decide.{ℕ-discrete, decLt}
 use lib.Dec.{T}
 use Rattle.aiger.specs.Bits.{bit}
 use Rattle.aiger.specs.Lists.{upto}
@@ -24,7 +24,8 @@ use Rattle.frames.specs.Lanes.{lane, constrainedIn, badIn, hitIn}
 use Rattle.machine.specs.Layers.{Entry, met, meet}
 use Rattle.machine.proofs.Meet.{meets, met-at}
 use Rattle.states.proofs.Walk.{met-some}
-use Rattle.states.specs.Table.{Fits, Meets}
+use Rattle.states.specs.declared.Table.{Table}
+use Rattle.states.specs.Table.{Kept, Fits, Meets}
 use Rattle.states.specs.Trace.{Trace, Holds, Leads}
 use Rattle.states.proofs.Laws.{trace-kept, words-kept, meets-lengths, holds-met, fits-met}
 use Rattle.influence.specs.Part.{Part, keptAt, Closed}
@@ -35,36 +36,38 @@ use Rattle.layers.proofs.Begin.{holds-lost}
 use Rattle.layers.specs.Rows.{leading, metRows, RowsMet, RowStep, Valued, FirstRow}
 
 -- none yet
-pub rows-none : (next : ℕ → Option ℕ) (quota count e first : ℕ) (r hd : List ℕ) → Fits quota count r hd
-    → RowsMet next quota count e first 0 r hd count r hd
+pub rows-none : (next : ℕ → Option ℕ) (tab : Table) (quota count e first : ℕ) (r : List ℕ) → Fits tab quota count r
+    → RowsMet next tab quota count e first 0 r count r
 unfolding metRows
-rows-none next quota count e first r hd f =
-    record { longer = omega arith; words = λ j l. refl; fits = f; holds = λ rows t lo x es h l w k. h }
+rows-none next tab quota count e first r f =
+    record { longer = omega arith; words = λ i f l a b. refl; fits = f; holds = λ rows t lo x es h l w k. h }
 
-leads : (rows : ℕ) (r : List ℕ) (t count e row x : ℕ) → e < count → row < rows → Trace rows r t e x
-    → Leads rows r (suc t) count e row (x * rows + row)
+leads : (rows width : ℕ) (r : List ℕ) (t count e row x : ℕ) → e < count → row < rows → Trace rows width r t e x
+    → Leads rows width r (suc t) count e row (x * rows + row)
 unfolding Leads
-leads rows r t count e row x l w h = (l, w, (x, h, refl))
+leads rows width r t count e row x l w h = (l, w, (x, h, refl))
 
 -- one more, whose state is met
-pub rows-more : (next : ℕ → Option ℕ) (quota count e first n : ℕ) (r hd : List ℕ) (met : ℕ) (r₁ hd₁ : List ℕ) (s met₂ : ℕ) (r₂ hd₂ : List ℕ)
-    → RowsMet next quota count e first n r hd met r₁ hd₁ → next n ≡ some s → Meets quota met s e (first + n) r₁ hd₁ met₂ r₂ hd₂
-    → RowsMet next quota count e first (n + 1) r hd met₂ r₂ hd₂
+pub rows-more : (next : ℕ → Option ℕ) (tab : Table) (quota count e first n : ℕ) (r : List ℕ) (met : ℕ) (r₁ : List ℕ) (s met₂ : ℕ) (r₂ :
+    List ℕ)
+    → RowsMet next tab quota count e first n r met r₁ → next n ≡ some s → Meets tab quota met s e (first + n) r₁ met₂ r₂
+    → RowsMet next tab quota count e first (n + 1) r met₂ r₂
 unfolding metRows
-rows-more next quota count e first n r hd met r₁ hd₁ s met₂ r₂ hd₂ a q m =
+rows-more next tab quota count e first n r met r₁ s met₂ r₂ a q m =
     let l = meets-lengths m in
     record {
-      longer = omega (arith, a .longer, l .2);
-      words = λ j k. words-kept m j (omega (arith, a .longer)) ∙ a .words j k;
+      longer = omega (arith, a .longer, l .1);
+      words = λ i f k g h. words-kept m i f (omega (arith, a .longer)) g h ∙ a .words i f k g h;
       fits = fits-met (a .fits) m;
       holds = λ rows t lo x es h k w tr.
           let before = a .holds rows t lo x es h k (omega arith) tr in
-          let tr₁ : Trace rows r₁ t e x = trace-kept rows r r₁ count (a .words) t e x k tr in
+          let tr₁ : Trace rows (tab .width) r₁ t e x = trace-kept rows (tab .width) r r₁ count (a .words) t e x k tr in
           let y = x * rows + (first + n) in
-          let after = holds-met before s e (first + n) y (leads rows r₁ t met e (first + n) x (omega (arith, a .longer)) (omega arith)
+          let after = holds-met before s e (first + n) y (leads rows (tab .width) r₁ t met e (first + n) x (omega (arith, a .longer))
+          (omega arith)
           tr₁) m in
-          subst (λ (z : ℕ). Holds rows (suc t) lo quota met₂ r₂ hd₂ (metRows next (λ p. x * rows + (first + p)) z es)) (sym (add-one n))
-          (subst (λ (o : Option ℕ). Holds rows (suc t) lo quota met₂ r₂ hd₂ (meet o y (metRows next (λ p. x * rows + (first + p)) n es)))
+          subst (λ (z : ℕ). Holds rows (suc t) lo tab quota met₂ r₂ (metRows next (λ p. x * rows + (first + p)) z es)) (sym (add-one n))
+          (subst (λ (o : Option ℕ). Holds rows (suc t) lo tab quota met₂ r₂ (meet o y (metRows next (λ p. x * rows + (first + p)) n es)))
           (sym q) after);
     }
 
@@ -74,12 +77,12 @@ unfolding metRows
 rows-longer next place zero es = omega arith
 rows-longer next place (suc n) es = omega (arith, rows-longer next place n es, meets (next n) (place n) (metRows next place n es) .longer)
 
-pub rows-lost : (next : ℕ → Option ℕ) (quota count e first n : ℕ) (r hd : List ℕ) → Fits quota count r hd → quota < count
-    → RowsMet next quota count e first n r hd count r hd
-rows-lost next quota count e first n r hd f q =
+pub rows-lost : (next : ℕ → Option ℕ) (tab : Table) (quota count e first n : ℕ) (r : List ℕ) → Fits tab quota count r → quota < count
+    → RowsMet next tab quota count e first n r count r
+rows-lost next tab quota count e first n r f q =
     record {
       longer = omega arith;
-      words = λ j l. refl;
+      words = λ i f l a b. refl;
       fits = f;
       holds = λ rows t lo x es h l w k.
           holds-lost (metRows next (λ p. x * rows + (first + p)) n es) q (rows-longer next (λ p. x * rows + (first + p)) n es) h;
@@ -115,35 +118,35 @@ unfolding meet
 meet-none o y es e = ap (λ (x : Option ℕ). meet x y es) e
 
 -- a row at which nothing is met
-rows-stay : (next : ℕ → Option ℕ) (quota count e first n : ℕ) (r hd : List ℕ) (met₁ : ℕ) (r₁ hd₁ : List ℕ)
-    → RowsMet next quota count e first n r hd met₁ r₁ hd₁
+rows-stay : (next : ℕ → Option ℕ) (tab : Table) (quota count e first n : ℕ) (r : List ℕ) (met₁ : ℕ) (r₁ : List ℕ)
+    → RowsMet next tab quota count e first n r met₁ r₁
     → ((place : ℕ → ℕ) (es : List Entry) → meet (next n) (place n) (metRows next place n es) ≡ metRows next place n es)
-    → RowsMet next quota count e first (n + 1) r hd met₁ r₁ hd₁
+    → RowsMet next tab quota count e first (n + 1) r met₁ r₁
 unfolding metRows
-rows-stay next quota count e first n r hd met₁ r₁ hd₁ a stay =
+rows-stay next tab quota count e first n r met₁ r₁ a stay =
     record {
       longer = a .longer;
       words = a .words;
       fits = a .fits;
       holds = λ rows t lo x es h k w tr.
           let place : ℕ → ℕ = λ z. x * rows + (first + z) in
-          subst (λ (z : ℕ). Holds rows (suc t) lo quota met₁ r₁ hd₁ (metRows next place z es)) (sym (add-one n))
-          (subst (Holds rows (suc t) lo quota met₁ r₁ hd₁) (sym (stay place es)) (a .holds rows t lo x es h k (omega arith) tr));
+          subst (λ (z : ℕ). Holds rows (suc t) lo tab quota met₁ r₁ (metRows next place z es)) (sym (add-one n))
+          (subst (Holds rows (suc t) lo tab quota met₁ r₁) (sym (stay place es)) (a .holds rows t lo x es h k (omega arith) tr));
     }
 
 -- a row that leads nowhere
-pub rows-nowhere : (next : ℕ → Option ℕ) (quota count e first n : ℕ) (r hd : List ℕ) (met₁ : ℕ) (r₁ hd₁ : List ℕ)
-    → RowsMet next quota count e first n r hd met₁ r₁ hd₁
-    → next n ≡ none → RowsMet next quota count e first (n + 1) r hd met₁ r₁ hd₁
-rows-nowhere next quota count e first n r hd met₁ r₁ hd₁ a q =
-    rows-stay next quota count e first n r hd met₁ r₁ hd₁ a (λ place es. meet-none (next n) (place n) (metRows next place n es) q)
+pub rows-nowhere : (next : ℕ → Option ℕ) (tab : Table) (quota count e first n : ℕ) (r : List ℕ) (met₁ : ℕ) (r₁ : List ℕ)
+    → RowsMet next tab quota count e first n r met₁ r₁
+    → next n ≡ none → RowsMet next tab quota count e first (n + 1) r met₁ r₁
+rows-nowhere next tab quota count e first n r met₁ r₁ a q =
+    rows-stay next tab quota count e first n r met₁ r₁ a (λ place es. meet-none (next n) (place n) (metRows next place n es) q)
 
 -- a row that leads where a row before it leads
-pub rows-skip : (next : ℕ → Option ℕ) (quota count e first n : ℕ) (r hd : List ℕ) (met₁ : ℕ) (r₁ hd₁ : List ℕ)
-    → RowsMet next quota count e first n r hd met₁ r₁ hd₁
-    → (p s : ℕ) → p < n → next p ≡ some s → next n ≡ some s → RowsMet next quota count e first (n + 1) r hd met₁ r₁ hd₁
-rows-skip next quota count e first n r hd met₁ r₁ hd₁ a p s l f g =
-    rows-stay next quota count e first n r hd met₁ r₁ hd₁ a
+pub rows-skip : (next : ℕ → Option ℕ) (tab : Table) (quota count e first n : ℕ) (r : List ℕ) (met₁ : ℕ) (r₁ : List ℕ)
+    → RowsMet next tab quota count e first n r met₁ r₁
+    → (p s : ℕ) → p < n → next p ≡ some s → next n ≡ some s → RowsMet next tab quota count e first (n + 1) r met₁ r₁
+rows-skip next tab quota count e first n r met₁ r₁ a p s l f g =
+    rows-stay next tab quota count e first n r met₁ r₁ a
     (λ place es.
     ap (λ (o : Option ℕ). meet o (place n) (metRows next place n es)) g
     ∙ meet-known s (place n) (metRows next place n es) (met-row next place n es p s l f))
@@ -154,16 +157,17 @@ Dropped start numbers p left =
     (q : ℕ) → q < 64 → bit left q ≡ false → (bit start q ≡ false) ⊎ ((z : ℕ) × (z < p) × (bit start z ≡ true) × (numbers z ≡ numbers q))
 
 -- The first n rows of those that are left at the start are met.
-pub record Treated (start : ℕ) (numbers : ℕ → ℕ) (quota count e first n : ℕ) (r hd : List ℕ) (met₁ left : ℕ) (r₁ hd₁ : List ℕ) : Type 0
+pub record Treated (start : ℕ) (numbers : ℕ → ℕ) (tab : Table) (quota count e first n : ℕ) (r : List ℕ) (met₁ left : ℕ) (r₁ : List ℕ) :
+    Type 0
   where
-    pub rows : RowsMet (leading start numbers) quota count e first n r hd met₁ r₁ hd₁
+    pub rows : RowsMet (leading start numbers) tab quota count e first n r met₁ r₁
     pub dropped : Dropped start numbers n left
     pub within : (q : ℕ) → bit left q ≡ true → bit start q ≡ true
 
-pub treated-none : (start : ℕ) (numbers : ℕ → ℕ) (quota count e first : ℕ) (r hd : List ℕ) → Fits quota count r hd
-    → Treated start numbers quota count e first 0 r hd count start r hd
-treated-none start numbers quota count e first r hd f =
-    record { rows = rows-none (leading start numbers) quota count e first r hd f; dropped = λ q l g. inl g; within = λ q g. g }
+pub treated-none : (start : ℕ) (numbers : ℕ → ℕ) (tab : Table) (quota count e first : ℕ) (r : List ℕ) → Fits tab quota count r
+    → Treated start numbers tab quota count e first 0 r count start r
+treated-none start numbers tab quota count e first r f =
+    record { rows = rows-none (leading start numbers) tab quota count e first r f; dropped = λ q l g. inl g; within = λ q g. g }
 
 -- where a row leads, by its bit
 lead-some : (start : ℕ) (numbers : ℕ → ℕ) (p s : ℕ) → bit start p ≡ true → numbers p ≡ s → leading start numbers p ≡ some s
@@ -172,13 +176,11 @@ lead-some start numbers p s e f = ap₂ (λ (q : Bool) (n : ℕ). cond q (some n
 lead-none : (start : ℕ) (numbers : ℕ → ℕ) (p : ℕ) → bit start p ≡ false → leading start numbers p ≡ none
 lead-none start numbers p e = ap (λ (q : Bool). cond q (some (numbers p)) none) e
 
--- one row more
-pub treated-more : (start : ℕ) (numbers : ℕ → ℕ) (quota count e first n : ℕ) (r hd : List ℕ) {met₁ left : ℕ} {r₁ hd₁ : List ℕ}
-    {met₂ left₂ : ℕ} {r₂ hd₂ : List ℕ}
-    → n < 64 → Treated start numbers quota count e first n r hd met₁ left r₁ hd₁
-    → RowStep numbers quota e (first + n) n met₁ left r₁ hd₁ met₂ left₂ r₂ hd₂
-    → Treated start numbers quota count e first (n + 1) r hd met₂ left₂ r₂ hd₂
-treated-more start numbers quota count e first n r hd {met₁} {left} {r₁} {hd₁} w a (RowStep.skipped f) =
+-- a row that is not left
+treated-skip : (start : ℕ) (numbers : ℕ → ℕ) (tab : Table) (quota count e first n : ℕ) (r : List ℕ) {met₁ left : ℕ} {r₁ : List ℕ}
+    → n < 64 → bit left n ≡ false → Treated start numbers tab quota count e first n r met₁ left r₁
+    → Treated start numbers tab quota count e first (n + 1) r met₁ left r₁
+treated-skip start numbers tab quota count e first n r {met₁} {left} {r₁} w f a =
     record {
       rows = go (bit start n) refl (a .dropped n w f);
       dropped = λ q l g. ⊎-elim inl (λ x. inr (x .0, omega (arith, x .1), x .2, x .3)) (a .dropped q l g);
@@ -186,23 +188,68 @@ treated-more start numbers quota count e first n r hd {met₁} {left} {r₁} {hd
     }
   where
     go : (q : Bool) → bit start n ≡ q → (bit start n ≡ false) ⊎ ((z : ℕ) × (z < n) × (bit start z ≡ true) × (numbers z ≡ numbers n))
-        → RowsMet (leading start numbers) quota count e first (n + 1) r hd met₁ r₁ hd₁
-    go false g d = rows-nowhere (leading start numbers) quota count e first n r hd met₁ r₁ hd₁ (a .rows) (lead-none start numbers n g)
+        → RowsMet (leading start numbers) tab quota count e first (n + 1) r met₁ r₁
+    go false g d = rows-nowhere (leading start numbers) tab quota count e first n r met₁ r₁ (a .rows) (lead-none start numbers n g)
     go true g d =
-        ⊎-elim (λ h. rows-nowhere (leading start numbers) quota count e first n r hd met₁ r₁ hd₁ (a .rows) (lead-none start numbers n h))
+        ⊎-elim (λ h. rows-nowhere (leading start numbers) tab quota count e first n r met₁ r₁ (a .rows) (lead-none start numbers n h))
         (λ x.
-        rows-skip (leading start numbers) quota count e first n r hd met₁ r₁ hd₁ (a .rows) (x .0) (numbers n) (x .1)
+        rows-skip (leading start numbers) tab quota count e first n r met₁ r₁ (a .rows) (x .0) (numbers n) (x .1)
         (lead-some start numbers (x .0) (numbers n) (x .2) (x .3)) (lead-some start numbers n (numbers n) g refl)) d
-treated-more start numbers quota count e first n r hd {met₁} {left} {r₁} {hd₁} {met₂} {left₂} {r₂} {hd₂} w a (RowStep.taken here m f g) =
+
+-- rows up to the next that is left
+pub treated-to : (start : ℕ) (numbers : ℕ → ℕ) (tab : Table) (quota count e first n d : ℕ) (r : List ℕ) {met₁ left : ℕ} {r₁ : List ℕ}
+    → n + d ≤ 64 → ((q : ℕ) → q < n + d → bit left q ≡ false) → Treated start numbers tab quota count e first n r met₁ left r₁
+    → Treated start numbers tab quota count e first (n + d) r met₁ left r₁
+treated-to start numbers tab quota count e first n zero r {met₁} {left} {r₁} w f a =
+    subst (λ (k : ℕ). Treated start numbers tab quota count e first k r met₁ left r₁) {x = n} {y = n + 0} (omega arith) a
+treated-to start numbers tab quota count e first n (suc d) r {met₁} {left} {r₁} w f a =
+    subst (λ (k : ℕ). Treated start numbers tab quota count e first k r met₁ left r₁) {x = n + d + 1} {y = n + suc d} (omega arith)
+    (treated-skip start numbers tab quota count e first (n + d) r (omega arith) (f (n + d) (omega arith))
+    (treated-to start numbers tab quota count e first n d r (omega arith) (λ q l. f q (omega arith)) a))
+
+-- a row that is left
+pub treated-more : (start : ℕ) (numbers : ℕ → ℕ) (tab : Table) (quota count e first n : ℕ) (r : List ℕ) {met₁ left : ℕ} {r₁ : List ℕ}
+    {met₂ left₂ : ℕ} {r₂ : List ℕ}
+    → bit left n ≡ true → Treated start numbers tab quota count e first n r met₁ left r₁
+    → RowStep numbers tab quota e (first + n) n met₁ left r₁ met₂ left₂ r₂
+    → Treated start numbers tab quota count e first (n + 1) r met₂ left₂ r₂
+treated-more start numbers tab quota count e first n r {met₁} {left} {r₁} {met₂} {left₂} {r₂} here a s =
     record {
       rows =
-          rows-more (leading start numbers) quota count e first n r hd met₁ r₁ hd₁ (numbers n) met₂ r₂ hd₂ (a .rows)
-          (lead-some start numbers n (numbers n) (a .within n here) refl) m;
+          rows-more (leading start numbers) tab quota count e first n r met₁ r₁ (numbers n) met₂ r₂ (a .rows)
+          (lead-some start numbers n (numbers n) (a .within n here) refl) (s .meets);
       dropped = λ q l h.
           ⊎-elim (λ k. ⊎-elim inl (λ x. inr (x .0, omega (arith, x .1), x .2, x .3)) (a .dropped q l k))
-          (λ k. inr (n, omega arith, a .within n here, sym k)) (f q l h);
-      within = λ q h. a .within q (g q h);
+          (λ k. inr (n, omega arith, a .within n here, sym k)) (s .dropped q l h);
+      within = λ q h. a .within q (s .within q h);
     }
+
+-- ---- the next row that is left
+-- none before the first of a word
+pub none-before : (left p : ℕ) → FirstDifference 64 left 0 p → (q : ℕ) → q < p → bit left q ≡ false
+none-before left p f q l = f .below q l ∙ bit-none q
+
+-- which is itself left
+pub is-left : (left p : ℕ) → FirstDifference 64 left 0 p → p < 64 → bit left p ≡ true
+is-left left p f l = f .here l ∙ ap not (bit-none p)
+
+clash : (b : Bool) → b ≡ true → b ≡ false → ⊥
+clash true e f = let z : _≡_ {A = ℕ} 0 1 = cc in omega arith
+clash false e f = let z : _≡_ {A = ℕ} 0 1 = cc in omega arith
+
+-- it comes after one that was treated
+pub next-later : (left left₂ p p₂ : ℕ) → FirstDifference 64 left 0 p → p < 64 → FirstDifference 64 left₂ 0 p₂
+    → ((q : ℕ) → bit left₂ q ≡ true → bit left q ≡ true) → bit left₂ p ≡ false → p < p₂
+next-later left left₂ p p₂ f l g w h = elim (decLt p p₂) [
+  | yes d ↦ d
+  | no d ↦
+      elim (ℕ-discrete p p₂) [
+        | yes e ↦ absurd (clash (bit left₂ p) (ap (bit left₂) e ∙ is-left left₂ p₂ g (omega arith)) h)
+        | no e ↦
+            absurd
+            (clash (bit left p₂) (w p₂ (is-left left₂ p₂ g (omega arith))) (none-before left p f p₂ (omega arith)))
+      ]
+]
 
 -- the same states, named otherwise
 same-rows : (f g : ℕ → Option ℕ) (place : ℕ → ℕ) (n : ℕ) (es : List Entry) → ((p : ℕ) → p < n → f p ≡ g p)
@@ -212,16 +259,16 @@ same-rows f g place zero es h = refl
 same-rows f g place (suc n) es h =
     ap₂ (λ (o : Option ℕ) (l : List Entry). meet o (place n) l) (h n (omega arith)) (same-rows f g place n es (λ p l. h p (omega arith)))
 
-pub rows-named : (f g : ℕ → Option ℕ) (quota count e first n : ℕ) (r hd : List ℕ) (met : ℕ) (r₁ hd₁ : List ℕ)
+pub rows-named : (f g : ℕ → Option ℕ) (tab : Table) (quota count e first n : ℕ) (r : List ℕ) (met : ℕ) (r₁ : List ℕ)
     → ((p : ℕ) → p < n → f p ≡ g p)
-    → RowsMet f quota count e first n r hd met r₁ hd₁ → RowsMet g quota count e first n r hd met r₁ hd₁
-rows-named f g quota count e first n r hd met r₁ hd₁ q a =
+    → RowsMet f tab quota count e first n r met r₁ → RowsMet g tab quota count e first n r met r₁
+rows-named f g tab quota count e first n r met r₁ q a =
     record {
       longer = a .longer;
       words = a .words;
       fits = a .fits;
       holds = λ rows t lo x es h k w tr.
-          subst (Holds rows (suc t) lo quota met r₁ hd₁) (same-rows f g (λ p. x * rows + (first + p)) n es q)
+          subst (Holds rows (suc t) lo tab quota met r₁) (same-rows f g (λ p. x * rows + (first + p)) n es q)
           (a .holds rows t lo x es h k w tr);
     }
 

@@ -12,7 +12,24 @@ use lib.Dec.{T, eqb, leb}
 use lib.ListN.{length, getD}
 use Rattle.meaning.proofs.Decisions.{Least, least-below}
 use Rattle.machine.specs.Machine.{Machine, prefixes, stepped, stateAfter, hitFrom, hitsAt}
-use Rattle.machine.specs.Layers.{Entry, stateOf, placeOf, started, slotPlace, slotHit, expanded, layerSlots, leastBelow, Layered, hit, clear, gaveUp, layersFrom, layered}
+use Rattle.machine.specs.Layers.{
+  Entry,
+  stateOf,
+  placeOf,
+  started,
+  slotPlace,
+  slotHit,
+  expanded,
+  layerSlots,
+  leastBelow,
+  Layered,
+  hit,
+  clear,
+  never,
+  gaveUp,
+  layersFrom,
+  layered,
+}
 use Rattle.machine.proofs.Starts.{Known, Layer, layer-start}
 use Rattle.machine.proofs.Expand.{Fair, came, over, rest, under, quotient-below, Silent, all-quiet, layer-next, prefix-fits}
 
@@ -47,7 +64,8 @@ module _ (m : Machine) (f : Fair m) where
     frame-quiet silent x l h =
         let s = from-state m t x h in
         let k = layer .reached (x / m .rows) (s .0) (prefix-fits m t x l) (s .1) in
-        all-quiet m f t es lo layer silent (k .index) (x % m .rows) (k .below) (subst (λ (q : ℕ). T (m .hit q (x % m .rows))) (sym (k .same)) (s .2))
+        all-quiet m f t es lo layer silent (k .index) (x % m .rows) (k .below) (subst (λ (q : ℕ). T (m .hit q (x % m .rows))) (sym (k
+        .same)) (s .2))
 
     -- a slot that is not before z has no prefix and row before z's
     later : (z y j : ℕ) → j < length es → lo ≤ j → lo + z / m .slots < length es → z % m .slots < m .rows → y % m .rows < m .slots
@@ -66,7 +84,8 @@ module _ (m : Machine) (f : Fair m) where
               elim (decLt a v) [
                 | yes g ↦
                     let o : placeOf es i < placeOf es j = layer .order i j (omega arith) (omega arith) jl in
-                    let u : placeOf es i * m .rows + r < y / m .rows * m .rows = under (placeOf es i) r (y / m .rows) (m .rows) (omega arith) rl in
+                    let u : placeOf es i * m .rows + r < y / m .rows * m .rows = under (placeOf es i) r (y / m .rows) (m .rows) (omega
+                    arith) rl in
                     omega arith
                 | no g ↦
                     let e : v ≡ a = omega arith in
@@ -134,7 +153,8 @@ module _ (m : Machine) (f : Fair m) where
       stays zero y s h l e = absurd (omega arith)
       stays (suc u) y s h l e = elim (ℕ-discrete u t) [
         | yes q ↦
-            let k = next .reached y s (subst (λ (n : ℕ). y < prefixes m (suc n)) q l) (ap (λ (n : ℕ). stateAfter m (suc n) y) (sym q) ∙ e) in
+            let k = next .reached y s (subst (λ (n : ℕ). y < prefixes m (suc n)) q l) (ap (λ (n : ℕ). stateAfter m (suc n) y) (sym q) ∙
+            e) in
             (k .index, few (k .index) (k .below), k .same)
         | no q ↦
             let x = came m u y s e in
@@ -157,10 +177,12 @@ module _ (m : Machine) (f : Fair m) where
   abbrev pub Says : ℕ → Layered → Type 0
   Says end (hit t x) = (t < end) × QuietBefore m t × FirstHit m t x
   Says end clear = QuietBefore m end
+  Says end never = (t : ℕ) → Quiet m t
   Says end (gaveUp t) = (t ≤ end) × QuietBefore m t
 
   module _ (quota : ℕ → ℕ) where
-    says-from : (n t end : ℕ) (es : List Entry) (lo : ℕ) → t + n ≡ end → QuietBefore m t → Layer m t es lo → Says end (layersFrom m quota n t es lo)
+    says-from : (n t end : ℕ) (es : List Entry) (lo : ℕ) → t + n ≡ end → QuietBefore m t → Layer m t es lo → Says end (layersFrom m quota
+        n t es lo)
     unfolding layersFrom
     says-from zero t end es lo e b layer = subst (QuietBefore m) (omega arith) b
     says-from (suc n) t end es lo e b layer =
@@ -174,10 +196,11 @@ module _ (m : Machine) (f : Fair m) where
             → (QuietBefore m (suc t) → Layer m (suc t) (expanded m es lo (layerSlots m es lo)) (length es)
             → Says end (layersFrom m quota n (suc t) (expanded m es lo (layerSlots m es lo)) (length es)))
             → (p q : Bool) → eqb (length (expanded m es lo (layerSlots m es lo))) (length es) ≡ q
-            → Says end (cond p (cond q clear (layersFrom m quota n (suc t) (expanded m es lo (layerSlots m es lo)) (length es))) (gaveUp (suc t)))
+            → Says end (cond p (cond q never (layersFrom m quota n (suc t) (expanded m es lo (layerSlots m es lo)) (length es))) (gaveUp
+            (suc t)))
         rest-of s k false q w = (omega arith, before-more t b (frame-quiet t es lo layer s))
         rest-of s k true true w =
-            λ u l. elim (decLt t u) [
+            λ u. elim (decLt t u) [
               | yes h ↦ quiet-after t es lo layer s (eqb-true _ _ w) u h
               | no h ↦ before-more t b (frame-quiet t es lo layer s) u (omega arith)
             ]
@@ -190,15 +213,18 @@ module _ (m : Machine) (f : Fair m) where
               | some z ↦ hit t (slotPlace m es lo z)
               | none ↦
                   cond (leb (length (expanded m es lo (layerSlots m es lo))) (quota t))
-                  (cond (eqb (length (expanded m es lo (layerSlots m es lo))) (length es)) clear
+                  (cond (eqb (length (expanded m es lo (layerSlots m es lo))) (length es)) never
                   (layersFrom m quota n (suc t) (expanded m es lo (layerSlots m es lo)) (length es)))
                   (gaveUp (suc t))
             ])
         go (some z) h k = (omega arith, b, frame-hit t es lo layer z h)
         go none h k =
-            rest-of h k (leb (length (expanded m es lo (layerSlots m es lo))) (quota t)) (eqb (length (expanded m es lo (layerSlots m es lo))) (length es)) refl
+            rest-of h k (leb (length (expanded m es lo (layerSlots m es lo))) (quota t)) (eqb (length (expanded m es lo (layerSlots m es
+            lo))) (length es)) refl
 
-    -- a hit is the first of the first frame that has one; clear: no frame before n has a hit; given up at t: no frame before t has one
+    -- a hit is the first of the first frame that has one; clear: no frame before n has a hit; never: no frame has one; given up at t: no
+    -- frame
+    -- before t has one
     pub layered-says : (n : ℕ) → Says n (layered m quota n)
     unfolding layered
     layered-says n = go (leb (length (started m (m .starts))) (quota 0))

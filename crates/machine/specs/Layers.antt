@@ -60,15 +60,16 @@ expanded m es lo (suc z) = meet (slotStep m es lo z) (slotPlace m es lo z) (expa
 abbrev pub layerSlots : Machine → List Entry → ℕ → ℕ
 layerSlots m es lo = (length es - lo) * m .slots
 
--- what the layers say: frame t is the first with a hit, and its first one is x; no frame that was asked has a hit; or the search was given
--- up, where no frame before t has a hit
+-- what the layers say: frame t is the first with a hit, and its first one is x; no frame that was asked has a hit; no frame at all has one,
+-- however late; or the search was given up, where no frame before t has a hit
 pub data Layered : Type 0 where
   hit : ℕ → ℕ → Layered
   clear : Layered
+  never : Layered
   gaveUp : ℕ → Layered
 
 -- Frames t to t + n - 1, where es are the states met and the layer of frame t begins at entry lo. The search is given up at frame t + 1
--- where more than quota t states are met by then.
+-- where more than quota t states are met by then; a layer that leads to no new state ends it.
 unfoldable pub layersFrom : Machine → (ℕ → ℕ) → ℕ → ℕ → List Entry → ℕ → Layered
 layersFrom m quota zero t es lo = clear
 layersFrom m quota (suc n) t es lo =
@@ -76,7 +77,7 @@ layersFrom m quota (suc n) t es lo =
       | some z ↦ hit t (slotPlace m es lo z)
       | none ↦
           cond (leb (length (expanded m es lo (layerSlots m es lo))) (quota t))
-          (cond (eqb (length (expanded m es lo (layerSlots m es lo))) (length es)) clear
+          (cond (eqb (length (expanded m es lo (layerSlots m es lo))) (length es)) never
           (layersFrom m quota n (suc t) (expanded m es lo (layerSlots m es lo)) (length es)))
           (gaveUp (suc t))
     ]

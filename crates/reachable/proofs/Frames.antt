@@ -23,21 +23,23 @@ use Rattle.machine.specs.Layers.{
   Layered,
   hit,
   clear,
+  never,
   gaveUp,
   layersFrom,
 }
 use Rattle.machine.specs.Layers as spec
 use Rattle.machine.proofs.Starts.{some-start}
 use Rattle.influence.specs.Part.{Part}
+use Rattle.states.specs.declared.Table.{Table}
 use Rattle.states.specs.Trace.{Holds}
 use Rattle.transitions.specs.Transitions.{machineOf}
+use Rattle.reachable.specs.declared.Limit.{Limit}
 use Rattle.reachable.specs.Quota.{quota}
 use Rattle.reachable.specs.Layers.{layered}
 
 -- a table holds what it held with another quota, if that is no less than its records
-pub holds-with : {rows t lo quota count : ℕ} {r hd : List ℕ} {es : List Entry} (q : ℕ) → 4 * q ≤ length r → q < 4294967295 → count ≤ quota
-    → count ≤ q
-    → Holds rows t lo quota count r hd es → Holds rows t lo q count r hd es
+pub holds-with : {rows t lo : ℕ} {p : Table} {quota count : ℕ} {r : List ℕ} {es : List Entry} (q : ℕ) → (p .width + 4) * q ≤ length r
+    → q < 4294967295 → count ≤ quota → count ≤ q → Holds rows t lo p quota count r es → Holds rows t lo p q count r es
 holds-with q b d l k h =
     record {
       quota-room = b;
@@ -47,7 +49,6 @@ holds-with q b d l k h =
       stored = λ _. h .stored l;
       placed = λ _. h .placed l;
       lost = λ x. absurd (omega arith);
-      buckets = h .buckets;
     }
 
 -- ---- one frame
@@ -58,7 +59,7 @@ module _ (m : Machine) (q : ℕ → ℕ) (n t : ℕ) (es : List Entry) (lo : ℕ
   abbrev after : Option ℕ → Bool → Bool → Layered
   after o a b = elim o [
     | some z ↦ hit t (slotPlace m es lo z)
-    | none ↦ cond a (cond b clear (layersFrom m q n (suc t) all (length es)))
+    | none ↦ cond a (cond b never (layersFrom m q n (suc t) all (length es)))
         (gaveUp (suc t))
   ]
 
@@ -77,7 +78,7 @@ module _ (m : Machine) (q : ℕ → ℕ) (n t : ℕ) (es : List Entry) (lo : ℕ
         unrolled ∙ ap₂ (λ (o : Option ℕ) (a : Bool). after o a (eqb (length all) (length es))) e (lt-leb (length all) (q t) l)
 
     pub from-last : length (expanded m es lo (layerSlots m es lo)) ≤ q t → length (expanded m es lo (layerSlots m es lo)) ≡ length es
-        → layersFrom m q (suc n) t es lo ≡ clear
+        → layersFrom m q (suc n) t es lo ≡ never
     from-last l k =
         unrolled ∙ ap₂ (λ (o : Option ℕ) (a : Bool). after o a (eqb (length all) (length es))) e (le-leb (length all) (q t) l)
         ∙ ap (after none true) (eq-eqb (length all) (length es) k)
@@ -89,61 +90,64 @@ module _ (m : Machine) (q : ℕ → ℕ) (n t : ℕ) (es : List Entry) (lo : ℕ
         ∙ ap (after none true) (ne-eqb (length all) (length es) k)
 
 -- ---- all frames
-module _ (c : Part) (b k : ℕ) where
+module _ (c : Part) (b first : ℕ) (limit : Limit) (k : ℕ) where
   abbrev m : Machine
   m = machineOf c b
 
   -- what is left is frames t to k
   abbrev pub Rest : ℕ → List Entry → ℕ → Type 0
-  Rest t es lo = layered c b k ≡ layersFrom (machineOf c b) (quota c) (k + 1 - t) t es lo
+  Rest t es lo = layered c b first limit k ≡ layersFrom (machineOf c b) (quota c first limit) (k + 1 - t) t es lo
 
-  abbrev first : List Entry
-  first = started m (2 ^ freeStarts (c .circuit))
+  abbrev begun : List Entry
+  begun = started m (2 ^ freeStarts (c .circuit))
 
-  opened : layered c b k ≡ cond (leb (length first) (quota c 0)) (layersFrom m (quota c) (k + 1) 0 first 0) (gaveUp 0)
+  opened : layered c b first limit k ≡ cond (leb (length begun) (quota c first limit 0)) (layersFrom m (quota c first limit) (k + 1) 0
+      begun 0) (gaveUp 0)
   unfolding layered machineOf spec.layered
   opened = refl
 
-  pub rest-start : length (started (machineOf c b) (2 ^ freeStarts (c .circuit))) ≤ quota c 0
+  pub rest-start : length (started (machineOf c b) (2 ^ freeStarts (c .circuit))) ≤ quota c first limit 0
       → Rest 0 (started (machineOf c b) (2 ^ freeStarts (c .circuit))) 0
   rest-start l =
-      opened ∙ ap (λ (a : Bool). cond a (layersFrom m (quota c) (k + 1) 0 first 0) (gaveUp 0)) (le-leb (length first) (quota c 0) l)
-      ∙ ap (λ (n : ℕ). layersFrom m (quota c) n 0 first 0) {x = k + 1} {y = k + 1 - 0} (omega arith)
+      opened ∙ ap (λ (a : Bool). cond a (layersFrom m (quota c first limit) (k + 1) 0 begun 0) (gaveUp 0)) (le-leb (length begun) (quota
+      c first limit 0) l)
+      ∙ ap (λ (n : ℕ). layersFrom m (quota c first limit) n 0 begun 0) {x = k + 1} {y = k + 1 - 0} (omega arith)
 
-  pub rest-full : quota c 0 < length (started (machineOf c b) (2 ^ freeStarts (c .circuit))) → layered c b k ≡ gaveUp 0
-  rest-full l = opened ∙ ap (λ (a : Bool). cond a (layersFrom m (quota c) (k + 1) 0 first 0) (gaveUp 0))
-      (lt-leb (length first) (quota c 0) l)
+  pub rest-full : quota c first limit 0 < length (started (machineOf c b) (2 ^ freeStarts (c .circuit))) → layered c b first limit k ≡
+      gaveUp 0
+  rest-full l = opened ∙ ap (λ (a : Bool). cond a (layersFrom m (quota c first limit) (k + 1) 0 begun 0) (gaveUp 0))
+      (lt-leb (length begun) (quota c first limit 0) l)
 
   -- without a quota
-  pub rest-none : quota c 0 ≡ 0 → layered c b k ≡ gaveUp 0
+  pub rest-none : quota c first limit 0 ≡ 0 → layered c b first limit k ≡ gaveUp 0
   rest-none e = rest-full (omega (arith, some-start m (2 ^ freeStarts (c .circuit)) (pow-pos (freeStarts (c .circuit)))))
 
-  pub rest-end : (t : ℕ) (es : List Entry) (lo : ℕ) → Rest t es lo → k < t → layered c b k ≡ clear
+  pub rest-end : (t : ℕ) (es : List Entry) (lo : ℕ) → Rest t es lo → k < t → layered c b first limit k ≡ clear
   unfolding layersFrom
-  rest-end t es lo r l = r ∙ ap (λ (n : ℕ). layersFrom m (quota c) n t es lo) {x = k + 1 - t} {y = 0} (omega arith)
+  rest-end t es lo r l = r ∙ ap (λ (n : ℕ). layersFrom m (quota c first limit) n t es lo) {x = k + 1 - t} {y = 0} (omega arith)
 
   module _ (t : ℕ) (es : List Entry) (lo : ℕ) (r : Rest t es lo) (l : t ≤ k) where
-    one-more : layered c b k ≡ layersFrom m (quota c) (suc (k - t)) t es lo
-    one-more = r ∙ ap (λ (n : ℕ). layersFrom m (quota c) n t es lo) {x = k + 1 - t} {y = suc (k - t)} (omega arith)
+    one-more : layered c b first limit k ≡ layersFrom m (quota c first limit) (suc (k - t)) t es lo
+    one-more = r ∙ ap (λ (n : ℕ). layersFrom m (quota c first limit) n t es lo) {x = k + 1 - t} {y = suc (k - t)} (omega arith)
 
     pub rest-hit : (z : ℕ) → leastBelow (layerSlots (machineOf c b) es lo) (slotHit (machineOf c b) es lo) ≡ some z
-        → layered c b k ≡ hit t (slotPlace (machineOf c b) es lo z)
-    rest-hit z e = one-more ∙ from-hit m (quota c) (k - t) t es lo z e
+        → layered c b first limit k ≡ hit t (slotPlace (machineOf c b) es lo z)
+    rest-hit z e = one-more ∙ from-hit m (quota c first limit) (k - t) t es lo z e
 
     module _ (e : leastBelow (layerSlots (machineOf c b) es lo) (slotHit (machineOf c b) es lo) ≡ none) where
-      pub rest-lost : quota c t < length (expanded (machineOf c b) es lo (layerSlots (machineOf c b) es lo))
-          → layered c b k ≡ gaveUp (t + 1)
-      rest-lost h = one-more ∙ from-lost m (quota c) (k - t) t es lo e h ∙ ap gaveUp (sym (add-one t))
+      pub rest-lost : quota c first limit t < length (expanded (machineOf c b) es lo (layerSlots (machineOf c b) es lo))
+          → layered c b first limit k ≡ gaveUp (t + 1)
+      rest-lost h = one-more ∙ from-lost m (quota c first limit) (k - t) t es lo e h ∙ ap gaveUp (sym (add-one t))
 
-      pub rest-last : length (expanded (machineOf c b) es lo (layerSlots (machineOf c b) es lo)) ≤ quota c t
-          → length (expanded (machineOf c b) es lo (layerSlots (machineOf c b) es lo)) ≡ length es → layered c b k ≡ clear
-      rest-last h q = one-more ∙ from-last m (quota c) (k - t) t es lo e h q
+      pub rest-last : length (expanded (machineOf c b) es lo (layerSlots (machineOf c b) es lo)) ≤ quota c first limit t
+          → length (expanded (machineOf c b) es lo (layerSlots (machineOf c b) es lo)) ≡ length es → layered c b first limit k ≡ never
+      rest-last h q = one-more ∙ from-last m (quota c first limit) (k - t) t es lo e h q
 
-      pub rest-more : length (expanded (machineOf c b) es lo (layerSlots (machineOf c b) es lo)) ≤ quota c t
+      pub rest-more : length (expanded (machineOf c b) es lo (layerSlots (machineOf c b) es lo)) ≤ quota c first limit t
           → (length (expanded (machineOf c b) es lo (layerSlots (machineOf c b) es lo)) ≡ length es → ⊥)
           → Rest (t + 1) (expanded (machineOf c b) es lo (layerSlots (machineOf c b) es lo)) (length es)
       rest-more h q =
           let all = expanded m es lo (layerSlots m es lo) in
-          one-more ∙ from-more m (quota c) (k - t) t es lo e h q
-          ∙ ap₂ (λ (n : ℕ) (u : ℕ). layersFrom m (quota c) n u all (length es)) {x = k - t} {y = k + 1 - (t + 1)} (omega arith)
+          one-more ∙ from-more m (quota c first limit) (k - t) t es lo e h q
+          ∙ ap₂ (λ (n : ℕ) (u : ℕ). layersFrom m (quota c first limit) n u all (length es)) {x = k - t} {y = k + 1 - (t + 1)} (omega arith)
           (sym (add-one t))

@@ -2,8 +2,8 @@
 use mathlib.Core.Path.{_≡_, refl, sym, ap, ap₂, _∙_}
 use mathlib.Core.Bool.{Bool, true, false, cond, _&&_}
 use mathlib.Core.List.{List}
-use Prim.Native.Nat.{ℕ, _+_, _-_, _*_, _/_, _^_, _≤_, _<_, min}
-use native.Mathlib.Nat.{mul-le-mul-right, mul-le-mul, div-lt-iff-lt-mul, div-mul-le-self}
+use Prim.Native.Nat.{ℕ, _+_, _-_, _*_, _/_, _^_, _≤_, _<_, max, min}
+use native.Mathlib.Nat.{mul-le-mul-left, mul-le-mul-right, mul-le-mul, mul-add, mul-comm, div-lt-iff-lt-mul, div-mul-le-self}
 use native.Mathlib.Decide.{decLt}
 use native.Mathlib.Omega.{arith}
 use borrow.Author.Tests.{le-leb, lt-leb}
@@ -21,7 +21,8 @@ use Rattle.frames.proofs.Places.{inputs-are, latches-are}
 use Rattle.influence.specs.Part.{Part, partIn}
 use Rattle.limits.specs.Limits.{sizeOf}
 use Rattle.limits.proofs.Sizes.{product-small, size-is, counts-of, limited}
-use Rattle.reachable.specs.Quota.{effort, quota}
+use Rattle.reachable.specs.declared.Limit.{Limit}
+use Rattle.reachable.specs.Quota.{width, effort, sizeBy, workOf, quota, Moderate}
 
 -- a larger dividend has no smaller quotient
 quotient-mono : (a b e : ℕ) → 0 < e → a ≤ b → a / e ≤ b / e
@@ -30,12 +31,22 @@ quotient-mono a b e l h = elim (decLt (b / e) (a / e)) [
   | no d ↦ omega arith
 ]
 
+-- a product of quotients
+quotient-room : (k s q : ℕ) → q ≤ s / k → k * q ≤ s
+quotient-room k s q l =
+    let a : k * q ≤ k * (s / k) = mul-le-mul-left k l in
+    omega (arith, div-mul-le-self s k, mul-comm k (s / k))
+
+-- four words for each record at least
+quotient-few : (s w : ℕ) → 16 * s / (w + 4) ≤ 4 * s
+quotient-few s w =
+    let k : (4 * s + 1) * (w + 4) ≡ (4 * s + 1) * w + (4 * s + 1) * 4 = mul-add (4 * s + 1) w 4 in
+    let l : 16 * s / (w + 4) < 4 * s + 1 = div-lt-iff-lt-mul {k = w + 4} {x = 16 * s} {y = 4 * s + 1} (omega arith) .1 (omega arith) in
+    omega arith
+
 module _ (c : Part) where
   abbrev I : ℕ
   I = length (c .circuit .inputs)
-
-  abbrev small : Bool
-  small = leb (length (c .circuit .inputs)) 16 && (leb (length (c .kept)) 32 && leb (freeStarts (c .circuit)) 16)
 
   pub effort-some : 0 < effort c
   unfolding effort
@@ -51,72 +62,76 @@ module _ (c : Part) where
       let a : (t + 1) * n ≤ (u + 1) * n = mul-le-mul-right n (omega arith) in
       omega arith
 
-  pub quota-mono : (t u : ℕ) → t ≤ u → quota c t ≤ quota c u
-  unfolding quota
-  quota-mono t u l = go small
-    where
-      go : (b : Bool) → cond b (min (4 * size (c .circuit) t) ((40000 + 128 * size (c .circuit) t) / effort c)) 0 ≤ cond b
-          (min (4 * size (c .circuit) u) ((40000 + 128 * size (c .circuit) u) / effort c)) 0
-      go true =
-          let a = size-mono t u l in
-          let d : (40000 + 128 * size (c .circuit) t) / effort c ≤ (40000 + 128 * size (c .circuit) u) / effort c = quotient-mono
-          (40000 + 128 * size (c .circuit) t) (40000 + 128 * size (c .circuit) u) (effort c) effort-some (omega arith) in
-          omega arith
-      go false = omega arith
+  -- a state of up to 1,024 latches has 32 words at most
+  pub width-few : length (c .kept) ≤ 1024 → width c ≤ 32
+  width-few l = omega arith
 
-  pub quota-room : (t : ℕ) → quota c t ≤ 4 * size (c .circuit) t
-  unfolding quota
-  quota-room t = go small
-    where
-      go : (b : Bool) → cond b (min (4 * size (c .circuit) t) ((40000 + 128 * size (c .circuit) t) / effort c)) 0 ≤ 4 * size (c .circuit) t
-      go true = omega arith
-      go false = omega arith
+  module _ (first : ℕ) (limit : Limit) where
+    abbrev small : Bool
+    small = leb (length (c .circuit .inputs)) 16 && leb (freeStarts (c .circuit)) 16
 
-  pub quota-small : (t : ℕ) → 0 < quota c t → (length (c .circuit .inputs) ≤ 16) × (length (c .kept) ≤ 32) × (freeStarts (c .circuit) ≤ 16)
-  unfolding quota
-  quota-small t l = go small refl l
-    where
-      go : (b : Bool) → small ≡ b → 0 < cond b (min (4 * size (c .circuit) t) ((40000 + 128 * size (c .circuit) t) / effort c)) 0
-          → (length (c .circuit .inputs) ≤ 16) × (length (c .kept) ≤ 32) × (freeStarts (c .circuit) ≤ 16)
-      go true e h =
-          let k = T-true e in
-          let r = and-right (leb I 16) (leb (length (c .kept)) 32 && leb (freeStarts (c .circuit)) 16) k in (
-            leb→le I 16 (and-left (leb I 16) (leb (length (c .kept)) 32 && leb (freeStarts (c .circuit)) 16) k),
-            leb→le (length (c .kept)) 32 (and-left (leb (length (c .kept)) 32) (leb (freeStarts (c .circuit)) 16) r),
-            leb→le (freeStarts (c .circuit)) 16 (and-right (leb (length (c .kept)) 32) (leb (freeStarts (c .circuit)) 16) r),
-          )
-      go false e h = absurd (omega arith)
+    -- as many as the two bounds allow
+    abbrev allowed : ℕ → ℕ
+    allowed t = min (16 * sizeBy c first t / (width c + 4)) (workOf limit (sizeBy c first t) / effort c)
 
-  pub quota-many : (t : ℕ) → 16 < length (c .circuit .inputs) → quota c t ≡ 0
-  unfolding quota
-  quota-many t l = ap (λ (b : Bool). cond (b && (leb (length (c .kept)) 32 && leb (freeStarts (c .circuit)) 16))
-      (min (4 * size (c .circuit) t) ((40000 + 128 * size (c .circuit) t) / effort c)) 0) (lt-leb I 16 l)
+    size-by : (t u : ℕ) → t ≤ u → sizeBy c first t ≤ sizeBy c first u
+    size-by t u l = size-mono (max t first) (max u first) (omega arith)
 
-  pub quota-latches : (t : ℕ) → length (c .circuit .inputs) ≤ 16 → 32 < length (c .kept) → quota c t ≡ 0
-  unfolding quota
-  quota-latches t l h =
-      ap₂ (λ (a b : Bool). cond (a && (b && leb (freeStarts (c .circuit)) 16))
-      (min (4 * size (c .circuit) t) ((40000 + 128 * size (c .circuit) t) / effort c)) 0) (le-leb I 16 l)
-      (lt-leb (length (c .kept)) 32 h)
+    pub quota-mono : (t u : ℕ) → t ≤ u → quota c first limit t ≤ quota c first limit u
+    unfolding quota
+    quota-mono t u l = go small
+      where
+        go : (b : Bool) → cond b (allowed t) 0 ≤ cond b (allowed u) 0
+        go true =
+            let a = size-by t u l in
+            let w : limit .unit * sizeBy c first t ≤ limit .unit * sizeBy c first u = mul-le-mul-left (limit .unit) a in
+            let d = quotient-mono (16 * sizeBy c first t) (16 * sizeBy c first u) (width c + 4) (omega arith) (omega arith) in
+            let e = quotient-mono (workOf limit (sizeBy c first t)) (workOf limit (sizeBy c first u)) (effort c) effort-some (omega
+            arith) in
+            omega arith
+        go false = omega arith
 
-  pub quota-free : (t : ℕ) → length (c .circuit .inputs) ≤ 16 → length (c .kept) ≤ 32 → 16 < freeStarts (c .circuit) → quota c t ≡ 0
-  unfolding quota
-  quota-free t l h f =
-      ap₂ (λ (a b : Bool). cond (a && (b && leb (freeStarts (c .circuit)) 16))
-      (min (4 * size (c .circuit) t) ((40000 + 128 * size (c .circuit) t) / effort c)) 0) (le-leb I 16 l)
-      (le-leb (length (c .kept)) 32 h)
-      ∙ ap (λ (b : Bool). cond b (min (4 * size (c .circuit) t) ((40000 + 128 * size (c .circuit) t) / effort c)) 0)
-      (lt-leb (freeStarts (c .circuit)) 16 f)
+    -- the records of a quota stand within the words of the frame
+    pub quota-room : (t : ℕ) → (width c + 4) * quota c first limit t ≤ 16 * sizeBy c first t
+    unfolding quota
+    quota-room t = go small
+      where
+        go : (b : Bool) → (width c + 4) * cond b (allowed t) 0 ≤ 16 * sizeBy c first t
+        go true = quotient-room (width c + 4) (16 * sizeBy c first t) (allowed t) (omega arith)
+        go false = quotient-room (width c + 4) (16 * sizeBy c first t) 0 (omega arith)
 
-  pub quota-is : (t : ℕ) → length (c .circuit .inputs) ≤ 16 → length (c .kept) ≤ 32 → freeStarts (c .circuit) ≤ 16
-      → quota c t ≡ min (4 * size (c .circuit) t) ((40000 + 128 * size (c .circuit) t) / effort c)
-  unfolding quota
-  quota-is t l h f =
-      ap₂ (λ (a b : Bool). cond (a && (b && leb (freeStarts (c .circuit)) 16))
-      (min (4 * size (c .circuit) t) ((40000 + 128 * size (c .circuit) t) / effort c)) 0) (le-leb I 16 l)
-      (le-leb (length (c .kept)) 32 h)
-      ∙ ap (λ (b : Bool). cond b (min (4 * size (c .circuit) t) ((40000 + 128 * size (c .circuit) t) / effort c)) 0)
-      (le-leb (freeStarts (c .circuit)) 16 f)
+    pub quota-few : (t : ℕ) → quota c first limit t ≤ 4 * sizeBy c first t
+    unfolding quota
+    quota-few t = go small
+      where
+        go : (b : Bool) → cond b (allowed t) 0 ≤ 4 * sizeBy c first t
+        go true = omega (arith, quotient-few (sizeBy c first t) (width c))
+        go false = omega arith
+
+    pub quota-small : (t : ℕ) → 0 < quota c first limit t → (length (c .circuit .inputs) ≤ 16) × (freeStarts (c .circuit) ≤ 16)
+    unfolding quota
+    quota-small t l = go small refl l
+      where
+        go : (b : Bool) → small ≡ b → 0 < cond b (allowed t) 0 → (length (c .circuit .inputs) ≤ 16) × (freeStarts (c .circuit) ≤ 16)
+        go true e h =
+            let k = T-true e in (
+              leb→le I 16 (and-left (leb I 16) (leb (freeStarts (c .circuit)) 16) k),
+              leb→le (freeStarts (c .circuit)) 16 (and-right (leb I 16) (leb (freeStarts (c .circuit)) 16) k),
+            )
+        go false e h = absurd (omega arith)
+
+    pub quota-many : (t : ℕ) → 16 < length (c .circuit .inputs) → quota c first limit t ≡ 0
+    unfolding quota
+    quota-many t l = ap (λ (b : Bool). cond (b && leb (freeStarts (c .circuit)) 16) (allowed t) 0) (lt-leb I 16 l)
+
+    pub quota-free : (t : ℕ) → length (c .circuit .inputs) ≤ 16 → 16 < freeStarts (c .circuit) → quota c first limit t ≡ 0
+    unfolding quota
+    quota-free t l f = ap₂ (λ (a b : Bool). cond (a && b) (allowed t) 0) (le-leb I 16 l) (lt-leb (freeStarts (c .circuit)) 16 f)
+
+    pub quota-is : (t : ℕ) → length (c .circuit .inputs) ≤ 16 → freeStarts (c .circuit) ≤ 16
+        → quota c first limit t ≡ min (16 * sizeBy c first t / (width c + 4)) (workOf limit (sizeBy c first t) / effort c)
+    unfolding quota
+    quota-is t l f = ap₂ (λ (a b : Bool). cond (a && b) (allowed t) 0) (le-leb I 16 l) (le-leb (freeStarts (c .circuit)) 16 f)
 
 -- ---- a circuit in memory
 module _ {m : List ℕ} {p : Layout} (ks : List ℕ) (held : Holds m (circuitIn m)) (a : LayoutOf m p) where
@@ -144,8 +159,14 @@ module _ {m : List ℕ} {p : Layout} (ks : List ℕ) (held : Holds m (circuitIn 
       omega (arith, n .starts, product-small t (p .i + p .a + p .c + 1) l (omega (arith, n .inputs, n .gates, n .constraints)))
 
   -- the quota, from what the code computes
-  pub quota-from : (t units each : ℕ) → units ≡ sizeOf p t → each ≡ effort (partIn m ks) → p .i ≤ 16 → length ks ≤ 32 → p .u ≤ 16
-      → min (4 * units) ((40000 + 128 * units) / each) ≡ quota (partIn m ks) t
-  quota-from t units each x y i l u =
-      ap₂ (λ (s e : ℕ). min (4 * s) ((40000 + 128 * s) / e)) (x ∙ size-is (counts-of held a) t) y
-      ∙ sym (quota-is (partIn m ks) t (omega (arith, inputs-is)) l (omega (arith, a .u-is)))
+  pub quota-from : (first : ℕ) (limit : Limit) (t units each stride : ℕ) → units ≡ sizeOf p (max t first) → each ≡ effort (partIn m ks)
+      → stride ≡ width (partIn m ks) + 4 → p .i ≤ 16 → p .u ≤ 16
+      → min (16 * units / stride) ((limit .base + limit .unit * units) / each) ≡ quota (partIn m ks) first limit t
+  quota-from first limit t units each stride x y z i u =
+      (λ k. min (16 * (x ∙ size-is (counts-of held a) (max t first)) k / z k)
+      ((limit .base + limit .unit * (x ∙ size-is (counts-of held a) (max t first)) k) / y k))
+      ∙ sym (quota-is (partIn m ks) first limit t (omega (arith, inputs-is)) (omega (arith, a .u-is)))
+
+  -- nothing of the limit wraps
+  pub work-few : (limit : Limit) (units : ℕ) → Moderate limit → units ≤ 1048576 → limit .unit * units ≤ 4503599627370496
+  work-few limit units n l = mul-le-mul {n₁ = limit .unit} {m₁ = units} {n₂ = 4294967296} {m₂ = 1048576} (n .unit-small) l

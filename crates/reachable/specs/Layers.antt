@@ -9,27 +9,31 @@ use Rattle.machine.specs.Layers as spec
 use Rattle.states.specs.Trace.{Trace}
 use Rattle.influence.specs.Part.{Part}
 use Rattle.transitions.specs.Transitions.{machineOf}
-use Rattle.reachable.specs.Quota.{quota}
+use Rattle.reachable.specs.Quota.{width, quota}
+use Rattle.reachable.specs.declared.Limit.{Limit}
 use Rattle.reachable.specs.declared.Layers.{Layers}
-use Rattle.reachable.specs.declared.Layers.the-variants.{Hit, Clear, GaveUp}
+use Rattle.reachable.specs.declared.Layers.the-variants.{Hit, Clear, Never, GaveUp}
 use Rattle.reachable.specs.declared.Found.{Found}
-use Rattle.reachable.specs.declared.Found.the-variants.{At, Nowhere, Left}
+use Rattle.reachable.specs.declared.Found.the-variants.{At, Nowhere, Ended, Left}
 
--- what the layers say of frames 0 to k
-unfoldable pub layered : Part → ℕ → ℕ → spec.Layered
-layered c b k = spec.layered (machineOf c b) (quota c) (k + 1)
+-- what the layers say of frames 0 to k, where nothing is known of the frames from `first` on
+unfoldable pub layered : Part → ℕ → ℕ → Limit → ℕ → spec.Layered
+layered c b first limit k = spec.layered (machineOf c b) (quota c first limit) (k + 1)
 
 -- the first hit is row `row` of record e
-unfoldable pub FoundOf : Part → ℕ → ℕ → List ℕ → Found → Type 0
-FoundOf c b k records (At t e row) =
-    (y : ℕ) × (layered c b k ≡ spec.hit t (y * 2 ^ length (c .circuit .inputs) + row))
-    × Trace (2 ^ length (c .circuit .inputs)) records t e y × (row < 2 ^ length (c .circuit .inputs)) × (t ≤ k)
-    × (4 * e + 4 ≤ length records) × (length (c .circuit .inputs) ≤ 16)
-FoundOf c b k records Nowhere = layered c b k ≡ spec.clear
-FoundOf c b k records (Left t) = layered c b k ≡ spec.gaveUp t
+unfoldable pub FoundOf : Part → ℕ → ℕ → Limit → ℕ → List ℕ → Found → Type 0
+FoundOf c b first limit k records (At t e row) =
+    (y : ℕ) × (layered c b first limit k ≡ spec.hit t (y * 2 ^ length (c .circuit .inputs) + row))
+    × Trace (2 ^ length (c .circuit .inputs)) (width c) records t e y × (row < 2 ^ length (c .circuit .inputs)) × (t ≤ k)
+    × ((width c + 4) * e + (width c + 4) ≤ length records) × (length (c .circuit .inputs) ≤ 16)
+FoundOf c b first limit k records Nowhere = layered c b first limit k ≡ spec.clear
+FoundOf c b first limit k records Ended = layered c b first limit k ≡ spec.never
+FoundOf c b first limit k records (Left t) = layered c b first limit k ≡ spec.gaveUp t
 
 -- after a hit, working memory begins with the free bits of the first one
-unfoldable pub LayersOf : Part → ℕ → ℕ → List ℕ → Layers → Type 0
-LayersOf c b k work (Hit t) = (x : ℕ) × (layered c b k ≡ spec.hit t x) × (t ≤ k) × FreeBits (freeBits (c .circuit) t) x work
-LayersOf c b k work Clear = layered c b k ≡ spec.clear
-LayersOf c b k work (GaveUp t) = layered c b k ≡ spec.gaveUp t
+unfoldable pub LayersOf : Part → ℕ → ℕ → Limit → ℕ → List ℕ → Layers → Type 0
+LayersOf c b first limit k work (Hit t) =
+    (x : ℕ) × (layered c b first limit k ≡ spec.hit t x) × (t ≤ k) × FreeBits (freeBits (c .circuit) t) x work
+LayersOf c b first limit k work Clear = layered c b first limit k ≡ spec.clear
+LayersOf c b first limit k work Never = layered c b first limit k ≡ spec.never
+LayersOf c b first limit k work (GaveUp t) = layered c b first limit k ≡ spec.gaveUp t

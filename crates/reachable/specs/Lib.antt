@@ -1,2 +1,3 @@
 pub mod Quota
 pub mod Layers
+pub mod Asking

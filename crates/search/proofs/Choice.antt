@@ -33,7 +33,7 @@ use Rattle.stages.proofs.Choice.{Leads, first-of, stage-leads, no-stage, on-pas
 use Rattle.stages.proofs.Choice as stages
 use Rattle.stages.proofs.More as more
 use Rattle.stages.proofs.Layers.{layers-sound, layers-cut}
-use Rattle.search.specs.Chosen.{stagesOf, chosen}
+use Rattle.search.specs.Chosen.{layersLimit, layersOf, stagesOf, chosen}
 use Rattle.search.specs.Steps.{Answered}
 
 -- ---- the layers of states
@@ -57,18 +57,20 @@ module _ (c : Circuit) (b : ℕ) where
     },
   )
   layers-right machine.Layered.clear q = none-of 256 q
+  layers-right machine.Layered.never q = λ t x h r.
+      q t x (subst (λ (n : ℕ). x < n) (sym (prefixes-of (partOf c b) b t)) h)
+      (subst T (reaches-of (partOf c b) b (part-closed c b) t x) r)
   layers-right (machine.Layered.gaveUp t) (l, q) = (omega arith, l, none-of t q)
 
   -- ---- all stages
 
-  abbrev layerStage : Stage
-  layerStage = anyBudget (layersEnding (machineOf (partOf c b) b) (quota (partOf c b)))
-
-  layer-sound : Sound (question c b) layerStage
+  layer-sound : Sound (question c b) (layersOf c b)
+  unfolding layersOf
   layer-sound =
-      layers-sound (question c b) (machineOf (partOf c b) b) (quota (partOf c b))
-      (layers-right (machine.layered (machineOf (partOf c b) b) (quota (partOf c b)) 256)
-      (layered-says (machineOf (partOf c b) b) (fair (partOf c b) b) (quota (partOf c b)) 256))
+      let m = machineOf (partOf c b) b in
+      layers-sound (question c b) m (λ first. quota (partOf c b) first layersLimit)
+      (λ first. layers-right (machine.layered m (quota (partOf c b) first layersLimit) 256)
+      (layered-says m (fair (partOf c b) b) (quota (partOf c b) first layersLimit) 256))
 
   pub stages-sound : AllSound (question c b) (stagesOf c b)
   unfolding stagesOf
@@ -102,12 +104,12 @@ module _ (c : Circuit) (b : ℕ) where
       (λ t D E h n. decided-more c b t D E h n) k D E small m d
 
   -- the layers are given up at a frame up to the one after the bound, and no frame before it has a hit
-  given-up : (k : ℕ) {t : ℕ} → layered (partOf c b) b k ≡ machine.Layered.gaveUp t → (t ≤ k + 1) × NoneBefore (question c b) t
+  given-up : (k : ℕ) {t : ℕ} → layered (partOf c b) b 0 layersLimit k ≡ machine.Layered.gaveUp t → (t ≤ k + 1) × NoneBefore (question c b) t
   unfolding layered
   given-up k {t} e =
       let s =
       subst (Says (machineOf (partOf c b) b) (fair (partOf c b) b) (k + 1)) e
-      (layered-says (machineOf (partOf c b) b) (fair (partOf c b) b) (quota (partOf c b)) (k + 1)) in
+      (layered-says (machineOf (partOf c b) b) (fair (partOf c b) b) (quota (partOf c b) 0 layersLimit) (k + 1)) in
       (s .0, none-of t (s .1))
 
 module _ (c : Circuit) (b k D : ℕ) where
@@ -133,21 +135,21 @@ module _ (c : Circuit) (b k D : ℕ) where
   none-at-start u l x h r = omega arith
 
   -- what the layers up to the bound lead to
-  layers-lead : k ≤ 255 → After (cutAt k (ofLayers (layered (partOf c b) b k)))
-  unfolding chosen chosenBy stagesOf layersEnding layered
+  layers-lead : k ≤ 255 → After (cutAt k (ofLayers (layered (partOf c b) b 0 layersLimit k)))
+  unfolding chosen chosenBy stagesOf layersOf layersEnding layered
   layers-lead small =
       let m = machineOf (partOf c b) b in
-      let first = machine.layered m (quota (partOf c b)) 256 in
-      subst (After) (start first ∙ layers-cut m (quota (partOf c b)) k small)
-      (stage-leads (question c b) [] tt (decisionOf c b) k D (layerStage c b) (layer-sound c b) 0
-      (omega arith) none-at-start)
+      let first = machine.layered m (quota (partOf c b) 0 layersLimit) 256 in
+      subst (After) (start first ∙ layers-cut m (quota (partOf c b) 0 layersLimit) k small)
+      (stage-leads (question c b) [] tt (decisionOf c b) k D (layersOf c b) (layer-sound c b) 0 (omega arith) none-at-start)
     where
       start : (o : machine.Layered) → cutAt k (fromStart (ofLayers o) 0) ≡ cutAt k (ofLayers o)
       start (machine.Layered.hit t x) = refl
       start machine.Layered.clear = refl
+      start machine.Layered.never = refl
       start (machine.Layered.gaveUp t) = let e : max t 0 ≡ t = omega arith in ap (λ (u : ℕ). cutAt k (Ending.gaveUp u)) e
 
-  pub layers-found : k ≤ 255 → {t x : ℕ} → t ≤ k → layered (partOf c b) b k ≡ machine.Layered.hit t x
+  pub layers-found : k ≤ 255 → {t x : ℕ} → t ≤ k → layered (partOf c b) b 0 layersLimit k ≡ machine.Layered.hit t x
       → (chosen c b k D ≡ Outcome.found t) × (witness b (run c t x) ≡ firstWitness c b t)
   layers-found small {t} {x} l e =
       let h : After (Cut.hit t x) =
@@ -155,11 +157,14 @@ module _ (c : Circuit) (b k D : ℕ) where
       ∙ ap (λ (p : Bool). cond p (Cut.hit t x) Cut.none) (le-leb t k l)) (layers-lead small) in
       (h .1, first-shown (h .2))
 
-  pub layers-none : k ≤ 255 → layered (partOf c b) b k ≡ machine.Layered.clear → chosen c b k D ≡ Outcome.none k
+  pub layers-none : k ≤ 255 → layered (partOf c b) b 0 layersLimit k ≡ machine.Layered.clear → chosen c b k D ≡ Outcome.none k
   layers-none small e = subst (After) (ap (λ (o : machine.Layered). cutAt k (ofLayers o)) e) (layers-lead small)
 
+  pub layers-never : k ≤ 255 → layered (partOf c b) b 0 layersLimit k ≡ machine.Layered.never → chosen c b k D ≡ Outcome.none k
+  layers-never small e = subst (After) (ap (λ (o : machine.Layered). cutAt k (ofLayers o)) e) (layers-lead small)
+
   -- where the layers are given up each frame is decided by itself
-  pub layers-left : k ≤ 255 → {t : ℕ} → layered (partOf c b) b k ≡ machine.Layered.gaveUp t → (t ≤ k + 1) × Left t
+  pub layers-left : k ≤ 255 → {t : ℕ} → layered (partOf c b) b 0 layersLimit k ≡ machine.Layered.gaveUp t → (t ≤ k + 1) × Left t
   layers-left small {t} e =
       let (l, n) = given-up c b k e in
       let here = ap (λ (o : machine.Layered). cutAt k (ofLayers o)) e in (

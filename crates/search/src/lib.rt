@@ -5,6 +5,8 @@ use enumeration::Frame;
 use layout::Layout;
 use limits::Ruling;
 use reachable::Layers;
+use reachable::Limit;
+use reachable::Stage;
 ghost use mathlib.Core.Path.{_≡_};
 ghost use Prim.Native.Nat.{_+_, _-_, _≤_};
 ghost use Rattle.aiger.specs.Circuit.{Circuit};
@@ -108,12 +110,23 @@ fn search_frames(
 {
     let b = q.b as usize;
     let k = q.k as usize;
-    match reachable::search_layers(m, layout, order, b, k, work) {
+    let limit = Limit {
+        base: 40000,
+        unit: 128,
+    };
+    let stage = Stage {
+        b,
+        k,
+        first: 0,
+        limit,
+    };
+    match reachable::search_layers(m, layout, order, stage, work) {
         Layers::Hit(t) => {
             witness::write_witness(out, m, layout, b as u32, t, work);
             SearchAnswer::Found(t as u32)
         }
         Layers::Clear => SearchAnswer::Nothing(k as u32),
+        Layers::Never => SearchAnswer::Nothing(k as u32),
         Layers::GaveUp(t) => search_from(m, layout, order, t, q, work, out),
     }
 }

@@ -31,9 +31,11 @@ module _ (q : Question) where
       later u less = elim (decLt u t) [ yes h ↦ n u h | no h ↦ m u (omega arith) ]
 
   -- the stage is one that the list may have, where the layers are right
-  pub layers-sound : (m : Machine) (quota : ℕ → ℕ) → EndsRight q 0 (ofLayers (layered m quota 256)) → Sound q (anyBudget (layersEnding m quota))
+  pub layers-sound : (m : Machine) (quota : ℕ → ℕ → ℕ) → ((first : ℕ) → EndsRight q 0 (ofLayers (layered m (quota first) 256)))
+      → Sound q (anyBudget (layersEnding m quota))
   unfolding layersEnding
-  layers-sound m quota h = any-budget q (layersEnding m quota) (start-right (ofLayers (layered m quota 256)) h)
+  layers-sound m quota h =
+      any-budget q (layersEnding m quota) (λ first. start-right (ofLayers (layered m (quota first) 256)) (h first) first)
 
 -- ---- the bound
 
@@ -44,7 +46,7 @@ module _ (m : Machine) (quota : ℕ → ℕ) where
   -- one frame, where o is its first slot with a hit
   abbrev turn : ℕ → List Entry → ℕ → Option ℕ → Bool → Bool → Layered → Layered
   turn t es lo o few same later =
-      elim o [ some z ↦ Layered.hit t (slotPlace m es lo z) | none ↦ cond few (cond same Layered.clear later) (Layered.gaveUp (suc t)) ]
+      elim o [ some z ↦ Layered.hit t (slotPlace m es lo z) | none ↦ cond few (cond same Layered.never later) (Layered.gaveUp (suc t)) ]
 
   layers-from : (n t : ℕ) (es : List Entry) (lo : ℕ) → FromOn t (Staged.ends (ofLayers (layersFrom m quota n t es lo)))
   unfolding layersFrom

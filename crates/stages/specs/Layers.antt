@@ -8,6 +8,7 @@ use Rattle.stages.specs.Endings.{Ending, Endings}
 abbrev pub ofLayers : Layered → Ending
 ofLayers (Layered.hit t x) = Ending.hit t x
 ofLayers Layered.clear = Ending.clear
+ofLayers Layered.never = Ending.never
 ofLayers (Layered.gaveUp t) = Ending.gaveUp t
 
 -- an ending that was found from frame 0 on, for a stage that begins at frame `first`
@@ -17,6 +18,6 @@ fromStart Ending.never first = Ending.never
 fromStart Ending.clear first = Ending.clear
 fromStart (Ending.gaveUp t) first = Ending.gaveUp (max t first)
 
--- the stage: quota says how many states may be met by each frame
-unfoldable pub layersEnding : Machine → (ℕ → ℕ) → Endings
-layersEnding m quota first = fromStart (ofLayers (layered m quota 256)) first
+-- the stage: quota says how many states may be met, by the stage's first frame and each frame
+unfoldable pub layersEnding : Machine → (ℕ → ℕ → ℕ) → Endings
+layersEnding m quota first = fromStart (ofLayers (layered m (quota first) 256)) first

@@ -9,23 +9,28 @@ ghost use Rattle.enumeration.specs.Frame.{FreeBits};
 ghost use Rattle.traces.specs.Digits.{Digits};
 
 // Leaves in word 0 of trace the start place, in word u + 1 the row of frame u: the prefix of record e, of the layer of frame t, then row.
-pub fn walk(records: &[u32], t: usize, e: usize, row: usize, trace: &mut [u32])
-    requires { ⌜ (t ≤ 255) × (257 ≤ length (now trace)) × (row < 4294967296) × (4 * e + 4 ≤ length (now records)) ⌝ }
-    requires { ⌜ ((rows : ℕ) × (y : ℕ) × (row < rows) × Trace rows (now records) t e y) ⌝ }
+// A state has `width` words.
+pub fn walk(records: &[u32], width: usize, t: usize, e: usize, row: usize, trace: &mut [u32])
+    requires { ⌜
+        (t ≤ 255) × (257 ≤ length (now trace)) × (row < 4294967296) × ((width + 4) * e + (width + 4) ≤ length (now records))
+        ⌝ }
+    requires { ⌜ ((rows : ℕ) × (y : ℕ) × (row < rows) × Trace rows width (now records) t e y) ⌝ }
     ensures { λ _. ⌜
-        ((rows y : ℕ) → Trace rows (now (records .entry)) t e y → row < rows → Digits rows (now (trace .exit)) (suc t) (y * rows + row))
+        ((rows y : ℕ) → Trace rows width (now (records .entry)) t e y → row < rows
+        → Digits rows (now (trace .exit)) (suc t) (y * rows + row))
         ⌝ }
 {
+    let stride = width + 4;
     trace[t + 1] = row as u32;
     let mut i = e;
     let mut u = t;
     while 0 < u {
-        let at = 4 * i;
-        trace[u] = records[at + 2];
-        i = records[at + 1] as usize;
+        let at = stride * i;
+        trace[u] = records[at + 3];
+        i = records[at + 2] as usize;
         u -= 1;
     }
-    trace[0] = records[4 * i + 2];
+    trace[0] = records[stride * i + 3];
 }
 
 // Free bit j of the sequence whose start place and rows are in trace.

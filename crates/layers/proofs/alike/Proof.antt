@@ -27,10 +27,24 @@ kept m a b e t = go (eqb m 0) refl (sym e ∙ t)
     go true f h = not-true a (sym (xor-true a) ∙ h) ∙ sym (ap nonzero (eqb-true m 0 f))
     go false f h = sym (xor-false a) ∙ h ∙ sym (nonzero-some m f)
 
+-- bit p itself
+own : (m : ℕ) (b : Bool) → b ≡ xor (eqb m 0) (nonzero m) → b ≡ true
+own m b e = e ∙ go (eqb m 0) refl
+  where
+    go : (k : Bool) → eqb m 0 ≡ k → xor k (nonzero m) ≡ true
+    go true f = xor-true (nonzero m) ∙ ap not (ap nonzero (eqb-true m 0 f))
+    go false f = xor-false (nonzero m) ∙ nonzero-some m f
+
 returns : tie.Need-returns
 unfolding bit
-returns c = λ q l t. kept (c .before .args .x / 2 ^ c .before .args .p % 2) (bit (c .before .args .x) q) (bit (c .literal-word .result) q)
-    (c .literal-word .ensures q l) t
+returns c =
+    let m = c .before .args .x / 2 ^ c .before .args .p % 2 in (
+      λ q l t. kept m (bit (c .before .args .x) q) (bit (c .literal-word .result) q) (c .literal-word .ensures q l) t,
+      own m (bit (c .literal-word .result) (c .before .args .p)) (c .literal-word .ensures (c .before .args .p) (c .before .pre)),
+    )
 
 pub alike-spec : {M : Type 1} → statement M
-alike-spec = tie.close (tie.spec (λ c. search needs) (λ c κs. search needs) returns)
+alike-spec =
+    tie.close
+    (tie.spec
+    (λ c. search needs) (λ c κs. search needs) returns)

@@ -10,10 +10,10 @@ use lib.ListN.{length, getD, length-map}
 use lib.Seq.{ext-getD}
 use Rattle.aiger.specs.Bits.{nonzero, bit}
 use Rattle.words.proofs.Bits.{bit-and, xor-true}
+use Rattle.states.specs.Number.{numberAt}
 use Rattle.states.specs.Table.{Meets, countOf}
 use Rattle.transitions.specs.Transitions.{numberOf}
 use Rattle.transitions.proofs.Numbers.{map-at}
-use Rattle.layers.specs.Rows.{RowStep}
 use borrow.Author.Needs.{needs}
 use Rattle.layers.proofs.meet_row.Statement.{statement}
 use Rattle.layers.proofs.meet_row.Tie as tie
@@ -36,15 +36,6 @@ module _ (left same others : ℕ) (f : (q : ℕ) → q < 64 → bit others q ≡
       cases (bit left q) (bit same q) (ap (λ (x : Bool). bit left q && x) (sym (f q l ∙ xor-true (bit same q)))
       ∙ sym (bit-and left others q) ∙ e)
 
--- the bit of a row that is left
-nonzero-set : (n : ℕ) → (n ≡ 0 → ⊥) → nonzero n ≡ true
-nonzero-set zero h = absurd (h refl)
-nonzero-set (suc n) h = refl
-
-left-set : (left p : ℕ) → (left / 2 ^ p % 2 ≡ 0 → ⊥) → bit left p ≡ true
-unfolding bit
-left-set left p h = nonzero-set (left / 2 ^ p % 2) h
-
 first-of : (a b : Bool) → (a && b) ≡ true → a ≡ true
 first-of true b e = refl
 first-of false b e = e
@@ -53,15 +44,21 @@ first-of false b e = e
 left-in : (left others q : ℕ) → bit (bitAnd left others) q ≡ true → bit left q ≡ true
 left-in left others q e = first-of (bit left q) (bit others q) (sym (bit-and left others q) ∙ e)
 
-returns : tie.Need-returns
-unfolding bit
-returns c = (RowStep.skipped (ap nonzero (c .if1 .taken)), c .before .before .before .before .pre .1 .3)
+-- the row itself is among the same rows
+no-more : (a b : Bool) → b ≡ false → (a && b) ≡ false
+no-more true b e = e
+no-more false b e = refl
 
-pack-requires : tie.Need-pack-requires
-pack-requires c κs = (c .before .before .before .before .pre .1 .0, c .before .before .before .before .pre .1 .1)
+pack-words-requires : tie.Need-pack-words-requires
+pack-words-requires c κs = (
+  c .before .before .before .before .before .pre .1 .0,
+  c .before .before .before .before .before .pre .1 .4,
+  c
+      .before .before .before .before .before .pre .1 .5,
+)
 
 same-rows-requires : tie.Need-same-rows-requires
-same-rows-requires c κs = c .before .before .before .before .before .pre .1 .1
+same-rows-requires c κs = c .before .before .before .before .before .before .before .before .pre .1 .0
 
 literal-word-requires : tie.Need-literal-word-requires
 literal-word-requires c κs = tt
@@ -69,43 +66,51 @@ literal-word-requires c κs = tt
 add-meet : tie.Need-add-meet
 add-meet c = omega (
   arith,
-  c .before .before .before .before .before .before .before .before .before .before .pre .1 .1,
-  c .before .before .before .before .before .before .before .before .before .before .pre .1 .2,
+  c .before .before .before .before .before .before .before .before .before .before .before .before .before .pre
+      .1 .0,
+  c .before .before .before .before .before .before .before .before .before .before .before .before .before .pre .1 .1,
 )
 
 meet-requires : tie.Need-meet-requires
 meet-requires c κs = (
-  c .before .before .before .before .before .before .before .before .before .before .pre .0,
-  c .before .before
-      .before .before .before .before .before .before .before .before .pre .1 .3,
+  c .before .before .before .before .before .before .before .before .before .before .before .before .before .pre .0,
+  c .before .before .before .before .before .before .before .before .before .before .before .before .before .pre .1 .2,
+  c .before
+      .before .before .before .before .before .before .pack-words .kept .1 .1 .0 ∙ c .before .before .before .before .before .before
+      .before .before .before .before .before .before .before .pre .1 .3,
 )
 
 same-length : tie.Need-same-length
-same-length c = c .before .before .before .before .meet .kept .0
+same-length c = c .before .before .before .meet .kept .0
 
 same-length-2 : tie.Need-same-length-2
-same-length-2 c = c .before .before .before .before .meet .kept .1 .0
+same-length-2 c = c .before .before .before .before .before .before .before .before .before .before .before .pack-words .kept .1 .1 .0
 
-returns-2 : tie.Need-returns-2
-returns-2 c =
+returns : tie.Need-returns
+returns c =
     let a = c .before .before .before .before .before .before .before .before .before .before .before .before .before .before .before
-    .args in
-    let E = c .before .before .before .before .meet in (
-      RowStep.taken (left-set (a .pending .left) (a .p) (c .before .before .before .before .before .before .before .before .before
-          .before .before .if1 .left))
-          (subst
-          (λ (s : ℕ).
-          Meets (a .span .quota) (countOf (a .span .quota) (a .pending .met)) s (a .span .e) (a .span .first + a .p) (a .records .now) (a
-          .heads .now) (countOf (a .span .quota) (E .result))
-          (E .last .0) (E .last .1 .0))
-          (c .before .before .before .before .before .before .before .before .before .before .pack .ensures) (E .ensures .0))
-          (λ q l g. ⊎-elim (λ h. inl h)
-          (λ h. inr (ap numberOf (map-eq (λ w. bit w q) (λ w. bit w (a .p)) (a .state .now)
-          (c .before .before .before .before .before .before .before .before .before .same-rows .ensures q l h))))
-          (out (a .pending .left) (c .before .before .before .before .before .before .before .before .before .same-rows .result)
-          (c .before .before .before .before .before .before .before .before .literal-word .result)
-          (c .before .before .before .before .before .before .before .before .literal-word .ensures) q l g))
-          (λ q g. left-in (a .pending .left) (c .before .before .before .before .before .before .before .before .literal-word .result) q g),
+    .before .before .args in
+    let E = c .before .before .before .meet in
+    let s = c .before .before .before .before .before .before .before .before .before .before .before .pack-words .last .1 .1 .0 in
+    let same = c .before .before .before .before .before .before .before .before .same-rows in
+    let others = c .before .before .before .before .before .before .before .literal-word in
+    let state : numberAt s 0 (length s) ≡ numberOf (map (λ w. bit w (a .p)) (a .state .now)) =
+    ap (numberAt s 0) (c .before .before .before .before .before .before .before .before .before .before .before .pack-words .kept .1 .1
+    .0) ∙ c .before .before .before .before .before .before .before .before .before .before .before .pack-words .ensures in (
+      record {
+        meets = subst
+            (λ (n : ℕ).
+            Meets (a .span .table) (a .span .quota) (countOf (a .span .quota) (a .pending .met)) n (a .span .e) (a .span .first + a .p)
+            (a .records .now) (countOf (a .span .quota) (E .result)) (E .last .0)) state (E .ensures .0);
+        dropped = λ q l g. ⊎-elim (λ h. inl h)
+            (λ h. inr (ap numberOf (map-eq (λ w. bit w q) (λ w. bit w (a .p)) (a .state .now) (same .ensures .0 q l h))))
+            (out (a .pending .left) (same .result) (others .result) (others .ensures) q l g);
+        within = λ q g. left-in (a .pending .left) (others .result) q g;
+        gone = bit-and (a .pending .left) (others .result) (a .p)
+            ∙ no-more (bit (a .pending .left) (a .p)) (bit (others .result) (a .p))
+            (others .ensures (a .p) (c .before .before .before .before .before .before .before .before .before .before .before .before
+            .before .before .before .before .before .pre .1 .0) ∙ ap (xor true) (same .ensures .1) ∙ xor-true true);
+      },
       E .ensures .1,
     )
 
@@ -113,5 +118,4 @@ pub meet-row-spec : {M : Type 1} → statement M
 meet-row-spec =
     tie.close
     (tie.spec
-    (λ c. search needs) returns pack-requires same-rows-requires literal-word-requires add-meet meet-requires same-length same-length-2
-    returns-2)
+    pack-words-requires same-rows-requires literal-word-requires add-meet meet-requires same-length same-length-2 returns)

@@ -16,8 +16,8 @@ first-small a l w i x y z e =
     let k = pow-mono {i = i - 6} {j = 10} (omega arith) in
     mul-le-mul {n₁ = a + l + 1} {m₁ = w} {n₂ = 4097} {m₂ = 1024} (omega arith) (omega arith)
 
-second-small : (l r : ℕ) → l ≤ 32 → r ≤ 65536 → (l + 8) * r ≤ 2621440
-second-small l r y z = mul-le-mul {n₁ = l + 8} {m₁ = r} {n₂ = 40} {m₂ = 65536} (omega arith) z
+second-small : (l r : ℕ) → l ≤ 1024 → r ≤ 65536 → (l + 8) * r ≤ 67633152
+second-small l r y z = mul-le-mul {n₁ = l + 8} {m₁ = r} {n₂ = 1032} {m₂ = 65536} (omega arith) z
 
 blocks-requires : tie.Need-blocks-requires
 blocks-requires c κs = c .before .before .pre .1 .1 .0
@@ -73,4 +73,6 @@ returns c =
 
 pub effort-spec : {M : Type 1} → statement M
 effort-spec =
-    tie.close (tie.spec blocks-requires power-requires add-result add-result-2 mul-result add-result-3 mul-result-2 add-result-4 returns)
+    tie.close
+    (tie.spec
+    blocks-requires power-requires add-result add-result-2 mul-result add-result-3 mul-result-2 add-result-4 returns)

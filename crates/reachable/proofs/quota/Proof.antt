@@ -1,94 +1,165 @@
 -- `reachable::quota` meets its contract. Assumes nothing.
-use mathlib.Core.Path.{_≡_, sym}
-use Prim.Native.Nat.{_+_, _*_, _/_, _≤_, min}
+use mathlib.Core.Path.{_≡_, sym, ap, _∙_}
+use Prim.Native.Nat.{ℕ, _+_, _*_, _/_, _≤_, max, min}
 use native.Mathlib.Omega.{arith}
+use lib.ListN.{length}
 use Rattle.influence.specs.Part.{partIn}
 use Rattle.frames.proofs.Places.{inputs-are}
+use Rattle.limits.specs.Limits.{sizeOf}
 use Rattle.limits.proofs.Sizes.{limited}
 use Rattle.reachable.specs.Quota.{quota}
-use Rattle.reachable.proofs.Quotas.{effort-some, size-few, quota-many, quota-latches, quota-free, quota-from}
+use Rattle.reachable.proofs.Quotas.{effort-some, size-few, quota-many, quota-free, quota-from, work-few}
+use borrow.Author.Needs.{needs}
 use Rattle.reachable.proofs.quota.Statement.{statement}
 use Rattle.reachable.proofs.quota.Tie as tie
 
 returns : tie.Need-returns
 returns c =
-    let start = c .before .before .before .before in
-    sym (quota-many (partIn (start .args .m .now) (start .args .kept .now)) (start .args .t)
-    (omega (arith, c .if1 .taken, inputs-are (start .pre .0) (start .pre .1 .0))))
+    sym (quota-many (partIn (c .before .before .before .before .args .m .now) (c .before .before .before .before .args .kept .now)) (c
+    .before .before .before .before .args .stage .first) (c .before .before .before .before .args .stage .limit)
+    (c .before .before .before .before .args .t) (omega (
+      arith,
+      c .if1 .taken,
+      inputs-are (c .before .before .before .before .pre .0) (c
+          .before .before .before .before .pre .1 .0),
+    )))
 
 returns-2 : tie.Need-returns-2
 returns-2 c =
-    let start = c .before .before .before .before .before in
-    sym (quota-latches (partIn (start .args .m .now) (start .args .kept .now)) (start .args .t)
-    (omega (arith, c .before .if1 .left, inputs-are (start .pre .0) (start .pre .1 .0))) (omega (arith, c .if2 .taken)))
+    sym (quota-free (partIn (c .before .before .before .before .before .before .args .m .now) (c .before .before .before .before .before
+    .before .args .kept .now)) (c .before .before .before .before .before .before .args .stage .first) (c .before .before .before .before
+    .before .before .args .stage .limit)
+    (c .before .before .before .before .before .before .args .t) (omega (
+      arith,
+      c .before .before .if1 .left,
+      inputs-are (c .before
+          .before .before .before .before .before .pre .0) (c .before .before .before .before .before .before .pre .1 .0),
+    ))
+    (omega (arith, c .if2 .taken, c .before .before .before .before .before .before .pre .1 .0 .u-is)))
 
-returns-3 : tie.Need-returns-3
-returns-3 c =
-    let start = c .before .before .before .before .before .before .before in
-    sym (quota-free (partIn (start .args .m .now) (start .args .kept .now)) (start .args .t)
-    (omega (arith, c .before .before .before .if1 .left, inputs-are (start .pre .0) (start .pre .1 .0)))
-    (omega (arith, c .before .before .if2 .left)) (omega (arith, c .if3 .taken, start .pre .1 .0 .u-is)))
+-- the later frame is one of 255
+last-few : (c : tie.After-later) → c .later .result ≤ 255
+last-few c = omega (
+  arith,
+  c .later .ensures,
+  c .before .before .before .before .before .before .before .before .pre .1 .1 .0,
+  c .before
+      .before .before .before .before .before .before .before .pre .1 .1 .1,
+)
 
 size-requires : tie.Need-size-requires
-size-requires c κs =
-    let start = c .before .before .before .before .before .before .before in (
-      limited (start .pre .0) (start .pre .1 .0),
-      start .pre .1 .1,
-    )
+size-requires c κs = (
+  limited (c .before .before .before .before .before .before .before .before .pre .0) (c .before .before .before
+      .before .before .before .before .before .pre .1 .0),
+  last-few (c),
+)
 
 effort-requires : tie.Need-effort-requires
-effort-requires c κs =
-    let start = c .before .before .before .before .before .before .before .before in (
-      start .pre .0,
-      (
-        start .pre .1 .0,
-        (omega (arith, c .before .before .before .before .if1 .left), omega (arith, c .before .before .before .if2 .left)),
+effort-requires c κs = (
+  c .before .before .before .before .before .before .before .before .before .pre .0,
+  (
+    c .before .before .before .before .before .before .before .before .before .pre .1 .0,
+    (
+      omega (
+        arith,
+        c .before .before .before .before
+            .before .if1 .left,
       ),
-    )
+      c .before .before .before .before .before .before .before .before .before .pre .1 .1 .3,
+    ),
+  ),
+)
+
+width-requires : tie.Need-width-requires
+width-requires c κs = c .before .before .before .before .before .before .before .before .before .before .pre .1 .1 .3
 
 -- the size fits the products
 few : (c : tie.After-size) → c .size .result ≤ 1048576
 few c =
-    let start = c .before .before .before .before .before .before .before .before in
     omega (
       arith,
       c .size .ensures,
-      size-few (start .args .kept .now) (start .pre .0) (start .pre .1 .0) (start .args .t)
-          (start .pre .1 .1),
+      size-few (c .before .before .before .before .before .before .before .before .before .args .kept .now) (c .before .before .before
+          .before .before .before .before .before .before .pre .0) (c .before .before .before .before .before .before .before .before .before
+          .pre .1 .0) (c .before .later .result) (last-few (c .before)),
     )
 
--- what is returned, the lesser of the two
-lesser : (c : tie.After-effort)
-    → let start = c .before .before .before .before .before .before .before .before .before in
-    min (4 * c .before .size .result) ((40000 + 128 * c .before .size .result) / c .effort .result)
-    ≡ quota (partIn (start .args .m .now) (start .args .kept .now)) (start .args .t)
-lesser c =
-    let start = c .before .before .before .before .before .before .before .before .before in
-    quota-from (start .args .kept .now) (start .pre .0) (start .pre .1 .0) (start .args .t) (c .before .size .result) (c .effort .result)
-    (c .before .size .ensures) (c .effort .ensures) (omega (arith, c .before .before .before .before .before .if1 .left))
-    (omega (arith, c .before .before .before .before .if2 .left)) (omega (arith, c .before .before .if3 .left))
+add-stride : tie.Need-add-stride
+add-stride c = omega (
+  arith,
+  c .width .ensures,
+  c .before .before .before .before .before .before .before .before .before .before .before
+      .pre .1 .1 .3,
+)
 
-mul-most : tie.Need-mul-most
-mul-most c = omega (arith, few (c .before))
+mul-lesser : tie.Need-mul-lesser
+mul-lesser c = omega (arith, few (c .before .before))
 
-mul-affordable : tie.Need-mul-affordable
-mul-affordable c = omega (arith, few (c .before))
+div-lesser : tie.Need-div-lesser
+div-lesser c = omega arith
 
-add-affordable : tie.Need-add-affordable
-add-affordable c = omega (arith, few (c .before))
+mul-lesser-2 : tie.Need-mul-lesser-2
+mul-lesser-2 c =
+    omega (
+      arith,
+      work-few (c .before .before .before .before .before .before .before .before .before .before .before .before .args .kept .now) (c
+          .before .before .before .before .before .before .before .before .before .before .before .before .pre .0) (c .before .before .before
+          .before .before .before .before .before .before .before .before .before .pre .1 .0) (c .before .before .before .before .before
+          .before .before .before .before .before .before .before .args .stage .limit) (c .before .before .before .size .result)
+          (c .before .before .before .before .before .before .before .before .before .before .before .before .pre .1 .1 .2) (few (c
+          .before .before .before)),
+    )
 
-div-affordable : tie.Need-div-affordable
-div-affordable c =
-    let start = c .before .before .before .before .before .before .before .before .before in
-    omega (arith, c .effort .ensures, effort-some (partIn (start .args .m .now) (start .args .kept .now)))
+add-lesser : tie.Need-add-lesser
+add-lesser c =
+    omega (
+      arith,
+      work-few (c .before .before .before .before .before .before .before .before .before .before .before .before .before .args .kept
+          .now) (c .before .before .before .before .before .before .before .before .before .before .before .before .before .pre .0) (c
+          .before .before .before .before .before .before .before .before .before .before .before .before .before .pre .1 .0) (c .before
+          .before .before .before .before .before .before .before .before .before .before .before .before .args .stage .limit) (c .before
+          .before .before .before .size .result)
+          (c .before .before .before .before .before .before .before .before .before .before .before .before .before .pre .1 .1 .2) (few
+          (c .before .before .before .before)),
+      c .before .before .before .before .before .before .before .before .before .before .before .before .before .pre .1 .1 .2 .base-small,
+    )
 
-returns-4 : tie.Need-returns-4
-returns-4 c = omega (arith, c .if4 .taken, lesser (c .before))
+div-lesser-2 : tie.Need-div-lesser-2
+div-lesser-2 c = omega (
+  arith,
+  c .before .before .before .effort .ensures,
+  effort-some (partIn (c .before .before .before .before .before
+      .before .before .before .before .before .before .before .before .args .m .now) (c .before .before .before .before .before .before
+      .before .before .before .before .before .before .before .args .kept .now)),
+)
 
-returns-5 : tie.Need-returns-5
-returns-5 c = omega (arith, c .if4 .left, lesser (c .before))
+returns-3 : tie.Need-returns-3
+returns-3 c =
+    c .lesser .ensures
+    ∙ quota-from (c .before .before .before .before .before .before .before .before .before .before .before .before .before .before .args
+    .kept .now) (c .before .before .before .before .before .before .before .before .before .before .before .before .before .before .pre
+    .0) (c .before .before .before .before .before .before .before .before .before .before .before .before .before .before .pre .1 .0) (c
+    .before .before .before .before .before .before .before .before .before .before .before .before .before .before .args .stage .first)
+    (c .before .before .before .before .before .before .before .before .before .before .before .before .before .before .args .stage
+    .limit) (c .before .before .before .before .before .before .before .before .before .before .before .before .before .before .args .t)
+    (c .before .before .before .before .before .size .result) (c .before .before .before .before .effort .result) (c .before .before
+    .before .width .result + 4)
+    (c .before .before .before .before .before .size .ensures ∙ ap (sizeOf (c .before .before .before .before .before .before .before
+    .before .before .before .before .before .before .before .args .layout)) (c .before .before .before .before .before .before .later
+    .ensures)) (c .before .before .before .before .effort .ensures)
+    (ap (λ (x : ℕ). x + 4) (c .before .before .before .width .ensures)) (omega (
+      arith,
+      c .before .before .before .before .before .before
+          .before .before .before .before .if1 .left,
+    )) (omega (
+      arith,
+      c .before .before .before .before .before .before .before .before .if2
+          .left,
+    ))
 
 pub quota-spec : {M : Type 1} → statement M
 quota-spec =
-    tie.close (tie.spec returns returns-2 returns-3 size-requires effort-requires mul-most mul-affordable add-affordable div-affordable
-    returns-4 returns-5)
+    tie.close
+    (tie.spec
+    returns returns-2 (λ c κs. search needs) size-requires effort-requires width-requires add-stride mul-lesser div-lesser
+    mul-lesser-2 add-lesser div-lesser-2 (λ c κs. search needs) returns-3)
