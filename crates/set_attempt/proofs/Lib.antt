@@ -1,0 +1,2 @@
+-- The proofs of `set_attempt`. Assumes nothing.
+pub mod Frames

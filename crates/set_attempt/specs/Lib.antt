@@ -1,0 +1,2 @@
+-- Attempts at the frames by sets of states. Assumes nothing.
+pub mod Attempt
