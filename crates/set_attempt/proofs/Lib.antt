@@ -1,2 +1,5 @@
 -- The proofs of `set_attempt`. Assumes nothing.
 pub mod Frames
+pub mod Begun
+pub mod Sound
+pub mod Bound
