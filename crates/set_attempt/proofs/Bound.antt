@@ -8,9 +8,10 @@ use borrow.Author.Tests.{lt-ltb, leb-true, leb-false, le-leb, lt-leb}
 use lib.Dec.{ltb, leb}
 use Rattle.aiger.specs.Circuit.{Circuit}
 use Rattle.aiger.specs.Search.{question}
+use Rattle.diagram_rows.specs.Rows.{planOf}
 use Rattle.state_sets.specs.Sets.{Sets}
 use Rattle.stages.specs.Endings.{Ending, Cut, cutAt}
-use Rattle.set_attempt.specs.Attempt.{setupOf, tableMade, blankSets, onTable, attemptEnding, orLater, inTurn, orders, Trial, setsWithin, setsEnding}
+use Rattle.set_attempt.specs.Attempt.{setupOf, tableMade, blankSets, onTable, withTable, isDistinct, attemptEnding, orLater, inTurn, orders, Trial, setsWithin, setsEnding}
 use Rattle.set_attempt.proofs.Frames.{frames-cut}
 
 -- what is seen of an attempt that decides a frame from `first` on, otherwise of what comes later
@@ -52,8 +53,15 @@ module _ (k first : ℕ) (fl : first ≤ k) where
     pub attempt-cut : (plan : List ℕ) (words looks : ℕ)
         → cutAt k (attemptEnding c b plan words looks first 256) ≡ cutAt k (attemptEnding c b plan words looks first (k + 1))
     unfolding attemptEnding
-    attempt-cut plan words looks = go (tableMade c b plan (blankSets words looks) .done) (tableMade c b plan (blankSets words looks) .sets)
+    attempt-cut plan words looks =
+        by (isDistinct (planOf plan .latches)) (withTable c b plan first 256 (tableMade c b plan (blankSets words looks)))
+        (withTable c b plan first (k + 1) (tableMade c b plan (blankSets words looks)))
+        (go (tableMade c b plan (blankSets words looks) .done) (tableMade c b plan (blankSets words looks) .sets))
       where
+        by : (d : Bool) (x y : Ending) → cutAt k x ≡ cutAt k y → cutAt k (cond d x (Ending.gaveUp 0)) ≡ cutAt k (cond d y (Ending.gaveUp 0))
+        by true x y h = h
+        by false x y h = refl
+
         go : (d : Bool) (z : Sets) → cutAt k (onTable c b plan first 256 d z) ≡ cutAt k (onTable c b plan first (k + 1) d z)
         go true z = frames-cut (question c b) (setupOf c plan) first k (k + 1) 256 0 z (omega arith) (omega arith)
         go false z = refl

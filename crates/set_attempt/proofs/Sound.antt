@@ -23,7 +23,7 @@ use Rattle.set_stage.proofs.Rows.{coded}
 use Rattle.set_stage.proofs.Starts.{starts-of}
 use Rattle.stages.specs.Endings.{Ending, NoHit, NoneBefore, EndsRight, anyBudget, Sound}
 use Rattle.stages.proofs.Lists.{any-budget}
-use Rattle.set_attempt.specs.Attempt.{rowsOf, setupOf, tableMade, blankSets, onTable, attemptEnding, orLater, inTurn, orders, Trial, setsWithin, setsEnding}
+use Rattle.set_attempt.specs.Attempt.{rowsOf, setupOf, tableMade, blankSets, onTable, withTable, isDistinct, attemptEnding, orLater, inTurn, orders, Trial, setsWithin, setsEnding}
 use Rattle.set_attempt.proofs.Frames.{frames-right}
 use Rattle.set_attempt.proofs.Begun.{Fit, rows-few, table-right, blank-bare}
 
@@ -61,11 +61,10 @@ module _ (part : Part) (right : T (literalsRight (part .circuit))) (no-cycle : T
   pub quiet-same : (t : ℕ) → Quiet (machineOf part b) t → NoHit (question (part .circuit) b) t
   quiet-same t h x l k = h x (subst (λ (n : ℕ). x < n) (sym (prefixes-of part b t)) l) (subst T (reaches-of part b closed t x) k)
 
-  -- an attempt with a plan that fits
-  pub attempt-right : (plan : List ℕ) → Fit part plan → (words looks : ℕ) → 16 ≤ words → (first : ℕ) → NoneBefore (question (part .circuit) b) first
-      → EndsRight (question (part .circuit) b) 0 (attemptEnding (part .circuit) b plan words looks first 256)
-  unfolding attemptEnding
-  attempt-right plan fit words looks enough first before =
+  -- an attempt whose plan fits
+  table-ends : (plan : List ℕ) → Fit part plan → (words looks : ℕ) → 16 ≤ words → (first : ℕ) → NoneBefore (question (part .circuit) b) first
+      → EndsRight (question (part .circuit) b) 0 (withTable (part .circuit) b plan first 256 (tableMade (part .circuit) b plan (blankSets words looks)))
+  table-ends plan fit words looks enough first before =
       go (tableMade c b plan (blankSets words looks) .done) refl
       (table-right 0 part right no-cycle (closed .listed) b plan fit (blankSets words looks)
       (blank-bare 0 part right no-cycle (closed .listed) b plan fit words looks enough))
@@ -82,9 +81,22 @@ module _ (part : Part) (right : T (literalsRight (part .circuit))) (no-cycle : T
           (question c b) same-quiet quiet-same first before 256 0 (tableMade c b plan (blankSets words looks) .sets) refl (h e)
           (λ u l. absurd (omega arith))
 
+  -- an attempt with a plan that fits where no latch is there twice
+  pub attempt-right : (plan : List ℕ) → (isDistinct (planOf plan .latches) ≡ true → Fit part plan) → (words looks : ℕ) → 16 ≤ words → (first : ℕ)
+      → NoneBefore (question (part .circuit) b) first
+      → EndsRight (question (part .circuit) b) 0 (attemptEnding (part .circuit) b plan words looks first 256)
+  unfolding attemptEnding
+  attempt-right plan fit words looks enough first before = go (isDistinct (planOf plan .latches)) refl
+    where
+      go : (d : Bool) → isDistinct (planOf plan .latches) ≡ d
+          → EndsRight (question (part .circuit) b) 0
+          (cond d (withTable (part .circuit) b plan first 256 (tableMade (part .circuit) b plan (blankSets words looks))) (Ending.gaveUp 0))
+      go true e = table-ends plan (fit e) words looks enough first before
+      go false e = (omega arith, omega arith, λ u l. absurd (omega arith))
+
   -- what is asked of a trial where it may try: the plans fit, and there are words
   pub record Fair (o : Trial) : Type 0 where
-    pub plans : (first : ℕ) → o .may first ≡ true → (w : ℕ) → Fit part (o .plans w)
+    pub plans : (first : ℕ) → o .may first ≡ true → (w : ℕ) → isDistinct (planOf (o .plans w) .latches) ≡ true → Fit part (o .plans w)
     pub words : (first : ℕ) → o .may first ≡ true → 16 ≤ o .words first
 
   pub sets-right : (o : Trial) → Fair o → (first : ℕ) → first ≤ 256 → NoneBefore (question (part .circuit) b) first

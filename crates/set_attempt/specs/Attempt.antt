@@ -1,11 +1,12 @@
 -- An attempt at the frames by sets of states, with one order of the latches: the table is made, and then one set after the other. From
 -- frame `first` on the start states of each set are sought. The stage tries orders in turn. Assumes nothing.
-use mathlib.Core.Bool.{Bool, true, false, cond}
+use mathlib.Core.Bool.{Bool, true, false, not, cond}
 use mathlib.Core.List.{List, [], _∷_}
 use mathlib.Core.Option.{Option, none, some}
 use Prim.Native.Nat.{ℕ, zero, suc, _*_, _^_}
 use lib.Dec.{eqb, ltb}
 use lib.ListN.{length, getD, set, replicate}
+use Rattle.aiger.specs.Lists.{everyBelow}
 use Rattle.aiger.specs.Circuit.{Circuit}
 use Rattle.aiger.specs.Frames.{freeBits}
 use Rattle.aiger.specs.Search.{Question, leastBelow, question}
@@ -143,9 +144,18 @@ onTable c b plan first n false z = Ending.gaveUp 0
 abbrev pub withTable : Circuit → ℕ → List ℕ → (first n : ℕ) → Tried → Ending
 withTable c b plan first n o = onTable c b plan first n (o .done) (o .sets)
 
--- an attempt with a plan at the first n frames, with a diagram of so many words and so many looks
+-- no word is there twice
+abbrev pub isNew : List ℕ → ℕ → Bool
+isNew xs v = everyBelow v (λ u. not (eqb (getD xs u 0) (getD xs v 0)))
+
+unfoldable pub isDistinct : List ℕ → Bool
+isDistinct xs = everyBelow (length xs) (isNew xs)
+
+-- An attempt with a plan at the first n frames, with a diagram of so many words and so many looks. That no latch is there twice is tested,
+-- so that no law about orders is needed.
 unfoldable pub attemptEnding : Circuit → ℕ → List ℕ → (words looks first n : ℕ) → Ending
-attemptEnding c b plan words looks first n = withTable c b plan first n (tableMade c b plan (blankSets words looks))
+attemptEnding c b plan words looks first n =
+    cond (isDistinct (planOf plan .latches)) (withTable c b plan first n (tableMade c b plan (blankSets words looks))) (Ending.gaveUp 0)
 
 -- an attempt that decides a frame from `first` on is the ending of the stage; otherwise what comes later is
 abbrev pub orLater : ℕ → Ending → Ending → Ending

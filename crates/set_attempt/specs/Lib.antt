@@ -1,2 +1,3 @@
 -- Attempts at the frames by sets of states. Assumes nothing.
 pub mod Attempt
+pub mod Stage
