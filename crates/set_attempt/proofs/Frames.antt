@@ -9,6 +9,7 @@ use native.Mathlib.Omega.{arith}
 use borrow.Author.Tests.{eqb-true, ltb-true}
 use lib.Dec.{T, eqb, ltb}
 use lib.ListN.{length, getD}
+use Rattle.aiger.specs.Frames.{freeBit}
 use Rattle.aiger.specs.Search.{Question, leastBelow}
 use Rattle.meaning.proofs.Decisions.{Least, least-below}
 use Rattle.machine.specs.Machine.{Machine}
@@ -117,6 +118,7 @@ module _ (level : ℕ) (m : Machine) (n : ℕ) (inside : Inside m n) (at : ℕ �
     pub held : (o .found ≡ variants.Full → ⊥) → Held level m n at (p .vars) (p .rows) (suc t) 0 (o .sets)
     pub nowhere : o .found ≡ variants.Nowhere → Quiet m t
     pub least : o .found ≡ variants.Least → (y : ℕ) × Walking m t 0 0 y (m .start y) × (bitsOf (o .bits) ≡ at (m .start y))
+        × ((u : ℕ) → u < length (p .frees) → freeBit (length (p .frees)) y u ≡ bitsOf (o .bits) (getD (p .frees) u 0))
 
   stand-grown : (next : ℕ) (s t : State) (table : List ℕ) → Stand next (record { state = s; table = table })
       → Grown (termsOf level (p .vars) (p .rows) table) s t → Stand next (record { state = t; table = table })

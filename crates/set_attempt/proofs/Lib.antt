@@ -4,3 +4,4 @@ pub mod Begun
 pub mod Sound
 pub mod Bound
 pub mod Stage
+pub mod Bits
