@@ -62,3 +62,26 @@ pub fn free_word(
     let r = memory::get(trace, k / width);
     input_word(inputs, r, (k % width) as u32)
 }
+
+// Writes the first n free bits.
+pub fn put_bits(
+    frees: &[u32],
+    bits: &[u32],
+    inputs: &[u32],
+    trace: &[u32],
+    width: usize,
+    n: usize,
+    work: &mut [u32],
+)
+    requires { ⌜ (length (now inputs) ≤ 4) × (width ≤ 65536) × (length (now frees) < n → 0 < width) × (n ≤ length (now work)) ⌝ }
+    ensures { λ _. ⌜
+        ((j : ℕ) → j < n → nonzero (getD (now (work .exit)) j 0)
+        ≡ freeValue (now (frees .entry)) (now (bits .entry)) (now (inputs .entry)) (now (trace .entry)) width j)
+        ⌝ }
+{
+    let mut j = 0usize;
+    while j < n {
+        work[j] = free_word(frees, bits, inputs, trace, width, j);
+        j += 1;
+    }
+}
