@@ -78,18 +78,18 @@ module _ (level : ℕ) (part : Part) (b : ℕ) (plan : List ℕ) (whole : planLe
   m = machineOf part b
 
   -- what the values of a table say where k rows are made
-  record Said (k : ℕ) (vs : Values) : Type 0 where
-    made : RowsMade (part .circuit) b (planOf plan) k vs
-    start : (y : ℕ) → y < machineOf part b .starts
+  pub record Said (k : ℕ) (vs : Values) : Type 0 where
+    pub made : RowsMade (part .circuit) b (planOf plan) k vs
+    pub start : (y : ℕ) → y < machineOf part b .starts
         → vs (rowAt (length (planOf plan .latches)) rows) (codeOf part (planOf plan .latches) (machineOf part b .start y)) ≡ true
-    blank : (i : ℕ) (x : Assignment) → i < 258 → vs i x ≡ false
+    pub blank : (i : ℕ) (x : Assignment) → i < 258 → vs i x ≡ false
 
   -- k rows are made
   pub record Laid (k : ℕ) (z : Sets) : Type 0 where
-    good : Good (bare level) (z .state)
-    edges : (i : ℕ) → In (z .state .nodes) (getD (z .table) i 0)
-    room : rowAt (length (planOf plan .latches)) rows < length (z .table)
-    said : Said k (valuesOf (z .state .nodes) (z .table))
+    pub good : Good (bare level) (z .state)
+    pub edges : (i : ℕ) → In (z .state .nodes) (getD (z .table) i 0)
+    pub room : rowAt (length (planOf plan .latches)) rows < length (z .table)
+    pub said : Said k (valuesOf (z .state .nodes) (z .table))
 
   laid-front : (k : ℕ) (s t : State) (table : List ℕ) → Laid k (record { state = s; table = table }) → Front (s .nodes) (t .nodes) → Good (bare level) t
       → Laid k (record { state = t; table = table })

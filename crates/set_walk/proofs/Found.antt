@@ -8,6 +8,7 @@ use native.Mathlib.Omega.{arith}
 use borrow.Author.Tests.{eqb-true, eqb-false}
 use lib.Dec.{T, eqb}
 use lib.ListN.{length, getD}
+use Rattle.aiger.specs.Frames.{freeBit}
 use Rattle.aiger.proofs.Tests.{true-T, T-true}
 use Rattle.meaning.proofs.Decisions.{Least}
 use Rattle.diagrams.specs.States.{State, Outcome, outcome}
@@ -51,6 +52,7 @@ module _ (level : ℕ) (m : Machine) (n : ℕ) (inside : Inside m n) (at : ℕ �
     pub grown : Grown (termsOf level vars rows (z .table)) (z .state) (x .state)
     pub nowhere : x .found ≡ variants.Nowhere → (y : ℕ) → y < m .starts → T (nearest m t (m .start y)) → ⊥
     pub least : x .found ≡ variants.Least → (y : ℕ) × Least (λ y. nearest m t (m .start y)) (m .starts) (some y) × (bitsOf (x .bits) ≡ at (m .start y))
+        × ((u : ℕ) → u < length frees → freeBit (length frees) y u ≡ bitsOf (x .bits) (getD frees u 0))
 
   -- the value of set t where nodes were added
   set-value : (s : State) → Front (z .state .nodes) (s .nodes) → (y : ℕ) → y < m .starts
@@ -103,6 +105,7 @@ module _ (level : ℕ) (m : Machine) (n : ℕ) (inside : Inside m n) (at : ℕ �
                         l .first,
                       ),
                       l .here,
+                      l .free,
                     );
                   }
               true-or false w d q =
@@ -155,6 +158,7 @@ module _ (level : ℕ) (m : Machine) (n : ℕ) (inside : Inside m n) (at : ℕ �
   -- or the walk begins at the state that was found
   pub least-walks : QuietBefore m t → seek vars rows t frees (z .table) base (z .state) .found ≡ variants.Least
       → (y : ℕ) × Walking m t 0 0 y (m .start y) × (bitsOf (seek vars rows t frees (z .table) base (z .state) .bits) ≡ at (m .start y))
+      × ((u : ℕ) → u < length frees → freeBit (length frees) y u ≡ bitsOf (seek vars rows t frees (z .table) base (z .state) .bits) (getD frees u 0))
   least-walks quiet e =
       let l = seek-right .least e in
-      (l .0, begin-by m t (nearest m) (guides-nearest m n inside t (nearest m) quiet (λ j s a b. refl)) (l .0) (l .1), l .2)
+      (l .0, begin-by m t (nearest m) (guides-nearest m n inside t (nearest m) quiet (λ j s a b. refl)) (l .0) (l .1), l .2, l .3)

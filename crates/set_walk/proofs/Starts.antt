@@ -63,6 +63,10 @@ without-right terms s good e v e-in =
     ))
     r₂)
 
+bits-at : (bits : List ℕ) (v : ℕ) → bitsOf bits v ≡ nonzero (getD bits v 0)
+unfolding bitsOf
+bits-at bits v = refl
+
 -- picks leave a good diagram with more nodes
 pub record Grown (terms : Terms) (s t : State) : Type 0 where
   pub good : Good terms t
@@ -297,7 +301,7 @@ module _ (terms : Terms) (m : Machine) (at : ℕ → Assignment) (vars : ℕ) (f
       go (some d) q g k more = more d (k d q)
 
   -- the values are those of a start place, and none before it passes
-  least-start : (s : State) (e : ℕ) (bits : List ℕ) → Picking (length frees) s e bits → LeastStart m at p bits
+  least-start : (s : State) (e : ℕ) (bits : List ℕ) → Picking (length frees) s e bits → LeastStart m at frees p bits
   least-start s e bits h =
       let n = length frees in
       let f : ℕ → Bool = λ u. cond (ltb (getD frees u 0) vars) (nonzero (getD bits (getD frees u 0) 0)) false in
@@ -312,6 +316,10 @@ module _ (terms : Terms) (m : Machine) (at : ℕ → Assignment) (vars : ℕ) (f
         place = y;
         fits = yl;
         here = λ i v. sym (state-at y yl value-at v) i;
+        free = λ u ul. elim (decLt (getD frees u 0) vars) [
+          | yes l ↦ value-at u ul l ∙ sym (bits-at bits (getD frees u 0))
+          | no l ↦ value-past u ul (omega arith) ∙ sym (bits-past bits (getD frees u 0) (omega (arith, h .wide)))
+        ];
         first = λ z zl t.
             let d = earlier n z y zl (x .1) in
             let u = d .place in
@@ -353,7 +361,7 @@ module _ (terms : Terms) (m : Machine) (at : ℕ → Assignment) (vars : ℕ) (f
   -- from an edge that has every start place that passes
   pub picked-right : (s : State) (e : ℕ) → Good terms s → In (s .nodes) e
       → ((y : ℕ) → y < m .starts → T (p y) → value (s .nodes) (at (m .start y)) e ≡ true)
-      → Good terms (pickAll frees s e base .state) × ((d : ℕ) → pickAll frees s e base .edge ≡ some d → LeastStart m at p (pickAll frees s e base .bits))
+      → Good terms (pickAll frees s e base .state) × ((d : ℕ) → pickAll frees s e base .edge ≡ some d → LeastStart m at frees p (pickAll frees s e base .bits))
   picked-right s e good e-in says =
       let h : Picking 0 s e base =
       record {

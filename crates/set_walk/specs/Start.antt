@@ -108,9 +108,11 @@ pub record StartsOf (m : Machine) (at : ℕ → Assignment) (vars : ℕ) (frees 
   pub fixed : (y v : ℕ) → y < m .starts → v < vars → ((u : ℕ) → u < length frees → getD frees u 0 ≡ v → ⊥)
       → at (m .start y) v ≡ nonzero (getD base v 0)
 
--- bits are the state of the first start place, where it is one of these at all: no start place before it is
-pub record LeastStart (m : Machine) (at : ℕ → Assignment) (p : ℕ → Bool) (bits : List ℕ) : Type 0 where
+-- bits are the state of the first start place, where it is one of these at all: no start place before it is; its free bits are those of the
+-- state, and 0 for the latches without a variable
+pub record LeastStart (m : Machine) (at : ℕ → Assignment) (frees : List ℕ) (p : ℕ → Bool) (bits : List ℕ) : Type 0 where
   pub place : ℕ
   pub fits : place < m .starts
   pub here : bitsOf bits ≡ at (m .start place)
   pub first : (y : ℕ) → y < place → T (p y) → ⊥
+  pub free : (u : ℕ) → u < length frees → freeBit (length frees) place u ≡ bitsOf bits (getD frees u 0)
