@@ -1,7 +1,7 @@
 -- What load leaves, and that what a job answers may be printed. Assumes nothing.
 use mathlib.Core.Path.{_≡_, refl, sym, subst}
 use mathlib.Core.Bool.{Bool, true, false}
-use mathlib.Core.List.{List, _++_, append-nil}
+use mathlib.Core.List.{List, [], _∷_, _++_, append-nil}
 use mathlib.Core.Option.{Option, none, some}
 use Prim.Native.Nat.{ℕ, _≤_}
 use native.Mathlib.Omega.{arith}
@@ -12,10 +12,12 @@ use Rattle.aiger.specs.Circuit.{Circuit}
 use Rattle.aiger.specs.Load.{Answer, refused, gives, test, read, load, _>>=_, _>>_}
 use Rattle.aiger.specs.Search.{Outcome}
 use Rattle.aiger.specs.Memory.{Holds}
-use Rattle.aiger.specs.Operations.{Loaded, judge, searchTests}
+use Rattle.aiger.specs.Operations.{Loaded, need, judge, budgetRight, searchTests}
+use Rattle.aiger.specs.Witness.{witnessLength}
 use Rattle.aiger.specs.Program.{Request, request, report, refusalLine, Prints}
 use Rattle.layout.specs.Words.{circuitIn}
 use Rattle.roundtrip.proofs.Holding.{held, loaded-holds}
+use Rattle.limits.proofs.Refusals.{passed}
 use Rattle.search.specs.Chosen.{chosen}
 use Rattle.search.proofs.Theorems.{always-permitted}
 use Rattle.job.specs.Replies.{outcomeWords}
@@ -65,7 +67,10 @@ module _ (input : List ℕ) where
         go : (a : Answer (Unit {0})) → judge (searchTests c (q .b) (q .k) (q .D) 8192 2048) ≡ a
             → Printed (a >> gives (record { circuit = c; b = q .b; outcome = o }))
         go (refused n) t = refusal n (Prints.notSearched h q e c l t)
-        go (gives u) t = reported c o (Prints.answers h q e c l t o refl (always-permitted c (q .b) (q .k) (q .D)))
+        go (gives u) t =
+            let tests = need 13 (leb (witnessLength c (q .b) (q .k)) 2048) ∷ [] in
+            let p = passed c (q .b) (q .k) (budgetRight (q .D)) 8192 tests t .0 in
+            reported c o (Prints.answers h q e c l t o refl (always-permitted c (q .b) (q .k) (q .D) (p .bound)))
 
     by-load : Printed (requestAnswer q)
     by-load = go (load 8192 (q .file)) refl
