@@ -1,6 +1,6 @@
 pub mod Within
 pub mod Choice
+pub mod ByRounds
 pub mod Answers
 pub mod Theorems
 pub mod Constraints
-pub mod ByLayers

@@ -1,12 +1,11 @@
-// The search: by layers of states, and from where these are given up frame after frame, until one has a hit, one is spent, or the bound is
+// The search: by rounds of stages, and from where these are cut off frame after frame, until one has a hit, one is spent, or the bound is
 // passed.
+use attempts::Query;
 use circuit::Held;
 use enumeration::Frame;
 use layout::Layout;
 use limits::Ruling;
-use reachable::Layers;
-use reachable::Limit;
-use reachable::Stage;
+use staged::Rounds;
 ghost use mathlib.Core.Path.{_≡_};
 ghost use Prim.Native.Nat.{_+_, _-_, _≤_};
 ghost use Rattle.aiger.specs.Circuit.{Circuit};
@@ -96,7 +95,7 @@ fn search_from(
     SearchAnswer::Nothing(k as u32)
 }
 
-// The search of a circuit that is ready: by layers of states, and where there are too many, frame after frame.
+// The search of a circuit that is ready: by rounds of stages, and what they leave frame after frame.
 fn search_frames(
     m: &[u32],
     layout: Layout,
@@ -110,24 +109,15 @@ fn search_frames(
 {
     let b = q.b as usize;
     let k = q.k as usize;
-    let limit = Limit {
-        base: 40000,
-        unit: 128,
-    };
-    let stage = Stage {
-        b,
-        k,
-        first: 0,
-        limit,
-    };
-    match reachable::search_layers(m, layout, order, stage, work) {
-        Layers::Hit(t) => {
+    let d = q.d;
+    match staged::pass_stages(m, layout, order, Query { b, k, d }, work) {
+        Rounds::Hit(t) => {
             witness::write_witness(out, m, layout, b as u32, t, work);
             SearchAnswer::Found(t as u32)
         }
-        Layers::Clear => SearchAnswer::Nothing(k as u32),
-        Layers::Never => SearchAnswer::Nothing(k as u32),
-        Layers::GaveUp(t) => search_from(m, layout, order, t, q, work, out),
+        Rounds::Nothing => SearchAnswer::Nothing(k as u32),
+        Rounds::Never => SearchAnswer::Nothing(k as u32),
+        Rounds::Left(t) => search_from(m, layout, order, t, q, work, out),
     }
 }
 

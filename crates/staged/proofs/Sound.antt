@@ -1,0 +1,61 @@
+-- Every stage of the rounds says what is so. Assumes nothing.
+use mathlib.Core.Path.{_≡_, sym, subst}
+use Prim.Native.Nat.{ℕ, _≤_, _<_}
+use native.Mathlib.Omega.{arith}
+use lib.Dec.{T}
+use Rattle.aiger.specs.Circuit.{Circuit}
+use Rattle.aiger.specs.Search.{question}
+use Rattle.machine.specs.Layers.{Layered, layered}
+use Rattle.machine.proofs.Theorems.{Quiet, QuietBefore, Says, layered-says}
+use Rattle.influence.specs.Cone.{partOf}
+use Rattle.influence.proofs.Cone.{part-closed}
+use Rattle.transitions.specs.Transitions.{machineOf}
+use Rattle.transitions.proofs.Bridge.{fair, reaches-of, prefixes-of}
+use Rattle.reachable.specs.Quota.{quota}
+use Rattle.stages.specs.Endings.{NoHit, NoneBefore, EndsRight, Sound, AllSound}
+use Rattle.stages.specs.Layers.{ofLayers}
+use Rattle.stages.specs.Choice.{limitIn}
+use Rattle.stages.proofs.Lists.{rounds-sound}
+use Rattle.stages.proofs.Layers.{layers-sound}
+use Rattle.attempts.proofs.Sound.{conflict-sound}
+use Rattle.staged.specs.Schedule.{flat, layersStage, roundOf, stagesOf}
+
+module _ (c : Circuit) (b : ℕ) where
+  -- a frame of the machine without a hit is one of the circuit without a hit
+  none-at : (t : ℕ) → Quiet (machineOf (partOf c b) b) t → NoHit (question c b) t
+  none-at t q x h r =
+      q x (subst (λ (n : ℕ). x < n) (sym (prefixes-of (partOf c b) b t)) h) (subst T (reaches-of (partOf c b) b (part-closed c b) t x) r)
+
+  none-before : (t : ℕ) → QuietBefore (machineOf (partOf c b) b) t → NoneBefore (question c b) t
+  none-before t q u l = none-at u (q u l)
+
+  -- what the layers say of the machine is so of the circuit
+  layers-right : (o : Layered) → Says (machineOf (partOf c b) b) (fair (partOf c b) b) 256 o → EndsRight (question c b) 0 (ofLayers o)
+  layers-right (Layered.hit t x) (l, q, f) = (
+    omega arith,
+    omega arith,
+    none-before t q,
+    record {
+      fits = subst (λ (n : ℕ). x < n) (prefixes-of (partOf c b) b t) (f .fits);
+      hits = subst T (sym (reaches-of (partOf c b) b (part-closed c b) t x)) (f .hits);
+      first = λ y h r. f .first y h (subst T (reaches-of (partOf c b) b (part-closed c b) t y) r);
+    },
+  )
+  layers-right Layered.clear q = none-before 256 q
+  layers-right Layered.never q = λ t. none-at t (q t)
+  layers-right (Layered.gaveUp t) (l, q) = (omega arith, l, none-before t q)
+
+  pub layer-sound : (limit : ℕ) → Sound (question c b) (layersStage c b limit)
+  unfolding layersStage
+  layer-sound limit =
+      let m = machineOf (partOf c b) b in
+      layers-sound (question c b) m (λ first. quota (partOf c b) first (flat limit))
+      (λ first. layers-right (layered m (quota (partOf c b) first (flat limit)) 256)
+      (layered-says m (fair (partOf c b) b) (quota (partOf c b) first (flat limit)) 256))
+
+  pub round-sound : (r : ℕ) → AllSound (question c b) (roundOf c b r)
+  round-sound r = (layer-sound (limitIn 300000 r), (conflict-sound c b (limitIn 6000 r), tt))
+
+  pub stages-sound : AllSound (question c b) (stagesOf c b)
+  unfolding stagesOf
+  stages-sound = rounds-sound (question c b) (roundOf c b) round-sound 0 8

@@ -1,0 +1,218 @@
+-- What the code of the stages says, stage by stage and round by round. Assumes nothing.
+use mathlib.Core.Path.{_≡_, refl, sym, ap, _∙_, subst}
+use mathlib.Core.Bool.{Bool, true, false, cond}
+use mathlib.Core.List.{List, [], _∷_, _++_}
+use Prim.Native.Nat.{ℕ, zero, suc, _+_, _-_, _*_, _%_, _^_, _≤_, _<_, max}
+use native.Mathlib.Nat.{pow-suc, pow-le-pow-right, mul-le-mul-right}
+use native.Mathlib.Omega.{arith}
+use borrow.Author.Tests.{le-leb, lt-leb, leb-false}
+use lib.Dec.{leb}
+use lib.Pow.{pow-add}
+use Rattle.aiger.specs.Circuit.{Circuit}
+use Rattle.aiger.specs.Frames.{freeBits}
+use Rattle.aiger.specs.Search.{question}
+use Rattle.enumeration.specs.Frame.{FreeBits}
+use Rattle.machine.specs.Layers as machine
+use Rattle.influence.specs.Cone.{partOf}
+use Rattle.transitions.specs.Transitions.{machineOf}
+use Rattle.reachable.specs.Quota.{quota}
+use Rattle.reachable.specs.Layers.{layered, LayersOf}
+use Rattle.reachable.specs.declared.Layers.{Layers}
+use Rattle.reachable.specs.declared.Layers.the-variants as layers
+use Rattle.reachable.proofs.More.{layered-more}
+use Rattle.stages.specs.Endings.{Ending, Cut, Staged, Stage, cutAt, stagedAt, NoneBefore, Sound, AllSound}
+use Rattle.stages.specs.Layers.{ofLayers, fromStart, layersEnding}
+use Rattle.stages.specs.Choice.{listed, rounds, limitIn}
+use Rattle.stages.proofs.Layers.{layers-cut}
+use Rattle.stages.proofs.Lists.{rounds-sound}
+use Rattle.stages.proofs.Passing.{On, Passing, stage-passes, never-passes, none-left, next-round}
+use Rattle.attempts.specs.Stage.{conflictStage, Seen}
+use Rattle.attempts.specs.declared.Staged as attempts
+use Rattle.attempts.specs.declared.Staged.the-variants as attempted
+use Rattle.attempts.proofs.Sound.{conflict-sound}
+use Rattle.staged.specs.declared.Passed.{Passed}
+use Rattle.staged.specs.declared.Passed.the-variants as passed
+use Rattle.staged.specs.Schedule.{flat, layersStage, roundOf, stagesOf}
+use Rattle.staged.specs.Answers.{Shows, Passes, RoundIs}
+use Rattle.staged.proofs.Sound.{layer-sound, round-sound}
+
+-- ---- limits
+
+powers : (r : ℕ) → 2 ^ (3 * r) ≡ 8 ^ r
+powers zero = refl
+powers (suc r) =
+    let e : 3 * suc r ≡ 3 + 3 * r = omega arith in
+    ap (λ (n : ℕ). 2 ^ n) e ∙ omega (arith, pow-add 2 3 (3 * r), pow-suc 8 r, powers r)
+
+pub limit-is : (base r : ℕ) → base * 2 ^ (3 * r) ≡ limitIn base r
+unfolding limitIn
+limit-is base r = ap (λ (n : ℕ). base * n) (powers r)
+
+pub power-most : (r : ℕ) → r ≤ 7 → 2 ^ (3 * r) ≤ 2097152
+power-most r l =
+    let most : 3 * r ≤ 21 = omega arith in
+    let two : 1 ≤ 2 = omega arith in
+    let p : 2 ^ (3 * r) ≤ 2 ^ 21 = pow-le-pow-right two most in
+    omega arith
+
+-- a limit by the shift that the code makes
+pub scaled : (base r : ℕ) → r ≤ 7 → base * (1 * 2 ^ (3 * r) % 18446744073709551616) ≡ limitIn base r
+scaled base r l =
+    let e : 1 * 2 ^ (3 * r) % 18446744073709551616 ≡ 2 ^ (3 * r) = omega (arith, power-most r l) in
+    ap (λ (n : ℕ). base * n) e ∙ limit-is base r
+
+pub scaled-most : (base r : ℕ) → base ≤ 300000 → r ≤ 7 → base * (1 * 2 ^ (3 * r) % 18446744073709551616) ≤ 629145600000
+scaled-most base r b l =
+    let n = 1 * 2 ^ (3 * r) % 18446744073709551616 in
+    let e : n ≤ 2097152 = omega (arith, power-most r l) in
+    let m : base * n ≤ 300000 * n = mul-le-mul-right n b in
+    omega arith
+
+-- ---- a stage that gives up
+
+pub given-up : (c : Circuit) (k u : ℕ) (work : List ℕ) → u ≤ k → Shows c k (Staged.ends (Ending.gaveUp u)) work (passed.GaveUp u)
+given-up c k u work l = ap (λ (p : Bool). cond p (Cut.gaveUp u) Cut.none) (le-leb u k l)
+
+pub given-past : (c : Circuit) (k u : ℕ) (work : List ℕ) → k < u → Shows c k (Staged.ends (Ending.gaveUp u)) work passed.Nothing
+given-past c k u work l = ap (λ (p : Bool). cond p (Cut.gaveUp u) Cut.none) (lt-leb u k l)
+
+-- ---- the layers of states
+
+-- not the answer that no frame up to the bound has a hit
+abbrev Other : machine.Layered → Type 0
+Other (machine.Layered.hit t x) = Unit {0}
+Other machine.Layered.clear = ⊥
+Other machine.Layered.never = Unit {0}
+Other (machine.Layered.gaveUp t) = Unit {0}
+
+abbrev Empty : Cut → Type 0
+Empty (Cut.hit t x) = Unit {0}
+Empty Cut.none = ⊥
+Empty (Cut.gaveUp t) = Unit {0}
+Empty (Cut.cutOff t) = Unit {0}
+
+-- an ending that shows nothing shows nothing to a stage that begins later
+start-none : (k : ℕ) (e : Ending) (first : ℕ) → cutAt k e ≡ Cut.none → cutAt k (fromStart e first) ≡ Cut.none
+start-none k (Ending.hit t x) first h = h
+start-none k Ending.never first h = refl
+start-none k Ending.clear first h = refl
+start-none k (Ending.gaveUp t) first h = go (leb t k) refl h
+  where
+    go : (p : Bool) → leb t k ≡ p → cond p (Cut.gaveUp t) Cut.none ≡ Cut.none → cutAt k (Ending.gaveUp (max t first)) ≡ Cut.none
+    go true e d = absurd (subst Empty d tt)
+    go false e d =
+        let l = leb-false t k e in ap (λ (p : Bool). cond p (Cut.gaveUp (max t first)) Cut.none) (lt-leb (max t first) k (omega arith))
+
+module _ (c : Circuit) (b k limit first D : ℕ) (small : k ≤ 255) where
+  abbrev found : machine.Layered
+  found = layered (partOf c b) b first (flat limit) k
+
+  -- where the layers up to the bound do not say clear, all layers say the same
+  all-is : (o : machine.Layered) → Other o → found ≡ o
+      → layersStage c b limit first D ≡ Staged.ends (fromStart (ofLayers o) first)
+  unfolding layersStage layersEnding layered
+  all-is o d e =
+      ap (λ (z : machine.Layered). Staged.ends (fromStart (ofLayers z) first))
+      (layered-more (partOf c b) b first (flat limit) k 255 small (λ a. subst Other a d) e)
+
+  module _ (work : List ℕ) (r : Layers) (h : LayersOf (partOf c b) b first (flat limit) k work r) where
+    pub layers-hit : {t : ℕ} → r ≡ layers.Hit t → Shows c k (layersStage c b limit first D) work (passed.Hit t)
+    unfolding LayersOf
+    layers-hit {t} e =
+        let (x, s, l, f) = subst (LayersOf (partOf c b) b first (flat limit) k work) e h in (
+          x,
+          ap (stagedAt k) (all-is (machine.Layered.hit t x) tt s) ∙ ap (λ (p : Bool). cond p (Cut.hit t x) Cut.none) (le-leb t k l),
+          f,
+        )
+
+    pub layers-never : r ≡ layers.Never → Shows c k (layersStage c b limit first D) work passed.Never
+    unfolding LayersOf
+    layers-never e = all-is machine.Layered.never tt (subst (LayersOf (partOf c b) b first (flat limit) k work) e h)
+
+    pub layers-left : {t : ℕ} → r ≡ layers.GaveUp t → layersStage c b limit first D ≡ Staged.ends (Ending.gaveUp (max t first))
+    unfolding LayersOf
+    layers-left {t} e = all-is (machine.Layered.gaveUp t) tt (subst (LayersOf (partOf c b) b first (flat limit) k work) e h)
+
+    pub layers-clear : r ≡ layers.Clear → Shows c k (layersStage c b limit first D) work passed.Nothing
+    unfolding LayersOf layersStage layersEnding layered
+    layers-clear e =
+        let m = machineOf (partOf c b) b in
+        let n = quota (partOf c b) first (flat limit) in
+        start-none k (ofLayers (machine.layered m n 256)) first
+        (layers-cut m n k small
+        ∙ ap (λ (o : machine.Layered). cutAt k (ofLayers o)) (subst (LayersOf (partOf c b) b first (flat limit) k work) e h))
+
+-- ---- a stage of the list
+
+module _ (c : Circuit) (b k D : ℕ) (work : List ℕ) where
+  pub shows-passes : (s : Stage) → Sound (question c b) s → (ss : List Stage) → AllSound (question c b) ss → (first : ℕ) → first ≤ 256
+      → NoneBefore (question c b) first → (a : Passed) → Shows c k (s first D) work a → Passes c b k D ss (listed (s ∷ ss) first D) work a
+  shows-passes s right ss sound first l n (passed.Hit t) (x, e, f) = (
+    x,
+    subst (Passing (question c b) ss k D (listed (s ∷ ss) first D)) e (stage-passes (question c b) ss sound k D s right first l n),
+    f,
+  )
+  shows-passes s right ss sound first l n passed.Nothing e =
+      subst (Passing (question c b) ss k D (listed (s ∷ ss) first D)) e (stage-passes (question c b) ss sound k D s right first l n)
+  shows-passes s right ss sound first l n passed.Never e = never-passes (question c b) ss sound k D s first e
+  shows-passes s right ss sound first l n (passed.GaveUp t) e =
+      let o : On (question c b) ss k D t (listed (s ∷ ss) first D) =
+      subst (Passing (question c b) ss k D (listed (s ∷ ss) first D)) e (stage-passes (question c b) ss sound k D s right first l n) in
+      (o .within, o .none, o .gives)
+  shows-passes s right ss sound first l n (passed.CutOff t) e =
+      subst (Passing (question c b) ss k D (listed (s ∷ ss) first D)) e (stage-passes (question c b) ss sound k D s right first l n)
+
+  -- the layers of round r
+  pub first-stage : (first r : ℕ) → first ≤ 256 → NoneBefore (question c b) first → {limit : ℕ} → limit ≡ limitIn 300000 r → {a x : Passed}
+      → a ≡ x → Shows c k (layersStage c b limit first D) work a → (ss : List Stage) → AllSound (question c b) ss
+      → Passes c b k D (conflictStage c b (limitIn 6000 r) ∷ ss) (listed (roundOf c b r ++ ss) first D) work x
+  first-stage first r l n {limit} q {a} {x} e h ss sound =
+      shows-passes (layersStage c b (limitIn 300000 r)) (layer-sound c b (limitIn 300000 r)) (conflictStage c b (limitIn 6000 r) ∷ ss)
+      (conflict-sound c b (limitIn 6000 r), sound) first l n x
+      (subst (Shows c k (layersStage c b (limitIn 300000 r) first D) work) e
+      (subst (λ (i : ℕ). Shows c k (layersStage c b i first D) work a) q h))
+
+  -- its attempts, from where the layers give up
+  pub second-stage : (r t : ℕ) (ss : List Stage) → AllSound (question c b) ss → (o : Staged) → k ≤ 255
+      → ((t ≤ k) × NoneBefore (question c b) t × (o ≡ listed (conflictStage c b (limitIn 6000 r) ∷ ss) t D)) → {limit : ℕ}
+      → limit ≡ limitIn 6000 r → (a : Passed) → Shows c k (conflictStage c b limit t D) work a → Passes c b k D ss o work a
+  second-stage r t ss sound o small (l, n, e) {limit} q a h =
+      subst (λ (z : Staged). Passes c b k D ss z work a) (sym e)
+      (shows-passes (conflictStage c b (limitIn 6000 r)) (conflict-sound c b (limitIn 6000 r)) ss sound t (omega arith) n a
+      (subst (λ (i : ℕ). Shows c k (conflictStage c b i t D) work a) q h))
+
+-- ---- round by round
+
+-- the list goes on with round r at a frame
+pub record Ongoing (c : Circuit) (b k D r first : ℕ) : Type 0 where
+  pub within : first ≤ k
+  pub none : NoneBefore (question c b) first
+  pub gives : listed (stagesOf c b) 0 D ≡ listed (rounds (roundOf c b) r (8 - r)) first D
+
+module _ (c : Circuit) (b k D : ℕ) where
+  pub begins : Ongoing c b k D 0 0
+  unfolding stagesOf
+  begins = record { within = omega arith; none = λ u l x h r. omega arith; gives = refl }
+
+  pub turn : {r first : ℕ} → Ongoing c b k D r first → r < 8 → (work : List ℕ) {a x : Passed} → a ≡ x → RoundIs c b k D first r work a
+      → Passes c b k D (rounds (roundOf c b) (r + 1) (8 - (r + 1))) (listed (stagesOf c b) 0 D) work x
+  turn {r} {first} g l work {a} {x} e h =
+      let n = 8 - (r + 1) in
+      let ss = rounds (roundOf c b) (r + 1) n in
+      let m : 8 - r ≡ suc n = omega arith in
+      subst (λ (z : Staged). Passes c b k D ss z work x)
+      (sym (g .gives ∙ ap (λ (i : ℕ). listed (rounds (roundOf c b) r i) first D) m
+      ∙ ap (λ (z : List Stage). listed z first D) (next-round (roundOf c b) r n)))
+      (subst (Passes c b k D ss (listed (roundOf c b r ++ ss) first D) work) e
+      (h ss (rounds-sound (question c b) (roundOf c b) (round-sound c b) (r + 1) n)))
+
+  pub goes-on : (r : ℕ) {t : ℕ} (work : List ℕ)
+      → Passes c b k D (rounds (roundOf c b) (r + 1) (8 - (r + 1))) (listed (stagesOf c b) 0 D) work (passed.GaveUp t)
+      → Ongoing c b k D (r + 1) t
+  goes-on r work (l, n, e) = record { within = l; none = n; gives = e }
+
+  pub rounds-end : {r first : ℕ} → Ongoing c b k D r first → 8 ≤ r → stagedAt k (listed (stagesOf c b) 0 D) ≡ Cut.cutOff first
+  unfolding rounds
+  rounds-end {r} {first} g l =
+      let m : 8 - r ≡ 0 = omega arith in
+      ap (stagedAt k) (g .gives ∙ ap (λ (i : ℕ). listed (rounds (roundOf c b) r i) first D) m) ∙ none-left k D first (g .within)

@@ -1,0 +1,3 @@
+-- What the contracts of `staged` cite. Assumes nothing.
+pub mod Schedule
+pub mod Answers
