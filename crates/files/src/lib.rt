@@ -3,11 +3,14 @@ use arguments::Argument;
 use input::Got;
 use libc::STDOUT_FILENO;
 ghost use mathlib.Core.Path.{_≡_};
+ghost use mathlib.Core.Bool.{_||_};
 ghost use mathlib.Core.List.{List};
 ghost use Prim.Native.Nat.{ℕ};
 ghost use lib.ListN.{take};
 ghost use Rattle.io.specs.Counts.{Counts};
+ghost use Rattle.input.specs.Reading.{Ended};
 ghost use Rattle.arguments.specs.Arguments.{numberOf, meant};
+ghost use Rattle.files.specs.Reading.{BothRead};
 
 // Writes a text to standard output.
 pub fn say(text: &[u8]) {
@@ -37,24 +40,14 @@ pub fn say_refused(n: u32) {
     say(b"\n");
 }
 
-// Nothing was read.
-fn nothing(buf: &[u8]) -> Got
-    ensures { λ r. ⌜ Counts (r .count) (now (buf .entry)) ⌝ }
-{
-    Got {
-        count: io::count(0, buf),
-        failed: true,
-    }
-}
-
-// Reads the file with a name into the front of buf, as much as has room.
+// Reads the file with a name into the front of buf, as much as has room. That it is the file of this name is for the system to say.
 pub fn read_named(name: &[u8], buf: &mut [u8]) -> Got
-    ensures { λ r. ⌜ Counts (r .count) (now (buf .exit)) ⌝ }
+    ensures { λ r. ⌜ Ended (now (buf .exit)) r ⌝ }
 {
     let fd = os::open_read(name);
     if fd < 0 {
         os::fail(name);
-        return nothing(buf);
+        return input::unopened(buf);
     }
     let got = input::read_all(fd, buf);
     if got.failed {
@@ -87,12 +80,12 @@ pub fn argument(i: usize) -> Word
 
 // Reads the file that argument i names.
 pub fn read_argument(i: usize, buf: &mut [u8]) -> Got
-    ensures { λ r. ⌜ Counts (r .count) (now (buf .exit)) ⌝ }
+    ensures { λ r. ⌜ Ended (now (buf .exit)) r ⌝ }
 {
     let word = argument(i);
     if !word.whole {
         os::fail(b"argument");
-        return nothing(buf);
+        return input::unopened(buf);
     }
     let name = word.bytes;
     let count = word.count;
@@ -116,32 +109,40 @@ pub fn read_number(i: usize) -> Argument
     number_of(argument(i))
 }
 
-// How much was read of two files, and whether one of them was not read.
+// How much was read of two files, whether one of them was not read, and what was read of each. The last two fields are this crate's own.
 pub struct Two {
     pub first: usize,
     pub second: usize,
     pub failed: bool,
+    one: Got,
+    other: Got,
 }
 
-// Reads the files that arguments i and j name. Where the first cannot be read the second is not, and its count is 0.
-pub fn read_two(i: usize, j: usize, first: &mut [u8], second: &mut [u8]) -> Two
-    ensures { λ r. ⌜ Counts (r .first) (now (first .exit)) × Counts (r .second) (now (second .exit)) ⌝ }
+// What was read of two files.
+fn both(one: Got, other: Got) -> Two
+    ensures { λ r. ⌜
+        (r .one ≡ one) × (r .other ≡ other) × (r .first ≡ one .count) × (r .second ≡ other .count)
+        × (r .failed ≡ (one .failed || other .failed))
+        ⌝ }
 {
-    let one = read_argument(i, first);
-    if one.failed {
-        let none = nothing(second);
-        return Two {
-            first: one.count,
-            second: none.count,
-            failed: true,
-        };
-    }
-    let other = read_argument(j, second);
     Two {
         first: one.count,
         second: other.count,
-        failed: other.failed,
+        failed: one.failed | other.failed,
+        one,
+        other,
     }
+}
+
+// Reads the files that arguments i and j name. Where the first cannot be read the second is not, as one that could not be opened.
+pub fn read_two(i: usize, j: usize, first: &mut [u8], second: &mut [u8]) -> Two
+    ensures { λ r. ⌜ BothRead (now (first .exit)) (now (second .exit)) r ⌝ }
+{
+    let one = read_argument(i, first);
+    if one.failed {
+        return both(one, input::unopened(second));
+    }
+    both(one, read_argument(j, second))
 }
 
 // Prints argument i and what is to stand after it.

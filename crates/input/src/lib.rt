@@ -1,61 +1,55 @@
 // Reading an open file, where a read that fails is told apart from the end of the file.
+mod reading;
+
+pub use reading::Read;
+pub use reading::count_of;
+pub use reading::has_failed;
+pub use reading::read_once;
 ghost use mathlib.Core.Path.{_≡_};
+ghost use mathlib.Core.Bool.{Bool, true};
 ghost use Prim.Native.Nat.{_≤_};
 ghost use lib.ListN.{length};
-ghost use Rattle.io.specs.Counts.{Counts};
-ghost use Rattle.input.specs.Reading.{Into};
+ghost use Rattle.input.specs.Reading.{Gave, Ended};
 
-// What a read gave: so many bytes at the front of the buffer, none at the end of the file; or it failed.
-pub enum Read {
-    Bytes(usize),
-    Failed,
-}
-
-// How many bytes were read, and whether a read failed.
+// How many bytes were read, whether a read failed, and the last read. The last field is this crate's own, so that a value of this type is
+// one that `read_all` or `unopened` made.
 pub struct Got {
     pub count: usize,
     pub failed: bool,
+    last: Read,
 }
 
-// Reads once, and again as long as a signal interrupts the read before a byte came.
-pub fn read_once(fd: i32, buf: &mut [u8]) -> Read
-    ensures { λ r. ⌜ Into (now (buf .exit)) r ⌝ }
+// So many bytes at the front of buf, after which a read gave nothing.
+fn told(count: usize, last: Read, buf: &[u8]) -> Got
+    requires { ⌜ (count ≤ length (now buf)) × (last .count ≡ 0) ⌝ }
+    ensures { λ r. ⌜ Ended (now (buf .entry)) r × (r .count ≡ count) × (r .last ≡ last) ⌝ }
 {
-    let mut turns = u64::MAX;
-    while 0 < turns {
-        let got = libc::read(fd, buf);
-        if got >= 0 {
-            return Read::Bytes(io::count(got, buf));
-        }
-        if os::errno() != libc::EINTR {
-            return Read::Failed;
-        }
-        turns -= 1;
+    let failed = reading::has_failed(last);
+    Got {
+        count,
+        failed,
+        last,
     }
-    Read::Failed
 }
 
-// The count as one of bytes at the front of buf.
-fn told(count: usize, failed: bool, buf: &[u8]) -> Got
-    requires { ⌜ count ≤ length (now buf) ⌝ }
-    ensures { λ r. ⌜ Counts (r .count) (now (buf .entry)) × (r .failed ≡ failed) ⌝ }
+// Nothing was read, since the file could not be opened.
+pub fn unopened(buf: &[u8]) -> Got
+    ensures { λ r. ⌜ Ended (now (buf .entry)) r × (r .count ≡ 0) × (r .failed ≡ true) ⌝ }
 {
-    Got { count, failed }
+    told(0, reading::failure(), buf)
 }
 
-// Reads an open file into the front of buf until it ends, buf is full or a read fails.
+// Reads an open file into the front of buf until it ends, buf is full or a read fails: until a read gives nothing.
 pub fn read_all(fd: i32, buf: &mut [u8]) -> Got
-    ensures { λ r. ⌜ Counts (r .count) (now (buf .exit)) ⌝ }
+    ensures { λ r. ⌜ Ended (now (buf .exit)) r ⌝ }
 {
-    let mut done: usize = 0;
-    while done < buf.len() {
-        let Read::Bytes(more) = read_once(fd, &mut buf[done..]) else {
-            return told(done, true, buf);
-        };
-        if more == 0 {
-            return told(done, false, buf);
-        }
+    let mut last = reading::read_once(fd, buf);
+    let mut more = reading::count_of(last);
+    let mut done = more;
+    while 0 < more {
+        last = reading::read_once(fd, &mut buf[done..]);
+        more = reading::count_of(last);
         done += more;
     }
-    told(done, false, buf)
+    told(done, last, buf)
 }

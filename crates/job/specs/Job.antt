@@ -56,7 +56,7 @@ pub record Replied (a : Answer Result) (work out line : List ℕ) (r : Report) (
   pub texts : Leaves (replyTo a) line out r line′ out′
   pub working : WorkAfter a work work′
 
--- Clauses 6.2 and 8.1: everything that was lent, after a job. Circuit memory is as load leaves it, and as it was where the length or the
+-- Clauses 6.5, 6.6 and 8.1: everything that was lent, after a job. Circuit memory is as load leaves it, and as it was where the length or the
 -- first line refuses
 pub record Ran (input m work out line : List ℕ) (r : Report) (m′ work′ out′ line′ : List ℕ) : Type 0 where
   pub memory : m′ ≡ wordsAfter m (accepted input)

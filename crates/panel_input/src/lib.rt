@@ -1,5 +1,4 @@
 // A request of the resident program: a line of standard input. A read that fails is no end of the input.
-use input::Read;
 use libc::STDIN_FILENO;
 ghost use mathlib.Core.Path.{_≡_};
 ghost use mathlib.Core.Bool.{Bool, true};
@@ -36,8 +35,9 @@ fn next_byte() -> Next {
     let mut failed = false;
     let mut left: u32 = 8;
     while 0 < left {
-        if let Read::Bytes(n) = input::read_once(STDIN_FILENO, &mut byte) {
-            if n == 0 {
+        let r = input::read_once(STDIN_FILENO, &mut byte);
+        if !input::has_failed(r) {
+            if input::count_of(r) == 0 {
                 return Next::End(failed);
             }
             return Next::Byte(byte[0], failed);

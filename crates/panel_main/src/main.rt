@@ -1,10 +1,12 @@
 // The resident program: requests of two users, each a line of standard input, on one circuit memory, working memory and pin memory.
 use files::say;
+use panel_serving::Turned;
 ghost use mathlib.Core.Path.{_≡_};
 ghost use Prim.Native.Nat.{ℕ};
 ghost use lib.ListN.{length};
 ghost use Rattle.history.specs.History.{State};
 ghost use Rattle.panel_session.specs.Session.{Ran, start};
+ghost use Rattle.panel_serving.specs.Serving.{Over};
 
 fn say_help() {
     say(b"panel\n\n");
@@ -42,21 +44,26 @@ fn say_help() {
 }
 
 // Lends the buffers of the files: a witness has at most 66,825 bytes, the second circuit of a join 65,536.
-fn session_from(m: &mut [u32], work: &mut [u32], pins: &mut [u8], out: &mut [u8]) -> u64
+fn session_from(m: &mut [u32], work: &mut [u32], pins: &mut [u8], out: &mut [u8]) -> Turned
     requires { ⌜ (length (now m) ≡ 33032) × (length (now out) ≡ 1572928) ⌝ }
     requires { ⌜ (record { memory = now m; work = now work; pins = now pins }) ≡ start ⌝ }
-    ensures { λ n. ⌜ Ran 1572928 start n (record { memory = now (m .exit); work = now (work .exit); pins = now (pins .exit) }) ⌝ }
+    ensures { λ r. ⌜
+        Ran 1572928 start (r .tally .count) (record { memory = now (m .exit); work = now (work .exit); pins = now (pins .exit) })
+        ⌝ }
+    ensures { λ r. ⌜ Over r ⌝ }
 {
     let mut first = [0u8; 66826];
     let mut second = [0u8; 65537];
     panel_serving::session(&mut first, &mut second, m, work, pins, out)
 }
 
-// Lends the circuit memory of the greatest M, 4,096, which holds no circuit at first, and the pins of both users, all free.
-fn session_with(work: &mut [u32], out: &mut [u8]) -> u64
+// Lends the circuit memory of the greatest M, 4,096, which holds no circuit at first, and the pins of both users, all free. What they hold
+// at the end is out of sight here, so that a state is left with which it was a session of so many requests.
+fn session_with(work: &mut [u32], out: &mut [u8]) -> Turned
     requires { ⌜ length (now out) ≡ 1572928 ⌝ }
     requires { ⌜ now work ≡ start .work ⌝ }
-    ensures { λ n. ⌜ ((t : State) × Ran 1572928 start n t) ⌝ }
+    ensures { λ r. ⌜ ((t : State) × Ran 1572928 start (r .tally .count) t) ⌝ }
+    ensures { λ r. ⌜ Over r ⌝ }
 {
     let mut m = [4294967295u32; 33032];
     let mut pins = [2u8; 512];
@@ -65,8 +72,9 @@ fn session_with(work: &mut [u32], out: &mut [u8]) -> u64
 
 // Lends the working memory and the output of the greatest size, 65,536. No text is longer than this output: fold asks for 1,572,928
 // bytes at most, waveform for 1,456,223.
-fn session_of_both() -> u64
-    ensures { λ n. ⌜ ((t : State) × Ran 1572928 start n t) ⌝ }
+fn session_of_both() -> Turned
+    ensures { λ r. ⌜ ((t : State) × Ran 1572928 start (r .tally .count) t) ⌝ }
+    ensures { λ r. ⌜ Over r ⌝ }
 {
     let mut work = [0u32; 1048576];
     let mut out = [0u8; 1572928];

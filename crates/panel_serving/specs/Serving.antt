@@ -2,15 +2,16 @@
 use mathlib.Core.Path.{_≡_}
 use mathlib.Core.Bool.{Bool, true, false, cond}
 use mathlib.Core.List.{List}
-use Prim.Native.Nat.{ℕ}
+use mathlib.Core.Logic.{_⊎_}
+use Prim.Native.Nat.{ℕ, _<_}
 use lib.ListN.{length, take}
 use Rattle.history.specs.History.{State}
-use Rattle.panel_input.specs.Line.{Received}
+use Rattle.panel_input.specs.declared.RequestLine.{RequestLine}
 use Rattle.panel_session.specs.Session.{Files}
 use Rattle.panel_session.specs.Answered.{Answered}
 use Rattle.panel_serving.specs.Fetching.{Fetches, filesRead}
-use Rattle.panel_serving.specs.declared.Served.{Served}
-use Rattle.panel_serving.specs.declared.Turned.{Turned}
+use Rattle.panel_serving.specs.declared.serving.Served.{Served}
+use Rattle.panel_serving.specs.declared.turning.Turned.{Turned}
 
 -- a request that was read: the files that it names are read, and what is printed is the answer to it with the bytes that were read
 pub record Serves (request first second : List ℕ) (s : State) (out : List ℕ) (r : Served) (s′ : State) (out′ : List ℕ) : Type 0 where
@@ -27,6 +28,15 @@ pub data Turns (first second : List ℕ) (s : State) (out : List ℕ) (r : Turne
   serves : {s′ : State} {out′ : List ℕ} → r .request .failed ≡ false → r .request .ended ≡ false
       → Serves (take (r .request .count) (r .request .line)) first second s out (r .served) s′ out′ → Turns first second s out r s′ out′
 
--- how many requests a turn answered
-abbrev pub answersOf : Turned → ℕ
-answersOf t = cond (t .request .failed) 1 (cond (t .request .ended) 0 1)
+-- how many requests a turn answers: one that was read, or whose line could not be read
+abbrev pub answersOf : RequestLine → ℕ
+answersOf r = cond (r .failed) 1 (cond (r .ended) 0 1)
+
+-- the session is over: nothing more is to be had of the input, or no request more can be counted
+abbrev pub Over : Turned → Type 0
+Over t = (t .request .ended ≡ true) ⊎ (t .tally .count ≡ 18446744073709551615)
+
+-- whether the session goes on after a turn
+pub record GoesOn (t : Turned) (b : Bool) : Type 0 where
+  pub more : b ≡ true → (t .request .ended ≡ false) × (t .tally .count < 18446744073709551615)
+  pub over : b ≡ false → Over t

@@ -16,14 +16,16 @@ slice-aggregate-session-2 c = sym (length-replicate {A = ℕ} 65537 0)
 
 session-requires : tie.Need-session-requires
 session-requires c κs =
-    let pre = c .before .before .before .before .before .before .before .before .before .before .pre in
-    (pre .0 .0, omega (arith, pre .0 .1))
+    let pre = c .before .before .before .before .before .before .before .before .before .before .pre in (
+      (pre .0 .0, omega (arith, pre .0 .1)),
+      (omega (arith, length-replicate {A = ℕ} 66826 0), omega (arith, length-replicate {A = ℕ} 65537 0)),
+    )
 
 returns : tie.Need-returns
 returns c =
     let pre = c .before .before .before .before .before .before .before .before .before .before .before .before .before .before .before .before .before .before .before .before .before .pre in
     let at-session = c .before .before .before .before .before .before .before .before .before .before in
-    ran-at (pre .0 .1) (pre .1) (at-session .session .ensures)
+    (ran-at (pre .0 .1) (pre .1) (at-session .session .ensures .0), at-session .session .ensures .1)
 
 pub session-from-spec : {M : Type 1} → statement M
 session-from-spec =

@@ -17,7 +17,7 @@ session-from-requires c κs =
 returns : tie.Need-returns
 returns c =
     let at-session = c .before .before .before .before .before .before in
-    (_, at-session .session-from .ensures)
+    ((_, at-session .session-from .ensures .0), at-session .session-from .ensures .1)
 
 pub session-with-spec : {M : Type 1} → statement M
 session-with-spec =

@@ -1,80 +1,74 @@
 -- So far it was a session; the measure is how many requests are left. Assumes nothing.
-use mathlib.Core.Path.{_≡_, refl, sym, _∙_}
-use Prim.Native.Nat.{_-_}
+use mathlib.Core.Path.{_≡_, refl, sym, ap, _∙_}
+use Prim.Native.Nat.{ℕ}
 use native.Mathlib.Omega.{arith}
 use lib.ListN.{length}
+use Rattle.history.specs.History.{State}
 use Rattle.panel_session.specs.Session.{Ran}
 use Rattle.panel_session.proofs.Start.{ran-none}
-use Rattle.panel_serving.proofs.Turning.{turn-more, answers-most, answers-one}
+use Rattle.panel_serving.specs.declared.turning.Tally.{Tally}
+use Rattle.panel_serving.proofs.Exchanges.{turn-more, left, left-less}
 use borrow.Author.Needs.{needs}
 use Rattle.panel_serving.proofs.session.Statement.{statement}
 use Rattle.panel_serving.proofs.session.Tie as tie
 
 abbrev Inv-loop : tie.InvT-loop
-Inv-loop first₀ second₀ m₀ work₀ pins₀ out₀ count₀ first second m work pins out count =
+Inv-loop first₀ second₀ m₀ work₀ pins₀ out₀ t₀ first second m work pins out t =
     (length first ≡ length first₀) × (length second ≡ length second₀) × (length m ≡ length m₀) × (length work ≡ length work₀) × (length pins ≡ length pins₀)
-    × (length out ≡ length out₀) × Ran (length out₀) (record { memory = m₀; work = work₀; pins = pins₀ }) count (record { memory = m; work = work; pins = pins })
+    × (length out ≡ length out₀)
+    × ((s : State) (room : ℕ) → length out₀ ≡ room → Ran room s (t₀ .tally .count) (record { memory = m₀; work = work₀; pins = pins₀ })
+    → Ran room s (t .tally .count) (record { memory = m; work = work; pins = pins }))
 
 abbrev μ-loop : tie.MeasureT-loop
-μ-loop first₀ second₀ m₀ work₀ pins₀ out₀ count₀ first second m work pins out count = 18446744073709551615 - count
-
-loop-holds : tie.Need-loop-holds Inv-loop μ-loop
-loop-holds c = (refl, refl, refl, refl, refl, refl, ran-none _)
+μ-loop first₀ second₀ m₀ work₀ pins₀ out₀ t₀ first second m work pins out t = left t
 
 turn-requires : tie.Need-turn-requires Inv-loop μ-loop
 turn-requires c κs =
-    let at-loop = c .before .before .before .before .before .before .before in
-    let at-start = c .before .before .before .before .before .before .before .before .before .before .before .before .before .before in
-    let i = at-loop .loop .inv in
-    (i .2 ∙ at-start .pre .0, omega (arith, i .5, at-start .pre .1))
+    let p = c .before .before .before .before .before .before .before .before .before .before .before .before .before .pre in
+    (p .0, (p .1 .0, p .1 .1, omega (arith, c .before .before .before .before .before .before .begun .ensures)))
 
-add-count : tie.Need-add-count Inv-loop μ-loop
-add-count c =
-    let at-answered = c in
-    let at-turn = c .before .before .before .before .before .before .before .before .before .before .before .before .before .before in
-    record { fits = omega (arith, at-answered .answered .ensures, answers-most (at-turn .turn .result)) }
+loop-holds : tie.Need-loop-holds Inv-loop μ-loop
+loop-holds c = (refl, refl, refl, refl, refl, refl, λ s room e x. x)
 
-returns : tie.Need-returns Inv-loop μ-loop
-returns c =
-    let at-answered = c .before .before in
-    let at-loop = c .before .before .before .before .before .before .before .before .before .before .before .before .before .before .before .before .before .before .before .before .before .before .before .before in
-    let at-turn = c .before .before .before .before .before .before .before .before .before .before .before .before .before .before .before .before in
-    rw (at-answered .answered .ensures) (turn-more (at-loop .loop .inv .5) (at-loop .loop .inv .6) (at-turn .turn .ensures))
+turn-requires-2 : tie.Need-turn-requires-2 Inv-loop μ-loop
+turn-requires-2 c κs =
+    let p = c .before .before .before .before .before .before .before .before .before .before .before .before .before .before .before .before .before .before .before .before .before .before .before .before .before .before .before .before .before .before .before .before .before .before .before .before .pre in
+    let i = c .before .before .before .before .before .before .before .before .before .loop .inv in
+    let k = c .before .before .before .before .before .before .before .before .before .before .before .before .before .before .before .before .before .before .before .before .before .before .turn .kept in
+    let n = ap (λ (x : Tally). x .count) (c .before .before .before .before .before .before .tally-of .ensures) in
+    let g = c .before .before .before .before .before .before .before .before .goes-on .ensures .more (c .before .before .before .before .before .before .before .if1 .taken) in
+    ((i .2 ∙ k .1 .1 .1 .0 ∙ p .0 .0, omega (arith, i .5, k .1 .1 .1 .1 .1 .1 .0, p .0 .1)), (omega (arith, i .0, k .1 .0, p .1 .0), omega (arith, i .1, k .1 .1 .0, p .1 .1), omega (arith, n, g .1)))
 
 loop-less : tie.Need-loop-less Inv-loop μ-loop
 loop-less c =
-    omega (
-      arith,
-      c .before .before .answered .ensures,
-      answers-one (c .before .before .before .before .before .before .before .before .before .before .before .before .before .before .before .before .turn .result) (sym (c .before .has-ended .ensures) ∙ c .if1 .left),
-    )
+    let n = ap (λ (x : Tally). x .count) (c .before .before .before .before .before .before .before .before .before .before .before .before .before .before .before .before .before .before .before .tally-of .ensures) in
+    let g = c .before .before .before .before .before .before .before .before .before .before .before .before .before .before .before .before .before .before .before .before .before .goes-on .ensures .more (c .before .before .before .before .before .before .before .before .before .before .before .before .before .before .before .before .before .before .before .before .if1 .taken) in
+    left-less (c .before .before .before .before .before .before .before .before .before .before .before .before .before .before .before .before .before .before .before .before .before .before .loop .t) (c .before .before .before .before .before .before .before .before .before .before .before .before .turn2 .result) (g .0) (g .1) n (c .before .before .before .before .before .before .before .before .before .before .before .before .turn2 .ensures .1)
 
 loop-again : tie.Need-loop-again Inv-loop μ-loop
 loop-again c =
-    let at-loop = c .before .before .before .before .before .before .before .before .before .before .before .before .before .before .before .before .before .before .before .before .before .before .before .before in
-    let at-turn = c .before .before .before .before .before .before .before .before .before .before .before .before .before .before .before .before in
-    let at-answered = c .before .before in
-    let i = at-loop .loop .inv in
-    let k = at-turn .turn .kept in (
-      k .0 ∙ i .0,
-      k .1 .0 ∙ i .1,
-      k .1 .1 .0 ∙ i .2,
-      k .1 .1 .1 .0 ∙ i .3,
-      k .1 .1 .1 .1 .0 ∙ i .4,
-      k .1 .1 .1 .1 .1 .0 ∙ i .5,
-      rw (at-answered .answered .ensures) (turn-more (i .5) (i .6) (at-turn .turn .ensures)),
+    let i = c .before .before .before .before .before .before .before .before .before .before .before .before .before .before .before .before .before .before .before .before .before .before .loop .inv in
+    let k = c .before .before .before .before .before .before .before .before .before .before .before .before .turn2 .kept in
+    let n = ap (λ (x : Tally). x .count) (c .before .before .before .before .before .before .before .before .before .before .before .before .before .before .before .before .before .before .before .tally-of .ensures) in (
+      k .1 .0 ∙ i .0,
+      k .1 .1 .0 ∙ i .1,
+      k .1 .1 .1 .0 ∙ i .2,
+      k .1 .1 .1 .1 .0 ∙ i .3,
+      k .1 .1 .1 .1 .1 .0 ∙ i .4,
+      k .1 .1 .1 .1 .1 .1 .0 ∙ i .5,
+      λ s room e x. turn-more (i .5 ∙ e) (i .6 s room e x) (c .before .before .before .before .before .before .before .before .before .before .before .before .turn2 .ensures .0) n (c .before .before .before .before .before .before .before .before .before .before .before .before .turn2 .ensures .1),
     )
 
-returns-2 : tie.Need-returns-2 Inv-loop μ-loop
-returns-2 c =
-    let at-loop = c .before in
-    at-loop .loop .inv .6
+returns : tie.Need-returns Inv-loop μ-loop
+returns c =
+    let k = c .before .before .before .before .before .before .before .before .before .before .before .before .before .before .before .turn .kept in
+    let t = c .before .before .before .before .before .before .before .before .before .before .before .before .before .before .before .turn .ensures in
+    (c .before .before .loop .inv .6 _ _ (k .1 .1 .1 .1 .1 .1 .0) (turn-more refl (ran-none _) (t .0) (c .before .before .before .before .before .before .before .before .before .before .before .before .before .before .before .before .before .before .before .before .before .before .begun .ensures) (t .1)), c .before .goes-on .ensures .over (c .if1 .left))
 
 pub session-spec : {M : Type 1} → statement M
 session-spec =
     tie.close
     (tie.spec
-    Inv-loop μ-loop loop-holds turn-requires (λ c κs. search needs) add-count (λ c κs. search needs) (λ c. search needs)
-    (λ c. search needs) (λ c. search needs) (λ c. search needs) (λ c. search needs) (λ c. search needs) returns loop-less
-    loop-again (λ c. search needs) (λ c. search needs) (λ c. search needs) (λ c. search needs) (λ c. search needs)
-    (λ c. search needs) returns-2)
+    Inv-loop μ-loop (λ c κs. search needs) turn-requires loop-holds (λ c κs. search needs) (λ c κs. search needs) turn-requires-2
+    loop-less loop-again (λ c. search needs) (λ c. search needs) (λ c. search needs) (λ c. search needs) (λ c. search needs)
+    (λ c. search needs) returns)

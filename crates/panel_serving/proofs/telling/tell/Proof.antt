@@ -1,4 +1,4 @@
--- `panel_serving::tell` meets its contract. Assumes nothing.
+-- Prefixes of the line and of the output. Assumes nothing.
 use native.Mathlib.Omega.{arith}
 use lib.ListN.{length-take}
 use borrow.Author.Needs.{needs}
@@ -8,13 +8,13 @@ use Rattle.panel_serving.proofs.telling.tell.Tie as tie
 array-share-prefix-line : tie.Need-array-share-prefix-line
 array-share-prefix-line c = c .before .before .pre .0
 
-slice-aggregate-answer : tie.Need-slice-aggregate-answer
-slice-aggregate-answer c =
+slice-aggregate-print : tie.Need-slice-aggregate-print
+slice-aggregate-print c =
     let start = c .before .before .before in
     omega (arith, length-take (start .args .response .count) (start .args .response .line), start .pre .0)
 
-slice-aggregate-answer-2 : tie.Need-slice-aggregate-answer-2
-slice-aggregate-answer-2 c =
+slice-aggregate-print-2 : tie.Need-slice-aggregate-print-2
+slice-aggregate-print-2 c =
     let start = c .before .before .before .before in
     omega (arith, length-take (start .args .response .out) (start .args .out .now), start .pre .1)
 
@@ -22,4 +22,4 @@ pub tell-spec : {M : Type 1} → statement M
 tell-spec =
     tie.close
     (tie.spec
-    array-share-prefix-line slice-aggregate-answer slice-aggregate-answer-2 (λ c κs. search needs) (λ c. search needs))
+    array-share-prefix-line slice-aggregate-print slice-aggregate-print-2 (λ c κs. search needs) (λ c. search needs))

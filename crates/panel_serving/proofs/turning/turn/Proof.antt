@@ -1,0 +1,48 @@
+-- A request is read and served, or there is none. Assumes nothing.
+use mathlib.Core.Path.{sym, _∙_}
+use Rattle.panel_serving.specs.Serving.{Turns}
+use Rattle.panel_serving.proofs.Exchanges.{turns-unread, turns-serves}
+use borrow.Author.Needs.{needs}
+use Rattle.panel_serving.proofs.turning.turn.Statement.{statement}
+use Rattle.panel_serving.proofs.turning.turn.Tie as tie
+
+counted-requires : tie.Need-counted-requires
+counted-requires c κs = c .before .before .before .before .before .before .before .pre .1 .2
+
+returns : tie.Need-returns
+returns c = (turns-unread _ _ (sym (c .before .before .before .before .before .before .has-failed .ensures) ∙ c .before .before .before .before .before .if1 .taken) (c .before .before .before .answer-unread .ensures), c .before .before .before .before .before .before .before .counted .ensures)
+
+returns-2 : tie.Need-returns-2
+returns-2 c = (
+  Turns.ends (sym (c .before .before .before .before .before .before .before .has-failed .ensures) ∙ c .before .before .before .before .before .before .if1 .left) (sym (c .before .before .before .before .before .has-ended .ensures) ∙ c .before .before .before .before .if2 .taken)
+      (c .before .before .before .silence .ensures .0) (c .before .before .before .silence .ensures .1),
+  c .before .before .before .before .before .before .before .before .counted .ensures,
+)
+
+array-share-prefix-line : tie.Need-array-share-prefix-line
+array-share-prefix-line c = rw (c .count-of .ensures, c .before .line-of .ensures) (c .before .before .before .before .before .before .before .receive .ensures .counts .0)
+
+slice-aggregate-serve : tie.Need-slice-aggregate-serve
+slice-aggregate-serve c = rw (c .before .count-of .ensures, c .before .before .line-of .ensures) (c .before .before .before .before .before .before .before .before .receive .ensures .counts .1)
+
+serve-requires : tie.Need-serve-requires
+serve-requires c κs =
+    let p = c .before .before .before .before .before .before .before .before .before .before .before .before .before .before .before .before .before .before .before .before .before .pre in
+    (p .0, (p .1 .0, p .1 .1))
+
+returns-3 : tie.Need-returns-3
+returns-3 c = (
+  turns-serves (sym (c .before .before .before .before .before .before .before .before .before .before .before .before .before .before .before .before .before .before .before .before .before .before .before .before .before .has-failed .ensures) ∙ c .before .before .before .before .before .before .before .before .before .before .before .before .before .before .before .before .before .before .before .before .before .before .before .before .if1 .left) (sym (c .before .before .before .before .before .before .before .before .before .before .before .before .before .before .before .before .before .before .before .before .before .before .before .has-ended .ensures) ∙ c .before .before .before .before .before .before .before .before .before .before .before .before .before .before .before .before .before .before .before .before .before .before .if2 .left)
+      (c .before .before .before .before .before .before .before .before .before .before .before .before .before .before .before .before .before .before .before .before .before .line-of .ensures) (c .before .before .before .before .before .before .before .before .before .before .before .before .before .before .before .before .before .before .before .before .count-of .ensures) (c .before .before .before .before .before .before .before .before .before .before .before .before .serve .ensures),
+  c .before .before .before .before .before .before .before .before .before .before .before .before .before .before .before .before .before .before .before .before .before .before .before .before .before .before .counted .ensures,
+)
+
+pub turn-spec : {M : Type 1} → statement M
+turn-spec =
+    tie.close
+    (tie.spec
+    (λ c κs. search needs) counted-requires (λ c κs. search needs) (λ c κs. search needs) (λ c κs. search needs)
+    (λ c. search needs) (λ c. search needs) (λ c. search needs) returns (λ c κs. search needs) (λ c κs. search needs)
+    (λ c κs. search needs) (λ c. search needs) (λ c. search needs) returns-2 (λ c κs. search needs) (λ c κs. search needs)
+    array-share-prefix-line slice-aggregate-serve serve-requires (λ c. search needs) (λ c. search needs) (λ c. search needs)
+    (λ c. search needs) (λ c. search needs) (λ c. search needs) returns-3)
