@@ -40,7 +40,8 @@ use Rattle.load.specs.Preview.{Previewed}
 use Rattle.load.specs.declared.Judgement.{Judgement}
 use Rattle.load.proofs.Previews.{preview-load}
 use Rattle.pins.specs.Pins.{pinsOf}
-use Rattle.history.specs.History.{State, Event, History, Same, concerning}
+use Rattle.call_forms.specs.History.{State, Event, History, Same}
+use Rattle.history.specs.Concerning.{concerning}
 use Rattle.history.proofs.Undisturbed.{undisturbed, apart}
 use Rattle.panel_session.specs.Session.{Files, Exchange, Session, Ran, start}
 use Rattle.panel_session.specs.Session as sessions

@@ -13,32 +13,27 @@ use Rattle.aiger.specs.Search.{Outcome, Question, question, reaches, reachesIn,
 use Rattle.aiger.specs.Operations.{Operated, Searched, SearchEffect, searchTests, Folded, FoldEffect, foldTests, shown, front}
 use Rattle.pins.specs.Pins.{isHeld, pinsOf, pinned, pinnedSpace, pinnedQuestion, pinnedWitness}
 use Rattle.pins.proofs.Questions.{pinned-free, space-free, witness-free}
-use Rattle.users.specs.Users.{ForUser, PinnedSearched, PinnedSearchEffect, PinnedFolded, PinnedFoldEffect, pinnedShown}
+use Rattle.pinning.specs.Operations.{PinnedSearchEffect, PinnedFoldEffect, pinnedShown}
 use Rattle.completions.specs.Either.{Verdict}
 use Rattle.completions.specs.Operations.{EitherReplayed, Widened}
 use Rattle.pinned_runs.proofs.Free.{replayed-free, widened-free}
 use Rattle.load.specs.declared.Judgement.{Judgement}
 use Rattle.load.specs.Preview.{Previewed}
-use Rattle.user_calls.specs.Calls.{Replaced}
-use Rattle.user_preview.specs.Previews.{UserPreviewed}
-use Rattle.user_replay.specs.Replays.{UserReplayed}
-use Rattle.user_widen.specs.Widens.{UserWidened}
+use Rattle.load.specs.Answers.{answered}
+use Rattle.call_forms.specs.Table.{Row, previewRow, searchRow, foldRow, replayRow, widenRow}
+use Rattle.call_forms.specs.Forms.{Replaced, UserSearched, UserFolded, UserReplayed, UserWidened, UserPreviewed}
+use Rattle.call_forms.proofs.Tests.{known-only}
 
--- what is answered to a user who is known: so write and waveform, which pins do not change
-pub known-only : {A S : Type 0} {user : ℕ} {lent : S} {P : Answer A → S → Type 0} → user ≤ 1 → (a : Answer A) (s : S) → ForUser user lent P a s → P a s
-known-only u a s (ForUser.stranger h) = absurd (omega arith)
-known-only u a s (ForUser.known h p) = p
-
-pub known-preview : {room : ℕ} {f : List ℕ} {user : ℕ} → user ≤ 1 → (r : Judgement) → UserPreviewed room f user r → Previewed room f r
-known-preview u r (UserPreviewed.stranger h) = absurd (omega arith)
-known-preview u r (UserPreviewed.known h p) = p
+pub known-preview : {room : ℕ} {f : List ℕ} (user : ℕ) → user ≤ 1 → (r : Judgement) → UserPreviewed room f user (answered (r .answer)) (r .needed)
+    → Previewed room f r
+known-preview user u r x =
+    let p = known-only previewRow user u (answered (r .answer)) (r .needed) x in
+    record { answer = p .0; needed = p .1 }
 
 -- a load and a join of user 0
-pub first-replaces : {user : ℕ} {m pins : List ℕ} {P : Answer (List ℕ) → List ℕ → Type 0} → user ≡ 0 → (a : Answer (List ℕ)) (m′ pins′ : List ℕ)
-    → Replaced user m pins P a m′ pins′ → P a m′
-first-replaces z a m′ pins′ (Replaced.stranger h) = absurd (omega arith)
-first-replaces z a m′ pins′ (Replaced.refuses h p) = p
-first-replaces z a m′ pins′ (Replaced.stores h p) = p
+pub first-replaces : (row : Row) {m pins : List ℕ} (P : Answer (List ℕ) → List ℕ → Type 0) (a : Answer (List ℕ)) (m′ pins′ : List ℕ)
+    → Replaced row 0 m pins P a m′ pins′ → P a m′
+first-replaces row P a m′ pins′ x = known-only row 0 (omega arith) a (m′, pins′) x .0
 
 -- ---- operations under pins
 
@@ -61,8 +56,8 @@ module _ (pins : List ℕ) (user : ℕ) (u : user ≤ 1) (free : (i : ℕ) → i
   same c = pinned-free q c (λ k _ _. free k)
 
   pub searched-free : {chosen : Circuit → ℕ → ℕ → ℕ → Outcome} {m w w′ out out′ : List ℕ} {b k D : ℕ} {a : Answer Outcome}
-      → PinnedSearched chosen m pins user b k D w out a w′ out′ → Searched chosen m b k D w out a w′ out′
-  searched-free {chosen} {m} {w} {w′} {out} {out′} {b} {k} {D} {a} x = go (known-only u a (w′, out′) x)
+      → UserSearched chosen m pins user b k D w out a w′ out′ → Searched chosen m b k D w out a w′ out′
+  searched-free {chosen} {m} {w} {w′} {out} {out′} {b} {k} {D} {a} x = go (known-only searchRow user u a (w′, out′) x)
     where
       go : {a : Answer Outcome} {l : List ℕ × List ℕ} → Operated m (λ c. searchTests c b k D (length w) (length out)) (w, out) (PinnedSearchEffect chosen q b k D out) a l
           → Operated m (λ c. searchTests c b k D (length w) (length out)) (w, out) (SearchEffect chosen b k D out) a l
@@ -77,8 +72,8 @@ module _ (pins : List ℕ) (user : ℕ) (u : user ≤ 1) (free : (i : ℕ) → i
           })
 
   pub folded-free : {chosen : Circuit → ℕ → ℕ → Circuit} {m w w′ out out′ : List ℕ} {b t : ℕ} {a : Answer ℕ}
-      → PinnedFolded chosen m pins user b t w out a w′ out′ → Folded chosen m b t w out a w′ out′
-  folded-free {chosen} {m} {w} {w′} {out} {out′} {b} {t} {a} x = go (known-only u a (w′, out′) x)
+      → UserFolded chosen m pins user b t w out a w′ out′ → Folded chosen m b t w out a w′ out′
+  folded-free {chosen} {m} {w} {w′} {out} {out′} {b} {t} {a} x = go (known-only foldRow user u a (w′, out′) x)
     where
       go : {a : Answer ℕ} {l : List ℕ × List ℕ} → Operated m (λ c. foldTests c b t (length w) (length out)) (w, out) (PinnedFoldEffect chosen q b t out) a l
           → Operated m (λ c. foldTests c b t (length w) (length out)) (w, out) (FoldEffect chosen b t out) a l
@@ -87,7 +82,7 @@ module _ (pins : List ℕ) (user : ℕ) (u : user ≤ 1) (free : (i : ℕ) → i
       go (Operated.acts c {a = n} {s = l} h j e) = Operated.acts c h j (subst (λ (d : Circuit). FoldEffect chosen b t out d n l) (same c) e)
 
   pub user-replayed-free : {m witness : List ℕ} {a : Answer Verdict} → UserReplayed m pins user witness a → EitherReplayed m witness a
-  user-replayed-free {a = a} x = replayed-free q free (known-only {S = Unit {0}} u a tt x)
+  user-replayed-free {a = a} x = replayed-free q free (known-only {S = Unit {0}} replayRow user u a tt x)
 
   pub user-widened-free : {m witness out out′ : List ℕ} {a : Answer ℕ} → UserWidened m pins user witness out a out′ → Widened m witness out a out′
-  user-widened-free {out′ = out′} {a = a} x = widened-free q free (known-only u a out′ x)
+  user-widened-free {out′ = out′} {a = a} x = widened-free q free (known-only widenRow user u a out′ x)

@@ -3,3 +3,4 @@ pub mod Moves
 pub mod Undisturbed
 pub mod Free
 pub mod Obeying
+pub mod Rows

@@ -9,7 +9,8 @@ use native.Mathlib.Omega.{arith}
 use lib.Dec.{T, eqb, eqb→eq}
 use Rattle.aiger.proofs.Tests.{T-true, or-cases}
 use Rattle.meaning.proofs.Lists.{or-left, or-right, eqb-of}
-use Rattle.history.specs.History.{State, Call, Returned, Step, Event, History, Same, userOf, isAccepted, concerns, concerning}
+use Rattle.call_forms.specs.History.{State, Call, Returned, Step, Event, History, Same, userOf, isAccepted}
+use Rattle.history.specs.Concerning.{concerns, concerning}
 use Rattle.history.proofs.Calls.{own-step, load-step, other-step}
 use Rattle.history.proofs.Moves.{Moved, own-moves, accepted-moves}
 

@@ -1,1 +1,1 @@
-// Histories of calls of two users. This crate has no code: definitions stand in specs/, theorems in proofs/.
+// Theorems about histories of calls of two users. This crate has no code: the theorems stand in proofs/.

@@ -23,21 +23,13 @@ use Rattle.load.specs.declared.LoadAnswer.{LoadAnswer}
 use Rattle.load.specs.declared.LoadAnswer.the-variants.{Loaded, Refused}
 use Rattle.pins.specs.Pins.{pinsOf, pinned, pinnedQuestion}
 use Rattle.preview_command.specs.Texts.{answerLine}
-use Rattle.replies.specs.Refusal.{refusalText}
-use Rattle.replies.specs.Reply.{Fronts, Leaves, refusal}
-use Rattle.replies.specs.declared.Report.{Report}
 use Rattle.search.specs.Chosen as Search
 use Rattle.search.specs.declared.SearchAnswer.{SearchAnswer}
 use Rattle.search.specs.declared.SearchAnswer.the-variants as Variants
 use Rattle.fold.specs.Chosen as Fold
-use Rattle.users.specs.Users.{ForUser, PinnedSearched, PinnedFolded}
-use Rattle.user_calls.specs.Calls.{PinSet}
-use Rattle.user_write.specs.Written.{UserWritten, UserWrittenBinary}
+use Rattle.call_forms.specs.Forms.{Tested, UserSearched, UserFolded, UserWritten, UserWrittenBinary}
 use Rattle.renumbered.specs.Renumbered.{writeBinary}
-use Rattle.history.specs.History.{State, Step}
-use Rattle.panel_lines.specs.declared.Query.{Query}
-use Rattle.panel_lines.specs.declared.Query.the-variants.{Pin, Search, Fold, Write, WriteBinary}
-use Rattle.panel.specs.Answers.{loadWords, Reported, Queried}
+use Rattle.panel.specs.Answers.{loadWords}
 
 -- the line of a load
 pub load-words : (x : LoadAnswer) → answerLine x ≡ loadWords (answered x)
@@ -49,15 +41,15 @@ load-words (Refused n) = refl
 front-inside : (text out : List ℕ) {out′ : List ℕ} {n : ℕ} → n ≡ length text → out′ ≡ front text out → n ≤ length out′
 front-inside text out e f = omega (arith, ap length f, length-append text (drop (length text) out))
 
-pub fold-inside : (m pins w out : List ℕ) {w′ out′ : List ℕ} (user b t : ℕ) {n : ℕ} → PinnedFolded Fold.chosen m pins user b t w out (gives n) w′ out′
+pub fold-inside : (m pins w out : List ℕ) {w′ out′ : List ℕ} (user b t : ℕ) {n : ℕ} → UserFolded Fold.chosen m pins user b t w out (gives n) w′ out′
     → n ≤ length out′
-fold-inside m pins w out user b t (ForUser.known k (Operated.acts c h j e)) = front-inside (write (Fold.chosen (pinned c (pinsOf pins user)) b t)) out (e .count) (e .shows)
+fold-inside m pins w out user b t (Tested.passes k (Operated.acts c h j e)) = front-inside (write (Fold.chosen (pinned c (pinsOf pins user)) b t)) out (e .count) (e .shows)
 
-pub write-inside : (m out : List ℕ) {out′ : List ℕ} {user n : ℕ} → UserWritten m user out (gives n) out′ → n ≤ length out′
-write-inside m out (ForUser.known k (Operated.acts c h j e)) = front-inside (write c) out (e .count) (e .shows)
+pub write-inside : (m out : List ℕ) (user : ℕ) {out′ : List ℕ} {n : ℕ} → UserWritten m user out (gives n) out′ → n ≤ length out′
+write-inside m out user (Tested.passes k (Operated.acts c h j e)) = front-inside (write c) out (e .count) (e .shows)
 
-pub binary-inside : (m out : List ℕ) {out′ : List ℕ} {user n : ℕ} → UserWrittenBinary m user out (gives n) out′ → n ≤ length out′
-binary-inside m out (ForUser.known k (Operated.acts c h j e)) = front-inside (writeBinary c) out (e .count) (e .shows)
+pub binary-inside : (m out : List ℕ) (user : ℕ) {out′ : List ℕ} {n : ℕ} → UserWrittenBinary m user out (gives n) out′ → n ≤ length out′
+binary-inside m out user (Tested.passes k (Operated.acts c h j e)) = front-inside (writeBinary c) out (e .count) (e .shows)
 
 -- ---- a search
 
@@ -66,9 +58,9 @@ record Shown (m : List ℕ) (b t len : ℕ) : Type 0 where
   fits : FoundFits m b t
   long : witnessLength (circuitIn m) b t ≤ len
 
-module _ (m pins w out : List ℕ) {w′ out′ : List ℕ} {user b k D : ℕ} where
-  found-shown : {t : ℕ} → PinnedSearched Search.chosen m pins user b k D w out (gives (Outcome.found t)) w′ out′ → Shown m b t (length out)
-  found-shown {t} (ForUser.known u (Operated.acts c h j e)) =
+module _ (m pins w out : List ℕ) (user : ℕ) {w′ out′ : List ℕ} {b k D : ℕ} where
+  found-shown : {t : ℕ} → UserSearched Search.chosen m pins user b k D w out (gives (Outcome.found t)) w′ out′ → Shown m b t (length out)
+  found-shown {t} (Tested.passes u (Operated.acts c h j e)) =
       let p = passed c b k (budgetRight D) (length w) (need 13 (leb (witnessLength c b k) (length out)) ∷ []) j in
       let f = found-out (pinnedQuestion c (pinsOf pins user) b) k D t (e .allowed) in
       let same : c ≡ circuitIn m = sym (held h) in
@@ -79,30 +71,15 @@ module _ (m pins w out : List ℕ) {w′ out′ : List ℕ} {user b k D : ℕ} w
         long = omega (arith, length-within c b t k (f .within), length-enough (witnessLength c b k) (length out) (p .1));
       }
 
-  pub shown-fits : (a : SearchAnswer) → PinnedSearched Search.chosen m pins user b k D w out (Search.said a) w′ out′ → ShownFits m b a
+  pub shown-fits : (a : SearchAnswer) → UserSearched Search.chosen m pins user b k D w out (Search.said a) w′ out′ → ShownFits m b a
   shown-fits (Variants.Found t) s = found-shown s .fits
   shown-fits (Variants.Nothing n) s = tt
   shown-fits (Variants.Spent t) s = tt
   shown-fits (Variants.Refused n) s = tt
 
-  pub shown-inside : (a : SearchAnswer) {n : ℕ} → PinnedSearched Search.chosen m pins user b k D w out (Search.said a) w′ out′
+  pub shown-inside : (a : SearchAnswer) {n : ℕ} → UserSearched Search.chosen m pins user b k D w out (Search.said a) w′ out′
       → length out′ ≡ length out → n ≡ shownLength (circuitIn m) b (Search.said a) → n ≤ length out′
   shown-inside (Variants.Found t) s l e = omega (arith, found-shown s .long)
   shown-inside (Variants.Nothing n) s l e = omega arith
   shown-inside (Variants.Spent t) s l e = omega arith
   shown-inside (Variants.Refused n) s l e = omega arith
-
--- ---- queries
-
--- a user who is not known
-pub strange : (q : Query) {user : ℕ} (s : State) (out : List ℕ) {line line′ : List ℕ} {r : Report} → 1 < user → Fronts (refusalText 18) line (r .line) line′ → r .out ≡ 0
-    → Queried q user s out line r s out line′
-strange (Pin input value) s out h f e =
-    record { answer = refused 18; permitted = (Step.pins (PinSet.stranger h), refl); line-is = f; out-is = e; inside = omega arith }
-strange (Search b k D) s out h f e =
-    record { answer = refused 18; permitted = Step.searches (ForUser.stranger h) refl; line-is = f; out-is = e; inside = omega arith }
-strange (Fold b t) s out h f e =
-    record { answer = refused 18; permitted = Step.folds (ForUser.stranger h) refl; line-is = f; out-is = e; inside = omega arith }
-strange WriteBinary s out h f e =
-    record { answer = refused 18; permitted = Step.writesBinary (ForUser.stranger h); line-is = f; out-is = e; inside = omega arith }
-strange Write s out h f e = record { answer = refused 18; permitted = Step.writes (ForUser.stranger h); line-is = f; out-is = e; inside = omega arith }

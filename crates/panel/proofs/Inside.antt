@@ -4,7 +4,7 @@ use Prim.Native.Nat.{ℕ, _≤_}
 use lib.ListN.{length}
 use Rattle.replies.specs.declared.Report.{Report}
 use Rattle.replies.proofs.Putting.{fronts-inside}
-use Rattle.history.specs.History.{State}
+use Rattle.call_forms.specs.History.{State}
 use Rattle.panel_lines.specs.declared.Query.{Query}
 use Rattle.panel_lines.specs.declared.Query.the-variants.{Pin, Search, Fold, Write, WriteBinary}
 use Rattle.panel.specs.Answers.{Queried}

@@ -16,8 +16,8 @@ use Rattle.replies.specs.Reply.{Reply, refusal, Fronts}
 use Rattle.replies.specs.declared.Report.{Report}
 use Rattle.search_command.specs.Texts.{saidWords}
 use Rattle.preview_command.specs.Texts.{previewReply}
-use Rattle.user_calls.specs.Calls.{UserLoaded}
-use Rattle.history.specs.History as History
+use Rattle.call_forms.specs.Forms.{UserLoaded}
+use Rattle.call_forms.specs.History as History
 use Rattle.panel_lines.specs.declared.Query.{Query}
 use Rattle.panel_lines.specs.declared.Query.the-variants.{Pin, Search, Fold, Write, WriteBinary}
 

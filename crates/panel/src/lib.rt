@@ -1,10 +1,10 @@
 // The work of the resident program's commands: what is to be printed is left at the fronts of line and out.
+use calls::PinAnswer;
 use fold::FoldAnswer;
 use fold::Target;
 use panel_lines::Query;
 use replies::Report;
 use search::Terms;
-use user_calls::PinAnswer;
 use write::WriteAnswer;
 ghost use mathlib.Core.Path.{_≡_};
 ghost use mathlib.Core.List.{[]};
@@ -16,9 +16,7 @@ ghost use Rattle.replies.specs.Reply.{Leaves};
 ghost use Rattle.search_command.specs.Texts.{saidWords};
 ghost use Rattle.search.specs.Chosen as Search;
 ghost use Rattle.fold.specs.Chosen as Fold;
-ghost use Rattle.users.specs.Users.{PinnedSearched, PinnedFolded};
-ghost use Rattle.user_calls.specs.Calls.{PinSet};
-ghost use Rattle.user_write.specs.Written.{UserWritten, UserWrittenBinary};
+ghost use Rattle.call_forms.specs.Forms.{PinSet, UserSearched, UserFolded, UserWritten, UserWrittenBinary};
 ghost use Rattle.panel.specs.Answers.{
   pinWords,
   textWords,
@@ -38,10 +36,7 @@ pub fn load(user: u64, file: &[u8], m: &mut [u32], pins: &mut [u8], line: &mut [
         (now (line .exit))
         ⌝ }
 {
-    if 1 < user {
-        return replies::refuse(line, 18);
-    }
-    let answer = user_calls::load(user as u32, file, m, pins);
+    let answer = calls::load(user, pins, m, file);
     let length = preview_command::write_answer(line, answer);
     Report {
         line: length,
@@ -62,18 +57,15 @@ pub fn preview(user: u64, file: &[u8], m: &[u32], out: &mut [u8], line: &mut [u8
     preview_command::preview(file, m, out, line)
 }
 
-// Sets a pin of a user who is known.
-fn pin(user: u32, input: u64, value: u64, m: &[u32], pins: &mut [u8], line: &mut [u8]) -> Report
+// Sets a pin.
+fn pin(user: u64, input: u64, value: u64, m: &[u32], pins: &mut [u8], line: &mut [u8]) -> Report
     requires { ⌜ 128 ≤ length (now line) ⌝ }
     ensures { λ r. ⌜
         Reported (λ a. PinSet (now (m .entry)) user input value (now (pins .entry)) a (now (pins .exit))) pinWords noText
         (now (line .entry)) r (now (line .exit)) []
         ⌝ }
 {
-    if 2 < value {
-        return replies::refuse(line, 18);
-    }
-    match user_calls::set_pin(user, input, value as u32, m, pins) {
+    match calls::set_pin(user, pins, m, input, value) {
         PinAnswer::Refused(n) => replies::refuse(line, n),
         PinAnswer::Set => {
             let length = output::put(line, 0, b"set\n");
@@ -85,9 +77,9 @@ fn pin(user: u32, input: u64, value: u64, m: &[u32], pins: &mut [u8], line: &mut
     }
 }
 
-// Searches under the pins of a user who is known.
+// Searches under the user's pins.
 fn search(
-    user: u32,
+    user: u64,
     q: Terms,
     m: &[u32],
     pins: &[u8],
@@ -99,12 +91,12 @@ fn search(
     ensures { λ r. ⌜
         Reported
         (λ a.
-        PinnedSearched Search.chosen (now (m .entry)) (now (pins .entry)) user (q .b) (q .k) (q .d) (now (work .entry)) (now (out .entry)) a
+        UserSearched Search.chosen (now (m .entry)) (now (pins .entry)) user (q .b) (q .k) (q .d) (now (work .entry)) (now (out .entry)) a
         (now (work .exit)) (now (out .exit)))
         saidWords (shownLength (circuitIn (now (m .entry))) (q .b)) (now (line .entry)) r (now (line .exit)) (now (out .exit))
         ⌝ }
 {
-    let answer = pinned_search::search(m, pins, user, q, work, out);
+    let answer = calls::search(user, pins, m, q, work, out);
     let witness = job::shown_length(m, q.b, answer);
     let length = search_command::write_answer(line, answer);
     Report {
@@ -113,9 +105,9 @@ fn search(
     }
 }
 
-// Folds under the pins of a user who is known.
+// Folds under the user's pins.
 fn fold(
-    user: u32,
+    user: u64,
     f: Target,
     m: &[u32],
     pins: &[u8],
@@ -127,20 +119,20 @@ fn fold(
     ensures { λ r. ⌜
         Reported
         (λ a.
-        PinnedFolded Fold.chosen (now (m .entry)) (now (pins .entry)) user (f .b) (f .t) (now (work .entry)) (now (out .entry)) a
+        UserFolded Fold.chosen (now (m .entry)) (now (pins .entry)) user (f .b) (f .t) (now (work .entry)) (now (out .entry)) a
         (now (work .exit))
         (now (out .exit)))
         textWords textLength (now (line .entry)) r (now (line .exit)) (now (out .exit))
         ⌝ }
 {
-    match pinned_fold::fold(m, pins, user, f, work, out) {
+    match calls::fold(user, pins, m, f, work, out) {
         FoldAnswer::Length(n) => Report { line: 0, out: n },
         FoldAnswer::Refused(n) => replies::refuse(line, n),
     }
 }
 
-// Writes the circuit for a user who is known.
-fn write(user: u32, m: &[u32], out: &mut [u8], line: &mut [u8]) -> Report
+// Writes the circuit.
+fn write(user: u64, m: &[u32], out: &mut [u8], line: &mut [u8]) -> Report
     requires { ⌜ 128 ≤ length (now line) ⌝ }
     ensures { λ r. ⌜
         Reported (λ a. UserWritten (now (m .entry)) user (now (out .entry)) a (now (out .exit))) textWords textLength (now (line .entry)) r
@@ -148,14 +140,14 @@ fn write(user: u32, m: &[u32], out: &mut [u8], line: &mut [u8]) -> Report
         (now (out .exit))
         ⌝ }
 {
-    match user_write::write(user, m, out) {
+    match calls::write(user, m, out) {
         WriteAnswer::Length(n) => Report { line: 0, out: n },
         WriteAnswer::Refused(n) => replies::refuse(line, n),
     }
 }
 
-// Writes the circuit in binary form for a user who is known.
-fn write_binary(user: u32, m: &[u32], out: &mut [u8], line: &mut [u8]) -> Report
+// Writes the circuit in binary form.
+fn write_binary(user: u64, m: &[u32], out: &mut [u8], line: &mut [u8]) -> Report
     requires { ⌜ 128 ≤ length (now line) ⌝ }
     ensures { λ r. ⌜
         Reported (λ a. UserWrittenBinary (now (m .entry)) user (now (out .entry)) a (now (out .exit))) textWords textLength
@@ -163,7 +155,7 @@ fn write_binary(user: u32, m: &[u32], out: &mut [u8], line: &mut [u8]) -> Report
         (now (line .exit)) (now (out .exit))
         ⌝ }
 {
-    match user_write::write_binary(user, m, out) {
+    match calls::write_binary(user, m, out) {
         WriteAnswer::Length(n) => Report { line: 0, out: n },
         WriteAnswer::Refused(n) => replies::refuse(line, n),
     }
@@ -188,15 +180,11 @@ pub fn query(
         (now (out .exit)) (now (line .exit))
         ⌝ }
 {
-    if 1 < user {
-        return replies::refuse(line, 18);
-    }
-    let known = user as u32;
     match q {
-        Query::Pin(input, value) => pin(known, input, value, m, pins, line),
-        Query::Search(b, k, d) => search(known, Terms { b, k, d }, m, pins, work, out, line),
-        Query::Fold(b, t) => fold(known, Target { b, t }, m, pins, work, out, line),
-        Query::Write => write(known, m, out, line),
-        Query::WriteBinary => write_binary(known, m, out, line),
+        Query::Pin(input, value) => pin(user, input, value, m, pins, line),
+        Query::Search(b, k, d) => search(user, Terms { b, k, d }, m, pins, work, out, line),
+        Query::Fold(b, t) => fold(user, Target { b, t }, m, pins, work, out, line),
+        Query::Write => write(user, m, out, line),
+        Query::WriteBinary => write_binary(user, m, out, line),
     }
 }

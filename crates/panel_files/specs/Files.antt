@@ -7,9 +7,7 @@ use Rattle.aiger.specs.Text.{bytes}
 use Rattle.completions.specs.Either.{Verdict}
 use Rattle.replies.specs.Refusal.{refusalText}
 use Rattle.replies.specs.declared.Report.{Report}
-use Rattle.user_replay.specs.Replays.{UserReplayed}
-use Rattle.user_widen.specs.Widens.{UserWidened}
-use Rattle.user_waveform.specs.Waveforms.{UserWaveformed}
+use Rattle.call_forms.specs.Forms.{UserReplayed, UserWidened, UserWaveformed}
 use Rattle.panel_lines.specs.declared.View.{View}
 use Rattle.panel_lines.specs.declared.View.the-variants.{Replay, Widen, Waveform}
 use Rattle.panel.specs.Answers.{textWords, noText, textLength, Reported}

@@ -9,9 +9,7 @@ ghost use Prim.Native.Nat.{_≤_};
 ghost use lib.ListN.{length};
 ghost use Rattle.replies.specs.Reply.{Fronts};
 ghost use Rattle.replay.specs.Answer.{answered};
-ghost use Rattle.user_replay.specs.Replays.{UserReplayed};
-ghost use Rattle.user_widen.specs.Widens.{UserWidened};
-ghost use Rattle.user_waveform.specs.Waveforms.{UserWaveformed};
+ghost use Rattle.call_forms.specs.Forms.{UserReplayed, UserWidened, UserWaveformed};
 ghost use Rattle.panel.specs.Answers.{textWords, noText, textLength, Reported};
 ghost use Rattle.panel_files.specs.Files.{verdictWords, Viewed};
 
@@ -28,15 +26,15 @@ fn write_verdict(line: &mut [u8], answer: ReplayAnswer) -> usize
     }
 }
 
-// Replays a witness for a user who is known.
-fn replay(user: u32, witness: &[u8], m: &[u32], pins: &[u8], line: &mut [u8]) -> Report
+// Replays a witness.
+fn replay(user: u64, witness: &[u8], m: &[u32], pins: &[u8], line: &mut [u8]) -> Report
     requires { ⌜ 128 ≤ length (now line) ⌝ }
     ensures { λ r. ⌜
         Reported (UserReplayed (now (m .entry)) (now (pins .entry)) user (now (witness .entry))) verdictWords noText (now (line .entry)) r
         (now (line .exit)) []
         ⌝ }
 {
-    let answer = user_replay::replay(m, pins, user, witness);
+    let answer = calls::replay(user, pins, m, witness);
     let length = write_verdict(line, answer);
     Report {
         line: length,
@@ -44,9 +42,9 @@ fn replay(user: u32, witness: &[u8], m: &[u32], pins: &[u8], line: &mut [u8]) ->
     }
 }
 
-// Widens a witness for a user who is known.
+// Widens a witness.
 fn widen(
-    user: u32,
+    user: u64,
     witness: &[u8],
     m: &[u32],
     pins: &[u8],
@@ -59,15 +57,15 @@ fn widen(
         textWords textLength (now (line .entry)) r (now (line .exit)) (now (out .exit))
         ⌝ }
 {
-    match user_widen::widen(m, pins, user, witness, out) {
+    match calls::widen(user, pins, m, witness, out) {
         WidenAnswer::Length(n) => Report { line: 0, out: n },
         WidenAnswer::Refused(n) => replies::refuse(line, n),
     }
 }
 
-// Shows the run of a witness to a user who is known.
+// Shows the run of a witness.
 fn waveform(
-    user: u32,
+    user: u64,
     only: bool,
     witness: &[u8],
     m: &[u32],
@@ -80,7 +78,7 @@ fn waveform(
         textWords textLength (now (line .entry)) r (now (line .exit)) (now (out .exit))
         ⌝ }
 {
-    match user_waveform::waveform(m, user, witness, only, out) {
+    match calls::waveform(user, m, witness, only, out) {
         WaveformAnswer::Length(n) => Report { line: 0, out: n },
         WaveformAnswer::Refused(n) => replies::refuse(line, n),
     }
@@ -102,13 +100,9 @@ pub fn view(
         (now (line .exit))
         ⌝ }
 {
-    if 1 < user {
-        return replies::refuse(line, 18);
-    }
-    let known = user as u32;
     match v {
-        View::Replay => replay(known, witness, m, pins, line),
-        View::Widen => widen(known, witness, m, pins, out, line),
-        View::Waveform(only) => waveform(known, only, witness, m, out, line),
+        View::Replay => replay(user, witness, m, pins, line),
+        View::Widen => widen(user, witness, m, pins, out, line),
+        View::Waveform(only) => waveform(user, only, witness, m, out, line),
     }
 }

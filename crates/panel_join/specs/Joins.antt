@@ -7,7 +7,7 @@ use Rattle.aiger.specs.Circuit.{Circuit}
 use Rattle.aiger.specs.Load.{Answer, refused, gives, load}
 use Rattle.aiger.specs.Memory.{Holds}
 use Rattle.replies.specs.declared.Report.{Report}
-use Rattle.user_join.specs.Joins.{UserJoined}
+use Rattle.call_forms.specs.Forms.{UserJoined}
 use Rattle.panel.specs.Answers.{loadWords, noText, Reported}
 
 -- for user 0, where the old circuit is in `first`: what refuses the new file, else the join of the two circuits

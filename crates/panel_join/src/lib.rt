@@ -3,7 +3,7 @@ use load::LoadAnswer;
 use replies::Report;
 ghost use Prim.Native.Nat.{_≤_};
 ghost use lib.ListN.{length};
-ghost use Rattle.user_join.specs.Joins.{UserJoined};
+ghost use Rattle.call_forms.specs.Forms.{UserJoined};
 ghost use Rattle.panel_join.specs.Joins.{NewJoined, FilesJoined, JoinReported};
 
 // Joins the circuits in first and second for user 0.
@@ -22,7 +22,7 @@ fn join_loaded(
         (now (line .entry)) r (now (line .exit))
         ⌝ }
 {
-    let answer = user_join::join(0, first, second, m, pins);
+    let answer = calls::join(0, pins, m, first, second);
     let length = preview_command::write_answer(line, answer);
     Report {
         line: length,

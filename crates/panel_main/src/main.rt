@@ -4,7 +4,7 @@ use panel_serving::Turned;
 ghost use mathlib.Core.Path.{_≡_};
 ghost use Prim.Native.Nat.{ℕ};
 ghost use lib.ListN.{length};
-ghost use Rattle.history.specs.History.{State};
+ghost use Rattle.call_forms.specs.History.{State};
 ghost use Rattle.panel_session.specs.Session.{Ran, start};
 ghost use Rattle.panel_serving.specs.Serving.{Over};
 

@@ -9,7 +9,7 @@ use lib.ListN.{length, take}
 use Rattle.io.specs.Counts.{Counts}
 use Rattle.input.specs.Reading.{Ended}
 use Rattle.input.specs.declared.Got.{Got}
-use Rattle.history.specs.History.{State}
+use Rattle.call_forms.specs.History.{State}
 use Rattle.panel_session.specs.Session.{Files, Exchange, Ran}
 use Rattle.panel_session.specs.Answered.{Answered}
 use Rattle.panel_session.specs.Naming.{namedBy, namesOf}

@@ -5,7 +5,7 @@ use mathlib.Core.List.{List}
 use mathlib.Core.Logic.{_⊎_}
 use Prim.Native.Nat.{ℕ, _<_}
 use lib.ListN.{length, take}
-use Rattle.history.specs.History.{State}
+use Rattle.call_forms.specs.History.{State}
 use Rattle.panel_input.specs.declared.RequestLine.{RequestLine}
 use Rattle.panel_session.specs.Session.{Files}
 use Rattle.panel_session.specs.Answered.{Answered}

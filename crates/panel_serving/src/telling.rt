@@ -5,7 +5,7 @@ ghost use mathlib.Core.Path.{_≡_};
 ghost use mathlib.Core.List.{List};
 ghost use Prim.Native.Nat.{ℕ, _≤_};
 ghost use lib.ListN.{length};
-ghost use Rattle.history.specs.History.{State};
+ghost use Rattle.call_forms.specs.History.{State};
 ghost use Rattle.panel_lines.specs.Grammar.{parse};
 ghost use Rattle.panel_session.specs.Session.{Files};
 ghost use Rattle.panel_session.specs.Naming.{namedBy};

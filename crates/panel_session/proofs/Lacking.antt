@@ -9,7 +9,7 @@ use lib.Dec.{eqb}
 use lib.ListN.{length}
 use Rattle.aiger.specs.Text.{bytes}
 use Rattle.replies.specs.Refusal.{refusalText}
-use Rattle.history.specs.History.{State}
+use Rattle.call_forms.specs.History.{State}
 use Rattle.panel_lines.specs.Grammar.{Command, parse}
 use Rattle.panel_lines.specs.Reading.{RequestIs, taskOf}
 use Rattle.panel_lines.specs.declared.Query.{Query}

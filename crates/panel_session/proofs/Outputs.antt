@@ -31,10 +31,8 @@ use Rattle.pins.proofs.Inputs.{length-fill}
 use Rattle.pins.proofs.Questions.{run-fills}
 use Rattle.pins.proofs.Valid.{pinned-counts}
 use Rattle.pinned_runs.specs.Obeys.{pinnedShows, pinnedWidenedText}
-use Rattle.users.specs.Users.{ForUser, PinnedSearched, PinnedSearchEffect, PinnedFolded}
-use Rattle.user_write.specs.Written.{UserWritten, UserWrittenBinary}
-use Rattle.user_widen.specs.Widens.{UserWidened}
-use Rattle.user_waveform.specs.Waveforms.{UserWaveformed}
+use Rattle.pinning.specs.Operations.{PinnedSearchEffect}
+use Rattle.call_forms.specs.Forms.{Tested, UserSearched, UserFolded, UserWritten, UserWrittenBinary, UserWidened, UserWaveformed}
 use Rattle.renumbered.specs.Renumbered.{writeBinary}
 use Rattle.waveform.specs.Waveform.{waveformOf, waveformTests}
 use Rattle.completions.specs.Operations.{widenTests}
@@ -80,46 +78,46 @@ module _ {A : Type 0} {m out out₀ : List ℕ} {tests tests₀ : Circuit → Li
       let t = f c h j a (s .0) (s .1) e in
       record { text = t .text; long = t .long; left = t .left; again = Operated.acts c h (ap judge (sym (same c)) ∙ j) (t .again) }
 
-module _ {A : Type 0} {user : ℕ} {out out₀ : List ℕ} (long : Answer A → ℕ) (zero-long : (n : ℕ) → long (refused n) ≡ 0) where
+module _ {A : Type 0} {first : List Test} {out out₀ : List ℕ} (long : Answer A → ℕ) (zero-long : (n : ℕ) → long (refused n) ≡ 0) where
   pub for-told : {P P₀ : Answer A → List ℕ → Type 0} → ((a : Answer A) (s : List ℕ) → P a s → Told out out₀ s (long a) (P₀ a))
-      → {a : Answer A} {s : List ℕ} → ForUser user out P a s → Told out out₀ s (long a) (ForUser user out₀ P₀ a)
-  for-told f (ForUser.stranger h) = none-told (zero-long 18) (ForUser.stranger h)
-  for-told f (ForUser.known {a = a} {s = s} h p) =
+      → {a : Answer A} {s : List ℕ} → Tested first out P a s → Told out out₀ s (long a) (Tested first out₀ P₀ a)
+  for-told f (Tested.refuses {n = n} h) = none-told (zero-long n) (Tested.refuses h)
+  for-told f (Tested.passes {a = a} {s = s} h p) =
       let t = f a s p in
-      record { text = t .text; long = t .long; left = t .left; again = ForUser.known h (t .again) }
+      record { text = t .text; long = t .long; left = t .left; again = Tested.passes h (t .again) }
 
   pub for-told-beside : {w : List ℕ} {P P₀ : Answer A → List ℕ × List ℕ → Type 0}
       → ((a : Answer A) (w′ s : List ℕ) → P a (w′, s) → Told out out₀ s (long a) (λ (o : List ℕ). P₀ a (w′, o)))
-      → {a : Answer A} {w′ s : List ℕ} → ForUser user (w, out) P a (w′, s)
-      → Told out out₀ s (long a) (λ (o : List ℕ). ForUser user (w, out₀) P₀ a (w′, o))
-  for-told-beside f (ForUser.stranger h) = none-told (zero-long 18) (ForUser.stranger h)
-  for-told-beside f (ForUser.known {a = a} {s = s} h p) =
+      → {a : Answer A} {w′ s : List ℕ} → Tested first (w, out) P a (w′, s)
+      → Told out out₀ s (long a) (λ (o : List ℕ). Tested first (w, out₀) P₀ a (w′, o))
+  for-told-beside f (Tested.refuses {n = n} h) = none-told (zero-long n) (Tested.refuses h)
+  for-told-beside f (Tested.passes {a = a} {s = s} h p) =
       let t = f a (s .0) (s .1) p in
-      record { text = t .text; long = t .long; left = t .left; again = ForUser.known h (t .again) }
+      record { text = t .text; long = t .long; left = t .left; again = Tested.passes h (t .again) }
 
 -- ---- operations that write a text and answer its length
 
-pub write-told : {m out out₀ out′ : List ℕ} {user : ℕ} {a : Answer ℕ} → length out ≡ length out₀ → UserWritten m user out a out′
+pub write-told : (user : ℕ) {m out out₀ out′ : List ℕ} {a : Answer ℕ} → length out ≡ length out₀ → UserWritten m user out a out′
     → Told out out₀ out′ (textLength a) (UserWritten m user out₀ a)
-write-told {out = out} {out₀ = out₀} e x =
+write-told user {out = out} {out₀ = out₀} e x =
     for-told textLength (λ n. refl)
     (λ a s p.
     operated-told textLength (λ n. refl) (λ c. ap (λ (n : ℕ). need 13 (leb (length (write c)) n) ∷ []) e)
     (λ c h j n s f. record { text = write c; long = f .count; left = f .shows; again = record { count = f .count; shows = refl } }) p)
     x
 
-pub binary-told : {m out out₀ out′ : List ℕ} {user : ℕ} {a : Answer ℕ} → length out ≡ length out₀ → UserWrittenBinary m user out a out′
+pub binary-told : (user : ℕ) {m out out₀ out′ : List ℕ} {a : Answer ℕ} → length out ≡ length out₀ → UserWrittenBinary m user out a out′
     → Told out out₀ out′ (textLength a) (UserWrittenBinary m user out₀ a)
-binary-told {out = out} {out₀ = out₀} e x =
+binary-told user {out = out} {out₀ = out₀} e x =
     for-told textLength (λ n. refl)
     (λ a s p.
     operated-told textLength (λ n. refl) (λ c. ap (λ (n : ℕ). need 13 (leb (length (writeBinary c)) n) ∷ []) e)
     (λ c h j n s f. record { text = writeBinary c; long = f .count; left = f .shows; again = record { count = f .count; shows = refl } }) p)
     x
 
-pub waveform-told : {m witness out out₀ out′ : List ℕ} {user : ℕ} {only : Bool} {a : Answer ℕ} → length out ≡ length out₀
+pub waveform-told : (user : ℕ) {m witness out out₀ out′ : List ℕ} {only : Bool} {a : Answer ℕ} → length out ≡ length out₀
     → UserWaveformed m user only witness out a out′ → Told out out₀ out′ (textLength a) (UserWaveformed m user only witness out₀ a)
-waveform-told {witness = witness} {out = out} {out₀ = out₀} {only = only} e x =
+waveform-told user {witness = witness} {out = out} {out₀ = out₀} {only = only} e x =
     for-told textLength (λ n. refl)
     (λ a s p.
     operated-told textLength (λ n. refl) (λ c. ap (λ (n : ℕ). waveformTests c only witness n) e)
@@ -137,9 +135,9 @@ widened-long c q witness b body r =
     sym (length-append (take (length witness - length body) witness) (widened (pinnedShows c q b) body)
     ∙ omega (arith, length-take (length witness - length body) witness, z, widened-wider (pinnedShows c q b) body .size))
 
-pub widen-told : (pins : List ℕ) {m witness out out₀ out′ : List ℕ} {user : ℕ} {a : Answer ℕ} → length out ≡ length out₀
+pub widen-told : (pins : List ℕ) (user : ℕ) {m witness out out₀ out′ : List ℕ} {a : Answer ℕ} → length out ≡ length out₀
     → UserWidened m pins user witness out a out′ → Told out out₀ out′ (textLength a) (UserWidened m pins user witness out₀ a)
-widen-told pins {witness = witness} {out = out} {out₀ = out₀} {user = user} e x =
+widen-told pins user {witness = witness} {out = out} {out₀ = out₀} e x =
     for-told textLength (λ n. refl)
     (λ a s p.
     operated-told textLength (λ n. refl) (λ c. ap (λ (n : ℕ). widenTests c witness n) e)
@@ -152,10 +150,10 @@ widen-told pins {witness = witness} {out = out} {out₀ = out₀} {user = user} 
     }) p)
     x
 
-pub fold-told : (pins : List ℕ) {m w w′ out out₀ out′ : List ℕ} {user b t : ℕ} {a : Answer ℕ} → length out ≡ length out₀
-    → PinnedFolded Fold.chosen m pins user b t w out a w′ out′
-    → Told out out₀ out′ (textLength a) (λ (o : List ℕ). PinnedFolded Fold.chosen m pins user b t w out₀ a w′ o)
-fold-told pins {w = w} {out = out} {out₀ = out₀} {user = user} {b = b} {t = t} e x =
+pub fold-told : (pins : List ℕ) (user : ℕ) {m w w′ out out₀ out′ : List ℕ} {b t : ℕ} {a : Answer ℕ} → length out ≡ length out₀
+    → UserFolded Fold.chosen m pins user b t w out a w′ out′
+    → Told out out₀ out′ (textLength a) (λ (o : List ℕ). UserFolded Fold.chosen m pins user b t w out₀ a w′ o)
+fold-told pins user {w = w} {out = out} {out₀ = out₀} {b = b} {t = t} e x =
     for-told-beside textLength (λ n. refl)
     (λ a w′ s p.
     operated-told-beside textLength (λ n. refl) (λ c. ap (λ (n : ℕ). foldTests c b t (length w) n) e)
@@ -205,10 +203,10 @@ module _ (c : Circuit) (q : ℕ → ℕ) where
   outcome-told w m b k D e (Outcome.spent t) f =
       record { text = []; long = refl; left = f .shows; again = record { chose = f .chose; allowed = f .allowed; shows = refl } }
 
-pub search-told : (pins : List ℕ) {m w w′ out out₀ out′ : List ℕ} {user b k D : ℕ} {a : Answer Outcome} → length out ≡ length out₀
-    → PinnedSearched Search.chosen m pins user b k D w out a w′ out′
-    → Told out out₀ out′ (shownLength (circuitIn m) b a) (λ (o : List ℕ). PinnedSearched Search.chosen m pins user b k D w out₀ a w′ o)
-search-told pins {m = m} {w = w} {out = out} {out₀ = out₀} {user = user} {b = b} {k = k} {D = D} e x =
+pub search-told : (pins : List ℕ) (user : ℕ) {m w w′ out out₀ out′ : List ℕ} {b k D : ℕ} {a : Answer Outcome} → length out ≡ length out₀
+    → UserSearched Search.chosen m pins user b k D w out a w′ out′
+    → Told out out₀ out′ (shownLength (circuitIn m) b a) (λ (o : List ℕ). UserSearched Search.chosen m pins user b k D w out₀ a w′ o)
+search-told pins user {m = m} {w = w} {out = out} {out₀ = out₀} {b = b} {k = k} {D = D} e x =
     for-told-beside (shownLength (circuitIn m) b) (λ n. refl)
     (λ a w′ s p.
     operated-told-beside (shownLength (circuitIn m) b) (λ n. refl) (λ c. ap (λ (n : ℕ). searchTests c b k D (length w) n) e)

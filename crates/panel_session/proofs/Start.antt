@@ -14,7 +14,7 @@ use Rattle.meaning.proofs.Lists.{getD-same}
 use Rattle.layout.specs.Words.{word, circuitIn}
 use Rattle.roundtrip.proofs.Holding.{held, held-valid}
 use Rattle.pins.specs.Pins.{pinsOf}
-use Rattle.history.specs.History.{State, Same}
+use Rattle.call_forms.specs.History.{State, Same}
 use Rattle.panel_session.specs.Session.{Files, Turn, Exchange, Session, Ran, concerning, start}
 use Rattle.panel_session.proofs.Undisturbed.{Apart, apart, undisturbed}
 

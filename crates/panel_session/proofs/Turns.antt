@@ -17,18 +17,15 @@ use lib.Seq.{take-at}
 use Rattle.roundtrip.proofs.Holding.{loaded-holds, one-circuit}
 use Rattle.layout.specs.Words.{circuitIn}
 use Rattle.joined.specs.Joined.{JoinedInto}
-use Rattle.load.specs.Answers.{answered}
 use Rattle.load.specs.Preview.{countsOf, wordsNeeded}
-use Rattle.load.specs.declared.Judgement.{Judgement}
-use Rattle.load.specs.declared.LoadAnswer.the-variants.{Loaded, Refused}
-use Rattle.user_preview.specs.Previews.{UserPreviewed}
-use Rattle.user_calls.specs.Calls.{Replaced}
-use Rattle.user_join.specs.Joins.{UserJoined}
+use Rattle.call_forms.specs.Table.{previewRow}
+use Rattle.call_forms.specs.Forms.{Tested, UserJoined, UserPreviewed}
+use Rattle.call_forms.proofs.Tests.{known-by, stranger-by}
 use Rattle.replies.specs.Refusal.{refusalText}
 use Rattle.replies.specs.Reply.{Reply, Fronts, Leaves, refusal}
 use Rattle.replies.specs.declared.Report.{Report}
 use Rattle.replies.proofs.Putting.{fronts-taken, fronts-inside}
-use Rattle.history.specs.History as History
+use Rattle.call_forms.specs.History as History
 use Rattle.preview_command.specs.Texts.{previewLine, previewReply, wordsLine}
 use Rattle.panel_lines.specs.Grammar.{Command, parse}
 use Rattle.panel_lines.specs.declared.Query.{Query}
@@ -68,43 +65,13 @@ as-long out = sym (length-replicate {A = ℕ} (length out) 0)
 
 -- ---- a file that is previewed
 
--- the judgement that load's answer and the words needed make
-abbrev judged : Answer Circuit → ℕ → Judgement
-judged (refused k) n = record { answer = Refused k; needed = n }
-judged (gives c) n =
-    record {
-      answer = Loaded (record {
-        m = c .maxVar;
-        i = length (c .inputs);
-        l = length (c .latches);
-        o = length (c .outputs);
-        a = length (c .gates);
-        b = length (c .bads);
-        c = length (c .constraints);
-      });
-      needed = n;
-    }
-
-judged-answer : (a : Answer Circuit) (n : ℕ) → answered (judged a n .answer) ≡ (a >>= λ c. gives (countsOf c))
-judged-answer (refused k) n = refl
-judged-answer (gives c) n = refl
-
-judged-line : (a : Answer Circuit) (n : ℕ) → previewLine a ≡ loadWords (answered (judged a n .answer))
-judged-line (refused k) n = refl
-judged-line (gives c) n = refl
-
-judged-needed : (a : Answer Circuit) (n : ℕ) → judged a n .needed ≡ n
-judged-needed (refused k) n = refl
-judged-needed (gives c) n = refl
+preview-line : (a : Answer Circuit) → previewLine a ≡ loadWords (a >>= λ c. gives (countsOf c))
+preview-line (refused k) = refl
+preview-line (gives c) = refl
 
 known-preview : (user : ℕ) (file m : List ℕ) → length m ≡ 33032 → user ≤ 1
-    → UserPreviewed (length m) file user (judged (load 33032 file) (wordsNeeded file))
-known-preview user file m e h =
-    UserPreviewed.known h
-    (record {
-      answer = judged-answer (load 33032 file) (wordsNeeded file) ∙ ap (λ (n : ℕ). load n file >>= λ c. gives (countsOf c)) (sym e);
-      needed = judged-needed (load 33032 file) (wordsNeeded file);
-    })
+    → UserPreviewed (length m) file user (load 33032 file >>= λ c. gives (countsOf c)) (wordsNeeded file)
+known-preview user file m e h = known-by previewRow user h (ap (λ (n : ℕ). load n file >>= λ c. gives (countsOf c)) (sym e), refl)
 
 -- ---- files that are joined
 
@@ -121,9 +88,8 @@ module _ {first second first₀ second₀ : List ℕ} {c d : Circuit} (h : Holds
       JoinedInto.stores c′ d′ (subst (Holds first₀) (sym (one-circuit h′ h)) h₀) (subst (Holds second₀) (sym (one-circuit k′ k)) k₀) j
 
   rejoined : {m m′ pins pins′ : List ℕ} {a : Answer (List ℕ)} → UserJoined first second m pins 0 a m′ pins′ → UserJoined first₀ second₀ m pins 0 a m′ pins′
-  rejoined (Replaced.stranger l) = Replaced.stranger l
-  rejoined (Replaced.refuses e j) = Replaced.refuses e (joined-moves j)
-  rejoined (Replaced.stores e j) = Replaced.stores e (joined-moves j)
+  rejoined (Tested.refuses e) = Tested.refuses e
+  rejoined (Tested.passes e j) = Tested.passes e (joined-moves (j .0), j .1)
 
 module _ {m w p line out : List ℕ} {r : Report} {line′ out′ : List ℕ} where
   -- a call, by its step and by what is printed of its reply
@@ -145,28 +111,28 @@ module _ {m w p line out : List ℕ} {r : Report} {line′ out′ : List ℕ} wh
       go : {s′ : History.State} → History.Step (record { memory = m; work = w; pins = p }) (History.Call.search user b k D out) (History.Returned.searched (x .answer) out′) s′
           → Taken (length out) (Action.calls (queryCall (length out) user (Search b k D))) (record { memory = m; work = w; pins = p }) line out r s′ line′ out′
       go (History.Step.searches y l) =
-          let t = search-told p (as-long out) y in
+          let t = search-told p user (as-long out) y in
           called (History.Step.searches (t .again) l) (x .line-is) (printed t (x .out-is))
   query-taken user (Fold b t) x = go (x .permitted)
     where
       go : {s′ : History.State} → History.Step (record { memory = m; work = w; pins = p }) (History.Call.fold user b t out) (History.Returned.folded (x .answer) out′) s′
           → Taken (length out) (Action.calls (queryCall (length out) user (Fold b t))) (record { memory = m; work = w; pins = p }) line out r s′ line′ out′
       go (History.Step.folds y l) =
-          let t = fold-told p (as-long out) y in
+          let t = fold-told p user (as-long out) y in
           called (History.Step.folds (t .again) l) (x .line-is) (printed t (x .out-is))
   query-taken user Write x = go (x .permitted)
     where
       go : {s′ : History.State} → History.Step (record { memory = m; work = w; pins = p }) (History.Call.write user out) (History.Returned.written (x .answer) out′) s′
           → Taken (length out) (Action.calls (queryCall (length out) user Write)) (record { memory = m; work = w; pins = p }) line out r s′ line′ out′
       go (History.Step.writes y) =
-          let t = write-told (as-long out) y in
+          let t = write-told user (as-long out) y in
           called (History.Step.writes (t .again)) (x .line-is) (printed t (x .out-is))
   query-taken user WriteBinary x = go (x .permitted)
     where
       go : {s′ : History.State} → History.Step (record { memory = m; work = w; pins = p }) (History.Call.writeBinary user out) (History.Returned.written (x .answer) out′) s′
           → Taken (length out) (Action.calls (queryCall (length out) user WriteBinary)) (record { memory = m; work = w; pins = p }) line out r s′ line′ out′
       go (History.Step.writesBinary y) =
-          let t = binary-told (as-long out) y in
+          let t = binary-told user (as-long out) y in
           called (History.Step.writesBinary (t .again)) (x .line-is) (printed t (x .out-is))
 
   -- ---- views
@@ -176,10 +142,10 @@ module _ {m w p line out : List ℕ} {r : Report} {line′ out′ : List ℕ} wh
   view-taken user Replay witness x =
       called (History.Step.replays (x .permitted .0)) (x .line-is) (untouched (x .out-is) (x .permitted .1))
   view-taken user Widen witness x =
-      let t = widen-told p (as-long out) (x .permitted) in
+      let t = widen-told p user (as-long out) (x .permitted) in
       called (History.Step.widens (t .again)) (x .line-is) (printed t (x .out-is))
   view-taken user (Waveform only) witness x =
-      let t = waveform-told (as-long out) (x .permitted) in
+      let t = waveform-told user (as-long out) (x .permitted) in
       called (History.Step.waveforms (t .again)) (x .line-is) (printed t (x .out-is))
 
   -- ---- commands that name files of circuits
@@ -197,15 +163,12 @@ module _ {m w p line out : List ℕ} {r : Report} {line′ out′ : List ℕ} wh
         | yes h ↦
             let y : Leaves (refusal 18) line out r line′ out′ =
             subst (λ (b : Bool). Leaves (cond b (refusal 18) (previewReply file)) line out r line′ out′) (lt-ltb 1 user h) x in
-            called (History.Step.previews {r = record { answer = Refused 18; needed = 0 }} (UserPreviewed.stranger h)) (y .line-is) (y .out-is)
+            called (History.Step.previews (stranger-by previewRow user h)) (y .line-is) (y .out-is)
         | no h ↦
             let y : Leaves (previewReply file) line out r line′ out′ =
             subst (λ (b : Bool). Leaves (cond b (refusal 18) (previewReply file)) line out r line′ out′) (le-ltb 1 user (omega arith)) x in
-            let a = load 33032 file in
-            let n = wordsNeeded file in
-            called (History.Step.previews {r = judged a n} (known-preview user file m l (omega arith)))
-            (subst (λ (t : List ℕ). Fronts t line (r .line) line′) (judged-line a n) (y .line-is))
-            (subst (λ (i : ℕ). Fronts (wordsLine i) out (r .out) out′) (sym (judged-needed a n)) (y .out-is))
+            called (History.Step.previews (known-preview user file m l (omega arith)))
+            (subst (λ (t : List ℕ). Fronts t line (r .line) line′) (preview-line (load 33032 file)) (y .line-is)) (y .out-is)
       ]
 
   pub join-taken : (user : ℕ) (old new first second : List ℕ) {m′ p′ : List ℕ} → JoinReported (λ a. FilesJoined first second m p user a m′ p′) line r line′

@@ -17,8 +17,8 @@ use Rattle.meaning.proofs.Lists.{or-left, or-right, eqb-of}
 use Rattle.layout.specs.Words.{circuitIn}
 use Rattle.replies.specs.Refusal.{refusalText}
 use Rattle.replies.specs.Reply.{Reply}
-use Rattle.history.specs.History as History
-use Rattle.history.specs.History.{Same}
+use Rattle.call_forms.specs.History as History
+use Rattle.call_forms.specs.History.{Same}
 use Rattle.history.proofs.Calls.{own-step, load-step, other-step}
 use Rattle.history.proofs.Moves.{Moved, own-moves, accepted-moves}
 use Rattle.panel_lines.specs.Grammar.{Command, parse}

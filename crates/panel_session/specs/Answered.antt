@@ -6,7 +6,7 @@ use Prim.Native.Nat.{ℕ}
 use lib.ListN.{length}
 use Rattle.job.specs.Replies.{Shows}
 use Rattle.replies.specs.Reply.{Reply, Fronts}
-use Rattle.history.specs.History.{State}
+use Rattle.call_forms.specs.History.{State}
 use Rattle.panel_session.specs.Session.{Files, Turn}
 use Rattle.panel_session.specs.declared.Response.{Response}
 

@@ -19,7 +19,7 @@ use Rattle.replies.specs.Refusal.{refusalText}
 use Rattle.replies.specs.Reply.{Reply, refusal}
 use Rattle.search_command.specs.Texts.{saidWords}
 use Rattle.preview_command.specs.Texts.{wordsLine}
-use Rattle.history.specs.History as History
+use Rattle.call_forms.specs.History as History
 use Rattle.panel_lines.specs.Grammar.{Command, parse}
 use Rattle.panel_lines.specs.declared.Query.{Query}
 use Rattle.panel_lines.specs.declared.Query.the-variants.{Pin, Search, Fold, Write, WriteBinary}

@@ -9,7 +9,7 @@ ghost use Prim.Native.Nat.{ℕ, _≤_};
 ghost use lib.ListN.{length};
 ghost use Rattle.aiger.specs.Text.{bytes};
 ghost use Rattle.replies.specs.Refusal.{refusalText};
-ghost use Rattle.history.specs.History.{State};
+ghost use Rattle.call_forms.specs.History.{State};
 ghost use Rattle.panel_lines.specs.Grammar.{parse};
 ghost use Rattle.panel_session.specs.Session.{Files};
 ghost use Rattle.panel_session.specs.Naming.{namedBy, namesOf, NamesInside};

@@ -9,9 +9,9 @@ use Rattle.aiger.specs.Memory.{Holds}
 use Rattle.aiger.specs.Operations.{judge, Operated, foldTests, Folded}
 use Rattle.layout.specs.Words.{circuitIn}
 use Rattle.layout.specs.declared.Layout.{Layout}
-use Rattle.pins.specs.Pins.{pinsOf, pinned}
-use Rattle.users.specs.Users.{ForUser, PinnedFolded, PinnedFoldEffect}
-use Rattle.users.proofs.Tests.{acts-only, fold-pinned}
+use Rattle.pins.specs.Pins.{pinned}
+use Rattle.pinning.specs.Operations.{PinnedFolded, PinnedFoldEffect}
+use Rattle.pinning.proofs.Tests.{acts-only, fold-pinned}
 use Rattle.fold.specs.Chosen.{chosen}
 use Rattle.pinned_fold.specs.Steps.{FoldFits, FoldIs}
 
@@ -25,23 +25,22 @@ module _ {m : List ℕ} {p : Layout} {user b t room len : ℕ} (f : FoldFits m p
       let r = acts-only {tests = λ d. foldTests d b t (length w) (length out)} h k s in
       record { length-of = r .0; says = r .1; work = w′; effect = r .2 }
 
-module _ {m : List ℕ} (pins : List ℕ) {user : ℕ} (h : Holds m (circuitIn m)) (u : user ≤ 1) {b t : ℕ} {w out : List ℕ} where
+module _ {m : List ℕ} (q : ℕ → ℕ) (h : Holds m (circuitIn m)) {b t : ℕ} {w out : List ℕ} where
   pub answered-with : judge (foldTests (circuitIn m) b t (length w) (length out)) ≡ gives tt → {a : Answer ℕ} {w′ out′ : List ℕ}
-      → FoldIs (circuitIn m) (pinsOf pins user) b t out a out′ → PinnedFolded chosen m pins user b t w out a w′ out′
+      → FoldIs (circuitIn m) q b t out a out′ → PinnedFolded chosen m q b t w out a (w′, out′)
   answered-with j {a} {w′} {out′} x =
       let e = x .effect in
-      ForUser.known u
-      (acted (x .says)
-      (Operated.acts (circuitIn m) h j (record { permitted = e .permitted; short = e .short; count = e .count; shows = e .shows })))
+      acted (x .says)
+      (Operated.acts (circuitIn m) h j (record { permitted = e .permitted; short = e .short; count = e .count; shows = e .shows }))
     where
       acted : {n : ℕ} {y : Answer ℕ} → y ≡ gives n
-          → Operated m (λ d. foldTests d b t (length w) (length out)) (w, out) (PinnedFoldEffect chosen (pinsOf pins user) b t out) (gives n) (w′, out′)
-          → Operated m (λ d. foldTests d b t (length w) (length out)) (w, out) (PinnedFoldEffect chosen (pinsOf pins user) b t out) y (w′, out′)
+          → Operated m (λ d. foldTests d b t (length w) (length out)) (w, out) (PinnedFoldEffect chosen q b t out) (gives n) (w′, out′)
+          → Operated m (λ d. foldTests d b t (length w) (length out)) (w, out) (PinnedFoldEffect chosen q b t out) y (w′, out′)
       acted e g =
           subst (λ (y : Answer ℕ).
-          Operated m (λ d. foldTests d b t (length w) (length out)) (w, out) (PinnedFoldEffect chosen (pinsOf pins user) b t out) y (w′, out′))
+          Operated m (λ d. foldTests d b t (length w) (length out)) (w, out) (PinnedFoldEffect chosen q b t out) y (w′, out′))
           (sym e) g
 
   pub refused-with : {n : ℕ} → judge (foldTests (circuitIn m) b t (length w) (length out)) ≡ refused n
-      → PinnedFolded chosen m pins user b t w out (refused n) w out
-  refused-with e = ForUser.known u (Operated.refuses (circuitIn m) h e)
+      → PinnedFolded chosen m q b t w out (refused n) (w, out)
+  refused-with e = Operated.refuses (circuitIn m) h e

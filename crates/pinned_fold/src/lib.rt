@@ -5,10 +5,11 @@ use fold::Target;
 use layout::Layout;
 use limits::Ruling;
 ghost use mathlib.Core.Path.{_≡_};
+ghost use Prim.Native.Nat.{_≤_};
 ghost use lib.ListN.{length};
 ghost use Rattle.layout.specs.Words.{circuitIn};
 ghost use Rattle.pins.specs.Pins.{pinsOf};
-ghost use Rattle.users.specs.Users.{PinnedFolded};
+ghost use Rattle.pinning.specs.Operations.{PinnedFolded};
 ghost use Rattle.fold.specs.Chosen.{chosen};
 ghost use Rattle.fold.specs.Answer.{answered};
 ghost use Rattle.pinned_fold.specs.Steps.{FoldFits, FoldIs};
@@ -35,29 +36,27 @@ fn fold_known(
     fold::fold(&words, q.b, q.t, work, out)
 }
 
-// Writes the hit of a bad line at a frame, under the user's pins, as a circuit without latches.
+// Writes the hit of a bad line at a frame, under the pins of a user who is known, as a circuit without latches.
 pub fn fold(
     m: &[u32],
     pins: &[u8],
-    user: u32,
+    user: usize,
     q: Target,
     work: &mut [u32],
     out: &mut [u8],
 ) -> FoldAnswer
+    requires { ⌜ user ≤ 1 ⌝ }
     ensures { λ r. ⌜
-        PinnedFolded chosen (now (m .entry)) (now (pins .entry)) user (q .b) (q .t) (now (work .entry)) (now (out .entry)) (answered r)
-        (now (work .exit))
-        (now (out .exit))
+        PinnedFolded chosen (now (m .entry)) (pinsOf (now (pins .entry)) user) (q .b) (q .t) (now (work .entry)) (now (out .entry))
+        (answered r)
+        (now (work .exit), now (out .exit))
         ⌝ }
 {
-    if 1 < user {
-        return FoldAnswer::Refused(18);
-    }
     let Held::Circuit(layout) = circuit::test(m) else {
         return FoldAnswer::Refused(9);
     };
     if let Ruling::Refused(n) = fold::check_fold(layout, q.b, q.t, work.len(), out.len()) {
         return FoldAnswer::Refused(n);
     }
-    fold_known(m, layout, pins, user as usize, q, work, out)
+    fold_known(m, layout, pins, user, q, work, out)
 }

@@ -24,12 +24,12 @@ use Rattle.roundtrip.proofs.LoadWrite.{counts-fit}
 use Rattle.roundtrip.proofs.Holding.{held-valid}
 use Rattle.limits.proofs.Refusals.{passed, passes, judge-rest, judge-passed, length-enough}
 use Rattle.limits.proofs.Sizes.{counts-of, length-within}
-use Rattle.pins.specs.Pins.{pinsOf, pinned, pinnedWitness}
+use Rattle.pins.specs.Pins.{pinned, pinnedWitness}
 use Rattle.pins.proofs.Questions.{pinned-permitted}
 use Rattle.expansion.specs.Rows.{rowsText, expanded}
 use Rattle.expansion.proofs.Witnesses.{rowsAt, length-rows, expanded-first}
-use Rattle.users.specs.Users.{ForUser, PinnedSearched, PinnedSearchEffect, pinnedShown}
-use Rattle.users.proofs.Tests.{acts-only, search-pinned, length-pinned}
+use Rattle.pinning.specs.Operations.{PinnedSearched, PinnedSearchEffect, pinnedShown}
+use Rattle.pinning.proofs.Tests.{acts-only, search-pinned, length-pinned}
 use Rattle.search.specs.Chosen.{chosen}
 use Rattle.pinned_search.specs.Steps.{PinnedFits, TextIs, OutputIs}
 
@@ -161,31 +161,29 @@ module _ {m : List ℕ} {p : Layout} {user b k D room len : ℕ} (f : PinnedFits
     never-refused x = let e = x .says in let z : _≡_ {A = ℕ} 0 1 = cc in omega arith
 
 -- what the user gets
-module _ {m : List ℕ} (pins : List ℕ) {user : ℕ} (h : Holds m (circuitIn m)) (u : user ≤ 1) {b k D : ℕ} {w out : List ℕ} where
+module _ {m : List ℕ} (q : ℕ → ℕ) (h : Holds m (circuitIn m)) {b k D : ℕ} {w out : List ℕ} where
   pub answered : judge (searchTests (circuitIn m) b k D (length w) (length out)) ≡ gives tt → {a : Answer Outcome} {w′ out′ : List ℕ}
-      → OutputIs (circuitIn m) (pinsOf pins user) b k D out a out′ → PinnedSearched chosen m pins user b k D w out a w′ out′
+      → OutputIs (circuitIn m) q b k D out a out′ → PinnedSearched chosen m q b k D w out a (w′, out′)
   answered j {a} {w′} {out′} x =
       let c = circuitIn m in
-      let q = pinsOf pins user in
       let v = held-valid h in
       let bad = passed c b k (budgetRight D) (length w) (need 13 (leb (witnessLength c b k) (length out)) ∷ []) j .0 .bad in
-      ForUser.known u
-      (acted (x .says)
+      acted (x .says)
       (Operated.acts c h j
       (record {
         chose = refl;
         allowed = subst T (pinned-permitted c q (T-true (v .literals)) (T-true (v .uses)) (T-true (v .order)) b bad k D (chosen (pinned c q) b k D)) (x .allowed);
         shows = x .shows;
-      })))
+      }))
     where
       acted : {o : Outcome} {y : Answer Outcome} → y ≡ gives o
-          → Operated m (λ d. searchTests d b k D (length w) (length out)) (w, out) (PinnedSearchEffect chosen (pinsOf pins user) b k D out) (gives o) (w′, out′)
-          → Operated m (λ d. searchTests d b k D (length w) (length out)) (w, out) (PinnedSearchEffect chosen (pinsOf pins user) b k D out) y (w′, out′)
+          → Operated m (λ d. searchTests d b k D (length w) (length out)) (w, out) (PinnedSearchEffect chosen q b k D out) (gives o) (w′, out′)
+          → Operated m (λ d. searchTests d b k D (length w) (length out)) (w, out) (PinnedSearchEffect chosen q b k D out) y (w′, out′)
       acted e g =
           subst (λ (y : Answer Outcome).
-          Operated m (λ d. searchTests d b k D (length w) (length out)) (w, out) (PinnedSearchEffect chosen (pinsOf pins user) b k D out) y (w′, out′))
+          Operated m (λ d. searchTests d b k D (length w) (length out)) (w, out) (PinnedSearchEffect chosen q b k D out) y (w′, out′))
           (sym e) g
 
   pub refused-with : {n : ℕ} → judge (searchTests (circuitIn m) b k D (length w) (length out)) ≡ refused n
-      → PinnedSearched chosen m pins user b k D w out (refused n) w out
-  refused-with e = ForUser.known u (Operated.refuses (circuitIn m) h e)
+      → PinnedSearched chosen m q b k D w out (refused n) (w, out)
+  refused-with e = Operated.refuses (circuitIn m) h e

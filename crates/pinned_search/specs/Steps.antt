@@ -12,7 +12,7 @@ use Rattle.layout.specs.Words.{circuitIn}
 use Rattle.layout.specs.Layout.{LayoutOf}
 use Rattle.layout.specs.declared.Layout.{Layout}
 use Rattle.pins.specs.Pins.{pinned}
-use Rattle.users.specs.Users.{pinnedShown}
+use Rattle.pinning.specs.Operations.{pinnedShown}
 use Rattle.search.specs.Chosen.{chosen}
 
 -- a circuit, a user who is known, and tests that pass with `room` words of working memory and `len` bytes

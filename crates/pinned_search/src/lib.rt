@@ -10,7 +10,7 @@ ghost use lib.ListN.{length};
 ghost use Rattle.aiger.specs.Text.{digits};
 ghost use Rattle.layout.specs.Words.{circuitIn};
 ghost use Rattle.pins.specs.Pins.{pinsOf};
-ghost use Rattle.users.specs.Users.{PinnedSearched};
+ghost use Rattle.pinning.specs.Operations.{PinnedSearched};
 ghost use Rattle.search.specs.Chosen.{chosen, said};
 ghost use Rattle.pinned_search.specs.Steps.{PinnedFits, TextIs, OutputIs};
 
@@ -75,30 +75,27 @@ fn search_known(
     }
 }
 
-// Whether the bad line can be reached within the bound by a sequence that obeys the user's pins.
+// Whether the bad line can be reached within the bound by a sequence that obeys the pins of a user who is known.
 pub fn search(
     m: &[u32],
     pins: &[u8],
-    user: u32,
+    user: usize,
     q: Terms,
     work: &mut [u32],
     out: &mut [u8],
 ) -> SearchAnswer
+    requires { ⌜ user ≤ 1 ⌝ }
     ensures { λ r. ⌜
-        PinnedSearched chosen (now (m .entry)) (now (pins .entry)) user (q .b) (q .k) (q .d) (now (work .entry)) (now (out .entry))
-        (said r)
-        (now (work .exit))
-        (now (out .exit))
+        PinnedSearched chosen (now (m .entry)) (pinsOf (now (pins .entry)) user) (q .b) (q .k) (q .d) (now (work .entry))
+        (now (out .entry)) (said r)
+        (now (work .exit), now (out .exit))
         ⌝ }
 {
-    if 1 < user {
-        return SearchAnswer::Refused(18);
-    }
     let Held::Circuit(layout) = circuit::test(m) else {
         return SearchAnswer::Refused(9);
     };
     if let Ruling::Refused(n) = search::check_search(layout, q.b, q.k, q.d, work.len(), out.len()) {
         return SearchAnswer::Refused(n);
     }
-    search_known(m, layout, pins, user as usize, q, work, out)
+    search_known(m, layout, pins, user, q, work, out)
 }

@@ -2,3 +2,4 @@ pub mod Tables
 pub mod Stores
 pub mod Contents
 pub mod Fresh
+pub mod Tests

@@ -1,22 +1,27 @@
 // The operations for two users for programs in C and Rust: numbers and slices only. A slice is a pointer and a length. The users share
 // memory, work and pins; pins has 256 bytes for each user.
 // Clause 10.5: whatever is lent, nothing outside it is touched, and every call returns.
+use calls::PinAnswer;
 use fold::Target;
 use load::LoadAnswer;
 use search::Terms;
-use user_calls::PinAnswer;
 ghost use mathlib.Core.Bool.{not};
 ghost use lib.Dec.{eqb};
 ghost use lib.ListN.{length};
-ghost use Rattle.users.specs.Users.{PinnedSearched, PinnedFolded};
 ghost use Rattle.search.specs.Chosen.{chosen};
 ghost use Rattle.fold.specs.Chosen as fold;
-ghost use Rattle.user_calls.specs.Calls.{UserLoaded, PinSet};
-ghost use Rattle.user_write.specs.Written.{UserWritten, UserWrittenBinary};
-ghost use Rattle.user_join.specs.Joins.{UserJoined};
-ghost use Rattle.user_replay.specs.Replays.{UserReplayed};
-ghost use Rattle.user_widen.specs.Widens.{UserWidened};
-ghost use Rattle.user_waveform.specs.Waveforms.{UserWaveformed};
+ghost use Rattle.call_forms.specs.Forms.{
+  UserLoaded,
+  UserJoined,
+  PinSet,
+  UserSearched,
+  UserFolded,
+  UserReplayed,
+  UserWidened,
+  UserWritten,
+  UserWrittenBinary,
+  UserWaveformed,
+};
 ghost use Rattle.service.specs.Codes.{loadCode, searchCode, replayCode, writeCode};
 ghost use Rattle.user_service.specs.Codes.{Coded, PreviewCoded, pinCode};
 
@@ -34,7 +39,7 @@ pub extern "C" fn yunverok_user_load(
         loadCode r
         ⌝ }
 {
-    service::load_code(user_calls::load(user, file, memory, pins))
+    service::load_code(calls::load(user as u64, pins, memory, file))
 }
 
 // Sets the pin of an input: 0, or the number of the refusal.
@@ -48,7 +53,7 @@ pub extern "C" fn yunverok_user_pin(
 ) -> u32
     ensures { λ r. ⌜ Coded (λ a. PinSet (now (memory .entry)) user input value (now (pins .entry)) a (now (pins .exit))) pinCode r ⌝ }
 {
-    match user_calls::set_pin(user, input, value, memory, pins) {
+    match calls::set_pin(user as u64, pins, memory, input, value as u64) {
         PinAnswer::Set => 0,
         PinAnswer::Refused(n) => n,
     }
@@ -69,13 +74,13 @@ pub extern "C" fn yunverok_user_search(
     ensures { λ r. ⌜
         Coded
         (λ a.
-        PinnedSearched chosen (now (memory .entry)) (now (pins .entry)) user b k d (now (work .entry)) (now (out .entry)) a
+        UserSearched chosen (now (memory .entry)) (now (pins .entry)) user b k d (now (work .entry)) (now (out .entry)) a
         (now (work .exit))
         (now (out .exit)))
         searchCode r
         ⌝ }
 {
-    service::search_code(pinned_search::search(memory, pins, user, Terms { b, k, d }, work, out))
+    service::search_code(calls::search(user as u64, pins, memory, Terms { b, k, d }, work, out))
 }
 
 // Folds bad line b at frame t: the length of the text, or 2^32 + number for a refusal.
@@ -92,13 +97,13 @@ pub extern "C" fn yunverok_user_fold(
     ensures { λ r. ⌜
         Coded
         (λ a.
-        PinnedFolded fold.chosen (now (memory .entry)) (now (pins .entry)) user b t (now (work .entry)) (now (out .entry)) a
+        UserFolded fold.chosen (now (memory .entry)) (now (pins .entry)) user b t (now (work .entry)) (now (out .entry)) a
         (now (work .exit))
         (now (out .exit)))
         writeCode r
         ⌝ }
 {
-    service::fold_code(pinned_fold::fold(memory, pins, user, Target { b, t }, work, out))
+    service::fold_code(calls::fold(user as u64, pins, memory, Target { b, t }, work, out))
 }
 
 // Replays a witness: 1 for all, 0 for no, 2 for mixed, or the number of the refusal, 18, 9, 14 or 16.
@@ -106,7 +111,7 @@ pub extern "C" fn yunverok_user_fold(
 pub extern "C" fn yunverok_user_replay(memory: &[u32], pins: &[u8], user: u32, text: &[u8]) -> u32
     ensures { λ r. ⌜ Coded (λ a. UserReplayed (now (memory .entry)) (now (pins .entry)) user (now (text .entry)) a) replayCode r ⌝ }
 {
-    service::replay_code(user_replay::replay(memory, pins, user, text))
+    service::replay_code(calls::replay(user as u64, pins, memory, text))
 }
 
 // Widens a witness: the length of the text, which is that of the witness, or 2^32 + number for a refusal.
@@ -124,7 +129,7 @@ pub extern "C" fn yunverok_user_widen(
         writeCode r
         ⌝ }
 {
-    service::widen_code(user_widen::widen(memory, pins, user, text, out))
+    service::widen_code(calls::widen(user as u64, pins, memory, text, out))
 }
 
 // Writes: the length of the text, or 2^32 + number for a refusal.
@@ -132,7 +137,7 @@ pub extern "C" fn yunverok_user_widen(
 pub extern "C" fn yunverok_user_write(user: u32, memory: &[u32], out: &mut [u8]) -> u64
     ensures { λ r. ⌜ Coded (λ a. UserWritten (now (memory .entry)) user (now (out .entry)) a (now (out .exit))) writeCode r ⌝ }
 {
-    service::write_code(user_write::write(user, memory, out))
+    service::write_code(calls::write(user as u64, memory, out))
 }
 
 // Writes the binary form: the length of the text, or 2^32 + number for a refusal.
@@ -140,7 +145,7 @@ pub extern "C" fn yunverok_user_write(user: u32, memory: &[u32], out: &mut [u8])
 pub extern "C" fn yunverok_user_write_binary(user: u32, memory: &[u32], out: &mut [u8]) -> u64
     ensures { λ r. ⌜ Coded (λ a. UserWrittenBinary (now (memory .entry)) user (now (out .entry)) a (now (out .exit))) writeCode r ⌝ }
 {
-    service::write_code(user_write::write_binary(user, memory, out))
+    service::write_code(calls::write_binary(user as u64, memory, out))
 }
 
 // Preview of a load: the words needed for a file that user 0's load would accept, and its counts at the front of counts; or 2^32 times the
@@ -154,7 +159,7 @@ pub extern "C" fn yunverok_user_preview(
 ) -> u64
     ensures { λ r. ⌜ PreviewCoded (length (now (memory .entry))) (now (file .entry)) user (now (counts .entry)) r (now (counts .exit)) ⌝ }
 {
-    let judgement = user_preview::preview(user, file, memory);
+    let judgement = calls::preview(user as u64, memory, file);
     let answer = judgement.answer;
     let needed = judgement.needed as u64;
     match answer {
@@ -183,7 +188,7 @@ pub extern "C" fn yunverok_user_join(
         loadCode r
         ⌝ }
 {
-    service::load_code(user_join::join(user, first, second, memory, pins))
+    service::load_code(calls::join(user as u64, pins, memory, first, second))
 }
 
 // Shows a witness as a value change dump, all wires or, where inputs is not 0, the inputs alone: the length of the text, or
@@ -202,5 +207,5 @@ pub extern "C" fn yunverok_user_waveform(
         writeCode r
         ⌝ }
 {
-    service::waveform_code(user_waveform::waveform(memory, user, text, inputs != 0, out))
+    service::waveform_code(calls::waveform(user as u64, memory, text, inputs != 0, out))
 }

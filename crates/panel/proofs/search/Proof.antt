@@ -9,7 +9,7 @@ shown-length-requires : tie.Need-shown-length-requires
 shown-length-requires c κs =
     let at-search = c .before .before .before .before in
     let start = at-search .before .before .before .before .before .before .before .before in
-    shown-fits (start .args .m .now) (start .args .pins .now) (start .args .work .now) (start .args .out .now)
+    shown-fits (start .args .m .now) (start .args .pins .now) (start .args .work .now) (start .args .out .now) (start .args .user)
     (at-search .search .result) (at-search .search .ensures)
 
 returns : tie.Need-returns
@@ -23,7 +23,7 @@ returns c =
       permitted = at-search .search .ensures;
       line-is = at-write-answer .write-answer .ensures;
       out-is = at-shown-length .shown-length .ensures;
-      inside = shown-inside (start .args .m .now) (start .args .pins .now) (start .args .work .now) (start .args .out .now)
+      inside = shown-inside (start .args .m .now) (start .args .pins .now) (start .args .work .now) (start .args .out .now) (start .args .user)
           (at-search .search .result) (at-search .search .ensures) (at-search .search .kept .1 .1 .1 .1 .1 .0)
           (at-shown-length .shown-length .ensures);
     }

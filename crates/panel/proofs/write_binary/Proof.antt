@@ -19,7 +19,7 @@ returns c =
       permitted = e;
       line-is = fronts-none _;
       out-is = refl;
-      inside = binary-inside (start .args .m .now) (start .args .out .now) e;
+      inside = binary-inside (start .args .m .now) (start .args .out .now) (start .args .user) e;
     }
 
 returns-2 : tie.Need-returns-2

@@ -3,7 +3,7 @@ use mathlib.Core.Path.{_≡_, refl, sym, ap, _∙_}
 use Prim.Native.Nat.{ℕ}
 use native.Mathlib.Omega.{arith}
 use lib.ListN.{length}
-use Rattle.history.specs.History.{State}
+use Rattle.call_forms.specs.History.{State}
 use Rattle.panel_session.specs.Session.{Ran}
 use Rattle.panel_session.proofs.Start.{ran-none}
 use Rattle.panel_serving.specs.declared.turning.Tally.{Tally}

@@ -1,7 +1,7 @@
 -- `user_service::yunverok_user_pin` meets its contract. Assumes nothing.
 use mathlib.Core.Path.{sym, ap}
-use Rattle.user_calls.specs.Calls.{pinSaid}
-use Rattle.user_calls.specs.declared.PinAnswer.{PinAnswer}
+use Rattle.calls.specs.Answers.{pinSaid}
+use Rattle.calls.specs.declared.PinAnswer.{PinAnswer}
 use borrow.Author.Needs.{needs}
 use Rattle.user_service.specs.Codes.{pinCode}
 use Rattle.user_service.proofs.yunverok_user_pin.Statement.{statement}

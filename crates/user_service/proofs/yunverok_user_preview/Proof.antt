@@ -1,6 +1,7 @@
 -- `user_service::yunverok_user_preview` meets its contract. Assumes nothing.
 use mathlib.Core.Path.{_≡_, refl, sym, ap, _∙_}
 use native.Mathlib.Omega.{arith}
+use lib.ListN.{length}
 use borrow.Author.Needs.{needs}
 use Rattle.load.specs.Answers.{answered}
 use Rattle.load.specs.declared.LoadAnswer.{LoadAnswer}
@@ -10,7 +11,14 @@ use Rattle.user_service.proofs.yunverok_user_preview.Statement.{stateme
 use Rattle.user_service.proofs.yunverok_user_preview.Tie as tie
 
 add-result : tie.Need-add-result
-add-result c = let A = c .before .before .before in omega (arith, few (A .preview .ensures))
+add-result c =
+    let A = c .before .before .before in
+    let S = A .before .before .before .before in
+    omega (
+      arith,
+      few (length (S .args .memory .now)) (S .args .file .now) (S .args .user) (answered (A .preview .result .answer))
+          (A .preview .result .needed) (A .preview .ensures),
+    )
 
 returns : tie.Need-returns
 returns c =
