@@ -98,7 +98,7 @@ missingAction room user c =
     cond (eqb (length (filesOf c)) 0) (actionOf room user [] [] c)
     (Action.prints (cond (mayAsk user c) (bytes "unreadable\n") (refusalText 18)))
 
--- a request whose line was not read is `unreadable`, whatever was read of it; one that is no command is `malformed`
+-- Clause 12.9: a request whose line was not read is `unreadable`, whatever was read of it; one that is no command is `malformed`
 abbrev pub requestAction : ℕ → Files → Option (ℕ × Command) → Action
 requestAction room Files.unread r = Action.prints (bytes "unreadable\n")
 requestAction room Files.missing none = Action.prints (bytes "malformed\n")
