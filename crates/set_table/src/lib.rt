@@ -162,14 +162,11 @@ fn put_start(
         ≡ T.startPut (circuitIn (now (m .entry))) (now (latches .entry)) rows (S.setsOf (now (w .entry)) (now (table .entry)))
         ⌝ }
 {
-    let vars = latches.len();
-    let at = state_sets::row_at(
-        Shape {
-            vars: vars,
-            rows: rows,
-        },
-        rows,
-    );
+    let s = Shape {
+        vars: latches.len(),
+        rows: rows,
+    };
+    let at = state_sets::row_at(s, rows);
     match with_resets(w, m, layout, latches) {
         Made::Full => false,
         Made::Edge(e) => {
