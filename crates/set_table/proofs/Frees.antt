@@ -55,11 +55,14 @@ module _ (c : Circuit) (latches : List ℕ) (j n : ℕ) (old ws : List ℕ) (e :
   frees-number l = let k : length (take n ws) ≡ n = simp length-take (omega arith) in sym k ∙ ap length frees-are
 
 -- a place in a list is no larger than its length
-pub rank-fits : (xs : List ℕ) (x : ℕ) → rankIn xs x ≤ length xs
+rank-small : (xs : List ℕ) (x : ℕ) → rankIn xs x ≤ length xs
 unfolding rankIn
-rank-fits [] x = omega arith
-rank-fits (y ∷ xs) x = go (eqb y x) (rank-fits xs x)
+rank-small [] x = omega arith
+rank-small (y ∷ xs) x = go (eqb y x) (rank-small xs x)
   where
     go : (b : Bool) → rankIn xs x ≤ length xs → cond b 0 (suc (rankIn xs x)) ≤ suc (length xs)
     go true h = omega arith
     go false h = omega arith
+
+pub rank-fits : (xs : List ℕ) (x r : ℕ) → r ≡ rankIn xs x → r ≤ length xs
+rank-fits xs x r e = omega (arith, rank-small xs x)

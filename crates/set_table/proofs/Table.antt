@@ -13,12 +13,16 @@ use Rattle.diagram_rows.specs.Rows.{planOf}
 use Rattle.diagram_rows.proofs.Follow.{part-length}
 use Rattle.state_sets.specs.Shape.{rowAt}
 use Rattle.state_sets.specs.Sets.{Sets, Tried, tried, whereDone, again}
-use Rattle.state_sets.proofs.Room.{row-is}
+use Rattle.state_sets.proofs.Room.{row-is, row-order}
 use Rattle.set_stage.specs.Table.{RowsRoom, withResets, rowsPut}
 use Rattle.set_attempt.specs.Attempt.{startStoredIn, startPut, rowsOf, tableMade}
 use Rattle.set_table.specs.Room.{TableRoom}
 
 -- ---- the edge of the start states
+
+-- a row up to the last one begins inside the table
+pub place-fits : (vars rows r words at : ℕ) → at ≡ rowAt vars r → r ≤ rows → rowAt vars rows < words → at < words
+place-fits vars rows r words at e h l = omega (arith, row-order vars r rows h)
 
 module _ (c : Circuit) (latches : List ℕ) (rows : ℕ) (table : List ℕ) (s : State) where
   pub start-none : (t : State) → outcome t none ≡ withResets c 0 latches s 1

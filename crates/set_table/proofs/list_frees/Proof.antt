@@ -35,7 +35,7 @@ cast-rank-of c = omega (arith, latches-few (c .before .before .before .before .b
 cast-frees : tie.Need-cast-frees Inv-loop μ-loop
 cast-frees c =
     let a = c .before .before .before .before .before .before .before .before .args in
-    omega (arith, c .before .before .before .before .before .before .before .before .pre .1 .1, c .rank-of .ensures, rank-fits (a .latches .now) (c .before .before .before .before .loop .j))
+    omega (arith, c .before .before .before .before .before .before .before .before .pre .1 .1, rank-fits (a .latches .now) _ (c .rank-of .result) (c .rank-of .ensures))
 
 mul-frees : tie.Need-mul-frees Inv-loop μ-loop
 mul-frees c =

@@ -2,23 +2,36 @@
 use mathlib.Core.Path.{sym, ap, _∙_}
 use native.Mathlib.Omega.{arith}
 use borrow.Author.Needs.{needs}
+use lib.ListN.{length}
 use Rattle.layout.specs.Words.{circuitIn}
 use Rattle.diagrams.specs.States.{stateOf, left}
-use Rattle.set_table.proofs.Table.{start-none, start-edge}
+use Rattle.set_table.proofs.Table.{place-fits, start-none, start-edge}
 use Rattle.set_table.proofs.put_start.Statement.{statement}
 use Rattle.set_table.proofs.put_start.Tie as tie
 
 row-at-requires : tie.Need-row-at-requires
-row-at-requires c κs = (c .before .before .before .before .pre .1 .0, c .before .before .before .before .pre .1 .1)
+row-at-requires c κs = (c .before .before .before .before .pre .1 .0, omega (arith, c .before .before .before .before .pre .1 .1))
 
 with-resets-requires : tie.Need-with-resets-requires
 with-resets-requires c κs = (c .before .before .before .before .before .before .pre .0, c .before .before .before .before .before .before .pre .1 .0)
 
 mul-table : tie.Need-mul-table
-mul-table c = omega (arith, c .before .before .before .before .before .before .before .row-at .ensures, c .before .before .before .before .before .before .before .before .before .before .before .before .pre .1 .2)
+mul-table c =
+    let a = c .before .before .before .before .before .before .before .before .before .before .before .before .args in
+    omega (
+      arith,
+      place-fits (length (a .latches .now)) (a .rows) _ (length (a .table .now)) (c .before .before .before .before .before .before .before .row-at .result) (c .before .before .before .before .before .before .before .row-at .ensures)
+          (omega arith) (c .before .before .before .before .before .before .before .before .before .before .before .before .pre .1 .2),
+    )
 
 slice-write-table : tie.Need-slice-write-table
-slice-write-table c = omega (arith, c .before .before .before .before .before .before .before .row-at .ensures, c .before .before .before .before .before .before .before .before .before .before .before .before .pre .1 .2)
+slice-write-table c =
+    let a = c .before .before .before .before .before .before .before .before .before .before .before .before .args in
+    omega (
+      arith,
+      place-fits (length (a .latches .now)) (a .rows) _ (length (a .table .now)) (c .before .before .before .before .before .before .before .row-at .result) (c .before .before .before .before .before .before .before .row-at .ensures)
+          (omega arith) (c .before .before .before .before .before .before .before .before .before .before .before .before .pre .1 .2),
+    )
 
 same-length : tie.Need-same-length
 same-length c = c .before .before .before .before .with-resets .kept .0
