@@ -24,7 +24,7 @@ use Rattle.roundtrip.proofs.LoadWrite.{counts-fit}
 use Rattle.roundtrip.proofs.Holding.{held-valid}
 use Rattle.limits.proofs.Refusals.{passed, passes, judge-rest, judge-passed, length-enough}
 use Rattle.limits.proofs.Sizes.{counts-of, length-within}
-use Rattle.pins.specs.Pins.{pinned, pinnedWitness}
+use Rattle.pins.specs.Pins.{pinsOf, pinned, pinnedWitness}
 use Rattle.pins.proofs.Questions.{pinned-permitted}
 use Rattle.expansion.specs.Rows.{rowsText, expanded}
 use Rattle.expansion.proofs.Witnesses.{rowsAt, length-rows, expanded-first}
@@ -187,3 +187,9 @@ module _ {m : List ℕ} (q : ℕ → ℕ) (h : Holds m (circuitIn m)) {b k D : �
   pub refused-with : {n : ℕ} → judge (searchTests (circuitIn m) b k D (length w) (length out)) ≡ refused n
       → PinnedSearched chosen m q b k D w out (refused n) (w, out)
   refused-with e = Operated.refuses (circuitIn m) h e
+
+-- the pins of a user who is this one
+pub searched-for : (pins : List ℕ) {user v : ℕ} → user ≡ v → {m : List ℕ} {b k D : ℕ} {w out : List ℕ} {a : Answer Outcome} {left : List ℕ × List ℕ}
+    → PinnedSearched chosen m (pinsOf pins v) b k D w out a left → PinnedSearched chosen m (pinsOf pins user) b k D w out a left
+searched-for pins e {m} {b} {k} {D} {w} {out} {a} {left} x =
+    subst (λ (u : ℕ). PinnedSearched chosen m (pinsOf pins u) b k D w out a left) (sym e) x
