@@ -14,7 +14,7 @@ ghost use Rattle.pinning.specs.Operations.{PinnedSearched};
 ghost use Rattle.search.specs.Chosen.{chosen, said};
 ghost use Rattle.pinned_search.specs.Steps.{PinnedFits, TextIs, OutputIs};
 
-// Searches the pinned circuit. Found leaves its witness at the front of text.
+// Searches the pinned circuit. Found leaves its witness, which has the free inputs alone, at the front of text.
 fn search_text(
     m: &[u32],
     layout: Layout,
@@ -60,13 +60,12 @@ fn search_known(
         (now (out .exit))
         ⌝ }
 {
-    let mut text = [0u8; 66825];
     let inputs = layout.i;
     let b = q.b;
     let start = rows_at(layout.l, b as u32);
-    match search_text(m, layout, pins, user, q, work, &mut text) {
+    match search_text(m, layout, pins, user, q, work, out) {
         SearchAnswer::Found(t) => {
-            expansion::expand(&text, start, t as usize, inputs, pins, user, out);
+            expansion::expand(out, start, t as usize, inputs, pins, user);
             SearchAnswer::Found(t)
         }
         SearchAnswer::Nothing(n) => SearchAnswer::Nothing(n),
