@@ -1,19 +1,15 @@
 -- With all pins of a user free every operation is what it is without users. Clause 12.7. Assumes nothing.
-use mathlib.Core.Path.{_≡_, refl, sym, ap, _∙_, subst}
-use mathlib.Core.Bool.{Bool, false}
+use mathlib.Core.Path.{_≡_}
+use mathlib.Core.Bool.{false}
 use mathlib.Core.List.{List}
-use Prim.Native.Nat.{ℕ, _^_, _≤_, _<_}
+use Prim.Native.Nat.{ℕ, _≤_}
 use native.Mathlib.Omega.{arith}
-use lib.Dec.{T}
-use lib.ListN.{length}
 use Rattle.aiger.specs.Circuit.{Circuit}
 use Rattle.aiger.specs.Load.{Answer}
-use Rattle.aiger.specs.Frames.{Space, bitsIn, freeBits, space, run}
-use Rattle.aiger.specs.Search.{Outcome, Question, question, reaches, reachesIn, permitted, permittedOf}
-use Rattle.aiger.specs.Operations.{Operated, Searched, SearchEffect, searchTests, Folded, FoldEffect, foldTests, shown, front}
-use Rattle.pins.specs.Pins.{isHeld, pinsOf, pinned, pinnedSpace, pinnedQuestion, pinnedWitness}
-use Rattle.pins.proofs.Questions.{pinned-free, space-free, witness-free}
-use Rattle.pinning.specs.Operations.{PinnedSearchEffect, PinnedFoldEffect, pinnedShown}
+use Rattle.aiger.specs.Search.{Outcome}
+use Rattle.aiger.specs.Operations.{Searched, Folded}
+use Rattle.pins.specs.Pins.{isHeld, pinsOf}
+use Rattle.pinning.proofs.Free.{searched-plain, folded-plain}
 use Rattle.completions.specs.Either.{Verdict}
 use Rattle.completions.specs.Operations.{EitherReplayed, Widened}
 use Rattle.pinned_runs.proofs.Free.{replayed-free, widened-free}
@@ -37,49 +33,17 @@ first-replaces row P a m′ pins′ x = known-only row 0 (omega arith) a (m′, 
 
 -- ---- operations under pins
 
-module _ (q : ℕ → ℕ) (free : (i : ℕ) → isHeld (q i) ≡ false) where
-  question-free : (c : Circuit) (b : ℕ) → pinnedQuestion c q b ≡ question c b
-  unfolding freeBits reaches run
-  question-free c b =
-      ap (λ (s : Space). record { places = λ t. 2 ^ bitsIn s t; hitting = reachesIn s c b }) (space-free q c (λ k _ _. free k))
-
-  shown-free : (c : Circuit) (b : ℕ) (o : Outcome) (out : List ℕ) → pinnedShown c q b o out ≡ shown c b o out
-  shown-free c b (Outcome.found t) out = ap (λ (w : List ℕ). front w out) (witness-free q c b t (λ k _ _. free k))
-  shown-free c b (Outcome.none k) out = refl
-  shown-free c b (Outcome.spent t) out = refl
-
 module _ (pins : List ℕ) (user : ℕ) (u : user ≤ 1) (free : (i : ℕ) → isHeld (pinsOf pins user i) ≡ false) where
   abbrev q : ℕ → ℕ
   q = pinsOf pins user
 
-  same : (c : Circuit) → pinned c q ≡ c
-  same c = pinned-free q c (λ k _ _. free k)
-
   pub searched-free : {chosen : Circuit → ℕ → ℕ → ℕ → Outcome} {m w w′ out out′ : List ℕ} {b k D : ℕ} {a : Answer Outcome}
       → UserSearched chosen m pins user b k D w out a w′ out′ → Searched chosen m b k D w out a w′ out′
-  searched-free {chosen} {m} {w} {w′} {out} {out′} {b} {k} {D} {a} x = go (known-only searchRow user u a (w′, out′) x)
-    where
-      go : {a : Answer Outcome} {l : List ℕ × List ℕ} → Operated m (λ c. searchTests c b k D (length w) (length out)) (w, out) (PinnedSearchEffect chosen q b k D out) a l
-          → Operated m (λ c. searchTests c b k D (length w) (length out)) (w, out) (SearchEffect chosen b k D out) a l
-      go (Operated.noCircuit h) = Operated.noCircuit h
-      go (Operated.refuses c h j) = Operated.refuses c h j
-      go (Operated.acts c {a = o} h j e) =
-          Operated.acts c h j
-          (record {
-            chose = e .chose ∙ ap (λ (d : Circuit). chosen d b k D) (same c);
-            allowed = subst (λ (z : Question). T (permittedOf z k D o)) (question-free q free c b) (e .allowed);
-            shows = e .shows ∙ shown-free q free c b o out;
-          })
+  searched-free {w′ = w′} {out′ = out′} {a = a} x = searched-plain q (λ c h k _ _. free k) (known-only searchRow user u a (w′, out′) x)
 
   pub folded-free : {chosen : Circuit → ℕ → ℕ → Circuit} {m w w′ out out′ : List ℕ} {b t : ℕ} {a : Answer ℕ}
       → UserFolded chosen m pins user b t w out a w′ out′ → Folded chosen m b t w out a w′ out′
-  folded-free {chosen} {m} {w} {w′} {out} {out′} {b} {t} {a} x = go (known-only foldRow user u a (w′, out′) x)
-    where
-      go : {a : Answer ℕ} {l : List ℕ × List ℕ} → Operated m (λ c. foldTests c b t (length w) (length out)) (w, out) (PinnedFoldEffect chosen q b t out) a l
-          → Operated m (λ c. foldTests c b t (length w) (length out)) (w, out) (FoldEffect chosen b t out) a l
-      go (Operated.noCircuit h) = Operated.noCircuit h
-      go (Operated.refuses c h j) = Operated.refuses c h j
-      go (Operated.acts c {a = n} {s = l} h j e) = Operated.acts c h j (subst (λ (d : Circuit). FoldEffect chosen b t out d n l) (same c) e)
+  folded-free {w′ = w′} {out′ = out′} {a = a} x = folded-plain q (λ c h k _ _. free k) (known-only foldRow user u a (w′, out′) x)
 
   pub user-replayed-free : {m witness : List ℕ} {a : Answer Verdict} → UserReplayed m pins user witness a → EitherReplayed m witness a
   user-replayed-free {a = a} x = replayed-free q free (known-only {S = Unit {0}} replayRow user u a tt x)

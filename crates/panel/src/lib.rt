@@ -51,10 +51,7 @@ pub fn preview(user: u64, file: &[u8], m: &[u32], out: &mut [u8], line: &mut [u8
         Leaves (previewReplyTo user (now (file .entry))) (now (line .entry)) (now (out .entry)) r (now (line .exit)) (now (out .exit))
         ⌝ }
 {
-    if 1 < user {
-        return replies::refuse(line, 18);
-    }
-    preview_command::preview(file, m, out, line)
+    preview_command::write_judgement(calls::preview(user, m, file), out, line)
 }
 
 // Sets a pin.

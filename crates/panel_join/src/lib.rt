@@ -46,7 +46,7 @@ fn join_new(new: &[u8], first: &[u32], m: &mut [u32], pins: &mut [u8], line: &mu
     }
 }
 
-// Joins the circuits of two files.
+// Joins the circuits of two files. The old one is loaded, by the user who may, to a memory that is not shared.
 pub fn join(
     user: u64,
     old: &[u8],
@@ -63,11 +63,9 @@ pub fn join(
         (now (line .entry)) r (now (line .exit))
         ⌝ }
 {
-    if 0 < user {
-        return replies::refuse(line, 18);
-    }
     let mut first = [0u32; 33032];
-    match load::load(old, &mut first) {
+    let mut unshared = [2u8; 1];
+    match calls::load(user, &mut unshared, &mut first, old) {
         LoadAnswer::Refused(n) => replies::refuse(line, n),
         LoadAnswer::Loaded(_) => join_new(new, &first, m, pins, line),
     }

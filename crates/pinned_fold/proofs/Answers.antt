@@ -9,7 +9,7 @@ use Rattle.aiger.specs.Memory.{Holds}
 use Rattle.aiger.specs.Operations.{judge, Operated, foldTests, Folded}
 use Rattle.layout.specs.Words.{circuitIn}
 use Rattle.layout.specs.declared.Layout.{Layout}
-use Rattle.pins.specs.Pins.{pinned}
+use Rattle.pins.specs.Pins.{pinsOf, pinned}
 use Rattle.pinning.specs.Operations.{PinnedFolded, PinnedFoldEffect}
 use Rattle.pinning.proofs.Tests.{acts-only, fold-pinned}
 use Rattle.fold.specs.Chosen.{chosen}
@@ -44,3 +44,9 @@ module _ {m : List ℕ} (q : ℕ → ℕ) (h : Holds m (circuitIn m)) {b t : ℕ
   pub refused-with : {n : ℕ} → judge (foldTests (circuitIn m) b t (length w) (length out)) ≡ refused n
       → PinnedFolded chosen m q b t w out (refused n) (w, out)
   refused-with e = Operated.refuses (circuitIn m) h e
+
+-- the pins of a user who is this one
+pub folded-for : (pins : List ℕ) {user v : ℕ} → user ≡ v → {m : List ℕ} {b t : ℕ} {w out : List ℕ} {a : Answer ℕ} {left : List ℕ × List ℕ}
+    → PinnedFolded chosen m (pinsOf pins v) b t w out a left → PinnedFolded chosen m (pinsOf pins user) b t w out a left
+folded-for pins e {m} {b} {t} {w} {out} {a} {left} x =
+    subst (λ (u : ℕ). PinnedFolded chosen m (pinsOf pins u) b t w out a left) (sym e) x

@@ -36,8 +36,8 @@ fn fold_known(
     fold::fold(&words, q.b, q.t, work, out)
 }
 
-// Writes the hit of a bad line at a frame, under the pins of a user who is known, as a circuit without latches.
-pub fn fold(
+// Folds under the pins of a user who is known, in a copy of the circuit without the inputs that are held.
+fn fold_held(
     m: &[u32],
     pins: &[u8],
     user: usize,
@@ -59,4 +59,31 @@ pub fn fold(
         return FoldAnswer::Refused(n);
     }
     fold_known(m, layout, pins, user, q, work, out)
+}
+
+// Writes the hit of a bad line at a frame, under the pins of a user who is known, as a circuit without latches.
+// Where the user holds no input of the circuit, that is the plain operation, and nothing is copied. The call under pins stands once for
+// each user: called in one place it would be inlined, and its copies would take their stack in every call.
+pub fn fold(
+    m: &[u32],
+    pins: &[u8],
+    user: usize,
+    q: Target,
+    work: &mut [u32],
+    out: &mut [u8],
+) -> FoldAnswer
+    requires { ⌜ user ≤ 1 ⌝ }
+    ensures { λ r. ⌜
+        PinnedFolded chosen (now (m .entry)) (pinsOf (now (pins .entry)) user) (q .b) (q .t) (now (work .entry)) (now (out .entry))
+        (answered r)
+        (now (work .exit), now (out .exit))
+        ⌝ }
+{
+    if pinning::none_held(m, pins, user) {
+        return fold::fold(m, q.b, q.t, work, out);
+    }
+    if user == 0 {
+        return fold_held(m, pins, 0, q, work, out);
+    }
+    fold_held(m, pins, 1, q, work, out)
 }

@@ -14,7 +14,7 @@ ghost use Rattle.pinning.specs.Operations.{PinnedSearched};
 ghost use Rattle.search.specs.Chosen.{chosen, said};
 ghost use Rattle.pinned_search.specs.Steps.{PinnedFits, TextIs, OutputIs};
 
-// Searches the pinned circuit. Found leaves its witness at the front of text.
+// Searches the pinned circuit. Found leaves its witness, which has the free inputs alone, at the front of text.
 fn search_text(
     m: &[u32],
     layout: Layout,
@@ -60,13 +60,12 @@ fn search_known(
         (now (out .exit))
         ⌝ }
 {
-    let mut text = [0u8; 66825];
     let inputs = layout.i;
     let b = q.b;
     let start = rows_at(layout.l, b as u32);
-    match search_text(m, layout, pins, user, q, work, &mut text) {
+    match search_text(m, layout, pins, user, q, work, out) {
         SearchAnswer::Found(t) => {
-            expansion::expand(&text, start, t as usize, inputs, pins, user, out);
+            expansion::expand(out, start, t as usize, inputs, pins, user);
             SearchAnswer::Found(t)
         }
         SearchAnswer::Nothing(n) => SearchAnswer::Nothing(n),
@@ -75,8 +74,8 @@ fn search_known(
     }
 }
 
-// Whether the bad line can be reached within the bound by a sequence that obeys the pins of a user who is known.
-pub fn search(
+// Searches under the pins of a user who is known, in a copy of the circuit without the inputs that are held.
+fn search_held(
     m: &[u32],
     pins: &[u8],
     user: usize,
@@ -98,4 +97,31 @@ pub fn search(
         return SearchAnswer::Refused(n);
     }
     search_known(m, layout, pins, user, q, work, out)
+}
+
+// Whether the bad line can be reached within the bound by a sequence that obeys the pins of a user who is known.
+// Where the user holds no input of the circuit, that is the plain operation, and nothing is copied. The call under pins stands once for
+// each user: called in one place it would be inlined, and its copies would take their stack in every call.
+pub fn search(
+    m: &[u32],
+    pins: &[u8],
+    user: usize,
+    q: Terms,
+    work: &mut [u32],
+    out: &mut [u8],
+) -> SearchAnswer
+    requires { ⌜ user ≤ 1 ⌝ }
+    ensures { λ r. ⌜
+        PinnedSearched chosen (now (m .entry)) (pinsOf (now (pins .entry)) user) (q .b) (q .k) (q .d) (now (work .entry))
+        (now (out .entry)) (said r)
+        (now (work .exit), now (out .exit))
+        ⌝ }
+{
+    if pinning::none_held(m, pins, user) {
+        return search::search(m, q.b, q.k, q.d, work, out);
+    }
+    if user == 0 {
+        return search_held(m, pins, 0, q, work, out);
+    }
+    search_held(m, pins, 1, q, work, out)
 }

@@ -3,3 +3,4 @@ pub mod Stores
 pub mod Contents
 pub mod Fresh
 pub mod Tests
+pub mod Free

@@ -11,6 +11,7 @@ ghost use Rattle.aiger.specs.Circuit.{var};
 ghost use Rattle.literals.specs.Literal.{literal, wordOf};
 ghost use Rattle.layout.specs.Words.{word, column, circuitIn};
 ghost use Rattle.pins.specs.Pins.{isHeld, pinsOf, pinOf, constantOf, kept};
+ghost use Rattle.pinning.specs.Free.{noneHeld, inputsSaid};
 ghost use Rattle.pinning.specs.Steps.{stored, heads, PinFits, Pinned};
 
 // The pin of input i of a user.
@@ -23,6 +24,43 @@ pub fn pin_at(pins: &[u8], user: usize, i: usize) -> u8
         return pins[at];
     }
     2
+}
+
+// How many inputs the words of m say, at most 256.
+fn inputs_said(m: &[u32]) -> usize
+    ensures { λ r. ⌜ r ≡ inputsSaid (now (m .entry)) ⌝ }
+{
+    if m.len() < 2 {
+        return 0;
+    }
+    let n = m[1] as usize;
+    if n <= 256 {
+        return n;
+    }
+    256
+}
+
+// Whether a user leaves the first n inputs free.
+fn first_free(pins: &[u8], user: usize, n: usize) -> bool
+    requires { ⌜ (user ≤ 1) × (n ≤ 256) ⌝ }
+    ensures { λ r. ⌜ r ≡ noneHeld (pinsOf (now (pins .entry)) user) n ⌝ }
+{
+    let mut i: usize = 0;
+    while i < n {
+        if pin_at(pins, user, i) < 2 {
+            return false;
+        }
+        i += 1;
+    }
+    true
+}
+
+// Whether a user holds none of the inputs that the words of m say.
+pub fn none_held(m: &[u32], pins: &[u8], user: usize) -> bool
+    requires { ⌜ user ≤ 1 ⌝ }
+    ensures { λ r. ⌜ r ≡ noneHeld (pinsOf (now (pins .entry)) user) (inputsSaid (now (m .entry))) ⌝ }
+{
+    first_free(pins, user, inputs_said(m))
 }
 
 // Literal l, or the constant that it is, where the table gives the pins of the variables.

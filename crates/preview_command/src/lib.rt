@@ -1,5 +1,6 @@
 // The work of the program preview: from the bytes of a file to what is printed, at the fronts of line and out.
 use load::Counts;
+use load::Judgement;
 use load::LoadAnswer;
 use replies::Report;
 ghost use mathlib.Core.Path.{_≡_};
@@ -40,14 +41,14 @@ fn write_needed(out: &mut [u8], needed: usize) -> usize
     replies::write_line(out, b"words ", needed as u32)
 }
 
-// Previews the load of a file.
-pub fn preview(file: &[u8], m: &[u32], out: &mut [u8], line: &mut [u8]) -> Report
-    requires { ⌜ (length (now m) ≡ 33032) × (32 ≤ length (now out)) × (128 ≤ length (now line)) ⌝ }
+// Writes what a preview answers.
+pub fn write_judgement(judgement: Judgement, out: &mut [u8], line: &mut [u8]) -> Report
+    requires { ⌜ (judgement .needed ≤ 33032) × (32 ≤ length (now out)) × (128 ≤ length (now line)) ⌝ }
     ensures { λ r. ⌜
-        Leaves (previewReply (now (file .entry))) (now (line .entry)) (now (out .entry)) r (now (line .exit)) (now (out .exit))
+        Fronts (answerLine (judgement .answer)) (now (line .entry)) (r .line) (now (line .exit))
+        × Fronts (wordsLine (judgement .needed)) (now (out .entry)) (r .out) (now (out .exit))
         ⌝ }
 {
-    let judgement = load::preview(file, m);
     let answer = judgement.answer;
     let needed = judgement.needed;
     let said = write_answer(line, answer);
@@ -56,4 +57,14 @@ pub fn preview(file: &[u8], m: &[u32], out: &mut [u8], line: &mut [u8]) -> Repor
         line: said,
         out: written,
     }
+}
+
+// Previews the load of a file.
+pub fn preview(file: &[u8], m: &[u32], out: &mut [u8], line: &mut [u8]) -> Report
+    requires { ⌜ (length (now m) ≡ 33032) × (32 ≤ length (now out)) × (128 ≤ length (now line)) ⌝ }
+    ensures { λ r. ⌜
+        Leaves (previewReply (now (file .entry))) (now (line .entry)) (now (out .entry)) r (now (line .exit)) (now (out .exit))
+        ⌝ }
+{
+    write_judgement(load::preview(file, m), out, line)
 }

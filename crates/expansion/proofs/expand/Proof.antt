@@ -6,18 +6,22 @@ use Rattle.expansion.proofs.Rows.{expand-all}
 use borrow.Author.Needs.{needs}
 use Rattle.expansion.proofs.expand.Statement.{statement}
 use Rattle.expansion.proofs.expand.Tie as tie
-use Rattle.expansion.proofs.expand.Reads as reads
-use Rattle.expansion.proofs.expand.Lts as lts
-use Rattle.expansion.proofs.copy.Reads as copy-reads
-use Rattle.expansion.proofs.expand_rows.Reads as expand-rows-reads
+
+free-inputs-requires : tie.Need-free-inputs-requires
+free-inputs-requires c κs = (c .before .before .pre .0, c .before .before .pre .1)
+
+expand-rows-requires : tie.Need-expand-rows-requires
+expand-rows-requires c κs = let s = c .before .before .before .before in (s .pre .0, s .pre .1, s .pre .2, s .pre .3, c .before .free-inputs .ensures)
 
 returns : tie.Need-returns
-returns c = let s = c .before .before .before .before .before .before .before .before .before .before .before in
+returns c =
+    let s = c .before .before .before .before .before .before .before in
     let a = s .args in
-    let k = c .before .before .before .before .before .before .copy in
-    let e = c .before .before .expand-rows in
-    expand-all (a .text .now) (pinsOf (a .pins .now) (a .user)) (a .inputs) (a .start) (a .t + 1) (a .out .now) (k .last .1 .1 .0)
-    (e .last .1 .1 .1 .1 .1 .1 .0) (s .pre .3) (omega (arith, s .pre .4)) (k .ensures) (e .ensures)
+    expand-all (pinsOf (a .pins .now) (a .user)) (a .inputs) (a .start) (a .t + 1) (a .out .now) (c .before .before .expand-rows .last .0)
+    (omega (arith, s .pre .3)) (c .before .before .expand-rows .ensures)
 
 pub expand-spec : {M : Type 1} → statement M
-expand-spec = tie.close (tie.spec (λ c κs. search needs) (λ c κs. search needs) (λ c. search needs) returns)
+expand-spec =
+    tie.close
+    (tie.spec
+    free-inputs-requires expand-rows-requires (λ c. search needs) returns)

@@ -12,10 +12,10 @@ use Rattle.expansion.proofs.byte_of.Reads as byte-of-reads
 use Rattle.expansion.proofs.is_one.Reads as is-one-reads
 
 returns : tie.Need-returns
-returns c = let h = lt-ltb (c .before .before .before .args .pin) 2 (omega arith) in (rw h (c .byte-of .ensures), rw h)
+returns c = let h = lt-ltb (c .before .before .before .args .pin) 2 (omega arith) in rw h (c .byte-of .ensures)
 
 returns-2 : tie.Need-returns-2
-returns-2 c = let h = le-ltb (c .before .before .before .before .args .pin) 2 (omega arith) in (rw h (c .byte-of2 .ensures ∙ ap byteOf (c .before .is-one .ensures)), rw h)
+returns-2 c = let h = le-ltb (c .before .before .before .before .args .pin) 2 (omega arith) in rw h (c .byte-of2 .ensures ∙ ap byteOf (c .before .is-one .ensures))
 
 pub expand-bit-spec : {M : Type 1} → statement M
 expand-bit-spec =

@@ -1,76 +1,61 @@
 -- `pinned_fold::fold` meets its contract. Assumes nothing.
-use mathlib.Core.Path.{_≡_}
+use mathlib.Core.Path.{_≡_, sym, _∙_}
 use native.Mathlib.Omega.{arith}
-use lib.ListN.{length}
 use borrow.Author.Needs.{needs}
-use Rattle.aiger.specs.Memory.{Holds}
-use Rattle.aiger.specs.Operations.{Operated, judge, foldTests}
-use Rattle.layout.specs.Words.{circuitIn}
-use Rattle.layout.specs.Layout.{LayoutOf}
-use Rattle.limits.specs.Limits.{told}
-use Rattle.limits.proofs.Sizes.{counts-of, limited}
 use Rattle.pins.specs.Pins.{pinsOf}
-use Rattle.pinned_fold.proofs.Answers.{refused-with, answered-with}
+use Rattle.pinning.proofs.Free.{held-free, plain-folded}
+use Rattle.pinned_fold.proofs.Answers.{folded-for}
 use Rattle.pinned_fold.proofs.fold.Statement.{statement}
 use Rattle.pinned_fold.proofs.fold.Tie as tie
 
--- the circuit that the memory holds
-held : (c : tie.After-layout)
-    → (let m = c .before .before .before .before .before .before .before .args .m .now in
-    LayoutOf m (c .layout .given .0 .0) × Holds m (circuitIn m))
-held c = rw (c .layout .given .1) at (c .before .before .test .ensures)
+none-held-requires : tie.Need-none-held-requires
+none-held-requires c κs = omega arith
 
--- what its tests 10 to 13 say
-tested : (c : tie.After-check-fold)
-    → (let s = c .before .before .before .before .before .before .before .before .before in
-    judge (foldTests (circuitIn (s .args .m .now)) (s .args .q .b) (s .args .q .t)
-    (length (s .args .work .now)) (length (s .args .out .now)))
-    ≡ told (c .check-fold .result))
-tested c = let h = held (c .before .before) in c .check-fold .ensures _ (counts-of (h .1) (h .0))
-
-test-requires : tie.Need-test-requires
-test-requires c κs = tt
-
-returns : tie.Need-returns
-returns c = Operated.noCircuit (rw (c .enum-told .given .1) at (c .before .before .test .ensures))
-
-check-fold-requires : tie.Need-check-fold-requires
-check-fold-requires c κs = let h = held (c .before) in limited (h .1) (h .0)
-
-returns-2 : tie.Need-returns-2
-returns-2 c =
-    let n = c .before in
-    let r = n .before .before in
-    let l = r .before .before in
-    let s = l .before .before .before .before .before .before .before in
-    refused-with (pinsOf (s .args .pins .now) (s .args .user)) (held l .1) (rw (n .n .given .1) at (tested r))
-
-fold-known-requires : tie.Need-fold-known-requires
-fold-known-requires c κs =
-    let t = c .before .before in
-    let r = t .before .before in
-    let l = r .before .before in
-    let h = held l in
-    record { held = h .1; layout-of = h .0; user-of = l .before .before .before .before .before .before .before .pre; tests = rw (t .enum-told2 .given .1) at (tested r) }
+fold-requires : tie.Need-fold-requires
+fold-requires c κs = tt
 
 same-length : tie.Need-same-length
-same-length c = c .before .before .before .before .fold-known .kept .1 .1 .1 .1 .1 .0
+same-length c = c .before .before .before .before .fold .kept .1 .1 .1 .0
 
 same-length-2 : tie.Need-same-length-2
-same-length-2 c = c .before .before .before .before .fold-known .kept .1 .1 .1 .1 .1 .1 .0
+same-length-2 c = c .before .before .before .before .fold .kept .1 .1 .1 .1 .0
+
+returns : tie.Need-returns
+returns c =
+    let a = c .before .before .before .before .before .before .before .before .before .before .before .before .before .args in
+    let q = pinsOf (a .pins .now) (a .user) in
+    plain-folded q (held-free q (sym (c .before .before .before .before .before .before .before .before .none-held .ensures) ∙ c .before .before .before .before .before .before .before .if1 .taken)) (c .before .before .before .before .fold .ensures)
+
+fold-held-requires : tie.Need-fold-held-requires
+fold-held-requires c κs = omega arith
+
+same-length-3 : tie.Need-same-length-3
+same-length-3 c = c .before .before .before .before .fold-held .kept .1 .1 .1 .1 .0
+
+same-length-4 : tie.Need-same-length-4
+same-length-4 c = c .before .before .before .before .fold-held .kept .1 .1 .1 .1 .1 .0
+
+returns-2 : tie.Need-returns-2
+returns-2 c = folded-for (c .before .before .before .before .before .before .before .before .before .before .before .before .before .before .args .pins .now) (c .before .before .before .before .before .before .before .if2 .taken) (c .before .before .before .before .fold-held .ensures)
+
+fold-held-requires-2 : tie.Need-fold-held-requires-2
+fold-held-requires-2 c κs = omega arith
+
+same-length-5 : tie.Need-same-length-5
+same-length-5 c = c .before .before .before .before .fold-held2 .kept .1 .1 .1 .1 .0
+
+same-length-6 : tie.Need-same-length-6
+same-length-6 c = c .before .before .before .before .fold-held2 .kept .1 .1 .1 .1 .1 .0
 
 returns-3 : tie.Need-returns-3
 returns-3 c =
-    let k = c .before .before .before .before in
-    let t = k .before .before .before in
-    let r = t .before .before in
-    let l = r .before .before in
-    let s = l .before .before .before .before .before .before .before in
-    answered-with (pinsOf (s .args .pins .now) (s .args .user)) (held l .1) (rw (t .enum-told2 .given .1) at (tested r)) (k .fold-known .ensures)
+    let a = c .before .before .before .before .before .before .before .before .before .before .before .before .before .before .args in
+    let u : a .user ≡ 1 = omega (arith, c .before .before .before .before .before .before .before .before .before .before .before .before .before .before .pre, c .before .before .before .before .before .before .before .if2 .left) in
+    folded-for (a .pins .now) u (c .before .before .before .before .fold-held2 .ensures)
 
 pub fold-spec : {M : Type 1} → statement M
 fold-spec =
     tie.close
     (tie.spec
-    test-requires (λ c. search needs) (λ c. search needs) returns check-fold-requires (λ c. search needs) returns-2
-    (λ c. search needs) fold-known-requires same-length same-length-2 returns-3)
+    none-held-requires fold-requires same-length same-length-2 returns fold-held-requires same-length-3 same-length-4 returns-2
+    fold-held-requires-2 same-length-5 same-length-6 returns-3)

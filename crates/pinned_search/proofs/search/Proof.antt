@@ -1,76 +1,61 @@
 -- `pinned_search::search` meets its contract. Assumes nothing.
-use mathlib.Core.Path.{_≡_}
+use mathlib.Core.Path.{_≡_, sym, _∙_}
 use native.Mathlib.Omega.{arith}
-use lib.ListN.{length}
 use borrow.Author.Needs.{needs}
-use Rattle.aiger.specs.Memory.{Holds}
-use Rattle.aiger.specs.Operations.{Operated, judge, searchTests}
-use Rattle.layout.specs.Words.{circuitIn}
-use Rattle.layout.specs.Layout.{LayoutOf}
-use Rattle.limits.specs.Limits.{told}
-use Rattle.limits.proofs.Sizes.{counts-of, limited}
 use Rattle.pins.specs.Pins.{pinsOf}
-use Rattle.pinned_search.proofs.Answers.{refused-with, answered}
+use Rattle.pinning.proofs.Free.{held-free, plain-searched}
+use Rattle.pinned_search.proofs.Answers.{searched-for}
 use Rattle.pinned_search.proofs.search.Statement.{statement}
 use Rattle.pinned_search.proofs.search.Tie as tie
 
--- the circuit that the memory holds
-held : (c : tie.After-layout)
-    → (let m = c .before .before .before .before .before .before .before .args .m .now in
-    LayoutOf m (c .layout .given .0 .0) × Holds m (circuitIn m))
-held c = rw (c .layout .given .1) at (c .before .before .test .ensures)
+none-held-requires : tie.Need-none-held-requires
+none-held-requires c κs = omega arith
 
--- what its tests 10 to 13 say
-tested : (c : tie.After-check-search)
-    → (let s = c .before .before .before .before .before .before .before .before .before in
-    judge (searchTests (circuitIn (s .args .m .now)) (s .args .q .b) (s .args .q .k) (s .args .q .d)
-    (length (s .args .work .now)) (length (s .args .out .now)))
-    ≡ told (c .check-search .result))
-tested c = let h = held (c .before .before) in c .check-search .ensures _ (counts-of (h .1) (h .0))
-
-test-requires : tie.Need-test-requires
-test-requires c κs = tt
-
-returns : tie.Need-returns
-returns c = Operated.noCircuit (rw (c .enum-told .given .1) at (c .before .before .test .ensures))
-
-check-search-requires : tie.Need-check-search-requires
-check-search-requires c κs = let h = held (c .before) in limited (h .1) (h .0)
-
-returns-2 : tie.Need-returns-2
-returns-2 c =
-    let n = c .before in
-    let r = n .before .before in
-    let l = r .before .before in
-    let s = l .before .before .before .before .before .before .before in
-    refused-with (pinsOf (s .args .pins .now) (s .args .user)) (held l .1) (rw (n .n .given .1) at (tested r))
-
-search-known-requires : tie.Need-search-known-requires
-search-known-requires c κs =
-    let t = c .before .before in
-    let r = t .before .before in
-    let l = r .before .before in
-    let h = held l in
-    record { held = h .1; layout-of = h .0; user-of = l .before .before .before .before .before .before .before .pre; tests = rw (t .enum-told2 .given .1) at (tested r) }
+search-requires : tie.Need-search-requires
+search-requires c κs = tt
 
 same-length : tie.Need-same-length
-same-length c = c .before .before .before .before .search-known .kept .1 .1 .1 .1 .1 .0
+same-length c = c .before .before .before .before .search .kept .1 .1 .1 .1 .0
 
 same-length-2 : tie.Need-same-length-2
-same-length-2 c = c .before .before .before .before .search-known .kept .1 .1 .1 .1 .1 .1 .0
+same-length-2 c = c .before .before .before .before .search .kept .1 .1 .1 .1 .1 .0
+
+returns : tie.Need-returns
+returns c =
+    let a = c .before .before .before .before .before .before .before .before .before .before .before .before .before .args in
+    let q = pinsOf (a .pins .now) (a .user) in
+    plain-searched q (held-free q (sym (c .before .before .before .before .before .before .before .before .none-held .ensures) ∙ c .before .before .before .before .before .before .before .if1 .taken)) (c .before .before .before .before .search .ensures)
+
+search-held-requires : tie.Need-search-held-requires
+search-held-requires c κs = omega arith
+
+same-length-3 : tie.Need-same-length-3
+same-length-3 c = c .before .before .before .before .search-held .kept .1 .1 .1 .1 .0
+
+same-length-4 : tie.Need-same-length-4
+same-length-4 c = c .before .before .before .before .search-held .kept .1 .1 .1 .1 .1 .0
+
+returns-2 : tie.Need-returns-2
+returns-2 c = searched-for (c .before .before .before .before .before .before .before .before .before .before .before .before .before .before .args .pins .now) (c .before .before .before .before .before .before .before .if2 .taken) (c .before .before .before .before .search-held .ensures)
+
+search-held-requires-2 : tie.Need-search-held-requires-2
+search-held-requires-2 c κs = omega arith
+
+same-length-5 : tie.Need-same-length-5
+same-length-5 c = c .before .before .before .before .search-held2 .kept .1 .1 .1 .1 .0
+
+same-length-6 : tie.Need-same-length-6
+same-length-6 c = c .before .before .before .before .search-held2 .kept .1 .1 .1 .1 .1 .0
 
 returns-3 : tie.Need-returns-3
 returns-3 c =
-    let k = c .before .before .before .before in
-    let t = k .before .before .before in
-    let r = t .before .before in
-    let l = r .before .before in
-    let s = l .before .before .before .before .before .before .before in
-    answered (pinsOf (s .args .pins .now) (s .args .user)) (held l .1) (rw (t .enum-told2 .given .1) at (tested r)) (k .search-known .ensures)
+    let a = c .before .before .before .before .before .before .before .before .before .before .before .before .before .before .args in
+    let u : a .user ≡ 1 = omega (arith, c .before .before .before .before .before .before .before .before .before .before .before .before .before .before .pre, c .before .before .before .before .before .before .before .if2 .left) in
+    searched-for (a .pins .now) u (c .before .before .before .before .search-held2 .ensures)
 
 pub search-spec : {M : Type 1} → statement M
 search-spec =
     tie.close
     (tie.spec
-    test-requires (λ c. search needs) (λ c. search needs) returns check-search-requires (λ c. search needs) returns-2
-    (λ c. search needs) search-known-requires same-length same-length-2 returns-3)
+    none-held-requires search-requires same-length same-length-2 returns search-held-requires same-length-3 same-length-4 returns-2
+    search-held-requires-2 same-length-5 same-length-6 returns-3)
