@@ -1,6 +1,6 @@
 -- What the answer of the stages says. Assumes nothing.
 use mathlib.Core.Path.{_≡_, subst}
-use mathlib.Core.Bool.{false}
+use mathlib.Core.Bool.{true, false}
 use mathlib.Core.List.{List}
 use Prim.Native.Nat.{ℕ, _+_, _≤_}
 use Rattle.aiger.specs.Circuit.{Circuit}
@@ -28,13 +28,16 @@ module _ (c : Circuit) (b k D : ℕ) (work : List ℕ) (r : Rounds) (h : RoundsA
   of-hit e =
       let (x, s, f) = subst (RoundsAre c b k D work) e h in
       let (l, g, v) = choice.stages-found c b k D s in
-      record { place = x; within = l; bits = f; found = g; told = choice.not-told c b k D; shown = v }
+      record { place = x; within = l; bits = f; found = g; told = choice.stages-flag c b k D s; shown = v }
 
   pub of-nothing : r ≡ Nothing → (outcomeChosen c b k D ≡ Outcome.none k) × (neverChosen c b k D ≡ false)
-  of-nothing e = (choice.stages-none c b k D (subst (RoundsAre c b k D work) e h), choice.not-told c b k D)
+  of-nothing e = let s = subst (RoundsAre c b k D work) e h in (choice.stages-none c b k D s, choice.stages-flag c b k D s)
 
-  pub of-never : r ≡ Never → (outcomeChosen c b k D ≡ Outcome.none k) × (neverChosen c b k D ≡ false)
-  of-never e = (choice.stages-never c b k D (subst (RoundsAre c b k D work) e h), choice.not-told c b k D)
+  pub of-never : r ≡ Never → (outcomeChosen c b k D ≡ Outcome.none k) × (neverChosen c b k D ≡ true)
+  of-never e = let s = subst (RoundsAre c b k D work) e h in (choice.stages-never c b k D s, choice.stages-flag c b k D s)
 
   pub of-left : {t : ℕ} → r ≡ Left t → (t ≤ k + 1) × choice.Left c b k D t × (neverChosen c b k D ≡ false)
-  of-left e = let (l, i) = choice.stages-left c b k D (subst (RoundsAre c b k D work) e h) in (l, i, choice.not-told c b k D)
+  of-left e =
+      let s = subst (RoundsAre c b k D work) e h in
+      let (l, i) = choice.stages-left c b k D s in
+      (l, i, choice.stages-flag c b k D s)

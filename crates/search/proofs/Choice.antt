@@ -17,8 +17,8 @@ use Rattle.meaning.proofs.Outcomes.{Decided, first-witness}
 use Rattle.witness.specs.Writing.{SequenceIn}
 use Rattle.decision.specs.Reach.{decisionOf}
 use Rattle.decision.proofs.Deciding.{decided-says, decided-more}
-use Rattle.stages.specs.Endings.{Ending, Cut, Staged, stagedAt, FirstAt, StagedRight}
-use Rattle.stages.specs.Choice.{listed, outcomeOf, chosenFrom, seen, chosenBy}
+use Rattle.stages.specs.Endings.{Cut, Staged, stagedAt, NoHit, FirstAt, StagedRight}
+use Rattle.stages.specs.Choice.{listed, outcomeOf, chosenFrom, seen, chosenBy, isNever, neverBy}
 use Rattle.stages.proofs.Choice.{first-of, on-past}
 use Rattle.stages.proofs.Passing.{hit-seen, cut-seen}
 use Rattle.stages.proofs.Choice as stages
@@ -35,11 +35,6 @@ module _ (c : Circuit) (b : ℕ) where
   chosen-permitted k D small =
       stages.chosen-permitted (question c b) (stagesOf c b) (stages-sound c b) (decisionOf c b) k D small (λ t. decided-says c b t D
       (decisionOf c b t D) refl)
-
-  -- where the flag is told, none is chosen, and no frame at all has a hit
-  pub chosen-never : (k D : ℕ) → NeverOf (question c b) k (chosen c b k D)
-  unfolding chosen neverChosen
-  chosen-never k D h = absurd h
 
   -- Request 13: found with a bound and a budget is found with every larger bound and every larger budget
   pub found-stays : (k k′ D E t : ℕ) → k ≤ k′ → k′ ≤ 255 → D ≤ E → outcomeChosen c b k D ≡ Outcome.found t → outcomeChosen c b k′ E ≡ Outcome.found t
@@ -64,6 +59,26 @@ module _ (c : Circuit) (b : ℕ) where
       more.answer-stays (question c b) (stagesOf c b) (stages-sound c b) (decisionOf c b) (λ t D. decided-says c b t D (decisionOf c b
       t D) refl)
       (λ t D E h n. decided-more c b t D E h n) k D E small m d
+
+  -- the flag: no frame at all has a hit, the search chooses none, and the flag stays with every larger bound and every larger budget
+  pub never-none : (k D : ℕ) → T (neverChosen c b k D) → (t : ℕ) → NoHit (question c b) t
+  unfolding neverChosen
+  never-none k D h = stages.never-none (question c b) (stagesOf c b) (stages-sound c b) k D h
+
+  pub never-chosen : (k D : ℕ) → T (neverChosen c b k D) → outcomeChosen c b k D ≡ Outcome.none k
+  unfolding outcomeChosen neverChosen
+  never-chosen k D h = stages.never-chosen (question c b) (stagesOf c b) (stages-sound c b) k D h (decisionOf c b)
+
+  pub never-stays : (k k′ D E : ℕ) → k ≤ k′ → D ≤ E → T (neverChosen c b k D) → T (neverChosen c b k′ E)
+  unfolding neverChosen
+  never-stays k k′ D E l m h =
+      more.never-stays (question c b) (stagesOf c b) (stages-sound c b) (decisionOf c b) (λ t D. decided-says c b t D (decisionOf c b t
+      D) refl)
+      (λ t D E h n. decided-more c b t D E h n) k k′ D E l m h
+
+  pub chosen-never : (k D : ℕ) → NeverOf (question c b) k (chosen c b k D)
+  unfolding chosen
+  chosen-never k D h = (never-chosen k D h, never-none k D h)
 
 module _ (c : Circuit) (b k D : ℕ) where
   -- the outcome is what frames t to k give
@@ -111,13 +126,14 @@ module _ (c : Circuit) (b k D : ℕ) where
   unfolding outcomeChosen chosenBy
   stages-none e = ap (seen (λ t. decisionOf c b t D) k) e
 
-  pub stages-never : staged ≡ Staged.ends Ending.never → outcomeChosen c b k D ≡ Outcome.none k
-  stages-never e = stages-none (ap (stagedAt k) e)
+  pub stages-never : stagedAt k staged ≡ Cut.never → outcomeChosen c b k D ≡ Outcome.none k
+  unfolding outcomeChosen chosenBy
+  stages-never e = ap (seen (λ t. decisionOf c b t D) k) e
 
-  -- no flag is told
-  pub not-told : neverChosen c b k D ≡ false
-  unfolding neverChosen
-  not-told = refl
+  -- the flag of what is seen
+  pub stages-flag : {s : Cut} → stagedAt k staged ≡ s → neverChosen c b k D ≡ isNever s
+  unfolding neverChosen neverBy
+  stages-flag e = ap isNever e
 
   -- where they are cut off each frame is decided by itself
   pub stages-left : {t : ℕ} → stagedAt k staged ≡ Cut.cutOff t → (t ≤ k + 1) × Left t

@@ -13,13 +13,26 @@ use Rattle.aiger.specs.Operations.{need, budgetRight, Searched, shown, shownLen
 use Rattle.meaning.proofs.Outcomes.{Decided, Found, None, Spent, answer-same, found-out, none-out, spent-out, first-witness}
 use Rattle.roundtrip.proofs.Witness.{run-length}
 use Rattle.roundtrip.proofs.Determined.{OneText, alike-held, acted, searched-same, shown-text, shownText}
-use Rattle.search.specs.Chosen.{outcomeChosen, chosen}
+use Rattle.stages.specs.Endings.{NoHit}
+use Rattle.search.specs.Chosen.{outcomeChosen, neverChosen, chosen}
 use Rattle.limits.proofs.Refusals.{passed}
-use Rattle.search.proofs.Choice.{chosen-permitted, answer-stays, found-stays, none-stays}
+use Rattle.search.proofs.Choice.{chosen-permitted, answer-stays, found-stays, none-stays, never-none, never-chosen, never-stays}
 
 -- the chosen outcome is always permitted, for every bound that is not refused
 pub always-permitted : (c : Circuit) (b k D : ℕ) → k ≤ 255 → T (permitted c b k D (outcomeChosen c b k D))
 always-permitted c b k D small = chosen-permitted c b k D small
+
+-- where the flag is true no frame at all has a hit, however late
+pub never-quiet : (c : Circuit) (b k D : ℕ) → T (neverChosen c b k D) → (t : ℕ) → NoHit (question c b) t
+never-quiet c b k D h = never-none c b k D h
+
+-- and none is chosen
+pub never-answer : (c : Circuit) (b k D : ℕ) → T (neverChosen c b k D) → outcomeChosen c b k D ≡ Outcome.none k
+never-answer c b k D h = never-chosen c b k D h
+
+-- it stays true with every larger bound and every larger budget
+pub never-kept : (c : Circuit) (b k k′ D E : ℕ) → k ≤ k′ → D ≤ E → T (neverChosen c b k D) → T (neverChosen c b k′ E)
+never-kept c b k k′ D E l m h = never-stays c b k k′ D E l m h
 
 -- earlier contents of working memory and output never matter, nor does which memory holds the circuit: two searches answer one thing and
 -- write one text
@@ -122,3 +135,12 @@ module _ {m m′ w w′ w₁ w₂ out out′ o₁ o₂ : List ℕ} {c : Circuit}
       let (small, p, shows) = asked h s in
       let (small′, p′, shows′) = asked h′ s′ in
       p′ ∙ none-stays c b k k′ D E i l more (sym p ∙ f)
+
+  -- none with the flag is none, and with the flag, with every larger bound too
+  pub flag-kept : k ≤ k′ → T (o .never) → (o′ .outcome ≡ Outcome.none k′) × T (o′ .never)
+  unfolding chosen
+  flag-kept l f =
+      let told = ap (λ (r : Report). r .never) (acted h s refl .1 .chose) in
+      let told′ = ap (λ (r : Report). r .never) (acted h′ s′ refl .1 .chose) in
+      let n = never-kept c b k k′ D E l more (subst T told f) in
+      (asked h′ s′ .1 ∙ never-answer c b k′ E n, subst T (sym told′) n)

@@ -6,7 +6,7 @@ use Rattle.aiger.specs.Load.{Answer, refused, gives}
 use Rattle.aiger.specs.Search.{Outcome, Report}
 use Rattle.aiger.specs.Operations.{shownLength}
 use Rattle.decision.specs.Reach.{decisionOf}
-use Rattle.stages.specs.Choice.{chosenBy}
+use Rattle.stages.specs.Choice.{chosenBy, neverBy}
 use Rattle.staged.specs.Schedule.{stagesOf}
 use Rattle.search.specs.declared.SearchAnswer.{SearchAnswer}
 use Rattle.search.specs.declared.SearchAnswer.the-variants.{Found, Nothing, Spent, Refused}
@@ -15,9 +15,9 @@ use Rattle.search.specs.declared.SearchAnswer.the-variants.{Found, Nothi
 unfoldable pub outcomeChosen : Circuit → ℕ → ℕ → ℕ → Outcome
 outcomeChosen c b k D = chosenBy (stagesOf c b) (decisionOf c b) k D
 
--- whether it tells that no frame at all has a hit
+-- whether it finds out that no frame at all has a hit, however late
 unfoldable pub neverChosen : Circuit → ℕ → ℕ → ℕ → Bool
-neverChosen c b k D = false
+neverChosen c b k D = neverBy (stagesOf c b) k D
 
 -- what it reports
 unfoldable pub chosen : Circuit → ℕ → ℕ → ℕ → Report

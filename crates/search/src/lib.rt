@@ -134,7 +134,7 @@ fn search_frames(
     match staged::pass_stages(m, layout, order, Query { b, k, d }, work) {
         Rounds::Hit(t) => show_found(out, m, layout, b as u32, t, work),
         Rounds::Nothing => SearchAnswer::Nothing(k as u32, false),
-        Rounds::Never => SearchAnswer::Nothing(k as u32, false),
+        Rounds::Never => SearchAnswer::Nothing(k as u32, true),
         Rounds::Left(t) => search_from(m, layout, order, t, q, work, out),
     }
 }

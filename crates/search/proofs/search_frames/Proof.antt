@@ -1,7 +1,7 @@
 -- `search::search_frames` meets its contract: what is seen of the stages, or what the frames from the one where they are cut off give.
 -- Assumes nothing.
 use mathlib.Core.Path.{refl, _∙_}
-use mathlib.Core.Bool.{false}
+use mathlib.Core.Bool.{true, false}
 use native.Mathlib.Nat.{le-trans}
 use native.Mathlib.Omega.{arith}
 use borrow.Author.Needs.{needs}
@@ -108,7 +108,7 @@ returns-3 c =
     let C = circuitIn (s .m .now) in
     let f = c .before .before .before .before .pass-stages in
     let (o, n) = of-never C (s .q .b) (s .q .k) (s .q .d) (f .last .1 .1 .1 .1 .0) (f .result) (f .ensures) (c .enum-told2 .given .1) in
-    answered C (s .q .b) (s .q .k) (s .q .d) (Outcome.none (s .q .k)) false o n refl
+    answered C (s .q .b) (s .q .k) (s .q .d) (Outcome.none (s .q .k)) true o n refl
 
 same-length-5 : tie.Need-same-length-5
 same-length-5 c = c .before .before .before .before .search-from .kept .1 .1 .1 .1 .1 .0 ∙ c .before .before .before .before .before .before .before .before .before .before .before .before .pass-stages .kept .1 .1 .1 .1 .0
