@@ -1,18 +1,20 @@
 -- With all pins of a user free every operation is what it is without users. Clause 12.7. Assumes nothing.
-use mathlib.Core.Path.{_≡_}
+use mathlib.Core.Path.{_≡_, refl}
 use mathlib.Core.Bool.{false}
 use mathlib.Core.List.{List}
 use Prim.Native.Nat.{ℕ, _≤_}
 use native.Mathlib.Omega.{arith}
 use Rattle.aiger.specs.Circuit.{Circuit}
 use Rattle.aiger.specs.Load.{Answer}
-use Rattle.aiger.specs.Search.{Outcome}
+use Rattle.aiger.specs.Search.{Report}
 use Rattle.aiger.specs.Operations.{Searched, Folded}
 use Rattle.pins.specs.Pins.{isHeld, pinsOf}
 use Rattle.pinning.proofs.Free.{searched-plain, folded-plain}
+use Rattle.pinning.specs.Operations.{pinnedReport}
 use Rattle.completions.specs.Either.{Verdict}
 use Rattle.completions.specs.Operations.{EitherReplayed, Widened}
 use Rattle.pinned_runs.proofs.Free.{replayed-free, widened-free}
+use Rattle.search.specs.Chosen.{chosen}
 use Rattle.load.specs.declared.Judgement.{Judgement}
 use Rattle.load.specs.Preview.{Previewed}
 use Rattle.load.specs.Answers.{answered}
@@ -33,13 +35,19 @@ first-replaces row P a m′ pins′ x = known-only row 0 (omega arith) a (m′, 
 
 -- ---- operations under pins
 
+-- what the search reports of the circuit itself has the length of its witness
+plain-report : (c : Circuit) (b k D : ℕ) → pinnedReport c b (chosen c b k D) ≡ chosen c b k D
+unfolding chosen
+plain-report c b k D = refl
+
 module _ (pins : List ℕ) (user : ℕ) (u : user ≤ 1) (free : (i : ℕ) → isHeld (pinsOf pins user i) ≡ false) where
   abbrev q : ℕ → ℕ
   q = pinsOf pins user
 
-  pub searched-free : {chosen : Circuit → ℕ → ℕ → ℕ → Outcome} {m w w′ out out′ : List ℕ} {b k D : ℕ} {a : Answer Outcome}
-      → UserSearched chosen m pins user b k D w out a w′ out′ → Searched chosen m b k D w out a w′ out′
-  searched-free {w′ = w′} {out′ = out′} {a = a} x = searched-plain q (λ c h k _ _. free k) (known-only searchRow user u a (w′, out′) x)
+  pub searched-free : {m w w′ out out′ : List ℕ} {b k D : ℕ} {a : Answer Report} → UserSearched chosen m pins user b k D w out a w′ out′
+      → Searched chosen m b k D w out a w′ out′
+  searched-free {w′ = w′} {out′ = out′} {a = a} x =
+      searched-plain q (λ c h k _ _. free k) plain-report (known-only searchRow user u a (w′, out′) x)
 
   pub folded-free : {chosen : Circuit → ℕ → ℕ → Circuit} {m w w′ out out′ : List ℕ} {b t : ℕ} {a : Answer ℕ}
       → UserFolded chosen m pins user b t w out a w′ out′ → Folded chosen m b t w out a w′ out′

@@ -61,14 +61,15 @@ fn search_known(
         ⌝ }
 {
     let inputs = layout.i;
-    let b = q.b;
-    let start = rows_at(layout.l, b as u32);
+    let b = q.b as u32;
+    let start = rows_at(layout.l, b);
     match search_text(m, layout, pins, user, q, work, out) {
-        SearchAnswer::Found(t) => {
+        SearchAnswer::Found(t, _) => {
             expansion::expand(out, start, t as usize, inputs, pins, user);
-            SearchAnswer::Found(t)
+            let length = limits::witness_length(layout, b, t as usize);
+            SearchAnswer::Found(t, length as u32)
         }
-        SearchAnswer::Nothing(n) => SearchAnswer::Nothing(n),
+        SearchAnswer::Nothing(n, never) => SearchAnswer::Nothing(n, never),
         SearchAnswer::Spent(t) => SearchAnswer::Spent(t),
         SearchAnswer::Refused(n) => SearchAnswer::Refused(n),
     }

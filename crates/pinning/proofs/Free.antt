@@ -13,7 +13,7 @@ use Rattle.aiger.specs.Circuit.{Circuit}
 use Rattle.aiger.specs.Load.{Answer}
 use Rattle.aiger.specs.Memory.{Holds}
 use Rattle.aiger.specs.Frames.{Space, bitsIn, freeBits, run}
-use Rattle.aiger.specs.Search.{Outcome, Question, question, reaches, reachesIn, permittedOf}
+use Rattle.aiger.specs.Search.{Outcome, Report, NeverOf, Question, question, reaches, reachesIn, permittedOf}
 use Rattle.aiger.specs.Operations.{Test, Operated, SearchEffect, Searched, FoldEffect, Folded, shown, front}
 use Rattle.aiger.proofs.Tests.{T-true, false-of, below-at}
 use Rattle.meaning.proofs.Lists.{length-map-upto}
@@ -24,7 +24,7 @@ use Rattle.pins.specs.Pins.{isHeld, pinned, pinnedQuestion}
 use Rattle.pins.proofs.Questions.{AllFree, pinned-free, space-free, witness-free}
 use Rattle.pinning.specs.Free.{noneHeld, inputsSaid}
 use Rattle.pinning.proofs.Tables.{getD-past}
-use Rattle.pinning.specs.Operations.{PinnedSearchEffect, PinnedSearched, PinnedFolded, pinnedShown}
+use Rattle.pinning.specs.Operations.{PinnedSearchEffect, PinnedSearched, PinnedFolded, pinnedReport, pinnedShown}
 
 -- ---- how many inputs the words say
 
@@ -98,21 +98,27 @@ module _ (q : ℕ → ℕ) (c : Circuit) (free : AllFree q 0 (length (c .inputs)
   shown-free b (Outcome.spent t) out = refl
 
 module _ (q : ℕ → ℕ) {m : List ℕ} (free : (c : Circuit) → Holds m c → AllFree q 0 (length (c .inputs))) where
-  module _ {chosen : Circuit → ℕ → ℕ → ℕ → Outcome} {b k D : ℕ} {w w′ out out′ : List ℕ} {a : Answer Outcome} where
+  -- where what is chosen of a circuit has the length of the circuit's witness
+  module _ {chosen : Circuit → ℕ → ℕ → ℕ → Report} {b k D : ℕ} {w w′ out out′ : List ℕ} {a : Answer Report}
+      (exact : (c : Circuit) (b k D : ℕ) → pinnedReport c b (chosen c b k D) ≡ chosen c b k D) where
     pub searched-plain : PinnedSearched chosen m q b k D w out a (w′, out′) → Searched chosen m b k D w out a w′ out′
     searched-plain =
         operated-as (λ c h o l e. record {
-          chose = e .chose ∙ ap (λ (d : Circuit). chosen d b k D) (pinned-free q c (free c h));
-          allowed = subst (λ (z : Question). T (permittedOf z k D o)) (question-free q c (free c h) b) (e .allowed);
-          shows = e .shows ∙ shown-free q c (free c h) b o out;
+          chose = e .chose ∙ ap (λ (d : Circuit). pinnedReport c b (chosen d b k D)) (pinned-free q c (free c h)) ∙ exact c b k D;
+          allowed = subst (λ (z : Question). T (permittedOf z k D (o .outcome))) (question-free q c (free c h) b) (e .allowed);
+          measured = e .measured;
+          never = subst (λ (z : Question). NeverOf z k o) (question-free q c (free c h) b) (e .never);
+          shows = e .shows ∙ shown-free q c (free c h) b (o .outcome) out;
         })
 
     pub plain-searched : Searched chosen m b k D w out a w′ out′ → PinnedSearched chosen m q b k D w out a (w′, out′)
     plain-searched =
         operated-as (λ c h o l e. record {
-          chose = e .chose ∙ ap (λ (d : Circuit). chosen d b k D) (sym (pinned-free q c (free c h)));
-          allowed = subst (λ (z : Question). T (permittedOf z k D o)) (sym (question-free q c (free c h) b)) (e .allowed);
-          shows = e .shows ∙ sym (shown-free q c (free c h) b o out);
+          chose = e .chose ∙ sym (exact c b k D) ∙ ap (λ (d : Circuit). pinnedReport c b (chosen d b k D)) (sym (pinned-free q c (free c h)));
+          allowed = subst (λ (z : Question). T (permittedOf z k D (o .outcome))) (sym (question-free q c (free c h) b)) (e .allowed);
+          measured = e .measured;
+          never = subst (λ (z : Question). NeverOf z k o) (sym (question-free q c (free c h) b)) (e .never);
+          shows = e .shows ∙ sym (shown-free q c (free c h) b (o .outcome) out);
         })
 
   module _ {chosen : Circuit → ℕ → ℕ → Circuit} {b t : ℕ} {w w′ out out′ : List ℕ} {a : Answer ℕ} where

@@ -4,7 +4,7 @@ use native.Mathlib.Omega.{arith}
 use borrow.Author.Needs.{needs}
 use Rattle.pins.specs.Pins.{pinsOf}
 use Rattle.pinning.proofs.Free.{held-free, plain-searched}
-use Rattle.pinned_search.proofs.Answers.{searched-for}
+use Rattle.pinned_search.proofs.Answers.{plain-report, searched-for}
 use Rattle.pinned_search.proofs.search.Statement.{statement}
 use Rattle.pinned_search.proofs.search.Tie as tie
 
@@ -24,7 +24,7 @@ returns : tie.Need-returns
 returns c =
     let a = c .before .before .before .before .before .before .before .before .before .before .before .before .before .args in
     let q = pinsOf (a .pins .now) (a .user) in
-    plain-searched q (held-free q (sym (c .before .before .before .before .before .before .before .before .none-held .ensures) ∙ c .before .before .before .before .before .before .before .if1 .taken)) (c .before .before .before .before .search .ensures)
+    plain-searched q (held-free q (sym (c .before .before .before .before .before .before .before .before .none-held .ensures) ∙ c .before .before .before .before .before .before .before .if1 .taken)) plain-report (c .before .before .before .before .search .ensures)
 
 search-held-requires : tie.Need-search-held-requires
 search-held-requires c κs = omega arith
