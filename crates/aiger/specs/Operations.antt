@@ -11,7 +11,7 @@ use lib.ListN.{length, drop}
 use Rattle.aiger.specs.Circuit.{Circuit}
 use Rattle.aiger.specs.Load.{Answer, refused, gives, load}
 use Rattle.aiger.specs.Frames.{size}
-use Rattle.aiger.specs.Search.{Outcome, permitted, firstWitness}
+use Rattle.aiger.specs.Search.{Outcome, Report, NeverOf, question, permitted, firstWitness}
 use Rattle.aiger.specs.Witness.{Witness, witnessLength, readWitness, confirms}
 use Rattle.aiger.specs.Write.{countRow, write}
 use Rattle.aiger.specs.Memory.{Holds, image}
@@ -82,16 +82,24 @@ shown c b (Outcome.found t) out = front (firstWitness c b t) out
 shown c b (Outcome.none k) out = out
 shown c b (Outcome.spent t) out = out
 
+-- the length of the witness that found leaves, 0 where there is none
+abbrev pub shownLength : Circuit → ℕ → Outcome → ℕ
+shownLength c b (Outcome.found t) = witnessLength c b t
+shownLength c b (Outcome.none k) = 0
+shownLength c b (Outcome.spent t) = 0
+
 -- search: where several outcomes are permitted the program's choice is a function of the circuit, b, k and D alone, so that
 -- what working memory held never matters (Clause 3.7). Working memory and output are lent to be written; what working memory holds after
 -- is not promised.
-pub record SearchEffect (chosen : Circuit → ℕ → ℕ → ℕ → Outcome) (b k D : ℕ) (out : List ℕ)
-    (c : Circuit) (o : Outcome) (left : List ℕ × List ℕ) : Type 0 where
+pub record SearchEffect (chosen : Circuit → ℕ → ℕ → ℕ → Report) (b k D : ℕ) (out : List ℕ)
+    (c : Circuit) (o : Report) (left : List ℕ × List ℕ) : Type 0 where
   pub chose : o ≡ chosen c b k D
-  pub allowed : T (permitted c b k D o)
-  pub shows : left .1 ≡ shown c b o out
+  pub allowed : T (permitted c b k D (o .outcome))
+  pub measured : o .length ≡ shownLength c b (o .outcome)
+  pub never : NeverOf (question c b) k o
+  pub shows : left .1 ≡ shown c b (o .outcome) out
 
-abbrev pub Searched : (Circuit → ℕ → ℕ → ℕ → Outcome) → List ℕ → ℕ → ℕ → ℕ → List ℕ → List ℕ → Answer Outcome → List ℕ → List ℕ → Type 0
+abbrev pub Searched : (Circuit → ℕ → ℕ → ℕ → Report) → List ℕ → ℕ → ℕ → ℕ → List ℕ → List ℕ → Answer Report → List ℕ → List ℕ → Type 0
 Searched chosen m b k D w out a w′ out′ =
     Operated m (λ c. searchTests c b k D (length w) (length out)) (w, out) (SearchEffect chosen b k D out) a (w′, out′)
 

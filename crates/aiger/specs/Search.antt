@@ -1,9 +1,10 @@
 -- What a search may answer. Assumes nothing.
+use mathlib.Core.Path.{_≡_}
 use mathlib.Core.Bool.{Bool, not, cond, _&&_}
 use mathlib.Core.List.{List, []}
 use mathlib.Core.Option.{Option}
-use Prim.Native.Nat.{ℕ, zero, suc, _+_, _^_}
-use lib.Dec.{leb, ltb, eqb}
+use Prim.Native.Nat.{ℕ, zero, suc, _+_, _^_, _<_}
+use lib.Dec.{T, leb, ltb, eqb}
 use Rattle.aiger.specs.Lists.{everyBelow}
 use Rattle.aiger.specs.Circuit.{Circuit}
 use Rattle.aiger.specs.Frames.{Space, space, runIn, hits, freeBits, run}
@@ -53,6 +54,13 @@ pub data Outcome : Type 0 where
   none : ℕ → Outcome
   spent : ℕ → Outcome
 
+-- what a search reports: the outcome, the length of the witness that found leaves (0 otherwise), and whether it knows that no frame at
+-- all, however late, has a hit
+pub record Report : Type 0 where
+  pub outcome : Outcome
+  pub length : ℕ
+  pub never : Bool
+
 -- what may be decided of frame t, from its first place on
 abbrev pub decidesAt : Question → ℕ → ℕ → Decision → Bool
 decidesAt q t D d = decides (q .hitting t) (q .places t) 0 D d
@@ -77,6 +85,10 @@ unfoldable pub permittedOf : Question → ℕ → ℕ → Outcome → Bool
 permittedOf q k D (Outcome.found t) = leb t k && clearBefore q t && not (clearAt q t)
 permittedOf q k D (Outcome.none j) = eqb j k && clearBefore q (k + 1)
 permittedOf q k D (Outcome.spent t) = leb t k && clearBefore q t && decidesAt q t D Decision.spent
+
+-- where a search knows that no frame at all has a hit, it answers none, and no frame, also past the bound k, has one
+abbrev pub NeverOf : Question → ℕ → Report → Type 0
+NeverOf q k o = T (o .never) → (o .outcome ≡ Outcome.none k) × ((t x : ℕ) → x < q .places t → T (q .hitting t x) → ⊥)
 
 -- ---- the question about bad line b of a circuit
 

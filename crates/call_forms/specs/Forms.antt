@@ -8,7 +8,7 @@ use lib.ListN.{length, set}
 use Rattle.aiger.specs.Lists.{upto}
 use Rattle.aiger.specs.Circuit.{Circuit}
 use Rattle.aiger.specs.Load.{Answer, refused, gives, load, _>>=_}
-use Rattle.aiger.specs.Search.{Outcome}
+use Rattle.aiger.specs.Search.{Report}
 use Rattle.aiger.specs.Operations.{Loaded, Written, Operated, Test, need, judge}
 use Rattle.completions.specs.Either.{Verdict}
 use Rattle.pins.specs.Pins.{pinsOf}
@@ -93,7 +93,7 @@ PinSet m user input value shared a shared′ =
 
 -- ---- operations under the user's pins
 
-abbrev pub UserSearched : (Circuit → ℕ → ℕ → ℕ → Outcome) → List ℕ → List ℕ → ℕ → ℕ → ℕ → ℕ → List ℕ → List ℕ → Answer Outcome
+abbrev pub UserSearched : (Circuit → ℕ → ℕ → ℕ → Report) → List ℕ → List ℕ → ℕ → ℕ → ℕ → ℕ → List ℕ → List ℕ → Answer Report
     → List ℕ → List ℕ → Type 0
 UserSearched chosen m shared user b k D w out a w′ out′ =
     ForUser searchRow user (w, out) (PinnedSearched chosen m (pinsOf shared user) b k D w out) a (w′, out′)

@@ -6,7 +6,7 @@ use mathlib.Core.List.{List, [], _∷_}
 use Prim.Native.Nat.{ℕ, _+_, _*_, _≤_, _<_}
 use lib.ListN.{length, getD}
 use Rattle.aiger.specs.Load.{Answer, refused, gives}
-use Rattle.aiger.specs.Search.{Outcome}
+use Rattle.aiger.specs.Search.{Report}
 use Rattle.completions.specs.Either.{Verdict}
 use Rattle.search.specs.Chosen as Search
 use Rattle.fold.specs.Chosen as Fold
@@ -64,7 +64,7 @@ pub data Call : Type 0 where
 pub data Returned : Type 0 where
   loaded : Answer (List ℕ) → Returned
   pinned : Answer (Unit {0}) → Returned
-  searched : Answer Outcome → List ℕ → Returned
+  searched : Answer Report → List ℕ → Returned
   folded : Answer ℕ → List ℕ → Returned
   written : Answer ℕ → List ℕ → Returned
   previewed : Answer (List ℕ) → ℕ → Returned
@@ -132,7 +132,7 @@ pub data Step (s : State) : Call → Returned → State → Type 0 where
       → Step s (Call.load user file) (Returned.loaded a) (record { memory = m′; work = s .work; pins = p′ })
   pins : {user input value : ℕ} {p′ : List ℕ} {a : Answer (Unit {0})} → PinSet (s .memory) user input value (s .pins) a p′
       → Step s (Call.setPin user input value) (Returned.pinned a) (record { memory = s .memory; work = s .work; pins = p′ })
-  searches : {user b k D : ℕ} {out w′ out′ : List ℕ} {a : Answer Outcome}
+  searches : {user b k D : ℕ} {out w′ out′ : List ℕ} {a : Answer Report}
       → UserSearched Search.chosen (s .memory) (s .pins) user b k D (s .work) out a w′ out′
       → length w′ ≡ length (s .work)
       → Step s (Call.search user b k D out) (Returned.searched a out′) (record { memory = s .memory; work = w′; pins = s .pins })

@@ -14,7 +14,7 @@ use Rattle.aiger.specs.Lists.{upto}
 use Rattle.aiger.specs.Circuit.{Circuit}
 use Rattle.aiger.specs.Load.{Answer, refused, gives, load, _>>=_}
 use Rattle.aiger.specs.Memory.{Holds, image}
-use Rattle.aiger.specs.Search.{Outcome}
+use Rattle.aiger.specs.Search.{Report}
 use Rattle.aiger.specs.Write.{countRow}
 use Rattle.aiger.specs.Operations.{Loaded, Written, Operated, Test, judge, searchTests, foldTests, front}
 use Rattle.aiger.proofs.Tests.{and-left, and-right}
@@ -92,7 +92,7 @@ module _ {m m′ : List ℕ} (pins pins′ w w′ out w₁ w₂ o₁ o₂ : List
   alike : Alike m m′
   alike = subst (Alike m) e alike-self
 
-  pub search-same : (b k D : ℕ) (x y : Answer Outcome) → UserSearched Search.chosen m pins u b k D w out x w₁ o₁
+  pub search-same : (b k D : ℕ) (x y : Answer Report) → UserSearched Search.chosen m pins u b k D w out x w₁ o₁
       → UserSearched Search.chosen m′ pins′ u b k D w′ out y w₂ o₂ → (x ≡ y) × (o₁ ≡ o₂)
   search-same b k D x y s t =
       tested-same (λ (x y : List ℕ × List ℕ). x .1 ≡ y .1) refl
@@ -100,13 +100,13 @@ module _ {m m′ : List ℕ} (pins pins′ w w′ out w₁ w₂ o₁ o₂ : List
       operated-same (λ (x y : List ℕ × List ℕ). x .1 ≡ y .1) alike (λ c. ap (λ (n : ℕ). searchTests c b k D n (length out)) l) refl one f g)
       x y (w₁, o₁) (w₂, o₂) s t
     where
-      one : (c : Circuit) (o o′ : Outcome) (y z : List ℕ × List ℕ) → PinnedSearchEffect Search.chosen (pinsOf pins u) b k D out c o y
+      one : (c : Circuit) (o o′ : Report) (y z : List ℕ × List ℕ) → PinnedSearchEffect Search.chosen (pinsOf pins u) b k D out c o y
           → PinnedSearchEffect Search.chosen (pinsOf pins′ u) b k D out c o′ z → (o ≡ o′) × (y .1 ≡ z .1)
       one c o o′ y z f g =
           let h : PinnedSearchEffect Search.chosen (pinsOf pins u) b k D out c o′ z =
           subst (λ (p : ℕ → ℕ). PinnedSearchEffect Search.chosen p b k D out c o′ z) (sym q) g in
           let same : o ≡ o′ = f .chose ∙ sym (h .chose) in
-          (same, f .shows ∙ ap (λ (v : Outcome). pinnedShown c (pinsOf pins u) b v out) same ∙ sym (h .shows))
+          (same, f .shows ∙ ap (λ (v : Report). pinnedShown c (pinsOf pins u) b (v .outcome) out) same ∙ sym (h .shows))
 
   pub fold-same : (b t : ℕ) (x y : Answer ℕ) → UserFolded Fold.chosen m pins u b t w out x w₁ o₁
       → UserFolded Fold.chosen m′ pins′ u b t w′ out y w₂ o₂ → (x ≡ y) × (o₁ ≡ o₂)

@@ -9,14 +9,15 @@ use lib.ListN.{length}
 use Rattle.aiger.specs.Circuit.{Circuit}
 use Rattle.aiger.specs.Load.{Answer}
 use Rattle.aiger.specs.Frames.{Space, bitsIn, freeBits, space, run}
-use Rattle.aiger.specs.Search.{Outcome, Question, question, reaches, reachesIn, permitted, permittedOf}
+use Rattle.aiger.specs.Search.{Outcome, Report, Question, NeverOf, question, reaches, reachesIn, permitted, permittedOf}
 use Rattle.aiger.specs.Operations.{Operated, Searched, SearchEffect, searchTests, Folded, FoldEffect, foldTests, shown, front}
 use Rattle.pins.specs.Pins.{isHeld, pinsOf, pinned, pinnedSpace, pinnedQuestion, pinnedWitness}
 use Rattle.pins.proofs.Questions.{pinned-free, space-free, witness-free}
-use Rattle.pinning.specs.Operations.{PinnedSearchEffect, PinnedFoldEffect, pinnedShown}
+use Rattle.pinning.specs.Operations.{PinnedSearchEffect, PinnedFoldEffect, pinnedReport, pinnedShown}
 use Rattle.completions.specs.Either.{Verdict}
 use Rattle.completions.specs.Operations.{EitherReplayed, Widened}
 use Rattle.pinned_runs.proofs.Free.{replayed-free, widened-free}
+use Rattle.search.specs.Chosen.{chosen}
 use Rattle.load.specs.declared.Judgement.{Judgement}
 use Rattle.load.specs.Preview.{Previewed}
 use Rattle.load.specs.Answers.{answered}
@@ -55,20 +56,27 @@ module _ (pins : List ℕ) (user : ℕ) (u : user ≤ 1) (free : (i : ℕ) → i
   same : (c : Circuit) → pinned c q ≡ c
   same c = pinned-free q c (λ k _ _. free k)
 
-  pub searched-free : {chosen : Circuit → ℕ → ℕ → ℕ → Outcome} {m w w′ out out′ : List ℕ} {b k D : ℕ} {a : Answer Outcome}
-      → UserSearched chosen m pins user b k D w out a w′ out′ → Searched chosen m b k D w out a w′ out′
-  searched-free {chosen} {m} {w} {w′} {out} {out′} {b} {k} {D} {a} x = go (known-only searchRow user u a (w′, out′) x)
+  -- what the search reports of the circuit itself has the length of its witness
+  plain-report : (c : Circuit) (b k D : ℕ) → pinnedReport c b (chosen c b k D) ≡ chosen c b k D
+  unfolding chosen
+  plain-report c b k D = refl
+
+  pub searched-free : {m w w′ out out′ : List ℕ} {b k D : ℕ} {a : Answer Report} → UserSearched chosen m pins user b k D w out a w′ out′
+      → Searched chosen m b k D w out a w′ out′
+  searched-free {m} {w} {w′} {out} {out′} {b} {k} {D} {a} x = go (known-only searchRow user u a (w′, out′) x)
     where
-      go : {a : Answer Outcome} {l : List ℕ × List ℕ} → Operated m (λ c. searchTests c b k D (length w) (length out)) (w, out) (PinnedSearchEffect chosen q b k D out) a l
+      go : {a : Answer Report} {l : List ℕ × List ℕ} → Operated m (λ c. searchTests c b k D (length w) (length out)) (w, out) (PinnedSearchEffect chosen q b k D out) a l
           → Operated m (λ c. searchTests c b k D (length w) (length out)) (w, out) (SearchEffect chosen b k D out) a l
       go (Operated.noCircuit h) = Operated.noCircuit h
       go (Operated.refuses c h j) = Operated.refuses c h j
       go (Operated.acts c {a = o} h j e) =
           Operated.acts c h j
           (record {
-            chose = e .chose ∙ ap (λ (d : Circuit). chosen d b k D) (same c);
-            allowed = subst (λ (z : Question). T (permittedOf z k D o)) (question-free q free c b) (e .allowed);
-            shows = e .shows ∙ shown-free q free c b o out;
+            chose = e .chose ∙ ap (λ (d : Circuit). pinnedReport c b (chosen d b k D)) (same c) ∙ plain-report c b k D;
+            allowed = subst (λ (z : Question). T (permittedOf z k D (o .outcome))) (question-free q free c b) (e .allowed);
+            measured = e .measured;
+            never = subst (λ (z : Question). NeverOf z k o) (question-free q free c b) (e .never);
+            shows = e .shows ∙ shown-free q free c b (o .outcome) out;
           })
 
   pub folded-free : {chosen : Circuit → ℕ → ℕ → Circuit} {m w w′ out out′ : List ℕ} {b t : ℕ} {a : Answer ℕ}

@@ -8,7 +8,6 @@ use lib.ListN.{length, getD, set, replicate}
 use Rattle.aiger.specs.Circuit.{Circuit}
 use Rattle.aiger.specs.Load.{Answer, refused, gives}
 use Rattle.aiger.specs.Memory.{Holds}
-use Rattle.aiger.specs.Search.{Outcome}
 use Rattle.aiger.specs.Operations.{Loaded, Written, Operated, HoldsNone, Test, judge, searchTests, foldTests}
 use Rattle.pins.specs.Pins.{pinsOf}
 use Rattle.pinning.specs.Operations.{PinnedSearchEffect, PinnedFoldEffect}
@@ -139,7 +138,7 @@ own-moves {s = s} {t = t} a (Step.searches {user = user} {b = b} {k = k} {D = D}
           (λ v l p. operated-moves (λ (l : List ℕ × List ℕ). (t .work, l .1)) (a .memory) (λ c. ap (λ (n : ℕ). searchTests c b k D n (length out)) (a .work))
           (λ c v l f.
           subst (λ (q : ℕ → ℕ). PinnedSearchEffect Search.chosen q b k D out c v (t .work, l .1)) (own-pins user (s .pins) (t .pins) (a .own))
-          (record { chose = f .chose; allowed = f .allowed; shows = f .shows })) p)
+          (record { chose = f .chose; allowed = f .allowed; measured = f .measured; never = f .never; shows = f .shows })) p)
           x) refl;
       same = kept user a e;
     }

@@ -177,7 +177,7 @@ module _ (m : Machine) (f : Fair m) where
   abbrev pub Says : ℕ → Layered → Type 0
   Says end (hit t x) = (t < end) × QuietBefore m t × FirstHit m t x
   Says end clear = QuietBefore m end
-  Says end never = (t : ℕ) → Quiet m t
+  Says end (never t) = (t < end) × ((u : ℕ) → Quiet m u)
   Says end (gaveUp t) = (t ≤ end) × QuietBefore m t
 
   module _ (quota : ℕ → ℕ) where
@@ -196,14 +196,16 @@ module _ (m : Machine) (f : Fair m) where
             → (QuietBefore m (suc t) → Layer m (suc t) (expanded m es lo (layerSlots m es lo)) (length es)
             → Says end (layersFrom m quota n (suc t) (expanded m es lo (layerSlots m es lo)) (length es)))
             → (p q : Bool) → eqb (length (expanded m es lo (layerSlots m es lo))) (length es) ≡ q
-            → Says end (cond p (cond q never (layersFrom m quota n (suc t) (expanded m es lo (layerSlots m es lo)) (length es))) (gaveUp
+            → Says end (cond p (cond q (never t) (layersFrom m quota n (suc t) (expanded m es lo (layerSlots m es lo)) (length es))) (gaveUp
             (suc t)))
         rest-of s k false q w = (omega arith, before-more t b (frame-quiet t es lo layer s))
-        rest-of s k true true w =
-            λ u. elim (decLt t u) [
-              | yes h ↦ quiet-after t es lo layer s (eqb-true _ _ w) u h
-              | no h ↦ before-more t b (frame-quiet t es lo layer s) u (omega arith)
-            ]
+        rest-of s k true true w = (
+          omega arith,
+          λ u. elim (decLt t u) [
+            | yes h ↦ quiet-after t es lo layer s (eqb-true _ _ w) u h
+            | no h ↦ before-more t b (frame-quiet t es lo layer s) u (omega arith)
+          ],
+        )
         rest-of s k true false w = k (before-more t b (frame-quiet t es lo layer s)) (layer-next m f t es lo layer s)
 
         go : (o : Option ℕ) → Least (slotHit m es lo) (layerSlots m es lo) o
@@ -213,7 +215,7 @@ module _ (m : Machine) (f : Fair m) where
               | some z ↦ hit t (slotPlace m es lo z)
               | none ↦
                   cond (leb (length (expanded m es lo (layerSlots m es lo))) (quota t))
-                  (cond (eqb (length (expanded m es lo (layerSlots m es lo))) (length es)) never
+                  (cond (eqb (length (expanded m es lo (layerSlots m es lo))) (length es)) (never t)
                   (layersFrom m quota n (suc t) (expanded m es lo (layerSlots m es lo)) (length es)))
                   (gaveUp (suc t))
             ])
@@ -223,8 +225,7 @@ module _ (m : Machine) (f : Fair m) where
             lo))) (length es)) refl
 
     -- a hit is the first of the first frame that has one; clear: no frame before n has a hit; never: no frame has one; given up at t: no
-    -- frame
-    -- before t has one
+    -- frame before t has one
     pub layered-says : (n : ℕ) → Says n (layered m quota n)
     unfolding layered
     layered-says n = go (leb (length (started m (m .starts))) (quota 0))

@@ -61,11 +61,11 @@ abbrev pub layerSlots : Machine → List Entry → ℕ → ℕ
 layerSlots m es lo = (length es - lo) * m .slots
 
 -- what the layers say: frame t is the first with a hit, and its first one is x; no frame that was asked has a hit; no frame at all has one,
--- however late; or the search was given up, where no frame before t has a hit
+-- however late, where the layer of frame t led to no new state; or the search was given up, where no frame before t has a hit
 pub data Layered : Type 0 where
   hit : ℕ → ℕ → Layered
   clear : Layered
-  never : Layered
+  never : ℕ → Layered
   gaveUp : ℕ → Layered
 
 -- Frames t to t + n - 1, where es are the states met and the layer of frame t begins at entry lo. The search is given up at frame t + 1
@@ -77,7 +77,7 @@ layersFrom m quota (suc n) t es lo =
       | some z ↦ hit t (slotPlace m es lo z)
       | none ↦
           cond (leb (length (expanded m es lo (layerSlots m es lo))) (quota t))
-          (cond (eqb (length (expanded m es lo (layerSlots m es lo))) (length es)) never
+          (cond (eqb (length (expanded m es lo (layerSlots m es lo))) (length es)) (never t)
           (layersFrom m quota n (suc t) (expanded m es lo (layerSlots m es lo)) (length es)))
           (gaveUp (suc t))
     ]

@@ -1,6 +1,6 @@
 -- From the answer of the search of the pinned circuit to the answer for the user. Assumes nothing.
 use mathlib.Core.Path.{_≡_, refl, sym, ap, ap₂, _∙_, subst}
-use mathlib.Core.Bool.{true, false}
+use mathlib.Core.Bool.{Bool, true, false}
 use mathlib.Core.List.{List, [], _∷_}
 use Prim.Native.Nat.{ℕ, _+_, _*_, _≤_, _<_}
 use native.Mathlib.Nat.{mul-le-mul-left, mul-le-mul-right}
@@ -11,7 +11,7 @@ use Rattle.aiger.specs.Text.{digits}
 use Rattle.aiger.specs.Circuit.{Circuit}
 use Rattle.aiger.specs.Load.{Answer, refused, gives}
 use Rattle.aiger.specs.Memory.{Holds}
-use Rattle.aiger.specs.Search.{Outcome, question, permitted}
+use Rattle.aiger.specs.Search.{Question, Outcome, Report, NeverOf, question, permitted}
 use Rattle.aiger.specs.Witness.{witnessLength}
 use Rattle.aiger.specs.Operations.{front, need, judge, boundTests, budgetRight, Operated, searchTests, Searched, SearchEffect, shown}
 use Rattle.aiger.proofs.Tests.{T-true, true-T}
@@ -22,15 +22,16 @@ use Rattle.meaning.proofs.Outcomes.{found-out}
 use Rattle.numbers.proofs.Digits.{digits-short}
 use Rattle.roundtrip.proofs.LoadWrite.{counts-fit}
 use Rattle.roundtrip.proofs.Holding.{held-valid}
+use Rattle.limits.specs.Limits.{lengthOf}
 use Rattle.limits.proofs.Refusals.{passed, passes, judge-rest, judge-passed, length-enough}
-use Rattle.limits.proofs.Sizes.{counts-of, length-within}
+use Rattle.limits.proofs.Sizes.{counts-of, length-is, length-within}
 use Rattle.pins.specs.Pins.{pinned, pinnedWitness}
-use Rattle.pins.proofs.Questions.{pinned-permitted}
+use Rattle.pins.proofs.Questions.{pinned-question, pinned-permitted}
 use Rattle.expansion.specs.Rows.{rowsText, expanded}
 use Rattle.expansion.proofs.Witnesses.{rowsAt, length-rows, expanded-first}
-use Rattle.pinning.specs.Operations.{PinnedSearched, PinnedSearchEffect, pinnedShown}
+use Rattle.pinning.specs.Operations.{PinnedSearched, PinnedSearchEffect, pinnedReport, pinnedShown}
 use Rattle.pinning.proofs.Tests.{acts-only, search-pinned, length-pinned}
-use Rattle.search.specs.Chosen.{chosen}
+use Rattle.search.specs.Chosen.{chosen, foundReport, noneReport, spentReport}
 use Rattle.pinned_search.specs.Steps.{PinnedFits, TextIs, OutputIs}
 
 -- the longest witness
@@ -76,7 +77,7 @@ module _ {m : List ℕ} {p : Layout} {user b k D room len : ℕ} (f : PinnedFits
       }
 
   -- the search of words that hold the pinned circuit
-  pub text-is : (q : ℕ → ℕ) {words w w′ text text′ : List ℕ} {a : Answer Outcome} → length w ≡ room → witnessLength c b k ≤ length text → Holds words (pinned c q)
+  pub text-is : (q : ℕ → ℕ) {words w w′ text text′ : List ℕ} {a : Answer Report} → length w ≡ room → witnessLength c b k ≤ length text → Holds words (pinned c q)
       → Searched chosen words b k D w text a w′ text′ → TextIs c q b k D text a text′
   text-is q {words} {w} {w′} {text} {text′} {a} e l h s =
       let j = search-pinned c q b k D room len (length text) (f .tests) (omega (arith, length-pinned c q b k)) in
@@ -86,21 +87,25 @@ module _ {m : List ℕ} {p : Layout} {user b k D room len : ℕ} (f : PinnedFits
       let x = r .2 in
       record {
         says = r .1 ∙ ap gives (x .chose);
-        allowed = subst (λ (o : Outcome). T (permitted (pinned c q) b k D o)) (x .chose) (x .allowed);
-        shows = x .shows ∙ ap (λ (o : Outcome). shown (pinned c q) b o text) (x .chose);
+        allowed = subst (λ (o : Report). T (permitted (pinned c q) b k D (o .outcome))) (x .chose) (x .allowed);
+        never = subst (NeverOf (question (pinned c q) b) k) (x .chose) (x .never);
+        shows = x .shows ∙ ap (λ (o : Report). shown (pinned c q) b (o .outcome) text) (x .chose);
       }
 
   module _ (q : ℕ → ℕ) where
-    abbrev o : Outcome
+    abbrev o : Report
     o = chosen (pinned c q) b k D
 
-    -- an answer is the outcome
-    pub outcome-is : {before after : List ℕ} {a : Answer Outcome} {y : Outcome} → TextIs c q b k D before a after → a ≡ gives y → y ≡ o
-    outcome-is t e = let z = sym e ∙ t .says in cc
+    -- an answer is the report
+    pub report-is : {before after : List ℕ} {a : Answer Report} {y : Report} → TextIs c q b k D before a after → a ≡ gives y → y ≡ o
+    report-is t e = let z = sym e ∙ t .says in cc
 
-    pub found-within : {before after : List ℕ} {t : ℕ} → TextIs c q b k D before (gives (Outcome.found t)) after → t ≤ k
+    outcome-is : {before after : List ℕ} {y : Report} → TextIs c q b k D before (gives y) after → y .outcome ≡ o .outcome
+    outcome-is x = ap (λ (r : Report). r .outcome) (report-is x refl)
+
+    pub found-within : {before after : List ℕ} {t n : ℕ} → TextIs c q b k D before (gives (foundReport t n)) after → t ≤ k
     found-within {t = t} x =
-        let e = outcome-is x refl in
+        let e = outcome-is x in
         found-out (question (pinned c q) b) k D t (subst (λ (y : Outcome). T (permitted (pinned c q) b k D y)) (sym e) (x .allowed)) .within
 
     -- the rows have room in the output
@@ -110,15 +115,17 @@ module _ {m : List ℕ} {p : Layout} {user b k D room len : ℕ} (f : PinnedFits
         omega (arith, length-rows text q (length (c .inputs)) (rowsAt c q b) (t + 1), length-within c b t k h, fits-output)
 
     -- the witness written out is the answer's
-    pub found-is : {before after out : List ℕ} {t : ℕ} → TextIs c q b k D before (gives (Outcome.found t)) after
-        → OutputIs c q b k D out (gives (Outcome.found t)) (front (expanded after q (length (c .inputs)) (rowsAt c q b) (t + 1)) out)
+    pub found-is : {before after out : List ℕ} {t n : ℕ} → TextIs c q b k D before (gives (foundReport t n)) after
+        → OutputIs c q b k D out (gives (foundReport t (witnessLength c b t)))
+        (front (expanded after q (length (c .inputs)) (rowsAt c q b) (t + 1)) out)
     found-is {before} {after} {out} {t} x =
-        let e = outcome-is x refl in
+        let e = outcome-is x in
         let v = held-valid (f .held) in
         let w : after ≡ shown (pinned c q) b (Outcome.found t) before = x .shows ∙ ap (λ (y : Outcome). shown (pinned c q) b y before) (sym e) in
         record {
-          says = x .says;
+          says = ap (λ (r : Report). gives (pinnedReport c b r)) (report-is x refl);
           allowed = x .allowed;
+          never = x .never;
           shows =
               ap (λ (z : List ℕ). front z out)
               (expanded-first c q (T-true (v .literals)) (T-true (v .uses)) (T-true (v .order)) b fits-bad k D t
@@ -127,7 +134,7 @@ module _ {m : List ℕ} {p : Layout} {user b k D room len : ℕ} (f : PinnedFits
         }
 
     -- what writing it out requires, in the layout's numbers
-    pub expand-fits : {before after : List ℕ} {t start : ℕ} → TextIs c q b k D before (gives (Outcome.found t)) after → length after ≡ 66825
+    pub expand-fits : {before after : List ℕ} {t n start : ℕ} → TextIs c q b k D before (gives (foundReport t n)) after → length after ≡ 66825
         → start ≡ 4 + length (digits b) + (p .l + 1)
         → (user ≤ 1) × (p .i ≤ 256) × (t ≤ 255) × (start ≤ length after) × (start + length (rowsText after q (p .i) start (t + 1)) ≤ len)
     unfolding witnessLength
@@ -142,27 +149,47 @@ module _ {m : List ℕ} {p : Layout} {user b k D room len : ℕ} (f : PinnedFits
           rw (n .inputs, a) (rows-room after t h),
         )
 
-    pub expand-is : {before after out out′ : List ℕ} {t start : ℕ} → TextIs c q b k D before (gives (Outcome.found t)) after
-        → start ≡ 4 + length (digits b) + (p .l + 1) → out′ ≡ front (expanded after q (p .i) start (t + 1)) out
-        → OutputIs c q b k D out (gives (Outcome.found t)) out′
-    expand-is {after = after} {out = out} {t = t} {start = start} x s e =
+    -- the length of the witness of all inputs
+    pub length-is-found : {before after : List ℕ} {t n : ℕ} → TextIs c q b k D before (gives (foundReport t n)) after
+        → (lengthOf p b t ≡ witnessLength c b t) × (lengthOf p b t ≤ 66825)
+    length-is-found {t = t} x =
+        let e = length-is (counts-of (f .held) (f .layout-of)) b t in
+        (e, omega (arith, e, length-within c b t k (found-within x), fits-long))
+
+    pub expand-is : {before after out out′ : List ℕ} {t n start long : ℕ} → TextIs c q b k D before (gives (foundReport t n)) after
+        → start ≡ 4 + length (digits b) + (p .l + 1) → out′ ≡ front (expanded after q (p .i) start (t + 1)) out → long ≡ lengthOf p b t
+        → OutputIs c q b k D out (gives (foundReport t long)) out′
+    expand-is {after = after} {out = out} {out′ = out′} {t = t} {start = start} x s e l =
         let n = counts-of (f .held) (f .layout-of) in
         let a : start ≡ rowsAt c q b = s ∙ ap (λ (l : ℕ). 4 + length (digits b) + (l + 1)) (n .latches) in
-        subst (OutputIs c q b k D out (gives (Outcome.found t)))
-        (sym (e ∙ ap₂ (λ (i y : ℕ). front (expanded after q i y (t + 1)) out) (n .inputs) a)) (found-is x)
+        subst (λ (m : ℕ). OutputIs c q b k D out (gives (foundReport t m)) out′) (sym (l ∙ length-is-found x .0))
+        (subst (OutputIs c q b k D out (gives (foundReport t (witnessLength c b t))))
+        (sym (e ∙ ap₂ (λ (i y : ℕ). front (expanded after q i y (t + 1)) out) (n .inputs) a)) (found-is x))
 
-    pub none-is : {before after out : List ℕ} {n : ℕ} → TextIs c q b k D before (gives (Outcome.none n)) after → OutputIs c q b k D out (gives (Outcome.none n)) out
-    none-is {out = out} x = record { says = x .says; allowed = x .allowed; shows = ap (λ (y : Outcome). pinnedShown c q b y out) (outcome-is x refl) }
+    -- none and spent leave the output, and what is said of them stays
+    other-is : {before after out : List ℕ} (y : Report) → y ≡ pinnedReport c b y → pinnedShown c q b (y .outcome) out ≡ out
+        → TextIs c q b k D before (gives y) after → OutputIs c q b k D out (gives y) out
+    other-is {out = out} y e s x =
+        record {
+          says = ap gives (e ∙ ap (pinnedReport c b) (report-is x refl));
+          allowed = x .allowed;
+          never = x .never;
+          shows = sym s ∙ ap (λ (o : Outcome). pinnedShown c q b o out) (outcome-is x);
+        }
 
-    pub spent-is : {before after out : List ℕ} {t : ℕ} → TextIs c q b k D before (gives (Outcome.spent t)) after → OutputIs c q b k D out (gives (Outcome.spent t)) out
-    spent-is {out = out} x = record { says = x .says; allowed = x .allowed; shows = ap (λ (y : Outcome). pinnedShown c q b y out) (outcome-is x refl) }
+    pub none-is : {before after out : List ℕ} {n : ℕ} {flag : Bool} → TextIs c q b k D before (gives (noneReport n flag)) after
+        → OutputIs c q b k D out (gives (noneReport n flag)) out
+    none-is {n = n} {flag = flag} x = other-is (noneReport n flag) refl refl x
+
+    pub spent-is : {before after out : List ℕ} {t : ℕ} → TextIs c q b k D before (gives (spentReport t)) after → OutputIs c q b k D out (gives (spentReport t)) out
+    spent-is {t = t} x = other-is (spentReport t) refl refl x
 
     pub never-refused : {before after : List ℕ} {n : ℕ} → TextIs c q b k D before (refused n) after → ⊥
     never-refused x = let e = x .says in let z : _≡_ {A = ℕ} 0 1 = cc in omega arith
 
 -- what the user gets
 module _ {m : List ℕ} (q : ℕ → ℕ) (h : Holds m (circuitIn m)) {b k D : ℕ} {w out : List ℕ} where
-  pub answered : judge (searchTests (circuitIn m) b k D (length w) (length out)) ≡ gives tt → {a : Answer Outcome} {w′ out′ : List ℕ}
+  pub answered : judge (searchTests (circuitIn m) b k D (length w) (length out)) ≡ gives tt → {a : Answer Report} {w′ out′ : List ℕ}
       → OutputIs (circuitIn m) q b k D out a out′ → PinnedSearched chosen m q b k D w out a (w′, out′)
   answered j {a} {w′} {out′} x =
       let c = circuitIn m in
@@ -172,15 +199,18 @@ module _ {m : List ℕ} (q : ℕ → ℕ) (h : Holds m (circuitIn m)) {b k D : �
       (Operated.acts c h j
       (record {
         chose = refl;
-        allowed = subst T (pinned-permitted c q (T-true (v .literals)) (T-true (v .uses)) (T-true (v .order)) b bad k D (chosen (pinned c q) b k D)) (x .allowed);
+        allowed = subst T (pinned-permitted c q (T-true (v .literals)) (T-true (v .uses)) (T-true (v .order)) b bad k D (chosen (pinned c q) b k D .outcome)) (x .allowed);
+        measured = refl;
+        never = subst (λ (z : Question). NeverOf z k (pinnedReport c b (chosen (pinned c q) b k D)))
+            (pinned-question c q (T-true (v .literals)) (T-true (v .uses)) (T-true (v .order)) b bad) (x .never);
         shows = x .shows;
       }))
     where
-      acted : {o : Outcome} {y : Answer Outcome} → y ≡ gives o
+      acted : {o : Report} {y : Answer Report} → y ≡ gives o
           → Operated m (λ d. searchTests d b k D (length w) (length out)) (w, out) (PinnedSearchEffect chosen q b k D out) (gives o) (w′, out′)
           → Operated m (λ d. searchTests d b k D (length w) (length out)) (w, out) (PinnedSearchEffect chosen q b k D out) y (w′, out′)
       acted e g =
-          subst (λ (y : Answer Outcome).
+          subst (λ (y : Answer Report).
           Operated m (λ d. searchTests d b k D (length w) (length out)) (w, out) (PinnedSearchEffect chosen q b k D out) y (w′, out′))
           (sym e) g
 

@@ -62,14 +62,15 @@ fn search_known(
 {
     let mut text = [0u8; 66825];
     let inputs = layout.i;
-    let b = q.b;
-    let start = rows_at(layout.l, b as u32);
+    let b = q.b as u32;
+    let start = rows_at(layout.l, b);
     match search_text(m, layout, pins, user, q, work, &mut text) {
-        SearchAnswer::Found(t) => {
+        SearchAnswer::Found(t, _) => {
             expansion::expand(&text, start, t as usize, inputs, pins, user, out);
-            SearchAnswer::Found(t)
+            let length = limits::witness_length(layout, b, t as usize);
+            SearchAnswer::Found(t, length as u32)
         }
-        SearchAnswer::Nothing(n) => SearchAnswer::Nothing(n),
+        SearchAnswer::Nothing(n, never) => SearchAnswer::Nothing(n, never),
         SearchAnswer::Spent(t) => SearchAnswer::Spent(t),
         SearchAnswer::Refused(n) => SearchAnswer::Refused(n),
     }

@@ -10,7 +10,7 @@ use lib.ListN.{length}
 use Rattle.aiger.specs.Circuit.{Circuit}
 use Rattle.aiger.specs.Load.{Answer, refused, gives, read, _>>=_}
 use Rattle.aiger.specs.Witness.{Witness, readWitness, confirms}
-use Rattle.aiger.specs.Search.{Outcome, firstWitness}
+use Rattle.aiger.specs.Search.{Outcome, Report, firstWitness}
 use Rattle.aiger.specs.Write.{countRow, write}
 use Rattle.aiger.specs.Memory.{Holds, image}
 use Rattle.aiger.specs.Operations.{front, Loaded, Test, judge, Operated, Written, ReplayEffect, Replayed, SearchEffect, Searched, FoldEffect, Folded, shown, searchTests, foldTests}
@@ -121,7 +121,7 @@ shown-text c b (Outcome.none k) out = refl
 shown-text c b (Outcome.spent t) out = refl
 
 -- search answers one thing and writes one text, whatever working memory and output held, for all memories that hold one circuit
-pub searched-same : {chosen : Circuit → ℕ → ℕ → ℕ → Outcome} {m m′ w w′ out out′ w₁ w₂ o₁ o₂ : List ℕ} {b k D : ℕ} {x y : Answer Outcome}
+pub searched-same : {chosen : Circuit → ℕ → ℕ → ℕ → Report} {m m′ w w′ out out′ w₁ w₂ o₁ o₂ : List ℕ} {b k D : ℕ} {x y : Answer Report}
     → Alike m m′ → length w ≡ length w′ → length out ≡ length out′ → Searched chosen m b k D w out x w₁ o₁ → Searched chosen m′ b k D w′ out′ y w₂ o₂
     → (x ≡ y) × OneText out o₁ out′ o₂
 searched-same {chosen = chosen} {out = out} {out′ = out′} {b = b} {k = k} {D = D} alike l n s t =
@@ -131,15 +131,15 @@ searched-same {chosen = chosen} {out = out} {out′ = out′} {b = b} {k = k} {D
     (λ c a b s t e f. one-outcome c e f)
     s t
   where
-    one-outcome : (c : Circuit) {o o′ : Outcome} {p q : List ℕ × List ℕ} → SearchEffect chosen b k D out c o p → SearchEffect chosen b k D out′ c o′ q
+    one-outcome : (c : Circuit) {o o′ : Report} {p q : List ℕ × List ℕ} → SearchEffect chosen b k D out c o p → SearchEffect chosen b k D out′ c o′ q
         → (o ≡ o′) × OneText out (p .1) out′ (q .1)
     one-outcome c {o} {o′} e f =
         let same : o ≡ o′ = e .chose ∙ sym (f .chose) in (
           same,
           record {
-            text = shownText c b o;
-            first = e .shows ∙ shown-text c b o out;
-            second = f .shows ∙ ap (λ (z : Outcome). shown c b z out′) (sym same) ∙ shown-text c b o out′;
+            text = shownText c b (o .outcome);
+            first = e .shows ∙ shown-text c b (o .outcome) out;
+            second = f .shows ∙ ap (λ (z : Report). shown c b (z .outcome) out′) (sym same) ∙ shown-text c b (o .outcome) out′;
           },
         )
 

@@ -7,7 +7,7 @@ use lib.Dec.{T, leb, leb→le}
 use lib.ListN.{length}
 use Rattle.aiger.specs.Load.{Answer, refused, gives}
 use Rattle.aiger.specs.Memory.{Holds}
-use Rattle.aiger.specs.Search.{Outcome}
+use Rattle.aiger.specs.Search.{Report}
 use Rattle.aiger.specs.Witness.{witnessLength}
 use Rattle.aiger.specs.Operations.{need, judge, budgetRight, Operated, searchTests, Searched}
 use Rattle.aiger.proofs.Tests.{and-left, and-right}
@@ -19,7 +19,7 @@ use Rattle.frames.proofs.Facts.{counts, top-is, bad-count}
 use Rattle.limits.proofs.Refusals.{passed, length-enough}
 use Rattle.search.specs.Chosen.{chosen}
 use Rattle.search.specs.Steps.{SearchFits, Answered}
-use Rattle.search.proofs.Choice.{chosen-permitted}
+use Rattle.search.proofs.Choice.{chosen-permitted, chosen-never}
 
 module _ {m : List ℕ} (held : Holds m (circuitIn m)) {b k D : ℕ} {work out : List ℕ} where
   -- the number of a test that fails is the answer
@@ -48,11 +48,18 @@ module _ {m : List ℕ} (held : Holds m (circuitIn m)) {b k D : ℕ} {work out :
 
   -- what the search of the frames answers is the answer
   pub answered-with : judge (searchTests (circuitIn m) b k D (length work) (length out)) ≡ gives tt
-      → {a : Answer Outcome} {work′ out′ : List ℕ}
+      → {a : Answer Report} {work′ out′ : List ℕ}
       → Answered (circuitIn m) b k D out a out′ → Searched chosen m b k D work out a work′ out′
+  unfolding chosen
   answered-with e {a} {work′} {out′} w =
       let W = witnessLength (circuitIn m) b k in
       let both = passed (circuitIn m) b k (budgetRight D) (length work) (need 13 (leb W (length out)) ∷ []) e in
-      subst (λ (r : Answer Outcome). Searched chosen m b k D work out r work′ out′) (sym (w .says))
+      subst (λ (r : Answer Report). Searched chosen m b k D work out r work′ out′) (sym (w .says))
       (Operated.acts (circuitIn m) held e
-      (record { chose = refl; allowed = chosen-permitted (circuitIn m) b k D (both .0 .bound); shows = w .shows }))
+      (record {
+        chose = refl;
+        allowed = chosen-permitted (circuitIn m) b k D (both .0 .bound);
+        measured = refl;
+        never = chosen-never (circuitIn m) b k D;
+        shows = w .shows;
+      }))

@@ -11,7 +11,7 @@ use Rattle.aiger.specs.Lists.{every}
 use Rattle.aiger.specs.Circuit.{Circuit}
 use Rattle.aiger.specs.Frames.{Run, valueAt, constrained, allowed, hits, freeBits, run}
 use Rattle.aiger.specs.Load.{gives}
-use Rattle.aiger.specs.Search.{Question, Outcome, question, permitted, permittedOf, reaches, reachesIn}
+use Rattle.aiger.specs.Search.{Question, Outcome, Report, question, permitted, permittedOf, reaches, reachesIn}
 use Rattle.aiger.specs.Witness.{witness}
 use Rattle.aiger.specs.Memory.{Holds}
 use Rattle.aiger.specs.Operations.{Searched, front}
@@ -32,12 +32,12 @@ reached-allowed c b t x h u l k m =
     constraint-true c r t u l (and-left (allowed c r t) (valueAt c r t (getD (c .bads) b 0)) h) k m
 
 -- the witness at the front of the output is the run of a sequence in which every constraint is true in every frame
-pub witness-allowed : {m w out w′ out′ : List ℕ} {c : Circuit} {b k D t : ℕ} → Holds m c
-    → Searched chosen m b k D w out (gives (Outcome.found t)) w′ out′
+pub witness-allowed : {m w out w′ out′ : List ℕ} {c : Circuit} {b k D t : ℕ} {o : Report} → Holds m c
+    → Searched chosen m b k D w out (gives o) w′ out′ → o .outcome ≡ Outcome.found t
     → (x : ℕ) × (x < 2 ^ freeBits c t) × (out′ ≡ front (witness b (run c t x)) out)
     × ((u l : ℕ) → u ≤ t → List·Memᴰ l (c .constraints) → T (valueAt c (run c t x) u l))
-witness-allowed {out = out} {c = c} {b = b} {t = t} h s =
-    let f = found-only h s in
+witness-allowed {out = out} {c = c} {b = b} {t = t} h s e =
+    let f = found-only h s e in
     let p = f .0 .first in (
       f .0 .place,
       p .fits,

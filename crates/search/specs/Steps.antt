@@ -5,14 +5,15 @@ use Prim.Native.Nat.{ℕ, _*_, _≤_, _<_}
 use lib.ListN.{length}
 use Rattle.aiger.specs.Circuit.{Circuit}
 use Rattle.aiger.specs.Load.{Answer, gives}
-use Rattle.aiger.specs.Frames.{size}
-use Rattle.aiger.specs.Witness.{witnessLength}
-use Rattle.aiger.specs.Search.{Outcome}
-use Rattle.aiger.specs.Operations.{shown}
+use Rattle.aiger.specs.Frames.{size, run}
+use Rattle.aiger.specs.Witness.{witness, witnessLength}
+use Rattle.aiger.specs.Search.{Report}
+use Rattle.aiger.specs.Operations.{front, shown}
 use Rattle.layout.specs.Words.{word, circuitIn}
 use Rattle.layout.specs.declared.Layout.{Layout}
 use Rattle.frames.specs.Lanes.{Ready}
-use Rattle.search.specs.Chosen.{chosen}
+use Rattle.witness.specs.Writing.{SequenceIn}
+use Rattle.search.specs.Chosen.{outcomeChosen, chosen, foundReport}
 
 -- what the search of frames 0 to k requires
 pub record SearchFits (m : List ℕ) (p : Layout) (order : List ℕ) (b k D : ℕ) (work out : List ℕ) : Type 0 where
@@ -26,7 +27,12 @@ pub record SearchFits (m : List ℕ) (p : Layout) (order : List ℕ) (b k D : �
   pub room : size (circuitIn m) k ≤ length work
   pub output : witnessLength (circuitIn m) b k ≤ length out
 
--- the answer is the chosen outcome, and the output shows it
-pub record Answered (c : Circuit) (b k D : ℕ) (out : List ℕ) (a : Answer Outcome) (out′ : List ℕ) : Type 0 where
+-- the answer is found t with the length of its witness, and the witness of each sequence whose free bits stand in `free` is at the front
+pub record FoundShown (c : Circuit) (b t : ℕ) (free out : List ℕ) (a : Answer Report) (out′ : List ℕ) : Type 0 where
+  pub says : a ≡ gives (foundReport t (witnessLength c b t))
+  pub shows : (x : ℕ) → SequenceIn free c t x → out′ ≡ front (witness b (run c t x)) out
+
+-- the answer is what is chosen, and the output shows it
+pub record Answered (c : Circuit) (b k D : ℕ) (out : List ℕ) (a : Answer Report) (out′ : List ℕ) : Type 0 where
   pub says : a ≡ gives (chosen c b k D)
-  pub shows : out′ ≡ shown c b (chosen c b k D) out
+  pub shows : out′ ≡ shown c b (outcomeChosen c b k D) out

@@ -7,21 +7,23 @@ use layout::Layout;
 use limits::Ruling;
 use staged::Rounds;
 ghost use mathlib.Core.Path.{_≡_};
+ghost use mathlib.Core.Bool.{false};
 ghost use Prim.Native.Nat.{_+_, _-_, _≤_};
 ghost use Rattle.aiger.specs.Circuit.{Circuit};
 ghost use Rattle.aiger.specs.Operations.{judge, budgetRight, searchTests, Searched};
 ghost use Rattle.layout.specs.Words.{circuitIn};
 ghost use Rattle.limits.specs.Limits.{Limited, CountsOf, told};
+ghost use Rattle.witness.specs.Writing.{WitnessFits};
 ghost use Rattle.decision.specs.Reach.{decisionOf};
 ghost use Rattle.stages.specs.Choice.{chosenFrom};
-ghost use Rattle.search.specs.Chosen.{chosen, said};
-ghost use Rattle.search.specs.Steps.{SearchFits, Answered};
+ghost use Rattle.search.specs.Chosen.{outcomeChosen, neverChosen, chosen, said};
+ghost use Rattle.search.specs.Steps.{SearchFits, FoundShown, Answered};
 
-// What a search answers: the first frame with a hit; no frame up to the bound has one; the frame whose budget is spent; the number of a
-// refusal.
+// What a search answers: the first frame with a hit, and the length of the witness; no frame up to the bound has one, and whether it is
+// known that no frame at all has one; the frame whose budget is spent; the number of a refusal.
 pub enum SearchAnswer {
-    Found(u32),
-    Nothing(u32),
+    Found(u32, u32),
+    Nothing(u32, bool),
     Spent(u32),
     Refused(u32),
 }
@@ -56,6 +58,25 @@ pub fn check_search(layout: Layout, b: u64, k: u64, d: u64, room: usize, len: us
     Ruling::Accepted
 }
 
+// Writes the witness of the sequence of frame t whose free bits stand in free to the front of out, and answers found.
+fn show_found(
+    out: &mut [u8],
+    m: &[u32],
+    layout: Layout,
+    b: u32,
+    t: usize,
+    free: &[u32],
+) -> SearchAnswer
+    requires { ⌜ WitnessFits (now out) (now m) layout b t (now free) ⌝ }
+    ensures { λ r. ⌜
+        FoundShown (circuitIn (now (m .entry))) b t (now (free .entry)) (now (out .entry)) (said r) (now (out .exit))
+        ⌝ }
+{
+    witness::write_witness(out, m, layout, b, t, free);
+    let length = limits::witness_length(layout, b, t);
+    SearchAnswer::Found(t as u32, length as u32)
+}
+
 // The search of frames `start` to k of a circuit that is ready, frame after frame.
 fn search_from(
     m: &[u32],
@@ -69,8 +90,9 @@ fn search_from(
     requires { ⌜ SearchFits (now m) layout (now order) (q .b) (q .k) (q .d) (now work) (now out) ⌝ }
     requires { ⌜
         (start ≤ q .k + 1)
-        × (chosen (circuitIn (now m)) (q .b) (q .k) (q .d)
+        × (outcomeChosen (circuitIn (now m)) (q .b) (q .k) (q .d)
         ≡ chosenFrom (λ u. decisionOf (circuitIn (now m)) (q .b) u (q .d)) (q .k) start (q .k + 1 - start))
+        × (neverChosen (circuitIn (now m)) (q .b) (q .k) (q .d) ≡ false)
         ⌝ }
     ensures { λ r. ⌜ Answered (circuitIn (now (m .entry))) (q .b) (q .k) (q .d) (now (out .entry)) (said r) (now (out .exit)) ⌝ }
 {
@@ -81,8 +103,7 @@ fn search_from(
     while t <= k {
         match decision::decide(m, layout, order, b, t, d, work) {
             Frame::Hit => {
-                witness::write_witness(out, m, layout, b as u32, t, work);
-                return SearchAnswer::Found(t as u32);
+                return show_found(out, m, layout, b as u32, t, work);
             }
             Frame::Clear => {
                 t += 1;
@@ -92,7 +113,7 @@ fn search_from(
             }
         }
     }
-    SearchAnswer::Nothing(k as u32)
+    SearchAnswer::Nothing(k as u32, false)
 }
 
 // The search of a circuit that is ready: by rounds of stages, and what they leave frame after frame.
@@ -111,12 +132,9 @@ fn search_frames(
     let k = q.k as usize;
     let d = q.d;
     match staged::pass_stages(m, layout, order, Query { b, k, d }, work) {
-        Rounds::Hit(t) => {
-            witness::write_witness(out, m, layout, b as u32, t, work);
-            SearchAnswer::Found(t as u32)
-        }
-        Rounds::Nothing => SearchAnswer::Nothing(k as u32),
-        Rounds::Never => SearchAnswer::Nothing(k as u32),
+        Rounds::Hit(t) => show_found(out, m, layout, b as u32, t, work),
+        Rounds::Nothing => SearchAnswer::Nothing(k as u32, false),
+        Rounds::Never => SearchAnswer::Nothing(k as u32, true),
         Rounds::Left(t) => search_from(m, layout, order, t, q, work, out),
     }
 }

@@ -2,7 +2,7 @@
 use mathlib.Core.Path.{_≡_, refl, sym, ap, ap₂, _∙_, subst}
 use mathlib.Core.Bool.{Bool, true, false, cond}
 use mathlib.Core.List.{List, [], _∷_}
-use Prim.Native.Nat.{ℕ, zero, suc, _+_, _≤_, _<_}
+use Prim.Native.Nat.{ℕ, zero, suc, _+_, _≤_, _<_, max}
 use native.Mathlib.Omega.{arith}
 use borrow.Author.Tests.{lt-ltb, leb-true, leb-false, le-leb, lt-leb}
 use lib.Dec.{ltb, leb}
@@ -17,6 +17,7 @@ use Rattle.set_attempt.proofs.Frames.{frames-cut}
 -- what is seen of an attempt that decides a frame from `first` on, otherwise of what comes later
 abbrev cutLater : ℕ → Cut → Cut → Cut
 cutLater first (Cut.hit t x) later = Cut.hit t x
+cutLater first Cut.never later = Cut.never
 cutLater first Cut.none later = Cut.none
 cutLater first (Cut.gaveUp t) later = cond (ltb first t) (Cut.gaveUp t) later
 cutLater first (Cut.cutOff t) later = Cut.cutOff t
@@ -28,7 +29,11 @@ module _ (k first : ℕ) (fl : first ≤ k) where
       go : (p : Bool) → cond p (Cut.hit t x) Cut.none ≡ cutLater first (cond p (Cut.hit t x) Cut.none) (cutAt k later)
       go true = refl
       go false = refl
-  later-cut Ending.never later = refl
+  later-cut (Ending.never t) later = go (leb t k) refl
+    where
+      go : (p : Bool) → leb t k ≡ p → cutAt k (Ending.never (max t first)) ≡ cutLater first (cond p Cut.never Cut.none) (cutAt k later)
+      go true e = ap (λ (p : Bool). cond p Cut.never Cut.none) (le-leb (max t first) k (omega (arith, leb-true t k e)))
+      go false e = ap (λ (p : Bool). cond p Cut.never Cut.none) (lt-leb (max t first) k (omega (arith, leb-false t k e)))
   later-cut Ending.clear later = refl
   later-cut (Ending.gaveUp t) later = go (leb t k) refl
     where

@@ -63,8 +63,8 @@ module _ (q : Question) (p : Setup) (first : ℕ) where
   tried-from t false z later h = omega arith
   tried-from t true z later h = go (eqb (getD (z .table) t 0) 0) (ltb t first)
     where
-      go : (a l : Bool) → FromOn t (Staged.ends (cond a Ending.never (cond l (later z) (afterStart q t (startAgain p t z) later))))
-      go true l = tt
+      go : (a l : Bool) → FromOn t (Staged.ends (cond a (Ending.never t) (cond l (later z) (afterStart q t (startAgain p t z) later))))
+      go true l = omega arith
       go false true = h z
       go false false = start-from t (startAgain p t z .found) (startAgain p t z .sets) later h
 
@@ -89,8 +89,8 @@ module _ (q : Question) (p : Setup) (first : ℕ) where
     tried-cut t false z a b h = refl
     tried-cut t true z a b h = go (eqb (getD (z .table) t 0) 0) (ltb t first)
       where
-        go : (e l : Bool) → cutAt k (cond e Ending.never (cond l (a z) (afterStart q t (startAgain p t z) a)))
-            ≡ cutAt k (cond e Ending.never (cond l (b z) (afterStart q t (startAgain p t z) b)))
+        go : (e l : Bool) → cutAt k (cond e (Ending.never t) (cond l (a z) (afterStart q t (startAgain p t z) a)))
+            ≡ cutAt k (cond e (Ending.never t) (cond l (b z) (afterStart q t (startAgain p t z) b)))
         go true l = refl
         go false true = h z
         go false false = start-cut t (startAgain p t z .found) (startAgain p t z .sets) a b h
@@ -204,12 +204,15 @@ module _ (level : ℕ) (m : Machine) (n : ℕ) (inside : Inside m n) (at : ℕ �
         quiet u ul = same u (b u ul)
 
         go : (e : Bool) → eqb (getD (z .table) t 0) 0 ≡ e → (i : Bool) → ltb t first ≡ i
-            → EndsRight q 0 (cond e Ending.never (cond i (later z) (afterStart q t (startAgain p t z) later)))
-        go true e i d =
-            λ u. back u
-            (empty-below-quiet m n inside t
-            (empty-set level m n inside at (p .vars) (p .rows) coded few (suc t) z h t (omega arith) (eqb-true (getD (z .table) t 0) 0 e))
-            (λ v vl. same v (b v vl)) u)
+            → EndsRight q 0 (cond e (Ending.never t) (cond i (later z) (afterStart q t (startAgain p t z) later)))
+        go true e i d = (
+          omega arith,
+          omega arith,
+          λ u. back u
+              (empty-below-quiet m n inside t
+              (empty-set level m n inside at (p .vars) (p .rows) coded few (suc t) z h t (omega arith) (eqb-true (getD (z .table) t 0) 0 e))
+              (λ v vl. same v (b v vl)) u),
+        )
         go false e true d = k z h (λ u ul. before u (omega (arith, ltb-true t first d)))
         go false e false d =
             start-right t l b later k (startAgain p t z) (again-right t (λ v vl. same v (b v vl)) z h) (startAgain p t z .found) refl

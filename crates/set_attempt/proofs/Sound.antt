@@ -34,7 +34,7 @@ module _ (q : Question) (first : ℕ) (small : first ≤ 256) (before : NoneBefo
   later-right (Ending.hit t x) later (a, l, n, h) k =
       let early : suc t ≤ first → ⊥ = λ less. before t less x (h .fits) (h .hits) in
       (omega arith, l, n, h)
-  later-right Ending.never later h k = h
+  later-right (Ending.never t) later (a, l, n) k = (omega arith, omega arith, n)
   later-right Ending.clear later h k = h
   later-right (Ending.gaveUp t) later (a, l, n) k = go (ltb first t) refl
     where

@@ -3,7 +3,7 @@
 use mathlib.Core.Bool.{Bool, true, false, not, cond}
 use mathlib.Core.List.{List, [], _∷_}
 use mathlib.Core.Option.{Option, none, some}
-use Prim.Native.Nat.{ℕ, zero, suc, _*_, _^_}
+use Prim.Native.Nat.{ℕ, zero, suc, _*_, _^_, max}
 use lib.Dec.{eqb, ltb}
 use lib.ListN.{length, getD, set, replicate}
 use Rattle.aiger.specs.Lists.{everyBelow}
@@ -81,10 +81,10 @@ onStart q t variants.Full z later = Ending.gaveUp t
 abbrev pub afterStart : Question → ℕ → Seen → (Sets → Ending) → Ending
 afterStart q t o later = onStart q t (o .found) (o .sets) later
 
--- set t stands: where its edge is 0, no frame at all has a hit
+-- set t stands: where its edge is 0, no frame at all has a hit, which is known at frame t
 abbrev pub onSet : Question → Setup → (first t : ℕ) → Sets → (Sets → Ending) → Ending
 onSet q p first t z later =
-    cond (eqb (getD (z .table) t 0) 0) Ending.never (cond (ltb t first) (later z) (afterStart q t (startAgain p t z) later))
+    cond (eqb (getD (z .table) t 0) 0) (Ending.never t) (cond (ltb t first) (later z) (afterStart q t (startAgain p t z) later))
 
 -- set t was tried
 abbrev pub onTried : Question → Setup → (first t : ℕ) → Bool → Sets → (Sets → Ending) → Ending
@@ -160,7 +160,7 @@ attemptEnding c b plan words looks first n =
 -- an attempt that decides a frame from `first` on is the ending of the stage; otherwise what comes later is
 abbrev pub orLater : ℕ → Ending → Ending → Ending
 orLater first (Ending.hit t x) later = Ending.hit t x
-orLater first Ending.never later = Ending.never
+orLater first (Ending.never t) later = Ending.never (max t first)
 orLater first Ending.clear later = Ending.clear
 orLater first (Ending.gaveUp t) later = cond (ltb first t) (Ending.gaveUp t) later
 

@@ -24,6 +24,29 @@ pub on-past : (f : ℕ → Decision) (k t : ℕ) → k < t → onFrom f k t ≡ 
 unfolding chosenFrom
 on-past f k t h = let e : k + 1 - t ≡ 0 = omega arith in ap (chosenFrom f k t) e
 
+-- where it is seen that no frame at all has a hit, this is known at a frame up to the bound
+pub never-is : (k : ℕ) (s : Staged) → T (isNever (stagedAt k s)) → (t : ℕ) × (t ≤ k) × (s ≡ Staged.ends (Ending.never t))
+never-is k (Staged.ends (Ending.hit t x)) = go (leb t k)
+  where
+    go : (p : Bool) → T (isNever (cond p (Cut.hit t x) Cut.none)) → (u : ℕ) × (u ≤ k) × (Staged.ends (Ending.hit t x) ≡ Staged.ends (Ending.never u))
+    go true h = absurd h
+    go false h = absurd h
+never-is k (Staged.ends (Ending.never t)) = λ h. elim (decLt k t) [
+  | yes l ↦ absurd (subst (λ (p : Bool). T (isNever (cond p Cut.never Cut.none))) (lt-leb t _ (omega arith)) h)
+  | no l ↦ (t, omega arith, refl)
+]
+never-is k (Staged.ends Ending.clear) = λ h. absurd h
+never-is k (Staged.ends (Ending.gaveUp t)) = go (leb t k)
+  where
+    go : (p : Bool) → T (isNever (cond p (Cut.gaveUp t) Cut.none)) → (u : ℕ) × (u ≤ k) × (Staged.ends (Ending.gaveUp t) ≡ Staged.ends (Ending.never u))
+    go true h = absurd h
+    go false h = absurd h
+never-is k (Staged.cutOff t) = go (leb t k)
+  where
+    go : (p : Bool) → T (isNever (cond p (Cut.cutOff t) Cut.none)) → (u : ℕ) × (u ≤ k) × (Staged.cutOff t ≡ Staged.ends (Ending.never u))
+    go true h = absurd h
+    go false h = absurd h
+
 module _ (q : Question) where
   pub quiet-of : (t : ℕ) → NoneBefore q t → Quiet q t
   quiet-of t n u l x a h r = n u l x h r
@@ -70,7 +93,11 @@ module _ (q : Question) where
         go : (p : Bool) → leb t k ≡ p → T (permittedOf q k D (seen f k (cond p (Cut.hit t x) Cut.none)))
         go true e = found-in q k D t (record { within = leb-true t k e; quiet = quiet-of t n; place = x; first = first-of h })
         go false e = none-up-to t (leb-false t k e) n
-    outcome-permitted small first (Staged.ends Ending.never) h = none-up-to (k + 1) (omega arith) (λ u l. h u)
+    outcome-permitted small first (Staged.ends (Ending.never t)) (a, b, n) = go (leb t k)
+      where
+        go : (p : Bool) → T (permittedOf q k D (seen f k (cond p Cut.never Cut.none)))
+        go true = none-up-to (k + 1) (omega arith) (λ u l. n u)
+        go false = none-up-to (k + 1) (omega arith) (λ u l. n u)
     outcome-permitted small first (Staged.ends Ending.clear) h = none-up-to 256 (omega arith) h
     outcome-permitted small first (Staged.ends (Ending.gaveUp t)) (a, b, n) = go (leb t k) refl
       where
@@ -96,31 +123,28 @@ module _ (q : Question) where
     chosen-permitted decide k D small right =
         outcome-permitted (λ t. decide t D) k D right small 0 (listed stages 0 D) (list-right D)
 
-    -- the flag: no frame at all has a hit, and every search chooses none
-    never-is : (D : ℕ) → T (neverBy stages D) → listed stages 0 D ≡ Staged.ends Ending.never
+    -- the flag: no frame at all has a hit, and the search chooses none
+    pub never-none : (k D : ℕ) → T (neverBy stages k D) → (t : ℕ) → NoHit q t
     unfolding neverBy
-    never-is D = go (listed stages 0 D)
+    never-none k D h = let (t, a, e) = never-is k (listed stages 0 D) h in subst (StagedRight q 0) e (list-right D) .2
+
+    pub never-chosen : (k D : ℕ) → T (neverBy stages k D) → (decide : ℕ → ℕ → Decision) → chosenBy stages decide k D ≡ Outcome.none k
+    unfolding neverBy chosenBy
+    never-chosen k D h decide = go (stagedAt k (listed stages 0 D)) h
       where
-        go : (s : Staged) → T (isNever s) → s ≡ Staged.ends Ending.never
-        go (Staged.ends Ending.never) h = refl
-        go (Staged.ends (Ending.hit t x)) h = absurd h
-        go (Staged.ends Ending.clear) h = absurd h
-        go (Staged.ends (Ending.gaveUp t)) h = absurd h
-        go (Staged.cutOff t) h = absurd h
-
-    pub never-none : (D : ℕ) → T (neverBy stages D) → (t : ℕ) → NoHit q t
-    never-none D h = subst (StagedRight q 0) (never-is D h) (list-right D)
-
-    pub never-chosen : (D : ℕ) → T (neverBy stages D) → (decide : ℕ → ℕ → Decision) (k : ℕ) → chosenBy stages decide k D ≡ Outcome.none k
-    unfolding chosenBy
-    never-chosen D h decide k = ap (outcomeAt (λ t. decide t D) k) (never-is D h)
+        go : (c : Cut) → T (isNever c) → seen (λ t. decide t D) k c ≡ Outcome.none k
+        go (Cut.hit t x) h = absurd h
+        go Cut.never h = refl
+        go Cut.none h = absurd h
+        go (Cut.gaveUp t) h = absurd h
+        go (Cut.cutOff t) h = absurd h
 
 -- ---- a program with bound k takes the stages one after the other
 
 -- a stage that begins past the bound shows nothing
 pub past-bound : (k t : ℕ) → k < t → (s : Staged) → FromOn t s → stagedAt k s ≡ Cut.none
 past-bound k t l (Staged.ends (Ending.hit u x)) h = ap (λ (p : Bool). cond p (Cut.hit u x) Cut.none) (lt-leb u k (omega arith))
-past-bound k t l (Staged.ends Ending.never) h = refl
+past-bound k t l (Staged.ends (Ending.never u)) h = ap (λ (p : Bool). cond p Cut.never Cut.none) (lt-leb u k (omega arith))
 past-bound k t l (Staged.ends Ending.clear) h = refl
 past-bound k t l (Staged.ends (Ending.gaveUp u)) h = ap (λ (p : Bool). cond p (Cut.gaveUp u) Cut.none) (lt-leb u k (omega arith))
 past-bound k t l (Staged.cutOff u) h = ap (λ (p : Bool). cond p (Cut.cutOff u) Cut.none) (lt-leb u k (omega arith))
@@ -139,6 +163,7 @@ pub record Onward (q : Question) (ss : List Stage) (decide : ℕ → ℕ → Dec
 -- what is seen of the first stage leads to
 abbrev pub Leads : Question → List Stage → (ℕ → ℕ → Decision) → ℕ → ℕ → Outcome → Cut → Type 0
 Leads q ss decide k D o (Cut.hit t x) = (t ≤ k) × (o ≡ Outcome.found t) × FirstAt q t x
+Leads q ss decide k D o Cut.never = o ≡ Outcome.none k
 Leads q ss decide k D o Cut.none = o ≡ Outcome.none k
 Leads q ss decide k D o (Cut.gaveUp t) = Onward q ss decide k D t o
 Leads q ss decide k D o (Cut.cutOff t) = (t ≤ k) × (o ≡ onFrom (λ t. decide t D) k t)
@@ -152,7 +177,11 @@ module _ (q : Question) (ss : List Stage) (sound : AllSound q ss) (decide : ℕ 
           → Leads q ss decide k D (seen (λ t. decide t D) k (cond p (Cut.hit t x) Cut.none)) (cond p (Cut.hit t x) Cut.none)
       go true e = (leb-true t k e, refl, h)
       go false e = refl
-  leads first (Staged.ends Ending.never) h = refl
+  leads first (Staged.ends (Ending.never t)) h = go (leb t k)
+    where
+      go : (p : Bool) → Leads q ss decide k D (seen (λ t. decide t D) k (cond p Cut.never Cut.none)) (cond p Cut.never Cut.none)
+      go true = refl
+      go false = refl
   leads first (Staged.ends Ending.clear) h = refl
   leads first (Staged.ends (Ending.gaveUp t)) (a, b, n) = go (leb t k) refl
     where

@@ -23,7 +23,7 @@ module _ (q : Question) where
   start-right (Ending.hit t x) (a, b, n, h) first l m =
       let early : suc t ≤ first → ⊥ = λ less. m t less x (h .fits) (h .hits) in
       (omega arith, b, n, h)
-  start-right Ending.never h first l m = h
+  start-right (Ending.never t) (a, b, n) first l m = (omega arith, omega arith, n)
   start-right Ending.clear h first l m = h
   start-right (Ending.gaveUp t) (a, b, n) first l m = (omega arith, omega arith, later)
     where
@@ -46,7 +46,7 @@ module _ (m : Machine) (quota : ℕ → ℕ) where
   -- one frame, where o is its first slot with a hit
   abbrev turn : ℕ → List Entry → ℕ → Option ℕ → Bool → Bool → Layered → Layered
   turn t es lo o few same later =
-      elim o [ some z ↦ Layered.hit t (slotPlace m es lo z) | none ↦ cond few (cond same Layered.never later) (Layered.gaveUp (suc t)) ]
+      elim o [ some z ↦ Layered.hit t (slotPlace m es lo z) | none ↦ cond few (cond same (Layered.never t) later) (Layered.gaveUp (suc t)) ]
 
   layers-from : (n t : ℕ) (es : List Entry) (lo : ℕ) → FromOn t (Staged.ends (ofLayers (layersFrom m quota n t es lo)))
   unfolding layersFrom
@@ -60,7 +60,7 @@ module _ (m : Machine) (quota : ℕ → ℕ) where
           → FromOn t (Staged.ends (ofLayers (turn t es lo o few same later)))
       go (some z) few same later h = omega arith
       go none false same later h = omega arith
-      go none true true later h = tt
+      go none true true later h = omega arith
       go none true false later h = from-earlier t (suc t) (omega arith) (Staged.ends (ofLayers later)) h
 
   module _ (k : ℕ) where

@@ -11,7 +11,7 @@ use Rattle.stages.specs.Choice.{followed, listed, rounds}
 -- where nothing before a frame is left, nothing before an earlier one is
 pub from-earlier : (t u : ℕ) → t ≤ u → (s : Staged) → FromOn u s → FromOn t s
 from-earlier t u l (Staged.ends (Ending.hit v x)) h = omega arith
-from-earlier t u l (Staged.ends Ending.never) h = tt
+from-earlier t u l (Staged.ends (Ending.never v)) h = omega arith
 from-earlier t u l (Staged.ends Ending.clear) h = tt
 from-earlier t u l (Staged.ends (Ending.gaveUp v)) h = omega arith
 from-earlier t u l (Staged.cutOff v) h = omega arith
@@ -20,7 +20,7 @@ module _ (q : Question) where
   -- nothing before its first frame is left to a stage
   pub from-first : (first : ℕ) (s : Staged) → StagedRight q first s → FromOn first s
   from-first first (Staged.ends (Ending.hit t x)) h = h .0
-  from-first first (Staged.ends Ending.never) h = tt
+  from-first first (Staged.ends (Ending.never t)) h = h .0
   from-first first (Staged.ends Ending.clear) h = tt
   from-first first (Staged.ends (Ending.gaveUp t)) h = h .0
   from-first first (Staged.cutOff t) h = h .0
@@ -28,7 +28,7 @@ module _ (q : Question) where
   -- what is right from a later frame on is right from an earlier one
   pub right-earlier : (t u : ℕ) → t ≤ u → (s : Staged) → StagedRight q u s → StagedRight q t s
   right-earlier t u l (Staged.ends (Ending.hit v x)) (a, b, c, d) = (omega arith, b, c, d)
-  right-earlier t u l (Staged.ends Ending.never) h = h
+  right-earlier t u l (Staged.ends (Ending.never v)) (a, b, c) = (omega arith, b, c)
   right-earlier t u l (Staged.ends Ending.clear) h = h
   right-earlier t u l (Staged.ends (Ending.gaveUp v)) (a, b, c) = (omega arith, b, c)
   right-earlier t u l (Staged.cutOff v) (a, b, c) = (omega arith, b, c)
@@ -42,7 +42,7 @@ module _ (q : Question) where
   follow-right : (first : ℕ) (s : Staged) (next : ℕ → Staged) → StagedRight q first s
       → ((t : ℕ) → t ≤ 256 → NoneBefore q t → StagedRight q t (next t)) → StagedRight q first (followed s next)
   follow-right first (Staged.ends (Ending.hit t x)) next h r = h
-  follow-right first (Staged.ends Ending.never) next h r = h
+  follow-right first (Staged.ends (Ending.never t)) next h r = h
   follow-right first (Staged.ends Ending.clear) next h r = h
   follow-right first (Staged.ends (Ending.gaveUp t)) next (a, b, c) r = right-earlier first t a (next t) (r t b c)
   follow-right first (Staged.cutOff t) next h r = h
@@ -50,7 +50,7 @@ module _ (q : Question) where
   follow-from : (first t : ℕ) (s : Staged) (next : ℕ → Staged) → FromOn t s → StagedRight q first s
       → ((t : ℕ) → t ≤ 256 → NoneBefore q t → StagedRight q t (next t)) → FromOn t (followed s next)
   follow-from first t (Staged.ends (Ending.hit u x)) next f h r = f
-  follow-from first t (Staged.ends Ending.never) next f h r = tt
+  follow-from first t (Staged.ends (Ending.never u)) next f h r = f
   follow-from first t (Staged.ends Ending.clear) next f h r = tt
   follow-from first t (Staged.ends (Ending.gaveUp u)) next f (a, b, c) r = from-earlier t u f (next u) (from-first u (next u) (r u b c))
   follow-from first t (Staged.cutOff u) next f h r = f
@@ -59,7 +59,7 @@ module _ (q : Question) where
       → ((t : ℕ) → t ≤ 256 → NoneBefore q t → Keeps (next t) (next′ t)) → ((t : ℕ) → t ≤ 256 → NoneBefore q t → StagedRight q t (next′ t))
       → Keeps (followed s next) (followed s′ next′)
   follow-keeps first (Staged.ends (Ending.hit t x)) s′ next next′ e h h′ k r = ap (λ (z : Staged). followed z next′) e
-  follow-keeps first (Staged.ends Ending.never) s′ next next′ e h h′ k r = ap (λ (z : Staged). followed z next′) e
+  follow-keeps first (Staged.ends (Ending.never t)) s′ next next′ e h h′ k r = ap (λ (z : Staged). followed z next′) e
   follow-keeps first (Staged.ends Ending.clear) s′ next next′ e h h′ k r = ap (λ (z : Staged). followed z next′) e
   follow-keeps first (Staged.ends (Ending.gaveUp t)) s′ next next′ e (a, b, c) h′ k r =
       subst (λ (z : Staged). Keeps (next t) (followed z next′)) (sym e) (k t b c)

@@ -7,14 +7,14 @@ use Prim.Native.Nat.{ℕ, zero, suc, _+_, _-_, _≤_, _<_}
 use native.Mathlib.Decide.{decLt, ℕ-discrete}
 use native.Mathlib.Omega.{arith}
 use borrow.Author.Tests.{leb-true, leb-false, le-leb, lt-leb}
-use lib.Dec.{leb}
+use lib.Dec.{T, leb}
 use Rattle.aiger.specs.Search.{Question, Decision, Outcome}
 use Rattle.meaning.proofs.Decisions as decisions
 use Rattle.meaning.proofs.Outcomes.{Decided}
-use Rattle.stages.specs.Endings.{Ending, Cut, Staged, Stage, NoHit, NoneBefore, StagedRight, FromOn, Keeps, AllSound}
-use Rattle.stages.specs.Choice.{listed, outcomeOf, chosenFrom, onFrom, seen, outcomeAt, chosenBy}
+use Rattle.stages.specs.Endings.{Ending, Cut, Staged, Stage, stagedAt, NoHit, NoneBefore, StagedRight, FromOn, Keeps, AllSound}
+use Rattle.stages.specs.Choice.{listed, outcomeOf, chosenFrom, onFrom, seen, outcomeAt, chosenBy, isNever, neverBy}
 use Rattle.stages.proofs.Lists.{listed-sound}
-use Rattle.stages.proofs.Choice.{list-right}
+use Rattle.stages.proofs.Choice.{never-is, list-right}
 
 -- ---- what found and none say of the decisions
 
@@ -110,7 +110,7 @@ module _ (f : ℕ → Decision) (k : ℕ) where
 -- u is the first frame with a hit
 abbrev Finds : (ℕ → Decision) → Staged → ℕ → Type 0
 Finds f (Staged.ends (Ending.hit t x)) u = t ≡ u
-Finds f (Staged.ends Ending.never) u = ⊥
+Finds f (Staged.ends (Ending.never t)) u = ⊥
 Finds f (Staged.ends Ending.clear) u = ⊥
 Finds f (Staged.ends (Ending.gaveUp t)) u = FoundFrom f t u
 Finds f (Staged.cutOff t) u = FoundFrom f t u
@@ -118,7 +118,7 @@ Finds f (Staged.cutOff t) u = FoundFrom f t u
 -- no frame up to k has a hit
 abbrev Clears : (ℕ → Decision) → Staged → ℕ → Type 0
 Clears f (Staged.ends (Ending.hit t x)) k = k < t
-Clears f (Staged.ends Ending.never) k = Unit {0}
+Clears f (Staged.ends (Ending.never t)) k = Unit {0}
 Clears f (Staged.ends Ending.clear) k = Unit {0}
 Clears f (Staged.ends (Ending.gaveUp t)) k = ClearUpTo f t (k + 1)
 Clears f (Staged.cutOff t) k = ClearUpTo f t (k + 1)
@@ -130,7 +130,11 @@ module _ (f : ℕ → Decision) (k : ℕ) where
       go : (p : Bool) → leb t k ≡ p → seen f k (cond p (Cut.hit t x) Cut.none) ≡ Outcome.found u → (u ≤ k) × (t ≡ u)
       go true w e = let s : t ≡ u = found-here f k e in (omega (arith, leb-true t k w), s)
       go false w e = none-is-found f k e
-  finds (Staged.ends Ending.never) u = λ e. none-is-found f k e
+  finds (Staged.ends (Ending.never t)) u = go (leb t k)
+    where
+      go : (p : Bool) → seen f k (cond p Cut.never Cut.none) ≡ Outcome.found u → (u ≤ k) × ⊥
+      go true e = none-is-found f k e
+      go false e = none-is-found f k e
   finds (Staged.ends Ending.clear) u = λ e. none-is-found f k e
   finds (Staged.ends (Ending.gaveUp t)) u = go (leb t k) refl
     where
@@ -146,7 +150,7 @@ module _ (f : ℕ → Decision) (k : ℕ) where
   found : (s : Staged) (u : ℕ) → u ≤ k → Finds f s u → outcomeAt f k s ≡ Outcome.found u
   found (Staged.ends (Ending.hit t x)) u l w =
       ap (λ (p : Bool). seen f k (cond p (Cut.hit t x) Cut.none)) (le-leb t k (omega arith)) ∙ ap Outcome.found w
-  found (Staged.ends Ending.never) u l w = absurd w
+  found (Staged.ends (Ending.never t)) u l w = absurd w
   found (Staged.ends Ending.clear) u l w = absurd w
   found (Staged.ends (Ending.gaveUp t)) u l w =
       ap (λ (p : Bool). seen f k (cond p (Cut.gaveUp t) Cut.none)) (le-leb t k (omega (arith, w .from))) ∙ found-on f k t u l w
@@ -159,7 +163,7 @@ module _ (f : ℕ → Decision) (k : ℕ) where
       go : (p : Bool) → leb t k ≡ p → seen f k (cond p (Cut.hit t x) Cut.none) ≡ Outcome.none j → k < t
       go true w e = found-is-none f k e
       go false w e = leb-false t k w
-  clears (Staged.ends Ending.never) j = λ e. tt
+  clears (Staged.ends (Ending.never t)) j = λ e. tt
   clears (Staged.ends Ending.clear) j = λ e. tt
   clears (Staged.ends (Ending.gaveUp t)) j = go (leb t k) refl
     where
@@ -174,7 +178,11 @@ module _ (f : ℕ → Decision) (k : ℕ) where
 
   none : (s : Staged) → Clears f s k → outcomeAt f k s ≡ Outcome.none k
   none (Staged.ends (Ending.hit t x)) w = ap (λ (p : Bool). seen f k (cond p (Cut.hit t x) Cut.none)) (lt-leb t k w)
-  none (Staged.ends Ending.never) w = refl
+  none (Staged.ends (Ending.never t)) w = go (leb t k)
+    where
+      go : (p : Bool) → seen f k (cond p Cut.never Cut.none) ≡ Outcome.none k
+      go true = refl
+      go false = refl
   none (Staged.ends Ending.clear) w = refl
   none (Staged.ends (Ending.gaveUp t)) w = go (leb t k)
     where
@@ -190,7 +198,7 @@ module _ (f : ℕ → Decision) (k : ℕ) where
   -- up to a smaller bound
   clears-less : (j : ℕ) → j ≤ k → (s : Staged) → Clears f s k → Clears f s j
   clears-less j l (Staged.ends (Ending.hit t x)) w = omega arith
-  clears-less j l (Staged.ends Ending.never) w = tt
+  clears-less j l (Staged.ends (Ending.never t)) w = tt
   clears-less j l (Staged.ends Ending.clear) w = tt
   clears-less j l (Staged.ends (Ending.gaveUp t)) w = λ v a b. w v a (omega arith)
   clears-less j l (Staged.cutOff t) w = λ v a b. w v a (omega arith)
@@ -228,7 +236,7 @@ module _ (q : Question) (f g : ℕ → Decision) (D : ℕ) (right : (t : ℕ) �
       let before : v < u → ⊥ = λ less. none-up t u n (w .clears) v less y (h .fits) (h .hits) in
       let after : u < v → ⊥ = λ more. hit-some u (w .place) (w .hits) (m u more) in
       omega arith
-  found-past t u small n w (Staged.ends Ending.never) h l = hit-some u (w .place) (w .hits) (h u)
+  found-past t u small n w (Staged.ends (Ending.never v)) (a, b, m) l = hit-some u (w .place) (w .hits) (m u)
   found-past t u small n w (Staged.ends Ending.clear) h l = hit-some u (w .place) (w .hits) (h u (omega arith))
   found-past t u small n w (Staged.ends (Ending.gaveUp v)) (a, b, m) l =
       let within : u < v → ⊥ = λ more. hit-some u (w .place) (w .hits) (m u more) in
@@ -241,20 +249,20 @@ module _ (q : Question) (f g : ℕ → Decision) (D : ℕ) (right : (t : ℕ) �
   clears-past t k n w (Staged.ends (Ending.hit v y)) (a, b, m, h) l =
       let before : v < k + 1 → ⊥ = λ less. none-up t (k + 1) n w v less y (h .fits) (h .hits) in
       omega arith
-  clears-past t k n w (Staged.ends Ending.never) h l = tt
+  clears-past t k n w (Staged.ends (Ending.never v)) h l = tt
   clears-past t k n w (Staged.ends Ending.clear) h l = tt
   clears-past t k n w (Staged.ends (Ending.gaveUp v)) h l = clears-kept t v (k + 1) l w
   clears-past t k n w (Staged.cutOff v) h l = clears-kept t v (k + 1) l w
 
   ends-found : (e : Ending) (u : ℕ) → Finds f (Staged.ends e) u → Finds g (Staged.ends e) u
   ends-found (Ending.hit t x) u w = w
-  ends-found Ending.never u w = w
+  ends-found (Ending.never t) u w = w
   ends-found Ending.clear u w = w
   ends-found (Ending.gaveUp t) u w = found-kept t t u (omega arith) (w .from) w
 
   ends-clear : (e : Ending) (k : ℕ) → Clears f (Staged.ends e) k → Clears g (Staged.ends e) k
   ends-clear (Ending.hit t x) k w = w
-  ends-clear Ending.never k w = tt
+  ends-clear (Ending.never t) k w = tt
   ends-clear Ending.clear k w = tt
   ends-clear (Ending.gaveUp t) k w = clears-kept t t (k + 1) (omega arith) w
 
@@ -295,6 +303,15 @@ module _ (q : Question) (stages : List Stage) (sound : AllSound q stages) (decid
       (clears-more q (λ t. decide t D) (λ t. decide t E) D (λ t. right t D) (λ t. keeps t D E m) (listed stages 0 D) (listed stages 0 E)
       (lists-keep D E m) (list-right q stages sound D) (list-right q stages sound E) k
       (clears (λ t. decide t D) k (listed stages 0 D) i e)))
+
+  -- where it is found out up to a bound that no frame at all has a hit, it is with every larger bound and every larger budget
+  pub never-stays : (k k′ D E : ℕ) → k ≤ k′ → D ≤ E → T (neverBy stages k D) → T (neverBy stages k′ E)
+  unfolding neverBy
+  never-stays k k′ D E l m h =
+      let (t, a, e) = never-is k (listed stages 0 D) h in
+      let kept = subst (λ (s : Staged). Keeps s (listed stages 0 E)) e (lists-keep D E m) in
+      subst (λ (s : Staged). T (isNever (stagedAt k′ s))) (sym kept)
+      (subst (λ (p : Bool). T (isNever (cond p Cut.never Cut.none))) (sym (le-leb t k′ (omega arith))) tt)
 
   none-bound : (k D i : ℕ) → chosenBy stages decide k D ≡ Outcome.none i → i ≡ k
   unfolding chosenBy

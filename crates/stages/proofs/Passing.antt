@@ -23,6 +23,7 @@ pub record On (q : Question) (ss : List Stage) (k D t : ℕ) (o : Staged) : Type
 -- what is seen of a stage, and what a list that begins with it gives
 abbrev pub Passing : Question → List Stage → ℕ → ℕ → Staged → Cut → Type 0
 Passing q ss k D o (Cut.hit t x) = stagedAt k o ≡ Cut.hit t x
+Passing q ss k D o Cut.never = stagedAt k o ≡ Cut.never
 Passing q ss k D o Cut.none = stagedAt k o ≡ Cut.none
 Passing q ss k D o (Cut.gaveUp t) = On q ss k D t o
 Passing q ss k D o (Cut.cutOff t) = stagedAt k o ≡ Cut.cutOff t
@@ -34,7 +35,11 @@ module _ (q : Question) (ss : List Stage) (sound : AllSound q ss) (k D : ℕ) wh
       go : (p : Bool) → leb t k ≡ p → Passing q ss k D (Staged.ends (Ending.hit t x)) (cond p (Cut.hit t x) Cut.none)
       go true e = ap (λ (p : Bool). cond p (Cut.hit t x) Cut.none) e
       go false e = ap (λ (p : Bool). cond p (Cut.hit t x) Cut.none) e
-  pass first (Staged.ends Ending.never) h = refl
+  pass first (Staged.ends (Ending.never t)) h = go (leb t k) refl
+    where
+      go : (p : Bool) → leb t k ≡ p → Passing q ss k D (Staged.ends (Ending.never t)) (cond p Cut.never Cut.none)
+      go true e = ap (λ (p : Bool). cond p Cut.never Cut.none) e
+      go false e = ap (λ (p : Bool). cond p Cut.never Cut.none) e
   pass first (Staged.ends Ending.clear) h = refl
   pass first (Staged.ends (Ending.gaveUp t)) (a, b, n) = go (leb t k) refl
     where
@@ -54,11 +59,6 @@ module _ (q : Question) (ss : List Stage) (sound : AllSound q ss) (k D : ℕ) wh
   unfolding listed
   stage-passes s right first l n = pass first (s first D) (right .right first D l n)
 
-  -- it finds out that no frame at all has a hit
-  pub never-passes : (s : Stage) (first : ℕ) → s first D ≡ Staged.ends Ending.never → listed (s ∷ ss) first D ≡ Staged.ends Ending.never
-  unfolding listed
-  never-passes s first e = ap (λ (z : Staged). followed z (λ t. listed ss t D)) e
-
 -- where no stage is left the list is cut off
 pub none-left : (k D first : ℕ) → first ≤ k → stagedAt k (listed [] first D) ≡ Cut.cutOff first
 unfolding listed
@@ -72,6 +72,7 @@ next-round stages r n = ap (λ (i : ℕ). stages r ++ rounds stages i n) (sym (a
 -- what is seen of a result that is right: a hit is the first of its frame, which is within the bound
 abbrev HitRight : Question → ℕ → Cut → Type 0
 HitRight q k (Cut.hit t x) = (t ≤ k) × FirstAt q t x
+HitRight q k Cut.never = Unit {0}
 HitRight q k Cut.none = Unit {0}
 HitRight q k (Cut.gaveUp t) = Unit {0}
 HitRight q k (Cut.cutOff t) = t ≤ k
@@ -82,7 +83,11 @@ hit-right q k first (Staged.ends (Ending.hit t x)) (a, b, n, h) = go (leb t k) r
     go : (p : Bool) → leb t k ≡ p → HitRight q k (cond p (Cut.hit t x) Cut.none)
     go true e = (leb-true t k e, h)
     go false e = tt
-hit-right q k first (Staged.ends Ending.never) h = tt
+hit-right q k first (Staged.ends (Ending.never t)) h = go (leb t k)
+  where
+    go : (p : Bool) → HitRight q k (cond p Cut.never Cut.none)
+    go true = tt
+    go false = tt
 hit-right q k first (Staged.ends Ending.clear) h = tt
 hit-right q k first (Staged.ends (Ending.gaveUp t)) h = go (leb t k)
   where

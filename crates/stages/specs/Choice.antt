@@ -12,7 +12,7 @@ use Rattle.stages.specs.Endings.{Ending, Cut, Staged, Stage, stagedAt}
 -- after a stage: where it gives up, the next one begins
 abbrev pub followed : Staged → (ℕ → Staged) → Staged
 followed (Staged.ends (Ending.hit t x)) next = Staged.ends (Ending.hit t x)
-followed (Staged.ends Ending.never) next = Staged.ends Ending.never
+followed (Staged.ends (Ending.never t)) next = Staged.ends (Ending.never t)
 followed (Staged.ends Ending.clear) next = Staged.ends Ending.clear
 followed (Staged.ends (Ending.gaveUp t)) next = next t
 followed (Staged.cutOff t) next = Staged.cutOff t
@@ -53,6 +53,7 @@ onFrom f k t = chosenFrom f k t (k + 1 - t)
 -- the outcome of what is seen; from where the stages give up or are cut off the frames are decided by f
 abbrev pub seen : (ℕ → Decision) → ℕ → Cut → Outcome
 seen f k (Cut.hit t x) = Outcome.found t
+seen f k Cut.never = Outcome.none k
 seen f k Cut.none = Outcome.none k
 seen f k (Cut.gaveUp t) = onFrom f k t
 seen f k (Cut.cutOff t) = onFrom f k t
@@ -69,13 +70,14 @@ outcomeFrom stages decide k D first = outcomeAt (λ t. decide t D) k (listed sta
 unfoldable pub chosenBy : List Stage → (ℕ → ℕ → Decision) → ℕ → ℕ → Outcome
 chosenBy stages decide k D = outcomeFrom stages decide k D 0
 
--- whether no frame at all has a hit, as far as the stages find it out
-abbrev pub isNever : Staged → Bool
-isNever (Staged.ends Ending.never) = true
-isNever (Staged.ends (Ending.hit t x)) = false
-isNever (Staged.ends Ending.clear) = false
-isNever (Staged.ends (Ending.gaveUp t)) = false
-isNever (Staged.cutOff t) = false
+-- whether it is seen that no frame at all has a hit
+abbrev pub isNever : Cut → Bool
+isNever (Cut.hit t x) = false
+isNever Cut.never = true
+isNever Cut.none = false
+isNever (Cut.gaveUp t) = false
+isNever (Cut.cutOff t) = false
 
-unfoldable pub neverBy : List Stage → ℕ → Bool
-neverBy stages D = isNever (listed stages 0 D)
+-- whether the stages find out up to bound k that no frame at all has a hit
+unfoldable pub neverBy : List Stage → ℕ → ℕ → Bool
+neverBy stages k D = isNever (stagedAt k (listed stages 0 D))

@@ -7,11 +7,11 @@ use Prim.Native.Nat.{ℕ, _≤_, _<_}
 use lib.Dec.{T, leb}
 use Rattle.aiger.specs.Search.{Question}
 
--- The first frame with a hit and its first hit; no frame at all, however late, has a hit; no frame up to 255 has one; or the stage gives up
--- at a frame, where the next stage begins.
+-- The first frame with a hit and its first hit; no frame at all, however late, has a hit, which is known at a frame; no frame up to 255 has
+-- one; or the stage gives up at a frame, where the next stage begins.
 pub data Ending : Type 0 where
   hit : ℕ → ℕ → Ending
-  never : Ending
+  never : ℕ → Ending
   clear : Ending
   gaveUp : ℕ → Ending
 
@@ -21,10 +21,11 @@ pub data Staged : Type 0 where
   ends : Ending → Staged
   cutOff : ℕ → Staged
 
--- What a search with a bound sees of it: a hit up to the bound; no hit up to it; or a frame up to it at which the stage gives up or the
--- list is cut off.
+-- What a search with a bound sees of it: a hit up to the bound; no hit at all, where this is known at a frame up to the bound; no hit up to
+-- the bound; or a frame up to it at which the stage gives up or the list is cut off.
 pub data Cut : Type 0 where
   hit : ℕ → ℕ → Cut
+  never : Cut
   none : Cut
   gaveUp : ℕ → Cut
   cutOff : ℕ → Cut
@@ -32,7 +33,7 @@ pub data Cut : Type 0 where
 -- what bound k lets be seen of an ending
 abbrev pub cutAt : ℕ → Ending → Cut
 cutAt k (Ending.hit t x) = cond (leb t k) (Cut.hit t x) Cut.none
-cutAt k Ending.never = Cut.none
+cutAt k (Ending.never t) = cond (leb t k) Cut.never Cut.none
 cutAt k Ending.clear = Cut.none
 cutAt k (Ending.gaveUp t) = cond (leb t k) (Cut.gaveUp t) Cut.none
 
@@ -72,7 +73,7 @@ pub record FirstAt (q : Question) (t x : ℕ) : Type 0 where
 -- what an ending says, of a stage that begins at frame `first`
 abbrev pub EndsRight : Question → ℕ → Ending → Type 0
 EndsRight q first (Ending.hit t x) = (first ≤ t) × (t ≤ 255) × NoneBefore q t × FirstAt q t x
-EndsRight q first Ending.never = (t : ℕ) → NoHit q t
+EndsRight q first (Ending.never t) = (first ≤ t) × (t ≤ 256) × ((u : ℕ) → NoHit q u)
 EndsRight q first Ending.clear = NoneBefore q 256
 EndsRight q first (Ending.gaveUp t) = (first ≤ t) × (t ≤ 256) × NoneBefore q t
 
@@ -84,7 +85,7 @@ StagedRight q first (Staged.cutOff t) = (first ≤ t) × (t ≤ 256) × NoneBefo
 -- nothing before frame t is left to this result
 abbrev pub FromOn : ℕ → Staged → Type 0
 FromOn t (Staged.ends (Ending.hit u x)) = t ≤ u
-FromOn t (Staged.ends Ending.never) = Unit {0}
+FromOn t (Staged.ends (Ending.never u)) = t ≤ u
 FromOn t (Staged.ends Ending.clear) = Unit {0}
 FromOn t (Staged.ends (Ending.gaveUp u)) = t ≤ u
 FromOn t (Staged.cutOff u) = t ≤ u

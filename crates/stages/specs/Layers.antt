@@ -8,13 +8,13 @@ use Rattle.stages.specs.Endings.{Ending, Endings}
 abbrev pub ofLayers : Layered → Ending
 ofLayers (Layered.hit t x) = Ending.hit t x
 ofLayers Layered.clear = Ending.clear
-ofLayers Layered.never = Ending.never
+ofLayers (Layered.never t) = Ending.never t
 ofLayers (Layered.gaveUp t) = Ending.gaveUp t
 
 -- an ending that was found from frame 0 on, for a stage that begins at frame `first`
 abbrev pub fromStart : Ending → Endings
 fromStart (Ending.hit t x) first = Ending.hit t x
-fromStart Ending.never first = Ending.never
+fromStart (Ending.never t) first = Ending.never (max t first)
 fromStart Ending.clear first = Ending.clear
 fromStart (Ending.gaveUp t) first = Ending.gaveUp (max t first)
 

@@ -1,17 +1,15 @@
 -- `search::search_frames` meets its contract: what is seen of the stages, or what the frames from the one where they are cut off give.
 -- Assumes nothing.
-use mathlib.Core.Path.{_≡_, refl, ap, _∙_}
-use mathlib.Core.List.{List}
-use Prim.Native.Nat.{ℕ, _+_, _-_, _≤_}
+use mathlib.Core.Path.{refl, _∙_}
+use mathlib.Core.Bool.{true, false}
 use native.Mathlib.Nat.{le-trans}
 use native.Mathlib.Omega.{arith}
 use borrow.Author.Needs.{needs}
 use Rattle.aiger.specs.Search.{Outcome}
-use Rattle.aiger.specs.Operations.{front}
 use Rattle.layout.specs.Words.{circuitIn}
 use Rattle.frames.proofs.Facts.{bad-count}
 use Rattle.limits.proofs.Sizes.{bits-within, length-within, limited}
-use Rattle.search.proofs.Choice.{answered}
+use Rattle.search.proofs.Choice.{answered, answered-found}
 use Rattle.search.proofs.ByRounds.{of-hit, of-nothing, of-never, of-left}
 use Rattle.search.proofs.search_frames.Statement.{statement}
 use Rattle.search.proofs.search_frames.Tie as tie
@@ -29,18 +27,18 @@ pass-stages-requires c κs =
       words = p .words;
     }
 
-cast-write-witness : tie.Need-cast-write-witness
-cast-write-witness c = let p = c .before .before .before .before .before .before .before .before .before .before .before .before .pre
-    in omega (arith, p .bad, limited (p .ready .held) (p .ready .layout-of) .bads, p .ready .layout-of .b-is)
+cast-show-found : tie.Need-cast-show-found
+cast-show-found c =
+    let p = c .before .before .before .before .before .before .before .before .before .before .before .before .pre in
+    omega (arith, p .bad, limited (p .ready .held) (p .ready .layout-of) .bads, p .ready .layout-of .b-is)
 
-write-witness-requires : tie.Need-write-witness-requires
-write-witness-requires c κs =
+show-found-requires : tie.Need-show-found-requires
+show-found-requires c κs =
     let s = c .before .before .before .before .before .before .before .before .before .before .before .before .before .args in
     let p = c .before .before .before .before .before .before .before .before .before .before .before .before .before .pre in
     let C = circuitIn (s .m .now) in
     let f = c .before .before .before .before .before .before .before .pass-stages in
-    let h = of-hit C (s .q .b) (s .q .k) (s .q .d) (f .last .1 .1 .1 .1 .0) (f .result) (f .ensures) (c .before .before .before .t
-    .given .1) in
+    let h = of-hit C (s .q .b) (s .q .k) (s .q .d) (f .last .1 .1 .1 .1 .0) (f .result) (f .ensures) (c .before .before .before .t .given .1) in
     record {
       holds = p .ready .held;
       layout = p .ready .layout-of;
@@ -50,25 +48,11 @@ write-witness-requires c κs =
       room = le-trans (length-within C _ _ (s .q .k) (h .within)) (p .output);
     }
 
-cast-t20 : tie.Need-cast-t20
-cast-t20 c =
-    let s = c .before .before .before .before .before .before .before .before .before .before .before .before .before .before .before
-    .before .args in
-    let f = c .before .before .before .before .before .before .before .before .before .before .pass-stages in
-    let h = of-hit (circuitIn (s .m .now)) (s .q .b) (s .q .k) (s .q .d) (f .last .1 .1 .1 .1 .0) (f .result) (f .ensures) (c .before
-    .before .before .before .before .before .t .given .1) in
-    omega (
-      arith,
-      h .within,
-      c .before .before .before .before .before .before .before .before .before .before .before .before .before
-          .before .before .before .pre .bound,
-    )
+cast-t22 : tie.Need-cast-t22
+cast-t22 c = omega (arith, c .before .before .before .before .before .before .before .before .before .before .pre .bound)
 
 cast-t23 : tie.Need-cast-t23
 cast-t23 c = omega (arith, c .before .before .before .before .before .before .before .before .before .before .pre .bound)
-
-cast-t24 : tie.Need-cast-t24
-cast-t24 c = omega (arith, c .before .before .before .before .before .before .before .before .before .before .pre .bound)
 
 search-from-requires : tie.Need-search-from-requires
 search-from-requires c κs =
@@ -87,26 +71,22 @@ search-from-requires c κs =
         room = omega (arith, p .room, z);
         output = p .output;
       },
-      of-left (circuitIn (s .m .now)) (s .q .b) (s .q .k) (s .q .d) (f .last .1 .1 .1 .1 .0) (f .result) (f .ensures) (c .before
-          .before .before .t2 .given .1),
+      of-left (circuitIn (s .m .now)) (s .q .b) (s .q .k) (s .q .d) (f .last .1 .1 .1 .1 .0) (f .result) (f .ensures) (c .before .before .before .t2 .given .1),
     )
 
 same-length : tie.Need-same-length
 same-length c = c .before .before .before .before .before .before .before .before .before .before .pass-stages .kept .1 .1 .1 .1 .0
 
 same-length-2 : tie.Need-same-length-2
-same-length-2 c = c .before .before .write-witness .kept .0
+same-length-2 c = c .before .before .show-found .kept .0
 
 returns : tie.Need-returns
 returns c =
-    let s = c .before .before .before .before .before .before .before .before .before .before .before .before .before .before .before
-    .before .args in
+    let s = c .before .before .before .before .before .before .before .before .before .before .before .before .before .before .before .before .args in
     let C = circuitIn (s .m .now) in
     let f = c .before .before .before .before .before .before .before .before .before .before .pass-stages in
-    let h = of-hit C (s .q .b) (s .q .k) (s .q .d) (f .last .1 .1 .1 .1 .0) (f .result) (f .ensures) (c .before .before .before .before
-    .before .before .t .given .1) in
-    answered C (s .q .b) (s .q .k) (s .q .d) (Outcome.found _) (h .found)
-    (c .before .before .write-witness .ensures (h .place) (h .bits) ∙ ap (λ (z : List ℕ). front z (s .out .now)) (h .shown))
+    let h = of-hit C (s .q .b) (s .q .k) (s .q .d) (f .last .1 .1 .1 .1 .0) (f .result) (f .ensures) (c .before .before .before .before .before .before .t .given .1) in
+    answered-found C (s .q .b) (s .q .k) (s .q .d) _ (h .found) (h .told) (c .before .before .show-found .ensures) (h .place) (h .bits) (h .shown)
 
 same-length-3 : tie.Need-same-length-3
 same-length-3 c = c .before .before .before .before .pass-stages .kept .1 .1 .1 .1 .0
@@ -116,8 +96,8 @@ returns-2 c =
     let s = c .before .before .before .before .before .before .before .before .before .before .args in
     let C = circuitIn (s .m .now) in
     let f = c .before .before .before .before .pass-stages in
-    answered C (s .q .b) (s .q .k) (s .q .d) (Outcome.none (s .q .k))
-    (of-nothing C (s .q .b) (s .q .k) (s .q .d) (f .last .1 .1 .1 .1 .0) (f .result) (f .ensures) (c .enum-told .given .1)) refl
+    let (o, n) = of-nothing C (s .q .b) (s .q .k) (s .q .d) (f .last .1 .1 .1 .1 .0) (f .result) (f .ensures) (c .enum-told .given .1) in
+    answered C (s .q .b) (s .q .k) (s .q .d) (Outcome.none (s .q .k)) false o n refl
 
 same-length-4 : tie.Need-same-length-4
 same-length-4 c = c .before .before .before .before .pass-stages .kept .1 .1 .1 .1 .0
@@ -127,12 +107,11 @@ returns-3 c =
     let s = c .before .before .before .before .before .before .before .before .before .before .args in
     let C = circuitIn (s .m .now) in
     let f = c .before .before .before .before .pass-stages in
-    answered C (s .q .b) (s .q .k) (s .q .d) (Outcome.none (s .q .k))
-    (of-never C (s .q .b) (s .q .k) (s .q .d) (f .last .1 .1 .1 .1 .0) (f .result) (f .ensures) (c .enum-told2 .given .1)) refl
+    let (o, n) = of-never C (s .q .b) (s .q .k) (s .q .d) (f .last .1 .1 .1 .1 .0) (f .result) (f .ensures) (c .enum-told2 .given .1) in
+    answered C (s .q .b) (s .q .k) (s .q .d) (Outcome.none (s .q .k)) true o n refl
 
 same-length-5 : tie.Need-same-length-5
-same-length-5 c = c .before .before .before .before .search-from .kept .1 .1 .1 .1 .1 .0 ∙ c .before .before .before .before .before
-    .before .before .before .before .before .before .before .pass-stages .kept .1 .1 .1 .1 .0
+same-length-5 c = c .before .before .before .before .search-from .kept .1 .1 .1 .1 .1 .0 ∙ c .before .before .before .before .before .before .before .before .before .before .before .before .pass-stages .kept .1 .1 .1 .1 .0
 
 same-length-6 : tie.Need-same-length-6
 same-length-6 c = c .before .before .before .before .search-from .kept .1 .1 .1 .1 .1 .1 .0
@@ -144,6 +123,6 @@ pub search-frames-spec : {M : Type 1} → statement M
 search-frames-spec =
     tie.close
     (tie.spec
-    pass-stages-requires (λ c. search needs) cast-write-witness write-witness-requires cast-t20 (λ c. search needs) cast-t23
-    (λ c. search needs) cast-t24 (λ c. search needs) search-from-requires same-length same-length-2 returns same-length-3 returns-2
-    same-length-4 returns-3 same-length-5 same-length-6 returns-4)
+    pass-stages-requires (λ c. search needs) cast-show-found show-found-requires (λ c. search needs) cast-t22 (λ c. search needs)
+    cast-t23 (λ c. search needs) search-from-requires same-length same-length-2 returns same-length-3 returns-2 same-length-4
+    returns-3 same-length-5 same-length-6 returns-4)
