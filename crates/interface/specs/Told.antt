@@ -1,12 +1,12 @@
 -- What a C function tells: the number that it returns, and what stands afterwards in the answer that it was lent. Assumes nothing.
 use mathlib.Core.Path.{_≡_}
-use mathlib.Core.Bool.{cond}
+use mathlib.Core.Bool.{Bool, cond}
 use mathlib.Core.List.{List, []}
 use Prim.Native.Nat.{ℕ}
 use lib.Dec.{eqb}
 use lib.ListN.{getD}
 use Rattle.aiger.specs.Load.{Answer, refused, gives, needed}
-use Rattle.aiger.specs.Search.{Outcome}
+use Rattle.aiger.specs.Search.{Outcome, Report}
 use Rattle.completions.specs.Either.{Verdict}
 use Rattle.answer_places.specs.Places.{done, found, none, spent, all, no, mixed, places, noCounts, overlaid}
 use Rattle.call_forms.specs.History.{State, Call, Returned, Step}
@@ -26,11 +26,24 @@ abbrev pub pinTold : Answer (Unit {0}) → Answer (List ℕ)
 pinTold (refused n) = refused n
 pinTold (gives a) = gives (places done 0 0 0 noCounts 0 0)
 
-abbrev pub searchTold : Answer Outcome → Answer (List ℕ)
+-- the kind and the frame of an outcome: the first frame with a hit, the bound, or the frame that was not decided
+abbrev pub kindOf : Outcome → ℕ
+kindOf (Outcome.found t) = found
+kindOf (Outcome.none k) = none
+kindOf (Outcome.spent t) = spent
+
+abbrev pub frameOf : Outcome → ℕ
+frameOf (Outcome.found t) = t
+frameOf (Outcome.none k) = k
+frameOf (Outcome.spent t) = t
+
+abbrev pub flag : Bool → ℕ
+flag b = cond b 1 0
+
+-- a search: its outcome, the length of its witness, and whether no frame at all has a hit
+abbrev pub searchTold : Answer Report → Answer (List ℕ)
 searchTold (refused n) = refused n
-searchTold (gives (Outcome.found t)) = gives (places found t 0 0 noCounts 0 0)
-searchTold (gives (Outcome.none k)) = gives (places none k 0 0 noCounts 0 0)
-searchTold (gives (Outcome.spent t)) = gives (places spent t 0 0 noCounts 0 0)
+searchTold (gives r) = gives (places (kindOf (r .outcome)) (frameOf (r .outcome)) (r .length) 0 noCounts (flag (r .never)) 0)
 
 -- a text that was written: its length
 abbrev pub textTold : Answer ℕ → Answer (List ℕ)

@@ -32,6 +32,7 @@ ghost use Rattle.interface.specs.Told.{
   version,
   loadTold,
   pinTold,
+  flag,
   searchTold,
   textTold,
   previewTold,
@@ -118,18 +119,28 @@ fn tell_pinned(said: PinAnswer, answer: &mut [u64]) -> u64
     }
 }
 
+// 1 for true, 0 for false.
+fn number(b: bool) -> u64
+    ensures { λ r. ⌜ r ≡ flag b ⌝ }
+{
+    if b {
+        return 1;
+    }
+    0
+}
+
 // Tells what a search answered.
 fn tell_searched(said: SearchAnswer, answer: &mut [u64]) -> u64
     ensures { λ r. ⌜ Tells (searchTold (Search.said said)) (now (answer .entry)) r (now (answer .exit)) ⌝ }
 {
     match said {
         SearchAnswer::Refused(n) => n as u64,
-        SearchAnswer::Found(t) => {
-            answer_places::tell(FOUND, t as u64, 0, 0, answer);
+        SearchAnswer::Found(t, n) => {
+            answer_places::tell(FOUND, t as u64, n as u64, 0, answer);
             0
         }
-        SearchAnswer::Nothing(k) => {
-            answer_places::tell(NONE, k as u64, 0, 0, answer);
+        SearchAnswer::Nothing(k, never) => {
+            answer_places::tell(NONE, k as u64, 0, number(never), answer);
             0
         }
         SearchAnswer::Spent(t) => {
