@@ -38,6 +38,11 @@ impl Analyser {
         reference::held(&self.memory)
     }
 
+    /// Whether a pin holds an input of the circuit.
+    pub fn holds(&self) -> bool {
+        self.circuit().is_some_and(|c| (0..c.inputs.len()).any(|i| self.held(i).is_some()))
+    }
+
     fn held(&self, i: usize) -> Option<bool> {
         self.pins.get(i).filter(|&&pin| pin < 2).map(|&pin| pin == 1)
     }

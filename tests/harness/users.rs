@@ -7,14 +7,17 @@
 mod analyser;
 mod generate;
 mod interface;
+mod lend;
 mod random;
 mod reference;
 mod shared;
+mod stack;
 
 use analyser::{own, Analyser};
 use random::Random;
 use reference::Circuit;
 use shared::{Reply, Shared};
+use stack::Painted;
 use std::collections::BTreeMap;
 
 /// What both users lend: it is never cleared between calls.
@@ -28,6 +31,8 @@ struct Run {
     /// What the bytes after the pins must hold.
     rest: Vec<u8>,
     tally: BTreeMap<&'static str, [u64; 2]>,
+    /// The greatest depth of stack of each function, where the user holds no input of the circuit and where one is held.
+    depth: BTreeMap<&'static str, [usize; 2]>,
     differences: u64,
     calls: u64,
 }
@@ -42,7 +47,7 @@ impl Run {
         let bytes: Vec<u8> = (0..length).map(|_| random.below(4) as u8).collect();
         let analysers = [0, 1].map(|user| Analyser::new(user, &memory, &bytes));
         let rest = bytes[bytes.len().min(512)..].to_vec();
-        Run { random, spoil, shared: Shared { memory, work, bytes }, analysers, rest, tally: BTreeMap::new(), differences: 0, calls: 0 }
+        Run { random, spoil, shared: Shared { memory, work, bytes, painted: Painted::new(), paints: false }, analysers, rest, tally: BTreeMap::new(), depth: BTreeMap::new(), differences: 0, calls: 0 }
     }
 
     fn circuit(&mut self) -> Circuit {
@@ -106,6 +111,8 @@ impl Run {
         }
         let user = self.random.choose(&[0, 0, 0, 0, 1, 1, 1, 1, 1, 2]);
         let me = user as usize & 1;
+        self.shared.paints = self.random.one_in(8);
+        let holds = self.analysers[me].holds();
         let (name, got, expected): (&'static str, Reply, Reply) = match self.random.below(24) {
             0 => {
                 let file = self.file();
@@ -174,6 +181,8 @@ impl Run {
             self.analysers[1 - me].replaced(&memory);
             self.rest.fill(0);
         }
+        let depth = &mut self.depth.entry(name).or_insert([0, 0])[usize::from(holds)];
+        *depth = got.depth.max(*depth);
         self.compare(name, user, &got, &expected);
     }
 
@@ -227,6 +236,7 @@ fn main() {
     };
     let spoil = std::env::var("HARNESS_SPOIL").is_ok();
     let mut total: BTreeMap<&'static str, [u64; 2]> = BTreeMap::new();
+    let mut depth: BTreeMap<&'static str, [usize; 2]> = BTreeMap::new();
     let mut differences = 0;
     for number in 0..runs {
         let mut run = Run::new(seed.wrapping_mul(1_000_003).wrapping_add(number), spoil);
@@ -239,11 +249,19 @@ fn main() {
             sum[0] += counts[0];
             sum[1] += counts[1];
         }
+        for (name, bytes) in run.depth {
+            let greatest = depth.entry(name).or_insert([0, 0]);
+            *greatest = [0, 1].map(|holds| greatest[holds].max(bytes[holds]));
+        }
     }
     println!("sequences of calls  {runs:>9}\ncalls in each       {calls:>9}");
     for (name, [answered, refused]) in total {
         println!("{name:<19} {answered:>9} answered, {refused:>8} refused");
     }
-    println!("differences         {differences:>9}");
+    println!("\ngreatest depth of stack, bytes\n{:<19} {:>9} {:>9}", "", "free", "held");
+    for (name, [free, held]) in depth {
+        println!("{name:<19} {free:>9} {held:>9}");
+    }
+    println!("\ndifferences         {differences:>9}");
     std::process::exit(i32::from(differences > 0));
 }
