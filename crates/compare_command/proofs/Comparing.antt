@@ -6,10 +6,10 @@ use Prim.Native.Nat.{ℕ}
 use lib.ListN.{length}
 use Rattle.aiger.specs.Circuit.{Circuit}
 use Rattle.aiger.specs.Load.{Answer, refused, gives, _>>=_}
-use Rattle.aiger.specs.Search.{Outcome}
+use Rattle.aiger.specs.Search.{Report}
 use Rattle.aiger.specs.Operations.{judge, searchTests}
 use Rattle.search.specs.Chosen.{chosen}
-use Rattle.job.specs.Replies.{shownLength}
+use Rattle.job.specs.Replies.{toldLength}
 use Rattle.job.proofs.Replying.{Judged, shows}
 use Rattle.replies.specs.Reply.{Fronts, Leaves}
 use Rattle.replies.proofs.Putting.{refused-leaves}
@@ -21,11 +21,14 @@ tells : (c : Circuit) (b k D room len : ℕ) {z : Answer (Unit {0})} → judge (
     → isRefused (pairAnswer c b k D room len) ≡ isRefused (z >>= λ _. gives (chosen c b k D))
 tells c b k D room len q = ap (λ (v : Answer (Unit {0})). isRefused (v >>= λ _. gives (chosen c b k D))) q
 
-pub left : (c : Circuit) (b k D room : ℕ) (out line : List ℕ) (l w : ℕ) (x : Bool) {line′ : List ℕ} {a : Answer Outcome} {out′ : List ℕ}
-    → Judged c b k D room out a out′ → Fronts (saidWords b a) line l line′ → w ≡ shownLength c b a → x ≡ isRefused a
+pub left : (c : Circuit) (b k D room : ℕ) (out line : List ℕ) (l w : ℕ) (x : Bool) {line′ : List ℕ} {a : Answer Report} {out′ : List ℕ}
+    → Judged c b k D room out a out′ → Fronts (saidWords b a) line l line′ → w ≡ toldLength a → x ≡ isRefused a
     → PairSaid c b k D room line out (record { line = l; out = w; refused = x }) line′ out′ (length out)
 unfolding pairReply
 left c b k D room out line l w x (Judged.refuses {n = n} e) f z y =
     record { leaves = rw e (refused-leaves n out f z); refused-is = y ∙ sym (tells c b k D room (length out) e) }
-left c b k D room out line l w x (Judged.answers e o i p) f z y =
-    record { leaves = rw (e, i) (record { line-is = f; out-is = shows c b k D out o p z }); refused-is = y ∙ sym (tells c b k D room (length out) e) }
+left c b k D room out line l w x (Judged.answers e o i p u) f z y =
+    record {
+      leaves = rw (e, i) (record { line-is = f; out-is = shows c b k D out (o .outcome) p (z ∙ u) });
+      refused-is = y ∙ sym (tells c b k D room (length out) e);
+    }

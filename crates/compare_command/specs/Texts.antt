@@ -6,7 +6,7 @@ use Prim.Native.Nat.{ℕ}
 use Rattle.aiger.specs.Text.{bytes, digits}
 use Rattle.aiger.specs.Circuit.{Circuit}
 use Rattle.aiger.specs.Load.{Answer, refused, gives, _>>=_}
-use Rattle.aiger.specs.Search.{Outcome}
+use Rattle.aiger.specs.Search.{Outcome, Report}
 use Rattle.aiger.specs.Operations.{judge, searchTests}
 use Rattle.search.specs.Chosen.{chosen}
 use Rattle.replies.specs.Refusal.{refusalText}
@@ -24,22 +24,23 @@ pairWords j (Outcome.found t) = outputLine j (bytes ": found ") t
 pairWords j (Outcome.none k) = outputLine j (bytes ": the same up to ") k
 pairWords j (Outcome.spent t) = outputLine j (bytes ": spent ") t
 
-abbrev pub saidWords : ℕ → Answer Outcome → List ℕ
+abbrev pub saidWords : ℕ → Answer Report → List ℕ
 saidWords j (refused n) = refusalText n
-saidWords j (gives o) = pairWords j o
+saidWords j (gives r) = pairWords j (r .outcome)
 
-abbrev pub isRefused : Answer Outcome → Bool
+abbrev pub isRefused : Answer Report → Bool
 isRefused (refused n) = true
-isRefused (gives o) = false
+isRefused (gives r) = false
 
 -- the answer on a joined circuit, where working memory has `room` words and the output `len` bytes
-abbrev pub pairAnswer : Circuit → ℕ → ℕ → ℕ → ℕ → ℕ → Answer Outcome
+abbrev pub pairAnswer : Circuit → ℕ → ℕ → ℕ → ℕ → ℕ → Answer Report
 pairAnswer c j k D room len = judge (searchTests c j k D room len) >>= λ _. gives (chosen c j k D)
 
 -- the line, and after it the witness of a run that parts the outputs: the start of the old circuit, then that of the new one, then the
 -- inputs
 unfoldable pub pairReply : Circuit → ℕ → ℕ → ℕ → ℕ → ℕ → Reply
-pairReply c j k D room len = replyOf (λ o. record { line = pairWords j o; out = witnessOf c j o }) (pairAnswer c j k D room len)
+pairReply c j k D room len =
+    replyOf (λ r. record { line = pairWords j (r .outcome); out = witnessOf c j (r .outcome) }) (pairAnswer c j k D room len)
 
 pub record PairSaid (c : Circuit) (j k D room : ℕ) (line out : List ℕ) (r : Said) (line′ out′ : List ℕ) (len : ℕ) : Type 0 where
   pub leaves : Leaves (pairReply c j k D room len) line out (record { line = r .line; out = r .out }) line′ out′

@@ -41,8 +41,8 @@ fn write_said(line: &mut [u8], j: u32, answer: SearchAnswer) -> usize
     ensures { λ r. ⌜ Fronts (saidWords j (said answer)) (now (line .entry)) r (now (line .exit)) ⌝ }
 {
     match answer {
-        SearchAnswer::Found(t) => write_output(line, j, b": found ", t),
-        SearchAnswer::Nothing(k) => write_output(line, j, b": the same up to ", k),
+        SearchAnswer::Found(t, _) => write_output(line, j, b": found ", t),
+        SearchAnswer::Nothing(k, _) => write_output(line, j, b": the same up to ", k),
         SearchAnswer::Spent(t) => write_output(line, j, b": spent ", t),
         SearchAnswer::Refused(n) => replies::write_refusal(line, n),
     }
@@ -53,8 +53,8 @@ fn is_refused(answer: SearchAnswer) -> bool
 {
     match answer {
         SearchAnswer::Refused(_) => true,
-        SearchAnswer::Found(_) => false,
-        SearchAnswer::Nothing(_) => false,
+        SearchAnswer::Found(_, _) => false,
+        SearchAnswer::Nothing(_, _) => false,
         SearchAnswer::Spent(_) => false,
     }
 }
@@ -76,7 +76,7 @@ pub fn compare(
 {
     let b = j as u64;
     let answer = search::search(m, b, q.k, q.d, work, out);
-    let witness = job::shown_length(m, b, answer);
+    let witness = job::shown_length(answer);
     let length = write_said(line, j, answer);
     let refused = is_refused(answer);
     Said {

@@ -15,7 +15,7 @@ use Rattle.aiger.specs.Circuit.{Circuit, var, literalsRight, usedDefined, acycl
 use Rattle.aiger.specs.Frames.{Run, value, valueAt, hits, run, freeBits, freeStarts}
 use Rattle.aiger.specs.File.{isBinary}
 use Rattle.aiger.specs.Load.{Answer, refused, gives, load, loadText, needed}
-use Rattle.aiger.specs.Search.{Outcome, question, reaches, firstWitness, permitted, permittedOf}
+use Rattle.aiger.specs.Search.{Outcome, Report, question, reaches, firstWitness, permitted, permittedOf}
 use Rattle.aiger.specs.Witness.{Witness, agrees, witness, readWitness}
 use Rattle.aiger.specs.Write.{countRow, write}
 use Rattle.aiger.specs.Memory.{Holds, image}
@@ -59,7 +59,7 @@ use Rattle.write_binary.proofs.RoundTrip as binary
 use Rattle.search.specs.Chosen.{chosen}
 use Rattle.replay.proofs.Theorems.{Hit, either-same, all-is-yes, all-hits, no-hits}
 use Rattle.widen.proofs.Theorems.{made, widened-same, widened-all, widened-copied, widened-twice}
-use Rattle.search.proofs.Theorems.{found-only, none-only, spent-only, memory-same}
+use Rattle.search.proofs.Theorems.{found-only, found-length, none-only, never-only, spent-only, memory-same}
 use Rattle.vcd.specs.Text.{Level}
 use Rattle.waveform.specs.Waveform.{levelAt, frameCount, waveformOf, Waveformed}
 use Rattle.waveform_laws.proofs.Own.{own-input, own-latch}
@@ -116,33 +116,40 @@ pub record Correct : Type 1 where
       → Loaded m (write (joined c d)) (gives a) m′ × Holds m′ (joined c d)
   -- a search of a joined circuit that says found t for bad line j shows runs of both circuits on the same inputs, allowed at frame t, whose
   -- outputs j differ there; and there are none before frame t
-  pub join-found : {m₁ m₂ m m′ a w out w′ out′ : List ℕ} {c d : Circuit} {j k D t : ℕ} → Holds m₁ c → Holds m₂ d → JoinedInto m₁ m₂ m (gives a) m′ → j < length (c .outputs)
-      → Searched chosen m′ j k D w out (gives (Outcome.found t)) w′ out′
+  pub join-found : {m₁ m₂ m m′ a w out w′ out′ : List ℕ} {c d : Circuit} {j k D t : ℕ} {r : Report} → Holds m₁ c → Holds m₂ d → JoinedInto m₁ m₂ m (gives a) m′
+      → j < length (c .outputs) → Searched chosen m′ j k D w out (gives r) w′ out′ → r .outcome ≡ Outcome.found t
       → (s : Run) × (out′ ≡ front (witness j s) out) × Parting c d j t (firstRun c s) (secondRun c s) × ((u : ℕ) → u < t → (r r′ : Run) → Parting c d j u r r′ → ⊥)
   -- one that says none k shows that there are no such runs in frames 0 to k
-  pub join-none : {m₁ m₂ m m′ a w out w′ out′ : List ℕ} {c d : Circuit} {j k D i : ℕ} → Holds m₁ c → Holds m₂ d → JoinedInto m₁ m₂ m (gives a) m′ → j < length (c .outputs)
-      → Searched chosen m′ j k D w out (gives (Outcome.none i)) w′ out′ → (u : ℕ) → u ≤ k → (r r′ : Run) → Parting c d j u r r′ → ⊥
+  pub join-none : {m₁ m₂ m m′ a w out w′ out′ : List ℕ} {c d : Circuit} {j k D i : ℕ} {r : Report} → Holds m₁ c → Holds m₂ d → JoinedInto m₁ m₂ m (gives a) m′
+      → j < length (c .outputs) → Searched chosen m′ j k D w out (gives r) w′ out′ → r .outcome ≡ Outcome.none i → (u : ℕ) → u ≤ k
+      → (s s′ : Run) → Parting c d j u s s′ → ⊥
   -- a circuit without a free start never parts from itself
   pub join-self : (c : Circuit) → freeStarts c ≡ 0 → (j t : ℕ) (r r′ : Run) → Parting c c j t r r′ → ⊥
   -- ---- Demand 3: a search that is not refused says found, none or spent exactly as permitted, whatever the memories held before.
 
   -- found: the first frame with a hit, and the witness of its first hit in counting order at the front of the output
-  pub says-found : {m w out w′ out′ : List ℕ} {c : Circuit} {b k D t : ℕ} → Holds m c → Searched chosen m b k D w out (gives (Outcome.found t)) w′ out′
-      → Found (question c b) k t × (out′ ≡ front (firstWitness c b t) out)
+  pub says-found : {m w out w′ out′ : List ℕ} {c : Circuit} {b k D t : ℕ} {r : Report} → Holds m c → Searched chosen m b k D w out (gives r) w′ out′
+      → r .outcome ≡ Outcome.found t → Found (question c b) k t × (out′ ≡ front (firstWitness c b t) out)
+  -- with the length of that witness
+  pub says-length : {m w out w′ out′ : List ℕ} {c : Circuit} {b k D t : ℕ} {r : Report} → Holds m c → Searched chosen m b k D w out (gives r) w′ out′
+      → r .outcome ≡ Outcome.found t → r .length ≡ length (firstWitness c b t)
   -- none: no frame up to the bound has a hit
-  pub says-none : {m w out w′ out′ : List ℕ} {c : Circuit} {b k D j : ℕ} → Holds m c → Searched chosen m b k D w out (gives (Outcome.none j)) w′ out′
-      → None (question c b) k j
+  pub says-none : {m w out w′ out′ : List ℕ} {c : Circuit} {b k D j : ℕ} {r : Report} → Holds m c → Searched chosen m b k D w out (gives r) w′ out′
+      → r .outcome ≡ Outcome.none j → None (question c b) k j
+  -- where it is told that no frame at all has a hit, the outcome is none, and none holds for every bound
+  pub says-never : {m w out w′ out′ : List ℕ} {c : Circuit} {b k D : ℕ} {r : Report} → Holds m c → Searched chosen m b k D w out (gives r) w′ out′
+      → T (r .never) → (r .outcome ≡ Outcome.none k) × ((j : ℕ) → None (question c b) j j)
   -- spent: no earlier frame has a hit, the frame has more than D sequences, and none of the first D hits
-  pub says-spent : {m w out w′ out′ : List ℕ} {c : Circuit} {b k D t : ℕ} → Holds m c → Searched chosen m b k D w out (gives (Outcome.spent t)) w′ out′
-      → Spent (question c b) k D t
+  pub says-spent : {m w out w′ out′ : List ℕ} {c : Circuit} {b k D t : ℕ} {r : Report} → Holds m c → Searched chosen m b k D w out (gives r) w′ out′
+      → r .outcome ≡ Outcome.spent t → Spent (question c b) k D t
   -- a witness that is shown breaks no constraint in any of its frames
-  pub constraints-hold : {m w out w′ out′ : List ℕ} {c : Circuit} {b k D t : ℕ} → Holds m c → Searched chosen m b k D w out (gives (Outcome.found t)) w′ out′
-      → (x : ℕ) × (x < 2 ^ freeBits c t) × (out′ ≡ front (witness b (run c t x)) out)
+  pub constraints-hold : {m w out w′ out′ : List ℕ} {c : Circuit} {b k D t : ℕ} {r : Report} → Holds m c → Searched chosen m b k D w out (gives r) w′ out′
+      → r .outcome ≡ Outcome.found t → (x : ℕ) × (x < 2 ^ freeBits c t) × (out′ ≡ front (witness b (run c t x)) out)
       × ((u l : ℕ) → u ≤ t → List·Memᴰ l (c .constraints) → T (valueAt c (run c t x) u l))
   -- where there is no constraint, what may be answered is as if constraints counted in the frame of the hit alone
   pub without-constraints : (c : Circuit) → c .constraints ≡ [] → (b k D : ℕ) (o : Outcome) → permitted c b k D o ≡ permittedOf (questionAlone c b) k D o
   -- what the memories held never matters
-  pub memory-never-matters : {m m′ w w′ out out′ w₁ w₂ o₁ o₂ : List ℕ} {c : Circuit} {b k D : ℕ} {x y : Answer Outcome} → Holds m c → Holds m′ c
+  pub memory-never-matters : {m m′ w w′ out out′ w₁ w₂ o₁ o₂ : List ℕ} {c : Circuit} {b k D : ℕ} {x y : Answer Report} → Holds m c → Holds m′ c
       → length w ≡ length w′ → length out ≡ length out′ → Searched chosen m b k D w out x w₁ o₁ → Searched chosen m′ b k D w′ out′ y w₂ o₂
       → (x ≡ y) × OneText out o₁ out′ o₂
   -- ---- Clause 12.2: witnesses that may hold `x`.
@@ -277,12 +284,12 @@ module _ {A S : Type 0} {m : List ℕ} {tests : Circuit → List Test} {lent : S
   accepted {x = refused n} h j o = absurd (never (sym (refused-as h o refl .0) ∙ j))
   accepted {x = gives a} h j o = (a, refl, acted h o refl .1)
 
-join-shows : {m₁ m₂ m m′ a w out w′ out′ : List ℕ} {c d : Circuit} {j k D t : ℕ} → Holds m₁ c → Holds m₂ d → JoinedInto m₁ m₂ m (gives a) m′ → j < length (c .outputs)
-    → Searched chosen m′ j k D w out (gives (Outcome.found t)) w′ out′
+join-shows : {m₁ m₂ m m′ a w out w′ out′ : List ℕ} {c d : Circuit} {j k D t : ℕ} {r : Report} → Holds m₁ c → Holds m₂ d → JoinedInto m₁ m₂ m (gives a) m′
+    → j < length (c .outputs) → Searched chosen m′ j k D w out (gives r) w′ out′ → r .outcome ≡ Outcome.found t
     → (s : Run) × (out′ ≡ front (witness j s) out) × Parting c d j t (firstRun c s) (secondRun c s) × ((u : ℕ) → u < t → (r r′ : Run) → Parting c d j u r r′ → ⊥)
-join-shows {out = out} h h′ o l s =
+join-shows {out = out} h h′ o l s e =
     let q = join-loads h h′ o in
-    let f = found-only (q .1) s in
+    let f = found-only (q .1) s e in
     let p = found-parts (q .2) l (f .0) in
     (p .0, f .1 ∙ ap (λ (x : List ℕ). front x out) (p .1), p .2, p .3)
 
@@ -305,13 +312,15 @@ correct =
       join-first-cause = λ h h′ o. join-refused h h′ o;
       join-never-refused = λ h h′ e o. join-accepted h h′ e o;
       join-is-load = λ h h′ o. let q = join-loads h h′ o in (q .0, q .1);
-      join-found = λ h h′ o l s. join-shows h h′ o l s;
-      join-none = λ h h′ o l s. let q = join-loads h h′ o in none-parts (q .2) l (none-only (q .1) s);
+      join-found = λ h h′ o l s e. join-shows h h′ o l s e;
+      join-none = λ h h′ o l s e. let q = join-loads h h′ o in none-parts (q .2) l (none-only (q .1) s e);
       join-self = self-same;
-      says-found = λ h s. found-only h s;
-      says-none = λ h s. none-only h s;
-      says-spent = λ h s. spent-only h s;
-      constraints-hold = λ h s. witness-allowed h s;
+      says-found = λ h s e. found-only h s e;
+      says-length = λ h s e. found-length h s e;
+      says-none = λ h s e. none-only h s e;
+      says-never = λ h s f. never-only h s f;
+      says-spent = λ h s e. spent-only h s e;
+      constraints-hold = λ h s e. witness-allowed h s e;
       without-constraints = λ c none b. permitted-alone c none b;
       memory-never-matters = memory-same;
       replay-determined = either-same;

@@ -1,6 +1,7 @@
 // What the programs share: printing, and reading what arguments are or name. What fails is told on standard error.
 use arguments::Argument;
 use input::Got;
+use libc::STDERR_FILENO;
 use libc::STDOUT_FILENO;
 ghost use mathlib.Core.Path.{_≡_};
 ghost use mathlib.Core.Bool.{_||_};
@@ -25,6 +26,20 @@ pub fn say_front(text: &[u8], n: usize) {
         say(&text[..n]);
     } else {
         say(text);
+    }
+}
+
+// Writes a text to standard error.
+fn note(text: &[u8]) {
+    io::write_all(STDERR_FILENO, text);
+}
+
+// Writes the first n bytes of a text, or all of it where it has fewer, to standard error.
+pub fn note_front(text: &[u8], n: usize) {
+    if n < text.len() {
+        note(&text[..n]);
+    } else {
+        note(text);
     }
 }
 

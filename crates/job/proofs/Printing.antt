@@ -18,7 +18,7 @@ use Rattle.aiger.specs.Program.{Request, request, report, refusalLine, Prints}
 use Rattle.layout.specs.Words.{circuitIn}
 use Rattle.limits.proofs.Refusals.{passed}
 use Rattle.roundtrip.proofs.Holding.{held, loaded-holds}
-use Rattle.search.specs.Chosen.{chosen}
+use Rattle.search.specs.Chosen.{outcomeChosen}
 use Rattle.search.proofs.Theorems.{always-permitted}
 use Rattle.job.specs.Replies.{outcomeWords}
 use Rattle.job.specs.Job.{requested, searched, requestAnswer, jobAnswer, Result, replyTo}
@@ -44,13 +44,13 @@ stored-in {m′ = m′} s = subst (Holds m′) (sym (held (s .holds))) (s .holds
 -- what is printed for an answer, by the cases in which it comes
 module _ (input : List ℕ) where
   abbrev Printed : Answer Result → Type 0
-  Printed a = Prints chosen input (replyTo a .line ++ replyTo a .out)
+  Printed a = Prints outcomeChosen input (replyTo a .line ++ replyTo a .out)
 
-  refusal : (n : ℕ) → Prints chosen input (refusalLine n) → Printed (refused n)
+  refusal : (n : ℕ) → Prints outcomeChosen input (refusalLine n) → Printed (refused n)
   refusal n p = rw (append-nil (refusalLine n)) p
 
   module _ (h : length input ≤ 65536) (q : Request) (e : request input ≡ some q) where
-    reported : (c : Circuit) (o : Outcome) → Prints chosen input (report c (q .b) o)
+    reported : (c : Circuit) (o : Outcome) → Prints outcomeChosen input (report c (q .b) o)
         → Printed (gives (record { circuit = c; b = q .b; outcome = o }))
     unfolding report
     reported c (Outcome.found t) p = p
@@ -62,7 +62,7 @@ module _ (input : List ℕ) where
     by-tests c l = go (judge (searchTests c (q .b) (q .k) (q .D) 8192 2048)) refl
       where
         o : Outcome
-        o = chosen c (q .b) (q .k) (q .D)
+        o = outcomeChosen c (q .b) (q .k) (q .D)
 
         go : (a : Answer (Unit {0})) → judge (searchTests c (q .b) (q .k) (q .D) 8192 2048) ≡ a
             → Printed (a >> gives (record { circuit = c; b = q .b; outcome = o }))

@@ -10,7 +10,7 @@ use Rattle.aiger.specs.Operations.{Loaded}
 use Rattle.aiger.specs.Program.{Request, request, refusalLine, Prints}
 use Rattle.layout.specs.Words.{circuitIn}
 use Rattle.roundtrip.proofs.Holding.{held}
-use Rattle.search.specs.Chosen.{chosen}
+use Rattle.search.specs.Chosen.{outcomeChosen}
 use Rattle.replies.specs.Reply.{Fronts}
 use Rattle.replies.specs.Loading.{wordsAfter}
 use Rattle.replies.specs.declared.Report.{Report}
@@ -31,7 +31,7 @@ module _ (input m work out line : List ℕ) {r : Report} {line′ : List ℕ} wh
   -- what a job leaves may be printed, and lies within line and output
   pub all-ensured : {m′ work′ out′ : List ℕ} → Ran input m work out line r m′ work′ out′ line′
       → Ran input m work out line r m′ work′ out′ line′
-      × (Prints chosen input (take (r .line) line′ ++ take (r .out) out′) × ((r .line ≤ length line′) × (r .out ≤ length out′)))
+      × (Prints outcomeChosen input (take (r .line) line′ ++ take (r .out) out′) × ((r .line ≤ length line′) × (r .out ≤ length out′)))
   all-ensured g =
       let t = g .replied .texts in (
         g,

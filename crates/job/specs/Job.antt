@@ -12,7 +12,7 @@ use Rattle.aiger.specs.Program.{Request, request, refusalLine}
 use Rattle.replies.specs.Reply.{Reply, Leaves}
 use Rattle.replies.specs.Loading.{wordsAfter}
 use Rattle.replies.specs.declared.Report.{Report}
-use Rattle.search.specs.Chosen.{chosen}
+use Rattle.search.specs.Chosen.{outcomeChosen}
 use Rattle.job.specs.Replies.{outcomeWords, witnessOf}
 
 -- Clause 8.1: the request of an input; 1 where the input is too long, 11 where its first line is malformed
@@ -31,7 +31,7 @@ pub record Result : Type 0 where
 
 -- the search of a circuit, where working memory has `room` words and the output `len` bytes
 unfoldable pub searched : Circuit → ℕ → ℕ → ℕ → ℕ → ℕ → Answer Result
-searched c b k D room len = judge (searchTests c b k D room len) >> gives (record { circuit = c; b = b; outcome = chosen c b k D })
+searched c b k D room len = judge (searchTests c b k D room len) >> gives (record { circuit = c; b = b; outcome = outcomeChosen c b k D })
 
 -- Clause 8.2: a request's file is loaded into 8,192 words and searched with 8,192 words of working memory and 2,048 bytes of output
 abbrev pub requestAnswer : Request → Answer Result

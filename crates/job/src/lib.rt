@@ -12,10 +12,10 @@ ghost use Rattle.aiger.specs.Text.{bytes};
 ghost use Rattle.aiger.specs.Memory.{Holds};
 ghost use Rattle.aiger.specs.Program.{Prints, refusalLine};
 ghost use Rattle.layout.specs.Words.{circuitIn};
-ghost use Rattle.search.specs.Chosen.{chosen, said};
+ghost use Rattle.search.specs.Chosen.{outcomeChosen, said};
 ghost use Rattle.replies.specs.Reply.{Fronts};
 ghost use Rattle.job.specs.Query.{queryOf, FirstLineIs};
-ghost use Rattle.job.specs.Replies.{saidText, shownLength, ShownFits};
+ghost use Rattle.job.specs.Replies.{saidText, toldLength};
 ghost use Rattle.job.specs.Job.{searched, Replied, Ran};
 
 // A request: a bad line, a bound, a budget, and the position of the file.
@@ -76,8 +76,8 @@ fn write_answer(line: &mut [u8], answer: SearchAnswer) -> usize
     ensures { λ r. ⌜ Fronts (saidText (said answer)) (now (line .entry)) r (now (line .exit)) ⌝ }
 {
     match answer {
-        SearchAnswer::Found(t) => replies::write_line(line, b"found ", t),
-        SearchAnswer::Nothing(k) => replies::write_line(line, b"none ", k),
+        SearchAnswer::Found(t, _) => replies::write_line(line, b"found ", t),
+        SearchAnswer::Nothing(k, _) => replies::write_line(line, b"none ", k),
         SearchAnswer::Spent(t) => replies::write_line(line, b"spent ", t),
         SearchAnswer::Refused(n) => replies::write_line(line, b"refused ", n),
     }
@@ -95,16 +95,16 @@ fn refuse(line: &mut [u8], n: u32) -> Report
     }
 }
 
-// The length of the witness that a search for b leaves: 0 where it finds no hit.
-pub fn shown_length(m: &[u32], b: u64, answer: SearchAnswer) -> usize
-    requires { ⌜ ShownFits (now m) b answer ⌝ }
-    ensures { λ r. ⌜ r ≡ shownLength (circuitIn (now (m .entry))) b (said answer) ⌝ }
+// The length of the witness that a search leaves: 0 where it finds no hit.
+pub fn shown_length(answer: SearchAnswer) -> usize
+    ensures { λ r. ⌜ r ≡ toldLength (said answer) ⌝ }
 {
-    let SearchAnswer::Found(t) = answer else {
-        return 0;
-    };
-    let layout = layout::with_starts(m, layout::layout_of(m));
-    limits::witness_length(layout, b as u32, t as usize)
+    match answer {
+        SearchAnswer::Found(_, length) => length as usize,
+        SearchAnswer::Nothing(_, _) => 0,
+        SearchAnswer::Spent(_) => 0,
+        SearchAnswer::Refused(_) => 0,
+    }
 }
 
 // Searches the circuit in m.
@@ -117,7 +117,7 @@ fn reply(m: &[u32], q: Query, work: &mut [u32], out: &mut [u8], line: &mut [u8])
         ⌝ }
 {
     let answer = search::search(m, q.b, q.k, q.d, work, out);
-    let witness = shown_length(m, q.b, answer);
+    let witness = shown_length(answer);
     let length = write_answer(line, answer);
     Report {
         line: length,
@@ -133,7 +133,7 @@ pub fn run(input: &[u8], m: &mut [u32], work: &mut [u32], out: &mut [u8], line: 
         (now (work .exit)) (now (out .exit)) (now (line .exit))
         ⌝ }
     ensures prints { λ r. ⌜
-        Prints chosen (now (input .entry)) (take (r .line) (now (line .exit)) ++ take (r .out) (now (out .exit)))
+        Prints outcomeChosen (now (input .entry)) (take (r .line) (now (line .exit)) ++ take (r .out) (now (out .exit)))
         ⌝ }
     ensures within { λ r. ⌜ (r .line ≤ length (now (line .exit))) × (r .out ≤ length (now (out .exit))) ⌝ }
 {

@@ -9,8 +9,7 @@ use lib.ListN.{length}
 use Rattle.aiger.specs.Text.{bytes}
 use Rattle.aiger.specs.Load.{Answer, refused, gives}
 use Rattle.aiger.specs.Write.{lineOf}
-use Rattle.layout.specs.Words.{circuitIn}
-use Rattle.job.specs.Replies.{shownLength}
+use Rattle.job.specs.Replies.{toldLength}
 use Rattle.replies.specs.Refusal.{refusalText}
 use Rattle.replies.specs.Reply.{Reply, refusal, Fronts}
 use Rattle.replies.specs.declared.Report.{Report}
@@ -68,8 +67,8 @@ Queried (Pin input value) user s out line r s′ out′ line′ =
     Reported (λ a. History.Step s (History.Call.setPin user input value) (History.Returned.pinned a) s′ × (out′ ≡ out)) pinWords noText
     line r line′ out′
 Queried (Search b k D) user s out line r s′ out′ line′ =
-    Reported (λ a. History.Step s (History.Call.search user b k D out) (History.Returned.searched a out′) s′) saidWords
-    (shownLength (circuitIn (s .memory)) b) line r line′ out′
+    Reported (λ a. History.Step s (History.Call.search user b k D out) (History.Returned.searched a out′) s′) saidWords toldLength
+    line r line′ out′
 Queried (Fold b t) user s out line r s′ out′ line′ =
     Reported (λ a. History.Step s (History.Call.fold user b t out) (History.Returned.folded a out′) s′) textWords textLength
     line r line′ out′

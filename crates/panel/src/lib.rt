@@ -10,8 +10,7 @@ ghost use mathlib.Core.Path.{_≡_};
 ghost use mathlib.Core.List.{[]};
 ghost use Prim.Native.Nat.{_≤_};
 ghost use lib.ListN.{length};
-ghost use Rattle.layout.specs.Words.{circuitIn};
-ghost use Rattle.job.specs.Replies.{shownLength};
+ghost use Rattle.job.specs.Replies.{toldLength};
 ghost use Rattle.replies.specs.Reply.{Leaves};
 ghost use Rattle.search_command.specs.Texts.{saidWords};
 ghost use Rattle.search.specs.Chosen as Search;
@@ -93,11 +92,11 @@ fn search(
         (λ a.
         UserSearched Search.chosen (now (m .entry)) (now (pins .entry)) user (q .b) (q .k) (q .d) (now (work .entry)) (now (out .entry)) a
         (now (work .exit)) (now (out .exit)))
-        saidWords (shownLength (circuitIn (now (m .entry))) (q .b)) (now (line .entry)) r (now (line .exit)) (now (out .exit))
+        saidWords toldLength (now (line .entry)) r (now (line .exit)) (now (out .exit))
         ⌝ }
 {
     let answer = calls::search(user, pins, m, q, work, out);
-    let witness = job::shown_length(m, q.b, answer);
+    let witness = job::shown_length(answer);
     let length = search_command::write_answer(line, answer);
     Report {
         line: length,

@@ -13,17 +13,16 @@ use Rattle.aiger.specs.Circuit.{Circuit}
 use Rattle.aiger.specs.Frames.{runIn}
 use Rattle.aiger.specs.Load.{Answer, refused, gives}
 use Rattle.aiger.specs.Memory.{Holds}
-use Rattle.aiger.specs.Search.{Outcome, firstAt, permittedOf}
+use Rattle.aiger.specs.Search.{Outcome, Report, firstAt, permittedOf}
 use Rattle.aiger.specs.Witness.{witness, witnessLength}
 use Rattle.aiger.specs.Write.{write}
-use Rattle.aiger.specs.Operations.{Operated, Test, need, judge, front, searchTests, foldTests}
+use Rattle.aiger.specs.Operations.{Operated, Test, need, judge, front, searchTests, shownLength, foldTests}
 use Rattle.aiger.proofs.Tests.{T-true}
 use Rattle.meaning.proofs.Decisions.{first-from}
 use Rattle.meaning.proofs.Outcomes.{found-out}
 use Rattle.roundtrip.proofs.Holding.{held}
 use Rattle.roundtrip.proofs.Lists.{upto-length, every-made}
 use Rattle.roundtrip.proofs.Witness.{Shaped, wide, witness-length, run-shaped}
-use Rattle.layout.specs.Words.{circuitIn}
 use Rattle.completions.specs.Either.{readEither, widened}
 use Rattle.completions.proofs.Widening.{widened-wider}
 use Rattle.pins.specs.Pins.{pinsOf, pinned, pinnedSpace, pinnedQuestion, pinnedWitness}
@@ -31,7 +30,7 @@ use Rattle.pins.proofs.Inputs.{length-fill}
 use Rattle.pins.proofs.Questions.{run-fills}
 use Rattle.pins.proofs.Valid.{pinned-counts}
 use Rattle.pinned_runs.specs.Obeys.{pinnedShows, pinnedWidenedText}
-use Rattle.pinning.specs.Operations.{PinnedSearchEffect}
+use Rattle.pinning.specs.Operations.{PinnedSearchEffect, pinnedShown}
 use Rattle.call_forms.specs.Forms.{Tested, UserSearched, UserFolded, UserWritten, UserWrittenBinary, UserWidened, UserWaveformed}
 use Rattle.renumbered.specs.Renumbered.{writeBinary}
 use Rattle.waveform.specs.Waveform.{waveformOf, waveformTests}
@@ -40,7 +39,7 @@ use Rattle.widen.proofs.Headings.{headed}
 use Rattle.widen.proofs.Theorems.{read-heading}
 use Rattle.search.specs.Chosen as Search
 use Rattle.fold.specs.Chosen as Fold
-use Rattle.job.specs.Replies.{shownLength}
+use Rattle.job.specs.Replies.{toldLength}
 use Rattle.panel.specs.Answers.{textLength}
 
 -- a text was written at the front of the output, and would be so whatever the output held
@@ -189,26 +188,43 @@ module _ (c : Circuit) (q : ℕ → ℕ) where
       ∙ sym (ap (λ (o : Option ℕ). length {A = ℕ} (elim o [ Option.some y ↦ witness b (runIn (pinnedSpace c q) t y) | Option.none ↦ [] ])) some)
 
   -- what an outcome shows, as a text
-  outcome-told : {out out₀ s : List ℕ} (w : List ℕ) (m : List ℕ) (b k D : ℕ) → circuitIn m ≡ c → (o : Outcome) → PinnedSearchEffect Search.chosen q b k D out c o (w, s)
-      → Told out out₀ s (shownLength (circuitIn m) b (gives o)) (λ (z : List ℕ). PinnedSearchEffect Search.chosen q b k D out₀ c o (w, z))
-  outcome-told w m b k D e (Outcome.found t) f =
-      record {
-        text = pinnedWitness c q b t;
-        long = ap (λ (d : Circuit). witnessLength d b t) e ∙ witness-long b k D t (f .allowed);
-        left = f .shows;
-        again = record { chose = f .chose; allowed = f .allowed; shows = refl };
-      }
-  outcome-told w m b k D e (Outcome.none n) f =
-      record { text = []; long = refl; left = f .shows; again = record { chose = f .chose; allowed = f .allowed; shows = refl } }
-  outcome-told w m b k D e (Outcome.spent t) f =
-      record { text = []; long = refl; left = f .shows; again = record { chose = f .chose; allowed = f .allowed; shows = refl } }
+  abbrev shownText : ℕ → Outcome → List ℕ
+  shownText b (Outcome.found t) = pinnedWitness c q b t
+  shownText b (Outcome.none k) = []
+  shownText b (Outcome.spent t) = []
 
-pub search-told : (pins : List ℕ) (user : ℕ) {m w w′ out out₀ out′ : List ℕ} {b k D : ℕ} {a : Answer Outcome} → length out ≡ length out₀
+  shown-text : (b : ℕ) (o : Outcome) (out : List ℕ) → pinnedShown c q b o out ≡ front (shownText b o) out
+  shown-text b (Outcome.found t) out = refl
+  shown-text b (Outcome.none k) out = refl
+  shown-text b (Outcome.spent t) out = refl
+
+  text-long : (b k D : ℕ) (o : Outcome) → T (permittedOf (pinnedQuestion c q b) k D o) → shownLength c b o ≡ length (shownText b o)
+  text-long b k D (Outcome.found t) h = witness-long b k D t h
+  text-long b k D (Outcome.none n) h = refl
+  text-long b k D (Outcome.spent t) h = refl
+
+  report-told : {out out₀ s : List ℕ} (w : List ℕ) (b k D : ℕ) (o : Report) → PinnedSearchEffect Search.chosen q b k D out c o (w, s)
+      → Told out out₀ s (o .length) (λ (z : List ℕ). PinnedSearchEffect Search.chosen q b k D out₀ c o (w, z))
+  report-told {out = out} {out₀ = out₀} w b k D o f =
+      record {
+        text = shownText b (o .outcome);
+        long = f .measured ∙ text-long b k D (o .outcome) (f .allowed);
+        left = f .shows ∙ shown-text b (o .outcome) out;
+        again = record {
+          chose = f .chose;
+          allowed = f .allowed;
+          measured = f .measured;
+          never = f .never;
+          shows = sym (shown-text b (o .outcome) out₀);
+        };
+      }
+
+pub search-told : (pins : List ℕ) (user : ℕ) {m w w′ out out₀ out′ : List ℕ} {b k D : ℕ} {a : Answer Report} → length out ≡ length out₀
     → UserSearched Search.chosen m pins user b k D w out a w′ out′
-    → Told out out₀ out′ (shownLength (circuitIn m) b a) (λ (o : List ℕ). UserSearched Search.chosen m pins user b k D w out₀ a w′ o)
-search-told pins user {m = m} {w = w} {out = out} {out₀ = out₀} {b = b} {k = k} {D = D} e x =
-    for-told-beside (shownLength (circuitIn m) b) (λ n. refl)
+    → Told out out₀ out′ (toldLength a) (λ (o : List ℕ). UserSearched Search.chosen m pins user b k D w out₀ a w′ o)
+search-told pins user {w = w} {out = out} {out₀ = out₀} {b = b} {k = k} {D = D} e x =
+    for-told-beside toldLength (λ n. refl)
     (λ a w′ s p.
-    operated-told-beside (shownLength (circuitIn m) b) (λ n. refl) (λ c. ap (λ (n : ℕ). searchTests c b k D (length w) n) e)
-    (λ c h j o w′ s f. outcome-told c (pinsOf pins user) w′ m b k D (held h) o f) p)
+    operated-told-beside toldLength (λ n. refl) (λ c. ap (λ (n : ℕ). searchTests c b k D (length w) n) e)
+    (λ c h j o w′ s f. report-told c (pinsOf pins user) w′ b k D o f) p)
     x

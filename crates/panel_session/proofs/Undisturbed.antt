@@ -14,7 +14,6 @@ use Rattle.aiger.specs.Circuit.{Circuit}
 use Rattle.aiger.specs.Load.{Answer, refused, gives, load}
 use Rattle.aiger.proofs.Tests.{T-true, or-cases}
 use Rattle.meaning.proofs.Lists.{or-left, or-right, eqb-of}
-use Rattle.layout.specs.Words.{circuitIn}
 use Rattle.replies.specs.Refusal.{refusalText}
 use Rattle.replies.specs.Reply.{Reply}
 use Rattle.call_forms.specs.History as History
@@ -27,7 +26,7 @@ use Rattle.panel_lines.specs.declared.Query.the-variants.{Pin, Search, Fold, Wr
 use Rattle.panel_lines.specs.declared.View.{View}
 use Rattle.panel_lines.specs.declared.View.the-variants.{Replay, Widen, Waveform}
 use Rattle.panel_session.specs.Session.{Files, Action, joinAction, queryCall, viewCall, actionOf, mayAsk, filesOf, requestAction}
-use Rattle.panel_session.specs.Session.{badOf, replyTo, Turn, Exchange, Session, isOf, concerning}
+use Rattle.panel_session.specs.Session.{replyTo, Turn, Exchange, Session, isOf, concerning}
 
 -- ---- whose call a request is
 
@@ -110,8 +109,7 @@ module _ (u : ℕ) {room : ℕ} {request : List ℕ} {files : Files} {s t : Hist
       (or-cases (isOf u (parse request)) (History.isAccepted r) h) in
       record {
         next = m .next;
-        turn = subst (λ (w : List ℕ). Turn room request files t (replyTo (circuitIn w) (badOf c) r) (History.isAccepted r) (m .next)) (sym (a .memory))
-            (Turn.calls e (m .step));
+        turn = Turn.calls e (m .step);
         same = m .same;
       }
 
@@ -173,8 +171,7 @@ module _ (u : ℕ) {room : ℕ} {request : List ℕ} {files : Files} {s t : Hist
       (v .0, subst (λ (i : ℕ). Same i s₁ t₁) o (v .1)))
       (λ k. load-step u a k x y′)
       (or-cases (isOf u (parse request)) (History.isAccepted r) h) in (
-        ap (λ (w : List ℕ). replyTo (circuitIn w) (badOf c) r) (a .memory) ∙ ap (replyTo (circuitIn (t .memory)) (badOf c)) (z .0)
-            ∙ ap (λ (v : History.Call). replyTo (circuitIn (t .memory)) (badOf v) r′) (sym q),
+        ap replyTo (z .0),
         ap History.isAccepted (z .0),
         z .1,
       )

@@ -13,8 +13,7 @@ use Rattle.aiger.specs.Circuit.{Circuit}
 use Rattle.aiger.specs.Load.{Answer, refused, gives, load}
 use Rattle.aiger.specs.Memory.{image}
 use Rattle.aiger.specs.Operations.{front}
-use Rattle.layout.specs.Words.{circuitIn}
-use Rattle.job.specs.Replies.{shownLength}
+use Rattle.job.specs.Replies.{toldLength}
 use Rattle.replies.specs.Refusal.{refusalText}
 use Rattle.replies.specs.Reply.{Reply, refusal}
 use Rattle.search_command.specs.Texts.{saidWords}
@@ -108,30 +107,15 @@ requestAction room (Files.read first second) (some r) = actionOf room (r .0) fir
 
 -- ---- what is printed for what a call returned
 
--- the bad line of a search, on which the length of its witness depends; 0 for other calls
-abbrev pub badOf : History.Call → ℕ
-badOf (History.Call.load user file) = 0
-badOf (History.Call.setPin user input value) = 0
-badOf (History.Call.search user b k D out) = b
-badOf (History.Call.fold user b t out) = 0
-badOf (History.Call.write user out) = 0
-badOf (History.Call.writeBinary user out) = 0
-badOf (History.Call.preview user file) = 0
-badOf (History.Call.join user first second) = 0
-badOf (History.Call.replay user witness) = 0
-badOf (History.Call.widen user witness out) = 0
-badOf (History.Call.waveform user only witness out) = 0
-
--- a line, and the text after it, for a circuit c and a bad line b. A preview answers 0 words where none are told, and `wordsLine 0` is
--- empty
-abbrev pub replyTo : Circuit → ℕ → History.Returned → Reply
-replyTo c b (History.Returned.loaded a) = record { line = loadWords a; out = [] }
-replyTo c b (History.Returned.pinned a) = record { line = pinWords a; out = [] }
-replyTo c b (History.Returned.searched a out) = record { line = saidWords a; out = take (shownLength c b a) out }
-replyTo c b (History.Returned.folded a out) = record { line = textWords a; out = take (textLength a) out }
-replyTo c b (History.Returned.written a out) = record { line = textWords a; out = take (textLength a) out }
-replyTo c b (History.Returned.previewed a n) = record { line = loadWords a; out = wordsLine n }
-replyTo c b (History.Returned.replayed a) = record { line = verdictWords a; out = [] }
+-- a line, and the text after it. A preview answers 0 words where none are told, and `wordsLine 0` is empty
+abbrev pub replyTo : History.Returned → Reply
+replyTo (History.Returned.loaded a) = record { line = loadWords a; out = [] }
+replyTo (History.Returned.pinned a) = record { line = pinWords a; out = [] }
+replyTo (History.Returned.searched a out) = record { line = saidWords a; out = take (toldLength a) out }
+replyTo (History.Returned.folded a out) = record { line = textWords a; out = take (textLength a) out }
+replyTo (History.Returned.written a out) = record { line = textWords a; out = take (textLength a) out }
+replyTo (History.Returned.previewed a n) = record { line = loadWords a; out = wordsLine n }
+replyTo (History.Returned.replayed a) = record { line = verdictWords a; out = [] }
 
 -- ---- a request, and a session
 
@@ -141,7 +125,7 @@ pub data Turn (room : ℕ) (request : List ℕ) (files : Files) (s : History.Sta
       → Turn room request files s (record { line = line; out = [] }) false s
   calls : {call : History.Call} {returned : History.Returned} {s′ : History.State}
       → requestAction room files (parse request) ≡ Action.calls call → History.Step s call returned s′
-      → Turn room request files s (replyTo (circuitIn (s .memory)) (badOf call) returned) (History.isAccepted returned) s′
+      → Turn room request files s (replyTo returned) (History.isAccepted returned) s′
 
 -- a request that was answered
 pub record Exchange : Type 0 where

@@ -1,19 +1,11 @@
 -- `compare_command::compare` meets its contract. Assumes nothing.
 use lib.ListN.{length}
 use Rattle.layout.specs.Words.{circuitIn}
-use Rattle.job.proofs.Replying.{judged, shown-fits}
+use Rattle.job.proofs.Replying.{judged}
 use Rattle.compare_command.proofs.Comparing.{left}
 use borrow.Author.Needs.{needs}
 use Rattle.compare_command.proofs.compare.Statement.{statement}
 use Rattle.compare_command.proofs.compare.Tie as tie
-
-shown-length-requires : tie.Need-shown-length-requires
-shown-length-requires c κs =
-    let n = c .before .before .before .before in
-    let s = c .before .before .before .before .before .before .before .before .before .before .before in
-    let a = s .args in
-    shown-fits (a .m .now) (a .j) (a .q .k) (a .q .d) (length (a .work .now)) (a .out .now) (s .pre .0) (n .search .result)
-    (judged (s .pre .0) (n .search .ensures))
 
 returns : tie.Need-returns
 returns c =
@@ -30,5 +22,5 @@ pub compare-spec : {M : Type 1} → statement M
 compare-spec =
     tie.close
     (tie.spec
-    (λ c κs. search needs) shown-length-requires (λ c κs. search needs) (λ c κs. search needs) (λ c. search needs) (λ c. search needs)
+    (λ c κs. search needs) (λ c κs. search needs) (λ c κs. search needs) (λ c κs. search needs) (λ c. search needs) (λ c. search needs)
     (λ c. search needs) returns)
