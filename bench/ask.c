@@ -7,7 +7,8 @@
 #include <time.h>
 
 static uint8_t file[YUNVEROK_TEXT + 1], out[YUNVEROK_WITNESS];
-static uint32_t memory[YUNVEROK_MEMORY], work[YUNVEROK_WORK];
+static uint32_t circuit[YUNVEROK_MEMORY], work[YUNVEROK_WORK];
+static uint64_t answer[YUNVEROK_ANSWER];
 
 static double now(void)
 {
@@ -23,12 +24,14 @@ int main(int count, char **words)
     size_t length = fread(file, 1, sizeof file, stream);
     fclose(stream);
     double start = now();
-    uint32_t refusal = yunverok_load(file, length, memory, YUNVEROK_MEMORY);
-    uint64_t answer = refusal ? ((uint64_t)3 << 32) + refusal
-                              : yunverok_search(memory, YUNVEROK_MEMORY, strtoull(words[2], NULL, 10), strtoull(words[3], NULL, 10),
-                                                strtoull(words[4], NULL, 10), work, YUNVEROK_WORK, out, sizeof out);
+    uint64_t refusal = yunverok_load(0, NULL, 0, circuit, YUNVEROK_MEMORY, file, length, answer, YUNVEROK_ANSWER);
+    if (!refusal)
+        refusal = yunverok_search(0, NULL, 0, circuit, YUNVEROK_MEMORY, strtoull(words[2], NULL, 10), strtoull(words[3], NULL, 10),
+                                  strtoull(words[4], NULL, 10), work, YUNVEROK_WORK, out, sizeof out, answer, YUNVEROK_ANSWER);
     double end = now();
-    static const char *const said[] = {"found", "none", "spent", "refused"};
-    printf("%s %" PRIu32 "\n%.4f\n", said[answer >> 32 & 3], (uint32_t)answer, end - start);
+    static const char *const said[] = {"done", "found", "none", "spent"};
+    if (refusal) printf("refused %" PRIu64, refusal);
+    else printf("%s %" PRIu64, said[answer[YUNVEROK_KIND] & 3], answer[YUNVEROK_FRAME]);
+    printf("\n%.4f\n", end - start);
     return 0;
 }

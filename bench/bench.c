@@ -25,6 +25,37 @@ static uint32_t memory[33040];
 static uint8_t text[70000], back[70000];
 static uint32_t work[16 * 65536];
 static uint8_t out[24 * 65536 + 64];
+static uint64_t answer[YUNVEROK_ANSWER];
+
+/* The functions of the library for one user, who shares nothing: each aborts where it is refused. The answer of those that write is the
+   length of the text. */
+static void load(const uint8_t *file, size_t n)
+{
+    if (yunverok_load(0, NULL, 0, memory, 33040, file, n, answer, YUNVEROK_ANSWER)) abort();
+}
+
+/* The test for number 9: the circuit has no input 256, which is asked after it. */
+static void test(void)
+{
+    if (yunverok_pin(0, NULL, 0, memory, 33040, 256, 2, answer, YUNVEROK_ANSWER) != 18) abort();
+}
+
+static size_t write_text(uint8_t *to, size_t room)
+{
+    if (yunverok_write(0, memory, 33040, to, room, answer, YUNVEROK_ANSWER)) abort();
+    return answer[YUNVEROK_LENGTH];
+}
+
+static size_t write_binary(uint8_t *to, size_t room)
+{
+    if (yunverok_write_binary(0, memory, 33040, to, room, answer, YUNVEROK_ANSWER)) abort();
+    return answer[YUNVEROK_LENGTH];
+}
+
+static void search(uint64_t b, uint64_t k, uint64_t d)
+{
+    if (yunverok_search(0, NULL, 0, memory, 33040, b, k, d, work, sizeof work / 4, back, sizeof back, answer, YUNVEROK_ANSWER)) abort();
+}
 
 /* A chain of gates as deep as it is long, in file order or reversed. */
 static size_t chain(int gates, int reversed)
@@ -45,30 +76,27 @@ static void loads(void)
     for (int reversed = 0; reversed < 2; reversed++)
         for (int i = 0; i < 4; i++) {
             size_t n = chain(sizes[i], reversed);
-            double load = 1e9, test = 1e9, write = 1e9, binary = 1e9;
+            double loaded = 1e9, tested = 1e9, written = 1e9, binary = 1e9;
             for (int r = 0; r < 20; r++) {
                 double a = now();
-                for (int k = 0; k < 20; k++)
-                    if (yunverok_load(text, n, memory, 33040)) abort();
+                for (int k = 0; k < 20; k++) load(text, n);
                 double b = now();
-                for (int k = 0; k < 20; k++)
-                    if (yunverok_test(memory, 33040)) abort();
+                for (int k = 0; k < 20; k++) test();
                 double c = now();
                 for (int k = 0; k < 20; k++)
-                    if (yunverok_write(memory, 33040, back, sizeof back) != n) abort();
+                    if (write_text(back, sizeof back) != n) abort();
                 double d = now();
-                for (int k = 0; k < 20; k++)
-                    if (yunverok_write_binary(memory, 33040, out, sizeof out) >> 32) abort();
+                for (int k = 0; k < 20; k++) write_binary(out, sizeof out);
                 double e = now();
-                if ((b - a) / 20 < load) load = (b - a) / 20;
-                if ((c - b) / 20 < test) test = (c - b) / 20;
-                if ((d - c) / 20 < write) write = (d - c) / 20;
+                if ((b - a) / 20 < loaded) loaded = (b - a) / 20;
+                if ((c - b) / 20 < tested) tested = (c - b) / 20;
+                if ((d - c) / 20 < written) written = (d - c) / 20;
                 if ((e - d) / 20 < binary) binary = (e - d) / 20;
             }
             if (memcmp(text, back, n)) abort();
-            printf("%-9s %6d %8.1f %8.1f %8.1f", reversed ? "reversed" : "file", sizes[i], load / sizes[i] * 1e9, test / sizes[i] * 1e9, write / sizes[i] * 1e9);
+            printf("%-9s %6d %8.1f %8.1f %8.1f", reversed ? "reversed" : "file", sizes[i], loaded / sizes[i] * 1e9, tested / sizes[i] * 1e9, written / sizes[i] * 1e9);
             printf(" %8.1f", binary / sizes[i] * 1e9);
-            printf("   load %.3f ms\n", load * 1e3);
+            printf("   load %.3f ms\n", loaded * 1e3);
         }
 }
 
@@ -133,16 +161,16 @@ static void searches(void)
         for (int j = 0; j < 3; j++) {
             int free = bits[i] - (bounds[j] ? 2 : 0);
             size_t n = random_circuit(sizes[i], free);
-            if (yunverok_load(text, n, memory, 33040)) abort();
+            load(text, n);
             double ours = 1e9, theirs = 1e9;
             for (int r = 0; r < 5; r++) {
                 uint64_t x;
                 double a = now();
-                uint64_t s = yunverok_search(memory, 33040, 0, bounds[j], 1ull << 32, work, sizeof work / 4, back, sizeof back);
+                search(0, bounds[j], 1ull << 32);
                 double b = now();
                 int t = plain(sizes[i], free, bounds[j], gates[sizes[i] - 1].lit, &x);
                 double c = now();
-                if (t >= 0 || s != (1ull << 32) + bounds[j]) abort();
+                if (t >= 0 || answer[YUNVEROK_KIND] != YUNVEROK_NONE) abort();
                 if (b - a < ours) ours = b - a;
                 if (c - b < theirs) theirs = c - b;
             }
@@ -155,7 +183,7 @@ static void searches(void)
 static void replays(void)
 {
     size_t n = chain(3072, 1);
-    if (yunverok_load(text, n, memory, 33040)) abort();
+    load(text, n);
     char *p = (char *)back;
     p += sprintf(p, "1\nb0\n\n");
     for (int u = 0; u < 256; u++) p += sprintf(p, "%d%d\n", u & 1, u >> 1 & 1);
@@ -163,7 +191,7 @@ static void replays(void)
     double best = 1e9;
     for (int r = 0; r < 20; r++) {
         double a = now();
-        if (yunverok_replay(memory, 33040, back, p - (char *)back) > 1) abort();
+        if (yunverok_replay(0, NULL, 0, memory, 33040, back, p - (char *)back, answer, YUNVEROK_ANSWER)) abort();
         double b = now();
         if (b - a < best) best = b - a;
     }
@@ -174,9 +202,8 @@ static void replays(void)
 static double fold(uint64_t b, uint64_t t, int *gates)
 {
     double start = now();
-    uint64_t s = yunverok_fold(memory, 33040, b, t, work, sizeof work / 4, out, sizeof out);
+    if (yunverok_fold(0, NULL, 0, memory, 33040, b, t, work, sizeof work / 4, out, sizeof out, answer, YUNVEROK_ANSWER)) abort();
     double end = now();
-    if (s >> 32) abort();
     sscanf((char *)out, "aag %*d %*d %*d %*d %d", gates);
     return end - start;
 }
@@ -213,7 +240,7 @@ static void folds(void)
             for (int c = 1; c <= 16; c++) {
                 int kept;
                 seed = c;
-                if (yunverok_load(text, random_gates(8, 8, a), memory, 33040)) abort();
+                load(text, random_gates(8, 8, a));
                 double time = fold(0, t, &kept);
                 sum += time;
                 gates += kept;
@@ -261,7 +288,7 @@ static void repeats(void)
         for (int c = 1; c <= 16; c++) {
             int kept;
             seed = c;
-            if (yunverok_load(text, repeating_gates(16, 3000), memory, 33040)) abort();
+            load(text, repeating_gates(16, 3000));
             sum += fold(0, 0, &kept);
             gates += kept;
         }
@@ -306,7 +333,7 @@ static void merges(void)
         for (int c = 1; c <= 16; c++) {
             int kept;
             seed = c;
-            if (yunverok_load(text, kind ? products(3072) : random_gates(12, 0, 3072), memory, 33040)) abort();
+            load(text, kind ? products(3072) : random_gates(12, 0, 3072));
             double time = fold(0, 0, &kept);
             if (time > worst) worst = time;
         }
@@ -329,10 +356,10 @@ static void triggers(int count, char **names)
         unsigned long long d;
         int at, kept, inputs;
         if (sscanf((char *)text, "search %u %u %llu\n%n", &b, &k, &d, &at) != 3) abort();
-        if (yunverok_load(text + at, n - at, memory, 33040)) abort();
-        uint64_t s = yunverok_search(memory, 33040, b, k, d, work, sizeof work / 4, back, sizeof back);
-        if (s >> 33) abort();
-        uint64_t t = s >> 32 ? k : s;
+        load(text + at, n - at);
+        search(b, k, d);
+        if (answer[YUNVEROK_KIND] == YUNVEROK_SPENT) abort();
+        uint64_t t = answer[YUNVEROK_FRAME];
         double time = fold(b, t, &kept);
         sscanf((char *)out, "aag %*d %d", &inputs);
         char *name = strrchr(names[i], '/');

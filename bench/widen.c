@@ -22,6 +22,19 @@ static uint32_t draw(uint32_t n)
 static uint32_t memory[33040];
 static uint8_t text[70000], witness[70000], wide[70000];
 static uint32_t work[16 * 65536];
+static uint64_t answer[YUNVEROK_ANSWER];
+
+/* The functions of the library for one user, who shares nothing: each aborts where it is refused. */
+static void load(const uint8_t *file, size_t n)
+{
+    if (yunverok_load(0, NULL, 0, memory, 33040, file, n, answer, YUNVEROK_ANSWER)) abort();
+}
+
+static uint64_t replay(const uint8_t *from, size_t n)
+{
+    if (yunverok_replay(0, NULL, 0, memory, 33040, from, n, answer, YUNVEROK_ANSWER)) abort();
+    return answer[YUNVEROK_KIND];
+}
 
 static int eithers(size_t n)
 {
@@ -34,9 +47,9 @@ static int eithers(size_t n)
 static double widen(size_t n)
 {
     double start = now();
-    if (yunverok_widen(memory, 33040, witness, n, wide, sizeof wide) != n) abort();
+    if (yunverok_widen(0, NULL, 0, memory, 33040, witness, n, wide, sizeof wide, answer, YUNVEROK_ANSWER)) abort();
     double end = now();
-    if (yunverok_replay(memory, 33040, wide, n) != 1) abort();
+    if (replay(wide, n) != YUNVEROK_ALL) abort();
     return end - start;
 }
 
@@ -76,14 +89,16 @@ static void triggers(int count, char **names)
         char *ask = strstr((char *)text, "Ask: search ");
         if (sscanf((char *)text, "search %u %u %llu\n%n", &b, &k, &d, &at) != 3 && (!ask || sscanf(ask, "Ask: search %*s %u %u %llu", &b, &k, &d) != 3))
             abort();
-        if (yunverok_load(text + at, n - at, memory, 33040)) abort();
+        load(text + at, n - at);
         char *name = strrchr(names[i], '/');
         name = name ? name + 1 : names[i];
         char beside[256];
         snprintf(beside, sizeof beside, "%.*s.witness", (int)(strrchr(names[i], '.') - names[i]), names[i]);
         size_t length = read(beside, witness, sizeof witness);
-        if (!length && yunverok_search(memory, 33040, b, k, d, work, sizeof work / 4, witness, sizeof witness) >> 32 == 0)
-            length = strstr((char *)witness, "\n.\n") + 3 - (char *)witness;
+        if (!length) {
+            if (yunverok_search(0, NULL, 0, memory, 33040, b, k, d, work, sizeof work / 4, witness, sizeof witness, answer, YUNVEROK_ANSWER)) abort();
+            length = answer[YUNVEROK_LENGTH];
+        }
         if (length) row(name, length);
         else printf("%-28s no witness\n", name);
     }
@@ -123,10 +138,10 @@ static void machines(void)
         }
         p += sprintf(p, ".\n");
         uint32_t drawn = seed;
-        if (yunverok_load(text, machine(bad), memory, 33040)) abort();
-        if (yunverok_replay(memory, 33040, witness, p - (char *)witness) == 0) {
+        load(text, machine(bad));
+        if (replay(witness, p - (char *)witness) == YUNVEROK_NO) {
             seed = drawn;
-            if (yunverok_load(text, machine(bad + 1), memory, 33040)) abort();
+            load(text, machine(bad + 1));
         }
         double time = widen(p - (char *)witness);
         int x = eithers(p - (char *)witness);

@@ -8,8 +8,9 @@
 
 /* One byte more than the longest file, so that a longer one is seen and refused. */
 static uint8_t file[YUNVEROK_TEXT + 1];
-static uint32_t memory[YUNVEROK_MEMORY], work[YUNVEROK_WORK];
+static uint32_t circuit[YUNVEROK_MEMORY], work[YUNVEROK_WORK];
 static uint8_t out[YUNVEROK_WITNESS];
+static uint64_t answer[YUNVEROK_ANSWER];
 
 static int number(const char *word, uint64_t *value)
 {
@@ -30,16 +31,9 @@ static long contents(const char *name)
     return failed ? -1 : (long)length;
 }
 
-static size_t witness_length(uint64_t b, uint64_t t)
+static int refused(uint64_t n)
 {
-    uint64_t inputs = memory[1], latches = memory[2];
-    int heading = snprintf(NULL, 0, "1\nb%" PRIu64 "\n", b);
-    return heading + latches + 1 + (t + 1) * (inputs + 1) + 2;
-}
-
-static int refused(uint32_t n)
-{
-    printf("refused %" PRIu32 "\n", n);
+    printf("refused %" PRIu64 "\n", n);
     return 1;
 }
 
@@ -55,17 +49,17 @@ int main(int count, char **words)
         perror(words[1]);
         return 2;
     }
-    uint32_t refusal = yunverok_load(file, length, memory, YUNVEROK_MEMORY);
+    /* One user, who shares nothing: user 0 and no bytes. */
+    uint64_t refusal = yunverok_load(0, NULL, 0, circuit, YUNVEROK_MEMORY, file, length, answer, YUNVEROK_ANSWER);
     if (refusal) return refused(refusal);
-    uint64_t answer = yunverok_search(memory, YUNVEROK_MEMORY, b, k, d, work, YUNVEROK_WORK, out, sizeof out);
-    uint32_t value = (uint32_t)answer;
-    switch (answer >> 32) {
-    case 0:
-        printf("found %" PRIu32 "\n", value);
-        fwrite(out, 1, witness_length(b, value), stdout);
+    refusal = yunverok_search(0, NULL, 0, circuit, YUNVEROK_MEMORY, b, k, d, work, YUNVEROK_WORK, out, sizeof out, answer, YUNVEROK_ANSWER);
+    if (refusal) return refused(refusal);
+    switch (answer[YUNVEROK_KIND]) {
+    case YUNVEROK_FOUND:
+        printf("found %" PRIu64 "\n", answer[YUNVEROK_FRAME]);
+        fwrite(out, 1, answer[YUNVEROK_LENGTH], stdout);
         return 0;
-    case 1: printf("none %" PRIu32 "\n", value); return 0;
-    case 2: printf("spent %" PRIu32 "\n", value); return 0;
-    default: return refused(value);
+    case YUNVEROK_NONE: printf("none %" PRIu64 "\n", answer[YUNVEROK_FRAME]); return 0;
+    default: printf("spent %" PRIu64 "\n", answer[YUNVEROK_FRAME]); return 0;
     }
 }

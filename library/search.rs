@@ -3,23 +3,45 @@
 
 use std::io::{self, Read, Write};
 use std::process::exit;
+use std::ptr::null_mut;
 
-#[link(name = "service", kind = "static")]
+#[rustfmt::skip]
+#[link(name = "yunverok", kind = "static")]
 extern "C" {
-    fn yunverok_load(file: *const u8, file_len: usize, memory: *mut u32, memory_len: usize) -> u32;
-    #[rustfmt::skip]
-    fn yunverok_search(memory: *const u32, memory_len: usize, b: u64, k: u64, d: u64, work: *mut u32, work_len: usize, out: *mut u8,
-                       out_len: usize) -> u64;
+    fn yunverok_load(user: u64, shared: *mut u8, shared_len: u64, circuit: *mut u32, circuit_len: u64, file: *const u8, file_len: u64,
+                     answer: *mut u64, answer_len: u64) -> u64;
+    fn yunverok_search(user: u64, shared: *const u8, shared_len: u64, circuit: *const u32, circuit_len: u64, b: u64, k: u64, d: u64,
+                       work: *mut u32, work_len: u64, out: *mut u8, out_len: u64, answer: *mut u64, answer_len: u64) -> u64;
 }
 
-/// The functions of library/yunverok.h on slices: a borrow of Rust keeps the slices of a call from overlapping.
-fn load(file: &[u8], memory: &mut [u32]) -> u32 {
-    unsafe { yunverok_load(file.as_ptr(), file.len(), memory.as_mut_ptr(), memory.len()) }
+/// The places of an answer and the kinds that are used here: library/yunverok.h has all of them.
+const KIND: usize = 0;
+const FRAME: usize = 1;
+const LENGTH: usize = 2;
+const FOUND: u64 = 1;
+const NONE: u64 = 2;
+
+/// The sixteen places, or the number of a refusal.
+type Answer = Result<[u64; 16], u64>;
+
+/// The functions of library/yunverok.h on slices, for one user, who shares nothing: a borrow of Rust keeps the slices of a call from
+/// overlapping.
+fn load(circuit: &mut [u32], file: &[u8]) -> Answer {
+    let (mut answer, len) = ([0; 16], circuit.len() as u64);
+    let number = unsafe {
+        yunverok_load(0, null_mut(), 0, circuit.as_mut_ptr(), len, file.as_ptr(), file.len() as u64, answer.as_mut_ptr(), 16)
+    };
+    if number == 0 { Ok(answer) } else { Err(number) }
 }
 
-fn search(memory: &[u32], b: u64, k: u64, d: u64, work: &mut [u32], out: &mut [u8]) -> u64 {
-    let (work_len, out_len) = (work.len(), out.len());
-    unsafe { yunverok_search(memory.as_ptr(), memory.len(), b, k, d, work.as_mut_ptr(), work_len, out.as_mut_ptr(), out_len) }
+fn search(circuit: &[u32], [b, k, d]: [u64; 3], work: &mut [u32], out: &mut [u8]) -> Answer {
+    let (len, work_len, out_len) = (circuit.len() as u64, work.len() as u64, out.len() as u64);
+    let mut answer = [0; 16];
+    let (work, out) = (work.as_mut_ptr(), out.as_mut_ptr());
+    let number = unsafe {
+        yunverok_search(0, null_mut(), 0, circuit.as_ptr(), len, b, k, d, work, work_len, out, out_len, answer.as_mut_ptr(), 16)
+    };
+    if number == 0 { Ok(answer) } else { Err(number) }
 }
 
 fn arguments() -> Option<(String, [u64; 3])> {
@@ -37,18 +59,8 @@ fn contents(name: &str) -> io::Result<Vec<u8>> {
     Ok(file)
 }
 
-fn witness_length(memory: &[u32], b: u64, t: u32) -> usize {
-    let (inputs, latches) = (memory[1] as usize, memory[2] as usize);
-    format!("1\nb{b}\n").len() + latches + 1 + (t as usize + 1) * (inputs + 1) + 2
-}
-
-fn refused(number: u32) -> ! {
-    println!("refused {number}");
-    exit(1)
-}
-
 fn main() -> io::Result<()> {
-    let Some((name, [b, k, d])) = arguments() else {
+    let Some((name, terms)) = arguments() else {
         eprintln!("usage: search FILE b k D");
         exit(2);
     };
@@ -56,21 +68,19 @@ fn main() -> io::Result<()> {
         eprintln!("{name}: {error}");
         exit(2)
     });
-    let (mut memory, mut work, mut out) = (vec![0; 33_032], vec![0; 1_048_576], vec![0; 66_825]);
-    let refusal = load(&file, &mut memory);
-    if refusal != 0 {
-        refused(refusal);
-    }
-    let answer = search(&memory, b, k, d, &mut work, &mut out);
-    let value = answer as u32;
-    match answer >> 32 {
-        0 => {
-            println!("found {value}");
-            io::stdout().write_all(&out[..witness_length(&memory, b, value)])?;
+    let (mut circuit, mut work, mut out) = (vec![0; 33_032], vec![0; 1_048_576], vec![0; 66_825]);
+    let answer = load(&mut circuit, &file).and_then(|_| search(&circuit, terms, &mut work, &mut out));
+    let answer = answer.unwrap_or_else(|number| {
+        println!("refused {number}");
+        exit(1)
+    });
+    match answer[KIND] {
+        FOUND => {
+            println!("found {}", answer[FRAME]);
+            io::stdout().write_all(&out[..answer[LENGTH] as usize])?;
         }
-        1 => println!("none {value}"),
-        2 => println!("spent {value}"),
-        _ => refused(value),
+        NONE => println!("none {}", answer[FRAME]),
+        _ => println!("spent {}", answer[FRAME]),
     }
     Ok(())
 }

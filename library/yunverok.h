@@ -1,172 +1,207 @@
-/* Yunverok: load, join, search, fold, replay, widen and write AIGER circuits, and show the run of a witness as a waveform. The functions
-   are proved: crates/service/src/lib.rt and crates/user_service/src/lib.rt have their contracts, which this page tells in words. The functions
-   for two users, below, are in libuser_service.a, the others in libservice.a.
+/* Yunverok: load, join, search, fold, replay, widen and write AIGER circuits, and show the run of a witness as a waveform, for two
+   users of one circuit. The functions are proved: crates/interface/src/lib.rt has their contracts, which this page tells in words. They
+   are in the archive libyunverok.a, which library/build makes.
 
-   What is lent. A slice is a pointer and a length in elements. The memory must exist; pointers to words must be aligned for uint32_t;
-   a slice that is written must overlap no other one of the call. Where a length is 0 the pointer may be anything, null too: it is not used. Beyond that
-   nothing is asked: every length, every contents and every number is safe, and gets one of the answers below. Nothing outside the
-   lent slices is read or written. Nothing is kept between calls, and there is no heap and no static data that changes, so several
-   threads may call at once if none writes what another one uses.
+   What is lent. A slice is a pointer and a length in elements. The memory must exist; a pointer must be aligned for its element; a
+   slice that is written must overlap no other one of the call. Where a length is 0 the pointer may be anything, null too: it is not
+   used. Beyond that nothing is asked: every length, every contents and every number is safe, and gets one of the answers below. Nothing
+   outside the lent slices is read or written. Nothing is kept between calls, and there is no heap and no static data that changes, so
+   several threads may call at once if none writes what another one uses.
 
-   Circuit memory (memory): 8 * (M + 1) + 256 words are needed, at most 33,032. An accepted load fills them (docs/MEMORY.md has the
-   layout: words 0 to 6 are M I L O A B C); a copy of them is as good as the original, and words past them do not matter. Only
-   yunverok_load changes circuit memory, and yunverok_join its third one.
+   Arguments stand in one order: the user; what users share; circuit memory; what is asked, numbers, texts and other memories; working
+   memory; output; answer. All numbers and lengths are of 64 bits.
 
-   Working memory (work): 16 words for each unit of size, at most 1,048,576. The size for bound or frame k is
-   (k + 1) * (I + A + C + 1) + U + 1, U the number of latches with a free start, and is at most 65,536. What it holds before a call never
-   matters. What it holds after a call that is not refused is not promised.
-
-   Refusals. A refused call changes nothing that was lent. The tests are made in the order given below the table:
+   Every function returns 0, or the number of its refusal, and a refused call changes nothing that was lent. The tests of a function are
+   made in the order that is given with it.
      1  file empty or over 65,536 bytes              8  gates depend on themselves
-     2  header not as described                      9  the needed words of memory are not what an accepted load leaves
+     2  header not as described                      9  the needed words of circuit memory are not what an accepted load leaves
      3  a count too large, I+L+A above M (*)        10  b not below B
-     4  memory shorter than the needed words        11  k or t above 255; d 0 or above 4,294,967,296
-     5  a line missing or malformed, a wrong tail   12  size above 65,536, or work shorter than 16 * size words
-     6  literal, definition or reset wrong          13  out too short
-     7  a used variable is undefined                14  witness malformed, or its b not below B
+     4  circuit memory shorter than the needed      11  k or t above 255; d 0 or above 4,294,967,296
+        words                                       12  size above 65,536, or work shorter than 16 * size words
+     5  a line missing or malformed, a wrong tail   13  out too short
+     6  literal, definition or reset wrong          14  witness malformed, or its b not below B
+     7  a used variable is undefined                16  witness with more than 16 x
     15  in a binary file: a difference absent, cut short, of more than five groups or 32 bits, or an operand not below its gate or below 0
-    16  witness with more than 16 x
     17  circuits to join: no output or more than 16, or not the same numbers of inputs and of outputs
-    18  a user above 1, a load or join by user 1, an unknown pin value, an input that is not there; with users only
+    18  a user who may not call the function; for a pin also a value above 2, an input that is not there, and a pin that has no byte
    (*) in a binary file I+L+A other than M.
-   load makes 1 to 8, each over the whole file, and 15 with 5, where the fault that stands first in the file counts; join 9, 17, 3 and 4, in
-   this order; test 9; search and fold 9 to 13; replay 9, 14 and 16; widen 9, 14, 16 and then 13; write 9 and 13; waveform 9, 14,
-   16 and then 13.
 
-   Stack. At most 115 kilobytes are used, by the binary writer 185, whatever the circuit, and of the functions for users at most 320 by
-   search, 195 by fold and 165 by replay; docs/MEMORY.md has the greatest depth measured for each function. */
+   The answer (answer) has sixteen places, each with one meaning in all functions; the names below are the numbers of the places. A call
+   that is not refused writes all of them, 0 where a place does not apply; a refused call writes none. Places that are not there,
+   because answer is shorter, are not written, and numbers past the sixteenth are left as they are, so that answer may be of any length.
+
+   Users are 0 and 1. Who has one user is user 0. What users share (shared) is bytes: byte i is the pin of input i of user 0, byte 256 +
+   i that of user 1. 0 and 1 hold the input at that value in all frames, any other byte leaves it free. The bytes from 512 to 2,559 are
+   kept for what later versions let users share, 1,024 for each user; an accepted load or join makes them, and all that follow, 0. Any
+   length is permitted: a byte that is not there counts as a free pin and as not in use. Length 0 is a user 0 alone whose pins are all
+   free; user 1 may call too and has free pins. Where a function takes no shared bytes it does not depend on pins. A call changes
+   nothing but what it says, so that neither user disturbs the other.
+
+   Circuit memory (circuit): 8 * (M + 1) + 256 words are needed, at most 33,032. An accepted load fills them (docs/MEMORY.md has the
+   layout: words 0 to 6 are M I L O A B C); a copy of them is as good as the original, and words past them do not matter. Only
+   yunverok_load and yunverok_join change it.
+
+   Working memory (work): 16 words for each unit of size, at most 1,048,576. The size for bound or frame k is (k + 1) * (I + A + C + 1)
+   + U + 1, U the number of latches with a free start, and is at most 65,536; pins do not change it. What working memory holds before a
+   call never matters. What it holds after a call that is not refused is not promised.
+
+   Stack. At most 240 kilobytes are used by search and 195 by fold where a pin of the user holds an input, 105 and 60 where none does;
+   185 by write_binary, 165 by replay, and 105 by the others, whatever the circuit; docs/MEMORY.md has the greatest depth measured for
+   each function. */
 #ifndef YUNVEROK_H
 #define YUNVEROK_H
-#include <stddef.h>
 #include <stdint.h>
 
-/* Lengths that are never too short: of circuit memory and working memory in words; of the output of search (the longest
-   witness that replay accepts; that of a search has at most 66,568 bytes), of write, of fold and of waveform in bytes. A file to load
-   has at most YUNVEROK_TEXT bytes. */
+/* Lengths that are never too short: of circuit memory and working memory in words; of the output of search and of widen (the longest
+   witness that replay accepts; that of a search has at most 66,568 bytes), of write, of write_binary, of fold and of waveform in bytes;
+   of what users share in bytes; and of an answer in numbers. A file to load has at most YUNVEROK_TEXT bytes. */
 #define YUNVEROK_MEMORY 33032
 #define YUNVEROK_WORK 1048576
 #define YUNVEROK_WITNESS 66825
 #define YUNVEROK_TEXT 65536
+#define YUNVEROK_BINARY 24576
 #define YUNVEROK_FOLD 1572928
 #define YUNVEROK_WAVEFORM 1456223
-#define YUNVEROK_PINS 512
+#define YUNVEROK_SHARED 2560
+#define YUNVEROK_ANSWER 16
+
+/* What an answer tells at each place. */
+enum yunverok_place {
+    YUNVEROK_KIND = 0,    /* the kind of the answer, below */
+    YUNVEROK_FRAME = 1,   /* of a search: the frame of found and of spent, the bound of none */
+    YUNVEROK_LENGTH = 2,  /* how many bytes stand at the front of out */
+    YUNVEROK_WORDS = 3,   /* how many words of circuit memory the circuit needs, where a file or a join gave it */
+    YUNVEROK_REACHED = 4, /* 0 in this version */
+    YUNVEROK_M = 5,       /* the counts of that circuit: greatest variable number, */
+    YUNVEROK_I = 6,       /* inputs, */
+    YUNVEROK_L = 7,       /* latches, */
+    YUNVEROK_O = 8,       /* outputs, */
+    YUNVEROK_A = 9,       /* gates, */
+    YUNVEROK_B = 10,      /* bad lines, */
+    YUNVEROK_C = 11,      /* constraints */
+    YUNVEROK_ALWAYS = 12, /* of a search: 1 where a none holds for every bound */
+    YUNVEROK_LOAD = 13    /* of a preview: the number with which load would refuse, 0 where it would accept */
+};                        /* places 14 and 15 are 0 in this version */
+
+/* The kinds of answers. */
+enum yunverok_kind {
+    YUNVEROK_DONE = 0,  /* done, in every function but search and replay */
+    YUNVEROK_FOUND = 1, /* of a search: a frame has a hit */
+    YUNVEROK_NONE = 2,  /* of a search: no frame has one */
+    YUNVEROK_SPENT = 3, /* of a search: the budget does not suffice */
+    YUNVEROK_ALL = 4,   /* of a replay: every completion hits */
+    YUNVEROK_NO = 5,    /* of a replay: none does */
+    YUNVEROK_MIXED = 6  /* of a replay: some do and some do not */
+};
 
 #ifdef __cplusplus
 extern "C" {
 #endif
 
-/* Loads an AIGER 1.9 file, in ASCII or in binary form, told apart by the header's first word, aag or aig. Answers 0, and the needed words
-   of memory then hold the circuit, the words past them are as they were; or the number of the refusal, 1 to 8 or 15, and memory is as it
-   was. A binary file never gets 7 or 8. */
-uint32_t yunverok_load(const uint8_t *file, size_t file_len, uint32_t *memory, size_t memory_len);
+/* The number of this interface: 1. It grows by 1 with each change of it. */
+uint64_t yunverok_version(void);
 
-/* Preview of a load: answers the words of circuit memory that the file's circuit needs where yunverok_load would accept the file for
-   this memory, and puts its counts M I L O A B C in counts where counts_len is 7 or more; or n * 2^32 + words, n the number of the
-   refusal, 1 to 8 or 15, and words those needed, 0 where n is 1 to 3. memory is read only for its length and changed nowhere; counts is
-   otherwise as it was. */
-uint64_t yunverok_preview(const uint8_t *file, size_t file_len, const uint32_t *memory, size_t memory_len, uint32_t *counts,
-                          size_t counts_len);
+/* Loads an AIGER 1.9 file, in ASCII or in binary form, told apart by the header's first word, aag or aig. User 0 alone may. Returns 0,
+   and the needed words of circuit then hold the circuit, the words past them are as they were; the first 512 bytes of shared are 2, so
+   that all pins of both users are free, and those after them 0; answer tells the words needed and the counts. Or returns 18 for another
+   user, and then the number with which the file is refused, and circuit, shared and answer are as they were: 1 to 8, each over the
+   whole file, and 15 with 5, where the fault that stands first in the file counts. A binary file never gets 7 or 8. */
+uint64_t yunverok_load(uint64_t user, uint8_t *shared, uint64_t shared_len, uint32_t *circuit, uint64_t circuit_len, const uint8_t *file,
+                       uint64_t file_len, uint64_t *answer, uint64_t answer_len);
 
-/* Joins the circuits in first and second, which are read only, into third: the same inputs for both, by their place in the list; the
-   latches, gates and constraints of both, those of first before those of second; and for each pair of outputs three gates and a bad line,
-   which is true where the two outputs differ. Answers 0, and third then holds the joined circuit as an accepted load of its text leaves it,
-   the words past those needed as they were; or the number of the refusal, 9, 17, 3 or 4, and third is as it was. A search of third for bad
-   line j then finds a shortest allowed run that parts outputs j, or says that there is none in frames 0 to k. */
-uint32_t yunverok_join(const uint32_t *first, size_t first_len, const uint32_t *second, size_t second_len, uint32_t *third, size_t third_len);
+/* Joins the circuits in first and second, which are read only, into circuit: the same inputs for both, by their place in the list; the
+   latches, gates and constraints of both, those of first before those of second; and for each pair of outputs three gates and a bad
+   line, which is true where the two outputs differ. User 0 alone may. Returns 0, and circuit then holds the joined circuit as an
+   accepted load of its text leaves it, the words past those needed as they were; the first 512 bytes of shared are 2 and those after
+   them 0; answer tells the words needed and the counts of the joined circuit. Or returns the number of the refusal, 18, 9, 17, 3 or 4,
+   in this order, and circuit, shared and answer are as they were. A search of circuit for bad line j then finds a shortest allowed run
+   that parts outputs j, or says that there is none in frames 0 to k. */
+uint64_t yunverok_join(uint64_t user, uint8_t *shared, uint64_t shared_len, uint32_t *circuit, uint64_t circuit_len, const uint32_t *first,
+                       uint64_t first_len, const uint32_t *second, uint64_t second_len, uint64_t *answer, uint64_t answer_len);
 
-/* Answers 0 where the needed words of memory are what an accepted load of some file leaves, else 9. */
-uint32_t yunverok_test(const uint32_t *memory, size_t memory_len);
+/* Preview of a load: what a load of the file by user 0 would answer for a circuit memory as long as circuit, which is read only for its
+   length. Either user may. Returns 0, and answer tells in place YUNVEROK_LOAD the number with which load would refuse the file, 1 to 8
+   or 15, or 0 where it would accept it; the words that the circuit needs, 0 where that number is 1 to 3; and the counts where load
+   would accept it. Or returns 18 for a user who is neither 0 nor 1, and answer is as it was. */
+uint64_t yunverok_preview(uint64_t user, const uint32_t *circuit, uint64_t circuit_len, const uint8_t *file, uint64_t file_len,
+                          uint64_t *answer, uint64_t answer_len);
 
-/* Searches frames 0 to k for a hit of bad line b, with a budget of d sequences for each frame. A sequence hits at frame t where bad line b
-   is true in frame t and every constraint in each frame from 0 to t. Answers
-     t               found t: t is the first frame with a hit, and the witness of its first hit in counting order stands at the front
-                     of out;
-     2^32 + k        none k: no frame from 0 to k has a hit;
-     2 * 2^32 + t    spent t: frames before t have no hit, frame t has more than d sequences, and none of its first d hits;
-     3 * 2^32 + n    refused, n from 9 to 13.
-   An answer that is no refusal depends on the circuit, b, k and d alone. out needs the length of the witness at bound k: with the decimal digits of b,
-   2 + (1 + digits + 1) + (L + 1) + (k + 1) * (I + 1) + 2 bytes; the witness of found t has that length with t for k. All other bytes
-   of out are as they were, all of them where the answer is none, spent or refused. With a large d a search can take long. */
-uint64_t yunverok_search(const uint32_t *memory, size_t memory_len, uint64_t b, uint64_t k, uint64_t d, uint32_t *work, size_t work_len,
-                         uint8_t *out, size_t out_len);
+/* Sets the user's pin of an input: value 0 or 1 holds it at that value, 2 frees it. Returns 0, and the byte of that pin has the value,
+   all other bytes of shared are as they were; answer tells that it is done. Or returns 18 for a user who is neither 0 nor 1 or a value
+   above 2, then 9, then 18 for an input that the circuit does not have or whose byte is not there, and shared and answer are as they
+   were. */
+uint64_t yunverok_pin(uint64_t user, uint8_t *shared, uint64_t shared_len, const uint32_t *circuit, uint64_t circuit_len, uint64_t input,
+                      uint64_t value, uint64_t *answer, uint64_t answer_len);
 
-/* Replays a witness of 1 to 256 frames. In the lines after line b it may hold x for up to 16 bits that may be either; a completion
-   has 0 or 1 for each, and hits if its start agrees with every reset and its last frame is a hit of its bad line. Answers 1 for all,
-   every completion hits; 0 for no, none does; 2 for mixed; or the number of the refusal, 9, 14 or 16. Changes nothing. */
-uint32_t yunverok_replay(const uint32_t *memory, size_t memory_len, const uint8_t *text, size_t text_len);
+/* Searches frames 0 to k for a hit of bad line b, with a budget of d sequences for each frame. A sequence gives each free bit of frames
+   0 to t a value; a held input is no free bit and has its pin's value. It hits at frame t where bad line b is true in frame t and every
+   constraint in each frame from 0 to t. Returns 0, and answer tells the kind:
+     YUNVEROK_FOUND   frame t is the first with a hit, and the witness of its first hit in counting order stands at the front of out; frame
+                      and length are told;
+     YUNVEROK_NONE    no frame from 0 to k has a hit; the frame that is told is k. Where place YUNVEROK_ALWAYS is 1 no frame at all has one,
+                      however large the bound; 0 says nothing of later frames;
+     YUNVEROK_SPENT   frames before t have no hit, frame t has more than d sequences, and none of its first d hits; frame t is told.
+   What is told depends on the circuit, the user's pins, b, k and d alone. Or returns the number of the refusal, 18 for a user who is
+   neither 0 nor 1 and then 9 to 13, and work, out and answer are as they were. out needs the length of the witness at bound k: with the
+   decimal digits of b, 2 + (1 + digits + 1) + (L + 1) + (k + 1) * (I + 1) + 2 bytes. All bytes of out past the witness are as they
+   were, all of them where the kind is not found. shared and circuit are read only. With a large d a search can take long. */
+uint64_t yunverok_search(uint64_t user, const uint8_t *shared, uint64_t shared_len, const uint32_t *circuit, uint64_t circuit_len,
+                         uint64_t b, uint64_t k, uint64_t d, uint32_t *work, uint64_t work_len, uint8_t *out, uint64_t out_len,
+                         uint64_t *answer, uint64_t answer_len);
 
-/* Widens a witness: from its last bit to its first, puts x where every completion still hits, until the text holds 16. Answers the
-   length of the text, which is that of the given one and stands at the front of out; or 2^32 + n for a refusal, n 9, 14, 16 or 13.
-   A witness to which replay does not answer all is copied as it is. out needs the witness's length; the bytes past the text are as
-   they were. With many x a call can take long: each of at most 65,536 completions may be evaluated for each bit. */
-uint64_t yunverok_widen(const uint32_t *memory, size_t memory_len, const uint8_t *text, size_t text_len, uint8_t *out, size_t out_len);
+/* Folds the hit of bad line b at frame t into one circuit over the free bits of that frame: free latches in file order, then the inputs
+   that the user does not hold, frame by frame; a held input has its pin's value. Returns 0, and the circuit's text stands at the front
+   of out as an AIGER file in ASCII; answer tells its length. Or returns the number of the refusal, 18 for a user who is neither 0 nor 1
+   and then 9 to 13, and work, out and answer are as they were. out needs 24 * size + 64 bytes, the size taken at t; the bytes past the
+   text are as they were. shared and circuit are read only. A text with more than 256 inputs or 3,072 gates is past what load accepts.
+   */
+uint64_t yunverok_fold(uint64_t user, const uint8_t *shared, uint64_t shared_len, const uint32_t *circuit, uint64_t circuit_len,
+                       uint64_t b, uint64_t t, uint32_t *work, uint64_t work_len, uint8_t *out, uint64_t out_len, uint64_t *answer,
+                       uint64_t answer_len);
+
+/* Replays a witness of 1 to 256 frames. In the lines after line b it may hold x for up to 16 bits that may be either; a completion has
+   0 or 1 for each, and hits if its start agrees with every reset, each held input has its pin's value in every frame, and its last
+   frame is a hit of its bad line. Returns 0, and answer tells the kind: YUNVEROK_ALL where every completion hits, YUNVEROK_NO where
+   none does, else YUNVEROK_MIXED. Or returns the number of the refusal, 18 for a user who is neither 0 nor 1 and then 9, 14 or 16, and
+   answer is as it was. Nothing but answer is changed. */
+uint64_t yunverok_replay(uint64_t user, const uint8_t *shared, uint64_t shared_len, const uint32_t *circuit, uint64_t circuit_len,
+                         const uint8_t *text, uint64_t text_len, uint64_t *answer, uint64_t answer_len);
+
+/* Widens a witness: from its last bit to its first, puts x where every completion still hits as a replay by this user says, until the
+   text holds 16; so no x stands at an input that the user holds. Returns 0, and the widened text, as long as the given one, stands at
+   the front of out; answer tells its length. A witness to which replay does not tell all is copied as it is. Or returns the number of
+   the refusal, 18 for a user who is neither 0 nor 1 and then 9, 14, 16 or 13, in this order, and out and answer are as they were. out
+   needs the witness's length; the bytes past the text are as they were. shared, circuit and text are read only. With many x a call can
+   take long: each of at most 65,536 completions may be evaluated for each bit. */
+uint64_t yunverok_widen(uint64_t user, const uint8_t *shared, uint64_t shared_len, const uint32_t *circuit, uint64_t circuit_len,
+                        const uint8_t *text, uint64_t text_len, uint8_t *out, uint64_t out_len, uint64_t *answer, uint64_t answer_len);
+
+/* Shows the run of a witness of 1 to 256 frames as a value change dump (VCD), one time step of 1 ns a frame: inputs i0 i1 .., latches
+   l0 .., outputs o0 .., bad lines b0 .. and constraints c0 .. in file order, or, where inputs is not 0, the inputs alone. Either user
+   may, and pins change nothing. Returns 0, and the text stands at the front of out; answer tells its length. Or returns the number of
+   the refusal, 18 for a user who is neither 0 nor 1 and then 9, 14, 16 or 13, in this order, and out and answer are as they were. out
+   needs the text's length, at most YUNVEROK_WAVEFORM; the bytes past the text are as they were. The start need not agree with the
+   resets, nor the last frame be a hit. Where the witness holds x, a wire is 0 or 1 in a frame where every completion gives it that
+   value, else x. */
+uint64_t yunverok_waveform(uint64_t user, const uint32_t *circuit, uint64_t circuit_len, const uint8_t *text, uint64_t text_len,
+                           uint64_t inputs, uint8_t *out, uint64_t out_len, uint64_t *answer, uint64_t answer_len);
 
 /* Writes the circuit as an AIGER file in ASCII: seven header numbers, definitions in file order, a reset only where it is not 0, no
-   tail. Answers the length of the text, which stands at the front of out; or 2^32 + n for a refusal, n 9 or 13. out needs the text's
-   length; the bytes past the text are as they were. */
-uint64_t yunverok_write(const uint32_t *memory, size_t memory_len, uint8_t *out, size_t out_len);
+   tail. Either user may, and pins change nothing. Returns 0, and the text stands at the front of out; answer tells its length. Or
+   returns the number of the refusal, 18 for a user who is neither 0 nor 1 and then 9 or 13, and out and answer are as they were. out
+   needs the text's length, at most YUNVEROK_TEXT; the bytes past the text are as they were. A call with out_len 0 returns 13 where
+   circuit holds a circuit, and 9 where it holds none. */
+uint64_t yunverok_write(uint64_t user, const uint32_t *circuit, uint64_t circuit_len, uint8_t *out, uint64_t out_len, uint64_t *answer,
+                        uint64_t answer_len);
 
 /* Writes the circuit as an AIGER file in binary form: seven header numbers, a reset only where it is not 0, differences in the fewest
    groups, no tail. Variables get new numbers: inputs, latches, then gates, each time the earliest listed gate whose operands have
-   numbers; the larger operand of a gate comes first. Answers the length of the text, which stands at the front of out; or 2^32 + n for
-   a refusal, n 9 or 13. out needs the text's length, at most 24,576 bytes; the bytes past the text are as they were. */
-uint64_t yunverok_write_binary(const uint32_t *memory, size_t memory_len, uint8_t *out, size_t out_len);
-
-/* Folds the hit of bad line b at frame t into one circuit over the free bits of that frame (free latches in file order, then inputs
-   frame by frame). Answers the length of its text, which stands at the front of out as an AIGER file in ASCII; or 2^32 + n for a
-   refusal, n from 9 to 13. out needs 24 * size + 64 bytes, the size taken at t; the bytes past the text are as they were. A text
-   with more than 256 inputs or 3,072 gates is past what load accepts. */
-uint64_t yunverok_fold(const uint32_t *memory, size_t memory_len, uint64_t b, uint64_t t, uint32_t *work, size_t work_len, uint8_t *out,
-                       size_t out_len);
-
-/* Shows the run of a witness of 1 to 256 frames as a value change dump (VCD), one time step of 1 ns a frame: inputs i0 i1 .., latches
-   l0 .., outputs o0 .., bad lines b0 .. and constraints c0 .. in file order, or, where inputs is not 0, the inputs alone. Answers the
-   length of the text, which stands at the front of out; or 2^32 + n for a refusal, n 9, 14, 16 or 13. out needs the text's length, at most
-   YUNVEROK_WAVEFORM; the bytes past the text are as they were. The start need not agree with the resets, nor the last frame be a hit.
-   Where the witness holds x, a wire is 0 or 1 in a frame where every completion gives it that value, else x. */
-uint64_t yunverok_waveform(const uint32_t *memory, size_t memory_len, const uint8_t *text, size_t text_len, uint32_t inputs, uint8_t *out,
-                           size_t out_len);
-
-/* Two users, 0 and 1, of one circuit memory and one working memory. pins has 256 bytes for each user, one for each input: 0 or 1 holds the
-   input at that value in all frames, any other byte leaves it free, and so does a byte that is not there. The functions are those above, with
-   a user's number: 18 is tested first, and everything else is as above, save
-   - load and join, by user 0 alone: where they are accepted all pins of both users are free after them;
-   - search and fold: a held input is no free bit and has its pin's value; the free bits are the others, in the same order. Size, working
-     memory and output needed are those without pins;
-   - replay and widen: a completion that differs from a pin is no hit, so that no x stands at a held input where the answer is all.
-   write, preview and waveform do not depend on pins. A call changes nothing but what it says, so that neither user disturbs the other. */
-uint32_t yunverok_user_load(uint32_t user, const uint8_t *file, size_t file_len, uint32_t *memory, size_t memory_len, uint8_t *pins,
-                            size_t pins_len);
-
-uint32_t yunverok_user_join(uint32_t user, const uint32_t *first, size_t first_len, const uint32_t *second, size_t second_len,
-                            uint32_t *memory, size_t memory_len, uint8_t *pins, size_t pins_len);
-
-/* Sets the pin of an input: value 0 or 1 holds it, 2 frees it. Answers 0; or 18 for the user or the value, then 9, then 18 for the input, and
-   pins is as it was. */
-uint32_t yunverok_user_pin(uint32_t user, uint64_t input, uint32_t value, const uint32_t *memory, size_t memory_len, uint8_t *pins,
-                           size_t pins_len);
-
-uint64_t yunverok_user_preview(uint32_t user, const uint8_t *file, size_t file_len, const uint32_t *memory, size_t memory_len,
-                               uint32_t *counts, size_t counts_len);
-
-uint64_t yunverok_user_search(const uint32_t *memory, size_t memory_len, const uint8_t *pins, size_t pins_len, uint32_t user, uint64_t b,
-                              uint64_t k, uint64_t d, uint32_t *work, size_t work_len, uint8_t *out, size_t out_len);
-
-uint64_t yunverok_user_fold(const uint32_t *memory, size_t memory_len, const uint8_t *pins, size_t pins_len, uint32_t user, uint64_t b,
-                            uint64_t t, uint32_t *work, size_t work_len, uint8_t *out, size_t out_len);
-
-uint32_t yunverok_user_replay(const uint32_t *memory, size_t memory_len, const uint8_t *pins, size_t pins_len, uint32_t user,
-                              const uint8_t *text, size_t text_len);
-
-uint64_t yunverok_user_widen(const uint32_t *memory, size_t memory_len, const uint8_t *pins, size_t pins_len, uint32_t user,
-                             const uint8_t *text, size_t text_len, uint8_t *out, size_t out_len);
-
-uint64_t yunverok_user_write(uint32_t user, const uint32_t *memory, size_t memory_len, uint8_t *out, size_t out_len);
-
-uint64_t yunverok_user_write_binary(uint32_t user, const uint32_t *memory, size_t memory_len, uint8_t *out, size_t out_len);
-
-uint64_t yunverok_user_waveform(const uint32_t *memory, size_t memory_len, uint32_t user, const uint8_t *text, size_t text_len,
-                                uint32_t inputs, uint8_t *out, size_t out_len);
+   numbers; the larger operand of a gate comes first. Either user may, and pins change nothing. Returns 0, and the text stands at the
+   front of out; answer tells its length. Or returns the number of the refusal, 18 for a user who is neither 0 nor 1 and then 9 or 13,
+   and out and answer are as they were. out needs the text's length, at most YUNVEROK_BINARY; the bytes past the text are as they were.
+   */
+uint64_t yunverok_write_binary(uint64_t user, const uint32_t *circuit, uint64_t circuit_len, uint8_t *out, uint64_t out_len,
+                               uint64_t *answer, uint64_t answer_len);
 
 #ifdef __cplusplus
 }

@@ -1,95 +1,94 @@
 //! An analyser of one user's own: a circuit memory, and pins. A search, for which several answers are permitted, is judged by trying all
 //! sequences that obey the pins on the circuit itself; a fold by that of the circuit with constants; the other answers are computed.
 
+use crate::interface;
 use crate::reference::{self, Circuit, Said, Verdict};
+use crate::shared::{refused, told, Reply};
 
-/// What a call gives back: the number, and the output. Where the circuit is replaced the other analyser must learn of it.
-#[derive(Clone)]
-pub struct Reply {
-    pub code: u64,
-    pub out: Vec<u8>,
-    pub refused: bool,
-    pub replaces: bool,
-}
-
+/// The pins of the inputs: as many bytes as the users share for this user.
 pub struct Analyser {
     pub user: usize,
     pub memory: Vec<u32>,
     pub pins: Vec<u8>,
 }
 
-const SHIFT: u64 = 1 << 32;
-
-fn refused(code: u64, out: &[u8]) -> Reply {
-    Reply { code, out: out.to_vec(), refused: true, replaces: false }
+/// The bytes of a user among those that users share.
+pub fn own(shared: &[u8], user: usize) -> &[u8] {
+    let (from, to) = (256 * user, 256 * user + 256);
+    &shared[from.min(shared.len())..to.min(shared.len())]
 }
 
 fn text_reply(text: Result<Vec<u8>, u32>, out: &[u8]) -> Reply {
     match text {
-        Err(n) => refused(SHIFT + n as u64, out),
+        Err(n) => refused(n, out),
         Ok(text) => {
             let mut left = out.to_vec();
             left[..text.len()].copy_from_slice(&text);
-            Reply { code: text.len() as u64, out: left, refused: false, replaces: false }
+            told(interface::text(text.len()), left)
         }
     }
 }
 
 impl Analyser {
-    pub fn new(user: usize, memory: &[u32], pins: &[u8]) -> Analyser {
-        Analyser { user, memory: memory.to_vec(), pins: pins[256 * user..][..256].to_vec() }
+    pub fn new(user: usize, memory: &[u32], shared: &[u8]) -> Analyser {
+        Analyser { user, memory: memory.to_vec(), pins: own(shared, user).to_vec() }
     }
 
     pub fn circuit(&self) -> Option<Circuit> {
         reference::held(&self.memory)
     }
 
+    /// Whether a pin holds an input of the circuit.
+    pub fn holds(&self) -> bool {
+        self.circuit().is_some_and(|c| (0..c.inputs.len()).any(|i| self.held(i).is_some()))
+    }
+
     fn held(&self, i: usize) -> Option<bool> {
-        (self.pins[i] < 2).then(|| self.pins[i] == 1)
+        self.pins.get(i).filter(|&&pin| pin < 2).map(|&pin| pin == 1)
     }
 
     /// The circuit was replaced by an accepted load or join.
     pub fn replaced(&mut self, memory: &[u32]) {
         self.memory = memory.to_vec();
-        self.pins = vec![2; 256];
+        self.pins.fill(2);
     }
 
     fn replace(&mut self, circuit: Result<Circuit, u32>) -> Reply {
         match circuit {
-            Err(n) => refused(n as u64, &[]),
+            Err(n) => refused(n, &[]),
             Ok(c) => {
                 let image = reference::image(&c);
                 self.memory[..image.len()].copy_from_slice(&image);
-                self.pins = vec![2; 256];
-                Reply { code: 0, out: vec![], refused: false, replaces: true }
+                self.pins.fill(2);
+                Reply { replaces: true, ..told(interface::counts(reference::needed(c.max_var), &c.counts()), vec![]) }
             }
         }
     }
 
-    pub fn load(&mut self, user: u32, file: &[u8]) -> Reply {
+    pub fn load(&mut self, user: u64, file: &[u8]) -> Reply {
         if user > 0 {
             return refused(18, &[]);
         }
         self.replace(reference::load(file, self.memory.len() as u64))
     }
 
-    pub fn join(&mut self, user: u32, first: &[u32], second: &[u32]) -> Reply {
+    pub fn join(&mut self, user: u64, first: &[u32], second: &[u32]) -> Reply {
         if user > 0 {
             return refused(18, &[]);
         }
         self.replace(reference::join(first, second, self.memory.len() as u64))
     }
 
-    pub fn pin(&mut self, user: u32, input: u64, value: u32) -> Reply {
+    pub fn pin(&mut self, user: u64, input: u64, value: u64) -> Reply {
         if user > 1 || value > 2 {
             return refused(18, &[]);
         }
         match self.circuit() {
             None => refused(9, &[]),
-            Some(c) if input >= c.inputs.len() as u64 => refused(18, &[]),
+            Some(c) if input >= c.inputs.len() as u64 || input >= self.pins.len() as u64 => refused(18, &[]),
             Some(_) => {
                 self.pins[input as usize] = value as u8;
-                Reply { code: 0, out: vec![], refused: false, replaces: false }
+                told(interface::done(), vec![])
             }
         }
     }
@@ -135,34 +134,39 @@ impl Analyser {
     }
 
     /// The given answer where it is permitted, else one that is not given.
-    pub fn search(&self, user: u32, b: u64, k: u64, d: u64, work: u64, out: &[u8], got: &Reply) -> Reply {
+    pub fn search(&self, user: u64, b: u64, k: u64, d: u64, work: u64, out: &[u8], got: &Reply) -> Reply {
         if user > 1 {
-            return refused(3 * SHIFT + 18, out);
+            return refused(18, out);
         }
         let c = match reference::search_tests(&self.memory, b, k, d, work, out.len() as u64) {
-            Err(n) => return refused(3 * SHIFT + n as u64, out),
+            Err(n) => return refused(n, out),
             Ok(c) => c,
         };
-        let said = match got.code >> 32 {
-            0 => Said::Found(got.code),
-            1 => Said::Nothing(got.code & 0xffff_ffff),
-            2 => Said::Spent(got.code & 0xffff_ffff),
-            _ => Said::Refused(got.code as u32),
+        let said = match got.answer[0] {
+            interface::FOUND => Said::Found(got.answer[1]),
+            interface::NONE => Said::Nothing(got.answer[1]),
+            _ => Said::Spent(got.answer[1]),
         };
         let none_before = |t: u64| (0..t).all(|u| self.first(&c, b, u, u64::MAX).is_none());
-        let unchanged = Reply { code: got.code, out: out.to_vec(), refused: false, replaces: false };
-        let wrong = Reply { code: u64::MAX, ..unchanged.clone() };
+        let wrong = told(interface::searched(u64::MAX, 0, 0), out.to_vec());
         match said {
             Said::Found(t) if t <= k && none_before(t) => match self.first(&c, b, t, u64::MAX) {
                 Some(text) => {
                     let mut left = out.to_vec();
                     left[..text.len()].copy_from_slice(&text);
-                    Reply { out: left, ..unchanged }
+                    told(interface::searched(interface::FOUND, t, text.len()), left)
                 }
                 None => wrong,
             },
-            Said::Nothing(n) if n == k && none_before(k + 1) => unchanged,
-            Said::Spent(t) if t <= k && none_before(t) && d < 1 << self.free_bits(&c, t) && self.first(&c, b, t, d).is_none() => unchanged,
+            Said::Nothing(n) if n == k && none_before(k + 1) => {
+                let mut places = interface::searched(interface::NONE, k, 0);
+                let always = got.answer[interface::ALWAYS] == 1 && reference::some_frame_hits(&self.tied(&c), b) != Some(true);
+                places[interface::ALWAYS] = always.into();
+                told(places, out.to_vec())
+            }
+            Said::Spent(t) if t <= k && none_before(t) && d < 1 << self.free_bits(&c, t) && self.first(&c, b, t, d).is_none() => {
+                told(interface::searched(interface::SPENT, t, 0), out.to_vec())
+            }
             _ => wrong,
         }
     }
@@ -183,15 +187,15 @@ impl Analyser {
         d
     }
 
-    pub fn fold(&self, user: u32, b: u64, t: u64, work: u64, out: &[u8], got: &Reply, word: u64) -> Reply {
+    pub fn fold(&self, user: u64, b: u64, t: u64, work: u64, out: &[u8], got: &Reply, word: u64) -> Reply {
         if user > 1 {
-            return refused(SHIFT + 18, out);
+            return refused(18, out);
         }
         let c = match reference::fold_tests(&self.memory, b, t, work, out.len() as u64) {
-            Err(n) => return refused(SHIFT + n as u64, out),
+            Err(n) => return refused(n, out),
             Ok(c) => c,
         };
-        let length = got.code.min(out.len() as u64) as usize;
+        let length = got.answer[2].min(out.len() as u64) as usize;
         let mut state = word;
         let mut random = || {
             state = state.wrapping_mul(6364136223846793005).wrapping_add(1442695040888963407);
@@ -199,8 +203,8 @@ impl Analyser {
         };
         let judged = reference::fold_permits(&self.tied(&c), b, t, &got.out[..length], &mut random);
         let rest = got.out[length..] == out[length..];
-        let code = if judged.is_ok() && rest { got.code } else { u64::MAX };
-        Reply { code, out: got.out.clone(), refused: false, replaces: false }
+        let expected = if judged.is_ok() && rest { length } else { usize::MAX };
+        told(interface::text(expected), got.out.clone())
     }
 
     fn verdict(&self, c: &Circuit, text: &[u8]) -> Verdict {
@@ -213,33 +217,33 @@ impl Analyser {
         }
     }
 
-    pub fn replay(&self, user: u32, text: &[u8]) -> Reply {
+    pub fn replay(&self, user: u64, text: &[u8]) -> Reply {
         if user > 1 {
             return refused(18, &[]);
         }
         match reference::witness_tests(&self.memory, text) {
-            Err(n) => refused(n as u64, &[]),
+            Err(n) => refused(n, &[]),
             Ok(c) => {
-                let code = match self.verdict(&c, text) {
-                    Verdict::No => 0,
-                    Verdict::All => 1,
-                    Verdict::Mixed => 2,
+                let kind = match self.verdict(&c, text) {
+                    Verdict::No => interface::NO,
+                    Verdict::All => interface::ALL,
+                    Verdict::Mixed => interface::MIXED,
                 };
-                Reply { code, out: vec![], refused: false, replaces: false }
+                told(interface::kind(kind), vec![])
             }
         }
     }
 
-    pub fn widen(&self, user: u32, text: &[u8], out: &[u8]) -> Reply {
+    pub fn widen(&self, user: u64, text: &[u8], out: &[u8]) -> Reply {
         if user > 1 {
-            return refused(SHIFT + 18, out);
+            return refused(18, out);
         }
         let c = match reference::witness_tests(&self.memory, text) {
-            Err(n) => return refused(SHIFT + n as u64, out),
+            Err(n) => return refused(n, out),
             Ok(c) => c,
         };
         if out.len() < text.len() {
-            return refused(SHIFT + 13, out);
+            return refused(13, out);
         }
         let mut wide = text.to_vec();
         if self.verdict(&c, &wide) == Verdict::All {
@@ -257,30 +261,26 @@ impl Analyser {
         text_reply(Ok(wide), out)
     }
 
-    pub fn write(&self, user: u32, binary: bool, out: &[u8]) -> Reply {
+    pub fn write(&self, user: u64, binary: bool, out: &[u8]) -> Reply {
         let text = if user > 1 { Err(18) } else { reference::write(&self.memory, binary, out.len() as u64) };
         text_reply(text, out)
     }
 
-    pub fn waveform(&self, user: u32, text: &[u8], inputs: u32, out: &[u8]) -> Reply {
+    pub fn waveform(&self, user: u64, text: &[u8], inputs: u64, out: &[u8]) -> Reply {
         let shown = if user > 1 { Err(18) } else { reference::waveform(&self.memory, text, inputs != 0, out.len() as u64) };
         text_reply(shown, out)
     }
 
-    pub fn preview(&self, user: u32, file: &[u8]) -> Reply {
-        let mut counts = [7u32; 8];
-        let (code, refused) = if user > 1 {
-            (18 * SHIFT, true)
-        } else {
-            match reference::load(file, self.memory.len() as u64) {
-                Err(n) => (n as u64 * SHIFT + reference::words_needed(file), true),
-                Ok(c) => {
-                    c.counts().iter().enumerate().for_each(|(i, &count)| counts[i] = count as u32);
-                    (reference::words_needed(file), false)
-                }
-            }
+    pub fn preview(&self, user: u64, file: &[u8]) -> Reply {
+        if user > 1 {
+            return refused(18, &[]);
+        }
+        let words = reference::words_needed(file);
+        let places = match reference::load(file, self.memory.len() as u64) {
+            Err(n) => interface::unloaded(words, n),
+            Ok(c) => interface::counts(words, &c.counts()),
         };
-        Reply { code, out: counts.iter().flat_map(|count| count.to_le_bytes()).collect(), refused, replaces: false }
+        told(places, vec![])
     }
 }
 

@@ -1,10 +1,10 @@
 //! One job: an operation with what is lent to it, its answer and every lent byte compared with the reference.
 
 use crate::generate;
+use crate::interface::{self, Places};
 use crate::lend::{Kind, Loan, Store, PAGE};
 use crate::random::Random;
-use crate::reference::{self, Judged, Circuit, Said};
-use crate::service;
+use crate::reference::{self, Circuit, Judged, Said, Verdict};
 use crate::stack::Painted;
 use crate::tally::{Operation, Tally, NAMES};
 use std::sync::atomic::{AtomicU64, Ordering};
@@ -23,6 +23,21 @@ pub enum Spoil {
     Fault,
 }
 
+/// What a call gave back: the number that it returned, and the places of its answer.
+#[derive(Clone, PartialEq, Debug)]
+struct Told {
+    number: u64,
+    places: Places,
+}
+
+/// Who calls, what users share, and the answer that is lent.
+#[derive(Clone, Copy)]
+struct Caller {
+    user: u64,
+    shared: Loan,
+    answer: Loan,
+}
+
 pub struct Harness {
     pub seed: u64,
     pub spoil: Spoil,
@@ -30,7 +45,10 @@ pub struct Harness {
     random: Random,
     spoiler: Random,
     spoiled: bool,
-    stores: [Vec<Store>; 4],
+    stores: [Vec<Store>; 6],
+    caller: Caller,
+    /// What was noticed while a call was made.
+    noticed: Vec<String>,
     painted: Painted,
     last_witness: Vec<u8>,
 }
@@ -52,6 +70,8 @@ impl Harness {
         let works = [2, 2, 2, 2, 8, 8, 8, 64, 64, 64, 1025, 1025];
         let outputs = [1, 1, 1, 1, 4, 4, 4, 20, 20, 20, 400, 400];
         let texts = [1, 1, 1, 18, 18, 32];
+        let nothing = |kind| Loan { kind, index: 0, offset: 0, len: 0, width: 1, pointer: std::ptr::null_mut() };
+        let caller = Caller { user: 0, shared: nothing(Kind::Shared), answer: nothing(Kind::Answer) };
         Harness {
             seed,
             spoil,
@@ -59,7 +79,9 @@ impl Harness {
             random: Random(seed),
             spoiler: Random(!seed),
             spoiled: false,
-            stores: [stores(&MEMORIES), stores(&works), stores(&outputs), stores(&texts)],
+            stores: [stores(&MEMORIES), stores(&works), stores(&outputs), stores(&texts), stores(&[1, 1]), stores(&[1, 1])],
+            caller,
+            noticed: Vec::new(),
             painted: Painted::new(),
             last_witness: Vec::new(),
         }
@@ -70,7 +92,7 @@ impl Harness {
         let large = self.random.one_in(400);
         match self.random.below(100) {
             0..=29 => self.load_job(large),
-            30..=33 => self.on_memory(large, Harness::test_job),
+            30..=33 => self.on_memory(large, Harness::pin_job),
             34..=57 => self.on_memory(large, Harness::search_job),
             58..=71 => self.on_memory(large, Harness::fold_job),
             72..=80 => self.on_memory(large, Harness::replay_job),
@@ -201,47 +223,119 @@ impl Harness {
 
     // Calls
 
-    /// Makes the call, on the painted stack for some jobs, and remembers what the lent stores held before it.
-    fn perform(&mut self, operation: Operation, large: bool, loans: &[Loan], call: &mut dyn FnMut() -> u64) -> u64 {
-        for loan in loans {
+    /// Who calls: mostly user 0. What users share has some length, and no pin in it holds an input. The answer has all places.
+    fn lend_to_all(&mut self) {
+        let user = match self.random.below(24) {
+            0 => 1,
+            1 => self.random.choose(&[2, 3, 1 << 32, u64::MAX]),
+            _ => 0,
+        };
+        let some = self.random.below(3000);
+        let shared_len = self.random.choose(&[0, 512, 512, 2560, 2560, 256, 511, some]) as usize;
+        let shared = self.lend(Kind::Shared, 0, shared_len, 1);
+        let bytes: Vec<u8> = (0..shared.len).map(|i| if i < 512 { 2 + self.random.below(254) as u8 } else { self.random.word() as u8 }).collect();
+        self.store(&shared).bytes_mut()[shared.offset..][..shared_len].copy_from_slice(&bytes);
+        let answer_len = 16 + self.random.choose(&[0, 0, 0, 1, 5]);
+        let answer = self.lend(Kind::Answer, 0, answer_len, 8);
+        self.store(&answer).fill(&mut Random(some));
+        self.caller = Caller { user, shared, answer };
+    }
+
+    /// Whether the user may call an operation that users up to `last` may call.
+    fn may(&self, last: u64) -> Result<(), u32> {
+        if self.caller.user <= last { Ok(()) } else { Err(18) }
+    }
+
+    fn numbers(&mut self, loan: &Loan) -> Vec<u64> {
+        let (from, to) = (loan.offset, loan.offset + loan.byte_len());
+        let bytes = &self.store(loan).bytes()[from..to];
+        bytes.chunks(8).map(|number| u64::from_le_bytes(number.try_into().expect("eight bytes"))).collect()
+    }
+
+    /// Makes the call, on the painted stack for some jobs, and remembers what the lent stores held before it. Some calls are made before with
+    /// an answer of fewer places too.
+    fn perform(&mut self, operation: Operation, large: bool, loans: &[Loan], call: &mut dyn FnMut(&Caller) -> u64) -> Told {
+        self.lend_to_all();
+        let caller = self.caller;
+        for loan in loans.iter().chain([&caller.shared, &caller.answer]) {
             self.store(loan).snapshot();
         }
         self.tally.job(operation, large);
         CURRENT.store(self.tally.jobs, Ordering::Relaxed);
-        let answer = if large || self.random.one_in(64) {
-            let (answer, depth) = self.painted.run(call);
+        let short = self.random.one_in(16).then(|| self.short(&caller, call));
+        let number = if large || self.random.one_in(64) {
+            let (number, depth) = self.painted.run(&mut || call(&caller));
             self.tally.depth(operation, large, depth);
-            answer
+            number
         } else {
-            call()
+            call(&caller)
         };
-        self.spoil(loans, answer)
+        let places = self.numbers(&caller.answer)[..16].try_into().expect("sixteen places");
+        if let Some((said, before, after)) = short {
+            let expected = before.iter().zip(&places).map(|(&before, &place)| if number == 0 { place } else { before });
+            if said != number || after != expected.collect::<Vec<u64>>() {
+                self.noticed.push(format!("with {} places: {said} and {after:?}", before.len()));
+            }
+        }
+        self.spoil(loans, Told { number, places })
     }
 
-    fn spoil(&mut self, loans: &[Loan], answer: u64) -> u64 {
+    /// The call with an answer of fewer than sixteen places: its number, and the places before and after it.
+    fn short(&mut self, caller: &Caller, call: &mut dyn FnMut(&Caller) -> u64) -> (u64, Vec<u64>, Vec<u64>) {
+        let len = self.random.below(16) as usize;
+        let answer = self.lend(Kind::Answer, 1, len, 8);
+        let before = self.numbers(&answer);
+        let number = call(&Caller { answer, ..*caller });
+        (number, before, self.numbers(&answer))
+    }
+
+    fn spoil(&mut self, loans: &[Loan], told: Told) -> Told {
         if self.spoil == Spoil::Nothing || !self.spoiler.one_in(10_000) {
-            return answer;
+            return told;
         }
         self.spoiled = true;
-        let lent: Vec<Loan> = loans.iter().filter(|loan| loan.kind != Kind::Work && loan.len > 0).copied().collect();
+        let all = loans.iter().chain([&self.caller.shared, &self.caller.answer]);
+        let lent: Vec<Loan> = all.filter(|loan| loan.kind != Kind::Work && loan.len > 0).copied().collect();
         if self.spoil == Spoil::Fault {
             let store = &self.stores[loans[0].kind as usize][loans[0].index];
             let past = store.bytes().as_ptr().wrapping_add(store.size);
-            return unsafe { std::ptr::read_volatile(past) }.into();
+            return Told { number: unsafe { std::ptr::read_volatile(past) }.into(), ..told };
         }
-        if lent.is_empty() || self.spoiler.one_in(2) {
-            return answer ^ 1 << self.spoiler.below(34);
+        if self.spoiler.one_in(2) {
+            return Told { number: told.number ^ 1 << self.spoiler.below(34), ..told };
         }
         let loan = self.spoiler.choose(&lent);
         let at = loan.offset + self.spoiler.below(loan.byte_len() as u64) as usize;
         let bit = 1 << self.spoiler.below(8);
         self.store(&loan).bytes_mut()[at] ^= bit;
-        answer
+        told
+    }
+
+    /// What was told otherwise than expected. The answer must then hold the expected places, or what it held where the call is refused.
+    fn differs(&mut self, told: &Told, expected: &Result<Places, u32>) -> Vec<String> {
+        let number = expected.as_ref().err().copied().unwrap_or(0);
+        if let Ok(places) = expected {
+            let bytes: Vec<u8> = places.iter().flat_map(|place| place.to_le_bytes()).collect();
+            let answer = self.caller.answer;
+            self.store(&answer).expect(answer.offset, &bytes);
+        }
+        let wrong = told.number != u64::from(number) || expected.as_ref().is_ok_and(|places| *places != told.places);
+        if wrong { vec![format!("answered {} and {:?}, expected {expected:?}", told.number, told.places)] } else { vec![] }
+    }
+
+    /// All pins of both users are free, and what follows them is 0.
+    fn freed(&mut self) {
+        let shared = self.caller.shared;
+        let bytes: Vec<u8> = (0..shared.len).map(|i| if i < 512 { 2 } else { 0 }).collect();
+        self.store(&shared).expect(shared.offset, &bytes);
     }
 
     /// Compares every byte of the lent stores with what they must hold, and shows the first few differences.
     fn settle(&mut self, operation: Operation, loans: &[Loan], mut faults: Vec<String>, inputs: &dyn Fn() -> String) {
-        for loan in loans {
+        faults.append(&mut self.noticed);
+        let caller = self.caller;
+        let with_caller = [caller.shared, caller.answer];
+        for loan in loans.iter().chain(if loans.is_empty() { &[][..] } else { &with_caller[..] }) {
             if let Some(difference) = self.store(loan).difference() {
                 faults.push(format!("{:?}: {difference}; lent from {} on, {} elements", loan.kind, loan.offset, loan.len));
             }
@@ -295,9 +389,10 @@ impl Harness {
                 let image = reference::image(circuit);
                 after[..image.len()].copy_from_slice(&image);
             }
-            let code = unsafe { service::yunverok_load(text.as_ptr(), text.len(), words.as_mut_ptr(), words.len()) };
+            let (nothing, len) = (std::ptr::null_mut(), text.len() as u64);
+            let code = unsafe { interface::yunverok_load(0, nothing, 0, words.as_mut_ptr(), 300, text.as_ptr(), len, nothing.cast(), 0) };
             self.tally.damaged += 1;
-            if code != expected.err().unwrap_or(0) || words != after {
+            if code != u64::from(expected.err().unwrap_or(0)) || words != after {
                 self.tally.differences += 1;
                 println!("difference: file {} answered {code}", text.escape_ascii());
             }
@@ -326,13 +421,22 @@ impl Harness {
         if self.words(&memory) != before {
             faults.push("the preview changed circuit memory".to_string());
         }
-        let code = self.perform(Operation::Load, large, &loans, &mut || unsafe {
-            service::yunverok_load(file.pointer, file.len, memory.words(), memory.len).into()
+        let told = self.perform(Operation::Load, large, &loans, &mut |by| unsafe {
+            let (shared, answer) = (by.shared, by.answer);
+            interface::yunverok_load(
+                by.user,
+                shared.pointer,
+                shared.count(),
+                memory.words(),
+                memory.count(),
+                file.pointer,
+                file.count(),
+                answer.numbers(),
+                answer.count(),
+            )
         });
-        let number = expected.as_ref().err().copied().unwrap_or(0);
-        if code != u64::from(number) {
-            faults.push(format!("answered {code}, expected {number}"));
-        }
+        let expected = self.may(0).and(expected);
+        faults.extend(self.differs(&told, &expected.as_ref().map(counted).map_err(|&number| number)));
         match expected {
             Ok(circuit) => self.loaded(&memory, &circuit),
             Err(number) => self.tally.refusal(Operation::Load, number),
@@ -340,25 +444,26 @@ impl Harness {
         self.settle(Operation::Load, &loans, faults, &|| format!("file: {}\n{}", text.escape_ascii(), shown(&before)));
     }
 
-    /// What a preview of the load answers otherwise than expected, with 0 to 8 words lent for the counts.
+    /// What a preview of the load tells otherwise than expected, with 0 to 17 places lent.
     fn preview_faults(&mut self, text: &[u8], memory: &Loan, file: &Loan, expected: &Result<Circuit, u32>) -> Vec<String> {
-        const BEFORE: u32 = 0xdead_beef;
-        let mut counts = [BEFORE; 8];
-        let room = self.random.below(9) as usize;
-        let code = unsafe {
-            service::yunverok_preview(file.pointer, file.len, memory.words(), memory.len, counts.as_mut_ptr(), room)
+        const BEFORE: u64 = 0xdead_beef;
+        let mut answer = [BEFORE; 18];
+        let (room, user) = (self.random.below(18), self.random.choose(&[0, 1, 2]));
+        let number = unsafe {
+            interface::yunverok_preview(user, memory.words(), memory.count(), file.pointer, file.count(), answer.as_mut_ptr(), room)
         };
-        let number = expected.as_ref().err().copied().unwrap_or(0);
-        let mut shown = [BEFORE; 8];
-        if let (Ok(circuit), true) = (expected, room >= 7) {
-            shown.iter_mut().zip(circuit.counts()).for_each(|(word, count)| *word = count as u32);
+        let words = reference::words_needed(text);
+        let places = match expected {
+            Ok(circuit) => interface::counts(words, &circuit.counts()),
+            Err(number) => interface::unloaded(words, *number),
+        };
+        let mut left = [BEFORE; 18];
+        if user < 2 {
+            left.iter_mut().zip(places).take(room as usize).for_each(|(left, place)| *left = place);
         }
         let mut faults = Vec::new();
-        if code != (u64::from(number) << 32) + reference::words_needed(text) {
-            faults.push(format!("preview answered {code}, expected {number} and {} words", reference::words_needed(text)));
-        }
-        if counts != shown {
-            faults.push(format!("preview left the counts {counts:?}, expected {shown:?}"));
+        if number != if user < 2 { 0 } else { 18 } || answer != left {
+            faults.push(format!("preview of user {user} answered {number} and {answer:?}, expected {left:?}"));
         }
         faults
     }
@@ -368,6 +473,7 @@ impl Harness {
         let store = self.store(memory);
         store.expect(memory.offset, &bytes);
         store.home = (memory.offset, memory.len);
+        self.freed();
         self.tally.answer(Operation::Load, "accepted");
         self.tally.load_with("in order", reference::renumbered(circuit) == *circuit);
         self.tally.load_with("with constraints", !circuit.constraints.is_empty());
@@ -377,21 +483,48 @@ impl Harness {
         self.tally.load_with("of A 3072", circuit.gates.len() == 3072);
     }
 
-    // The test for number 9
+    // Pins
 
-    fn test_job(&mut self, large: bool, memory: Loan) {
+    fn pin_job(&mut self, large: bool, memory: Loan) {
         let words = self.words(&memory);
-        let holds = reference::held(&words).is_some();
-        let code = self.perform(Operation::Test, large, &[memory], &mut || unsafe {
-            service::yunverok_test(memory.words(), memory.len).into()
+        let held = reference::held(&words);
+        let inputs = held.as_ref().map_or(0, |c| c.inputs.len() as u64);
+        let input = match self.random.below(8) {
+            0 => self.random.choose(&[inputs, 256, 512, 1 << 32, u64::MAX]),
+            _ => self.random.below(inputs),
+        };
+        let value = self.random.choose(&[0, 1, 2, 2, 0, 1, 3, 256, u64::MAX]);
+        let told = self.perform(Operation::Pin, large, &[memory], &mut |by| unsafe {
+            let (shared, answer) = (by.shared, by.answer);
+            interface::yunverok_pin(
+                by.user,
+                shared.pointer,
+                shared.count(),
+                memory.words(),
+                memory.count(),
+                input,
+                value,
+                answer.numbers(),
+                answer.count(),
+            )
         });
-        let expected = if holds { 0 } else { 9 };
-        let faults = if code == expected { vec![] } else { vec![format!("answered {code}, expected {expected}")] };
-        match holds {
-            true => self.tally.answer(Operation::Test, "holds a circuit"),
-            false => self.tally.refusal(Operation::Test, 9),
+        let (user, shared) = (self.caller.user, self.caller.shared);
+        let at = user.wrapping_mul(256).wrapping_add(input);
+        let expected = match () {
+            _ if user > 1 || value > 2 => Err(18),
+            _ if held.is_none() => Err(9),
+            _ if input >= inputs || at >= shared.count() => Err(18),
+            _ => Ok(interface::done()),
+        };
+        let faults = self.differs(&told, &expected);
+        match expected {
+            Ok(_) => {
+                self.store(&shared).expect(shared.offset + at as usize, &[value as u8]);
+                self.tally.answer(Operation::Pin, "set");
+            }
+            Err(number) => self.tally.refusal(Operation::Pin, number),
         }
-        self.settle(Operation::Test, &[memory], faults, &|| shown(&words));
+        self.settle(Operation::Pin, &[memory], faults, &|| format!("input {input}, value {value}\n{}", shown(&words)));
     }
 
     // Search
@@ -455,55 +588,89 @@ impl Harness {
         let loans = [memory, work, out];
         let first = self.search(large, &loans, b, k, d);
         if self.random.one_in(16) {
-            self.store(&work).fill(&mut Random(first ^ b));
+            self.store(&work).fill(&mut Random(first.places[1] ^ b));
             let second = self.search(large, &loans, b, k, d);
             self.tally.repeated += 1;
-            if first != second {
-                let fault = format!("answered {first:#x}, and over other working memory {second:#x}");
+            if [first.number, second.number].iter().all(|&number| number == 0) && first.places != second.places {
+                let fault = format!("answered {first:?}, and over other working memory {second:?}");
                 self.settle(Operation::Search, &[], vec![fault], &|| format!("b {b}, k {k}, D {d}"));
             }
         }
     }
 
-    fn search(&mut self, large: bool, loans: &[Loan; 3], b: u64, k: u64, d: u64) -> u64 {
+    fn search(&mut self, large: bool, loans: &[Loan; 3], b: u64, k: u64, d: u64) -> Told {
         let [memory, work, out] = *loans;
         let words = self.words(&memory);
-        let code = self.perform(Operation::Search, large, loans, &mut || unsafe {
-            service::yunverok_search(memory.words(), memory.len, b, k, d, work.words(), work.len, out.pointer, out.len)
+        let told = self.perform(Operation::Search, large, loans, &mut |by| unsafe {
+            let (shared, answer) = (by.shared, by.answer);
+            interface::yunverok_search(
+                by.user,
+                shared.pointer,
+                shared.count(),
+                memory.words(),
+                memory.count(),
+                b,
+                k,
+                d,
+                work.words(),
+                work.count(),
+                out.pointer,
+                out.count(),
+                answer.numbers(),
+                answer.count(),
+            )
         });
-        let mut faults = Vec::new();
-        let said = said(code);
-        match reference::search_tests(&words, b, k, d, work.len as u64, out.len as u64) {
-            Err(number) if said == Some(Said::Refused(number)) => self.tally.refusal(Operation::Search, number),
-            Err(number) => faults.push(format!("answered {code:#x}, expected refusal {number}")),
-            Ok(c) => match said.map(|said| reference::search_permits(&c, b, k, d, said)) {
-                Some(Ok(Judged::Text(text))) => self.searched(&work, &out, said, text),
-                Some(Ok(Judged::Unjudged)) => self.unjudged(&work, &out),
-                Some(Err(why)) => faults.push(format!("answered {said:?}, which is not permitted: {why}")),
-                None => faults.push(format!("answered {code:#x}")),
-            },
-        }
+        let tested = self.may(1).and_then(|()| reference::search_tests(&words, b, k, d, work.count(), out.count()));
+        let faults = match tested {
+            Err(number) => {
+                self.tally.refusal(Operation::Search, number);
+                self.differs(&told, &Err(number))
+            }
+            Ok(c) => self.searched(&work, &out, &told, said(&told), &c, (b, k, d)),
+        };
         let inputs = || format!("b {b}, k {k}, D {d}, work {} words, output {} bytes\n{}", work.len, out.len, shown(&words));
         self.settle(Operation::Search, loans, faults, &inputs);
-        code
+        told
     }
 
-    fn unjudged(&mut self, work: &Loan, out: &Loan) {
+    /// What is wrong with an answer that is no refusal. Of several permitted answers the given one is expected.
+    fn searched(&mut self, work: &Loan, out: &Loan, told: &Told, said: Option<Said>, c: &Circuit, (b, k, d): (u64, u64, u64)) -> Vec<String> {
         self.store(work).expect_anything(work.offset, work.byte_len());
-        self.store(out).expect_anything(out.offset, out.byte_len());
-        self.tally.answer(Operation::Search, "unjudged");
+        let Some(said) = said else {
+            return vec![format!("answered {told:?}")];
+        };
+        let length = match said {
+            Said::Found(t) => c.witness_length(b, t) as usize,
+            _ => 0,
+        };
+        let mut expected = interface::searched(told.places[0], told.places[1], length);
+        if told.places[0] == interface::NONE {
+            expected[interface::ALWAYS] = told.places[interface::ALWAYS];
+        }
+        let mut faults = self.differs(told, &Ok(expected));
+        if expected[interface::ALWAYS] == 1 && reference::some_frame_hits(c, b) == Some(true) {
+            faults.push("none for every bound, but a frame has a hit".to_string());
+        }
+        match reference::search_permits(c, b, k, d, said) {
+            Ok(Judged::Text(text)) => self.found(out, said, expected[interface::ALWAYS] == 1, text),
+            Ok(Judged::Unjudged) => {
+                self.store(out).expect_anything(out.offset, out.byte_len());
+                self.tally.answer(Operation::Search, "unjudged");
+            }
+            Err(why) => faults.push(format!("answered {said:?}, which is not permitted: {why}")),
+        }
+        faults
     }
 
-    fn searched(&mut self, work: &Loan, out: &Loan, said: Option<Said>, text: Vec<u8>) {
-        self.store(work).expect_anything(work.offset, work.byte_len());
+    fn found(&mut self, out: &Loan, said: Said, always: bool, text: Vec<u8>) {
         self.store(out).expect(out.offset, &text);
         match said {
-            Some(Said::Found(t)) => {
+            Said::Found(t) => {
                 self.tally.answer(Operation::Search, "found");
                 self.tally.found_at(t);
                 self.last_witness = text;
             }
-            Some(Said::Nothing(_)) => self.tally.answer(Operation::Search, "none"),
+            Said::Nothing(_) => self.tally.answer(Operation::Search, if always { "none for every bound" } else { "none" }),
             _ => self.tally.answer(Operation::Search, "spent"),
         }
     }
@@ -524,7 +691,8 @@ impl Harness {
             self.store(&work).fill(&mut Random(b));
             let second = self.fold(large, &loans, b, t);
             self.tally.repeated += 1;
-            self.tally.fold_repeated_otherwise += u64::from(first != second);
+            let both = first.0 == 0 && second.0 == 0;
+            self.tally.fold_repeated_otherwise += u64::from(both && first != second);
         }
     }
 
@@ -532,17 +700,35 @@ impl Harness {
     fn fold(&mut self, large: bool, loans: &[Loan; 3], b: u64, t: u64) -> (u64, Vec<u8>) {
         let [memory, work, out] = *loans;
         let words = self.words(&memory);
-        let code = self.perform(Operation::Fold, large, loans, &mut || unsafe {
-            service::yunverok_fold(memory.words(), memory.len, b, t, work.words(), work.len, out.pointer, out.len)
+        let told = self.perform(Operation::Fold, large, loans, &mut |by| unsafe {
+            let (shared, answer) = (by.shared, by.answer);
+            interface::yunverok_fold(
+                by.user,
+                shared.pointer,
+                shared.count(),
+                memory.words(),
+                memory.count(),
+                b,
+                t,
+                work.words(),
+                work.count(),
+                out.pointer,
+                out.count(),
+                answer.numbers(),
+                answer.count(),
+            )
         });
-        let mut faults = Vec::new();
         let mut text = Vec::new();
-        match reference::fold_tests(&words, b, t, work.len as u64, out.len as u64) {
-            Err(number) if code == (1 << 32) + u64::from(number) => self.tally.refusal(Operation::Fold, number),
-            Err(number) => faults.push(format!("answered {code:#x}, expected refusal {number}")),
-            Ok(_) if code > out.len as u64 => faults.push(format!("answered {code:#x}")),
+        let tested = self.may(1).and_then(|()| reference::fold_tests(&words, b, t, work.count(), out.count()));
+        let faults = match tested {
+            Err(number) => {
+                self.tally.refusal(Operation::Fold, number);
+                self.differs(&told, &Err(number))
+            }
             Ok(c) => {
-                text = self.store(&out).bytes()[out.offset..out.offset + code as usize].to_vec();
+                let length = told.places[2].min(out.count()) as usize;
+                let mut faults = self.differs(&told, &Ok(interface::text(length)));
+                text = self.store(&out).bytes()[out.offset..out.offset + length].to_vec();
                 self.store(&out).expect(out.offset, &text);
                 self.store(&work).expect_anything(work.offset, work.byte_len());
                 let random = &mut self.random;
@@ -551,11 +737,12 @@ impl Harness {
                     Err(why) => faults.push(format!("the text is not permitted: {why}: {}", text.escape_ascii())),
                 }
                 self.tally.fold_of(c.free_bits(t));
+                faults
             }
-        }
+        };
         let inputs = || format!("b {b}, t {t}, work {} words, output {} bytes\n{}", work.len, out.len, shown(&words));
         self.settle(Operation::Fold, loans, faults, &inputs);
-        (code, text)
+        (told.number, text)
     }
 
     // Replay
@@ -611,12 +798,22 @@ impl Harness {
         let text = self.witness(&c, large);
         let witness = self.lend_text(&text);
         let loans = [memory, witness];
-        let code = self.perform(Operation::Replay, large, &loans, &mut || unsafe {
-            service::yunverok_replay(memory.words(), memory.len, witness.pointer, witness.len).into()
+        let told = self.perform(Operation::Replay, large, &loans, &mut |by| unsafe {
+            let (shared, answer) = (by.shared, by.answer);
+            interface::yunverok_replay(
+                by.user,
+                shared.pointer,
+                shared.count(),
+                memory.words(),
+                memory.count(),
+                witness.pointer,
+                witness.count(),
+                answer.numbers(),
+                answer.count(),
+            )
         });
-        let expected = reference::replay(&words, &text);
-        let number = expected.map_or_else(u64::from, |verdict| verdict as u64);
-        let faults = if code == number { vec![] } else { vec![format!("answered {code}, expected {number}")] };
+        let expected = self.may(1).and_then(|()| reference::replay(&words, &text));
+        let faults = self.differs(&told, &expected.map(|verdict| interface::kind(kind_of(verdict))));
         match expected {
             Ok(verdict) => self.tally.answer(Operation::Replay, ["no", "all", "mixed"][verdict as usize]),
             Err(number) => self.tally.refusal(Operation::Replay, number),
@@ -638,12 +835,24 @@ impl Harness {
         let out_len = self.near(text.len() as u64);
         let out = self.lend_some(Kind::Output, out_len, 1);
         let loans = [memory, witness, out];
-        let code = self.perform(Operation::Widen, large, &loans, &mut || unsafe {
-            service::yunverok_widen(memory.words(), memory.len, witness.pointer, witness.len, out.pointer, out.len)
+        let told = self.perform(Operation::Widen, large, &loans, &mut |by| unsafe {
+            let (shared, answer) = (by.shared, by.answer);
+            interface::yunverok_widen(
+                by.user,
+                shared.pointer,
+                shared.count(),
+                memory.words(),
+                memory.count(),
+                witness.pointer,
+                witness.count(),
+                out.pointer,
+                out.count(),
+                answer.numbers(),
+                answer.count(),
+            )
         });
-        let expected = reference::widen(&words, &text, out.len as u64);
-        let number = expected.as_ref().map_or_else(|&number| (1 << 32) + u64::from(number), |text| text.len() as u64);
-        let faults = if code == number { vec![] } else { vec![format!("answered {code:#x}, expected {number:#x}")] };
+        let expected = self.may(1).and_then(|()| reference::widen(&words, &text, out.count()));
+        let faults = self.differs(&told, &lengthened(&expected));
         match expected {
             Ok(wide) => {
                 self.store(&out).expect(out.offset, &wide);
@@ -654,8 +863,6 @@ impl Harness {
         }
         self.settle(Operation::Widen, &loans, faults, &|| format!("witness: {}\n{}", text.escape_ascii(), shown(&words)));
     }
-
-    // Write
 
     // Join
 
@@ -711,24 +918,39 @@ impl Harness {
             return;
         }
         let loans = [first, second, third];
-        let code = self.perform(Operation::Join, large, &loans, &mut || unsafe {
-            service::yunverok_join(first.words(), first.len, second.words(), second.len, third.words(), third.len).into()
+        let told = self.perform(Operation::Join, large, &loans, &mut |by| unsafe {
+            let (shared, answer) = (by.shared, by.answer);
+            interface::yunverok_join(
+                by.user,
+                shared.pointer,
+                shared.count(),
+                third.words(),
+                third.count(),
+                first.words(),
+                first.count(),
+                second.words(),
+                second.count(),
+                answer.numbers(),
+                answer.count(),
+            )
         });
-        let expected = reference::join(&one, &two, third.len as u64);
-        let number = expected.as_ref().err().copied().unwrap_or(0);
-        let faults = if code == u64::from(number) { vec![] } else { vec![format!("answered {code}, expected {number}")] };
+        let expected = self.may(0).and_then(|()| reference::join(&one, &two, third.count()));
+        let faults = self.differs(&told, &expected.as_ref().map(counted).map_err(|&number| number));
         match expected {
             Ok(circuit) => {
                 let bytes: Vec<u8> = reference::image(&circuit).iter().flat_map(|word| word.to_le_bytes()).collect();
                 let store = self.store(&third);
                 store.expect(third.offset, &bytes);
                 store.home = (third.offset, third.len);
+                self.freed();
                 self.tally.answer(Operation::Join, "joined");
             }
             Err(number) => self.tally.refusal(Operation::Join, number),
         }
         self.settle(Operation::Join, &loans, faults, &|| format!("first {}\nsecond {}\nthird {} words", shown(&one), shown(&two), third.len));
     }
+
+    // Write
 
     fn write_job(&mut self, large: bool, memory: Loan) {
         let words = self.words(&memory);
@@ -738,13 +960,12 @@ impl Harness {
         let out_len = self.near(length as u64);
         let out = self.lend_some(Kind::Output, out_len, 1);
         let loans = [memory, out];
-        let code = self.perform(operation, large, &loans, &mut || unsafe {
-            let write = if binary { service::yunverok_write_binary } else { service::yunverok_write };
-            write(memory.words(), memory.len, out.pointer, out.len)
+        let told = self.perform(operation, large, &loans, &mut |by| unsafe {
+            let write = if binary { interface::yunverok_write_binary } else { interface::yunverok_write };
+            write(by.user, memory.words(), memory.count(), out.pointer, out.count(), by.answer.numbers(), by.answer.count())
         });
-        let expected = reference::write(&words, binary, out.len as u64);
-        let number = expected.as_ref().map_or_else(|&number| (1 << 32) + u64::from(number), |text| text.len() as u64);
-        let faults = if code == number { vec![] } else { vec![format!("answered {code:#x}, expected {number:#x}")] };
+        let expected = self.may(1).and_then(|()| reference::write(&words, binary, out.count()));
+        let faults = self.differs(&told, &lengthened(&expected));
         match expected {
             Ok(text) => {
                 self.store(&out).expect(out.offset, &text);
@@ -761,19 +982,29 @@ impl Harness {
         let words = self.words(&memory);
         let c = reference::held(&words).unwrap_or_default();
         let text = self.witness(&c, large);
-        let inputs = if self.random.one_in(3) { self.random.word() as u32 } else { 0 };
+        let inputs = if self.random.one_in(3) { self.random.word() } else { 0 };
         let complete = text.iter().map(|&byte| if byte == b'x' { b'0' } else { byte }).collect::<Vec<u8>>();
         let length = reference::waveform(&words, &complete, inputs != 0, u64::MAX).map_or(100, |shown| shown.len());
         let out_len = self.near(length as u64);
         let out = self.lend_some(Kind::Output, out_len, 1);
         let witness = self.lend_text(&text);
         let loans = [memory, witness, out];
-        let code = self.perform(Operation::Waveform, large, &loans, &mut || unsafe {
-            service::yunverok_waveform(memory.words(), memory.len, witness.pointer, witness.len, inputs, out.pointer, out.len)
+        let told = self.perform(Operation::Waveform, large, &loans, &mut |by| unsafe {
+            interface::yunverok_waveform(
+                by.user,
+                memory.words(),
+                memory.count(),
+                witness.pointer,
+                witness.count(),
+                inputs,
+                out.pointer,
+                out.count(),
+                by.answer.numbers(),
+                by.answer.count(),
+            )
         });
-        let expected = reference::waveform(&words, &text, inputs != 0, out.len as u64);
-        let number = expected.as_ref().map_or_else(|&number| (1 << 32) + u64::from(number), |shown| shown.len() as u64);
-        let faults = if code == number { vec![] } else { vec![format!("answered {code:#x}, expected {number:#x}")] };
+        let expected = self.may(1).and_then(|()| reference::waveform(&words, &text, inputs != 0, out.count()));
+        let faults = self.differs(&told, &lengthened(&expected));
         match expected {
             Ok(shown) => {
                 self.store(&out).expect(out.offset, &shown);
@@ -810,16 +1041,32 @@ fn run_cost(c: &Circuit, text: &[u8]) -> u64 {
     ((c.gates.len() + c.latches.len() + c.inputs.len() + 4) * (rows + 1)) as u64
 }
 
-/// What a search's answer says.
-fn said(code: u64) -> Option<Said> {
-    let low = code & 0xffff_ffff;
-    match code >> 32 {
-        0 => Some(Said::Found(low)),
-        1 => Some(Said::Nothing(low)),
-        2 => Some(Said::Spent(low)),
-        3 => Some(Said::Refused(low as u32)),
+/// What a search says that is not refused.
+fn said(told: &Told) -> Option<Said> {
+    match told.places[0] {
+        interface::FOUND => Some(Said::Found(told.places[1])),
+        interface::NONE => Some(Said::Nothing(told.places[1])),
+        interface::SPENT => Some(Said::Spent(told.places[1])),
         _ => None,
     }
+}
+
+fn kind_of(verdict: Verdict) -> u64 {
+    match verdict {
+        Verdict::All => interface::ALL,
+        Verdict::No => interface::NO,
+        Verdict::Mixed => interface::MIXED,
+    }
+}
+
+/// What is told of a circuit that is loaded or joined.
+fn counted(c: &Circuit) -> Places {
+    interface::counts(reference::needed(c.max_var), &c.counts())
+}
+
+/// What is told of a text that was written.
+fn lengthened(text: &Result<Vec<u8>, u32>) -> Result<Places, u32> {
+    text.as_ref().map(|text| interface::text(text.len())).map_err(|&number| number)
 }
 
 /// About how many gates are evaluated by a search that stops at the first frame with more sequences than the budget.

@@ -41,6 +41,8 @@ pub enum Kind {
     Work,
     Output,
     Text,
+    Shared,
+    Answer,
 }
 
 pub struct Store {
@@ -130,7 +132,16 @@ impl Loan {
         self.len * self.width
     }
 
+    /// The length as the library takes it.
+    pub fn count(&self) -> u64 {
+        self.len as u64
+    }
+
     pub fn words(&self) -> *mut u32 {
         self.pointer as *mut u32
+    }
+
+    pub fn numbers(&self) -> *mut u64 {
+        self.pointer as *mut u64
     }
 }

@@ -2,11 +2,11 @@
 
 mod examples;
 mod generate;
+mod interface;
 mod jobs;
 mod lend;
 mod random;
 mod reference;
-mod service;
 mod stack;
 mod tally;
 
@@ -75,6 +75,10 @@ fn main() {
         println!("the reference does not give document 01's examples");
         std::process::exit(1);
     };
+    if unsafe { interface::yunverok_version() } != interface::VERSION {
+        println!("the library is not of version {}", interface::VERSION);
+        std::process::exit(1);
+    }
     println!("examples agree      {examples:>9}\nseed                {seed:>9}");
     let start = Instant::now();
     let mut harness = Harness::new(seed, spoil);

@@ -592,7 +592,6 @@ pub enum Said {
     Found(u64),
     Nothing(u64),
     Spent(u64),
-    Refused(u32),
 }
 
 /// The circuit to search, or the number of the refusal.
@@ -721,6 +720,24 @@ pub fn search_permits(c: &Circuit, b: u64, k: u64, d: u64, said: Said) -> Result
     }
     let expected = Said::Nothing(k);
     if said == expected { Ok(Judged::Text(Vec::new())) } else { Err(format!("expected {expected:?}")) }
+}
+
+/// Whether some frame has a hit, however late, where the states are few enough to tell.
+pub fn some_frame_hits(c: &Circuit, b: u64) -> Option<bool> {
+    let mut evaluator = Evaluator::new(c);
+    let mut states = starts(c)?;
+    let mut met: HashSet<Vec<u64>> = states.iter().map(|state| state.latches.clone()).collect();
+    while !states.is_empty() {
+        let (hit, next) = step(&mut evaluator, b, &states)?;
+        if hit.is_some() {
+            return Some(true);
+        }
+        states = next.into_iter().filter(|state| met.insert(state.latches.clone())).collect();
+        if met.len() > 1 << 12 {
+            return None;
+        }
+    }
+    Some(false)
 }
 
 /// The frame and number of the first hit, if the first `limit` sequences of each frame up to k show it.

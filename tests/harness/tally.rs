@@ -5,7 +5,7 @@ use std::collections::BTreeMap;
 #[derive(Clone, Copy, PartialEq)]
 pub enum Operation {
     Load,
-    Test,
+    Pin,
     Search,
     Fold,
     Replay,
@@ -16,7 +16,7 @@ pub enum Operation {
     Join,
 }
 
-pub const NAMES: [&str; 10] = ["load", "test", "search", "fold", "replay", "write", "binary", "widen", "waveform", "join"];
+pub const NAMES: [&str; 10] = ["load", "pin", "search", "fold", "replay", "write", "binary", "widen", "waveform", "join"];
 
 #[derive(Default)]
 pub struct Tally {

@@ -6,15 +6,19 @@
 
 mod analyser;
 mod generate;
+mod interface;
+mod lend;
 mod random;
 mod reference;
-mod user_service;
+mod shared;
+mod stack;
 
-use analyser::{Analyser, Reply};
+use analyser::{own, Analyser};
 use random::Random;
 use reference::Circuit;
+use shared::{Reply, Shared};
+use stack::Painted;
 use std::collections::BTreeMap;
-use user_service::Shared;
 
 /// What both users lend: it is never cleared between calls.
 const WORK: usize = 40_000;
@@ -24,7 +28,11 @@ struct Run {
     spoil: bool,
     shared: Shared,
     analysers: [Analyser; 2],
+    /// What the bytes after the pins must hold.
+    rest: Vec<u8>,
     tally: BTreeMap<&'static str, [u64; 2]>,
+    /// The greatest depth of stack of each function, where the user holds no input of the circuit and where one is held.
+    depth: BTreeMap<&'static str, [usize; 2]>,
     differences: u64,
     calls: u64,
 }
@@ -35,9 +43,11 @@ impl Run {
         let words = 256 + 8 * (20 + random.below(60)) as usize;
         let memory: Vec<u32> = (0..words).map(|_| random.word() as u32).collect();
         let work = (0..WORK).map(|_| random.word() as u32).collect();
-        let pins: Vec<u8> = (0..512).map(|_| random.below(4) as u8).collect();
-        let analysers = [0, 1].map(|user| Analyser::new(user, &memory, &pins));
-        Run { random, spoil, shared: Shared { memory, work, pins }, analysers, tally: BTreeMap::new(), differences: 0, calls: 0 }
+        let length = random.choose(&[512, 512, 2560, 2560, 600, 300, 257, 2, 0]);
+        let bytes: Vec<u8> = (0..length).map(|_| random.below(4) as u8).collect();
+        let analysers = [0, 1].map(|user| Analyser::new(user, &memory, &bytes));
+        let rest = bytes[bytes.len().min(512)..].to_vec();
+        Run { random, spoil, shared: Shared { memory, work, bytes, painted: Painted::new(), paints: false }, analysers, rest, tally: BTreeMap::new(), depth: BTreeMap::new(), differences: 0, calls: 0 }
     }
 
     fn circuit(&mut self) -> Circuit {
@@ -95,10 +105,14 @@ impl Run {
     fn call(&mut self) {
         if self.spoil && self.random.one_in(200) {
             let at = 256 * self.random.below(2) + self.random.below(2);
-            self.shared.pins[at as usize] ^= 1;
+            if let Some(pin) = self.shared.bytes.get_mut(at as usize) {
+                *pin ^= 1;
+            }
         }
         let user = self.random.choose(&[0, 0, 0, 0, 1, 1, 1, 1, 1, 2]);
         let me = user as usize & 1;
+        self.shared.paints = self.random.one_in(8);
+        let holds = self.analysers[me].holds();
         let (name, got, expected): (&'static str, Reply, Reply) = match self.random.below(24) {
             0 => {
                 let file = self.file();
@@ -156,7 +170,7 @@ impl Run {
                 ("preview", self.shared.preview(user, &file), expected)
             }
             _ => {
-                let (text, only) = (self.witness(me), self.random.below(2) as u32);
+                let (text, only) = (self.witness(me), self.random.below(2));
                 let out = self.output(1500);
                 let expected = self.analysers[me].waveform(user, &text, only, &out);
                 ("waveform", self.shared.waveform(user, &text, only, &out), expected)
@@ -165,25 +179,32 @@ impl Run {
         if expected.replaces {
             let memory = self.analysers[me].memory.clone();
             self.analysers[1 - me].replaced(&memory);
+            self.rest.fill(0);
         }
+        let depth = &mut self.depth.entry(name).or_insert([0, 0])[usize::from(holds)];
+        *depth = got.depth.max(*depth);
         self.compare(name, user, &got, &expected);
     }
 
-    fn compare(&mut self, name: &'static str, user: u32, got: &Reply, expected: &Reply) {
+    fn compare(&mut self, name: &'static str, user: u64, got: &Reply, expected: &Reply) {
         self.calls += 1;
         let counts = self.tally.entry(kind(name, expected)).or_insert([0, 0]);
-        counts[usize::from(expected.refused)] += 1;
+        counts[usize::from(expected.number != 0)] += 1;
         let mut faults = Vec::new();
-        if got.code != expected.code || got.out != expected.out {
-            faults.push(format!("answer {:x} and {:?}, expected {:x} and {:?}", got.code, got.out, expected.code, expected.out));
+        if got.number != expected.number || got.answer != expected.answer || got.out != expected.out {
+            let all = |reply: &Reply| format!("{}, {:?} and {:?}", reply.number, reply.answer, reply.out);
+            faults.push(format!("answered {}, expected {}", all(got), all(expected)));
         }
         for analyser in &self.analysers {
             if self.shared.memory != analyser.memory {
                 faults.push(format!("circuit memory is not that of user {}", analyser.user));
             }
-            if self.shared.pins[256 * analyser.user..][..256] != analyser.pins {
+            if own(&self.shared.bytes, analyser.user) != analyser.pins {
                 faults.push(format!("the pins of user {} changed", analyser.user));
             }
+        }
+        if !self.shared.bytes.ends_with(&self.rest) {
+            faults.push("the bytes after the pins changed".to_string());
         }
         if !faults.is_empty() {
             self.differences += 1;
@@ -194,13 +215,13 @@ impl Run {
 
 /// The operation, and for search and replay what it said.
 fn kind(name: &'static str, reply: &Reply) -> &'static str {
-    match (name, reply.refused, reply.code, reply.code >> 32) {
-        ("replay", false, 0, _) => "replay no",
-        ("replay", false, 1, _) => "replay all",
-        ("replay", false, ..) => "replay mixed",
-        ("search", false, _, 0) => "search found",
-        ("search", false, _, 1) => "search none",
-        ("search", false, _, 2) => "search spent",
+    match (name, reply.number, reply.answer[0]) {
+        ("replay", 0, interface::NO) => "replay no",
+        ("replay", 0, interface::ALL) => "replay all",
+        ("replay", 0, _) => "replay mixed",
+        ("search", 0, interface::FOUND) => "search found",
+        ("search", 0, interface::NONE) => "search none",
+        ("search", 0, interface::SPENT) => "search spent",
         _ => name,
     }
 }
@@ -215,6 +236,7 @@ fn main() {
     };
     let spoil = std::env::var("HARNESS_SPOIL").is_ok();
     let mut total: BTreeMap<&'static str, [u64; 2]> = BTreeMap::new();
+    let mut depth: BTreeMap<&'static str, [usize; 2]> = BTreeMap::new();
     let mut differences = 0;
     for number in 0..runs {
         let mut run = Run::new(seed.wrapping_mul(1_000_003).wrapping_add(number), spoil);
@@ -227,11 +249,19 @@ fn main() {
             sum[0] += counts[0];
             sum[1] += counts[1];
         }
+        for (name, bytes) in run.depth {
+            let greatest = depth.entry(name).or_insert([0, 0]);
+            *greatest = [0, 1].map(|holds| greatest[holds].max(bytes[holds]));
+        }
     }
     println!("sequences of calls  {runs:>9}\ncalls in each       {calls:>9}");
     for (name, [answered, refused]) in total {
         println!("{name:<19} {answered:>9} answered, {refused:>8} refused");
     }
-    println!("differences         {differences:>9}");
+    println!("\ngreatest depth of stack, bytes\n{:<19} {:>9} {:>9}", "", "free", "held");
+    for (name, [free, held]) in depth {
+        println!("{name:<19} {free:>9} {held:>9}");
+    }
+    println!("\ndifferences         {differences:>9}");
     std::process::exit(i32::from(differences > 0));
 }

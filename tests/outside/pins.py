@@ -8,49 +8,57 @@ import sys
 import aiger
 import tools
 
-ARCHIVE = f"{tools.ROOT}/target/staticlib/libuser_service.a"
-MEMORY, WORK, PINS, WITNESS = 33032, 1 << 20, 512, 66825
+ARCHIVE = f"{tools.ROOT}/target/staticlib/libyunverok.a"
+MEMORY, WORK, SHARED, WITNESS = 33032, 1 << 20, 512, 66825
+KIND, FRAME, LENGTH, PLACES = 0, 1, 2, 16
+FOUND, NONE = 1, 2
 BUDGET = 1 << 20
 
 
 class Library:
-    """The C functions for users, on memories that are never cleared."""
+    """The C functions, on memories that are never cleared."""
 
     def __init__(self):
         shared = tools.path("users.so")
         subprocess.run(["gcc", "-shared", "-o", shared, "-Wl,--whole-archive", ARCHIVE, "-Wl,--no-whole-archive"], check=True)
         self.library = ctypes.CDLL(shared)
-        self.library.yunverok_user_search.restype = ctypes.c_uint64
         self.memory = (ctypes.c_uint32 * MEMORY)()
         self.work = (ctypes.c_uint32 * WORK)()
-        self.pins = (ctypes.c_uint8 * PINS)()
+        self.shared = (ctypes.c_uint8 * SHARED)()
         self.out = (ctypes.c_uint8 * WITNESS)()
+        self.answer = (ctypes.c_uint64 * PLACES)()
 
-    def slice(self, array):
-        return array, ctypes.c_size_t(len(array))
+    def call(self, name, *arguments):
+        """The number of the refusal, or 0: numbers are passed as such, a slice as its pointer and its length."""
+        passed = []
+        for argument in (*arguments, self.answer):
+            passed += [ctypes.c_uint64(argument)] if isinstance(argument, int) else [argument, ctypes.c_uint64(len(argument))]
+        function = getattr(self.library, f"yunverok_{name}")
+        function.restype = ctypes.c_uint64
+        return function(*passed)
 
     def load(self, text):
         file = text.encode()
         lent = (ctypes.c_uint8 * len(file)).from_buffer_copy(file)
-        answer = self.library.yunverok_user_load(0, *self.slice(lent), *self.slice(self.memory), *self.slice(self.pins))
-        if answer:
-            raise tools.ToolError(f"load refused {answer}\n{text}")
+        refused = self.call("load", 0, self.shared, self.memory, lent)
+        if refused:
+            raise tools.ToolError(f"load refused {refused}\n{text}")
 
     def pin(self, user, i, value):
-        answer = self.library.yunverok_user_pin(user, ctypes.c_uint64(i), value, *self.slice(self.memory), *self.slice(self.pins))
-        if answer:
-            raise tools.ToolError(f"pin refused {answer}")
+        refused = self.call("pin", user, self.shared, self.memory, i, value)
+        if refused:
+            raise tools.ToolError(f"pin refused {refused}")
 
     def search(self, user, b, k):
         """The answer as a line, and the rows of the witness."""
-        numbers = [ctypes.c_uint64(n) for n in (b, k, BUDGET)]
-        code = self.library.yunverok_user_search(*self.slice(self.memory), *self.slice(self.pins), user, *numbers, *self.slice(self.work),
-                                                 *self.slice(self.out))
-        kind, number = code >> 32, code & 0xffffffff
-        if kind == 0:
-            lines = bytes(self.out).split(b"\n")
-            return f"found {number}", [line.decode() for line in lines[3:4 + number]]
-        return (f"none {number}" if kind == 1 else f"answer {kind} {number}"), []
+        refused = self.call("search", user, self.shared, self.memory, b, k, BUDGET, self.work, self.out)
+        if refused:
+            return f"refused {refused}", []
+        kind, frame = self.answer[KIND], self.answer[FRAME]
+        if kind == FOUND:
+            lines = bytes(self.out[:self.answer[LENGTH]]).split(b"\n")
+            return f"found {frame}", [line.decode() for line in lines[3:4 + frame]]
+        return (f"none {frame}" if kind == NONE else f"spent {frame}"), []
 
 
 def held(r, c):

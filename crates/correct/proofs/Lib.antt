@@ -1,1 +1,3 @@
 pub mod Correct
+pub mod Agreement
+pub mod Told
