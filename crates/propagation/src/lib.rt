@@ -145,10 +145,7 @@ fn held_value(work: &[u32], nodes: u32, l: u32) -> u32
         return l % 2;
     }
     let x = work[14 * (v as usize) + 5];
-    if 1 < x {
-        return 2;
-    }
-    (x + l % 2) % 2
+    if 1 < x { 2 } else { (x + l % 2) % 2 }
 }
 
 // What the values of gate g and of its operands imply, with every word tested.
