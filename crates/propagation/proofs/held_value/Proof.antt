@@ -28,5 +28,4 @@ pub held-value-spec : {M : Type 1} → statement M
 held-value-spec =
     tie.close
     (tie.spec
-    returns (λ c. search needs) (λ c. search needs) (λ c. search needs) (λ c. search needs) shared-slice-read-x returns-2
-    (λ c. search needs) returns-3)
+    returns (λ c. search needs) (λ c. search needs) (λ c. search needs) (λ c. search needs) shared-slice-read-x (λ c. search needs) returns-2 returns-3)
