@@ -212,9 +212,9 @@ fn expand(work: &mut [u32], net: Netlist, arena: Arena, d: Draft, t: u32) -> Dra
     ensures { λ r. ⌜ D.Left (now (work .exit)) r (S.expanded (now (work .entry)) net arena d t) ⌝ }
 {
     let l = field(work, net.nodes, t, TRAIL);
-    let why = field(work, net.nodes, l / 2, REASON);
-    if is_reason(net, arena, why) {
-        if is_member(work, net, arena, d, opposite(l)) {
+    if is_member(work, net, arena, d, opposite(l)) {
+        let why = field(work, net.nodes, l / 2, REASON);
+        if is_reason(net, arena, why) {
             return resolve(work, net, arena, d, why, l);
         }
     }

@@ -1,3 +1,4 @@
 -- The laws of `heap`. Assumes nothing.
 pub mod Turns
+pub mod Unmoved
 pub mod Frame

@@ -1,6 +1,6 @@
 -- The heap of nodes by activity, as functions of the words. Assumes nothing.
 use mathlib.Core.Path.{_≡_}
-use mathlib.Core.Bool.{Bool, false, cond}
+use mathlib.Core.Bool.{Bool, true, false, cond}
 use mathlib.Core.List.{List}
 use Prim.Native.Nat.{ℕ, zero, suc, _+_, _-_, _*_, _/_, _%_}
 use lib.Dec.{eqb, leb, ltb}
@@ -76,6 +76,10 @@ downed w nodes size v i zero = seated w nodes i v
 downed w nodes size v i (suc n) =
     cond (isBelow w nodes size (larger w nodes size (child i)) v)
     (downed (lifted w nodes i (larger w nodes size (child i))) nodes size v (larger w nodes size (child i)) n) (seated w nodes i v)
+
+-- node v, which stands at place i, has no need to rise
+unfoldable pub stays : List ℕ → ℕ → ℕ → ℕ → Bool
+stays w nodes i v = cond (leb 65536 i) false (cond (isAbove w nodes i v) false true)
 
 unfoldable pub risen : List ℕ → ℕ → Heap → ℕ → Heaped
 risen w nodes h v =

@@ -157,12 +157,28 @@ fn down(work: &mut [u32], nodes: u32, size: u32, v: u32, n: u32)
     seat(work, nodes, at, v);
 }
 
+// Whether node v, which stands at place i, has no need to rise.
+fn stays(work: &[u32], nodes: u32, i: u32, v: u32) -> bool
+    ensures { λ r. ⌜ r ≡ Hp.stays (now (work .entry)) nodes i v ⌝ }
+{
+    if 65536 <= i {
+        return false;
+    }
+    if is_above(work, nodes, i, v) {
+        return false;
+    }
+    true
+}
+
 // Node v is in the heap, where its activity says.
 pub fn rise(work: &mut [u32], nodes: u32, heap: Heap, v: u32) -> Heap
     ensures { λ r. ⌜ Hp.Left (now (work .exit)) r (Hp.risen (now (work .entry)) nodes heap v) ⌝ }
 {
     if is_seated(work, nodes, heap.size, v) {
         let i = place_of(work, nodes, v);
+        if stays(work, nodes, i, v) {
+            return heap;
+        }
         up(work, nodes, i, v, 32);
         return heap;
     }

@@ -1,3 +1,4 @@
 -- The laws of `propagation`. Assumes nothing.
+pub mod Rules
 pub mod Turns
 pub mod Frame

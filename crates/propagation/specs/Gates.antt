@@ -54,6 +54,11 @@ looked w net s g =
     (rule (value w (net .nodes) (2 * g)) (value w (net .nodes) (field w (net .nodes) g 0))
     (value w (net .nodes) (field w (net .nodes) g 1))))
 
+-- what the values of gate g and of its operands imply
+unfoldable pub gateRule : List ℕ → ℕ → ℕ → ℕ
+gateRule w nodes g =
+    cond (leb 1073741823 g) 0 (rule (value w nodes (2 * g)) (value w nodes (field w nodes g 0)) (value w nodes (field w nodes g 1)))
+
 unfoldable pub nextFan : List ℕ → ℕ → ℕ → ℕ
 nextFan w nodes e = cond (eqb (e % 2) 0) (field w nodes (e / 2) 12) (field w nodes (e / 2) 13)
 

@@ -7,7 +7,8 @@ use trail::State;
 use trail::assign;
 use trail::value;
 ghost use mathlib.Core.Path.{_≡_};
-ghost use Prim.Native.Nat.{_<_};
+ghost use Prim.Native.Nat.{_*_, _≤_, _<_};
+ghost use lib.ListN.{length};
 ghost use Rattle.trail.specs.Trail as T;
 ghost use Rattle.propagation.specs.Gates as G;
 
@@ -134,19 +135,68 @@ fn apply(work: &mut [u32], net: Netlist, s: State, g: u32, rule: u32) -> State
     assign(work, net, s, l, reason(g, rule))
 }
 
+// The value of literal l, where the words have room for all records.
+fn held_value(work: &[u32], nodes: u32, l: u32) -> u32
+    requires { ⌜ 14 * nodes ≤ length (now work) ⌝ }
+    ensures { λ r. ⌜ r ≡ T.value (now (work .entry)) nodes l ⌝ }
+{
+    let v = l / 2;
+    if nodes <= v {
+        return l % 2;
+    }
+    let x = work[14 * (v as usize) + 5];
+    if 1 < x { 2 } else { (x + l % 2) % 2 }
+}
+
+// What the values of gate g and of its operands imply, with every word tested.
+fn tested_rule(work: &[u32], nodes: u32, g: u32) -> u32
+    ensures { λ r. ⌜ r ≡ G.gateRule (now (work .entry)) nodes g ⌝ }
+{
+    if 1073741823 <= g {
+        return 0;
+    }
+    let a = field(work, nodes, g, 0);
+    let b = field(work, nodes, g, 1);
+    let o = value(work, nodes, 2 * g);
+    let x = value(work, nodes, a);
+    let y = value(work, nodes, b);
+    rule(o, x, y)
+}
+
+// What the values of gate g and of its operands imply. Of a gate that is false like its left operand, nothing more is read.
+fn gate_rule(work: &[u32], nodes: u32, g: u32) -> u32
+    ensures { λ r. ⌜ r ≡ G.gateRule (now (work .entry)) nodes g ⌝ }
+{
+    if work.len() < 14 * (nodes as usize) {
+        return tested_rule(work, nodes, g);
+    }
+    if nodes <= g {
+        return tested_rule(work, nodes, g);
+    }
+    if 1073741823 <= g {
+        return 0;
+    }
+    let i = 14 * (g as usize);
+    let o = work[i + 5];
+    let x = held_value(work, nodes, work[i]);
+    if o == 0 {
+        if x == 0 {
+            return 0;
+        }
+    }
+    let y = held_value(work, nodes, work[i + 1]);
+    rule(o, x, y)
+}
+
 // Looks at gate g and its operands.
 pub fn look(work: &mut [u32], net: Netlist, s: State, g: u32) -> State
     ensures { λ r. ⌜ T.Left (now (work .exit)) r (G.looked (now (work .entry)) net s g) ⌝ }
 {
-    if 1073741823 <= g {
+    let r = gate_rule(work, net.nodes, g);
+    if r == 0 {
         return s;
     }
-    let a = field(work, net.nodes, g, 0);
-    let b = field(work, net.nodes, g, 1);
-    let o = value(work, net.nodes, 2 * g);
-    let x = value(work, net.nodes, a);
-    let y = value(work, net.nodes, b);
-    apply(work, net, s, g, rule(o, x, y))
+    apply(work, net, s, g, r)
 }
 
 // The fan-out after e, or 0.
@@ -175,7 +225,10 @@ pub fn look_up(work: &mut [u32], net: Netlist, s: State, e: u32, n: u32) -> Stat
             return t;
         }
         let next = next_fan(work, net.nodes, at);
-        t = look(work, net, t, at / 2);
+        let r = gate_rule(work, net.nodes, at / 2);
+        if r != 0 {
+            t = apply(work, net, t, at / 2, r);
+        }
         at = next;
         left -= 1;
     }

@@ -16,7 +16,7 @@ pub fn is_false(work: &[u32], nodes: u32, l: u32) -> bool
     ensures { λ r. ⌜ r ≡ R.isFalse (now (work .entry)) nodes l ⌝ }
 {
     let fact = field(work, nodes, l / 2, FACT);
-    fact % 4 == 2 - l % 2
+    fact % 4 + l % 2 == 2
 }
 
 // Whether r is a reason.

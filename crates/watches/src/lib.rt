@@ -226,5 +226,8 @@ pub fn visit(work: &mut [u32], net: Netlist, arena: Arena, t: State, f: u32) -> 
         clause: c,
         link: UNDEF,
     };
+    if arena.count <= c {
+        return u;
+    }
     walk(work, net, arena, u, f, arena.count)
 }

@@ -1,31 +1,28 @@
 -- `propagation::look` meets its contract. Assumes nothing.
-use borrow.Author.Tests.{le-leb, lt-leb}
-use Rattle.propagation.specs.Gates as G
-use mathlib.Core.Path.{refl}
+use mathlib.Core.Path.{_≡_, sym, _∙_}
 use borrow.Author.Needs.{needs}
+use Rattle.trail.proofs.Turns.{left-by}
+use Rattle.propagation.proofs.Rules.{rule-near, looked-by, looked-still}
 use Rattle.propagation.proofs.look.Statement.{statement}
 use Rattle.propagation.proofs.look.Tie as tie
 
 returns : tie.Need-returns
-unfolding G.looked
-returns c = rw (le-leb _ _ (c .if1 .taken)) (record { words = refl; state = refl })
+returns c =
+    let a = c .before .before .before .before .args in
+    left-by (sym (looked-still (a .work .now) (a .net) (a .s) (a .g) (sym (c .before .gate-rule .ensures) ∙ c .if1 .taken)))
+
+apply-requires : tie.Need-apply-requires
+apply-requires c κs =
+    let a = c .before .before .before .before .before .args in
+    rule-near (a .work .now) (a .net .nodes) (a .g) (λ e. c .before .if1 .left (c .before .before .gate-rule .ensures ∙ e))
 
 returns-2 : tie.Need-returns-2
-unfolding G.looked
-returns-2 c = rw (
-  ← c .before .before .before .before .before .before .before .before .before .before .before .before .before .field .ensures,
-  ← c .before .before .before .before .before .before .before .before .before .before .before .field2 .ensures,
-  ← c .before .before .before .before .before .before .before .before .before .value .ensures,
-  ← c .before .before .before .before .before .before .before .value2 .ensures,
-  ← c .before .before .before .before .before .value3 .ensures,
-  ← c .before .before .before .rule .ensures,
-  lt-leb _ _ (c .before .before .before .before .before .before .before .before .before .before .before .before .before .before .before
-      .if1 .left),
-) (c .before .before .apply .ensures)
+returns-2 c =
+    let a = c .before .before .before .before .before .before .before .before .args in
+    rw (looked-by (a .work .now) (a .net) (a .s) (a .g), ← c .before .before .before .before .before .gate-rule .ensures) (c .before .before .apply .ensures)
 
 pub look-spec : {M : Type 1} → statement M
 look-spec =
     tie.close
     (tie.spec
-    returns (λ c κs. search needs) (λ c κs. search needs) (λ c. search needs) (λ c κs. search needs) (λ c κs. search needs)
-    (λ c κs. search needs) (λ c κs. search needs) (λ c κs. search needs) (λ c. search needs) returns-2)
+    (λ c κs. search needs) (λ c. search needs) returns apply-requires (λ c. search needs) returns-2)

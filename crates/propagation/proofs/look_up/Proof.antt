@@ -1,10 +1,13 @@
 -- `propagation::look_up` meets its contract. The invariant: what is left of the fan-outs ends as all of them do. Assumes nothing.
 use Rattle.trail.proofs.Turns.{left-by}
 use Rattle.propagation.proofs.Turns.{up-none, up-end, up-stop, up-more}
+use Rattle.propagation.proofs.Rules.{rule-near, looked-done, looked-none}
 use Rattle.propagation.specs.Gates.{lookedUp}
+use Prim.Native.Nat.{_/_}
 use lib.ListN as N
 use native.Mathlib.Omega.{arith}
-use mathlib.Core.Path.{_≡_, refl, sym, _∙_}
+use mathlib.Core.Logic.{⊎-elim}
+use mathlib.Core.Path.{_≡_, refl, ap, sym, _∙_}
 use borrow.Author.Needs.{needs}
 use Rattle.propagation.proofs.look_up.Statement.{statement}
 use Rattle.propagation.proofs.look_up.Tie as tie
@@ -15,6 +18,9 @@ Inv-loop work₀ net e n t₀ at₀ left₀ work t at left =
 
 abbrev μ-loop : tie.MeasureT-loop
 μ-loop work₀ net e n t₀ at₀ left₀ work t at left = left
+
+loop-holds : tie.Need-loop-holds Inv-loop μ-loop
+loop-holds c = (refl, refl)
 
 same-length : tie.Need-same-length Inv-loop μ-loop
 same-length c = c .before .before .loop .inv .0
@@ -34,17 +40,30 @@ returns-2 c =
     let s = c .before .before .before .before .before .before .args in
     left-by (sym (up-stop (l .work) (s .net) (l .t) (l .at) (l .left) (c .before .before .if1 .left) (c .if2 .taken)) ∙ l .inv .1)
 
-loop-again : tie.Need-loop-again Inv-loop μ-loop
-loop-again c =
+apply-requires : tie.Need-apply-requires Inv-loop μ-loop
+apply-requires c κs =
     let l = c .before .before .before .before .before .before .before .before .before .before .loop in
     let s = c .before .before .before .before .before .before .before .before .before .before .before .before .args in
-    let more = up-more (l .work) (s .net) (l .t) (l .at) (l .left) (omega arith)
-    (c .before .before .before .before .before .before .before .before .if1 .left)
-    (c .before .before .before .before .before .before .if2 .left) in
-    let u = c .before .before .look in (
-      u .kept .0 ∙ l .inv .0,
-      rw (u .ensures .words, u .ensures .state, c .before .before .before .before .next-fan .ensures) (sym more ∙ l .inv .1),
-    )
+    rule-near (l .work) (s .net .nodes) (l .at / 2) (λ e. c .before .if3 .taken (c .before .before .gate-rule .ensures ∙ e))
+
+sub-left : tie.Need-sub-left Inv-loop μ-loop
+sub-left c = omega arith
+
+loop-less : tie.Need-loop-less Inv-loop μ-loop
+loop-less c = omega arith
+
+loop-again : tie.Need-loop-again Inv-loop μ-loop
+loop-again c =
+    let l = c .before .before .before .before .before .before .before .before .before .loop in
+    let s = c .before .before .before .before .before .before .before .before .before .before .before .args in
+    let more = up-more (l .work) (s .net) (l .t) (l .at) (l .left) (omega arith) (c .before .before .before .before .before .before .before .if1 .left) (c .before .before .before .before .before .if2 .left) in
+    let rule = c .before .gate-rule .ensures in
+    let kept : N.length (c .if3 .work) ≡ N.length (l .work) =
+    ⊎-elim (λ w. ap N.length (w .5) ∙ w .2 .kept .0) (λ w. ap N.length (w .1)) (c .if3 .came) in
+    let turn =
+    ⊎-elim (λ w. looked-done (l .work) (s .net) (l .t) (l .at / 2) rule (w .2 .ensures) (w .5) (w .6))
+    (λ w. looked-none (l .work) (s .net) (l .t) (l .at / 2) rule (w .0 .left) (w .1) (w .2)) (c .if3 .came) in
+    (kept ∙ l .inv .0, rw (turn .words, turn .state, c .before .before .before .next-fan .ensures) (sym more ∙ l .inv .1))
 
 same-length-3 : tie.Need-same-length-3 Inv-loop μ-loop
 same-length-3 c = c .before .loop .inv .0
@@ -59,5 +78,5 @@ pub look-up-spec : {M : Type 1} → statement M
 look-up-spec =
     tie.close
     (tie.spec
-    Inv-loop μ-loop (λ c. (refl, refl)) same-length returns same-length-2 returns-2 (λ c κs. search needs) (λ c κs. search needs)
-    (λ c. omega arith) (λ c. omega arith) loop-again same-length-3 returns-3)
+    Inv-loop μ-loop loop-holds same-length returns same-length-2 returns-2 (λ c κs. search needs) (λ c κs. search needs)
+    apply-requires sub-left loop-less loop-again same-length-3 returns-3)
