@@ -1,0 +1,6 @@
+-- The theorems of `generated`. Assumes nothing.
+pub mod Examples
+pub mod Drawn
+pub mod Parts
+pub mod Short
+pub mod Loads
