@@ -18,8 +18,9 @@ use Rattle.generated.specs.Parts.{headText, inputsText, latchesText, gatesText}
 use Rattle.generated.proofs.Parts.{inputs-more, latches-more, gates-more, inputs-none, latches-none, gates-none}
 use Rattle.generated.proofs.Short.{line-length, line-longer, head-length}
 use Rattle.generate.specs.declared.Choice.{Choice}
+use Rattle.generate.specs.declared.Operands.{Operands}
 use Rattle.generate.specs.declared.Place.{Place}
-use Rattle.generate.specs.Steps.{choice, pastLatches}
+use Rattle.generate.specs.Steps.{choice, operandsOf, pastLatches}
 
 -- rows of one, two, three and six numbers
 pub line-one : (a : ℕ) → numberText a 0 ≡ lineOf a []
@@ -163,21 +164,26 @@ latches-end g first n literals total state v left h e f =
 
 -- ---- a gate whose operands were drawn
 
-module _ (g : Generator) (x y : Choice) (v k : ℕ) (e : x ≡ choice g (2 * v)) (f : y ≡ choice (x .generator) (2 * v)) (h : 0 < k) where
+module _ (g : Generator) (x : Operands) (v k : ℕ) (e : x ≡ operandsOf g (2 * v)) (h : 0 < k) where
   pub gate-line : gatesText (g .state) v k
-      ≡ lineOf (2 * v) (x .literal ∷ y .literal ∷ []) ++ gatesText (y .generator .state) (v + 1) (k - 1)
-  gate-line = rw (f, e) (gates-next (g .state) v k h)
+      ≡ lineOf (2 * v) (x .left ∷ x .right ∷ []) ++ gatesText (x .generator .state) (v + 1) (k - 1)
+  gate-line = rw e (gates-next (g .state) v k h)
 
   pub gate-longer : length (gatesText (g .state) v k)
-      ≡ length (digits (2 * v)) + length (digits (x .literal)) + length (digits (y .literal)) + 3
-      + length (gatesText (y .generator .state) (v + 1) (k - 1))
+      ≡ length (digits (2 * v)) + length (digits (x .left)) + length (digits (x .right)) + 3
+      + length (gatesText (x .generator .state) (v + 1) (k - 1))
   gate-longer =
       ap length gate-line
       ∙ omega (
         arith,
-        length-append (lineOf (2 * v) (x .literal ∷ y .literal ∷ [])) (gatesText (y .generator .state) (v + 1) (k - 1)),
-        three-length (2 * v) (x .literal) (y .literal),
+        length-append (lineOf (2 * v) (x .left ∷ x .right ∷ [])) (gatesText (x .generator .state) (v + 1) (k - 1)),
+        three-length (2 * v) (x .left) (x .right),
       )
+
+-- both draws, one after the other
+pub both-drawn : (g : Generator) (x y : Choice) (own : ℕ) → x ≡ choice g own → y ≡ choice (x .generator) own
+    → _≡_ {A = Operands} (record { left = x .literal; right = y .literal; generator = y .generator }) (operandsOf g own)
+both-drawn g x y own e f = rw (f, e)
 
 -- the header has at most 52 bytes, whatever the counts
 pub head-most : (I L A : ℕ) → length (headText I L A) ≤ 52

@@ -11,6 +11,7 @@ use Rattle.generated.specs.Generated.{after, picked, generatedText, Permitted}
 use Rattle.generated.specs.Parts.{latchesText}
 use Rattle.generate.specs.declared.Counts.{Counts}
 use Rattle.generate.specs.declared.Choice.{Choice}
+use Rattle.generate.specs.declared.Operands.{Operands}
 use Rattle.generate.specs.declared.Place.{Place}
 
 -- the counts are permitted
@@ -24,6 +25,15 @@ textOf seed n = generatedText seed (n .inputs) (n .latches) (n .gates)
 -- a draw picks one of n literals
 abbrev pub choice : Generator → ℕ → Choice
 choice g n = record { literal = picked n (step (g .state)); generator = startedAt (step (g .state)) }
+
+-- two draws pick two of the literals below `own`
+abbrev pub operandsOf : Generator → ℕ → Operands
+operandsOf g own =
+    record {
+      left = picked own (step (g .state));
+      right = picked own (step (step (g .state)));
+      generator = startedAt (step (step (g .state)));
+    }
 
 -- where the lines of latches end that begin at 0, and the generator after them
 abbrev pub pastLatches : Generator → ℕ → ℕ → ℕ → Place

@@ -11,7 +11,7 @@ ghost use Rattle.aiger.specs.Operations.{front};
 ghost use Rattle.output.specs.Output.{Room, Placed};
 ghost use Rattle.generated.specs.Generated.{fewEnough, countsPermitted, generatedText, Generated, Permitted};
 ghost use Rattle.generated.specs.Parts.{headText, inputsText, latchesText, badText, gatesText};
-ghost use Rattle.generate.specs.Steps.{choice, pastLatches, Numbers, LatchesPut, permittedCounts, textOf};
+ghost use Rattle.generate.specs.Steps.{choice, operandsOf, pastLatches, Numbers, LatchesPut, permittedCounts, textOf};
 ghost use Rattle.generate.specs.Answer.{answered};
 
 // How many inputs, latches and gates are asked for.
@@ -24,6 +24,13 @@ struct Counts {
 // A literal that was drawn, and the generator after it.
 struct Choice {
     literal: u32,
+    generator: Generator,
+}
+
+// The operands of a gate that were drawn, and the generator after them.
+struct Operands {
+    left: u32,
+    right: u32,
     generator: Generator,
 }
 
@@ -68,6 +75,21 @@ fn choose(before: Generator, n: u32) -> Choice
     Choice { literal, generator }
 }
 
+// Takes two draws: the first and then the second operand of the gate whose literal is `own`, each one of the literals below it.
+fn choose_operands(before: Generator, own: u32) -> Operands
+    requires { ⌜ 0 < own ⌝ }
+    ensures { λ r. ⌜ r ≡ operandsOf before own ⌝ }
+{
+    let one = choose(before, own);
+    let two = choose(one.generator, own);
+    let generator = two.generator;
+    Operands {
+        left: one.literal,
+        right: two.literal,
+        generator,
+    }
+}
+
 // The length of the header's line.
 fn head_length(n: Counts, all: u32) -> usize
     requires { ⌜ all ≡ n .inputs + n .latches + n .gates ⌝ }
@@ -93,8 +115,8 @@ fn inputs_length(first: u32, n: u32) -> usize
     total
 }
 
-// The length of the lines of the latches of n variables from `first` on, whose next literals are some of `literals`, and the generator after
-// them.
+// The length of the lines of the latches of n variables from `first` on, whose next literals are some of `literals`, and the generator
+// after them.
 fn latches_length(generator: Generator, first: u32, n: u32, literals: u32) -> Place
     requires { ⌜ Numbers first n literals ⌝ }
     ensures { λ r. ⌜ r ≡ pastLatches generator first n literals ⌝ }
@@ -127,13 +149,12 @@ fn gates_length(generator: Generator, first: u32, n: u32) -> usize
     let mut left = n;
     while 0 < left {
         let own = 2 * v;
-        let one = choose(state, own);
-        let two = choose(one.generator, own);
+        let of = choose_operands(state, own);
         total += numbers::digit_count(own)
-            + numbers::digit_count(one.literal)
-            + numbers::digit_count(two.literal)
+            + numbers::digit_count(of.left)
+            + numbers::digit_count(of.right)
             + 3;
-        state = two.generator;
+        state = of.generator;
         v += 1;
         left -= 1;
     }
@@ -233,10 +254,9 @@ fn put_gates(out: &mut [u8], from: Place, first: u32, n: u32) -> usize
     let mut left = n;
     while 0 < left {
         let own = 2 * v;
-        let one = choose(state, own);
-        let two = choose(one.generator, own);
-        end = put_three(out, end, own, one.literal, two.literal);
-        state = two.generator;
+        let of = choose_operands(state, own);
+        end = put_three(out, end, own, of.left, of.right);
+        state = of.generator;
         v += 1;
         left -= 1;
     }

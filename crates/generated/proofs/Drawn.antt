@@ -2,7 +2,7 @@
 use mathlib.Core.Path.{_≡_, refl, ap}
 use mathlib.Core.Bool.{Bool, true, _&&_, _||_}
 use mathlib.Core.List.{List, [], _∷_, map}
-use Prim.Native.Nat.{ℕ, zero, suc, _+_, _*_, _/_, _^_, _≤_, _<_}
+use Prim.Native.Nat.{ℕ, zero, suc, _+_, _*_, _≤_, _<_}
 use native.Mathlib.Nat.{mod-lt}
 use native.Mathlib.Omega.{arith}
 use lib.Dec.{T, leb, ltb, eqb, le→leb, lt→ltb}
@@ -16,7 +16,7 @@ use Rattle.generated.specs.Generated.{picked, drawnLatches, drawnGates}
 
 -- a picked literal is one of the n
 pub picked-below : (n d : ℕ) → 0 < n → picked n d < n
-picked-below n d h = mod-lt (d / 2 ^ 32) h
+picked-below n d h = mod-lt _ h
 
 pub drawn-latches : (n s v k : ℕ) → length (drawnLatches n s v k) ≡ k
 unfolding drawnLatches

@@ -4,3 +4,5 @@ pub mod Drawn
 pub mod Parts
 pub mod Short
 pub mod Loads
+pub mod Draws
+pub mod Theorems

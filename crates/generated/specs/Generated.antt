@@ -27,15 +27,15 @@ unfoldable pub drawnLatches : ℕ → ℕ → ℕ → ℕ → List Latch
 drawnLatches n s v zero = []
 drawnLatches n s v (suc k) = record { lit = 2 * v; next = picked n (step s); reset = 0 } ∷ drawnLatches n (step s) (suc v) k
 
--- gates of k variables from v on, where the generator is at s: each takes one draw for its first operand and then one for its second, of the
--- literals below its own. Operands are not sorted
+-- gates of k variables from v on, where the generator is at s: each takes one draw for its first operand and then one for its second, of
+-- the literals below its own. Operands are not sorted
 unfoldable pub drawnGates : ℕ → ℕ → ℕ → List Gate
 drawnGates s v zero = []
 drawnGates s v (suc k) =
     record { lit = 2 * v; left = picked (2 * v) (step s); right = picked (2 * v) (step (step s)) } ∷ drawnGates (step (step s)) (suc v) k
 
--- variables in the order inputs, latches, gates; a latch may go to any literal; the draws of the latches come first; the one bad line is the
--- last gate
+-- variables in the order inputs, latches, gates; a latch may go to any literal; the draws of the latches come first; the one bad line is
+-- the last gate
 unfoldable pub generated : ℕ → ℕ → ℕ → ℕ → Circuit
 generated seed I L A =
     record {

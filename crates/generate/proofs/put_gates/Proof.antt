@@ -29,41 +29,36 @@ loop-holds c =
 mul-own : tie.Need-mul-own Inv-loop μ-loop
 mul-own c = omega (arith, c .before .before .before .before .pre .1, c .before .loop .inv .0)
 
-choose-requires : tie.Need-choose-requires Inv-loop μ-loop
-choose-requires c κs = omega (arith, c .before .loop .inv .1)
-
-choose-requires-2 : tie.Need-choose-requires-2 Inv-loop μ-loop
-choose-requires-2 c κs = omega (arith, c .before .before .loop .inv .1)
+choose-operands-requires : tie.Need-choose-operands-requires Inv-loop μ-loop
+choose-operands-requires c κs = omega (arith, c .before .loop .inv .1)
 
 put-three-requires : tie.Need-put-three-requires Inv-loop μ-loop
 put-three-requires c κs =
-    let l = c .before .before .before .before .loop in
-    let x = c .before .before .choose in
-    let y = c .before .choose2 in
-    rest-room (lineOf (2 * l .v) (x .result .literal ∷ y .result .literal ∷ [])) (gatesText (y .result .generator .state) (l .v + 1) (l .left - 1))
-    (c .before .before .before .before .before .before .before .pre .2)
-    (rw (gate-line (l .state) (x .result) (y .result) (l .v) (l .left) (x .ensures) (y .ensures) (c .before .before .before .loop-test .taken)) at (l .inv .2))
+    let l = c .before .before .before .loop in
+    let x = c .before .choose-operands in
+    rest-room (lineOf (2 * l .v) (x .result .left ∷ x .result .right ∷ [])) (gatesText (x .result .generator .state) (l .v + 1) (l .left - 1))
+    (c .before .before .before .before .before .before .pre .2)
+    (rw (gate-line (l .state) (x .result) (l .v) (l .left) (x .ensures) (c .before .before .loop-test .taken)) at (l .inv .2))
 
 add-v : tie.Need-add-v Inv-loop μ-loop
-add-v c = omega (arith, c .before .before .before .before .before .before .before .before .before .before .before .pre .1, c .before .before .before .before .before .before .before .before .loop .inv .0)
+add-v c = omega (arith, c .before .before .before .before .before .before .before .before .before .before .pre .1, c .before .before .before .before .before .before .before .loop .inv .0)
 
 sub-left : tie.Need-sub-left Inv-loop μ-loop
-sub-left c = omega (arith, c .before .before .before .before .before .before .before .loop-test .taken)
+sub-left c = omega (arith, c .before .before .before .before .before .before .loop-test .taken)
 
 loop-less : tie.Need-loop-less Inv-loop μ-loop
-loop-less c = omega (arith, c .before .before .before .before .before .before .before .loop-test .taken)
+loop-less c = omega (arith, c .before .before .before .before .before .before .loop-test .taken)
 
 loop-again : tie.Need-loop-again Inv-loop μ-loop
 loop-again c =
-    let l = c .before .before .before .before .before .before .before .before .loop in
-    let x = c .before .before .before .before .before .before .choose in
-    let y = c .before .before .before .before .before .choose2 in
-    let t = c .before .before .before .before .before .before .before .loop-test .taken in (
+    let l = c .before .before .before .before .before .before .before .loop in
+    let x = c .before .before .before .before .before .choose-operands in
+    let t = c .before .before .before .before .before .before .loop-test .taken in (
       omega (arith, l .inv .0, t),
       omega (arith, l .inv .1),
-      rest-more (lineOf (2 * l .v) (x .result .literal ∷ y .result .literal ∷ [])) (gatesText (y .result .generator .state) (l .v + 1) (l .left - 1))
-          (c .before .before .before .before .before .before .before .before .before .before .before .pre .2)
-          (rw (gate-line (l .state) (x .result) (y .result) (l .v) (l .left) (x .ensures) (y .ensures) t) at (l .inv .2))
+      rest-more (lineOf (2 * l .v) (x .result .left ∷ x .result .right ∷ [])) (gatesText (x .result .generator .state) (l .v + 1) (l .left - 1))
+          (c .before .before .before .before .before .before .before .before .before .before .pre .2)
+          (rw (gate-line (l .state) (x .result) (l .v) (l .left) (x .ensures) t) at (l .inv .2))
           (c .before .before .before .put-three .ensures),
     )
 
@@ -79,5 +74,5 @@ pub put-gates-spec : {M : Type 1} → statement M
 put-gates-spec =
     tie.close
     (tie.spec
-    Inv-loop μ-loop loop-holds mul-own choose-requires choose-requires-2 put-three-requires add-v sub-left loop-less loop-again
-    same-length returns)
+    Inv-loop μ-loop loop-holds mul-own choose-operands-requires put-three-requires add-v sub-left loop-less loop-again same-length
+    returns)
