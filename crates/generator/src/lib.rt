@@ -58,9 +58,7 @@ impl Generator {
         ensures { λ r. ⌜ r ≡ drawnBy self ⌝ }
     {
         let value = step(self.state);
-        Draw {
-            value,
-            generator: Generator { state: value },
-        }
+        let generator = Generator { state: value };
+        Draw { value, generator }
     }
 }
