@@ -21,7 +21,7 @@ use Rattle.meaning.proofs.Shape.{not-odd}
 use Rattle.parting.proofs.Accepted.{reset-right}
 use Rattle.meaning.proofs.Defined.{noLatch, noGate, inputAt, latchAt, gateAt, definition, input-in, latch-in, gate-in}
 use Rattle.roundtrip.proofs.LoadWrite.{Valid, Counts, counts-fit}
-use Rattle.numbering.proofs.InOrder.{descends, InOrder, implied-length, implied-at, implied-append, order-defined, order-acyclic}
+use Rattle.numbering.proofs.InOrder.{descends, InOrder, implied-length, implied-at, implied-append, order-right, order-defined, order-acyclic}
 use Rattle.joined.specs.Joined.{literalUnder, latchUnder, gateUnder}
 use Rattle.renumbered.specs.Renumbered.{numbering, newNumber, sorted, renumbered}
 use Rattle.renumbered_laws.proofs.Taken.{Numbered}
@@ -76,42 +76,6 @@ implied-of xs v n e h =
 -- a literal of a definition under its number
 under-even : (σ : ℕ → ℕ) (l n : ℕ) → l % 2 ≡ 0 → σ (var l) ≡ n → literalUnder σ l ≡ 2 * n
 under-even σ l n e h = omega arith
-
--- definitions that are in order pass the tests of literals where what is used is not too large and the resets are right
-pub order-right : {d : Circuit} → InOrder d → T (every (λ l. leb l (2 * d .maxVar + 1)) (used d))
-    → T (every (λ l. leb (l .reset) 1 || eqb (l .reset) (l .lit)) (d .latches)) → T (literalsRight d)
-unfolding literalsRight
-order-right {d} o u r =
-    let M = d .maxVar in
-    let t0 = every (λ l. leb l (2 * M + 1)) (defined d ++ used d) in
-    let t1 = every (λ l. leb 2 l && not (odd l)) (defined d) in
-    let t2 = distinct (defined d) in
-    let t3 = every (λ l. leb (l .reset) 1 || eqb (l .reset) (l .lit)) (d .latches) in
-    let low : T t0 =
-    every-both (λ l. leb l (2 * M + 1)) (defined d) (used d)
-    (each (λ l. leb l (2 * M + 1)) (λ v h k. le→leb (2 * v) (2 * M + 1) (omega arith))) u in
-    let even : T t1 =
-    each (λ l. leb 2 l && not (odd l)) (λ v h k. and (leb 2 (2 * v)) (not (odd (2 * v))) (le→leb 2 (2 * v) (omega arith)) (not-odd v)) in
-    and t0 (t1 && (t2 && (t3 && true))) low (and t1 (t2 && (t3 && true)) even (and t2 (t3 && true) apart (and t3 true r tt)))
-  where
-    each : (p : ℕ → Bool) → ((v : ℕ) → 1 ≤ v → v ≤ d .maxVar → T (p (2 * v))) → T (every p (defined d))
-    each p h =
-        subst (λ (l : List ℕ). T (every p l)) (sym (o .definitions))
-        (every-in p (implied 1 (d .maxVar)) 0
-        (λ i k.
-        let b : i < d .maxVar = omega (arith, implied-length 1 (d .maxVar)) in
-        subst (λ (x : ℕ). T (p x)) (sym (implied-at 1 (d .maxVar) i b)) (h (1 + i) (omega arith) (omega arith))))
-
-    apart : T (distinct (defined d))
-    apart =
-        let ls = implied 1 (d .maxVar) in
-        subst (λ (l : List ℕ). T (distinct l)) (sym (o .definitions))
-        (pairwise-in (λ x y. not (eqb x y)) (implied 1 (d .maxVar)) 0
-        (λ i j h k.
-        let n : j < d .maxVar = omega (arith, implied-length 1 (d .maxVar)) in
-        let a = implied-at 1 (d .maxVar) i (omega arith) in
-        let b = implied-at 1 (d .maxVar) j n in
-        not-T (eqb (getD ls i 0) (getD ls j 0)) (λ t. let e = eqb→eq (getD ls i 0) (getD ls j 0) t in omega arith)))
 
 -- where each part of a circuit stands in order
 pub record Placed (d : Circuit) : Type 0 where

@@ -17,10 +17,10 @@ use Rattle.aiger.specs.Operations.{front, Loaded, Test, judge, Operated, Writte
 use Rattle.roundtrip.proofs.LoadValid.{gives-same, some-same}
 use Rattle.roundtrip.proofs.Holding.{one-circuit}
 
-refused-same : {A : Type 0} {n k : ℕ} → _≡_ {A = Answer A} (refused n) (refused k) → n ≡ k
+pub refused-same : {A : Type 0} {n k : ℕ} → _≡_ {A = Answer A} (refused n) (refused k) → n ≡ k
 refused-same e = cc
 
-never : {A : Type 0} {n : ℕ} {a : A} → refused n ≡ gives a → ⊥
+pub never : {A : Type 0} {n : ℕ} {a : A} → refused n ≡ gives a → ⊥
 never e = let z : _≡_ {A = ℕ} 0 1 = cc in omega arith
 
 -- load answers one thing and leaves one memory

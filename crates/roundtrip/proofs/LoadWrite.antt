@@ -91,7 +91,8 @@ bodyText c =
     ++ (linesOf (map literalRow (c .outputs))
     ++ (linesOf (map literalRow (c .bads)) ++ (linesOf (map literalRow (c .constraints)) ++ (linesOf (map gateRow (c .gates)) ++ [])))))
 
-body-text : (c : Circuit) → Fits c → body (headerOf c) (bodyText c) ≡ some c
+-- they are read back
+pub body-text : (c : Circuit) → Fits c → body (headerOf c) (bodyText c) ≡ some c
 unfolding body isTail
 body-text c f =
     simp (

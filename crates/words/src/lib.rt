@@ -1,7 +1,8 @@
 // Words of 64 patterns: bit p of a word serves pattern p.
+use generator::Generator;
 ghost use mathlib.Core.Path.{_≡_};
 ghost use mathlib.Core.Bool.{xor};
-ghost use Prim.Native.Nat.{ℕ, _<_, _+_, _*_, _%_, _^_};
+ghost use Prim.Native.Nat.{ℕ, _<_, _+_, _*_};
 ghost use Rattle.aiger.specs.Bits.{bit};
 ghost use Rattle.aiger.specs.Signature as Signature;
 
@@ -49,46 +50,20 @@ pub fn counting_word(k: usize, block: u64) -> u64
     if (block >> s) & 1 == 1 { u64::MAX } else { 0 }
 }
 
-// a * b, modulo 2^64.
-pub fn wrapping_mul(a: u64, b: u64) -> u64
-    ensures { λ r. ⌜ r ≡ (a * b) % 2 ^ 64 ⌝ }
-{
-    let mut sum: u64 = 0;
-    let mut x = a;
-    let mut y = b;
-    while y != 0 {
-        if y & 1 == 1 {
-            sum = std::num::wrapping_add_u64(sum, x);
-        }
-        x = std::num::wrapping_add_u64(x, x);
-        y = y >> 1;
-    }
-    sum
-}
-
-// The factor and the increment of Knuth's MMIX generator.
-const FACTOR: u64 = 6364136223846793005;
-
-const INCREMENT: u64 = 1442695040888963407;
-
-// The generator's next state.
-pub fn step(state: u64) -> u64
-    ensures { λ r. ⌜ r ≡ Signature.step state ⌝ }
-{
-    std::num::wrapping_add_u64(wrapping_mul(state, FACTOR), INCREMENT)
-}
-
 // The state after i steps from state 1.
 pub fn draw(i: u16) -> u64
     ensures { λ r. ⌜ r ≡ Signature.draw i ⌝ }
 {
-    let mut state: u64 = 1;
+    let mut value: u64 = 1;
+    let mut generator = Generator::seeded(value);
     let mut k: u16 = 0;
     while k < i {
-        state = step(state);
+        let drawn = generator.draw();
+        value = drawn.value;
+        generator = drawn.generator;
         k += 1;
     }
-    state
+    value
 }
 
 // The word of free bit j: it counts up for j below 6, and is a draw from 6 on.

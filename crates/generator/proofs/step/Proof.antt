@@ -1,11 +1,11 @@
--- `words::step` meets its contract. Assumes nothing.
+-- `generator::step` meets its contract. Assumes nothing.
 use Prim.Native.Nat.{_^_}
 use mathlib.Core.Path.{_∙_}
 use native.Mathlib.Nat.{mod-add-mod}
 use borrow.Author.Needs.{needs}
 use Rattle.aiger.specs.Signature as Signature
-use Rattle.words.proofs.step.Statement.{statement}
-use Rattle.words.proofs.step.Tie as tie
+use Rattle.generator.proofs.step.Statement.{statement}
+use Rattle.generator.proofs.step.Tie as tie
 
 returns : tie.Need-returns
 unfolding Signature.step

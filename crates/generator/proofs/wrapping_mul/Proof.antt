@@ -1,4 +1,4 @@
--- `words::wrapping_mul` meets its contract. The loop's invariant: sum + x * y is a * b, modulo 2^64. Assumes nothing.
+-- `generator::wrapping_mul` meets its contract. The loop's invariant: sum + x * y is a * b, modulo 2^64. Assumes nothing.
 use Prim.Native.Nat.{ℕ, _+_, _*_, _/_, _%_, _^_, _<_}
 use mathlib.Core.Path.{_≡_, sym, ap, ap₂, _∙_}
 use mathlib.Core.Logic.{⊎-elim}
@@ -6,9 +6,9 @@ use native.Mathlib.Nat.{zero-add}
 use native.Mathlib.Omega.{arith}
 use borrow.Author.Needs.{needs}
 use lib.Bits.{bitAnd, and-mask}
-use Rattle.words.proofs.Wrap.{even-turn, odd-turn, last-turn}
-use Rattle.words.proofs.wrapping_mul.Statement.{statement}
-use Rattle.words.proofs.wrapping_mul.Tie as tie
+use Rattle.generator.proofs.Wrap.{even-turn, odd-turn, last-turn}
+use Rattle.generator.proofs.wrapping_mul.Statement.{statement}
+use Rattle.generator.proofs.wrapping_mul.Tie as tie
 
 abbrev Inv-loop : tie.InvT-loop
 Inv-loop a b sum₀ x₀ y₀ sum x y = (sum < 2 ^ 64) × ((sum + x * y) % 2 ^ 64 ≡ (a * b) % 2 ^ 64)

@@ -1,0 +1,3 @@
+-- What the contracts of `generate` cite. Assumes nothing.
+pub mod Steps
+pub mod Answer

@@ -1,0 +1,1 @@
+// Circuits made from a seed and counts: definitions in specs/, theorems in proofs/. No code.

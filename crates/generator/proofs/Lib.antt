@@ -1,0 +1,2 @@
+-- The laws of `generator`. Assumes nothing.
+pub mod Wrap

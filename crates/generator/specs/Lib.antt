@@ -1,0 +1,2 @@
+-- What the contracts of `generator` cite. Assumes nothing.
+pub mod Draws
