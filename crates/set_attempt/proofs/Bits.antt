@@ -1,17 +1,17 @@
 -- The free bits of a sequence that is made of a start place and rows. Assumes nothing.
 use mathlib.Core.Path.{_≡_, refl, sym, ap, _∙_, subst}
 use mathlib.Core.Bool.{Bool, true, false, cond}
-use mathlib.Core.List.{List, [], _∷_}
+use mathlib.Core.List.{List}
 use Prim.Native.Nat.{ℕ, zero, suc, _+_, _-_, _*_, _/_, _%_, _^_, _≤_, _<_}
 use native.Mathlib.Nat.{mul-suc, mul-le-mul-left, mod-lt, div-add-mod'}
 use native.Mathlib.Decide.{decLt, ℕ-discrete}
 use native.Mathlib.Omega.{arith}
-use borrow.Author.Tests.{lt-ltb, le-ltb, ltb-true, ltb-false, eq-eqb, eqb-true}
-use lib.Dec.{T, ltb, eqb}
+use borrow.Author.Tests.{lt-ltb, le-ltb, ltb-true, ltb-false}
+use lib.Dec.{ltb}
 use lib.ListN.{length, getD}
 use Rattle.aiger.specs.Bits.{bit}
 use Rattle.aiger.specs.Frames.{freeBit}
-use Rattle.aiger.proofs.Tests.{true-T, T-true}
+use Rattle.aiger.proofs.Tests.{T-true}
 use Rattle.words.proofs.Bits.{join-low, join-high}
 use Rattle.machine.specs.Machine.{Machine}
 use Rattle.influence.specs.Cone.{keptBelow}
@@ -20,6 +20,7 @@ use Rattle.transitions.specs.Transitions.{rankIn}
 use Rattle.diagram_rows.specs.Inputs.{wideRow}
 use Rattle.diagram_rows.proofs.Inputs.{wide-same, wide-zero, wide-below}
 use Rattle.set_walk.specs.Walk.{bitsOf, prefixBy}
+use Rattle.set_stage.proofs.Starts.{rank-found, rank-below}
 use Rattle.set_attempt.specs.Bits.{inputValue, freeValue}
 
 module _ (m : Machine) (free width : ℕ) (rows-are : m .rows ≡ 2 ^ width) (first : ℕ → ℕ) (y : ℕ) (trace : List ℕ) where
@@ -75,26 +76,6 @@ module _ (m : Machine) (free width : ℕ) (rows-are : m .rows ≡ 2 ^ width) (fi
   ]
 
 -- ---- the inputs that matter
-
-rank-found : (ks : List ℕ) (j : ℕ) → rankIn ks j < length ks → getD ks (rankIn ks j) 0 ≡ j
-unfolding rankIn
-rank-found [] j l = absurd (omega arith)
-rank-found (k ∷ ks) j l = go (eqb k j) refl l (rank-found ks j)
-  where
-    go : (b : Bool) → eqb k j ≡ b → cond b 0 (suc (rankIn ks j)) < suc (length ks) → (rankIn ks j < length ks → getD ks (rankIn ks j) 0 ≡ j)
-        → getD (k ∷ ks) (cond b 0 (suc (rankIn ks j))) 0 ≡ j
-    go true e l ih = eqb-true k j e
-    go false e l ih = ih (omega arith)
-
-rank-below : (ks : List ℕ) (v : ℕ) → v < length ks → rankIn ks (getD ks v 0) < length ks
-unfolding rankIn
-rank-below [] v l = absurd (omega arith)
-rank-below (k ∷ ks) zero l = subst (λ (b : Bool). cond b 0 (suc (rankIn ks k)) < suc (length ks)) (sym (eq-eqb k k refl)) (omega arith)
-rank-below (k ∷ ks) (suc v) l = go (eqb k (getD ks v 0)) (rank-below ks v (omega arith))
-  where
-    go : (b : Bool) → rankIn ks (getD ks v 0) < length ks → cond b 0 (suc (rankIn ks (getD ks v 0))) < suc (length ks)
-    go true h = omega arith
-    go false h = omega arith
 
 module _ (matters : ℕ → Bool) (n r : ℕ) where
   abbrev inputs : List ℕ

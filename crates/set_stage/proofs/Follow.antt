@@ -1,30 +1,29 @@
 -- The steps of the code, each taken by the definitions. Assumes nothing.
-use mathlib.Core.Path.{_≡_, refl, sym, ap, ap₂, _∙_}
-use mathlib.Core.Bool.{Bool, true, false, cond}
+use mathlib.Core.Path.{_≡_, refl, sym, ap, _∙_}
+use mathlib.Core.Bool.{Bool, true, false}
 use mathlib.Core.List.{List, _++_}
-use mathlib.Core.Option.{Option, none, some}
-use Prim.Native.Nat.{ℕ, suc, _+_, _-_, _*_, _≤_, _<_}
+use Prim.Native.Nat.{ℕ, _+_, _*_, _≤_, _<_}
 use native.Mathlib.Omega.{arith}
 use borrow.Rule.Slice.PartMut.{putMid, midOf, put-same}
 use lib.ListN.{length, getD, take, drop}
 use lib.Seq.{drop-drop}
 use Rattle.aiger.specs.Circuit.{Circuit}
 use Rattle.diagrams.specs.States.{State, stateOf}
-use Rattle.diagram_rows.specs.Rows.{Filled, filled, wordsOf, leaves, Written, rowIn}
+use Rattle.diagram_rows.specs.Rows.{leaves, Written, rowIn}
 use Rattle.state_sets.specs.Shape.{rowAt}
-use Rattle.state_sets.specs.Sets.{Sets, Tried, tried, left, setsOf, turns}
-use Rattle.state_sets.proofs.Room.{row-is, row-small, row-order}
-use Rattle.set_stage.specs.Table.{RowRoom, splice, rowStoredIn, rowPut, rowsPut}
+use Rattle.state_sets.specs.Sets.{Sets, tried, left, turns}
+use Rattle.state_sets.proofs.Room.{row-is, row-small, row-inside}
+use Rattle.set_stage.specs.Table.{RowRoom, RowsRoom, splice, rowStoredIn, rowPut, rowsPut}
 
 -- ---- room
 
-pub room-less : (plan : List ℕ) (r k words : ℕ) → k ≤ r → RowRoom plan r words → RowRoom plan k words
-room-less plan r k words l h =
+pub room-of : (plan : List ℕ) (rows r words : ℕ) → r < rows → RowsRoom plan rows words → RowRoom plan r words
+room-of plan rows r words l h =
     record {
       counted = h .counted;
       vars = h .vars;
       rows = omega (arith, h .rows);
-      room = omega (arith, h .room, row-order (getD plan 0 0) k r l);
+      room = omega (arith, h .room, row-inside (getD plan 0 0) r rows l);
     }
 
 pub room-small : (plan : List ℕ) (r words : ℕ) → RowRoom plan r words → r * (getD plan 0 0 + 2) ≤ 4128

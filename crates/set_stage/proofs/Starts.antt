@@ -85,7 +85,7 @@ module _ (c : Circuit) where
 
 -- ---- ranks
 
-rank-found : (ks : List ℕ) (j : ℕ) → rankIn ks j < length ks → getD ks (rankIn ks j) 0 ≡ j
+pub rank-found : (ks : List ℕ) (j : ℕ) → rankIn ks j < length ks → getD ks (rankIn ks j) 0 ≡ j
 unfolding rankIn
 rank-found [] j l = absurd (omega arith)
 rank-found (k ∷ ks) j l = go (eqb k j) refl l (rank-found ks j)
@@ -95,7 +95,7 @@ rank-found (k ∷ ks) j l = go (eqb k j) refl l (rank-found ks j)
     go true e l ih = eqb-true k j e
     go false e l ih = ih (omega arith)
 
-rank-below : (ks : List ℕ) (v : ℕ) → v < length ks → rankIn ks (getD ks v 0) < length ks
+pub rank-below : (ks : List ℕ) (v : ℕ) → v < length ks → rankIn ks (getD ks v 0) < length ks
 unfolding rankIn
 rank-below [] v l = absurd (omega arith)
 rank-below (k ∷ ks) zero l = subst (λ (b : Bool). cond b 0 (suc (rankIn ks k)) < suc (length ks)) (sym (eq-eqb k k refl)) (omega arith)

@@ -34,6 +34,13 @@ pub record RowRoom (plan : List ℕ) (r words : ℕ) : Type 0 where
   pub rows : r ≤ 16
   pub room : rowAt (getD plan 0 0) r + getD plan 0 0 + 2 ≤ words
 
+-- there is room for the first rows of a plan in a table of so many words
+pub record RowsRoom (plan : List ℕ) (n words : ℕ) : Type 0 where
+  pub counted : 0 < length plan
+  pub vars : getD plan 0 0 ≤ 256
+  pub rows : n ≤ 16
+  pub room : rowAt (getD plan 0 0) n ≤ words
+
 -- row r of a plan is put into the table
 unfoldable pub rowPut : Circuit → ℕ → List ℕ → ℕ → Sets → Tried
 rowPut c b plan r z = rowStoredIn (getD plan 0 0) r (z .table) (rowIn c b plan r (z .state))

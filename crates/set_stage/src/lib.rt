@@ -69,7 +69,7 @@ pub fn put_rows(
     table: &mut [u32],
 ) -> bool
     requires { ⌜ Prepared (now m) layout ⌝ }
-    requires { ⌜ T.RowRoom (now plan) rows (length (now table)) ⌝ }
+    requires { ⌜ T.RowsRoom (now plan) rows (length (now table)) ⌝ }
     ensures { λ done. ⌜
         S.left (now (w .exit)) (now (table .exit)) done
         ≡ T.rowsPut (circuitIn (now (m .entry))) b (now (plan .entry)) rows (S.setsOf (now (w .entry)) (now (table .entry)))

@@ -6,13 +6,13 @@ ghost use Rattle.aiger.specs.Bits.{nonzero};
 ghost use Rattle.transitions.specs.Transitions.{rankIn};
 ghost use Rattle.set_attempt.specs.Bits.{inputValue, freeValue};
 
-// Where input i stands among those that matter, or their number.
-fn rank_of(inputs: &[u32], i: u32) -> usize
-    ensures { λ r. ⌜ r ≡ rankIn (now (inputs .entry)) i ⌝ }
+// Where x is found first in a list, or the length of the list.
+pub fn rank_of(list: &[u32], x: u32) -> usize
+    ensures { λ r. ⌜ r ≡ rankIn (now (list .entry)) x ⌝ }
 {
     let mut k = 0usize;
-    while k < inputs.len() {
-        if inputs[k] == i {
+    while k < list.len() {
+        if list[k] == x {
             return k;
         }
         k += 1;

@@ -8,7 +8,7 @@ use Rattle.layout.specs.Words.{circuitIn}
 use Rattle.state_sets.specs.Sets.{setsOf, left, turns}
 use Rattle.state_sets.proofs.Follow.{refused, granted, turns-none, turns-stop, turns-more}
 use Rattle.set_stage.specs.Table.{rowPut, rowsPut}
-use Rattle.set_stage.proofs.Follow.{room-less, rows-all}
+use Rattle.set_stage.proofs.Follow.{room-of, rows-all}
 use Rattle.set_stage.proofs.put_rows.Statement.{statement}
 use Rattle.set_stage.proofs.put_rows.Tie as tie
 
@@ -30,7 +30,7 @@ put-row-again-requires c κs =
     let s = c .before .before .before .before .before .before .before .before in
     let a = s .args in
     let l = c .before .before .before .loop in
-    (s .pre .0, rw (l .inv .1) (room-less (a .plan .now) (a .rows) (l .r) (length (a .table .now)) (omega arith) (s .pre .1)))
+    (s .pre .0, rw (l .inv .1) (room-of (a .plan .now) (a .rows) (l .r) (length (a .table .now)) (omega arith) (s .pre .1)))
 
 same-length : tie.Need-same-length Inv-loop μ-loop
 same-length c = c .before .before .before .before .before .put-row-again .kept .0 ∙ c .before .before .before .before .before .before .before .before .before .loop .inv .0

@@ -1,4 +1,4 @@
--- `trace_bits::rank_of` meets its contract. The invariant: no word before this one is the input. Assumes nothing.
+-- `trace_bits::rank_of` meets its contract. The invariant: no word before this one is x. Assumes nothing.
 use mathlib.Core.Path.{_≡_, refl, sym, ap, _∙_}
 use Prim.Native.Nat.{ℕ, suc, _+_, _-_, _*_, _≤_, _<_}
 use native.Mathlib.Omega.{arith}
@@ -11,10 +11,10 @@ use Rattle.trace_bits.proofs.rank_of.Reads as reads
 use Rattle.trace_bits.proofs.rank_of.Lts as lts
 
 abbrev Inv-loop : tie.InvT-loop
-Inv-loop inputs i k₀ k = (k ≤ length inputs) × NotBefore inputs i k
+Inv-loop list x k₀ k = (k ≤ length list) × NotBefore list x k
 
 abbrev μ-loop : tie.MeasureT-loop
-μ-loop inputs i k₀ k = length inputs - k
+μ-loop list x k₀ k = length list - k
 
 loop-holds : tie.Need-loop-holds Inv-loop μ-loop
 loop-holds c = (omega arith, λ u l. absurd (omega arith))
@@ -29,7 +29,7 @@ returns : tie.Need-returns Inv-loop μ-loop
 returns c =
     let a = c .before .before .before .before .args in
     let l = c .before .before .before .loop in
-    rank-here (a .inputs .now) (a .i) (l .k) (omega arith) (l .inv .1) (c .if1 .taken)
+    rank-here (a .list .now) (a .x) (l .k) (omega arith) (l .inv .1) (c .if1 .taken)
 
 add-k : tie.Need-add-k Inv-loop μ-loop
 add-k c = search needs
@@ -41,13 +41,13 @@ loop-again : tie.Need-loop-again Inv-loop μ-loop
 loop-again c =
     let a = c .before .before .before .before .args in
     let l = c .before .before .before .loop in
-    (omega arith, not-more (a .inputs .now) (a .i) (l .k) (l .inv .1) (c .if1 .left))
+    (omega arith, not-more (a .list .now) (a .x) (l .k) (l .inv .1) (c .if1 .left))
 
 returns-2 : tie.Need-returns-2 Inv-loop μ-loop
 returns-2 c =
     let a = c .before .before .args in
     let l = c .before .loop in
-    rank-none (a .inputs .now) (a .i) (l .k) (l .inv .0) (omega arith) (l .inv .1)
+    rank-none (a .list .now) (a .x) (l .k) (l .inv .0) (omega arith) (l .inv .1)
 
 pub rank-of-spec : {M : Type 1} → statement M
 rank-of-spec =
