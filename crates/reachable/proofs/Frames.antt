@@ -59,7 +59,7 @@ module _ (m : Machine) (q : ℕ → ℕ) (n t : ℕ) (es : List Entry) (lo : ℕ
   abbrev after : Option ℕ → Bool → Bool → Layered
   after o a b = elim o [
     | some z ↦ hit t (slotPlace m es lo z)
-    | none ↦ cond a (cond b never (layersFrom m q n (suc t) all (length es)))
+    | none ↦ cond a (cond b (never t) (layersFrom m q n (suc t) all (length es)))
         (gaveUp (suc t))
   ]
 
@@ -78,7 +78,7 @@ module _ (m : Machine) (q : ℕ → ℕ) (n t : ℕ) (es : List Entry) (lo : ℕ
         unrolled ∙ ap₂ (λ (o : Option ℕ) (a : Bool). after o a (eqb (length all) (length es))) e (lt-leb (length all) (q t) l)
 
     pub from-last : length (expanded m es lo (layerSlots m es lo)) ≤ q t → length (expanded m es lo (layerSlots m es lo)) ≡ length es
-        → layersFrom m q (suc n) t es lo ≡ never
+        → layersFrom m q (suc n) t es lo ≡ never t
     from-last l k =
         unrolled ∙ ap₂ (λ (o : Option ℕ) (a : Bool). after o a (eqb (length all) (length es))) e (le-leb (length all) (q t) l)
         ∙ ap (after none true) (eq-eqb (length all) (length es) k)
@@ -140,7 +140,7 @@ module _ (c : Part) (b first : ℕ) (limit : Limit) (k : ℕ) where
       rest-lost h = one-more ∙ from-lost m (quota c first limit) (k - t) t es lo e h ∙ ap gaveUp (sym (add-one t))
 
       pub rest-last : length (expanded (machineOf c b) es lo (layerSlots (machineOf c b) es lo)) ≤ quota c first limit t
-          → length (expanded (machineOf c b) es lo (layerSlots (machineOf c b) es lo)) ≡ length es → layered c b first limit k ≡ never
+          → length (expanded (machineOf c b) es lo (layerSlots (machineOf c b) es lo)) ≡ length es → layered c b first limit k ≡ never t
       rest-last h q = one-more ∙ from-last m (quota c first limit) (k - t) t es lo e h q
 
       pub rest-more : length (expanded (machineOf c b) es lo (layerSlots (machineOf c b) es lo)) ≤ quota c first limit t

@@ -52,12 +52,12 @@ module _ (m : Machine) (q : ℕ → ℕ) where
           (elim o [
             | some z ↦ hit t (slotPlace m es lo z)
             | none ↦ cond a
-                (cond b never (layersFrom m q n (suc t) (expanded m es lo (layerSlots m es lo)) (length es))) (gaveUp (suc t))
+                (cond b (never t) (layersFrom m q n (suc t) (expanded m es lo (layerSlots m es lo)) (length es))) (gaveUp (suc t))
           ])
           (elim o [
             | some z ↦ hit t (slotPlace m es lo z)
             | none ↦ cond a
-                (cond b never (layersFrom m q k (suc t) (expanded m es lo (layerSlots m es lo)) (length es))) (gaveUp (suc t))
+                (cond b (never t) (layersFrom m q k (suc t) (expanded m es lo (layerSlots m es lo)) (length es))) (gaveUp (suc t))
           ])
       go (some z) a b r = inr refl
       go none true true r = inr refl

@@ -154,13 +154,13 @@ module _ (c : Part) (b first : ℕ) (limit : Limit) (k : ℕ) where
 
       pub case-last : {met : ℕ} → a ≡ Next met → met ≡ hi → FoundOf c b first limit k records Ended
       unfolding FoundOf
-      case-last e w = let m = met-case e in rest-last c b first limit k t es lo rest (s .within) (m .0) (omega (
-        arith,
-        m .2,
-        m .1
-            .counted (m .2),
-      ))
-          (omega (arith, m .1 .counted (m .2), counted))
+      case-last e w =
+          let m = met-case e in (
+            t,
+            rest-last c b first limit k t es lo rest (s .within) (m .0) (omega (arith, m .2, m .1 .counted (m .2)))
+                (omega (arith, m .1 .counted (m .2), counted)),
+            s .within,
+          )
 
       pub met-few : {met : ℕ} → a ≡ Next met → met ≤ most
       met-few e = met-case e .2

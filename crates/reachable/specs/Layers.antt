@@ -27,13 +27,14 @@ FoundOf c b first limit k records (At t e row) =
     × Trace (2 ^ length (c .circuit .inputs)) (width c) records t e y × (row < 2 ^ length (c .circuit .inputs)) × (t ≤ k)
     × ((width c + 4) * e + (width c + 4) ≤ length records) × (length (c .circuit .inputs) ≤ 16)
 FoundOf c b first limit k records Nowhere = layered c b first limit k ≡ spec.clear
-FoundOf c b first limit k records Ended = layered c b first limit k ≡ spec.never
+FoundOf c b first limit k records Ended = (t : ℕ) × (layered c b first limit k ≡ spec.never t) × (t ≤ k)
 FoundOf c b first limit k records (Left t) = layered c b first limit k ≡ spec.gaveUp t
 
--- after a hit, working memory begins with the free bits of the first one
+-- After a hit, working memory begins with the free bits of the first one. That no frame at all has a hit is said where the layer of a frame
+-- up to k led to no new state.
 unfoldable pub LayersOf : Part → ℕ → ℕ → Limit → ℕ → List ℕ → Layers → Type 0
 LayersOf c b first limit k work (Hit t) =
     (x : ℕ) × (layered c b first limit k ≡ spec.hit t x) × (t ≤ k) × FreeBits (freeBits (c .circuit) t) x work
 LayersOf c b first limit k work Clear = layered c b first limit k ≡ spec.clear
-LayersOf c b first limit k work Never = layered c b first limit k ≡ spec.never
+LayersOf c b first limit k work Never = (t : ℕ) × (layered c b first limit k ≡ spec.never t) × (t ≤ k)
 LayersOf c b first limit k work (GaveUp t) = layered c b first limit k ≡ spec.gaveUp t

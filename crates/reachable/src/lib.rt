@@ -39,8 +39,8 @@ pub struct Stage {
     pub limit: Limit,
 }
 
-// What the frames have: the first frame with a hit; none up to the bound; none at all, however late; or the frame at which there were too
-// many states, and none before it.
+// What the frames have: the first frame with a hit; none up to the bound; none at all, however late, as the layer of a frame up to the
+// bound shows; or the frame at which there were too many states, and none before it.
 pub enum Layers {
     Hit(usize),
     Clear,

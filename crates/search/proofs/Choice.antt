@@ -15,15 +15,15 @@ use Rattle.aiger.specs.Operations.{shown}
 use Rattle.meaning.proofs.Outcomes.{Decided, first-witness}
 use Rattle.decision.specs.Reach.{decisionOf}
 use Rattle.decision.proofs.Deciding.{decided-says, decided-more}
-use Rattle.stages.specs.Endings.{Ending, Cut, Staged, stagedAt, FirstAt, StagedRight}
-use Rattle.stages.specs.Choice.{listed, outcomeOf, chosenFrom, seen, chosenBy}
+use Rattle.stages.specs.Endings.{Cut, Staged, stagedAt, NoHit, FirstAt, StagedRight}
+use Rattle.stages.specs.Choice.{listed, outcomeOf, chosenFrom, seen, chosenBy, isNever, neverBy}
 use Rattle.stages.proofs.Choice.{first-of, on-past}
 use Rattle.stages.proofs.Passing.{hit-seen, cut-seen}
 use Rattle.stages.proofs.Choice as stages
 use Rattle.stages.proofs.More as more
 use Rattle.staged.specs.Schedule.{stagesOf}
 use Rattle.staged.proofs.Sound.{stages-sound}
-use Rattle.search.specs.Chosen.{chosen}
+use Rattle.search.specs.Chosen.{chosen, neverChosen}
 use Rattle.search.specs.Steps.{Answered}
 
 module _ (c : Circuit) (b : ℕ) where
@@ -57,6 +57,22 @@ module _ (c : Circuit) (b : ℕ) where
       more.answer-stays (question c b) (stagesOf c b) (stages-sound c b) (decisionOf c b) (λ t D. decided-says c b t D (decisionOf c b
       t D) refl)
       (λ t D E h n. decided-more c b t D E h n) k D E small m d
+
+  -- the flag: no frame at all has a hit, the search chooses none, and the flag stays with every larger bound and every larger budget
+  pub never-none : (k D : ℕ) → T (neverChosen c b k D) → (t : ℕ) → NoHit (question c b) t
+  unfolding neverChosen
+  never-none k D h = stages.never-none (question c b) (stagesOf c b) (stages-sound c b) k D h
+
+  pub never-chosen : (k D : ℕ) → T (neverChosen c b k D) → chosen c b k D ≡ Outcome.none k
+  unfolding chosen neverChosen
+  never-chosen k D h = stages.never-chosen (question c b) (stagesOf c b) (stages-sound c b) k D h (decisionOf c b)
+
+  pub never-stays : (k k′ D E : ℕ) → k ≤ k′ → D ≤ E → T (neverChosen c b k D) → T (neverChosen c b k′ E)
+  unfolding neverChosen
+  never-stays k k′ D E l m h =
+      more.never-stays (question c b) (stagesOf c b) (stages-sound c b) (decisionOf c b) (λ t D. decided-says c b t D (decisionOf c b t
+      D) refl)
+      (λ t D E h n. decided-more c b t D E h n) k k′ D E l m h
 
 module _ (c : Circuit) (b k D : ℕ) where
   -- the outcome is what frames t to k give
@@ -92,8 +108,14 @@ module _ (c : Circuit) (b k D : ℕ) where
   unfolding chosen chosenBy
   stages-none e = ap (seen (λ t. decisionOf c b t D) k) e
 
-  pub stages-never : staged ≡ Staged.ends Ending.never → chosen c b k D ≡ Outcome.none k
-  stages-never e = stages-none (ap (stagedAt k) e)
+  pub stages-never : stagedAt k staged ≡ Cut.never → chosen c b k D ≡ Outcome.none k
+  unfolding chosen chosenBy
+  stages-never e = ap (seen (λ t. decisionOf c b t D) k) e
+
+  -- the flag of what is seen
+  pub stages-flag : {s : Cut} → stagedAt k staged ≡ s → neverChosen c b k D ≡ isNever s
+  unfolding neverChosen neverBy
+  stages-flag e = ap isNever e
 
   -- where they are cut off each frame is decided by itself
   pub stages-left : {t : ℕ} → stagedAt k staged ≡ Cut.cutOff t → (t ≤ k + 1) × Left t

@@ -12,13 +12,26 @@ use Rattle.aiger.specs.Witness.{witnessLength}
 use Rattle.aiger.specs.Operations.{need, budgetRight, Searched, SearchEffect, shown, front}
 use Rattle.meaning.proofs.Outcomes.{Decided, Found, None, Spent, answer-same, found-out, none-out, spent-out}
 use Rattle.roundtrip.proofs.Determined.{OneText, alike-held, acted, searched-same, shown-text, shownText}
-use Rattle.search.specs.Chosen.{chosen}
+use Rattle.stages.specs.Endings.{NoHit}
+use Rattle.search.specs.Chosen.{chosen, neverChosen}
 use Rattle.limits.proofs.Refusals.{passed}
-use Rattle.search.proofs.Choice.{chosen-permitted, answer-stays, found-stays, none-stays}
+use Rattle.search.proofs.Choice.{chosen-permitted, answer-stays, found-stays, none-stays, never-none, never-chosen, never-stays}
 
 -- the chosen outcome is always permitted, for every bound that is not refused
 pub always-permitted : (c : Circuit) (b k D : ℕ) → k ≤ 255 → T (permitted c b k D (chosen c b k D))
 always-permitted c b k D small = chosen-permitted c b k D small
+
+-- where the flag is true no frame at all has a hit, however late
+pub never-quiet : (c : Circuit) (b k D : ℕ) → T (neverChosen c b k D) → (t : ℕ) → NoHit (question c b) t
+never-quiet c b k D h = never-none c b k D h
+
+-- and none is chosen
+pub never-answer : (c : Circuit) (b k D : ℕ) → T (neverChosen c b k D) → chosen c b k D ≡ Outcome.none k
+never-answer c b k D h = never-chosen c b k D h
+
+-- it stays true with every larger bound and every larger budget
+pub never-kept : (c : Circuit) (b k k′ D E : ℕ) → k ≤ k′ → D ≤ E → T (neverChosen c b k D) → T (neverChosen c b k′ E)
+never-kept c b k k′ D E l m h = never-stays c b k k′ D E l m h
 
 -- earlier contents of working memory and output never matter, nor does which memory holds the circuit: two searches answer one thing and
 -- write one text

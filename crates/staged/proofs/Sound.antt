@@ -42,7 +42,7 @@ module _ (c : Circuit) (b : ℕ) where
     },
   )
   layers-right Layered.clear q = none-before 256 q
-  layers-right Layered.never q = λ t. none-at t (q t)
+  layers-right (Layered.never t) (l, q) = (omega arith, omega arith, λ u. none-at u (q u))
   layers-right (Layered.gaveUp t) (l, q) = (omega arith, l, none-before t q)
 
   pub layer-sound : (limit : ℕ) → Sound (question c b) (layersStage c b limit)

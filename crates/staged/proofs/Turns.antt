@@ -25,7 +25,7 @@ use Rattle.stages.specs.Layers.{ofLayers, fromStart, layersEnding}
 use Rattle.stages.specs.Choice.{listed, rounds, limitIn}
 use Rattle.stages.proofs.Layers.{layers-cut}
 use Rattle.stages.proofs.Lists.{rounds-sound}
-use Rattle.stages.proofs.Passing.{On, Passing, stage-passes, never-passes, none-left, next-round}
+use Rattle.stages.proofs.Passing.{On, Passing, stage-passes, none-left, next-round}
 use Rattle.attempts.specs.Stage.{conflictStage, Seen}
 use Rattle.attempts.specs.declared.Staged as attempts
 use Rattle.attempts.specs.declared.Staged.the-variants as attempted
@@ -82,11 +82,12 @@ given-past c k u work l = ap (λ (p : Bool). cond p (Cut.gaveUp u) Cut.none) (lt
 abbrev Other : machine.Layered → Type 0
 Other (machine.Layered.hit t x) = Unit {0}
 Other machine.Layered.clear = ⊥
-Other machine.Layered.never = Unit {0}
+Other (machine.Layered.never t) = Unit {0}
 Other (machine.Layered.gaveUp t) = Unit {0}
 
 abbrev Empty : Cut → Type 0
 Empty (Cut.hit t x) = Unit {0}
+Empty Cut.never = Unit {0}
 Empty Cut.none = ⊥
 Empty (Cut.gaveUp t) = Unit {0}
 Empty (Cut.cutOff t) = Unit {0}
@@ -94,7 +95,12 @@ Empty (Cut.cutOff t) = Unit {0}
 -- an ending that shows nothing shows nothing to a stage that begins later
 start-none : (k : ℕ) (e : Ending) (first : ℕ) → cutAt k e ≡ Cut.none → cutAt k (fromStart e first) ≡ Cut.none
 start-none k (Ending.hit t x) first h = h
-start-none k Ending.never first h = refl
+start-none k (Ending.never t) first h = go (leb t k) refl h
+  where
+    go : (p : Bool) → leb t k ≡ p → cond p Cut.never Cut.none ≡ Cut.none → cutAt k (Ending.never (max t first)) ≡ Cut.none
+    go true e d = absurd (subst Empty d tt)
+    go false e d =
+        let l = leb-false t k e in ap (λ (p : Bool). cond p Cut.never Cut.none) (lt-leb (max t first) k (omega arith))
 start-none k Ending.clear first h = refl
 start-none k (Ending.gaveUp t) first h = go (leb t k) refl h
   where
@@ -125,9 +131,12 @@ module _ (c : Circuit) (b k limit first D : ℕ) (small : k ≤ 255) where
           f,
         )
 
-    pub layers-never : r ≡ layers.Never → Shows c k (layersStage c b limit first D) work passed.Never
+    pub layers-never : first ≤ k → r ≡ layers.Never → Shows c k (layersStage c b limit first D) work passed.Never
     unfolding LayersOf
-    layers-never e = all-is machine.Layered.never tt (subst (LayersOf (partOf c b) b first (flat limit) k work) e h)
+    layers-never within e =
+        let (t, s, l) = subst (LayersOf (partOf c b) b first (flat limit) k work) e h in
+        ap (stagedAt k) (all-is (machine.Layered.never t) tt s)
+        ∙ ap (λ (p : Bool). cond p Cut.never Cut.none) (le-leb (max t first) k (omega arith))
 
     pub layers-left : {t : ℕ} → r ≡ layers.GaveUp t → layersStage c b limit first D ≡ Staged.ends (Ending.gaveUp (max t first))
     unfolding LayersOf
@@ -154,7 +163,8 @@ module _ (c : Circuit) (b k D : ℕ) (work : List ℕ) where
   )
   shows-passes s right ss sound first l n passed.Nothing e =
       subst (Passing (question c b) ss k D (listed (s ∷ ss) first D)) e (stage-passes (question c b) ss sound k D s right first l n)
-  shows-passes s right ss sound first l n passed.Never e = never-passes (question c b) ss sound k D s first e
+  shows-passes s right ss sound first l n passed.Never e =
+      subst (Passing (question c b) ss k D (listed (s ∷ ss) first D)) e (stage-passes (question c b) ss sound k D s right first l n)
   shows-passes s right ss sound first l n (passed.GaveUp t) e =
       let o : On (question c b) ss k D t (listed (s ∷ ss) first D) =
       subst (Passing (question c b) ss k D (listed (s ∷ ss) first D)) e (stage-passes (question c b) ss sound k D s right first l n) in

@@ -6,7 +6,7 @@ use Rattle.aiger.specs.Circuit.{Circuit}
 use Rattle.aiger.specs.Frames.{freeBits}
 use Rattle.aiger.specs.Search.{question}
 use Rattle.enumeration.specs.Frame.{FreeBits}
-use Rattle.stages.specs.Endings.{Ending, Cut, Staged, Stage, stagedAt, NoneBefore, AllSound}
+use Rattle.stages.specs.Endings.{Cut, Staged, Stage, stagedAt, NoneBefore, AllSound}
 use Rattle.stages.specs.Choice.{listed}
 use Rattle.staged.specs.declared.Passed.{Passed}
 use Rattle.staged.specs.declared.Passed.the-variants as passed
@@ -18,7 +18,7 @@ use Rattle.staged.specs.Schedule.{roundOf, stagesOf}
 abbrev pub Shows : Circuit → ℕ → Staged → List ℕ → Passed → Type 0
 Shows c k s work (passed.Hit t) = (x : ℕ) × (stagedAt k s ≡ Cut.hit t x) × FreeBits (freeBits c t) x work
 Shows c k s work passed.Nothing = stagedAt k s ≡ Cut.none
-Shows c k s work passed.Never = s ≡ Staged.ends Ending.never
+Shows c k s work passed.Never = stagedAt k s ≡ Cut.never
 Shows c k s work (passed.GaveUp t) = stagedAt k s ≡ Cut.gaveUp t
 Shows c k s work (passed.CutOff t) = stagedAt k s ≡ Cut.cutOff t
 
@@ -27,7 +27,7 @@ Shows c k s work (passed.CutOff t) = stagedAt k s ≡ Cut.cutOff t
 abbrev pub Passes : Circuit → (b k D : ℕ) → List Stage → Staged → List ℕ → Passed → Type 0
 Passes c b k D ss o work (passed.Hit t) = (x : ℕ) × (stagedAt k o ≡ Cut.hit t x) × FreeBits (freeBits c t) x work
 Passes c b k D ss o work passed.Nothing = stagedAt k o ≡ Cut.none
-Passes c b k D ss o work passed.Never = o ≡ Staged.ends Ending.never
+Passes c b k D ss o work passed.Never = stagedAt k o ≡ Cut.never
 Passes c b k D ss o work (passed.GaveUp t) = (t ≤ k) × NoneBefore (question c b) t × (o ≡ listed ss t D)
 Passes c b k D ss o work (passed.CutOff t) = stagedAt k o ≡ Cut.cutOff t
 
@@ -40,5 +40,5 @@ RoundIs c b k D first r work a =
 abbrev pub RoundsAre : Circuit → (b k D : ℕ) → List ℕ → Rounds → Type 0
 RoundsAre c b k D work (all.Hit t) = (x : ℕ) × (stagedAt k (listed (stagesOf c b) 0 D) ≡ Cut.hit t x) × FreeBits (freeBits c t) x work
 RoundsAre c b k D work all.Nothing = stagedAt k (listed (stagesOf c b) 0 D) ≡ Cut.none
-RoundsAre c b k D work all.Never = listed (stagesOf c b) 0 D ≡ Staged.ends Ending.never
+RoundsAre c b k D work all.Never = stagedAt k (listed (stagesOf c b) 0 D) ≡ Cut.never
 RoundsAre c b k D work (all.Left t) = stagedAt k (listed (stagesOf c b) 0 D) ≡ Cut.cutOff t

@@ -18,8 +18,8 @@ ghost use Rattle.attempts.specs.Stage.{StageFits, conflictStage};
 ghost use Rattle.staged.specs.Schedule.{layersStage};
 ghost use Rattle.staged.specs.Answers.{Shows, RoundIs, RoundsAre};
 
-// What the stages have come to: the first frame with a hit; no frame up to the bound has one; no frame at all has one, however late; or
-// the frame from which on each frame is decided by itself.
+// What the stages have come to: the first frame with a hit; no frame up to the bound has one; no frame at all has one, however late, which
+// is known at a frame up to the bound; or the frame from which on each frame is decided by itself.
 pub enum Rounds {
     Hit(usize),
     Nothing,

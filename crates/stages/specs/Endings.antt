@@ -21,7 +21,7 @@ pub data Staged : Type 0 where
   ends : Ending → Staged
   cutOff : ℕ → Staged
 
--- What a search with a bound sees of it: a hit up to the bound; no frame at all has a hit, where this is known up to the bound; no hit up to
+-- What a search with a bound sees of it: a hit up to the bound; no hit at all, where this is known at a frame up to the bound; no hit up to
 -- the bound; or a frame up to it at which the stage gives up or the list is cut off.
 pub data Cut : Type 0 where
   hit : ℕ → ℕ → Cut

@@ -45,7 +45,7 @@ returns-3 c =
     let f = c .before .before .before .before .search-layers in
     layers-never (circuitIn (s .m .now)) (s .q .b) (s .q .k) (s .limit) (s .first) (s .q .d) (c .before .before .before .before .before
     .before .before .before .before .pre .0 .bound) (f .last .1 .1 .1 .1 .0)
-    (f .result) (f .ensures) (c .enum-told2 .given .1)
+    (f .result) (f .ensures) (c .before .before .before .before .before .before .before .before .before .pre .1 .0) (c .enum-told2 .given .1)
 
 returns-4 : tie.Need-returns-4
 returns-4 c =
