@@ -22,6 +22,7 @@ use Rattle.diagrams.proofs.Values.{value-false, value-true, front-in}
 use Rattle.diagrams.proofs.Beginning.{begun-good}
 use Rattle.collection.specs.Collecting.{collected}
 use Rattle.diagram_rows.specs.Rows.{Plan, planOf, planLength}
+use Rattle.diagram_rows.specs.Inputs.{wideRow}
 use Rattle.state_sets.specs.Shape.{rowAt}
 use Rattle.state_sets.specs.Sets.{Sets, Tried, onDone, again}
 use Rattle.state_sets.specs.Meaning.{Values, valuesOf, Held}
@@ -31,7 +32,7 @@ use Rattle.state_sets.proofs.Sound.{values-front, values-same, values-other, va
 use Rattle.state_sets.proofs.Sound as sound
 use Rattle.set_stage.specs.Plans.{codeOf, Among}
 use Rattle.set_stage.specs.Table.{withResets, rowsPut}
-use Rattle.set_stage.proofs.Laid.{bare, Laid, rows-put-right, laid-held}
+use Rattle.set_stage.proofs.Laid.{bare, Laid, rows-put-right, laid-held, held-first}
 use Rattle.set_stage.proofs.Resets.{Starting, resets-right}
 use Rattle.set_attempt.specs.Attempt.{startStored, startStoredIn, startPut, rowsOf, tableMade, blankSets}
 
@@ -141,24 +142,35 @@ module _ (level : ℕ) (part : Part) (right : T (literalsRight (part .circuit)))
                 no = λ q. clash q;
               }
 
-  -- the table is ready for set 0
-  pub table-right : (z : Sets) → Bare z → tableMade (part .circuit) b plan z .done ≡ true
-      → Held level (machineOf part b) (2 ^ length (part .kept)) (codeOf part (planOf plan .latches)) (length (planOf plan .latches)) (rowsOf plan) 0 0
-      (tableMade (part .circuit) b plan z .sets)
+  -- all rows of the table are made
+  table-laid : (z : Sets) → Bare z → tableMade (part .circuit) b plan z .done ≡ true
+      → Laid level part b plan (fit .whole) (rowsOf plan) (rowsOf plan) (tableMade (part .circuit) b plan z .sets)
   unfolding tableMade
-  table-right z h =
+  table-laid z h =
       go (again (startPut c latches rows) z .done) refl (sound.again-right Bare (Laid level part b plan (fit .whole) (rowsOf plan) 0) (startPut c latches rows) start-put-right bare-collected z h)
     where
       go : (d : Bool) → again (startPut (part .circuit) (planOf plan .latches) (rowsOf plan)) z .done ≡ d
           → (again (startPut (part .circuit) (planOf plan .latches) (rowsOf plan)) z .done ≡ true
           → Laid level part b plan (fit .whole) (rowsOf plan) 0 (again (startPut (part .circuit) (planOf plan .latches) (rowsOf plan)) z .sets))
           → onDone d (again (startPut (part .circuit) (planOf plan .latches) (rowsOf plan)) z .sets) (rowsPut (part .circuit) b plan (rowsOf plan)) .done ≡ true
-          → Held level (machineOf part b) (2 ^ length (part .kept)) (codeOf part (planOf plan .latches)) (length (planOf plan .latches)) (rowsOf plan) 0 0
+          → Laid level part b plan (fit .whole) (rowsOf plan) (rowsOf plan)
           (onDone d (again (startPut (part .circuit) (planOf plan .latches) (rowsOf plan)) z .sets) (rowsPut (part .circuit) b plan (rowsOf plan)) .sets)
       go false q k e = clash (sym e)
-      go true q k e =
-          laid-held level part b plan (fit .whole) rows right no-cycle listed (fit .among) (fit .matters) (fit .inputs) refl _
-          (rows-put-right level part b plan (fit .whole) rows (again (startPut c latches rows) z .sets) (k q) e)
+      go true q k e = rows-put-right level part b plan (fit .whole) rows (again (startPut c latches rows) z .sets) (k q) e
+
+  -- the table is ready for set 0
+  pub table-right : (z : Sets) → Bare z → tableMade (part .circuit) b plan z .done ≡ true
+      → Held level (machineOf part b) (2 ^ length (part .kept)) (codeOf part (planOf plan .latches)) (length (planOf plan .latches)) (rowsOf plan) 0 0
+      (tableMade (part .circuit) b plan z .sets)
+  table-right z h e =
+      laid-held level part b plan (fit .whole) rows right no-cycle listed (fit .among) (fit .matters) (fit .inputs) refl _ (table-laid z h e)
+
+  -- and row k of it is the least row of the machine with its bits at the inputs that matter
+  pub table-first : (z : Sets) (h : Bare z) (e : tableMade (part .circuit) b plan z .done ≡ true) (k : ℕ)
+      → table-right z h e .standing .rows-of .first k ≡ wideRow (fit .matters) (length (part .circuit .inputs)) k
+  unfolding table-right
+  table-first z h e k =
+      held-first level part b plan (fit .whole) rows right no-cycle listed (fit .among) (fit .matters) (fit .inputs) refl _ (table-laid z h e) k
 
   -- what an attempt begins with
   pub blank-bare : (words looks : ℕ) → 16 ≤ words → Bare (blankSets words looks)

@@ -17,7 +17,7 @@ use Rattle.layout.specs.Order.{depthFirst}
 use Rattle.meaning.specs.Frame.{inputAt}
 use Rattle.influence.specs.Part.{Part, Listed, Closed}
 use Rattle.influence.specs.Cone.{marked, marks}
-use Rattle.diagram_rows.specs.Rows.{Plan, planOf}
+use Rattle.diagram_rows.specs.Rows.{Plan, planOf, planLength}
 use Rattle.row_plans.specs.Plans.{inputsOf, gatesOf, listed, planned, planWords}
 use Rattle.row_plans.proofs.Kept.{marks-small}
 use Rattle.row_plans.proofs.Read.{plan-read, plan-fits, planned-inputs, planned-size, planned-kept}
@@ -64,10 +64,10 @@ module _ (part : Part) (right : T (literalsRight (part .circuit))) (no-cycle : T
   planAt w = planned c (marks c b) (depthFirst c) w (part .kept)
 
   -- what is tested before the stage tries
-  record May (first : ℕ) : Type 0 where
-    vars : length (part .kept) ≤ 256
-    inputs : length (inputsOf (part .circuit) (marks (part .circuit) b)) ≤ 4
-    large : 1024 ≤ size (part .circuit) first
+  pub record May (first : ℕ) : Type 0 where
+    pub vars : length (part .kept) ≤ 256
+    pub inputs : length (inputsOf (part .circuit) (marks (part .circuit) b)) ≤ 4
+    pub large : 1024 ≤ size (part .circuit) first
 
   may-try : (first : ℕ) → mayTry part b first ≡ true → May first
   may-try first e =
@@ -98,16 +98,22 @@ module _ (part : Part) (right : T (literalsRight (part .circuit))) (no-cycle : T
           ap length (planned-inputs c (marks c b) (depthFirst c) w (part .kept)),
         )
 
-    plan-is : planOf (planIn part b w) ≡ planAt w
+    -- the plan in words, read
+    pub plan-is : planOf (planIn part b w) ≡ planned (part .circuit) (marks (part .circuit) b) (depthFirst (part .circuit)) w (part .kept)
     plan-is = plan-read (planAt w) (replicate 4608 0) plan-room
 
-    plan-fit : isDistinct (planOf (planIn part b w) .latches) ≡ true → Fit part (planIn part b w)
+    -- it is there as a whole
+    pub plan-whole : planLength (planIn part b w) ≤ length (planIn part b w)
+    plan-whole = plan-fits (planAt w) (replicate 4608 0) plan-room
+
+    -- a plan whose latches are distinct fits
+    pub plan-fit : isDistinct (planOf (planIn part b w) .latches) ≡ true → Fit part (planIn part b w)
     plan-fit e =
         let kept =
         planned-kept part (marks c b) (depthFirst c) w (marks-small c b) (omega (arith, may .vars))
         (λ i l. omega (arith, closed .listed .inside i l)) in
         record {
-          whole = plan-fits (planAt w) (replicate 4608 0) plan-room;
+          whole = plan-whole;
           among =
               record {
                 kept = subst (λ (p : Plan). (v : ℕ) → v < length (p .latches) → (i : ℕ) × (i < length (part .kept)) × (getD (part .kept) i 0 ≡ getD (p .latches) v 0))

@@ -24,6 +24,7 @@ use Rattle.diagrams.proofs.Values.{front-in}
 use Rattle.diagrams.proofs.Sound.{vector-more}
 use Rattle.collection.specs.Collecting.{collected}
 use Rattle.diagram_rows.specs.Rows.{Plan, planOf, planLength, Filled, filled, rowMade, rowIn}
+use Rattle.diagram_rows.specs.Inputs.{wideRow}
 use Rattle.diagram_rows.specs.Meaning.{Matches, RowMeans, Got, no-words, has-words, RightFilled}
 use Rattle.diagram_rows.proofs.Sound.{row-right}
 use Rattle.state_sets.specs.Shape.{rowAt}
@@ -35,7 +36,7 @@ use Rattle.state_sets.proofs.Sound.{values-front, values-at, word-in, Did, turn
 use Rattle.set_stage.specs.Plans.{codeOf, Among, RowValued, RowsMade}
 use Rattle.set_stage.specs.Table.{splice, rowStored, rowStoredIn, rowPut, rowsPut}
 use Rattle.set_stage.proofs.Splice.{splice-length, splice-before, splice-in, splice-after}
-use Rattle.set_stage.proofs.Rows.{rows-of}
+use Rattle.set_stage.proofs.Rows.{rows-of, rows-first}
 
 -- terms without vectors
 abbrev pub bare : ℕ → Terms
@@ -258,3 +259,10 @@ module _ (level : ℕ) (part : Part) (b : ℕ) (plan : List ℕ) (whole : planLe
                 part = λ s l. h .said .blank 257 _ (omega arith);
               };
         }
+
+    -- row k of the table is the least row of the machine with its bits at the inputs that matter
+    pub held-first : (z : Sets) (h : Laid rows z) (k : ℕ) → laid-held z h .standing .rows-of .first k ≡ wideRow matters (length (part .circuit .inputs)) k
+    unfolding laid-held
+    held-first z h k =
+        rows-first part right no-cycle listed b p among matters inputs rows rows-is (valuesOf (z .state .nodes) (z .table)) (h .said .made)
+        (h .said .start) k

@@ -152,3 +152,9 @@ module _ (part : Part) (right : T (literalsRight (part .circuit))) (no-cycle : T
         alike = λ r s l sl. row-alike r s (subst (λ (x : ℕ). r < x) (rows-are part b) l);
         begins = begins;
       }
+
+  -- row k of the table is the least row of the machine with its bits at the inputs that matter
+  pub rows-first : (begins : (y : ℕ) → y < machineOf part b .starts → vs (rowAt (length (p .latches)) rows) (codeOf part (p .latches) (machineOf part b .start y)) ≡ true)
+      → (k : ℕ) → rows-of begins .first k ≡ wideRow matters (length (part .circuit .inputs)) k
+  unfolding rows-of
+  rows-first begins k = refl

@@ -1,10 +1,14 @@
 -- Every stage of the rounds says what is so. Assumes nothing.
-use mathlib.Core.Path.{_≡_, sym, subst}
+use mathlib.Core.Path.{_≡_, refl, sym, subst}
+use mathlib.Core.Bool.{Bool, true, false, cond, _&&_}
 use Prim.Native.Nat.{ℕ, _≤_, _<_}
 use native.Mathlib.Omega.{arith}
-use lib.Dec.{T}
-use Rattle.aiger.specs.Circuit.{Circuit}
+use borrow.Author.Tests.{leb-true}
+use lib.Dec.{T, leb}
+use lib.ListN.{length}
+use Rattle.aiger.specs.Circuit.{Circuit, literalsRight, acyclic}
 use Rattle.aiger.specs.Search.{question}
+use Rattle.aiger.proofs.Tests.{T-true, true-T, and-left, and-right}
 use Rattle.machine.specs.Layers.{Layered, layered}
 use Rattle.machine.proofs.Theorems.{Quiet, QuietBefore, Says, layered-says}
 use Rattle.influence.specs.Cone.{partOf}
@@ -12,13 +16,15 @@ use Rattle.influence.proofs.Cone.{part-closed}
 use Rattle.transitions.specs.Transitions.{machineOf}
 use Rattle.transitions.proofs.Bridge.{fair, reaches-of, prefixes-of}
 use Rattle.reachable.specs.Quota.{quota}
-use Rattle.stages.specs.Endings.{NoHit, NoneBefore, EndsRight, Sound, AllSound}
+use Rattle.stages.specs.Endings.{Ending, NoHit, NoneBefore, EndsRight, Sound, AllSound}
 use Rattle.stages.specs.Layers.{ofLayers}
 use Rattle.stages.specs.Choice.{limitIn}
-use Rattle.stages.proofs.Lists.{rounds-sound}
+use Rattle.stages.proofs.Lists.{any-budget, rounds-sound}
 use Rattle.stages.proofs.Layers.{layers-sound}
+use Rattle.set_attempt.specs.Stage.{stageEnding}
+use Rattle.set_attempt.proofs.Stage.{stage-sound}
 use Rattle.attempts.proofs.Sound.{conflict-sound}
-use Rattle.staged.specs.Schedule.{flat, layersStage, roundOf, stagesOf}
+use Rattle.staged.specs.Schedule.{flat, layersStage, isProper, setsStage, shareIn, laterOf, roundOf, stagesOf}
 
 module _ (c : Circuit) (b : ℕ) where
   -- a frame of the machine without a hit is one of the circuit without a hit
@@ -53,8 +59,34 @@ module _ (c : Circuit) (b : ℕ) where
       (λ first. layers-right (layered m (quota (partOf c b) first (flat limit)) 256)
       (layered-says m (fair (partOf c b) b) (quota (partOf c b) first (flat limit)) 256))
 
+  -- the sets of states say what is so, where the circuit is one that memory can hold
+  sets-right : (share first : ℕ) → first ≤ 256 → NoneBefore (question c b) first → (p : Bool) → isProper c ≡ p
+      → EndsRight (question c b) first (cond p (stageEnding (partOf c b) b share first) (Ending.gaveUp first))
+  unfolding isProper
+  sets-right share first l n false e = (omega arith, l, n)
+  sets-right share first l n true e =
+      let right = literalsRight c in
+      let order = acyclic c in
+      let gates = leb (length (c .gates)) 4096 in
+      let latches = leb (length (c .latches)) 4096 in
+      let t = T-true e in
+      let u = and-right right (order && (gates && latches)) t in
+      let v = and-right order (gates && latches) u in
+      stage-sound (partOf c b) (and-left right (order && (gates && latches)) t) (and-left order (gates && latches) u) b (part-closed c b)
+      (leb-true (length (c .gates)) 4096 (true-T gates (and-left gates latches v)))
+      (leb-true (length (c .latches)) 4096 (true-T latches (and-right gates latches v))) share .right first 0 l n
+
+  pub sets-sound : (share : ℕ) → Sound (question c b) (setsStage c b share)
+  unfolding setsStage
+  sets-sound share =
+      any-budget (question c b) (λ first. cond (isProper c) (stageEnding (partOf c b) b share first) (Ending.gaveUp first))
+      (λ first l n. sets-right share first l n (isProper c) refl)
+
+  pub later-sound : (r : ℕ) → AllSound (question c b) (laterOf c b r)
+  later-sound r = (sets-sound (shareIn r), (conflict-sound c b (limitIn 6000 r), tt))
+
   pub round-sound : (r : ℕ) → AllSound (question c b) (roundOf c b r)
-  round-sound r = (layer-sound (limitIn 300000 r), (conflict-sound c b (limitIn 6000 r), tt))
+  round-sound r = (layer-sound (limitIn 300000 r), later-sound r)
 
   pub stages-sound : AllSound (question c b) (stagesOf c b)
   unfolding stagesOf

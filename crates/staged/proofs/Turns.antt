@@ -1,16 +1,21 @@
 -- What the code of the stages says, stage by stage and round by round. Assumes nothing.
 use mathlib.Core.Path.{_≡_, refl, sym, ap, _∙_, subst}
-use mathlib.Core.Bool.{Bool, true, false, cond}
+use mathlib.Core.Bool.{Bool, true, false, cond, _&&_}
 use mathlib.Core.List.{List, [], _∷_, _++_}
 use Prim.Native.Nat.{ℕ, zero, suc, _+_, _-_, _*_, _%_, _^_, _≤_, _<_, max}
 use native.Mathlib.Nat.{pow-suc, pow-le-pow-right, mul-le-mul-right}
 use native.Mathlib.Omega.{arith}
 use borrow.Author.Tests.{le-leb, lt-leb, leb-false}
 use lib.Dec.{leb}
+use lib.ListN.{length}
 use lib.Pow.{pow-add}
-use Rattle.aiger.specs.Circuit.{Circuit}
+use Rattle.aiger.specs.Circuit.{Circuit, literalsRight, acyclic}
 use Rattle.aiger.specs.Frames.{freeBits}
 use Rattle.aiger.specs.Search.{question}
+use Rattle.aiger.proofs.Tests.{true-T}
+use Rattle.layout.specs.Words.{circuitIn}
+use Rattle.layout.specs.declared.Layout.{Layout}
+use Rattle.frames.specs.Lanes.{Ready}
 use Rattle.enumeration.specs.Frame.{FreeBits}
 use Rattle.machine.specs.Layers as machine
 use Rattle.influence.specs.Cone.{partOf}
@@ -26,15 +31,20 @@ use Rattle.stages.specs.Choice.{listed, rounds, limitIn}
 use Rattle.stages.proofs.Layers.{layers-cut}
 use Rattle.stages.proofs.Lists.{rounds-sound}
 use Rattle.stages.proofs.Passing.{On, Passing, stage-passes, none-left, next-round}
+use Rattle.set_attempt.specs.Stage.{stageEnding}
+use Rattle.set_search.specs.Search.{SetsOf}
+use Rattle.set_search.specs.declared.Searched.{Searched}
+use Rattle.set_search.specs.declared.Searched.the-variants as searched
+use Rattle.set_search.proofs.Plans.{proper}
 use Rattle.attempts.specs.Stage.{conflictStage, Seen}
 use Rattle.attempts.specs.declared.Staged as attempts
 use Rattle.attempts.specs.declared.Staged.the-variants as attempted
 use Rattle.attempts.proofs.Sound.{conflict-sound}
 use Rattle.staged.specs.declared.Passed.{Passed}
 use Rattle.staged.specs.declared.Passed.the-variants as passed
-use Rattle.staged.specs.Schedule.{flat, layersStage, roundOf, stagesOf}
-use Rattle.staged.specs.Answers.{Shows, Passes, RoundIs}
-use Rattle.staged.proofs.Sound.{layer-sound, round-sound}
+use Rattle.staged.specs.Schedule.{flat, layersStage, isProper, setsStage, shareIn, laterOf, roundOf, stagesOf}
+use Rattle.staged.specs.Answers.{Shows, Passes, LaterIs, RoundIs}
+use Rattle.staged.proofs.Sound.{layer-sound, sets-sound, round-sound}
 
 -- ---- limits
 
@@ -151,6 +161,37 @@ module _ (c : Circuit) (b k limit first D : ℕ) (small : k ≤ 255) where
         (layers-cut m n k small
         ∙ ap (λ (o : machine.Layered). cutAt k (ofLayers o)) (subst (LayersOf (partOf c b) b first (flat limit) k work) e h))
 
+-- ---- the sets of states
+
+-- a circuit in memory
+pub is-proper : {m : List ℕ} {layout : Layout} {order : List ℕ} {n : ℕ} → Ready m layout order n → isProper (circuitIn m) ≡ true
+unfolding isProper
+is-proper {m} r =
+    let c = circuitIn m in
+    let p = proper r in
+    ap (λ (x : Bool). x && (acyclic c && (leb (length (c .gates)) 4096 && leb (length (c .latches)) 4096))) (true-T (literalsRight c) (p .right))
+    ∙ ap (λ (x : Bool). x && (leb (length (c .gates)) 4096 && leb (length (c .latches)) 4096)) (true-T (acyclic c) (p .no-cycle))
+    ∙ ap (λ (x : Bool). x && leb (length (c .latches)) 4096) (le-leb (length (c .gates)) 4096 (p .gates))
+    ∙ le-leb (length (c .latches)) 4096 (p .latches)
+
+module _ (c : Circuit) (b k share first D : ℕ) (right : isProper c ≡ true) (work : List ℕ) (r : Searched) (h : SetsOf c b first share k work r) where
+  -- what is seen of the sets is what is seen of the stage
+  seen-of : stagedAt k (setsStage c b share first D) ≡ cutAt k (stageEnding (partOf c b) b share first)
+  unfolding setsStage
+  seen-of = ap (λ (p : Bool). cutAt k (cond p (stageEnding (partOf c b) b share first) (Ending.gaveUp first))) right
+
+  pub sets-hit : {t : ℕ} → r ≡ searched.Hit t → Shows c k (setsStage c b share first D) work (passed.Hit t)
+  sets-hit {t} e = let (x, q, f) = subst (SetsOf c b first share k work) e h in (x, seen-of ∙ q, f)
+
+  pub sets-clear : r ≡ searched.Clear → Shows c k (setsStage c b share first D) work passed.Nothing
+  sets-clear e = seen-of ∙ subst (SetsOf c b first share k work) e h
+
+  pub sets-never : r ≡ searched.Never → Shows c k (setsStage c b share first D) work passed.Never
+  sets-never e = seen-of ∙ subst (SetsOf c b first share k work) e h
+
+  pub sets-gave-up : {t : ℕ} → r ≡ searched.GaveUp t → Shows c k (setsStage c b share first D) work (passed.GaveUp t)
+  sets-gave-up {t} e = seen-of ∙ subst (SetsOf c b first share k work) e h
+
 -- ---- a stage of the list
 
 module _ (c : Circuit) (b k D : ℕ) (work : List ℕ) where
@@ -175,14 +216,30 @@ module _ (c : Circuit) (b k D : ℕ) (work : List ℕ) where
   -- the layers of round r
   pub first-stage : (first r : ℕ) → first ≤ 256 → NoneBefore (question c b) first → {limit : ℕ} → limit ≡ limitIn 300000 r → {a x : Passed}
       → a ≡ x → Shows c k (layersStage c b limit first D) work a → (ss : List Stage) → AllSound (question c b) ss
-      → Passes c b k D (conflictStage c b (limitIn 6000 r) ∷ ss) (listed (roundOf c b r ++ ss) first D) work x
+      → Passes c b k D (laterOf c b r ++ ss) (listed (roundOf c b r ++ ss) first D) work x
   first-stage first r l n {limit} q {a} {x} e h ss sound =
-      shows-passes (layersStage c b (limitIn 300000 r)) (layer-sound c b (limitIn 300000 r)) (conflictStage c b (limitIn 6000 r) ∷ ss)
-      (conflict-sound c b (limitIn 6000 r), sound) first l n x
+      shows-passes (layersStage c b (limitIn 300000 r)) (layer-sound c b (limitIn 300000 r)) (laterOf c b r ++ ss)
+      (sets-sound c b (shareIn r), (conflict-sound c b (limitIn 6000 r), sound)) first l n x
       (subst (Shows c k (layersStage c b (limitIn 300000 r) first D) work) e
       (subst (λ (i : ℕ). Shows c k (layersStage c b i first D) work a) q h))
 
-  -- its attempts, from where the layers give up
+  -- what comes after them, from where they give up
+  pub later-stages : (r t : ℕ) (ss : List Stage) → AllSound (question c b) ss → (o : Staged)
+      → ((t ≤ k) × NoneBefore (question c b) t × (o ≡ listed (laterOf c b r ++ ss) t D)) → (a : Passed) → LaterIs c b k D t r work a
+      → Passes c b k D ss o work a
+  later-stages r t ss sound o (l, n, e) a h = subst (λ (z : Staged). Passes c b k D ss z work a) (sym e) (h ss sound)
+
+  -- the sets of states of round r
+  pub sets-stage : (first r : ℕ) → first ≤ 256 → NoneBefore (question c b) first → {share : ℕ} → share ≡ shareIn r → {a x : Passed}
+      → a ≡ x → Shows c k (setsStage c b share first D) work a → (ss : List Stage) → AllSound (question c b) ss
+      → Passes c b k D (conflictStage c b (limitIn 6000 r) ∷ ss) (listed (laterOf c b r ++ ss) first D) work x
+  sets-stage first r l n {share} q {a} {x} e h ss sound =
+      shows-passes (setsStage c b (shareIn r)) (sets-sound c b (shareIn r)) (conflictStage c b (limitIn 6000 r) ∷ ss)
+      (conflict-sound c b (limitIn 6000 r), sound) first l n x
+      (subst (Shows c k (setsStage c b (shareIn r) first D) work) e
+      (subst (λ (i : ℕ). Shows c k (setsStage c b i first D) work a) q h))
+
+  -- its attempts, from where the sets give up
   pub second-stage : (r t : ℕ) (ss : List Stage) → AllSound (question c b) ss → (o : Staged) → k ≤ 255
       → ((t ≤ k) × NoneBefore (question c b) t × (o ≡ listed (conflictStage c b (limitIn 6000 r) ∷ ss) t D)) → {limit : ℕ}
       → limit ≡ limitIn 6000 r → (a : Passed) → Shows c k (conflictStage c b limit t D) work a → Passes c b k D ss o work a

@@ -12,7 +12,7 @@ use Rattle.staged.specs.declared.Passed.{Passed}
 use Rattle.staged.specs.declared.Passed.the-variants as passed
 use Rattle.staged.specs.declared.Rounds.{Rounds}
 use Rattle.staged.specs.declared.Rounds.the-variants as all
-use Rattle.staged.specs.Schedule.{roundOf, stagesOf}
+use Rattle.staged.specs.Schedule.{laterOf, roundOf, stagesOf}
 
 -- What bound k lets be seen of a stage. After a hit, working memory begins with the free bits of the first one.
 abbrev pub Shows : Circuit → ℕ → Staged → List ℕ → Passed → Type 0
@@ -30,6 +30,11 @@ Passes c b k D ss o work passed.Nothing = stagedAt k o ≡ Cut.none
 Passes c b k D ss o work passed.Never = stagedAt k o ≡ Cut.never
 Passes c b k D ss o work (passed.GaveUp t) = (t ≤ k) × NoneBefore (question c b) t × (o ≡ listed ss t D)
 Passes c b k D ss o work (passed.CutOff t) = stagedAt k o ≡ Cut.cutOff t
+
+-- what comes after the layers of round r, from a frame on, with any stages after it
+abbrev pub LaterIs : Circuit → (b k D first r : ℕ) → List ℕ → Passed → Type 0
+LaterIs c b k D first r work a =
+    (ss : List Stage) → AllSound (question c b) ss → Passes c b k D ss (listed (laterOf c b r ++ ss) first D) work a
 
 -- round r from a frame on, with any stages after it
 abbrev pub RoundIs : Circuit → (b k D first r : ℕ) → List ℕ → Passed → Type 0

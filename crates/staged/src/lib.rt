@@ -1,11 +1,12 @@
-// The stages of the search, in rounds: layers of states, then attempts frame by frame. Each stage begins at the first frame that is not
-// decided, and its limit is eight times that of the round before.
+// The stages of the search, in rounds: layers of states, sets of states, then attempts frame by frame. Each stage begins at the first frame
+// that is not decided, and its limit is eight times that of the round before.
 use attempts::Query;
 use attempts::Staged;
 use layout::Layout;
 use reachable::Layers;
 use reachable::Limit;
 use reachable::Stage;
+use set_search::Searched;
 ghost use mathlib.Core.Path.{_≡_};
 ghost use mathlib.Core.List.{List};
 ghost use Prim.Native.Nat.{ℕ, _≤_, max};
@@ -15,8 +16,8 @@ ghost use Rattle.layout.specs.Words.{circuitIn};
 ghost use Rattle.stages.specs.Endings as stages;
 ghost use Rattle.stages.specs.Choice.{limitIn};
 ghost use Rattle.attempts.specs.Stage.{StageFits, conflictStage};
-ghost use Rattle.staged.specs.Schedule.{layersStage};
-ghost use Rattle.staged.specs.Answers.{Shows, RoundIs, RoundsAre};
+ghost use Rattle.staged.specs.Schedule.{layersStage, setsStage, shareIn};
+ghost use Rattle.staged.specs.Answers.{Shows, LaterIs, RoundIs, RoundsAre};
 
 // What the stages have come to: the first frame with a hit; no frame up to the bound has one; no frame at all has one, however late, which
 // is known at a frame up to the bound; or the frame from which on each frame is decided by itself.
@@ -42,6 +43,18 @@ fn limit_in(base: u64, r: usize) -> u64
     ensures { λ x. ⌜ (x ≡ limitIn base r) × (x ≤ 629145600000) ⌝ }
 {
     base * (1u64 << (3 * r))
+}
+
+// The share of looks in round r.
+fn share_in(r: usize) -> u32
+    requires { ⌜ r ≤ 7 ⌝ }
+    ensures { λ x. ⌜ x ≡ shareIn r ⌝ }
+{
+    let share = limit_in(40000, r);
+    if share < 4294967295 {
+        return share as u32;
+    }
+    4294967295
 }
 
 // The later of two frames.
@@ -95,6 +108,33 @@ fn by_layers(
     }
 }
 
+// The sets of states, with a share of looks for each order of the latches.
+fn by_sets(
+    m: &[u32],
+    layout: Layout,
+    order: &[u32],
+    first: usize,
+    q: Query,
+    share: u32,
+    work: &mut [u32],
+) -> Passed
+    requires { ⌜ StageFits (now m) layout (now order) (q .b) (q .k) (q .d) (now work) ⌝ }
+    requires { ⌜ (first ≤ q .k) × stages.NoneBefore (question (circuitIn (now m)) (q .b)) first ⌝ }
+    ensures { λ r. ⌜
+        Shows (circuitIn (now (m .entry))) (q .k) (setsStage (circuitIn (now (m .entry))) (q .b) share first (q .d)) (now (work .exit)) r
+        ⌝ }
+{
+    let b = q.b;
+    let k = q.k;
+    let stage = set_search::Stage { b, k, first, share };
+    match set_search::search_sets(m, layout, order, stage, work) {
+        Searched::Hit(t) => Passed::Hit(t),
+        Searched::Clear => Passed::Nothing,
+        Searched::Never => Passed::Never,
+        Searched::GaveUp(t) => Passed::GaveUp(t),
+    }
+}
+
 // The attempts frame by frame, with a limit on their effort.
 fn by_attempts(
     m: &[u32],
@@ -119,6 +159,33 @@ fn by_attempts(
     }
 }
 
+// What comes after the layers of round r, from frame `first` on.
+fn pass_later(
+    m: &[u32],
+    layout: Layout,
+    order: &[u32],
+    first: usize,
+    r: usize,
+    q: Query,
+    work: &mut [u32],
+) -> Passed
+    requires { ⌜ StageFits (now m) layout (now order) (q .b) (q .k) (q .d) (now work) ⌝ }
+    requires { ⌜ (first ≤ q .k) × (r ≤ 7) × stages.NoneBefore (question (circuitIn (now m)) (q .b)) first ⌝ }
+    ensures { λ a. ⌜ LaterIs (circuitIn (now (m .entry))) (q .b) (q .k) (q .d) first r (now (work .exit)) a ⌝ }
+{
+    let share = share_in(r);
+    match by_sets(m, layout, order, first, q, share, work) {
+        Passed::Hit(t) => Passed::Hit(t),
+        Passed::Nothing => Passed::Nothing,
+        Passed::Never => Passed::Never,
+        Passed::GaveUp(t) => {
+            let limit = limit_in(6000, r);
+            by_attempts(m, layout, order, t, q, limit, work)
+        }
+        Passed::CutOff(t) => Passed::CutOff(t),
+    }
+}
+
 // Round r, from frame `first` on.
 fn pass_round(
     m: &[u32],
@@ -138,10 +205,7 @@ fn pass_round(
         Passed::Hit(t) => Passed::Hit(t),
         Passed::Nothing => Passed::Nothing,
         Passed::Never => Passed::Never,
-        Passed::GaveUp(t) => {
-            let limit = limit_in(6000, r);
-            by_attempts(m, layout, order, t, q, limit, work)
-        }
+        Passed::GaveUp(t) => pass_later(m, layout, order, t, r, q, work),
         Passed::CutOff(t) => Passed::CutOff(t),
     }
 }
