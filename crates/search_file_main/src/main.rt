@@ -1,5 +1,6 @@
 // The program of the command search: whether a bad line of a circuit can be true within a bound.
 use arguments::Argument;
+use files::note_front;
 use files::say;
 use files::say_front;
 use search::Terms;
@@ -15,7 +16,9 @@ fn say_help() {
     say(
         b"    found t   the first frame with a hit, and after that line the witness of its first hit\n",
     );
-    say(b"    none k    no frame from 0 to k has a hit\n");
+    say(
+        b"    none k    no frame from 0 to k has a hit; `no frame at all` on standard error says that none has one, however late\n",
+    );
     say(
         b"    spent t   frames before t have none; frame t has more than D sequences, and none of the first D hits\n\n",
     );
@@ -32,14 +35,16 @@ fn search_with(q: Terms, work: &mut [u32])
     let mut m = [0u32; 33032];
     let mut out = [0u8; 66825];
     let mut line = [0u8; 128];
+    let mut note = [0u8; 16];
     let got = files::read_argument(1, &mut file);
     if got.failed {
         return;
     }
     let n = got.count;
-    let report = search_command::search(&file[..n], q, &mut m, work, &mut out, &mut line);
-    say_front(&line, report.line);
-    say_front(&out, report.out);
+    let said = search_command::search(&file[..n], q, &mut m, work, &mut out, &mut line, &mut note);
+    say_front(&line, said.line);
+    say_front(&out, said.out);
+    note_front(&note, said.note);
 }
 
 // Lends the working memory of the greatest size, 65,536.
