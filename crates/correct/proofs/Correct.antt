@@ -43,11 +43,11 @@ use Rattle.pins.specs.Pins.{pinsOf}
 use Rattle.call_forms.specs.History.{State, Event, History, Same}
 use Rattle.history.specs.Concerning.{concerning}
 use Rattle.history.proofs.Undisturbed.{undisturbed, apart}
-use Rattle.panel_session.specs.Session.{Files, Exchange, Session, Ran, start}
+use Rattle.panel_session.specs.Session.{Files, Exchange, Session, SessionOf, Totals, start}
 use Rattle.panel_session.specs.Session as sessions
 use Rattle.panel_session.proofs.Undisturbed as panel
 use Rattle.panel_session.proofs.Undisturbed.{Apart}
-use Rattle.panel_session.proofs.Start.{start-empty, start-free, ran-apart, ran-undisturbed}
+use Rattle.panel_session.proofs.Start.{start-empty, start-free, loop-apart, loop-undisturbed}
 use Rattle.fold.specs.Chosen as folding
 use Rattle.joined.specs.Joined.{literalUnder, joined, joinTests, JoinedInto}
 use Rattle.parting.proofs.Parted.{firstRun, secondRun}
@@ -237,11 +237,11 @@ pub record Correct : Type 1 where
   pub users-undisturbed : (u : ℕ) (es es₂ : List Event) {s t : State} → Same u s t → History s es → History t es₂
       → map (λ (e : Event). e .call) es₂ ≡ map (λ (e : Event). e .call) (concerning u es)
       → map (λ (e : Event). e .returned) es₂ ≡ map (λ (e : Event). e .returned) (concerning u es)
-  -- the requests of the resident program that concern user u are a session by themselves, with the same replies, to a state that is the
+  -- the requests of a session that concern user u are a session by themselves, with the same replies, to a state that is the
   -- same to u
-  pub panel-apart : (u : ℕ) {room : ℕ} (es : List Exchange) {s t s′ : State} → Same u s t → Session room s es s′ → Apart u room t (sessions.concerning u es) s′
+  pub sessions-apart : (u : ℕ) {room : ℕ} (es : List Exchange) {s t s′ : State} → Same u s t → Session room s es s′ → Apart u room t (sessions.concerning u es) s′
   -- and whatever session has these requests prints these replies
-  pub panel-undisturbed : (u : ℕ) {room : ℕ} (es es₂ : List Exchange) {s t s′ t′ : State} → Same u s t → Session room s es s′ → Session room t es₂ t′
+  pub sessions-undisturbed : (u : ℕ) {room : ℕ} (es es₂ : List Exchange) {s t s′ t′ : State} → Same u s t → Session room s es s′ → Session room t es₂ t′
       → map {B = List ℕ × Files} (λ (e : Exchange). (e .request, e .files)) es₂
       ≡ map {B = List ℕ × Files} (λ (e : Exchange). (e .request, e .files)) (sessions.concerning u es)
       → (map (λ (e : Exchange). e .reply) es₂ ≡ map (λ (e : Exchange). e .reply) (sessions.concerning u es)) × Same u s′ t′
@@ -249,8 +249,8 @@ pub record Correct : Type 1 where
   pub panel-start-empty : HoldsNone (start .memory)
   pub panel-start-free : (user i : ℕ) → pinsOf (start .pins) user i ≡ 2
   -- and of what its loop ensures (`panel_serving::session`) from there the same holds
-  pub panel-ran-apart : (u : ℕ) {room n : ℕ} {t : State} (a : Ran room start n t) → Apart u room start (sessions.concerning u (a .exchanges)) t
-  pub panel-ran-undisturbed : (u : ℕ) {room n n₂ : ℕ} {t t₂ : State} (a : Ran room start n t) (b : Ran room start n₂ t₂)
+  pub panel-apart : (u : ℕ) {room : ℕ} {n : Totals} {t : State} (a : SessionOf room start n t) → Apart u room start (sessions.concerning u (a .exchanges)) t
+  pub panel-undisturbed : (u : ℕ) {room : ℕ} {n n₂ : Totals} {t t₂ : State} (a : SessionOf room start n t) (b : SessionOf room start n₂ t₂)
       → map {B = List ℕ × Files} (λ (e : Exchange). (e .request, e .files)) (b .exchanges)
       ≡ map {B = List ℕ × Files} (λ (e : Exchange). (e .request, e .files)) (sessions.concerning u (a .exchanges))
       → (map (λ (e : Exchange). e .reply) (b .exchanges) ≡ map (λ (e : Exchange). e .reply) (sessions.concerning u (a .exchanges))) × Same u t t₂
@@ -352,10 +352,10 @@ correct =
       waveform-hit = λ {c = c} h r. all-shown c h r;
       users-apart = apart;
       users-undisturbed = undisturbed;
-      panel-apart = panel.apart;
-      panel-undisturbed = panel.undisturbed;
+      sessions-apart = panel.apart;
+      sessions-undisturbed = panel.undisturbed;
       panel-start-empty = start-empty;
       panel-start-free = start-free;
-      panel-ran-apart = ran-apart;
-      panel-ran-undisturbed = ran-undisturbed;
+      panel-apart = loop-apart;
+      panel-undisturbed = loop-undisturbed;
     }

@@ -4,14 +4,13 @@ use input::Got;
 use libc::STDERR_FILENO;
 use libc::STDOUT_FILENO;
 ghost use mathlib.Core.Path.{_≡_};
-ghost use mathlib.Core.Bool.{_||_};
-ghost use mathlib.Core.List.{List};
-ghost use Prim.Native.Nat.{ℕ};
-ghost use lib.ListN.{take};
+ghost use mathlib.Core.Bool.{true, _||_};
+ghost use Prim.Native.Nat.{_≤_};
+ghost use lib.ListN.{length, take};
 ghost use Rattle.io.specs.Counts.{Counts};
 ghost use Rattle.input.specs.Reading.{Ended};
 ghost use Rattle.arguments.specs.Arguments.{numberOf, meant};
-ghost use Rattle.files.specs.Reading.{BothRead};
+ghost use Rattle.files.specs.Reading.{nameOf, BothRead};
 
 // Writes a text to standard output.
 pub fn say(text: &[u8]) {
@@ -72,21 +71,76 @@ pub fn read_named(name: &[u8], buf: &mut [u8]) -> Got
     got
 }
 
-// An argument of the program: its bytes at the front, how many they are, and whether it is all there.
+// A file that was read by its name: the first bytes of the name, as many as have room, how many these are, and what was read. The fields
+// are this crate's own, so that a value of this type is one that `read_file` or `no_file` made.
+pub struct NamedFile {
+    name: [u8; 4096],
+    length: usize,
+    got: Got,
+}
+
+// Copies a name to the front of kept, as much of it as has room. The answer is how many bytes these are.
+fn keep_name(name: &[u8], kept: &mut [u8]) -> usize
+    ensures { λ r. ⌜
+        (r ≤ length (now (kept .exit))) × (take r (now (kept .exit)) ≡ take (length (now (kept .entry))) (now (name .entry)))
+        ⌝ }
+{
+    let room = kept.len();
+    if name.len() <= room {
+        return bytes::copy(name, kept);
+    }
+    bytes::copy(&name[..room], kept)
+}
+
+// Reads the file with a name into the front of buf, and keeps the name. One of 4,096 bytes or more is the name of no file.
+pub fn read_file(name: &[u8], buf: &mut [u8]) -> NamedFile
+    ensures { λ r. ⌜ (nameOf r ≡ take 4096 (now (name .entry))) × Ended (now (buf .exit)) (r .got) ⌝ }
+{
+    let got = read_named(name, buf);
+    let mut kept = io::buffer();
+    let length = keep_name(name, &mut kept);
+    NamedFile {
+        name: kept,
+        length,
+        got,
+    }
+}
+
+// No file was read into buf.
+pub fn no_file(buf: &[u8]) -> NamedFile
+    ensures { λ r. ⌜ Ended (now (buf .entry)) (r .got) × (r .length ≡ 0) × (r .got .count ≡ 0) × (r .got .failed ≡ true) ⌝ }
+{
+    NamedFile {
+        name: io::buffer(),
+        length: 0,
+        got: input::unopened(buf),
+    }
+}
+
+pub fn got_of(file: NamedFile) -> Got
+    ensures { λ r. ⌜ r ≡ file .got ⌝ }
+{
+    file.got
+}
+
+// An argument of the program: which it is, its bytes at the front, how many they are, and whether it is all there. The fields are this
+// crate's own, so that a value of this type is one that `argument` made.
 pub struct Word {
-    pub bytes: [u8; 4096],
-    pub count: usize,
-    pub whole: bool,
+    index: usize,
+    bytes: [u8; 4096],
+    count: usize,
+    whole: bool,
 }
 
 // Argument i. Which text it is, is said by the system.
 pub fn argument(i: usize) -> Word
-    ensures { λ r. ⌜ Counts (r .count) (r .bytes) ⌝ }
+    ensures { λ r. ⌜ (r .index ≡ i) × Counts (r .count) (r .bytes) ⌝ }
 {
     let mut bytes = io::buffer();
     let count = os::arg(i, &mut bytes);
     let whole = os::errno() == 0;
     Word {
+        index: i,
         bytes,
         count,
         whole,
@@ -115,13 +169,6 @@ pub fn number_of(word: Word) -> Argument
     let bytes = word.bytes;
     let count = word.count;
     arguments::read_argument(&bytes[..count])
-}
-
-// Reads the number that argument i is.
-pub fn read_number(i: usize) -> Argument
-    ensures { λ r. ⌜ ((text : List ℕ) × (meant r ≡ numberOf text)) ⌝ }
-{
-    number_of(argument(i))
 }
 
 // How much was read of two files, whether one of them was not read, and what was read of each. The last two fields are this crate's own.

@@ -47,11 +47,11 @@ fn main() {
         say_help();
         return;
     }
-    let Argument::Number(b) = files::read_number(2) else {
+    let Argument::Number(b) = files::number_of(files::argument(2)) else {
         say_help();
         return;
     };
-    let Argument::Number(t) = files::read_number(3) else {
+    let Argument::Number(t) = files::number_of(files::argument(3)) else {
         say_help();
         return;
     };

@@ -1,17 +1,111 @@
--- A line of standard input. Which bytes the reads give is said by the system; what is kept of them is said here. Assumes nothing.
+-- A line of standard input, read by read. What each read gives is said by the system; what becomes of it is said here. Assumes nothing.
 use mathlib.Core.Path.{_≡_}
-use mathlib.Core.Bool.{Bool, true, false}
-use mathlib.Core.List.{List, [], _∷_}
+use mathlib.Core.Bool.{Bool, true, false, cond, not, _&&_}
+use mathlib.Core.List.{List, [], _∷_, _++_}
 use mathlib.Core.Logic.{_⊎_}
-use Prim.Native.Nat.{ℕ, _≤_, _<_}
-use lib.ListN.{length, take}
+use Prim.Native.Nat.{ℕ, _+_, _≤_, _<_}
+use lib.Dec.{eqb, ltb}
+use lib.ListN.{length, take, set, replicate}
 use Rattle.io.specs.Counts.{Counts}
-use Rattle.panel_input.specs.declared.RequestLine.{RequestLine}
+use Rattle.panel_input.specs.declared.gathering.ByteRead.{ByteRead}
+use Rattle.panel_input.specs.declared.gathering.RequestLine.{RequestLine}
 
--- no byte is a line feed
-abbrev pub Plain : List ℕ → Type 0
-Plain [] = Unit {0}
-Plain (b ∷ bs) = (b ≡ 10 → ⊥) × Plain bs
+-- nothing was read
+unfoldable pub emptyLine : RequestLine
+emptyLine =
+    record { line = replicate 4097 0; count = 0; failed = false; missed = 0; ended = false; over = false; reads = 0 }
+
+-- a read failed; with the eighth in a row the input is lost
+abbrev pub missedRead : RequestLine → RequestLine
+missedRead l =
+    cond (ltb (l .missed) 7)
+    (record {
+      line = l .line;
+      count = l .count;
+      failed = true;
+      missed = l .missed + 1;
+      ended = false;
+      over = false;
+      reads = l .reads + 1;
+    })
+    (record {
+      line = l .line;
+      count = l .count;
+      failed = true;
+      missed = l .missed;
+      ended = true;
+      over = true;
+      reads = l .reads + 1;
+    })
+
+-- the input ended: there is no line where nothing was read and no read failed
+abbrev pub inputEnd : RequestLine → RequestLine
+inputEnd l =
+    record {
+      line = l .line;
+      count = l .count;
+      failed = l .failed;
+      missed = 0;
+      ended = eqb (l .count) 0 && not (l .failed);
+      over = true;
+      reads = l .reads + 1;
+    }
+
+-- a line feed ends the line, and is no byte of it
+abbrev pub lineFeed : RequestLine → RequestLine
+lineFeed l =
+    record {
+      line = l .line;
+      count = l .count;
+      failed = l .failed;
+      missed = 0;
+      ended = false;
+      over = true;
+      reads = l .reads + 1;
+    }
+
+-- any other byte is kept after those before it, where there is room, and else passed over
+abbrev pub keepByte : RequestLine → ℕ → RequestLine
+keepByte l b =
+    cond (ltb (l .count) 4097)
+    (record {
+      line = set (l .line) (l .count) b;
+      count = l .count + 1;
+      failed = l .failed;
+      missed = 0;
+      ended = false;
+      over = false;
+      reads = l .reads + 1;
+    })
+    (record {
+      line = l .line;
+      count = l .count;
+      failed = l .failed;
+      missed = 0;
+      ended = false;
+      over = false;
+      reads = l .reads + 1;
+    })
+
+-- a line after one read more
+unfoldable pub step : RequestLine → ByteRead → RequestLine
+step l r =
+    cond (r .read .failed) (missedRead l)
+    (cond (eqb (r .read .count) 0) (inputEnd l) (cond (eqb (r .byte) 10) (lineFeed l) (keepByte l (r .byte))))
+
+-- a line after these reads, the last of them first
+unfoldable pub gathered : List ByteRead → RequestLine
+gathered [] = emptyLine
+gathered (r ∷ rs) = step (gathered rs) r
+
+-- the bytes that a read gave to the line: none where it failed, where the input ended, and where it was a line feed
+abbrev pub byteOf : ByteRead → List ℕ
+byteOf r = cond (r .read .failed) [] (cond (eqb (r .read .count) 0) [] (cond (eqb (r .byte) 10) [] (r .byte ∷ [])))
+
+-- those of these reads, the last of which is the first
+unfoldable pub bytesOf : List ByteRead → List ℕ
+bytesOf [] = []
+bytesOf (r ∷ rs) = bytesOf rs ++ byteOf r
 
 -- the bytes that were read, in their order, stand at the front of a buffer, as many of them as have room
 pub record Keeps (bytes buf : List ℕ) (n : ℕ) : Type 0 where
@@ -19,20 +113,16 @@ pub record Keeps (bytes buf : List ℕ) (n : ℕ) : Type 0 where
   pub kept : take n buf ≡ take (length buf) bytes
   pub all : n < length buf → n ≡ length bytes
 
--- a line: the bytes that were read before the line feed, before the end of the input or before nothing but failures came
-pub record LineOf (buf : List ℕ) (n : ℕ) : Type 0 where
-  pub bytes : List ℕ
-  pub plain : Plain bytes
-  pub keeps : Keeps bytes buf n
+-- whether a line goes on
+pub record GoesOn (l : RequestLine) (b : Bool) : Type 0 where
+  pub more : b ≡ true → (l .over ≡ false) × (l .reads < 18446744073709551615)
+  pub ends : b ≡ false → (l .over ≡ true) ⊎ (l .reads ≡ 18446744073709551615)
 
--- an input that ends within a line ends after it; where nothing more is to be had, nothing was read of a line, or a read failed
-abbrev pub Flagged : ℕ → Bool → Bool → Type 0
-Flagged n true ended = Unit {0}
-Flagged n false true = n ≡ 0
-Flagged n false false = Unit {0}
-
--- what is known of a request that was read
-pub record Received (r : RequestLine) : Type 0 where
-  pub line-is : LineOf (r .line) (r .count)
-  pub counts : Counts (r .count) (r .line)
-  pub flags : Flagged (r .count) (r .failed) (r .ended)
+-- a line that was read: it is that of as many reads as it counts, its bytes are theirs, and it is over
+pub record Received (l : RequestLine) : Type 0 where
+  pub reads : List ByteRead
+  pub line-is : l ≡ gathered reads
+  pub number : length reads ≡ l .reads
+  pub keeps : Keeps (bytesOf reads) (l .line) (l .count)
+  pub counts : Counts (l .count) (l .line)
+  pub stops : (l .over ≡ true) ⊎ (l .reads ≡ 18446744073709551615)

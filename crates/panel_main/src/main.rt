@@ -5,8 +5,8 @@ ghost use mathlib.Core.Path.{_≡_};
 ghost use Prim.Native.Nat.{ℕ};
 ghost use lib.ListN.{length};
 ghost use Rattle.call_forms.specs.History.{State};
-ghost use Rattle.panel_session.specs.Session.{Ran, start};
-ghost use Rattle.panel_serving.specs.Serving.{Over};
+ghost use Rattle.panel_session.specs.Session.{SessionOf, start};
+ghost use Rattle.panel_serving.specs.Serving.{totalsOf, Over};
 
 fn say_help() {
     say(b"panel\n\n");
@@ -48,7 +48,7 @@ fn session_from(m: &mut [u32], work: &mut [u32], pins: &mut [u8], out: &mut [u8]
     requires { ⌜ (length (now m) ≡ 33032) × (length (now out) ≡ 1572928) ⌝ }
     requires { ⌜ (record { memory = now m; work = now work; pins = now pins }) ≡ start ⌝ }
     ensures { λ r. ⌜
-        Ran 1572928 start (r .tally .count) (record { memory = now (m .exit); work = now (work .exit); pins = now (pins .exit) })
+        SessionOf 1572928 start (totalsOf (r .tally)) (record { memory = now (m .exit); work = now (work .exit); pins = now (pins .exit) })
         ⌝ }
     ensures { λ r. ⌜ Over r ⌝ }
 {
@@ -58,11 +58,11 @@ fn session_from(m: &mut [u32], work: &mut [u32], pins: &mut [u8], out: &mut [u8]
 }
 
 // Lends the circuit memory of the greatest M, 4,096, which holds no circuit at first, and the pins of both users, all free. What they hold
-// at the end is out of sight here, so that a state is left with which it was a session of so many requests.
+// at the end is out of sight here, so that a state is left with which it was a session of these totals.
 fn session_with(work: &mut [u32], out: &mut [u8]) -> Turned
     requires { ⌜ length (now out) ≡ 1572928 ⌝ }
     requires { ⌜ now work ≡ start .work ⌝ }
-    ensures { λ r. ⌜ ((t : State) × Ran 1572928 start (r .tally .count) t) ⌝ }
+    ensures { λ r. ⌜ ((t : State) × SessionOf 1572928 start (totalsOf (r .tally)) t) ⌝ }
     ensures { λ r. ⌜ Over r ⌝ }
 {
     let mut m = [4294967295u32; 33032];
@@ -73,7 +73,7 @@ fn session_with(work: &mut [u32], out: &mut [u8]) -> Turned
 // Lends the working memory and the output of the greatest size, 65,536. No text is longer than this output: fold asks for 1,572,928
 // bytes at most, waveform for 1,456,223.
 fn session_of_both() -> Turned
-    ensures { λ r. ⌜ ((t : State) × Ran 1572928 start (r .tally .count) t) ⌝ }
+    ensures { λ r. ⌜ ((t : State) × SessionOf 1572928 start (totalsOf (r .tally)) t) ⌝ }
     ensures { λ r. ⌜ Over r ⌝ }
 {
     let mut work = [0u32; 1048576];

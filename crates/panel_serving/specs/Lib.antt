@@ -1,4 +1,3 @@
 -- What the contracts of `panel_serving` cite. Assumes nothing.
-pub mod Fetching
 pub mod Serving
 pub mod Telling

@@ -1,8 +1,7 @@
 // A request that was read, and its answer.
-use crate::fetching;
-use crate::fetching::Fetched;
 use crate::telling;
 use crate::telling::Told;
+use panel_fetching::Fetched;
 ghost use mathlib.Core.Path.{_≡_};
 ghost use Prim.Native.Nat.{_≤_};
 ghost use lib.ListN.{length};
@@ -33,13 +32,13 @@ pub fn serve(
         (record { memory = now (m .exit); work = now (work .exit); pins = now (pins .exit) }) (now (out .exit))
         ⌝ }
 {
-    let fetched = fetching::fetch(request, first, second);
-    if fetching::has_failed(fetched) {
+    let fetched = panel_fetching::fetch(request, first, second);
+    if panel_fetching::has_failed(fetched) {
         let told = telling::answer_unreadable(request, out);
         return Served { fetched, told };
     }
-    let n = fetching::first_count(fetched);
-    let k = fetching::second_count(fetched);
+    let n = panel_fetching::first_count(fetched);
+    let k = panel_fetching::second_count(fetched);
     let told = telling::answer(request, &first[..n], &second[..k], m, work, pins, out);
     Served { fetched, told }
 }

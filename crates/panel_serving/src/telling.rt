@@ -3,12 +3,12 @@ use files::say;
 use panel_session::Response;
 ghost use mathlib.Core.Path.{_≡_};
 ghost use mathlib.Core.List.{List};
-ghost use Prim.Native.Nat.{ℕ, _≤_};
+ghost use Prim.Native.Nat.{ℕ, _+_, _%_, _≤_};
 ghost use lib.ListN.{length};
 ghost use Rattle.call_forms.specs.History.{State};
 ghost use Rattle.panel_lines.specs.Grammar.{parse};
+ghost use Rattle.panel_names.specs.Naming.{namedBy};
 ghost use Rattle.panel_session.specs.Session.{Files};
-ghost use Rattle.panel_session.specs.Naming.{namedBy};
 ghost use Rattle.panel_session.specs.Answered.{Answered};
 
 // What was printed: the front of a line, and that of the output.
@@ -16,12 +16,19 @@ pub struct Told {
     response: Response,
 }
 
-// Prints an answer, in the bytes that `printed` of specs/Telling defines. That they are printed is for the system to say.
-fn print(line: &[u8], out: &[u8]) {
-    files::say_number(std::num::wrapping_add_usize(line.len(), out.len()) as u64);
+// Prints the front of a line and a text after it, in the bytes that `printed` of specs/Telling defines. That they are printed is for the
+// system to say.
+fn print(line: [u8; 128], count: usize, text: &[u8]) -> Told
+    requires { ⌜ count ≤ length line ⌝ }
+    ensures { λ r. ⌜ r .response ≡ record { line = line; count = count; out = length (now (text .entry)) } ⌝ }
+{
+    let out = text.len();
+    files::say_number(std::num::wrapping_add_usize(count, out) as u64);
     say(b"\n");
-    say(line);
-    say(out);
+    say(&line[..count]);
+    say(text);
+    let response = Response { line, count, out };
+    Told { response }
 }
 
 // Prints the response to a request.
@@ -32,8 +39,7 @@ fn tell(response: Response, out: &[u8]) -> Told
     let line = response.line;
     let count = response.count;
     let written = response.out;
-    print(&line[..count], &out[..written]);
-    Told { response }
+    print(line, count, &out[..written])
 }
 
 // Answers a request that names no file, or whose files were read.
@@ -70,6 +76,16 @@ pub fn answer_unread(out: &[u8]) -> Told
     ensures { λ r. ⌜ ((request : List ℕ) (s : State) (out : List ℕ) → Answered request Files.unread s out (r .response) s out) ⌝ }
 {
     tell(panel_session::unread(), out)
+}
+
+// How many bytes the answer has that was printed.
+pub fn length_of(t: Told) -> u64
+    ensures { λ n. ⌜ n ≡ (t .response .count + t .response .out) % 18446744073709551616 ⌝ }
+{
+    let response = t.response;
+    let count = response.count;
+    let out = response.out;
+    std::num::wrapping_add_usize(count, out) as u64
 }
 
 // Prints nothing.

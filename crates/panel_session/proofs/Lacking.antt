@@ -15,11 +15,11 @@ use Rattle.panel_lines.specs.Reading.{RequestIs, taskOf}
 use Rattle.panel_lines.specs.declared.Query.{Query}
 use Rattle.panel_lines.specs.declared.Task.{Task}
 use Rattle.panel_lines.specs.declared.Request.{Request}
-use Rattle.panel_session.specs.Session.{Files, Action, actionOf, mayAsk, filesOf, requestAction}
-use Rattle.panel_session.specs.Naming.{namedBy}
+use Rattle.panel_session.specs.Session.{Files, Action, actionOf, mayAsk, requestAction}
+use Rattle.panel_names.specs.Naming.{namedBy, filesOf}
 use Rattle.panel_session.specs.Answered.{LineAlone, Answered}
 use Rattle.panel_session.specs.declared.Response.{Response}
-use Rattle.panel_session.proofs.Requests.{requested}
+use Rattle.panel_names.proofs.Requests.{requested}
 use Rattle.panel_session.proofs.Turns.{answered-alone}
 
 -- a command that names files

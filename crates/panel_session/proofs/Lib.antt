@@ -1,6 +1,5 @@
 pub mod Outputs
 pub mod Turns
-pub mod Requests
 pub mod Lacking
 pub mod Undisturbed
 pub mod Start

@@ -3,7 +3,7 @@
 -- Assumes nothing.
 use mathlib.Core.Path.{_≡_, refl, sym, ap, _∙_}
 use mathlib.Core.List.{List, [], _∷_, _++_, map}
-use Prim.Native.Nat.{ℕ, _+_, _*_}
+use Prim.Native.Nat.{ℕ, _+_, _*_, _%_}
 use native.Mathlib.Omega.{arith}
 use native.Mathlib.Decide.{decLt}
 use lib.Seq.{getD-take, getD-drop}
@@ -15,7 +15,7 @@ use Rattle.layout.specs.Words.{word, circuitIn}
 use Rattle.roundtrip.proofs.Holding.{held, held-valid}
 use Rattle.pins.specs.Pins.{pinsOf}
 use Rattle.call_forms.specs.History.{State, Same}
-use Rattle.panel_session.specs.Session.{Files, Turn, Exchange, Session, Ran, concerning, start}
+use Rattle.panel_session.specs.Session.{Files, Turn, Exchange, Session, SessionOf, Totals, noTotals, askedBytes, toldBytes, oneMore, concerning, start}
 use Rattle.panel_session.proofs.Undisturbed.{Apart, apart, undisturbed}
 
 -- a first word that is the M of no circuit
@@ -46,30 +46,50 @@ itself u s = record { memory = refl; work = refl; room = refl; own = λ i l. ref
 
 -- the theorems of what the loop of the resident program ensures, from the start on. Its exchanges that concern user u are a session by
 -- themselves, which starts there too
-pub ran-apart : (u : ℕ) {room n : ℕ} {t : State} (a : Ran room start n t) → Apart u room start (concerning u (a .exchanges)) t
-ran-apart u a = apart u (a .exchanges) (itself u start) (a .session)
+pub loop-apart : (u : ℕ) {room : ℕ} {n : Totals} {t : State} (a : SessionOf room start n t) → Apart u room start (concerning u (a .exchanges)) t
+loop-apart u a = apart u (a .exchanges) (itself u start) (a .session)
 
 -- let two runs have the same requests that concern u, with the same files, and the second no others: it prints the same replies to them,
 -- and leaves a state that is the same to u
-pub ran-undisturbed : (u : ℕ) {room n n₂ : ℕ} {t t₂ : State} (a : Ran room start n t) (b : Ran room start n₂ t₂)
+pub loop-undisturbed : (u : ℕ) {room : ℕ} {n n₂ : Totals} {t t₂ : State} (a : SessionOf room start n t) (b : SessionOf room start n₂ t₂)
     → map {B = List ℕ × Files} (λ (e : Exchange). (e .request, e .files)) (b .exchanges)
     ≡ map {B = List ℕ × Files} (λ (e : Exchange). (e .request, e .files)) (concerning u (a .exchanges))
     → (map (λ (e : Exchange). e .reply) (b .exchanges) ≡ map (λ (e : Exchange). e .reply) (concerning u (a .exchanges))) × Same u t t₂
-ran-undisturbed u a b = undisturbed u (a .exchanges) (b .exchanges) (itself u start) (a .session) (b .session)
+loop-undisturbed u a b = undisturbed u (a .exchanges) (b .exchanges) (itself u start) (a .session) (b .session)
 
--- no requests, and one more: the loop goes on from there
-pub ran-none : {room : ℕ} (s : State) → Ran room s 0 s
-ran-none s = record { exchanges = []; count = refl; session = Session.ends }
+-- ---- no requests, and one more: the loop goes on from there
+
+pub session-none : {room : ℕ} (s : State) → SessionOf room s noTotals s
+unfolding askedBytes toldBytes
+session-none s = record { exchanges = []; count = refl; asked = refl; told = refl; session = Session.ends }
 
 session-more : {room : ℕ} (es : List Exchange) (e : Exchange) {s s′ t : State} → Session room s es s′
     → Turn room (e .request) (e .files) s′ (e .reply) (e .loaded) t → Session room s (es ++ (e ∷ [])) t
 session-more [] e Session.ends x = Session.goes x Session.ends
 session-more (y ∷ ys) e (Session.goes z h) x = Session.goes z (session-more ys e h x)
 
-pub ran-more : {room n : ℕ} {s s′ t : State} (e : Exchange) → Ran room s n s′ → Turn room (e .request) (e .files) s′ (e .reply) (e .loaded) t → Ran room s (n + 1) t
-ran-more e a x =
+asked-more : (es : List Exchange) (e : Exchange) → askedBytes (es ++ (e ∷ [])) ≡ askedBytes es + length (e .request)
+unfolding askedBytes
+asked-more [] e = omega arith
+asked-more (x ∷ es) e = let z = asked-more es e in omega (arith, z)
+
+told-more : (es : List Exchange) (e : Exchange) → toldBytes (es ++ (e ∷ [])) ≡ toldBytes es + (length (e .reply .line) + length (e .reply .out))
+unfolding toldBytes
+told-more [] e = omega arith
+told-more (x ∷ es) e = let z = told-more es e in omega (arith, z)
+
+-- a sum modulo 2^64, where one part was taken modulo 2^64 before
+wrapped : {n m : ℕ} (a k : ℕ) → m ≡ a + k → a % 18446744073709551616 ≡ n → m % 18446744073709551616 ≡ (n + k) % 18446744073709551616
+wrapped a k e f = omega (arith, e, f)
+
+pub one-more : {room : ℕ} {n : Totals} {s s′ t : State} (e : Exchange) → SessionOf room s n s′
+    → Turn room (e .request) (e .files) s′ (e .reply) (e .loaded) t
+    → SessionOf room s (oneMore n (length (e .request)) (length (e .reply .line) + length (e .reply .out))) t
+one-more e a x =
     record {
       exchanges = a .exchanges ++ (e ∷ []);
       count = length-append (a .exchanges) (e ∷ []) ∙ ap (λ (k : ℕ). k + 1) (a .count);
+      asked = wrapped (askedBytes (a .exchanges)) (length (e .request)) (asked-more (a .exchanges) e) (a .asked);
+      told = wrapped (toldBytes (a .exchanges)) (length (e .reply .line) + length (e .reply .out)) (told-more (a .exchanges) e) (a .told);
       session = session-more (a .exchanges) e (a .session) x;
     }

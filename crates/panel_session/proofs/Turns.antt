@@ -34,7 +34,7 @@ use Rattle.panel_lines.specs.declared.View.the-variants.{Replay, Widen, Wavefor
 use Rattle.panel.specs.Answers.{loadWords, LoadReported, Queried, previewReplyTo}
 use Rattle.panel_files.specs.Files.{Viewed}
 use Rattle.panel_join.specs.Joins.{NewJoined, FilesJoined, JoinReported}
-use Rattle.panel_session.specs.Session.{Files, Action, fileWords, queryCall, viewCall, actionOf, requestAction, replyTo, Turn}
+use Rattle.panel_session.specs.Session.{Files, Action, fileWords, queryCall, viewCall, actionOf, requestAction, callReply, Turn}
 use Rattle.panel_session.specs.Answered.{LineAlone, Answered}
 use Rattle.panel_session.specs.declared.Response.{Response}
 use Rattle.panel_session.proofs.Outputs.{Told, search-told, fold-told, write-told, binary-told, widen-told, waveform-told}
@@ -94,8 +94,8 @@ module _ {m w p line out : List ℕ} {r : Report} {line′ out′ : List ℕ} wh
   -- a call, by its step and by what is printed of its reply
   called : {call : History.Call} {reply : History.Returned} {s′ : History.State}
       → History.Step (record { memory = m; work = w; pins = p }) call reply s′
-      → Fronts (replyTo reply .line) line (r .line) line′
-      → Fronts (replyTo reply .out) out (r .out) out′
+      → Fronts (callReply reply .line) line (r .line) line′
+      → Fronts (callReply reply .out) out (r .out) out′
       → Taken (length out) (Action.calls call) (record { memory = m; work = w; pins = p }) line out r s′ line′ out′
   called y f g = record { reply = _; loaded = _; turn = λ u i e. Turn.calls e y; line-is = f; out-is = g }
 

@@ -25,8 +25,9 @@ use Rattle.panel_lines.specs.declared.Query.{Query}
 use Rattle.panel_lines.specs.declared.Query.the-variants.{Pin, Search, Fold, Write, WriteBinary}
 use Rattle.panel_lines.specs.declared.View.{View}
 use Rattle.panel_lines.specs.declared.View.the-variants.{Replay, Widen, Waveform}
-use Rattle.panel_session.specs.Session.{Files, Action, joinAction, queryCall, viewCall, actionOf, mayAsk, filesOf, requestAction}
-use Rattle.panel_session.specs.Session.{replyTo, Turn, Exchange, Session, isOf, concerning}
+use Rattle.panel_names.specs.Naming.{filesOf}
+use Rattle.panel_session.specs.Session.{Files, Action, joinAction, queryCall, viewCall, actionOf, mayAsk, requestAction}
+use Rattle.panel_session.specs.Session.{callReply, Turn, Exchange, Session, isOf, concerning}
 
 -- ---- whose call a request is
 
@@ -89,7 +90,7 @@ false-not true e t = subst T e t
 false-not false e t = t
 
 -- a turn from t, to a state that is the same to user u as s₁
-record Turned (u room : ℕ) (request : List ℕ) (files : Files) (t : History.State) (reply : Reply) (loaded : Bool) (s₁ : History.State) : Type 0 where
+record TurnFrom (u room : ℕ) (request : List ℕ) (files : Files) (t : History.State) (reply : Reply) (loaded : Bool) (s₁ : History.State) : Type 0 where
   next : History.State
   turn : Turn room request files t reply loaded next
   same : Same u s₁ next
@@ -97,7 +98,7 @@ record Turned (u room : ℕ) (request : List ℕ) (files : Files) (t : History.S
 module _ (u : ℕ) {room : ℕ} {request : List ℕ} {files : Files} {s t : History.State} (a : Same u s t) where
   -- what concerns user u is answered the same from any state that is the same to u
   turned : {reply : Reply} {loaded : Bool} {s₁ : History.State} → T (isOf u (parse request) || loaded) → Turn room request files s reply loaded s₁
-      → Turned u room request files t reply loaded s₁
+      → TurnFrom u room request files t reply loaded s₁
   turned h (Turn.prints e) = record { next = t; turn = Turn.prints e; same = a }
   turned h (Turn.calls {call = c} {returned = r} {s′ = s₁} e x) =
       let m : Moved u t c r s₁ =
@@ -171,7 +172,7 @@ module _ (u : ℕ) {room : ℕ} {request : List ℕ} {files : Files} {s t : Hist
       (v .0, subst (λ (i : ℕ). Same i s₁ t₁) o (v .1)))
       (λ k. load-step u a k x y′)
       (or-cases (isOf u (parse request)) (History.isAccepted r) h) in (
-        ap replyTo (z .0),
+        ap callReply (z .0),
         ap History.isAccepted (z .0),
         z .1,
       )
@@ -180,8 +181,8 @@ module _ (u : ℕ) {room : ℕ} {request : List ℕ} {files : Files} {s t : Hist
 abbrev asked : List Exchange → List (List ℕ × Files)
 asked es = map {B = List ℕ × Files} (λ (e : Exchange). (e .request, e .files)) es
 
-abbrev printed : List Exchange → List Reply
-printed es = map (λ (e : Exchange). e .reply) es
+abbrev repliesOf : List Exchange → List Reply
+repliesOf es = map (λ (e : Exchange). e .reply) es
 
 -- the theorem: let two sessions start from states that are the same to user u. If the second has just those requests of the first that
 -- concern u, with the same files, then it prints the same replies to them, and the two end in states that are the same to u
@@ -197,8 +198,8 @@ undisturbed u {room} (x ∷ xs) es₂ {s} {t} {s′} {t′} a (Session.goes {s�
     go : (b : Bool) → (isOf u (parse (x .request)) || x .loaded) ≡ b → (es₂ : List Exchange) → Session room t es₂ t′
         → asked es₂ ≡ asked (cond b (x ∷ concerning u xs) (concerning u xs))
         → ((ys : List Exchange) (v : History.State) → Same u s₁ v → Session room v ys t′ → asked ys ≡ asked (concerning u xs)
-        → (printed ys ≡ printed (concerning u xs)) × Same u s′ t′)
-        → (printed es₂ ≡ printed (cond b (x ∷ concerning u xs) (concerning u xs))) × Same u s′ t′
+        → (repliesOf ys ≡ repliesOf (concerning u xs)) × Same u s′ t′)
+        → (repliesOf es₂ ≡ repliesOf (cond b (x ∷ concerning u xs) (concerning u xs))) × Same u s′ t′
     go true c [] k d f = let z : _≡_ {A = ℕ} 0 1 = cc in absurd (omega arith)
     go true c (y ∷ ys) (Session.goes {s′ = t₁} su l) d f =
         let one : _≡_ {A = List ℕ × Files} (y .request, y .files) (x .request, x .files) = cc in

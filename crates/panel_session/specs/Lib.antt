@@ -1,4 +1,3 @@
 -- What the contracts of `panel_session` cite. Assumes nothing.
 pub mod Session
-pub mod Naming
 pub mod Answered

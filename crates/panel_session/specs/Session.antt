@@ -5,7 +5,7 @@ use mathlib.Core.Path.{_≡_}
 use mathlib.Core.Bool.{Bool, true, false, cond, _||_}
 use mathlib.Core.List.{List, [], _∷_}
 use mathlib.Core.Option.{Option, none, some}
-use Prim.Native.Nat.{ℕ}
+use Prim.Native.Nat.{ℕ, _+_, _%_}
 use lib.Dec.{eqb, leb}
 use lib.ListN.{length, take, replicate}
 use Rattle.aiger.specs.Text.{bytes}
@@ -24,6 +24,7 @@ use Rattle.panel_lines.specs.declared.Query.{Query}
 use Rattle.panel_lines.specs.declared.Query.the-variants.{Pin, Search, Fold, Write, WriteBinary}
 use Rattle.panel_lines.specs.declared.View.{View}
 use Rattle.panel_lines.specs.declared.View.the-variants.{Replay, Widen, Waveform}
+use Rattle.panel_names.specs.Naming.{filesOf}
 use Rattle.panel.specs.Answers.{loadWords, pinWords, textWords, textLength}
 use Rattle.panel_files.specs.Files.{verdictWords}
 
@@ -83,14 +84,6 @@ mayAsk user (Command.preview file) = leb user 1
 mayAsk user (Command.join old new) = eqb user 0
 mayAsk user (Command.view v file) = leb user 1
 
--- the files that a command names
-abbrev pub filesOf : Command → List (List ℕ)
-filesOf (Command.query q) = []
-filesOf (Command.load file) = file ∷ []
-filesOf (Command.preview file) = file ∷ []
-filesOf (Command.join old new) = old ∷ new ∷ []
-filesOf (Command.view v file) = file ∷ []
-
 -- a command of whose files one cannot be read: 18 comes before `unreadable`, and a command that names no file needs none
 abbrev pub missingAction : ℕ → ℕ → Command → Action
 missingAction room user c =
@@ -108,14 +101,14 @@ requestAction room (Files.read first second) (some r) = actionOf room (r .0) fir
 -- ---- what is printed for what a call returned
 
 -- a line, and the text after it. A preview answers 0 words where none are told, and `wordsLine 0` is empty
-abbrev pub replyTo : History.Returned → Reply
-replyTo (History.Returned.loaded a) = record { line = loadWords a; out = [] }
-replyTo (History.Returned.pinned a) = record { line = pinWords a; out = [] }
-replyTo (History.Returned.searched a out) = record { line = saidWords a; out = take (toldLength a) out }
-replyTo (History.Returned.folded a out) = record { line = textWords a; out = take (textLength a) out }
-replyTo (History.Returned.written a out) = record { line = textWords a; out = take (textLength a) out }
-replyTo (History.Returned.previewed a n) = record { line = loadWords a; out = wordsLine n }
-replyTo (History.Returned.replayed a) = record { line = verdictWords a; out = [] }
+abbrev pub callReply : History.Returned → Reply
+callReply (History.Returned.loaded a) = record { line = loadWords a; out = [] }
+callReply (History.Returned.pinned a) = record { line = pinWords a; out = [] }
+callReply (History.Returned.searched a out) = record { line = saidWords a; out = take (toldLength a) out }
+callReply (History.Returned.folded a out) = record { line = textWords a; out = take (textLength a) out }
+callReply (History.Returned.written a out) = record { line = textWords a; out = take (textLength a) out }
+callReply (History.Returned.previewed a n) = record { line = loadWords a; out = wordsLine n }
+callReply (History.Returned.replayed a) = record { line = verdictWords a; out = [] }
 
 -- ---- a request, and a session
 
@@ -125,7 +118,7 @@ pub data Turn (room : ℕ) (request : List ℕ) (files : Files) (s : History.Sta
       → Turn room request files s (record { line = line; out = [] }) false s
   calls : {call : History.Call} {returned : History.Returned} {s′ : History.State}
       → requestAction room files (parse request) ≡ Action.calls call → History.Step s call returned s′
-      → Turn room request files s (replyTo returned) (History.isAccepted returned) s′
+      → Turn room request files s (callReply returned) (History.isAccepted returned) s′
 
 -- a request that was answered
 pub record Exchange : Type 0 where
@@ -145,11 +138,41 @@ pub data Session (room : ℕ) : History.State → List Exchange → History.Stat
   goes : {s s′ t : History.State} {e : Exchange} {es : List Exchange} → Turn room (e .request) (e .files) s (e .reply) (e .loaded) s′
       → Session room s′ es t → Session room s (e ∷ es) t
 
--- what the loop of the resident program does: n requests are answered, each from the state that the one before left
-pub record Ran (room : ℕ) (s : History.State) (n : ℕ) (t : History.State) : Type 0 where
+-- how many bytes these requests have, and how many bytes are printed for them
+unfoldable pub askedBytes : List Exchange → ℕ
+askedBytes [] = 0
+askedBytes (e ∷ es) = length (e .request) + askedBytes es
+
+unfoldable pub toldBytes : List Exchange → ℕ
+toldBytes [] = 0
+toldBytes (e ∷ es) = length (e .reply .line) + length (e .reply .out) + toldBytes es
+
+-- what the loop of the resident program counts: requests, their bytes, and the bytes of the replies, these two modulo 2^64
+pub record Totals : Type 0 where
+  pub requests : ℕ
+  pub asked : ℕ
+  pub told : ℕ
+
+-- nothing was counted
+abbrev pub noTotals : Totals
+noTotals = record { requests = 0; asked = 0; told = 0 }
+
+-- what the loop of the resident program does: requests are answered, each from the state that the one before left, and these are the totals
+pub record SessionOf (room : ℕ) (s : History.State) (n : Totals) (t : History.State) : Type 0 where
   pub exchanges : List Exchange
-  pub count : length exchanges ≡ n
+  pub count : length exchanges ≡ n .requests
+  pub asked : askedBytes exchanges % 18446744073709551616 ≡ n .asked
+  pub told : toldBytes exchanges % 18446744073709551616 ≡ n .told
   pub session : Session room s exchanges t
+
+-- the totals after a request of so many bytes, for which so many are printed
+abbrev pub oneMore : Totals → ℕ → ℕ → Totals
+oneMore n asked told =
+    record {
+      requests = n .requests + 1;
+      asked = (n .asked + asked) % 18446744073709551616;
+      told = (n .told + told) % 18446744073709551616;
+    }
 
 -- whether a request is a command of user u
 abbrev pub isOf : ℕ → Option (ℕ × Command) → Bool

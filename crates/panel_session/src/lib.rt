@@ -1,5 +1,4 @@
 // A request of the resident program, from its bytes and those of the files that it names to what is printed.
-use panel_lines::Part;
 use panel_lines::Task;
 use replies::Report;
 ghost use mathlib.Core.Path.{_≡_};
@@ -11,40 +10,15 @@ ghost use Rattle.aiger.specs.Text.{bytes};
 ghost use Rattle.replies.specs.Refusal.{refusalText};
 ghost use Rattle.call_forms.specs.History.{State};
 ghost use Rattle.panel_lines.specs.Grammar.{parse};
+ghost use Rattle.panel_names.specs.Naming.{namedBy};
 ghost use Rattle.panel_session.specs.Session.{Files};
-ghost use Rattle.panel_session.specs.Naming.{namedBy, namesOf, NamesInside};
 ghost use Rattle.panel_session.specs.Answered.{LineAlone, Answered};
-
-// The names of files in a request.
-pub enum Names {
-    Zero,
-    One(Part),
-    Two(Part, Part),
-}
 
 // A line that is to be printed, its length, and how many bytes of the output follow it.
 pub struct Response {
     pub line: [u8; 128],
     pub count: usize,
     pub out: usize,
-}
-
-// Which files a request names.
-pub fn files_of(request: &[u8]) -> Names
-    ensures { λ r. ⌜
-        (namesOf (now (request .entry)) r ≡ namedBy (parse (now (request .entry)))) × NamesInside (now (request .entry)) r
-        ⌝ }
-{
-    let asked = panel_lines::read_request(request);
-    let task = asked.task;
-    match task {
-        Task::Ask(_) => Names::Zero,
-        Task::Load(file) => Names::One(file),
-        Task::Preview(file) => Names::One(file),
-        Task::Join(old, new) => Names::Two(old, new),
-        Task::Witness(_, file) => Names::One(file),
-        Task::Malformed => Names::Zero,
-    }
 }
 
 // What is to be printed by a report.

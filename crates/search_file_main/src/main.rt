@@ -58,15 +58,15 @@ fn main() {
         say_help();
         return;
     }
-    let Argument::Number(b) = files::read_number(2) else {
+    let Argument::Number(b) = files::number_of(files::argument(2)) else {
         say_help();
         return;
     };
-    let Argument::Number(k) = files::read_number(3) else {
+    let Argument::Number(k) = files::number_of(files::argument(3)) else {
         say_help();
         return;
     };
-    let Argument::Number(d) = files::read_number(4) else {
+    let Argument::Number(d) = files::number_of(files::argument(4)) else {
         say_help();
         return;
     };

@@ -3,7 +3,7 @@ use mathlib.Core.Path.{sym}
 use Prim.Native.Nat.{ℕ}
 use native.Mathlib.Omega.{arith}
 use lib.ListN.{length-replicate}
-use Rattle.panel_main.proofs.Starting.{ran-at}
+use Rattle.panel_main.proofs.Starting.{session-at}
 use borrow.Author.Needs.{needs}
 use Rattle.panel_main.proofs.session_from.Statement.{statement}
 use Rattle.panel_main.proofs.session_from.Tie as tie
@@ -25,7 +25,7 @@ returns : tie.Need-returns
 returns c =
     let pre = c .before .before .before .before .before .before .before .before .before .before .before .before .before .before .before .before .before .before .before .before .before .pre in
     let at-session = c .before .before .before .before .before .before .before .before .before .before in
-    (ran-at (pre .0 .1) (pre .1) (at-session .session .ensures .0), at-session .session .ensures .1)
+    (session-at (pre .0 .1) (pre .1) (at-session .session .ensures .0), at-session .session .ensures .1)
 
 pub session-from-spec : {M : Type 1} → statement M
 session-from-spec =

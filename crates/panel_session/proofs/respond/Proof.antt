@@ -12,7 +12,7 @@ use Rattle.panel_session.proofs.Turns.{
   answers,
   answered-alone,
 }
-use Rattle.panel_session.proofs.Requests.{requested, unrequested}
+use Rattle.panel_names.proofs.Requests.{requested, unrequested}
 use borrow.Author.Needs.{needs}
 use Rattle.panel_session.proofs.respond.Statement.{statement}
 use Rattle.panel_session.proofs.respond.Tie as tie

@@ -2,7 +2,7 @@
 use mathlib.Core.Path.{refl, ap}
 use lib.ListN.{length}
 use Rattle.panel_session.specs.Session.{Files, requestAction}
-use Rattle.panel_session.proofs.Requests.{unrequested}
+use Rattle.panel_names.proofs.Requests.{unrequested}
 use Rattle.panel_session.proofs.Turns.{answered-alone}
 use Rattle.panel_session.proofs.Lacking.{lacks, unnamed}
 use borrow.Author.Needs.{needs}

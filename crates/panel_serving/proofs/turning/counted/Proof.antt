@@ -1,28 +1,24 @@
--- One more, or none. Assumes nothing.
-use mathlib.Core.Path.{sym, _∙_}
+-- One request more, and its bytes. Assumes nothing.
+use mathlib.Core.Path.{ap, _∙_}
+use Prim.Native.Nat.{ℕ, _+_, _%_}
 use native.Mathlib.Omega.{arith}
-use Rattle.panel_serving.proofs.Exchanges.{counts-failed, counts-ended, counts-read}
+use Rattle.panel_serving.proofs.Exchanges.{wrapped}
 use borrow.Author.Needs.{needs}
 use Rattle.panel_serving.proofs.turning.counted.Statement.{statement}
 use Rattle.panel_serving.proofs.turning.counted.Tie as tie
 
-add-t5 : tie.Need-add-t5
-add-t5 c = record { fits = omega (arith, c .before .before .pre) }
+add-t7 : tie.Need-add-t7
+add-t7 c = record { fits = omega (arith, c .before .before .before .pre) }
 
 returns : tie.Need-returns
-returns c = counts-failed (c .before .before .args .request) (c .before .before .args .tally .count) (sym (c .before .has-failed .ensures) ∙ c .if1 .taken)
-
-returns-2 : tie.Need-returns-2
-returns-2 c = counts-ended (c .before .before .before .before .args .request) (c .before .before .before .before .args .tally .count) (sym (c .before .before .before .has-failed .ensures) ∙ c .before .before .if1 .left) (sym (c .before .has-ended .ensures) ∙ c .if2 .taken)
-
-add-t7 : tie.Need-add-t7
-add-t7 c = record { fits = omega (arith, c .before .before .before .before .pre) }
-
-returns-3 : tie.Need-returns-3
-returns-3 c = counts-read (c .before .before .before .before .args .request) (c .before .before .before .before .args .tally .count) (sym (c .before .before .before .has-failed .ensures) ∙ c .before .before .if1 .left) (sym (c .before .has-ended .ensures) ∙ c .if2 .left)
+returns c =
+    let a = c .before .before .before .before .before .args in
+    let x = c .before .wrapping-add-u64 .ensures ∙ ap (λ (n : ℕ). (a .before .asked + n) % 18446744073709551616) (c .before .before .before .before .count-of .ensures) in
+    let y = wrapped (a .before .told) (a .told .response .count + a .told .response .out) (c .before .before .before .length-of .ensures) (c .wrapping-add-u642 .ensures) in
+    λ i. record { requests = a .before .requests + 1; asked = x i; told = y i }
 
 pub counted-spec : {M : Type 1} → statement M
 counted-spec =
     tie.close
     (tie.spec
-    (λ c κs. search needs) add-t5 returns (λ c κs. search needs) returns-2 add-t7 returns-3)
+    (λ c κs. search needs) (λ c κs. search needs) add-t7 (λ c κs. search needs) (λ c κs. search needs) returns)

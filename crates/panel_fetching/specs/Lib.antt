@@ -1,0 +1,2 @@
+-- What the contracts of `panel_fetching` cite. Assumes nothing.
+pub mod Fetching
