@@ -25,8 +25,8 @@ placeTest c t place = need 19 (placeRight (freeBits c t) place)
 -- they differ under pins alone. Working memory has `room` words and the output `len` bytes
 abbrev pub placeTests : Circuit → Circuit → ℕ → ℕ → ℕ → ℕ → ℕ → ℕ → List Test
 placeTests asked c b t place D room len =
-    badTest c b ∷ need 11 (leb t 255 && budgetRight D) ∷ placeTest asked t place ∷ sizeTest c t room ∷ need 13 (leb (witnessLength c b t) len)
-    ∷ []
+    badTest c b ∷ need 11 (leb t 255 && budgetRight D) ∷ placeTest asked t place ∷ sizeTest c t room
+    ∷ need 13 (leb (witnessLength c b t) len) ∷ []
 
 -- found leaves the witness of the first hit at or after the place at the front, none and spent leave every byte
 abbrev pub shownFrom : Circuit → ℕ → ℕ → Placed → List ℕ → List ℕ
