@@ -40,11 +40,12 @@ abbrev pub floorAt : Netlist → List ℕ → ℕ
 floorAt net w = prefix (bits w (net .nodes)) (net .free)
 
 module _ (hit : (ℕ → Bool) → Type 0) (hits : ℕ → Type 0) (val : ℕ → ℕ → Bool) (net : Netlist) (begun : List ℕ) (begin : Begun hit hits val net begun) where
-  -- while there is no verdict the search knows what it knew; verdict 1: the root is true at the floor and no place below it hits; verdict 2: no
-  -- place hits; any other: no place below the floor hits
+  -- while there is no verdict the search knows what it knew; verdict 1: the root is true at the floor, no place below it hits, and it is no
+  -- lower than at the beginning; verdict 2: no place hits; any other: no place below the floor hits
   pub record Holds (t : Searched) : Type 0 where
     pub going : t .search .order .verdict ≡ 0 → Standing hit hits net begun (t .search .arena) (t .words)
-    pub found : t .search .order .verdict ≡ 1 → Floor hits (floorAt net (t .words)) × T (value (val (floorAt net (t .words))) (net .root))
+    pub found : t .search .order .verdict ≡ 1
+        → Floor hits (floorAt net (t .words)) × T (value (val (floorAt net (t .words))) (net .root)) × (floorAt net begun ≤ floorAt net (t .words))
     pub clear : t .search .order .verdict ≡ 2 → (x : ℕ) → hits x → ⊥
     pub out : (t .search .order .verdict ≡ 1 → ⊥) → (t .search .order .verdict ≡ 2 → ⊥) → Floor hits (floorAt net (t .words))
 
@@ -146,7 +147,7 @@ module _ (hit : (ℕ → Bool) → Type 0) (hits : ℕ → Type 0) (val : ℕ �
           (λ v h l. subst (λ (k : ℕ). k / 2 < v) (sym (op v 1 (omega arith))) (begin .right v h l)) (begin .root) e in
           record {
             going = λ z. absurd (omega arith);
-            found = λ z. (stand .floor, subst (λ (p : ℕ). T (value (val p) (net .root))) at true-at);
+            found = λ z. (stand .floor, subst (λ (p : ℕ). T (value (val p) (net .root))) at true-at, stand .from);
             clear = λ z. absurd (omega arith);
             out = λ p q. absurd (p refl);
           }

@@ -2,17 +2,17 @@
 -- x` are the values of all nodes at place x; `hits x` says that place x is looked for; `hit a` is what each such place's values obey,
 -- and what clauses are about. Assumes nothing.
 use mathlib.Core.Path.{_≡_}
-use mathlib.Core.Bool.{Bool, false}
+use mathlib.Core.Bool.{Bool, true, false}
 use mathlib.Core.List.{List}
-use Prim.Native.Nat.{ℕ, suc, _*_, _/_, _^_, _≤_, _<_}
+use Prim.Native.Nat.{ℕ, suc, _-_, _*_, _/_, _^_, _≤_, _<_}
 use lib.Dec.{T}
 use lib.ListN.{length}
 use Rattle.aiger.specs.Frames.{value, freeBit}
 use Rattle.memory.specs.Record.{field, fixed}
 use Rattle.memory.specs.declared.Netlist.{Netlist}
 use Rattle.clauses.specs.Clause.{Always, GateOf}
-use Rattle.clauses.specs.Floor.{Free}
-use Rattle.floor.specs.Place.{bitOf}
+use Rattle.clauses.specs.Floor.{Free, Floor, prefix}
+use Rattle.floor.specs.Place.{bitOf, floorBit, isIdle}
 
 pub record Begun (hit : (ℕ → Bool) → Type 0) (hits : ℕ → Type 0) (val : ℕ → ℕ → Bool) (net : Netlist) (w : List ℕ) : Type 0 where
   -- sizes
@@ -32,7 +32,12 @@ pub record Begun (hit : (ℕ → Bool) → Type 0) (hits : ℕ → Type 0) (val 
   pub left : (v : ℕ) → net .free < v → v < net .nodes → field w (net .nodes) v 0 / 2 < v
   pub right : (v : ℕ) → net .free < v → v < net .nodes → field w (net .nodes) v 1 / 2 < v
   pub root : net .root / 2 < net .nodes
-  -- nothing is fixed, the floor is 0, and a place that is looked for is 0 where the hit does not depend on the bit
+  -- nothing is fixed, no place before the floor is looked for, and a place that is looked for is 0 where a bit does not count
   pub unfixed : (v : ℕ) → fixed (field w (net .nodes) v 2) ≡ 0
-  pub low : (v : ℕ) → bitOf w (net .nodes) v ≡ 1 → ⊥
-  pub clean : (v : ℕ) → v < net .free → (bitOf w (net .nodes) (suc v) ≡ 0 → ⊥) → (x : ℕ) → hits x → freeBit (net .free) x v ≡ false
+  pub low : Floor hits (prefix (floorBit w (net .nodes)) (net .free))
+  pub clean : (v : ℕ) → v < net .free → (bitOf w (net .nodes) (suc v) ≡ 0 → ⊥) → (bitOf w (net .nodes) (suc v) ≡ 1 → ⊥) → (x : ℕ) → hits x
+      → freeBit (net .free) x v ≡ false
+  -- its bit of an idle node is 0 where a place from the floor on that is 0 from this bit on is no greater: else the place without that bit
+  -- would have been looked for
+  pub spare : (v : ℕ) → v < net .free → isIdle w (net .nodes) (suc v) ≡ true → (x q : ℕ) → hits x
+      → prefix (floorBit w (net .nodes)) (net .free) ≤ q * 2 ^ (net .free - v) → q * 2 ^ (net .free - v) ≤ x → freeBit (net .free) x v ≡ false

@@ -4,29 +4,19 @@ use mathlib.Core.Bool.{Bool}
 use mathlib.Core.List.{List}
 use Prim.Native.Nat.{ℕ, zero, suc, _+_, _-_, _*_, _/_, _≤_, _<_}
 use native.Mathlib.Omega.{arith}
-use borrow.Author.Tests.{ne-eqb}
 use lib.ListN.{set, length-set}
 use Rattle.memory.specs.Record.{undef, successor, stored}
 use Rattle.memory.specs.declared.Netlist.{Netlist}
 use Rattle.memory.specs.declared.Heap.{Heap}
-use Rattle.clauses.specs.Floor.{prefix}
 use Rattle.reasons.specs.Claims.{Same, Sound}
 use Rattle.reasons.proofs.Valid.{same-refl, same-trans}
 use Rattle.reasons.proofs.Frame.{field-other, stored-same}
 use Rattle.kept.specs.Kept.{arenaOf}
-use Rattle.floor.specs.Place.{bitOf}
-use Rattle.floor.proofs.Rise.{bits}
 use Rattle.heap.specs.Heap.{admitted}
 use Rattle.heap.proofs.Frame.{admit-same}
 use Rattle.learning.proofs.Standing.{Standing, stand-same}
 use Rattle.choices.specs.Begun.{Begun}
 use Rattle.conflicts.specs.Conflicts.{reset, resetRest, resetAll, wiped, prepared, filled}
-
--- the number that zeros make
-prefix-low : (b : ℕ → ℕ) → ((v : ℕ) → b v ≡ 0) → (n : ℕ) → prefix b n ≡ 0
-unfolding prefix
-prefix-low b z zero = refl
-prefix-low b z (suc n) = omega (arith, prefix-low b z n, z (suc n))
 
 module _ (net : Netlist) (room : 14 * net .nodes ≤ net .words) where
   still : (w : List ℕ) (v f x : ℕ) → 3 ≤ f → f < 14 → Same net (arenaOf 0 0) w (stored w (net .nodes) v f x)
@@ -110,9 +100,9 @@ module _ (hit : (ℕ → Bool) → Type 0) (hits : ℕ → Type 0) (val : ℕ �
       record {
         sound = first-sound;
         operand = λ v f h. refl;
-        clean = λ v h p q x t. begin .clean v h p x t;
-        floor = λ x h.
-            omega (arith, prefix-low (bits w (net .nodes)) (λ v. rw (ne-eqb (bitOf w (net .nodes) v) 1 (begin .low v))) (net .free));
+        clean = begin .clean;
+        floor = begin .low;
+        from = omega arith;
       }
 
   pub begin-standing : (h : Heap) → Standing hit hits net w (arenaOf 0 0) (filled (prepared w net) net h 1 (net .free) .words)

@@ -74,9 +74,10 @@ module _ (hit : (ℕ → Bool) → Type 0) (hits : ℕ → Type 0) (val : ℕ �
       steps-hold hit hits val net w begin (h .words) s effort effort
       (holds hit hits val net w begin (searched (h .words) s) (begin-standing hit hits val net w begin (heapOf 0 1024), refl))
 
-  -- Found: the root is true at the floor's place, and no smaller place is looked for
+  -- Found: the root is true at the floor's place, no smaller place is looked for, and it is no lower than the floor at the beginning
   pub found-first : ran w net effort .verdict ≡ Verdict.Found
       → Floor hits (floorAt net (ran w net effort .words)) × T (value (val (floorAt net (ran w net effort .words))) (net .root))
+      × (floorAt net w ≤ floorAt net (ran w net effort .words))
   unfolding ran
   found-first e = end-holds .found (found-one (run w net effort .search .order .verdict) (run w net effort .search .order .ticks) e)
 

@@ -68,14 +68,14 @@ module _ (p : ℕ → Bool) (places lo D : ℕ) {r : ℕ} (f : First (onward lo 
   total = min places (lo + D)
 
   -- what is found below the total is the first hit
-  first-hit : r < total → decision p places lo D ≡ Decision.hit r
+  pub first-hit : r < total → decision p places lo D ≡ Decision.hit r
   unfolding decision
   first-hit l =
       ap (λ (o : Option ℕ). decided o (cond (leb places (lo + D)) Decision.clear Decision.spent))
       (first-some f (leastBelow total (onward lo p)) (least-below (onward lo p) total) l)
 
   -- where none is, the frame is clear if the budget covers it, and else the budget is spent
-  no-hit : r ≡ total → (q : Bool) → leb places (lo + D) ≡ q → decision p places lo D ≡ cond q Decision.clear Decision.spent
+  pub no-hit : r ≡ total → (q : Bool) → leb places (lo + D) ≡ q → decision p places lo D ≡ cond q Decision.clear Decision.spent
   unfolding decision
   no-hit l q e =
       ap (λ (o : Option ℕ). decided o (cond (leb places (lo + D)) Decision.clear Decision.spent))

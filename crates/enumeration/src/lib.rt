@@ -28,11 +28,11 @@ pub enum Frame {
 }
 
 // What is asked: whether bad line b is hit at frame t, in sequences of n free bits, the first `free` of which are latches' starts.
-struct Question {
-    b: usize,
-    t: usize,
-    n: usize,
-    free: usize,
+pub struct Question {
+    pub b: usize,
+    pub t: usize,
+    pub n: usize,
+    pub free: usize,
 }
 
 // The number of a block of 64 sequences, and how many of their free bits are left for the inputs from a frame on.
@@ -149,7 +149,7 @@ fn next_frame(
 
 // Which of the 64 sequences of a block hit. The frames after one by which every sequence of the block has broken a constraint are not
 // evaluated.
-fn block_hits(
+pub fn block_hits(
     m: &[u32],
     layout: Layout,
     order: &[u32],
@@ -188,7 +188,7 @@ fn block_hits(
 }
 
 // Writes the free bits of sequence x.
-fn put_free(x: u64, n: usize, free: &mut [u32])
+pub fn put_free(x: u64, n: usize, free: &mut [u32])
     requires { ⌜ n ≤ length (now free) ⌝ }
     ensures { λ _. ⌜ FreeBits n x (now (free .exit)) ⌝ }
 {

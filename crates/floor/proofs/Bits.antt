@@ -17,7 +17,7 @@ use Rattle.clauses.specs.Floor.{prefix}
 use Rattle.reasons.specs.Claims.{Alike}
 use Rattle.reasons.proofs.Valid.{alike-refl}
 use Rattle.reasons.proofs.Frame.{length-stored, stored-after, stored-field, stored-none}
-use Rattle.floor.specs.Place.{bitOf, floorBit, cleared, lifted}
+use Rattle.floor.specs.Place.{bitOf, floorBit, isIdle, uncounted, cleared, lifted}
 
 -- ---- the number that bits make
 
@@ -56,24 +56,34 @@ module _ (w : List ℕ) (nodes : ℕ) (room : 14 * nodes ≤ length w) where
 
   pub cleared-other : (v u : ℕ) → (u ≡ v → ⊥) → bitOf (cleared w nodes v) nodes u ≡ bitOf w nodes u
   unfolding cleared
-  cleared-other v u n = go (eqb (bitAt (field w nodes v 2)) 1)
+  cleared-other v u n = go (isIdle w nodes v) (eqb (bitAt (field w nodes v 2)) 1)
     where
-      go : (b : Bool) → bitOf (cond b (stored w nodes v 2 (field w nodes v 2 - 4)) w) nodes u ≡ bitOf w nodes u
-      go true = bit-other v (field w nodes v 2 - 4) u n
-      go false = refl
+      go : (a b : Bool)
+          → bitOf (cond a (stored w nodes v 2 (uncounted (field w nodes v 2))) (cond b (stored w nodes v 2 (field w nodes v 2 - 4)) w)) nodes u ≡ bitOf w nodes u
+      go true b = bit-other v (uncounted (field w nodes v 2)) u n
+      go false true = bit-other v (field w nodes v 2 - 4) u n
+      go false false = refl
 
-  -- a bit that is 1 becomes 0, and one that does not count stays
-  pub cleared-one : (v : ℕ) → v < nodes → bitOf w nodes v ≡ 1 → bitOf (cleared w nodes v) nodes v ≡ 0
+  -- the bit of an idle node no longer counts
+  pub cleared-idle : (v : ℕ) → v < nodes → isIdle w nodes v ≡ true → bitOf (cleared w nodes v) nodes v ≡ 2
   unfolding cleared bitOf
-  cleared-one v l e =
-      rw (eq-eqb (bitAt (field w nodes v 2)) 1 e) (ap bitAt (field-at v (field w nodes v 2 - 4) l) ∙ four)
+  cleared-idle v l i = rw i (ap bitAt (field-at v (uncounted (field w nodes v 2)) l) ∙ two (field w nodes v 2))
+    where
+      two : (fact : ℕ) → bitAt (uncounted fact) ≡ 2
+      two fact = omega arith
+
+  -- of another, a bit that is 1 becomes 0, and one that does not count stays
+  pub cleared-one : (v : ℕ) → v < nodes → isIdle w nodes v ≡ false → bitOf w nodes v ≡ 1 → bitOf (cleared w nodes v) nodes v ≡ 0
+  unfolding cleared bitOf
+  cleared-one v l i e =
+      rw (i, eq-eqb (bitAt (field w nodes v 2)) 1 e) (ap bitAt (field-at v (field w nodes v 2 - 4) l) ∙ four)
     where
       four : bitAt (field w nodes v 2 - 4) ≡ 0
       four = omega (arith, e)
 
-  pub cleared-not : (v : ℕ) → (bitOf w nodes v ≡ 1 → ⊥) → cleared w nodes v ≡ w
+  pub cleared-not : (v : ℕ) → isIdle w nodes v ≡ false → (bitOf w nodes v ≡ 1 → ⊥) → cleared w nodes v ≡ w
   unfolding cleared bitOf
-  cleared-not v n = rw (ne-eqb (bitAt (field w nodes v 2)) 1 n)
+  cleared-not v i n = rw (i, ne-eqb (bitAt (field w nodes v 2)) 1 n)
 
   pub lifted-other : (v u : ℕ) → (u ≡ v → ⊥) → bitOf (lifted w nodes v) nodes u ≡ bitOf w nodes u
   unfolding lifted
@@ -124,12 +134,14 @@ module _ (net : Netlist) (arena : Arena) (w : List ℕ) (room : 14 * net .nodes 
 
   pub cleared-alike : (v : ℕ) → Alike net arena w (cleared w (net .nodes) v)
   unfolding cleared
-  cleared-alike v = go (eqb (bitAt (field w (net .nodes) v 2)) 1) refl
+  cleared-alike v = go (isIdle w (net .nodes) v) (eqb (bitAt (field w (net .nodes) v 2)) 1) refl
     where
-      go : (b : Bool) → eqb (bitAt (field w (net .nodes) v 2)) 1 ≡ b
-          → Alike net arena w (cond b (stored w (net .nodes) v 2 (field w (net .nodes) v 2 - 4)) w)
-      go false e = alike-refl net arena w
-      go true e = let f = eqb-true (bitAt (field w (net .nodes) v 2)) 1 e in fact-alike v (field w (net .nodes) v 2 - 4) (omega arith)
+      go : (a b : Bool) → eqb (bitAt (field w (net .nodes) v 2)) 1 ≡ b
+          → Alike net arena w
+          (cond a (stored w (net .nodes) v 2 (uncounted (field w (net .nodes) v 2))) (cond b (stored w (net .nodes) v 2 (field w (net .nodes) v 2 - 4)) w))
+      go true b e = fact-alike v (uncounted (field w (net .nodes) v 2)) (omega arith)
+      go false false e = alike-refl net arena w
+      go false true e = let f = eqb-true (bitAt (field w (net .nodes) v 2)) 1 e in fact-alike v (field w (net .nodes) v 2 - 4) (omega arith)
 
   pub lifted-alike : (v : ℕ) → Alike net arena w (lifted w (net .nodes) v)
   unfolding lifted

@@ -211,7 +211,7 @@ module _ (hit : (ℕ → Bool) → Type 0) (net : Netlist) (arena : Arena) (hits
           record {
             room = given .sound .room;
             within = given .sound .within;
-            clean = clean;
+            clean = λ v h. clean v h;
             low = λ h. let q : k ≡ net .free = omega (arith, seen .small) in subst (Above hits (net .free) (bits w (net .nodes))) q above;
             high = λ h. above;
           } in (

@@ -1,25 +1,27 @@
 -- The raise of the floor in memory is the raise of the law of counting order. Assumes nothing.
 use mathlib.Core.Path.{_≡_, refl, sym, ap, ap₂, _∙_, subst}
-use mathlib.Core.Bool.{Bool, true, false, cond, _&&_}
+use mathlib.Core.Bool.{Bool, true, false, not, cond, _&&_}
 use mathlib.Core.List.{List}
 use mathlib.Core.Logic.{_⊎_, inl, inr}
 use Prim.Native.Nat.{ℕ, zero, suc, _+_, _-_, _*_, _/_, _%_, _^_, _≤_, _<_}
+use native.Mathlib.Nat.{div-lt-iff-lt-mul}
 use native.Mathlib.Decide.{ℕ-discrete, decLt}
 use native.Mathlib.Omega.{arith}
 use borrow.Author.Tests.{eq-eqb, ne-eqb, eqb-true, eqb-false, leb-true, leb-false}
 use lib.Dec.{T, eqb, leb}
 use lib.ListN.{length}
+use lib.Pow.{pow-pos}
 use Rattle.aiger.specs.Frames.{freeBit}
 use Rattle.memory.specs.declared.Netlist.{Netlist}
 use Rattle.memory.specs.declared.Arena.{Arena}
 use Rattle.clauses.specs.Floor.{Floor, prefix, Above}
-use Rattle.clauses.proofs.Raise.{above-one, above-still, above-floor, above-none}
+use Rattle.clauses.proofs.Raise.{prefix-at, above-one, above-still, above-floor, above-none}
 use Rattle.reasons.specs.Claims.{Alike}
 use Rattle.reasons.proofs.Valid.{alike-refl, alike-trans}
 use Rattle.floor.specs.declared.Refutation.{Refutation}
 use Rattle.floor.specs.declared.Refutation.the-variants.{Raised, NoHit, Unlearnt}
-use Rattle.floor.specs.Place.{Risen, risen, bitOf, floorBit, cleared, lifted, canRise, raised}
-use Rattle.floor.proofs.Bits.{prefix-same, prefix-zeros, cleared-other, cleared-one, cleared-not, lifted-other, lifted-zero, cleared-alike, lifted-alike}
+use Rattle.floor.specs.Place.{Risen, risen, bitOf, floorBit, isIdle, cleared, lifted, canRise, raised}
+use Rattle.floor.proofs.Bits.{prefix-same, prefix-zeros, cleared-other, cleared-idle, cleared-one, cleared-not, lifted-other, lifted-zero, cleared-alike, lifted-alike}
 
 -- the bits as a function
 abbrev pub bits : List ℕ → ℕ → ℕ → ℕ
@@ -51,15 +53,19 @@ nodeOf NoHit = 0
 nodeOf Unlearnt = 0
 
 module _ (net : Netlist) (arena : Arena) (n m : ℕ) (small : n < net .nodes) (hits : ℕ → Type 0) where
-  -- a hit is 0 where the bit does not count
-  abbrev Clean : List ℕ → Type 0
-  Clean w = (v : ℕ) → v < n → (bitOf w (net .nodes) (suc v) ≡ 0 → ⊥) → (bitOf w (net .nodes) (suc v) ≡ 1 → ⊥) → (x : ℕ) → hits x → freeBit n x v ≡ false
+  -- a hit is 0 where a bit up to node k does not count
+  abbrev Clean : List ℕ → ℕ → Type 0
+  Clean w k = (v : ℕ) → v < k → (bitOf w (net .nodes) (suc v) ≡ 0 → ⊥) → (bitOf w (net .nodes) (suc v) ≡ 1 → ⊥) → (x : ℕ) → hits x → freeBit n x v ≡ false
+
+  -- the bit of node j did not count, or the node is idle and stands after node v
+  abbrev pub Uncounted : List ℕ → ℕ → ℕ → Type 0
+  Uncounted w v j = ((bitOf w (net .nodes) j ≡ 0 → ⊥) × (bitOf w (net .nodes) j ≡ 1 → ⊥)) ⊎ ((v < j) × (isIdle w (net .nodes) j ≡ true))
 
   -- what is known before node k is looked at: each hit is above the places that share the bits up to k, or up to m if that is less
   pub record Before (w : List ℕ) (k : ℕ) : Type 0 where
     pub room : 14 * net .nodes + arena .used + 6 * arena .count ≤ net .words
     pub within : net .words ≤ length w
-    pub clean : Clean w
+    pub clean : Clean w k
     pub low : k ≤ m → Above hits n (bits w (net .nodes)) k
     pub high : m < k → Above hits n (bits w (net .nodes)) m
 
@@ -76,7 +82,7 @@ module _ (net : Netlist) (arena : Arena) (n m : ℕ) (small : n < net .nodes) (h
     pub rest : (j : ℕ) → nodeOf (to .says) < j → j ≤ k → bits (to .words) (net .nodes) j ≡ 0
     pub past : (j : ℕ) → k < j → bits (to .words) (net .nodes) j ≡ bits w (net .nodes) j
     pub still : (j : ℕ) → (bitOf (to .words) (net .nodes) j ≡ 0 → ⊥) → (bitOf (to .words) (net .nodes) j ≡ 1 → ⊥)
-        → (bitOf w (net .nodes) j ≡ 0 → ⊥) × (bitOf w (net .nodes) j ≡ 1 → ⊥)
+        → Uncounted w (nodeOf (to .says)) j
 
   above-same : (w u : List ℕ) (k : ℕ) → ((j : ℕ) → j ≤ k → bits w (net .nodes) j ≡ bits u (net .nodes) j)
       → Above hits n (bits w (net .nodes)) k → Above hits n (bits u (net .nodes)) k
@@ -104,7 +110,7 @@ module _ (net : Netlist) (arena : Arena) (n m : ℕ) (small : n < net .nodes) (h
         still = λ j p q.
             elim (ℕ-discrete j (suc k)) [
               | yes z ↦ absurd (q (ap (bitOf (lifted w (net .nodes) (suc k)) (net .nodes)) z ∙ one))
-              | no z ↦ let s = lifted-other w (net .nodes) long (suc k) j z in (λ y. p (s ∙ y), λ y. q (s ∙ y))
+              | no z ↦ let s = lifted-other w (net .nodes) long (suc k) j z in inl (λ y. p (s ∙ y), λ y. q (s ∙ y))
             ];
       }
 
@@ -120,30 +126,43 @@ module _ (net : Netlist) (arena : Arena) (n m : ℕ) (small : n < net .nodes) (h
     unfolding next
     other j z = cleared-other w (net .nodes) long (suc k) j z
 
+    idle-same : (j : ℕ) → isIdle next (net .nodes) j ≡ isIdle w (net .nodes) j
+    unfolding next isIdle
+    idle-same j =
+        let a = cleared-alike net arena w (given .room) (given .within) (suc k) in
+        ap₂ (λ (x y : ℕ). not (eqb x y)) (a .node j 0 (omega arith)) (a .node j 1 (omega arith))
+
     here : bits next (net .nodes) (suc k) ≡ 0
     unfolding next
-    here =
-        elim (ℕ-discrete (bitOf w (net .nodes) (suc k)) 1) [
-          | yes e ↦ number (cleared-one w (net .nodes) long (suc k) (omega arith) e)
-          | no e ↦
-              ap (λ (u : List ℕ). bits u (net .nodes) (suc k)) (cleared-not w (net .nodes) long (suc k) e) ∙ zero-of (bitOf w (net .nodes) (suc k)) e
-        ]
+    here = go (isIdle w (net .nodes) (suc k)) refl
+      where
+        go : (b : Bool) → isIdle w (net .nodes) (suc k) ≡ b → bits (cleared w (net .nodes) (suc k)) (net .nodes) (suc k) ≡ 0
+        go true i = number (cleared-idle w (net .nodes) long (suc k) (omega arith) i)
+        go false i =
+            elim (ℕ-discrete (bitOf w (net .nodes) (suc k)) 1) [
+              | yes e ↦ number (cleared-one w (net .nodes) long (suc k) (omega arith) i e)
+              | no e ↦
+                  ap (λ (u : List ℕ). bits u (net .nodes) (suc k)) (cleared-not w (net .nodes) long (suc k) i e) ∙ zero-of (bitOf w (net .nodes) (suc k)) e
+            ]
 
-    -- a bit that does not count did not count before
-    before : (j : ℕ) → (bitOf next (net .nodes) j ≡ 0 → ⊥) → (bitOf next (net .nodes) j ≡ 1 → ⊥)
-        → (bitOf w (net .nodes) j ≡ 0 → ⊥) × (bitOf w (net .nodes) j ≡ 1 → ⊥)
+    -- a bit that does not count did not count before, or is that of an idle node
+    before : (j : ℕ) → (bitOf next (net .nodes) j ≡ 0 → ⊥) → (bitOf next (net .nodes) j ≡ 1 → ⊥) → Uncounted w k j
     unfolding next
     before j p q =
         elim (ℕ-discrete j (suc k)) [
-          | no z ↦ let s = cleared-other w (net .nodes) long (suc k) j z in (λ y. p (s ∙ y), λ y. q (s ∙ y))
-          | yes z ↦
-              elim (ℕ-discrete (bitOf w (net .nodes) (suc k)) 1) [
-                | yes e ↦ absurd (p (ap (bitOf (cleared w (net .nodes) (suc k)) (net .nodes)) z ∙ cleared-one w (net .nodes) long (suc k) (omega arith) e))
-                | no e ↦
-                    let s = ap (λ (u : List ℕ). bitOf u (net .nodes) j) (cleared-not w (net .nodes) long (suc k) e) in
-                    (λ y. p (s ∙ y), λ y. q (s ∙ y))
-              ]
+          | no z ↦ let s = cleared-other w (net .nodes) long (suc k) j z in inl (λ y. p (s ∙ y), λ y. q (s ∙ y))
+          | yes z ↦ go z (isIdle w (net .nodes) (suc k)) refl
         ]
+      where
+        go : j ≡ suc k → (b : Bool) → isIdle w (net .nodes) (suc k) ≡ b → Uncounted w k j
+        go z true i = inr (omega arith, ap (isIdle w (net .nodes)) z ∙ i)
+        go z false i =
+            elim (ℕ-discrete (bitOf w (net .nodes) (suc k)) 1) [
+              | yes e ↦ absurd (p (ap (bitOf (cleared w (net .nodes) (suc k)) (net .nodes)) z ∙ cleared-one w (net .nodes) long (suc k) (omega arith) i e))
+              | no e ↦
+                  let s = ap (λ (u : List ℕ). bitOf u (net .nodes) j) (cleared-not w (net .nodes) long (suc k) i e) in
+                  inl (λ y. p (s ∙ y), λ y. q (s ∙ y))
+            ]
 
     low-bits : (j : ℕ) → j ≤ k → bits w (net .nodes) j ≡ bits next (net .nodes) j
     low-bits j h = sym (number (other j (λ z. omega arith)))
@@ -161,7 +180,9 @@ module _ (net : Netlist) (arena : Arena) (n m : ℕ) (small : n < net .nodes) (h
         record {
           room = given .room;
           within = omega (arith, given .within, cleared-alike net arena w (given .room) (given .within) (suc k) .long);
-          clean = λ v h p q x t. let b = before (suc v) p q in given .clean v h (b .0) (b .1) x t;
+          clean = λ v h p q x t.
+              let s = cleared-other w (net .nodes) long (suc k) (suc v) (λ z. omega arith) in
+              given .clean v (omega arith) (λ y. p (s ∙ y)) (λ y. q (s ∙ y)) x t;
           low = λ h.
               above-same w (cleared w (net .nodes) (suc k)) k low-bits
               (elim (ℕ-discrete k m) [ yes z ↦ subst (Above hits n (bits w (net .nodes))) (sym z) (given .high (omega arith)) | no z ↦ down (omega arith) ]);
@@ -187,7 +208,11 @@ module _ (net : Netlist) (arena : Arena) (n m : ℕ) (small : n < net .nodes) (h
                 | no z ↦ a .rest j h (omega arith)
               ];
           past = λ j h. a .past j (omega arith) ∙ number (other j (λ z. omega arith));
-          still = λ j p q. let b = a .still j p q in before j (b .0) (b .1);
+          still = λ j p q.
+              elim (a .still j p q) [
+                | inl b ↦ elim (before j (b .0) (b .1)) [ inl d ↦ inl d | inr d ↦ inr (omega (arith, a .at, d .0), d .1) ]
+                | inr b ↦ inr (b .0, sym (idle-same j) ∙ b .1)
+              ];
         }
 
   pub raise-after : (w : List ℕ) (k : ℕ) → k ≤ n → Before w k → After w k (raised w (net .nodes) m k)
@@ -204,7 +229,7 @@ module _ (net : Netlist) (arena : Arena) (n m : ℕ) (small : n < net .nodes) (h
         same = λ j h. refl;
         rest = λ j h s. absurd (omega arith);
         past = λ j h. refl;
-        still = λ j p q. (p, q);
+        still = λ j p q. inl (p, q);
       }
   raise-after w (suc k) l given =
       go (leb (suc k) m) (eqb (bitOf w (net .nodes) (suc k)) 0) refl refl (λ b. raise-after (cleared w (net .nodes) (suc k)) k (omega arith) b)
@@ -258,4 +283,22 @@ module _ (net : Netlist) (arena : Arena) (n m : ℕ) (small : n < net .nodes) (h
             let e = next-prefix b c r n (s .0) (a .at) (a .old (s .0)) (a .new (s .0)) (a .same) (a .rest) in
             subst (Claim hits n (net .nodes) (to .words)) (sym (s .1))
             (subst (Floor hits) (sym e) (above-floor n b (digits w (net .nodes)) hits r (a .above (s .0))))
+      ]
+
+  -- where the floor does not rise to none, it is no lower than before, and 0 after the bit that rises
+  pub raise-rises : (w : List ℕ) → Before net arena n m small hits w n → (raised w (net .nodes) m n .says ≡ NoHit → ⊥)
+      → prefix (bits w (net .nodes)) n ≤ prefix (bits (raised w (net .nodes) m n .words) (net .nodes)) n
+  raise-rises w given some =
+      let to = raised w (net .nodes) m n in
+      let a = raise-after net arena n m small hits w n (omega arith) given in
+      let b = bits w (net .nodes) in
+      let c = bits (to .words) (net .nodes) in
+      elim (a .some) [
+        | inl e ↦ absurd (some e)
+        | inr s ↦
+            let r = nodeOf (to .says) in
+            let e = next-prefix b c r n (s .0) (a .at) (a .old (s .0)) (a .new (s .0)) (a .same) (a .rest) in
+            let f = prefix-at n b (digits w (net .nodes)) r (n - r) (omega (arith, a .at)) in
+            let g = div-lt-iff-lt-mul {x = prefix b n} {y = prefix b r + 1} (pow-pos (n - r)) .0 (omega (arith, f)) in
+            omega (arith, e, g)
       ]

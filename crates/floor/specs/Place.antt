@@ -1,8 +1,8 @@
 -- The floor in memory: the test that a clause is false there, the raise, and evaluation, as functions of the words. Assumes nothing.
 use mathlib.Core.Path.{_≡_}
-use mathlib.Core.Bool.{Bool, true, false, cond, _&&_}
+use mathlib.Core.Bool.{Bool, true, false, not, cond, _&&_}
 use mathlib.Core.List.{List}
-use Prim.Native.Nat.{ℕ, zero, suc, _+_, _-_, _/_, _%_}
+use Prim.Native.Nat.{ℕ, zero, suc, _+_, _-_, _*_, _/_, _%_}
 use lib.Dec.{eqb, leb, ltb}
 use Rattle.memory.specs.Record.{field, stored, bitAt, opposite}
 use Rattle.memory.specs.declared.Netlist.{Netlist}
@@ -50,8 +50,20 @@ judged w net arena zero top = FalseBy top
 judged w net arena (suc k) top =
     cond (isWrong w net (draftAt w net arena k)) NotFalse (judged w net arena k (later net (draftAt w net arena k) top))
 
+-- node v is idle: its operands differ. A free bit that does not lead to the hit is so where the floor begins at a place other than 0: it
+-- is the conjunction of itself and true, and its bit of the floor may be 1 until a bit before it rises
+unfoldable pub isIdle : List ℕ → ℕ → ℕ → Bool
+isIdle w nodes v = not (eqb (field w nodes v 0) (field w nodes v 1))
+
+-- the same word with a bit that does not count
+abbrev pub uncounted : ℕ → ℕ
+uncounted fact = fact / 16 * 16 + 8 + fact % 4
+
+-- a bit that is 1 becomes 0; that of an idle node no longer counts
 unfoldable pub cleared : List ℕ → ℕ → ℕ → List ℕ
-cleared w nodes v = cond (eqb (bitAt (field w nodes v 2)) 1) (stored w nodes v 2 (field w nodes v 2 - 4)) w
+cleared w nodes v =
+    cond (isIdle w nodes v) (stored w nodes v 2 (uncounted (field w nodes v 2)))
+    (cond (eqb (bitAt (field w nodes v 2)) 1) (stored w nodes v 2 (field w nodes v 2 - 4)) w)
 
 unfoldable pub lifted : List ℕ → ℕ → ℕ → List ℕ
 lifted w nodes v = cond (eqb (bitAt (field w nodes v 2)) 0) (stored w nodes v 2 (field w nodes v 2 + 4)) w
@@ -59,7 +71,8 @@ lifted w nodes v = cond (eqb (bitAt (field w nodes v 2)) 0) (stored w nodes v 2 
 unfoldable pub canRise : List ℕ → ℕ → ℕ → ℕ → Bool
 canRise w nodes m v = leb v m && eqb (bitOf w nodes v) 0
 
--- from node v downward: the last bit up to node m that counts and is 0 becomes 1, those after it 0; no hit is left where there is none
+-- from node v downward: the last bit up to node m that counts and is 0 becomes 1, those after it 0, of idle nodes uncounted; no hit is left
+-- where there is none
 unfoldable pub raised : List ℕ → ℕ → ℕ → ℕ → Risen
 raised w nodes m zero = risen w NoHit
 raised w nodes m (suc v) =

@@ -79,11 +79,22 @@ fn test_clause(work: &[u32], net: Netlist, arena: Arena, n: u32) -> AtFloor
     AtFloor::FalseBy(top)
 }
 
-// The bit of node v becomes 0, if it is 1.
+// Whether node v is idle: its operands differ.
+fn is_idle(work: &[u32], nodes: u32, v: u32) -> bool
+    ensures { λ r. ⌜ r ≡ P.isIdle (now (work .entry)) nodes v ⌝ }
+{
+    field(work, nodes, v, 0) != field(work, nodes, v, 1)
+}
+
+// The bit of node v becomes 0, if it is 1; that of an idle node no longer counts.
 fn clear(work: &mut [u32], nodes: u32, v: u32)
     ensures { λ r. ⌜ now (work .exit) ≡ P.cleared (now (work .entry)) nodes v ⌝ }
 {
     let fact = field(work, nodes, v, FACT);
+    if is_idle(work, nodes, v) {
+        set_field(work, nodes, v, FACT, fact / 16 * 16 + 8 + fact % 4);
+        return;
+    }
     if fact / 4 % 4 == 1 {
         set_field(work, nodes, v, FACT, fact - 4);
     }

@@ -6,7 +6,7 @@ use mathlib.Core.Logic.{inl, inr}
 use Prim.Native.Nat.{ℕ, zero, suc, _+_, _-_, _*_, _/_, _%_, _^_, _≤_, _<_}
 use native.Mathlib.Decide.{decLt}
 use native.Mathlib.Omega.{arith}
-use borrow.Author.Tests.{lt-ltb, le-leb, lt-leb}
+use borrow.Author.Tests.{lt-ltb, le-leb, lt-leb, eq-eqb, ne-eqb}
 use lib.Dec.{T}
 use lib.ListN.{length, getD}
 use Rattle.aiger.specs.Lists.{upto}
@@ -26,8 +26,8 @@ use Rattle.cone.proofs.Circuit.{folded-shape}
 use Rattle.cone.proofs.Values.{edge-on}
 use Rattle.memory.specs.Record.{field, place, fixed, bitAt}
 use Rattle.clauses.specs.Clause.{GateOf}
-use Rattle.clauses.specs.Floor.{Free}
-use Rattle.floor.specs.Place.{bitOf}
+use Rattle.clauses.specs.Floor.{Free, prefix}
+use Rattle.floor.specs.Place.{bitOf, floorBit, isIdle}
 use Rattle.netlist.specs.Netlist.{netNodes, leafWord, gateWord, recordWord, plainWord, plain, netWords}
 use Rattle.netlist.proofs.Links.{field-none, Linked, all-linked}
 use Rattle.clauses.proofs.Resolution.{value-node}
@@ -59,7 +59,7 @@ module _ (n : ℕ) (gs : List Pair) (root words : ℕ) (room : 14 * netNodes n g
   pub net-long : length (netWords n gs root words) ≡ words
   net-long = kept-words .size ∙ plain-long
 
-  operand : (v f : ℕ) → v < netNodes n gs root → f < 2 → field (netWords n gs root words) (netNodes n gs root) v f ≡ recordWord n gs root v f
+  pub operand : (v f : ℕ) → v < netNodes n gs root → f < 2 → field (netWords n gs root words) (netNodes n gs root) v f ≡ recordWord n gs root v f
   operand v f l h = kept-words .operand v f h ∙ plain-field v f l (omega arith)
 
   known : (v : ℕ) → v < netNodes n gs root → field (netWords n gs root words) (netNodes n gs root) v 2 % 16 ≡ recordWord n gs root v 2 % 16
@@ -71,17 +71,24 @@ module _ (n : ℕ) (gs : List Pair) (root words : ℕ) (room : 14 * netNodes n g
 
   -- ---- a node that is no gate
 
-  leaf-operand : (v f : ℕ) → v ≤ n → f < 2 → field (netWords n gs root words) (netNodes n gs root) v f ≡ 2 * v
+  pub leaf-operand : (v f : ℕ) → v ≤ n → f < 2 → field (netWords n gs root words) (netNodes n gs root) v f ≡ 2 * v
   unfolding recordWord leafWord
   leaf-operand v f l h = operand v f (omega (arith, nodes-more)) h ∙ rw (le-leb v n l, lt-ltb f 2 h)
 
-  leaf-known : (v : ℕ) → v ≤ n → field (netWords n gs root words) (netNodes n gs root) v 2 % 16 ≡ cond (inCone n gs root v) 0 8
+  pub leaf-known : (v : ℕ) → v ≤ n → field (netWords n gs root words) (netNodes n gs root) v 2 % 16 ≡ cond (inCone n gs root v) 0 8
   unfolding recordWord leafWord
   leaf-known v l = known v (omega (arith, nodes-more)) ∙ rw (le-leb v n l) (go (inCone n gs root v))
     where
       go : (b : Bool) → cond b 0 8 % 16 ≡ cond b 0 8
       go true = refl
       go false = refl
+
+  -- no free bit is idle
+  pub not-idle : (v : ℕ) → v ≤ n → isIdle (netWords n gs root words) (netNodes n gs root) v ≡ false
+  unfolding isIdle
+  not-idle v l =
+      let e = leaf-operand v 0 l (omega arith) ∙ sym (leaf-operand v 1 l (omega arith)) in
+      ap not (eq-eqb (field (netWords n gs root words) (netNodes n gs root) v 0) (field (netWords n gs root words) (netNodes n gs root) v 1) e)
 
   -- ---- a gate
 
@@ -132,6 +139,15 @@ module _ (n : ℕ) (gs : List Pair) (root words : ℕ) (room : 14 * netNodes n g
               | no l ↦ let d = digits-leaf (inCone n gs root v) x (leaf-known v (omega arith)) in (d .0, cone-low (inCone n gs root v) (bitAt x) (d .1))
             ]
       ]
+
+  -- the floor is 0
+  pub floor-zero : (v : ℕ) → prefix (floorBit (netWords n gs root words) (netNodes n gs root)) v ≡ 0
+  unfolding prefix
+  floor-zero zero = refl
+  floor-zero (suc v) =
+      let z : floorBit (netWords n gs root words) (netNodes n gs root) (suc v) ≡ 0 =
+      rw (ne-eqb (bitOf (netWords n gs root words) (netNodes n gs root) (suc v)) 1 (none-known (suc v) .1)) in
+      omega (arith, floor-zero v, z)
 
   module _ (built : Built n gs) (inside : var root < nodes n gs) where
     gate-inside : (p : ℕ) → n + 1 + p < netNodes n gs root → p < length (folded n gs root .gates)

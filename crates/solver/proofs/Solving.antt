@@ -1,7 +1,7 @@
 -- From the verdict on a netlist to the first sequence that makes the root true. Assumes nothing.
 use mathlib.Core.Path.{_≡_, sym, ap, ap₂, _∙_, subst}
 use mathlib.Core.List.{List}
-use Prim.Native.Nat.{ℕ, _*_, _^_, _≤_, _<_}
+use Prim.Native.Nat.{ℕ, suc, _*_, _^_, _≤_, _<_}
 use native.Mathlib.Omega.{arith}
 use lib.Dec.{T}
 use lib.ListN.{length}
@@ -20,7 +20,7 @@ use Rattle.conflicts.specs.declared.Verdict.the-variants.{Found, Clear, Out}
 use Rattle.choices.specs.Begun.{Begun}
 use Rattle.conflicts.proofs.Theorems.{found-first, clear-none, out-floor}
 use Rattle.netlist.specs.Netlist.{netNodes, netWords, netOf, Marked, NetlistIs}
-use Rattle.netlist.proofs.Records.{net-long, nodes-more, none-known, val, val-zero, val-free, obeyed, left-before, right-before}
+use Rattle.netlist.proofs.Records.{net-long, nodes-more, none-known, not-idle, floor-zero, val, val-zero, val-free, obeyed, left-before, right-before}
 use Rattle.netlist.proofs.Records.{root-inside, root-value}
 use Rattle.netlist.proofs.Premises.{Hits, Hit, hits-hit, hits-root, hit-gate, hit-never, clean, first-true, none-true}
 use Rattle.solver.specs.Solved.{bitsPut, solved, solvedFloor, NoneBelow, FirstTrue, FloorLeft, SolvedIs}
@@ -49,8 +49,9 @@ module _ (n : ℕ) (gs : List Pair) (root words : ℕ) (room : 14 * netNodes n g
         right = right-before n gs root words room built inside;
         root = root-inside n gs root words room built inside;
         unfixed = λ v. none-known n gs root words room v .0;
-        low = λ v. none-known n gs root words room v .1;
-        clean = clean n gs root words room built inside;
+        low = λ x h. omega (arith, floor-zero n gs root words room n);
+        clean = λ v l p q. clean n gs root words room built inside v l p;
+        spare = λ v l i x q h s t. absurd (subst T (sym i ∙ not-idle n gs root words room (suc v) (omega arith)) tt);
       }
 
   -- how the search ends, the place of the floor then, and the free bits put in front

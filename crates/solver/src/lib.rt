@@ -24,7 +24,7 @@ fn floor_bit(work: &[u32], nodes: u32, v: u32) -> u32
 }
 
 // Puts the floor's bits of nodes 1 to n at the front.
-fn put_bits(work: &mut [u32], nodes: u32, n: u32)
+pub fn put_bits(work: &mut [u32], nodes: u32, n: u32)
     requires { ⌜ n ≤ 65536 ⌝ }
     ensures { λ r. ⌜ now (work .exit) ≡ S.bitsPut (now (work .entry)) nodes 0 n ⌝ }
 {

@@ -1,0 +1,20 @@
+-- `place_decision::capped` meets its contract. Assumes nothing.
+use native.Mathlib.Omega.{arith}
+use Rattle.place_search.specs.Places.{greatest}
+use borrow.Author.Needs.{needs}
+use Rattle.place_decision.proofs.capped.Statement.{statement}
+use Rattle.place_decision.proofs.capped.Tie as tie
+
+returns : tie.Need-returns
+unfolding greatest
+returns c = omega (arith, c .if1 .taken)
+
+returns-2 : tie.Need-returns-2
+unfolding greatest
+returns-2 c = omega (arith, c .if1 .left)
+
+pub capped-spec : {M : Type 1} → statement M
+capped-spec =
+    tie.close
+    (tie.spec
+    returns returns-2)

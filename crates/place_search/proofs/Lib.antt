@@ -1,0 +1,5 @@
+pub mod Answers
+pub mod Chained
+pub mod Starting
+pub mod Refused
+pub mod Examples

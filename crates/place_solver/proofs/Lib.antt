@@ -1,0 +1,4 @@
+pub mod Started
+pub mod Digits
+pub mod Beginning
+pub mod Solving

@@ -1,0 +1,2 @@
+-- What the contracts of `place_solver` cite. Assumes nothing.
+pub mod From
