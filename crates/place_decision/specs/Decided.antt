@@ -16,9 +16,9 @@ use Rattle.enumeration.specs.Frame.{FreeBits}
 use Rattle.enumeration.specs.declared.Frame.{Frame}
 use Rattle.enumeration.specs.declared.Frame.the-variants as N
 use Rattle.place_enumeration.specs.From.{FrameFrom}
-use Rattle.place_search.specs.Places.{greatest, Placed, answers}
+use Rattle.place_search.specs.Places.{greatest, Placed, tells, answers}
 use Rattle.decision.specs.Decided.{FrameFits}
-use Rattle.place_decision.specs.Reach.{placeChosen}
+use Rattle.place_decision.specs.Reach.{placeChosen, reachedTold}
 use Rattle.place_decision.specs.declared.PlaceFrame.{PlaceFrame}
 use Rattle.place_decision.specs.declared.PlaceFrame.the-variants.{Hit, Clear, Spent}
 
@@ -56,3 +56,8 @@ GoneOn c b t place D floor work r =
     ((place + D ≤ floor) × (r ≡ Spent (min greatest floor)))
     ⊎ ((floor < place + D)
     × ((f : Frame) × FrameFrom c b t (max floor place) (place + D - max floor place) work f × (r ≡ toldOf f (min greatest (place + D)))))
+
+-- Clause 12.10: the number is the one that is told of frame t, and may be told
+pub record ReachedIs (c : Circuit) (b t D R : ℕ) : Type 0 where
+  pub is : R ≡ reachedTold c b t D
+  pub told : T (tells (reaches c b t) (2 ^ freeBits c t) 0 D R)
