@@ -1,4 +1,4 @@
--- Clause 12.12: more budget keeps an answer from a place. Assumes nothing.
+-- Clause 12.13: more budget keeps an answer from a place. Assumes nothing.
 use mathlib.Core.Path.{_≡_, refl, sym, ap, _∙_, subst}
 use mathlib.Core.Bool.{Bool}
 use mathlib.Core.List.{List}

@@ -94,7 +94,7 @@ module _ (p : ℕ → Bool) (places : ℕ) where
   true-same lo Placed.clear (Placed.spent R) h h′ = absurd h′
   true-same lo (Placed.spent R) a′ h h′ = absurd h
 
-  -- Clause 12.12: two answers from one place that are not spent are the same, whatever the budgets: more budget keeps an answer and its hit
+  -- Clause 12.13: two answers from one place that are not spent are the same, whatever the budgets: more budget keeps an answer and its hit
   pub unspent-same : (lo D D′ : ℕ) (a a′ : Placed) → Unspent a → Unspent a′ → T (answers p places lo D a) → T (answers p places lo D′ a′)
       → a ≡ a′
   unspent-same lo D D′ a a′ u u′ h h′ = true-same lo a a′ (unspent-true lo D a u h) (unspent-true lo D′ a′ u′ h′)

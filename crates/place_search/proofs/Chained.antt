@@ -1,4 +1,4 @@
--- Clause 12.12: chains of searches of one frame, and searches of it from several places: their answer is that of every search from the first
+-- Clause 12.13: chains of searches of one frame, and searches of it from several places: their answer is that of every search from the first
 -- place that is not spent. Assumes nothing.
 use mathlib.Core.Path.{_≡_, refl, sym, ap, _∙_, subst}
 use mathlib.Core.Bool.{Bool}
@@ -22,7 +22,7 @@ module _ (p : ℕ → Bool) (places : ℕ) where
       let r = answers-out p places lo D (Placed.spent R) h .1 in
       true-back p places lo R (omega (arith, r .far)) (r .none) a (chain-true (r .told) c)
 
-  -- Clause 12.12: the end of a chain is the answer of every search from its first place that is not spent
+  -- Clause 12.13: the end of a chain is the answer of every search from its first place that is not spent
   pub chain-answer : {lo : ℕ} {a : Placed} → lo ≤ greatest → Chain p places lo a
       → (D : ℕ) (a′ : Placed) → T (answers p places lo D a′) → Unspent a′ → a′ ≡ a
   chain-answer {lo} {a} le c D a′ h u = true-same p places lo a′ a (unspent-true p places lo D a′ u h) (chain-true le c)
@@ -57,7 +57,7 @@ module _ (p : ℕ → Bool) (places : ℕ) where
   ranges-true {lo} {a} (Ranges.last D h u) = unspent-true p places lo D a u h
   ranges-true {lo} (Ranges.more {a = a} D lo′ b l h v r) = lower-true lo lo′ l D b a h v (ranges-true r)
 
-  -- Clause 12.12: it is the answer of every search from the first place that is not spent
+  -- Clause 12.13: it is the answer of every search from the first place that is not spent
   pub ranges-answer : {lo : ℕ} {a : Placed} → Ranges p places lo a
       → (D : ℕ) (a′ : Placed) → T (answers p places lo D a′) → Unspent a′ → a′ ≡ a
   ranges-answer {lo} {a} r D a′ h u = true-same p places lo a′ a (unspent-true p places lo D a′ u h) (ranges-true r)
@@ -75,7 +75,7 @@ module _ (q : Question) (k D t R : ℕ) (h : T (permittedOf q k D (Outcome.spent
       true-back (q .hitting t) (q .places t) 0 R (omega arith) (reached .none) a
       (chain-true (q .hitting t) (q .places t) (reached .told) c)
 
-  -- Clause 12.12: a hit is the answer of every search of all frames that is not spent and whose bound is t or more, and its first hit
+  -- Clause 12.13: a hit is the answer of every search of all frames that is not spent and whose bound is t or more, and its first hit
   pub plain-found : (x : ℕ) → Chain (q .hitting t) (q .places t) R (Placed.hit x)
       → (k′ D′ : ℕ) (o : Outcome) → t ≤ k′ → Decided o → T (permittedOf q k′ D′ o) → (o ≡ Outcome.found t) × (firstAt q t ≡ Option.some x)
   plain-found x c k′ D′ o le d g =
