@@ -11,8 +11,8 @@
    Arguments stand in one order: the user; what users share; circuit memory; what is asked, numbers, texts and other memories; working
    memory; output; answer. All numbers and lengths are of 64 bits.
 
-   Every function returns 0, or the number of its refusal, and a refused call changes nothing that was lent. The tests of a function are
-   made in the order that is given with it.
+   yunverok_version returns the version. Every other function returns 0 or the number of its refusal, and a refused call changes nothing
+   that was lent. The tests of a function are made in the order that is given with it.
      1  file empty or over 65,536 bytes              8  gates depend on themselves
      2  header not as described                      9  the needed words of circuit memory are not what an accepted load leaves
      3  a count too large, I+L+A above M (*)        10  b not below B
@@ -33,9 +33,22 @@
    Users are 0 and 1. Who has one user is user 0. What users share (shared) is bytes: byte i is the pin of input i of user 0, byte 256 +
    i that of user 1. 0 and 1 hold the input at that value in all frames, any other byte leaves it free. The bytes from 512 to 2,559 are
    kept for what later versions let users share, 1,024 for each user; an accepted load or join makes them, and all that follow, 0. Any
-   length is permitted: a byte that is not there counts as a free pin and as not in use. Length 0 is a user 0 alone whose pins are all
-   free; user 1 may call too and has free pins. Where a function takes no shared bytes it does not depend on pins. A call changes
+   length is permitted: a byte that is not there counts as a free pin and as not in use. With length 0 all pins of both users are free,
+   and either user may call. Bytes of value 0 hold inputs at 0: who lends bytes that no accepted load or join has set fills the first 512
+   with 2 and the others with 0, or lends length 0. Where a function takes no shared bytes it does not depend on pins. A call changes
    nothing but what it says, so that neither user disturbs the other.
+
+   Free bits, sequences, counting order. The free bits of frame t are the start values of the latches with a free start, in file order,
+   and then the inputs of frame 0, 1, .. t, each time in file order; an input that the user holds is no free bit and has its pin's value.
+   n is their number. A sequence gives each of them a value, so that frame t has 2 to the power n sequences. Counting order reads a
+   sequence as a binary number whose most significant digit is the first free bit: the first sequence has 0 everywhere, and the first d
+   are the numbers below d. A sequence hits bad line b at frame t where bad line b is true in frame t and every constraint in each frame
+   from 0 to t.
+
+   A witness is a text of these lines, each ended by a line feed: 1; b and the number of the bad line, as in b0; the start values of the L
+   latches; for each frame from 0 on the values of the I inputs, held ones too; a full stop. Values are 0 or 1, in file order, with nothing
+   between them; with no latch or no input such a line is empty. Where a function takes a witness, up to 16 values may be x, which may be
+   either; a completion has 0 or 1 in place of each x.
 
    Circuit memory (circuit): 8 * (M + 1) + 256 words are needed, at most 33,032. An accepted load fills them (docs/MEMORY.md has the
    layout: words 0 to 6 are M I L O A B C); a copy of them is as good as the original, and words past them do not matter. Only
@@ -79,7 +92,8 @@ enum yunverok_place {
     YUNVEROK_A = 9,       /* gates, */
     YUNVEROK_B = 10,      /* bad lines, */
     YUNVEROK_C = 11,      /* constraints */
-    YUNVEROK_ALWAYS = 12, /* of a search: 1 where a none holds for every bound */
+    YUNVEROK_ALWAYS = 12, /* of a search: 1 where a none holds for every bound. The flag is no part of the same answer under a larger
+                             budget: a larger budget or bound may set it where it was 0 */
     YUNVEROK_LOAD = 13    /* of a preview: the number with which load would refuse, 0 where it would accept */
 };                        /* places 14 and 15 are 0 in this version */
 
@@ -103,26 +117,30 @@ uint64_t yunverok_version(void);
 
 /* Loads an AIGER 1.9 file, in ASCII or in binary form, told apart by the header's first word, aag or aig. User 0 alone may. Returns 0,
    and the needed words of circuit then hold the circuit, the words past them are as they were; the first 512 bytes of shared are 2, so
-   that all pins of both users are free, and those after them 0; answer tells the words needed and the counts. Or returns 18 for another
-   user, and then the number with which the file is refused, and circuit, shared and answer are as they were: 1 to 8, each over the
-   whole file, and 15 with 5, where the fault that stands first in the file counts. A binary file never gets 7 or 8. */
+   that all pins of both users are free, and those after them 0; answer tells the words needed and the counts. Or returns the number of
+   the refusal, and circuit, shared and answer are as they were: 18 for any other user, tested first; then 1 to 8, in this order, each
+   over the whole file. 15 is tested together with 5, and of these two the fault that stands first in the file counts. A binary file
+   never gets 7 or 8. */
 uint64_t yunverok_load(uint64_t user, uint8_t *shared, uint64_t shared_len, uint32_t *circuit, uint64_t circuit_len, const uint8_t *file,
                        uint64_t file_len, uint64_t *answer, uint64_t answer_len);
 
 /* Joins the circuits in first and second, which are read only, into circuit: the same inputs for both, by their place in the list; the
-   latches, gates and constraints of both, those of first before those of second; and for each pair of outputs three gates and a bad
-   line, which is true where the two outputs differ. User 0 alone may. Returns 0, and circuit then holds the joined circuit as an
-   accepted load of its text leaves it, the words past those needed as they were; the first 512 bytes of shared are 2 and those after
-   them 0; answer tells the words needed and the counts of the joined circuit. Or returns the number of the refusal, 18, 9, 17, 3 or 4,
-   in this order, and circuit, shared and answer are as they were. A search of circuit for bad line j then finds a shortest allowed run
-   that parts outputs j, or says that there is none in frames 0 to k. */
+   latches, gates and constraints of both, those of first before those of second; and for each pair of outputs, p of first and q of
+   second, three gates, listed last: p with not q, not p with q, and the complements of these two. Bad lines and outputs of both are
+   dropped: the joined circuit has no output, and its bad line j, the complement of the third gate of pair j, asks whether the outputs j
+   differ. Variables are numbered from 1 on in the order inputs, latches, gates, as they are listed, so that M is I + L + A. User 0 alone
+   may. Returns 0, and circuit then holds the joined circuit as an accepted load of its text leaves it, the words past those needed as
+   they were; the first 512 bytes of shared are 2 and those after them 0; answer tells the words needed and the counts of the joined
+   circuit. Or returns the number of the refusal, 18, 9 for first or second, 17, 3 or 4, in this order, and circuit, shared and answer
+   are as they were. A search of circuit for bad line j then finds a shortest allowed run in which the outputs j differ in the last frame,
+   says that there is none in frames 0 to k, or is spent. */
 uint64_t yunverok_join(uint64_t user, uint8_t *shared, uint64_t shared_len, uint32_t *circuit, uint64_t circuit_len, const uint32_t *first,
                        uint64_t first_len, const uint32_t *second, uint64_t second_len, uint64_t *answer, uint64_t answer_len);
 
-/* Preview of a load: what a load of the file by user 0 would answer for a circuit memory as long as circuit, which is read only for its
-   length. Either user may. Returns 0, and answer tells in place YUNVEROK_LOAD the number with which load would refuse the file, 1 to 8
-   or 15, or 0 where it would accept it; the words that the circuit needs, 0 where that number is 1 to 3; and the counts where load
-   would accept it. Or returns 18 for a user who is neither 0 nor 1, and answer is as it was. */
+/* Preview of a load: what a load of the file by user 0 would answer for a circuit memory as long as circuit. Of circuit the length alone
+   matters; what it holds does not, and stays. Either user may. Returns 0, and answer tells in place YUNVEROK_LOAD the number with which
+   load would refuse the file, 1 to 8 or 15, or 0 where it would accept it; the words that the circuit needs, 0 where that number is 1 to
+   3; and the counts where load would accept it. Or returns 18 for a user who is neither 0 nor 1, and answer is as it was. */
 uint64_t yunverok_preview(uint64_t user, const uint32_t *circuit, uint64_t circuit_len, const uint8_t *file, uint64_t file_len,
                           uint64_t *answer, uint64_t answer_len);
 
@@ -133,13 +151,11 @@ uint64_t yunverok_preview(uint64_t user, const uint32_t *circuit, uint64_t circu
 uint64_t yunverok_pin(uint64_t user, uint8_t *shared, uint64_t shared_len, const uint32_t *circuit, uint64_t circuit_len, uint64_t input,
                       uint64_t value, uint64_t *answer, uint64_t answer_len);
 
-/* Searches frames 0 to k for a hit of bad line b, with a budget of d sequences for each frame. A sequence gives each free bit of frames
-   0 to t a value; a held input is no free bit and has its pin's value. It hits at frame t where bad line b is true in frame t and every
-   constraint in each frame from 0 to t. Returns 0, and answer tells the kind:
+/* Searches frames 0 to k for a hit of bad line b, with a budget of d sequences for each frame. Returns 0, and answer tells the kind:
      YUNVEROK_FOUND   frame t is the first with a hit, and the witness of its first hit in counting order stands at the front of out; frame
                       and length are told;
      YUNVEROK_NONE    no frame from 0 to k has a hit; the frame that is told is k. Where place YUNVEROK_ALWAYS is 1 no frame at all has one,
-                      however large the bound; 0 says nothing of later frames;
+                      however late; 0 says nothing of later frames (clause 3.9 of docs/REQUIREMENT.md);
      YUNVEROK_SPENT   frames before t have no hit, frame t has more than d sequences, and none of its first d hits; frame t is told.
    What is told depends on the circuit, the user's pins, b, k and d alone. Or returns the number of the refusal, 18 for a user who is
    neither 0 nor 1 and then 9 to 13, and work, out and answer are as they were. out needs the length of the witness at bound k: with the
@@ -149,26 +165,33 @@ uint64_t yunverok_search(uint64_t user, const uint8_t *shared, uint64_t shared_l
                          uint64_t b, uint64_t k, uint64_t d, uint32_t *work, uint64_t work_len, uint8_t *out, uint64_t out_len,
                          uint64_t *answer, uint64_t answer_len);
 
-/* Folds the hit of bad line b at frame t into one circuit over the free bits of that frame: free latches in file order, then the inputs
-   that the user does not hold, frame by frame; a held input has its pin's value. Returns 0, and the circuit's text stands at the front
-   of out as an AIGER file in ASCII; answer tells its length. Or returns the number of the refusal, 18 for a user who is neither 0 nor 1
-   and then 9 to 13, and work, out and answer are as they were. out needs 24 * size + 64 bytes, the size taken at t; the bytes past the
-   text are as they were. shared and circuit are read only. A text with more than 256 inputs or 3,072 gates is past what load accepts.
-   */
+/* Folds the hit of bad line b at frame t into one circuit over the n free bits of that frame. Returns 0, and the circuit's text stands at
+   the front of out as an AIGER file in ASCII; answer tells its length. The text has seven header numbers, no latch, no bad line and no
+   constraint. Its inputs are variables 1 to n, the free bits in their order; its one output is true exactly for the sequences that hit;
+   its gates are the variables from n + 1 on without a gap, each with operands of smaller variables, the larger operand first. Of the gates:
+     - no operand is constant, and the two operands are neither equal nor opposite;
+     - no operand is repeated one gate down: where an operand is gate h or its complement, the complement of the other operand is none of
+       the operands of h, and where it is h itself, neither is the other operand;
+     - no two gates have the same operands;
+     - every gate leads to the output;
+     - with n at most 12 no gate is equal or opposite in function to another one, to a constant or to an input.
+   The text depends on the circuit, the user's pins, b and t alone. Or returns the number of the refusal, 18 for a user who is neither 0
+   nor 1 and then 9 to 13, and work, out and answer are as they were. out needs 24 * size + 64 bytes, the size taken at t; the bytes past
+   the text are as they were. shared and circuit are read only. A text with more than 256 inputs or 3,072 gates is past what load
+   accepts. */
 uint64_t yunverok_fold(uint64_t user, const uint8_t *shared, uint64_t shared_len, const uint32_t *circuit, uint64_t circuit_len,
                        uint64_t b, uint64_t t, uint32_t *work, uint64_t work_len, uint8_t *out, uint64_t out_len, uint64_t *answer,
                        uint64_t answer_len);
 
-/* Replays a witness of 1 to 256 frames. In the lines after line b it may hold x for up to 16 bits that may be either; a completion has
-   0 or 1 for each, and hits if its start agrees with every reset, each held input has its pin's value in every frame, and its last
-   frame is a hit of its bad line. Returns 0, and answer tells the kind: YUNVEROK_ALL where every completion hits, YUNVEROK_NO where
-   none does, else YUNVEROK_MIXED. Or returns the number of the refusal, 18 for a user who is neither 0 nor 1 and then 9, 14 or 16, and
-   answer is as it was. Nothing but answer is changed. */
+/* Replays a witness of 1 to 256 frames. A completion of it hits if its start agrees with every reset, each held input has its pin's
+   value in every frame, and its last frame is a hit of its bad line. Returns 0, and answer tells the kind: YUNVEROK_ALL where every
+   completion hits, YUNVEROK_NO where none does, else YUNVEROK_MIXED. Or returns the number of the refusal, 18 for a user who is neither
+   0 nor 1 and then 9, 14 or 16, and answer is as it was. Nothing but answer is changed. */
 uint64_t yunverok_replay(uint64_t user, const uint8_t *shared, uint64_t shared_len, const uint32_t *circuit, uint64_t circuit_len,
                          const uint8_t *text, uint64_t text_len, uint64_t *answer, uint64_t answer_len);
 
 /* Widens a witness: from its last bit to its first, puts x where every completion still hits as a replay by this user says, until the
-   text holds 16; so no x stands at an input that the user holds. Returns 0, and the widened text, as long as the given one, stands at
+   text holds 16; so no x is put at an input that the user holds. Returns 0, and the widened text, as long as the given one, stands at
    the front of out; answer tells its length. A witness to which replay does not tell all is copied as it is. Or returns the number of
    the refusal, 18 for a user who is neither 0 nor 1 and then 9, 14, 16 or 13, in this order, and out and answer are as they were. out
    needs the witness's length; the bytes past the text are as they were. shared, circuit and text are read only. With many x a call can

@@ -129,7 +129,7 @@ fn number(b: bool) -> u64
     0
 }
 
-// Tells what a search answered.
+// Tells what a search answered. Clause 3.9: with none, whether no frame at all has a hit.
 fn tell_searched(said: SearchAnswer, answer: &mut [u64]) -> u64
     ensures { λ r. ⌜ Tells (searchTold (Search.said said)) (now (answer .entry)) r (now (answer .exit)) ⌝ }
 {
