@@ -4,6 +4,7 @@ use mathlib.Core.Bool.{Bool, true, false, cond}
 use mathlib.Core.List.{List, []}
 use mathlib.Core.Option.{Option, none, some}
 use Prim.Native.Nat.{ℕ, zero, suc, _+_, _*_, _^_, _≤_, _<_}
+use native.Mathlib.Nat.{mul-le-mul-right}
 use native.Mathlib.Decide.{ℕ-discrete}
 use native.Mathlib.Omega.{arith}
 use lib.Dec.{T}
@@ -26,7 +27,7 @@ use Rattle.diagram_rows.specs.Inputs.{wideRow}
 use Rattle.state_sets.specs.Shape.{rowAt}
 use Rattle.state_sets.specs.Sets.{Sets, Tried, onDone, again}
 use Rattle.state_sets.specs.Meaning.{Values, valuesOf, Held}
-use Rattle.state_sets.proofs.Room.{row-is, row-small}
+use Rattle.state_sets.proofs.Room.{row-is}
 use Rattle.state_sets.proofs.Collections.{collects}
 use Rattle.state_sets.proofs.Sound.{values-front, values-same, values-other, values-at, Did}
 use Rattle.state_sets.proofs.Sound as sound
@@ -44,13 +45,17 @@ zeros-at zero i = refl
 zeros-at (suc n) zero = refl
 zeros-at (suc n) (suc i) = zeros-at n i
 
+-- so many rows stand in a table of 2,083 words
+pub rows-small : (vars rows : ℕ) → vars ≤ 112 → rows ≤ 16 → rows * (vars + 2) ≤ 1824
+rows-small vars rows v r = omega (arith, mul-le-mul-right (vars + 2) r)
+
 -- a plan of the rows of a circuit's part: the latches are kept ones, and up to four inputs matter
 pub record Fit (part : Part) (plan : List ℕ) : Type 0 where
   pub whole : planLength plan ≤ length plan
   pub among : Among part (planOf plan .latches)
   pub matters : ℕ → Bool
   pub inputs : planOf plan .inputs ≡ keptBelow matters (length (part .circuit .inputs))
-  pub vars : length (planOf plan .latches) ≤ 256
+  pub vars : length (planOf plan .latches) ≤ 112
   pub few : length (planOf plan .inputs) ≤ 4
 
 pub rows-few : (part : Part) (plan : List ℕ) → Fit part plan → rowsOf plan ≤ 16
@@ -180,14 +185,14 @@ module _ (level : ℕ) (part : Part) (right : T (literalsRight (part .circuit)))
       let s = stateOf (begun words looks) in
       record {
         good = g;
-        edges = λ i. subst (λ (d : ℕ). In (s .nodes) d) (sym (zeros-at 4387 i)) (omega (arith, g .built .some-node));
+        edges = λ i. subst (λ (d : ℕ). In (s .nodes) d) (sym (zeros-at 2083 i)) (omega (arith, g .built .some-node));
         room =
             omega (
               arith,
-              length-replicate {A = ℕ} 4387 0,
+              length-replicate {A = ℕ} 2083 0,
               row-is (length latches) rows,
-              row-small (length latches) rows (fit .vars) (rows-few part plan fit),
+              rows-small (length latches) rows (fit .vars) (rows-few part plan fit),
             );
         blank = λ i x il.
-            values-at (s .nodes) (replicate 4387 0) i x ∙ ap (value (s .nodes) x) (zeros-at 4387 i) ∙ value-false (s .nodes) (g .built) x;
+            values-at (s .nodes) (replicate 2083 0) i x ∙ ap (value (s .nodes) x) (zeros-at 2083 i) ∙ value-false (s .nodes) (g .built) x;
       }

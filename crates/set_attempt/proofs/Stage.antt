@@ -56,7 +56,7 @@ unfolding planned
 planned-gates c ms order which js = listed-size _ _ (length (c .gates))
 
 module _ (part : Part) (right : T (literalsRight (part .circuit))) (no-cycle : T (acyclic (part .circuit))) (b : ℕ) (closed : Closed part b)
-    (few-gates : length (part .circuit .gates) ≤ 4096) (few-latches : length (part .circuit .latches) ≤ 4096) where
+    (few-gates : length (part .circuit .gates) ≤ 3072) (few-latches : length (part .circuit .latches) ≤ 4096) where
   abbrev c : Circuit
   c = part .circuit
 
@@ -65,30 +65,30 @@ module _ (part : Part) (right : T (literalsRight (part .circuit))) (no-cycle : T
 
   -- what is tested before the stage tries
   pub record May (first : ℕ) : Type 0 where
-    pub vars : length (part .kept) ≤ 256
+    pub vars : length (part .kept) ≤ 112
     pub inputs : length (inputsOf (part .circuit) (marks (part .circuit) b)) ≤ 4
     pub large : 1024 ≤ size (part .circuit) first
 
   may-try : (first : ℕ) → mayTry part b first ≡ true → May first
   may-try first e =
-      let x = leb (length (part .kept)) 256 in
+      let x = leb (length (part .kept)) 112 in
       let y = leb (length (inputsOf c (marks c b))) 4 in
       let z = leb 1024 (size c first) in
       let t : T (x && (y && z)) = T-true e in
       let r = and-right x (y && z) t in
       record {
-        vars = leb-true (length (part .kept)) 256 (true-T x (and-left x (y && z) t));
+        vars = leb-true (length (part .kept)) 112 (true-T x (and-left x (y && z) t));
         inputs = leb-true (length (inputsOf c (marks c b))) 4 (true-T y (and-left y z r));
         large = leb-true 1024 (size c first) (true-T z (and-right y z r));
       }
 
   module _ (first : ℕ) (may : May first) (w : ℕ) where
-    plan-room : length (planWords (planAt w)) ≤ length {A = ℕ} (replicate 4608 0)
+    plan-room : length (planWords (planAt w)) ≤ length {A = ℕ} (replicate 3191 0)
     plan-room =
         let p = planAt w in
         omega (
           arith,
-          length-replicate {A = ℕ} 4608 0,
+          length-replicate {A = ℕ} 3191 0,
           length-append (p .latches) (p .inputs ++ p .gates),
           length-append (p .inputs) (p .gates),
           planned-size c (marks c b) (depthFirst c) w (part .kept),
@@ -100,11 +100,11 @@ module _ (part : Part) (right : T (literalsRight (part .circuit))) (no-cycle : T
 
     -- the plan in words, read
     pub plan-is : planOf (planIn part b w) ≡ planned (part .circuit) (marks (part .circuit) b) (depthFirst (part .circuit)) w (part .kept)
-    plan-is = plan-read (planAt w) (replicate 4608 0) plan-room
+    plan-is = plan-read (planAt w) (replicate 3191 0) plan-room
 
     -- it is there as a whole
     pub plan-whole : planLength (planIn part b w) ≤ length (planIn part b w)
-    plan-whole = plan-fits (planAt w) (replicate 4608 0) plan-room
+    plan-whole = plan-fits (planAt w) (replicate 3191 0) plan-room
 
     -- a plan whose latches are distinct fits
     pub plan-fit : isDistinct (planOf (planIn part b w) .latches) ≡ true → Fit part (planIn part b w)

@@ -121,9 +121,9 @@ unfoldable pub tableMade : Circuit → ℕ → List ℕ → Sets → Tried
 tableMade c b plan z =
     whereDone (again (startPut c (planOf plan .latches) (rowsOf plan)) z) (rowsPut c b plan (rowsOf plan))
 
--- a table for up to 256 variables and 16 rows, and a diagram of so many words with so many looks
+-- a table for up to 112 variables and 16 rows, and a diagram of so many words with so many looks
 unfoldable pub blankSets : ℕ → ℕ → Sets
-blankSets words looks = record { state = stateOf (begun words looks); table = replicate 4387 0 }
+blankSets words looks = record { state = stateOf (begun words looks); table = replicate 2083 0 }
 
 abbrev pub setupOf : Circuit → List ℕ → Setup
 setupOf c plan =

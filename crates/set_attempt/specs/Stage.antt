@@ -17,12 +17,12 @@ use Rattle.set_attempt.specs.Attempt.{Trial, setsEnding}
 -- the plan of bad line b with the latches that are kept in the order `which`, in words
 abbrev pub planIn : Part → ℕ → ℕ → List ℕ
 planIn part b which =
-    sets (replicate 4608 0) 0 (planWords (planned (part .circuit) (marks (part .circuit) b) (depthFirst (part .circuit)) which (part .kept)))
+    sets (replicate 3191 0) 0 (planWords (planned (part .circuit) (marks (part .circuit) b) (depthFirst (part .circuit)) which (part .kept)))
 
--- up to 256 latches are kept, up to four inputs matter, and the first frame is large enough
+-- up to 112 latches are kept, up to four inputs matter, and the first frame is large enough
 abbrev pub mayTry : Part → ℕ → ℕ → Bool
 mayTry part b first =
-    leb (length (part .kept)) 256 && (leb (length (inputsOf (part .circuit) (marks (part .circuit) b))) 4 && leb 1024 (size (part .circuit) first))
+    leb (length (part .kept)) 112 && (leb (length (inputsOf (part .circuit) (marks (part .circuit) b))) 4 && leb 1024 (size (part .circuit) first))
 
 -- the diagram has 16 words for each unit of the first frame's size
 abbrev pub trialOf : Part → ℕ → (share : ℕ) → Trial

@@ -21,7 +21,7 @@ use Rattle.state_sets.specs.Sets.{Sets, setsOf}
 use Rattle.set_attempt.specs.Attempt.{tableMade, blankSets}
 
 -- a table of zeros and a diagram that is begun
-pub blank-is : (c : Circuit) (b : ℕ) (plan : List ℕ) (n share : ℕ) (w table : List ℕ) → w ≡ begun n share → table ≡ replicate 4387 0
+pub blank-is : (c : Circuit) (b : ℕ) (plan : List ℕ) (n share : ℕ) (w table : List ℕ) → w ≡ begun n share → table ≡ replicate 2083 0
     → tableMade c b plan (setsOf w table) ≡ tableMade c b plan (blankSets n share)
 unfolding blankSets
 blank-is c b plan n share w table e f = λ i. tableMade c b plan (record { state = stateOf (e i); table = f i })

@@ -18,13 +18,13 @@ use Rattle.diagram_rows.specs.Rows.{planOf, planLength}
 use Rattle.state_sets.specs.declared.Shape.{Shape}
 use Rattle.state_sets.specs.Shape.{Fits}
 use Rattle.state_sets.specs.Sets.{Sets, Tried, setsOf, left}
-use Rattle.state_sets.proofs.Room.{row-is, row-small}
+use Rattle.state_sets.proofs.Room.{row-is}
 use Rattle.set_stage.specs.Plans.{freesOf, baseOf}
 use Rattle.set_walk.specs.Walk.{Legible}
 use Rattle.stages.specs.Endings.{Ending, NoneBefore}
 use Rattle.set_attempt.specs.Attempt.{rowsOf, tableMade, blankSets, onTable, withTable}
 use Rattle.set_attempt.specs.Bits.{freeValue}
-use Rattle.set_attempt.proofs.Begun.{Fit, rows-few}
+use Rattle.set_attempt.proofs.Begun.{Fit, rows-few, rows-small}
 use Rattle.set_table.specs.Room.{TableRoom}
 use Rattle.set_frames.specs.declared.Reached.{Reached}
 use Rattle.set_frames.specs.declared.Reached.the-variants as reached
@@ -65,10 +65,6 @@ front-length n v work e l = omega (arith, length-append v (drop n work), length-
 pub front-room : (n : ℕ) (v work : List ℕ) → length v ≡ n → n ≤ length (v ++ drop n work)
 front-room n v work e = omega (arith, length-append v (drop n work))
 
--- the latches of a plan as a part of its words
-pub latches-part : (plan base : List ℕ) → length base ≡ word plan 0 → take (3 + length base - 3) (drop 3 plan) ≡ planOf plan .latches
-latches-part plan base e = let z : 3 + length base - 3 ≡ word plan 0 = omega arith in ap (λ (n : ℕ). take n (drop 3 plan)) z
-
 -- ---- an attempt
 
 -- a shape, the variables of the free latches, the start values, and a diagram with its table
@@ -79,7 +75,7 @@ record Posed : Type 0 where
   sets : Sets
 
 module _ (c : Circuit) (b : ℕ) (given : Proper c) (plan : List ℕ) (fit : Fit (partOf c b) plan) where
-  pub vars-few : word plan 0 ≤ 256
+  pub vars-few : word plan 0 ≤ 112
   vars-few = omega (arith, latches-counted plan (fit .whole), fit .vars)
 
   pub inputs-few : word plan 1 ≤ 4
@@ -89,21 +85,21 @@ module _ (c : Circuit) (b : ℕ) (given : Proper c) (plan : List ℕ) (fit : Fit
   rows-are = ap (λ (n : ℕ). 2 ^ n) (inputs-counted plan (fit .whole))
 
   -- there is room for the table
-  pub table-room : TableRoom plan 4387
+  pub table-room : TableRoom plan 2083
   table-room =
       record {
         whole = fit .whole;
-        vars = vars-few;
+        vars = omega (arith, vars-few);
         inputs = inputs-few;
         room =
             omega (
               arith,
               row-is (word plan 0) (2 ^ word plan 1),
-              row-small (word plan 0) (2 ^ word plan 1) vars-few (subst (λ (n : ℕ). n ≤ 16) rows-are (rows-few (partOf c b) plan fit)),
+              rows-small (word plan 0) (2 ^ word plan 1) vars-few (subst (λ (n : ℕ). n ≤ 16) rows-are (rows-few (partOf c b) plan fit)),
             );
       }
 
-  pub shape-fits : (s : Shape) (n : ℕ) → s .vars ≡ word plan 0 → s .rows ≡ 2 ^ word plan 1 → n ≡ 4387 → Fits s n
+  pub shape-fits : (s : Shape) (n : ℕ) → s .vars ≡ word plan 0 → s .rows ≡ 2 ^ word plan 1 → n ≡ 2083 → Fits s n
   shape-fits s n e f l =
       record {
         vars = omega (arith, vars-few);

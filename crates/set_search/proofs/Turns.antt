@@ -19,7 +19,7 @@ use Rattle.set_attempt.proofs.Bound.{sets-cut}
 use Rattle.set_frames.specs.declared.Reached.{Reached}
 use Rattle.set_frames.specs.declared.Reached.the-variants as reached
 use Rattle.set_search.specs.declared.Searched.the-variants as searched
-use Rattle.set_search.specs.Search.{Reaches, attemptAt, SetsOf}
+use Rattle.set_search.specs.Search.{Reaches, isAble, attemptAt, SetsOf}
 use Rattle.set_search.proofs.Below.{Names, attempt-names}
 
 -- ---- the orders, one after the other
@@ -50,6 +50,9 @@ module _ (part : Part) (b share first k : ℕ) (within : first ≤ k) (small : k
   abbrev c : Circuit
   c = part .circuit
 
+  abbrev able : Bool
+  able = isAble part b
+
   abbrev narrow : Bool
   narrow = leb (length (inputsOf (part .circuit) (marks (part .circuit) b))) 4
 
@@ -73,7 +76,7 @@ module _ (part : Part) (b share first k : ℕ) (within : first ≤ k) (small : k
       (Ending.gaveUp first))
   stage-is may e = sets-cut k first within small c b (trialOf part b share) ∙ ap (cutAt k) (within-is may e)
 
-  attempts-are : (d : Bool) → narrow ≡ d
+  attempts-are : (d : Bool) → isAble part b ≡ d
       → inTurn first (attemptAt part b share first (k + 1)) orders
       ≡ cond d (inTurn first (λ w. attemptEnding (part .circuit) b (planIn part b w) (16 * size (part .circuit) first) share first (k + 1)) orders)
       (Ending.gaveUp first)
@@ -84,37 +87,42 @@ module _ (part : Part) (b share first k : ℕ) (within : first ≤ k) (small : k
       (λ i. inTurn first (λ w. cond (e i) (attemptEnding c b (planIn part b w) (16 * size c first) share first (k + 1)) (Ending.gaveUp 0)) orders)
       ∙ none-turn first orders
 
-  -- few latches are kept, and the first frame is large enough
-  pub turns-start : length (part .kept) ≤ 256 → 1024 ≤ size (part .circuit) first → From part b share first k 0
-  turns-start few large = go narrow refl
+  -- the first frame is large enough
+  pub turns-start : 1024 ≤ size (part .circuit) first → From part b share first k 0
+  turns-start large = go able refl
     where
-      may-is : mayTry part b first ≡ (narrow && true)
+      and-true : (x y : Bool) → (x && (y && true)) ≡ (x && y)
+      and-true x true = refl
+      and-true x false = refl
+
+      may-is : mayTry part b first ≡ isAble part b
       may-is =
-          ap (λ (x : Bool). x && (narrow && leb 1024 (size c first))) (le-leb (length (part .kept)) 256 few)
-          ∙ ap (λ (x : Bool). narrow && x) (le-leb 1024 (size c first) large)
+          ap (λ (x : Bool). leb (length (part .kept)) 112 && (narrow && x)) (le-leb 1024 (size c first) large)
+          ∙ and-true (leb (length (part .kept)) 112) narrow
 
-      and-true : (d : Bool) → (d && true) ≡ d
-      and-true true = refl
-      and-true false = refl
-
-      go : (d : Bool) → narrow ≡ d → From part b share first k 0
-      go d e = stage-is d (may-is ∙ and-true narrow ∙ e) ∙ sym (ap (cutAt k) (attempts-are d e))
+      go : (d : Bool) → isAble part b ≡ d → From part b share first k 0
+      go d e = stage-is d (may-is ∙ e) ∙ sym (ap (cutAt k) (attempts-are d e))
 
   -- else the stage gives up at once
-  not-tried : mayTry part b first ≡ false → (work : List ℕ) → cutAt k (stageEnding part b share first) ≡ Cut.gaveUp first
-  not-tried e work = stage-is false e ∙ gave-up first within
-
-  pub many-latches : 256 < length (part .kept) → cutAt k (stageEnding part b share first) ≡ Cut.gaveUp first
-  many-latches l =
-      not-tried (ap (λ (x : Bool). x && (narrow && leb 1024 (size c first))) (lt-leb (length (part .kept)) 256 l)) []
+  not-tried : mayTry part b first ≡ false → cutAt k (stageEnding part b share first) ≡ Cut.gaveUp first
+  not-tried e = stage-is false e ∙ gave-up first within
 
   pub small-frame : size (part .circuit) first < 1024 → cutAt k (stageEnding part b share first) ≡ Cut.gaveUp first
-  small-frame l = not-tried (ap (λ (x : Bool). leb (length (part .kept)) 256 && (narrow && x)) (lt-leb 1024 (size c first) l) ∙ none (leb (length (part .kept)) 256) narrow) []
+  small-frame l =
+      not-tried (ap (λ (x : Bool). leb (length (part .kept)) 112 && (narrow && x)) (lt-leb 1024 (size c first) l) ∙ none (leb (length (part .kept)) 112) narrow)
     where
       none : (x y : Bool) → (x && (y && false)) ≡ false
       none true true = refl
       none true false = refl
       none false y = refl
+
+  pub not-able : isAble part b ≡ false → cutAt k (stageEnding part b share first) ≡ Cut.gaveUp first
+  not-able e = not-tried (none (leb (length (part .kept)) 112) narrow (leb 1024 (size c first)) e)
+    where
+      none : (x y z : Bool) → (x && y) ≡ false → (x && (y && z)) ≡ false
+      none true true z e = absurd (let z : _≡_ {A = ℕ} 0 1 = cc in omega arith)
+      none true false z e = refl
+      none false y z e = refl
 
   -- ---- an attempt
 
@@ -132,7 +140,7 @@ module _ (part : Part) (b share first k : ℕ) (within : first ≤ k) (small : k
 
     names : Names (k + 1) (attemptAt part b share first (k + 1) (getD orders i 0))
     unfolding attemptAt
-    names = go narrow
+    names = go able
       where
         go : (d : Bool) → Names (k + 1)
             (cond d (attemptEnding (part .circuit) b (planIn part b (getD orders i 0)) (16 * size (part .circuit) first) share first (k + 1)) (Ending.gaveUp 0))

@@ -1,16 +1,18 @@
 -- What the stage by sets of states answers, and each of its attempts. Assumes nothing.
 use mathlib.Core.Path.{_≡_}
-use mathlib.Core.Bool.{cond}
+use mathlib.Core.Bool.{Bool, true, cond, _&&_}
 use mathlib.Core.List.{List}
 use mathlib.Core.Option.{some}
 use Prim.Native.Nat.{ℕ, suc, _+_, _*_, _^_, _≤_, _<_}
 use lib.Dec.{leb}
 use lib.ListN.{length, getD, take}
+use lib.Seq.{sets}
 use Rattle.aiger.specs.Bits.{nonzero}
 use Rattle.aiger.specs.Circuit.{Circuit}
 use Rattle.aiger.specs.Frames.{freeBits, size}
 use Rattle.aiger.specs.Search.{leastBelow, question}
 use Rattle.layout.specs.Words.{word, circuitIn}
+use Rattle.layout.specs.Order.{depthFirst}
 use Rattle.enumeration.specs.Frame.{FreeBits}
 use Rattle.machine.specs.Machine.{Machine, prefixes, hitsAt}
 use Rattle.backward.specs.Walk.{Walking}
@@ -18,7 +20,7 @@ use Rattle.influence.specs.Part.{Part}
 use Rattle.influence.specs.Cone.{marks, partOf}
 use Rattle.diagrams.specs.Meaning.{Assignment}
 use Rattle.diagram_rows.specs.Rows.{planOf, planLength}
-use Rattle.row_plans.specs.Plans.{inputsOf}
+use Rattle.row_plans.specs.Plans.{inputsOf, planned, planWords}
 use Rattle.state_sets.specs.declared.Shape.{Shape}
 use Rattle.state_sets.specs.Shape.{Fits}
 use Rattle.set_stage.specs.Plans.{freesOf, baseOf}
@@ -63,19 +65,22 @@ Reaches c k e work (reached.Never t) = e ≡ Ending.never t
 Reaches c k e work reached.Clear = e ≡ Ending.clear
 Reaches c k e work (reached.GaveUp t) = e ≡ Ending.gaveUp t
 
--- an attempt at the first n frames with an order of the latches, where up to four inputs matter
+-- few latches are kept, and few inputs matter
+abbrev pub isAble : Part → ℕ → Bool
+isAble part b = leb (length (part .kept)) 112 && leb (length (inputsOf (part .circuit) (marks (part .circuit) b))) 4
+
+-- an attempt at the first n frames with an order of the latches, where few are kept and few inputs matter
 unfoldable pub attemptAt : Part → (b share first n which : ℕ) → Ending
 attemptAt part b share first n which =
-    cond (leb (length (inputsOf (part .circuit) (marks (part .circuit) b))) 4)
-    (attemptEnding (part .circuit) b (planIn part b which) (16 * size (part .circuit) first) share first n) (Ending.gaveUp 0)
+    cond (isAble part b) (attemptEnding (part .circuit) b (planIn part b which) (16 * size (part .circuit) first) share first n)
+    (Ending.gaveUp 0)
 
--- the latches that are kept are few, and the first frame is large enough
-pub record Tries (m : List ℕ) (stage : Stage) (kept : List ℕ) : Type 0 where
-  pub latches : kept ≡ partOf (circuitIn m) (stage .b) .kept
-  pub few : length kept ≤ 256
-  pub large : 1024 ≤ size (circuitIn m) (stage .first)
+-- whether few latches are kept and few inputs matter; if so, the plan was written at the front
+pub record PlanPut (c : Circuit) (b which : ℕ) (before after : List ℕ) (r : Bool) : Type 0 where
+  pub able : r ≡ isAble (partOf c b) b
+  pub words : r ≡ true → after ≡ sets before 0 (planWords (planned c (marks c b) (depthFirst c) which (partOf c b .kept)))
 
--- the same with a plan that fits, and with room for states of its latches
+-- a plan that fits, room for states of its latches, and a first frame that is large enough
 pub record TriesPlan (m : List ℕ) (stage : Stage) (plan base bits : List ℕ) : Type 0 where
   pub fit : Fit (partOf (circuitIn m) (stage .b)) plan
   pub large : 1024 ≤ size (circuitIn m) (stage .first)
@@ -104,6 +109,7 @@ Traced s t w table bits trace =
 pub record Shown (p : Place) (plan table frees base bits work : List ℕ) : Type 0 where
   pub legible : Legible (take (p .words) work) table
   pub fits : Fits (p .s) (length table)
+  pub few : p .s .vars ≤ 112
   pub whole : planLength plan ≤ length plan
   pub inputs : word plan 1 ≤ 4
   pub base-room : length base ≡ p .s .vars

@@ -8,6 +8,7 @@ ghost use mathlib.Core.Path.{_≡_};
 ghost use Prim.Native.Nat.{_+_, _*_, _^_, _≤_, _<_};
 ghost use lib.Dec.{eqb};
 ghost use lib.ListN.{length, getD, replicate};
+ghost use Rattle.aiger.specs.Frames.{size};
 ghost use Rattle.layout.specs.Words.{word, circuitIn};
 ghost use Rattle.frames.specs.Lanes.{Ready};
 ghost use Rattle.influence.specs.Cone.{partOf};
@@ -70,7 +71,7 @@ fn put_hit(
         S.HitPut p (now (plan .entry)) (now (table .entry)) (now (frees .entry)) (now (bits .entry)) (now (work .entry)) (now (work .exit))
         ⌝ }
 {
-    let mut after = [0u32; 256];
+    let mut after = [0u32; 112];
     let mut trace = [0u32; 256];
     let s = p.s;
     let vars = s.vars;
@@ -117,7 +118,7 @@ fn begin_table(
     table: &mut [u32],
 ) -> bool
     requires { ⌜ Prepared (now m) layout ⌝ }
-    requires { ⌜ TableRoom (now plan) (length (now table)) × (now table ≡ replicate 4387 0) ⌝ }
+    requires { ⌜ TableRoom (now plan) (length (now table)) × (now table ≡ replicate 2083 0) ⌝ }
     ensures { λ done. ⌜
         Z.left (now (w .exit)) (now (table .exit)) done
         ≡ T.tableMade (circuitIn (now (m .entry))) (stage .b) (now (plan .entry)) (T.blankSets (length (now (w .entry))) (stage .share))
@@ -165,7 +166,7 @@ fn try_plan(
         (now (work .exit)) r
         ⌝ }
 {
-    let mut table = [0u32; 4387];
+    let mut table = [0u32; 2083];
     let mut frees = [0u32; 1024];
     let vars = base.len();
     let end = 3 + vars;
@@ -176,10 +177,9 @@ fn try_plan(
         return Reached::GaveUp(0);
     }
     let n = put_starts(m, layout, &plan[3..end], &mut frees, base);
-    let span = Span {
-        first: stage.first,
-        k: stage.k,
-    };
+    let first = stage.first;
+    let k = stage.k;
+    let span = Span { first, k };
     match set_frames::run_frames(
         &mut work[..words],
         &mut table,
@@ -190,13 +190,12 @@ fn try_plan(
         bits,
     ) {
         Reached::Hit(t) => {
-            let width = layout.i;
-            let count = layout.u + width * (t + 1);
+            let count = layout.u + layout.i * (t + 1);
             let p = Place {
                 s,
                 t,
                 words,
-                width,
+                width: layout.i,
                 count,
             };
             put_hit(p, plan, &table, &frees[..n], bits, base, work);
@@ -208,36 +207,66 @@ fn try_plan(
     }
 }
 
+// Writes the plan of bad line b with the latches in the order `which`; false where too many latches are kept or too many inputs matter.
+fn put_plan(
+    m: &[u32],
+    layout: Layout,
+    order: &[u32],
+    b: usize,
+    which: u32,
+    plan: &mut [u32],
+) -> bool
+    requires { ⌜ Ready (now m) layout (now order) 4097 ⌝ }
+    requires { ⌜ b < word (now m) 5 ⌝ }
+    ensures { λ r. ⌜ S.PlanPut (circuitIn (now (m .entry))) b which (now (plan .entry)) (now (plan .exit)) r ⌝ }
+{
+    let mut kept = [0u32; 1024];
+    let count = influence::kept_latches(m, layout, order, b, &mut kept);
+    if 112 < count {
+        return false;
+    }
+    row_plans::make_plan(m, layout, order, b, &kept[..count], which, plan)
+}
+
+// Whether few latches are kept and few inputs matter.
+fn is_able(m: &[u32], layout: Layout, order: &[u32], b: usize) -> bool
+    requires { ⌜ Ready (now m) layout (now order) 4097 ⌝ }
+    requires { ⌜ b < word (now m) 5 ⌝ }
+    ensures { λ r. ⌜ r ≡ S.isAble (partOf (circuitIn (now (m .entry))) b) b ⌝ }
+{
+    let mut plan = [0u32; 3191];
+    put_plan(m, layout, order, b, 0, &mut plan)
+}
+
 // An attempt with the latches in the order `which`.
 fn attempt(
     m: &[u32],
     layout: Layout,
     order: &[u32],
     stage: Stage,
-    kept: &[u32],
     which: u32,
     work: &mut [u32],
 ) -> Reached
     requires { ⌜ Ready (now m) layout (now order) 4097 ⌝ }
     requires { ⌜ S.Asks (now m) stage (length (now work)) ⌝ }
-    requires { ⌜ S.Tries (now m) stage (now kept) ⌝ }
+    requires { ⌜ 1024 ≤ size (circuitIn (now m)) (stage .first) ⌝ }
     ensures { λ r. ⌜
         S.Reaches (circuitIn (now (m .entry))) (stage .k)
         (S.attemptAt (partOf (circuitIn (now (m .entry))) (stage .b)) (stage .b) (stage .share) (stage .first) (stage .k + 1) which)
         (now (work .exit)) r
         ⌝ }
 {
-    let mut plan = [0u32; 4608];
-    let mut base = [0u32; 256];
-    let mut bits = [0u32; 256];
-    if !row_plans::make_plan(m, layout, order, stage.b, kept, which, &mut plan) {
+    let mut plan = [0u32; 3191];
+    if !put_plan(m, layout, order, stage.b, which, &mut plan) {
         return Reached::GaveUp(0);
     }
-    let vars = kept.len();
+    let vars = plan[0] as usize;
     let end = 3 + vars;
     if !set_table::are_distinct(&plan[3..end]) {
         return Reached::GaveUp(0);
     }
+    let mut base = [0u32; 112];
+    let mut bits = [0u32; 112];
     try_plan(
         m,
         layout,
@@ -263,17 +292,10 @@ fn order_of(i: usize) -> u32
 }
 
 // Attempts in turn, until one decides a frame.
-fn try_orders(
-    m: &[u32],
-    layout: Layout,
-    order: &[u32],
-    stage: Stage,
-    kept: &[u32],
-    work: &mut [u32],
-) -> Searched
+fn try_orders(m: &[u32], layout: Layout, order: &[u32], stage: Stage, work: &mut [u32]) -> Searched
     requires { ⌜ Ready (now m) layout (now order) 4097 ⌝ }
     requires { ⌜ S.Asks (now m) stage (length (now work)) ⌝ }
-    requires { ⌜ S.Tries (now m) stage (now kept) ⌝ }
+    requires { ⌜ 1024 ≤ size (circuitIn (now m)) (stage .first) ⌝ }
     ensures { λ r. ⌜
         S.SetsOf (circuitIn (now (m .entry))) (stage .b) (stage .first) (stage .share) (stage .k) (now (work .exit)) r
         ⌝ }
@@ -281,7 +303,7 @@ fn try_orders(
     let first = stage.first;
     let mut i = 0usize;
     while i < 4 {
-        match attempt(m, layout, order, stage, kept, order_of(i), work) {
+        match attempt(m, layout, order, stage, order_of(i), work) {
             Reached::Hit(t) => {
                 return Searched::Hit(t);
             }
@@ -320,10 +342,8 @@ pub fn search_sets(
     if limits::size(layout, first) < 1024 {
         return Searched::GaveUp(first);
     }
-    let mut kept = [0u32; 1024];
-    let count = influence::kept_latches(m, layout, order, stage.b, &mut kept);
-    if 256 < count {
+    if !is_able(m, layout, order, stage.b) {
         return Searched::GaveUp(first);
     }
-    try_orders(m, layout, order, stage, &kept[..count], work)
+    try_orders(m, layout, order, stage, work)
 }

@@ -67,13 +67,13 @@ module _ (c : Circuit) (b : ℕ) where
   sets-right share first l n true e =
       let right = literalsRight c in
       let order = acyclic c in
-      let gates = leb (length (c .gates)) 4096 in
+      let gates = leb (length (c .gates)) 3072 in
       let latches = leb (length (c .latches)) 4096 in
       let t = T-true e in
       let u = and-right right (order && (gates && latches)) t in
       let v = and-right order (gates && latches) u in
       stage-sound (partOf c b) (and-left right (order && (gates && latches)) t) (and-left order (gates && latches) u) b (part-closed c b)
-      (leb-true (length (c .gates)) 4096 (true-T gates (and-left gates latches v)))
+      (leb-true (length (c .gates)) 3072 (true-T gates (and-left gates latches v)))
       (leb-true (length (c .latches)) 4096 (true-T latches (and-right gates latches v))) share .right first 0 l n
 
   pub sets-sound : (share : ℕ) → Sound (question c b) (setsStage c b share)

@@ -169,9 +169,9 @@ unfolding isProper
 is-proper {m} r =
     let c = circuitIn m in
     let p = proper r in
-    ap (λ (x : Bool). x && (acyclic c && (leb (length (c .gates)) 4096 && leb (length (c .latches)) 4096))) (true-T (literalsRight c) (p .right))
-    ∙ ap (λ (x : Bool). x && (leb (length (c .gates)) 4096 && leb (length (c .latches)) 4096)) (true-T (acyclic c) (p .no-cycle))
-    ∙ ap (λ (x : Bool). x && leb (length (c .latches)) 4096) (le-leb (length (c .gates)) 4096 (p .gates))
+    ap (λ (x : Bool). x && (acyclic c && (leb (length (c .gates)) 3072 && leb (length (c .latches)) 4096))) (true-T (literalsRight c) (p .right))
+    ∙ ap (λ (x : Bool). x && (leb (length (c .gates)) 3072 && leb (length (c .latches)) 4096)) (true-T (acyclic c) (p .no-cycle))
+    ∙ ap (λ (x : Bool). x && leb (length (c .latches)) 4096) (le-leb (length (c .gates)) 3072 (p .gates))
     ∙ le-leb (length (c .latches)) 4096 (p .latches)
 
 module _ (c : Circuit) (b k share first D : ℕ) (right : isProper c ≡ true) (work : List ℕ) (r : Searched) (h : SetsOf c b first share k work r) where

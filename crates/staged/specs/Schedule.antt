@@ -25,7 +25,7 @@ layersStage c b limit = anyBudget (layersEnding (machineOf (partOf c b) b) (λ f
 
 -- so is every circuit in memory: its literals are right, no gate depends on itself, and there are not too many gates and latches
 unfoldable pub isProper : Circuit → Bool
-isProper c = literalsRight c && (acyclic c && (leb (length (c .gates)) 4096 && leb (length (c .latches)) 4096))
+isProper c = literalsRight c && (acyclic c && (leb (length (c .gates)) 3072 && leb (length (c .latches)) 4096))
 
 -- sets of states, with a share of looks for each order of the latches
 unfoldable pub setsStage : Circuit → ℕ → ℕ → Stage

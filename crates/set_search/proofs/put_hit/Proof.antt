@@ -17,7 +17,7 @@ slice-aggregate-walk : tie.Need-slice-aggregate-walk
 slice-aggregate-walk c = let s = c .before .before .before .before .before .before .before .before .before .before .before .before .before .before in sym (length-take-le (s .args .p .words) (s .args .work .now) (s .pre .words))
 
 slice-aggregate-walk-2 : tie.Need-slice-aggregate-walk-2
-slice-aggregate-walk-2 c = let s = c .before .before .before .before .before .before .before .before .before .before .before .before .before .before .before .before in sym (length-take-le (s .args .p .s .vars) (replicate 256 0) (omega (arith, s .pre .fits .vars, length-replicate {A = ℕ} 256 0)))
+slice-aggregate-walk-2 c = let s = c .before .before .before .before .before .before .before .before .before .before .before .before .before .before .before .before in sym (length-take-le (s .args .p .s .vars) (replicate 112 0) (omega (arith, s .pre .few, length-replicate {A = ℕ} 112 0)))
 
 walk-requires : tie.Need-walk-requires
 walk-requires c κs =
@@ -28,7 +28,7 @@ walk-requires c κs =
         p .fits,
         (
           ap length (c .before .before .before .before .before .before .copy .ensures) ∙ p .bits-room,
-          length-take-le (s .args .p .s .vars) (replicate 256 0) (omega (arith, p .fits .vars, length-replicate {A = ℕ} 256 0)),
+          length-take-le (s .args .p .s .vars) (replicate 112 0) (omega (arith, p .few, length-replicate {A = ℕ} 112 0)),
           p .frame,
           omega arith,
         ),

@@ -13,29 +13,28 @@ use Rattle.set_search.proofs.try_orders.Statement.{statement}
 use Rattle.set_search.proofs.try_orders.Tie as tie
 
 abbrev Inv-loop : tie.InvT-loop
-Inv-loop m layout order stage kept work₀ first i₀ work i =
+Inv-loop m layout order stage work₀ first i₀ work i =
     (length work ≡ length work₀) × (i ≤ 4) × (first ≡ stage .first)
     × From (partOf (circuitIn m) (stage .b)) (stage .b) (stage .share) (stage .first) (stage .k) i
 
 abbrev μ-loop : tie.MeasureT-loop
-μ-loop m layout order stage kept work₀ first i₀ work i = 4 - i
+μ-loop m layout order stage work₀ first i₀ work i = 4 - i
 
 loop-holds : tie.Need-loop-holds Inv-loop μ-loop
 loop-holds c =
-    let s = c .before .before .before .before in
+    let s = c .before .before .before in
     let a = s .args in
-    let p = s .pre .1 .0 in
-    let t = s .pre .1 .1 in (
+    let p = s .pre .1 .0 in (
       refl,
       omega arith,
       refl,
       turns-start (partOf (circuitIn (a .m .now)) (a .stage .b)) (a .stage .b) (a .stage .share) (a .stage .first) (a .stage .k) (p .within) (p .bound)
-          (omega (arith, t .few, ap length (t .latches))) (t .large),
+          (s .pre .1 .1),
     )
 
 attempt-requires : tie.Need-attempt-requires Inv-loop μ-loop
 attempt-requires c κs =
-    let s = c .before .before .before .before .before .before .before .before in
+    let s = c .before .before .before .before .before .before .before in
     let p = s .pre .1 .0 in (
       s .pre .0,
       (
@@ -45,56 +44,56 @@ attempt-requires c κs =
     )
 
 same-length : tie.Need-same-length Inv-loop μ-loop
-same-length c = c .before .before .before .before .before .attempt .kept .1 .1 .1 .1 .1 .1 .0 ∙ c .before .before .before .before .before .before .before .before .before .loop .inv .0
+same-length c = c .before .before .before .before .before .attempt .kept .1 .1 .1 .1 .1 .0 ∙ c .before .before .before .before .before .before .before .before .before .loop .inv .0
 
 returns : tie.Need-returns Inv-loop μ-loop
 returns c =
-    let s = c .before .before .before .before .before .before .before .before .before .before .before .before .before .before in
+    let s = c .before .before .before .before .before .before .before .before .before .before .before .before .before in
     let a = s .args in
     let p = s .pre .1 .0 in
     let l = c .before .before .before .before .before .before .before .before .before .loop in
     let f = c .before .before .before .before .before .attempt in
     hit-arm (circuitIn (a .m .now)) (a .stage .b) (a .stage .share) (a .stage .first) (a .stage .k) (p .within) (p .bound) (l .i) (c .before .before .before .before .before .before .before .before .loop-test .taken)
-    (l .inv .3) (c .before .before .before .before .before .before .before .order-of .result) (c .before .before .before .before .before .before .before .order-of .ensures) (f .last .1 .1 .1 .1 .1 .1 .0) (f .result) (f .ensures) (c .before .t .given .1)
+    (l .inv .3) (c .before .before .before .before .before .before .before .order-of .result) (c .before .before .before .before .before .before .before .order-of .ensures) (f .last .1 .1 .1 .1 .1 .0) (f .result) (f .ensures) (c .before .t .given .1)
 
 same-length-2 : tie.Need-same-length-2 Inv-loop μ-loop
-same-length-2 c = c .before .before .before .before .attempt .kept .1 .1 .1 .1 .1 .1 .0 ∙ c .before .before .before .before .before .before .before .before .loop .inv .0
+same-length-2 c = c .before .before .before .before .attempt .kept .1 .1 .1 .1 .1 .0 ∙ c .before .before .before .before .before .before .before .before .loop .inv .0
 
 returns-2 : tie.Need-returns-2 Inv-loop μ-loop
 returns-2 c =
-    let s = c .before .before .before .before .before .before .before .before .before .before .before .before .before in
+    let s = c .before .before .before .before .before .before .before .before .before .before .before .before in
     let a = s .args in
     let p = s .pre .1 .0 in
     let l = c .before .before .before .before .before .before .before .before .loop in
     let f = c .before .before .before .before .attempt in
     never-arm (circuitIn (a .m .now)) (a .stage .b) (a .stage .share) (a .stage .first) (a .stage .k) (p .within) (p .bound) (l .i) (c .before .before .before .before .before .before .before .loop-test .taken)
-    (l .inv .3) (c .before .before .before .before .before .before .order-of .result) (c .before .before .before .before .before .before .order-of .ensures) (f .last .1 .1 .1 .1 .1 .1 .0) (f .result) (f .ensures) (c .enum-told .given .1)
+    (l .inv .3) (c .before .before .before .before .before .before .order-of .result) (c .before .before .before .before .before .before .order-of .ensures) (f .last .1 .1 .1 .1 .1 .0) (f .result) (f .ensures) (c .enum-told .given .1)
 
 same-length-3 : tie.Need-same-length-3 Inv-loop μ-loop
-same-length-3 c = c .before .before .before .before .attempt .kept .1 .1 .1 .1 .1 .1 .0 ∙ c .before .before .before .before .before .before .before .before .loop .inv .0
+same-length-3 c = c .before .before .before .before .attempt .kept .1 .1 .1 .1 .1 .0 ∙ c .before .before .before .before .before .before .before .before .loop .inv .0
 
 returns-3 : tie.Need-returns-3 Inv-loop μ-loop
 returns-3 c =
-    let s = c .before .before .before .before .before .before .before .before .before .before .before .before .before in
+    let s = c .before .before .before .before .before .before .before .before .before .before .before .before in
     let a = s .args in
     let p = s .pre .1 .0 in
     let l = c .before .before .before .before .before .before .before .before .loop in
     let f = c .before .before .before .before .attempt in
     clear-arm (circuitIn (a .m .now)) (a .stage .b) (a .stage .share) (a .stage .first) (a .stage .k) (p .within) (p .bound) (l .i) (c .before .before .before .before .before .before .before .loop-test .taken)
-    (l .inv .3) (c .before .before .before .before .before .before .order-of .result) (c .before .before .before .before .before .before .order-of .ensures) (f .last .1 .1 .1 .1 .1 .1 .0) (f .result) (f .ensures) (c .enum-told2 .given .1)
+    (l .inv .3) (c .before .before .before .before .before .before .order-of .result) (c .before .before .before .before .before .before .order-of .ensures) (f .last .1 .1 .1 .1 .1 .0) (f .result) (f .ensures) (c .enum-told2 .given .1)
 
 same-length-4 : tie.Need-same-length-4 Inv-loop μ-loop
-same-length-4 c = c .before .before .before .before .before .before .attempt .kept .1 .1 .1 .1 .1 .1 .0 ∙ c .before .before .before .before .before .before .before .before .before .before .loop .inv .0
+same-length-4 c = c .before .before .before .before .before .before .attempt .kept .1 .1 .1 .1 .1 .0 ∙ c .before .before .before .before .before .before .before .before .before .before .loop .inv .0
 
 returns-4 : tie.Need-returns-4 Inv-loop μ-loop
 returns-4 c =
-    let s = c .before .before .before .before .before .before .before .before .before .before .before .before .before .before .before in
+    let s = c .before .before .before .before .before .before .before .before .before .before .before .before .before .before in
     let a = s .args in
     let p = s .pre .1 .0 in
     let l = c .before .before .before .before .before .before .before .before .before .before .loop in
     let f = c .before .before .before .before .before .before .attempt in
     gave-up-arm (circuitIn (a .m .now)) (a .stage .b) (a .stage .share) (a .stage .first) (a .stage .k) (p .within) (p .bound) (l .i) (c .before .before .before .before .before .before .before .before .before .loop-test .taken)
-    (l .inv .3) (c .before .before .before .before .before .before .before .before .order-of .result) (c .before .before .before .before .before .before .before .before .order-of .ensures) (f .last .1 .1 .1 .1 .1 .1 .0) (f .result) (f .ensures) (c .before .before .t2 .given .1) (omega (arith, c .if1 .taken, l .inv .2))
+    (l .inv .3) (c .before .before .before .before .before .before .before .before .order-of .result) (c .before .before .before .before .before .before .before .before .order-of .ensures) (f .last .1 .1 .1 .1 .1 .0) (f .result) (f .ensures) (c .before .before .t2 .given .1) (omega (arith, c .if1 .taken, l .inv .2))
 
 add-i : tie.Need-add-i Inv-loop μ-loop
 add-i c = omega (arith, c .before .before .before .before .before .before .before .before .before .loop-test .taken)
@@ -104,17 +103,17 @@ loop-less c = omega (arith, c .before .before .before .before .before .before .b
 
 loop-again : tie.Need-loop-again Inv-loop μ-loop
 loop-again c =
-    let s = c .before .before .before .before .before .before .before .before .before .before .before .before .before .before .before in
+    let s = c .before .before .before .before .before .before .before .before .before .before .before .before .before .before in
     let a = s .args in
     let p = s .pre .1 .0 in
     let l = c .before .before .before .before .before .before .before .before .before .before .loop in
     let f = c .before .before .before .before .before .before .attempt in (
-      f .kept .1 .1 .1 .1 .1 .1 .0 ∙ l .inv .0,
+      f .kept .1 .1 .1 .1 .1 .0 ∙ l .inv .0,
       omega (arith, c .before .before .before .before .before .before .before .before .before .loop-test .taken),
       l .inv .2,
       next-arm (circuitIn (a .m .now)) (a .stage .b) (a .stage .share) (a .stage .first) (a .stage .k) (p .within) (p .bound) (l .i)
           (c .before .before .before .before .before .before .before .before .before .loop-test .taken) (l .inv .3) (c .before .before .before .before .before .before .before .before .order-of .result) (c .before .before .before .before .before .before .before .before .order-of .ensures)
-          (f .last .1 .1 .1 .1 .1 .1 .0) (f .result) (f .ensures) (c .before .before .t2 .given .1) (omega (arith, c .if1 .left, l .inv .2)),
+          (f .last .1 .1 .1 .1 .1 .0) (f .result) (f .ensures) (c .before .before .t2 .given .1) (omega (arith, c .if1 .left, l .inv .2)),
     )
 
 same-length-5 : tie.Need-same-length-5 Inv-loop μ-loop
@@ -122,7 +121,7 @@ same-length-5 c = c .before .loop .inv .0
 
 returns-5 : tie.Need-returns-5 Inv-loop μ-loop
 returns-5 c =
-    let s = c .before .before .before .before .before .before in
+    let s = c .before .before .before .before .before in
     let a = s .args in
     let p = s .pre .1 .0 in
     let l = c .before .loop in
