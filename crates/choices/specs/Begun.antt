@@ -40,4 +40,5 @@ pub record Begun (hit : (ℕ → Bool) → Type 0) (hits : ℕ → Type 0) (val 
   -- its bit of an idle node is 0 where a place from the floor on that is 0 from this bit on is no greater: else the place without that bit
   -- would have been looked for
   pub spare : (v : ℕ) → v < net .free → isIdle w (net .nodes) (suc v) ≡ true → (x q : ℕ) → hits x
-      → prefix (floorBit w (net .nodes)) (net .free) ≤ q * 2 ^ (net .free - v) → q * 2 ^ (net .free - v) ≤ x → freeBit (net .free) x v ≡ false
+      → prefix (floorBit w (net .nodes)) (net .free) ≤ q * 2 ^ (net .free - v) → q * 2 ^ (net .free - v) ≤ x
+      → freeBit (net .free) x v ≡ false

@@ -1,6 +1,6 @@
--- What is decided of a frame from a place on, as a function of circuit, b, t, place and D. All sequences from the place on are passed where the
--- conflict search, whose floor begins at the place, comes to an end within its effort. Where it does not, D sequences are tried from the
--- place on, and no fewer than are tried on the circuit before it. Assumes nothing.
+-- What is decided of a frame from a place on, as a function of circuit, b, t, place and D. All sequences from the place on are passed where
+-- the conflict search, whose floor begins at the place, comes to an end within its effort. Where it does not, D sequences are tried from
+-- the place on, and no fewer than are tried on the circuit before it. Assumes nothing.
 use mathlib.Core.Bool.{cond}
 use Prim.Native.Nat.{ℕ, _+_, _*_, _^_, min, max}
 use lib.Dec.{leb}

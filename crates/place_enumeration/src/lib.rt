@@ -76,7 +76,10 @@ fn scan_span(
     state: &mut [u64],
 ) -> u64
     requires { ⌜ Ready (now m) layout (now order) (length (now values)) ⌝ }
-    requires { ⌜ (q .b < word (now m) 5) × (1024 ≤ length (now state)) × (span .to ≤ 9223372036854775808) × (span .from ≤ 9223372036854775808) ⌝ }
+    requires { ⌜
+        (q .b < word (now m) 5) × (1024 ≤ length (now state)) × (span .to ≤ 9223372036854775808)
+        × (span .from ≤ 9223372036854775808)
+        ⌝ }
     requires { ⌜ (q .n ≡ freeBits (circuitIn (now m)) (q .t)) × (q .free ≡ freeStarts (circuitIn (now m))) ⌝ }
     ensures { λ r. ⌜ First (onward (span .from) (reaches (circuitIn (now (m .entry))) (q .b) (q .t))) (span .to) r ⌝ }
 {
