@@ -12,7 +12,8 @@ use Rattle.aiger.specs.Frames.{freeStarts, freeBits, size}
 use Rattle.aiger.specs.Search.{question}
 use Rattle.layout.specs.Words.{word}
 use Rattle.layout.specs.declared.Layout.{Layout}
-use Rattle.limits.specs.Limits.{CountsOf}
+use Rattle.limits.specs.Limits.{CountsOf, sizeOf}
+use Rattle.limits.proofs.Sizes.{size-is}
 use Rattle.influence.specs.Cone.{partOf}
 use Rattle.diagram_rows.specs.Rows.{planOf, planLength}
 use Rattle.state_sets.specs.declared.Shape.{Shape}
@@ -42,6 +43,10 @@ size-grows c t k l =
     let w = length (c .inputs) + length (c .gates) + length (c .constraints) + 1 in
     let m : (t + 1) * w ≤ (k + 1) * w = mul-le-mul-right w (omega arith) in
     omega arith
+
+-- so many words for each unit of an earlier frame
+pub size-fits : {c : Circuit} {p : Layout} → CountsOf c p → {t n : ℕ} → n ≡ sizeOf p t → (k room : ℕ) → t ≤ k → 16 * size c k ≤ room → 16 * n ≤ room
+size-fits {c} {p} e {t} {n} q k room l h = omega (arith, q, size-is e t, size-grows c t k l)
 
 -- the free bits of a frame by the counts of a layout
 pub bits-by : {c : Circuit} {p : Layout} → CountsOf c p → (t : ℕ) → p .u + p .i * (t + 1) ≡ freeBits c t

@@ -6,6 +6,7 @@ use native.Mathlib.Omega.{arith}
 use borrow.Author.Needs.{needs}
 use lib.ListN.{length, take, drop}
 use lib.Seq.{length-take-le, take-at}
+use Rattle.aiger.specs.Frames.{size}
 use Rattle.layout.specs.Words.{circuitIn}
 use Rattle.limits.proofs.Sizes.{bits-within, limited, counts-of, size-is}
 use Rattle.state_sets.specs.declared.Shape.{Shape}
@@ -14,7 +15,7 @@ use Rattle.set_stage.specs.Plans.{freesOf, baseOf}
 use Rattle.set_search.specs.declared.Place.{Place}
 use Rattle.set_search.proofs.Plans.{proper, latches-counted, latches-part}
 use Rattle.set_search.proofs.Reached.{frees-count}
-use Rattle.set_search.proofs.Trial.{size-grows, bits-by, width-some, product-few, front-length, front-room, vars-few, inputs-few, table-room, shape-fits, not-made, begins, ends-as, hit-within, hit-legible, hit-put-so}
+use Rattle.set_search.proofs.Trial.{size-fits, bits-by, width-some, product-few, front-length, front-room, vars-few, inputs-few, table-room, shape-fits, not-made, begins, ends-as, hit-within, hit-legible, hit-put-so}
 use Rattle.set_search.proofs.try_plan.Statement.{statement}
 use Rattle.set_search.proofs.try_plan.Tie as tie
 
@@ -49,8 +50,8 @@ mul-words c =
     let q = s .pre .1 .0 in
     let t = s .pre .1 .1 in
     let P = proper r in
-    let z = c .size .ensures ∙ size-is (counts-of (r .held) (r .layout-of)) (a .stage .first) in
-    omega (arith, z, size-grows C (a .stage .first) (a .stage .k) (q .within), q .units)
+    let most : 16 * size C (a .stage .k) ≤ 1048576 = omega (arith, q .units) in
+    omega (arith, size-fits (counts-of (r .held) (r .layout-of)) (c .size .ensures) (a .stage .k) 1048576 (omega (arith, q .within)) most)
 
 slice-relend-prefix-begin-table : tie.Need-slice-relend-prefix-begin-table
 slice-relend-prefix-begin-table c =
@@ -61,9 +62,9 @@ slice-relend-prefix-begin-table c =
     let q = s .pre .1 .0 in
     let t = s .pre .1 .1 in
     let P = proper r in
-    let z = c .size .ensures ∙ size-is (counts-of (r .held) (r .layout-of)) (a .stage .first) in
     let n = 16 * c .size .result in
-    let fits : n ≤ length (a .work .now) = omega (arith, z, size-grows C (a .stage .first) (a .stage .k) (q .within), q .room) in
+    let fits : n ≤ length (a .work .now) =
+    size-fits (counts-of (r .held) (r .layout-of)) (c .size .ensures) (a .stage .k) (length (a .work .now)) (omega (arith, q .within)) (q .room) in
     fits
 
 slice-aggregate-begin-table : tie.Need-slice-aggregate-begin-table
@@ -75,9 +76,9 @@ slice-aggregate-begin-table c =
     let q = s .pre .1 .0 in
     let t = s .pre .1 .1 in
     let P = proper r in
-    let z = c .before .size .ensures ∙ size-is (counts-of (r .held) (r .layout-of)) (a .stage .first) in
     let n = 16 * c .before .size .result in
-    let fits : n ≤ length (a .work .now) = omega (arith, z, size-grows C (a .stage .first) (a .stage .k) (q .within), q .room) in
+    let fits : n ≤ length (a .work .now) =
+    size-fits (counts-of (r .held) (r .layout-of)) (c .before .size .ensures) (a .stage .k) (length (a .work .now)) (omega (arith, q .within)) (q .room) in
     sym (length-take-le n (a .work .now) fits)
 
 begin-table-requires : tie.Need-begin-table-requires
@@ -102,7 +103,8 @@ returns c =
     let P = proper r in
     let z = c .before .before .before .before .before .before .before .size .ensures ∙ size-is (counts-of (r .held) (r .layout-of)) (a .stage .first) in
     let n = 16 * c .before .before .before .before .before .before .before .size .result in
-    let fits : n ≤ length (a .work .now) = omega (arith, z, size-grows C (a .stage .first) (a .stage .k) (q .within), q .room) in
+    let fits : n ≤ length (a .work .now) =
+    size-fits (counts-of (r .held) (r .layout-of)) (c .before .before .before .before .before .before .before .size .ensures) (a .stage .k) (length (a .work .now)) (omega (arith, q .within)) (q .room) in
     let g = c .before .before .before .before .begin-table in
     let long = length-take-le n (a .work .now) fits in
     not-made C (a .stage .b) P (a .plan .now) (t .fit) (a .stage .share) (a .stage .first) (a .stage .k) (t .large) (q .none) (length (take n (a .work .now))) (long ∙ ap (λ (i : ℕ). 16 * i) z) (g .last .0)
@@ -130,9 +132,9 @@ slice-relend-prefix-run-frames c =
     let q = s .pre .1 .0 in
     let t = s .pre .1 .1 in
     let P = proper r in
-    let z = c .before .before .before .before .before .before .before .before .before .before .before .before .before .before .size .ensures ∙ size-is (counts-of (r .held) (r .layout-of)) (a .stage .first) in
     let n = 16 * c .before .before .before .before .before .before .before .before .before .before .before .before .before .before .size .result in
-    let fits : n ≤ length (a .work .now) = omega (arith, z, size-grows C (a .stage .first) (a .stage .k) (q .within), q .room) in
+    let fits : n ≤ length (a .work .now) =
+    size-fits (counts-of (r .held) (r .layout-of)) (c .before .before .before .before .before .before .before .before .before .before .before .before .before .before .size .ensures) (a .stage .k) (length (a .work .now)) (omega (arith, q .within)) (q .room) in
     let g = c .before .before .before .before .before .before .before .before .before .before .before .begin-table in
     let long = length-take-le n (a .work .now) fits in
     front-room n (g .last .0) (a .work .now) (g .kept .0 ∙ long)
@@ -146,9 +148,9 @@ slice-aggregate-run-frames c =
     let q = s .pre .1 .0 in
     let t = s .pre .1 .1 in
     let P = proper r in
-    let z = c .before .before .before .before .before .before .before .before .before .before .before .before .before .before .before .size .ensures ∙ size-is (counts-of (r .held) (r .layout-of)) (a .stage .first) in
     let n = 16 * c .before .before .before .before .before .before .before .before .before .before .before .before .before .before .before .size .result in
-    let fits : n ≤ length (a .work .now) = omega (arith, z, size-grows C (a .stage .first) (a .stage .k) (q .within), q .room) in
+    let fits : n ≤ length (a .work .now) =
+    size-fits (counts-of (r .held) (r .layout-of)) (c .before .before .before .before .before .before .before .before .before .before .before .before .before .before .before .size .ensures) (a .stage .k) (length (a .work .now)) (omega (arith, q .within)) (q .room) in
     let g = c .before .before .before .before .before .before .before .before .before .before .before .before .begin-table in
     let long = length-take-le n (a .work .now) fits in
     sym (ap length (take-at (g .last .0) (drop n (a .work .now)) n (g .kept .0 ∙ long)) ∙ g .kept .0 ∙ long)
@@ -170,7 +172,8 @@ run-frames-requires c κs =
     let P = proper r in
     let z = c .before .before .before .before .before .before .before .before .before .before .before .before .before .before .before .before .before .before .before .size .ensures ∙ size-is (counts-of (r .held) (r .layout-of)) (a .stage .first) in
     let n = 16 * c .before .before .before .before .before .before .before .before .before .before .before .before .before .before .before .before .before .before .before .size .result in
-    let fits : n ≤ length (a .work .now) = omega (arith, z, size-grows C (a .stage .first) (a .stage .k) (q .within), q .room) in
+    let fits : n ≤ length (a .work .now) =
+    size-fits (counts-of (r .held) (r .layout-of)) (c .before .before .before .before .before .before .before .before .before .before .before .before .before .before .before .before .before .before .before .size .ensures) (a .stage .k) (length (a .work .now)) (omega (arith, q .within)) (q .room) in
     let g = c .before .before .before .before .before .before .before .before .before .before .before .before .before .before .before .before .begin-table in
     let long = length-take-le n (a .work .now) fits in
     let u = c .before .before .before .before .before .before .before .before .put-starts in
@@ -199,7 +202,8 @@ add-count c =
     let P = proper r in
     let z = c .before .before .before .before .before .before .before .before .before .before .before .before .before .before .before .before .before .before .before .before .before .before .before .before .before .before .before .before .size .ensures ∙ size-is (counts-of (r .held) (r .layout-of)) (a .stage .first) in
     let n = 16 * c .before .before .before .before .before .before .before .before .before .before .before .before .before .before .before .before .before .before .before .before .before .before .before .before .before .before .before .before .size .result in
-    let fits : n ≤ length (a .work .now) = omega (arith, z, size-grows C (a .stage .first) (a .stage .k) (q .within), q .room) in
+    let fits : n ≤ length (a .work .now) =
+    size-fits (counts-of (r .held) (r .layout-of)) (c .before .before .before .before .before .before .before .before .before .before .before .before .before .before .before .before .before .before .before .before .before .before .before .before .before .before .before .before .size .ensures) (a .stage .k) (length (a .work .now)) (omega (arith, q .within)) (q .room) in
     let g = c .before .before .before .before .before .before .before .before .before .before .before .before .before .before .before .before .before .before .before .before .before .before .before .before .before .begin-table in
     let long = length-take-le n (a .work .now) fits in
     let u = c .before .before .before .before .before .before .before .before .before .before .before .before .before .before .before .before .before .put-starts in
@@ -226,7 +230,8 @@ mul-count c =
     let P = proper r in
     let z = c .before .before .before .before .before .before .before .before .before .before .before .before .before .before .before .before .before .before .before .before .before .before .before .before .before .before .before .before .before .size .ensures ∙ size-is (counts-of (r .held) (r .layout-of)) (a .stage .first) in
     let n = 16 * c .before .before .before .before .before .before .before .before .before .before .before .before .before .before .before .before .before .before .before .before .before .before .before .before .before .before .before .before .before .size .result in
-    let fits : n ≤ length (a .work .now) = omega (arith, z, size-grows C (a .stage .first) (a .stage .k) (q .within), q .room) in
+    let fits : n ≤ length (a .work .now) =
+    size-fits (counts-of (r .held) (r .layout-of)) (c .before .before .before .before .before .before .before .before .before .before .before .before .before .before .before .before .before .before .before .before .before .before .before .before .before .before .before .before .before .size .ensures) (a .stage .k) (length (a .work .now)) (omega (arith, q .within)) (q .room) in
     let g = c .before .before .before .before .before .before .before .before .before .before .before .before .before .before .before .before .before .before .before .before .before .before .before .before .before .before .begin-table in
     let long = length-take-le n (a .work .now) fits in
     let u = c .before .before .before .before .before .before .before .before .before .before .before .before .before .before .before .before .before .before .put-starts in
@@ -253,7 +258,8 @@ add-count-2 c =
     let P = proper r in
     let z = c .before .before .before .before .before .before .before .before .before .before .before .before .before .before .before .before .before .before .before .before .before .before .before .before .before .before .before .before .before .before .size .ensures ∙ size-is (counts-of (r .held) (r .layout-of)) (a .stage .first) in
     let n = 16 * c .before .before .before .before .before .before .before .before .before .before .before .before .before .before .before .before .before .before .before .before .before .before .before .before .before .before .before .before .before .before .size .result in
-    let fits : n ≤ length (a .work .now) = omega (arith, z, size-grows C (a .stage .first) (a .stage .k) (q .within), q .room) in
+    let fits : n ≤ length (a .work .now) =
+    size-fits (counts-of (r .held) (r .layout-of)) (c .before .before .before .before .before .before .before .before .before .before .before .before .before .before .before .before .before .before .before .before .before .before .before .before .before .before .before .before .before .before .size .ensures) (a .stage .k) (length (a .work .now)) (omega (arith, q .within)) (q .room) in
     let g = c .before .before .before .before .before .before .before .before .before .before .before .before .before .before .before .before .before .before .before .before .before .before .before .before .before .before .before .begin-table in
     let long = length-take-le n (a .work .now) fits in
     let u = c .before .before .before .before .before .before .before .before .before .before .before .before .before .before .before .before .before .before .before .put-starts in
@@ -286,7 +292,8 @@ put-hit-requires c κs =
     let P = proper r in
     let z = c .before .before .before .before .before .before .before .before .before .before .before .before .before .before .before .before .before .before .before .before .before .before .before .before .before .before .before .before .before .before .before .before .before .before .before .size .ensures ∙ size-is (counts-of (r .held) (r .layout-of)) (a .stage .first) in
     let n = 16 * c .before .before .before .before .before .before .before .before .before .before .before .before .before .before .before .before .before .before .before .before .before .before .before .before .before .before .before .before .before .before .before .before .before .before .before .size .result in
-    let fits : n ≤ length (a .work .now) = omega (arith, z, size-grows C (a .stage .first) (a .stage .k) (q .within), q .room) in
+    let fits : n ≤ length (a .work .now) =
+    size-fits (counts-of (r .held) (r .layout-of)) (c .before .before .before .before .before .before .before .before .before .before .before .before .before .before .before .before .before .before .before .before .before .before .before .before .before .before .before .before .before .before .before .before .before .before .before .size .ensures) (a .stage .k) (length (a .work .now)) (omega (arith, q .within)) (q .room) in
     let g = c .before .before .before .before .before .before .before .before .before .before .before .before .before .before .before .before .before .before .before .before .before .before .before .before .before .before .before .before .before .before .before .before .begin-table in
     let long = length-take-le n (a .work .now) fits in
     let u = c .before .before .before .before .before .before .before .before .before .before .before .before .before .before .before .before .before .before .before .before .before .before .before .before .put-starts in
@@ -314,8 +321,8 @@ put-hit-requires c κs =
       few = omega (arith, t .base-room, vars-few C (a .stage .b) P (a .plan .now) (t .fit));
       whole = t .fit .whole;
       inputs = inputs-few C (a .stage .b) P (a .plan .now) (t .fit);
-      base-room = u .kept .1 .1 .1 .1 .0;
-      bits-room = f .kept .1 .1 .1 .1 .1 .1 .0 ∙ t .bits-room ∙ sym (t .base-room);
+      base-room = omega (arith, u .kept .1 .1 .1 .1 .0, f .kept .1 .1 .1 .1 .1 .1 .0, t .bits-room, t .base-room);
+      bits-room = omega (arith, u .kept .1 .1 .1 .1 .0, f .kept .1 .1 .1 .1 .1 .1 .0, t .bits-room, t .base-room);
       frame = omega (arith, within, q .bound);
       words = omega (arith, two, fits);
       width = omega (arith, limited (r .held) (r .layout-of) .inputs);
@@ -335,9 +342,9 @@ same-length-4 c =
     let q = s .pre .1 .0 in
     let t = s .pre .1 .1 in
     let P = proper r in
-    let z = c .before .before .before .before .before .before .before .before .before .before .before .before .before .before .before .before .before .before .before .before .before .before .before .before .before .before .before .before .before .before .before .before .before .before .before .before .before .before .before .before .size .ensures ∙ size-is (counts-of (r .held) (r .layout-of)) (a .stage .first) in
     let n = 16 * c .before .before .before .before .before .before .before .before .before .before .before .before .before .before .before .before .before .before .before .before .before .before .before .before .before .before .before .before .before .before .before .before .before .before .before .before .before .before .before .before .size .result in
-    let fits : n ≤ length (a .work .now) = omega (arith, z, size-grows C (a .stage .first) (a .stage .k) (q .within), q .room) in
+    let fits : n ≤ length (a .work .now) =
+    size-fits (counts-of (r .held) (r .layout-of)) (c .before .before .before .before .before .before .before .before .before .before .before .before .before .before .before .before .before .before .before .before .before .before .before .before .before .before .before .before .before .before .before .before .before .before .before .before .before .before .before .before .size .ensures) (a .stage .k) (length (a .work .now)) (omega (arith, q .within)) (q .room) in
     let g = c .before .before .before .before .before .before .before .before .before .before .before .before .before .before .before .before .before .before .before .before .before .before .before .before .before .before .before .before .before .before .before .before .before .before .before .before .before .begin-table in
     let long = length-take-le n (a .work .now) fits in
     let f = c .before .before .before .before .before .before .before .before .before .before .before .before .before .before .before .before .before .before .before .before .run-frames in
@@ -358,7 +365,8 @@ returns-2 c =
     let P = proper r in
     let z = c .before .before .before .before .before .before .before .before .before .before .before .before .before .before .before .before .before .before .before .before .before .before .before .before .before .before .before .before .before .before .before .before .before .before .before .before .before .before .before .before .size .ensures ∙ size-is (counts-of (r .held) (r .layout-of)) (a .stage .first) in
     let n = 16 * c .before .before .before .before .before .before .before .before .before .before .before .before .before .before .before .before .before .before .before .before .before .before .before .before .before .before .before .before .before .before .before .before .before .before .before .before .before .before .before .before .size .result in
-    let fits : n ≤ length (a .work .now) = omega (arith, z, size-grows C (a .stage .first) (a .stage .k) (q .within), q .room) in
+    let fits : n ≤ length (a .work .now) =
+    size-fits (counts-of (r .held) (r .layout-of)) (c .before .before .before .before .before .before .before .before .before .before .before .before .before .before .before .before .before .before .before .before .before .before .before .before .before .before .before .before .before .before .before .before .before .before .before .before .before .before .before .before .size .ensures) (a .stage .k) (length (a .work .now)) (omega (arith, q .within)) (q .room) in
     let g = c .before .before .before .before .before .before .before .before .before .before .before .before .before .before .before .before .before .before .before .before .before .before .before .before .before .before .before .before .before .before .before .before .before .before .before .before .before .begin-table in
     let long = length-take-le n (a .work .now) fits in
     let u = c .before .before .before .before .before .before .before .before .before .before .before .before .before .before .before .before .before .before .before .before .before .before .before .before .before .before .before .before .before .put-starts in
@@ -390,7 +398,8 @@ returns-3 c =
     let P = proper r in
     let z = c .before .before .before .before .before .before .before .before .before .before .before .before .before .before .before .before .before .before .before .before .before .before .before .before .before .before .before .before .size .ensures ∙ size-is (counts-of (r .held) (r .layout-of)) (a .stage .first) in
     let n = 16 * c .before .before .before .before .before .before .before .before .before .before .before .before .before .before .before .before .before .before .before .before .before .before .before .before .before .before .before .before .size .result in
-    let fits : n ≤ length (a .work .now) = omega (arith, z, size-grows C (a .stage .first) (a .stage .k) (q .within), q .room) in
+    let fits : n ≤ length (a .work .now) =
+    size-fits (counts-of (r .held) (r .layout-of)) (c .before .before .before .before .before .before .before .before .before .before .before .before .before .before .before .before .before .before .before .before .before .before .before .before .before .before .before .before .size .ensures) (a .stage .k) (length (a .work .now)) (omega (arith, q .within)) (q .room) in
     let g = c .before .before .before .before .before .before .before .before .before .before .before .before .before .before .before .before .before .before .before .before .before .before .before .before .before .begin-table in
     let long = length-take-le n (a .work .now) fits in
     let u = c .before .before .before .before .before .before .before .before .before .before .before .before .before .before .before .before .before .put-starts in
@@ -416,7 +425,8 @@ returns-4 c =
     let P = proper r in
     let z = c .before .before .before .before .before .before .before .before .before .before .before .before .before .before .before .before .before .before .before .before .before .before .before .before .before .before .before .size .ensures ∙ size-is (counts-of (r .held) (r .layout-of)) (a .stage .first) in
     let n = 16 * c .before .before .before .before .before .before .before .before .before .before .before .before .before .before .before .before .before .before .before .before .before .before .before .before .before .before .before .size .result in
-    let fits : n ≤ length (a .work .now) = omega (arith, z, size-grows C (a .stage .first) (a .stage .k) (q .within), q .room) in
+    let fits : n ≤ length (a .work .now) =
+    size-fits (counts-of (r .held) (r .layout-of)) (c .before .before .before .before .before .before .before .before .before .before .before .before .before .before .before .before .before .before .before .before .before .before .before .before .before .before .before .size .ensures) (a .stage .k) (length (a .work .now)) (omega (arith, q .within)) (q .room) in
     let g = c .before .before .before .before .before .before .before .before .before .before .before .before .before .before .before .before .before .before .before .before .before .before .before .before .begin-table in
     let long = length-take-le n (a .work .now) fits in
     let u = c .before .before .before .before .before .before .before .before .before .before .before .before .before .before .before .before .put-starts in
@@ -442,7 +452,8 @@ returns-5 c =
     let P = proper r in
     let z = c .before .before .before .before .before .before .before .before .before .before .before .before .before .before .before .before .before .before .before .before .before .before .before .before .before .before .before .before .size .ensures ∙ size-is (counts-of (r .held) (r .layout-of)) (a .stage .first) in
     let n = 16 * c .before .before .before .before .before .before .before .before .before .before .before .before .before .before .before .before .before .before .before .before .before .before .before .before .before .before .before .before .size .result in
-    let fits : n ≤ length (a .work .now) = omega (arith, z, size-grows C (a .stage .first) (a .stage .k) (q .within), q .room) in
+    let fits : n ≤ length (a .work .now) =
+    size-fits (counts-of (r .held) (r .layout-of)) (c .before .before .before .before .before .before .before .before .before .before .before .before .before .before .before .before .before .before .before .before .before .before .before .before .before .before .before .before .size .ensures) (a .stage .k) (length (a .work .now)) (omega (arith, q .within)) (q .room) in
     let g = c .before .before .before .before .before .before .before .before .before .before .before .before .before .before .before .before .before .before .before .before .before .before .before .before .before .begin-table in
     let long = length-take-le n (a .work .now) fits in
     let u = c .before .before .before .before .before .before .before .before .before .before .before .before .before .before .before .before .before .put-starts in
