@@ -58,7 +58,7 @@
    + U + 1, U the number of latches with a free start, and is at most 65,536; pins do not change it. What working memory holds before a
    call never matters. What it holds after a call that is not refused is not promised.
 
-   Stack. At most 240 kilobytes are used by search and 195 by fold where a pin of the user holds an input, 105 and 60 where none does;
+   Stack. At most 240 kilobytes are used by search and 195 by fold where a pin of the user holds an input, 140 by either where none does;
    185 by write_binary, 165 by replay, and 105 by the others, whatever the circuit; docs/MEMORY.md has the greatest depth measured for
    each function. */
 #ifndef YUNVEROK_H
