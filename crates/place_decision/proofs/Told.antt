@@ -8,11 +8,10 @@ use borrow.Author.Tests.{le-leb, lt-leb}
 use lib.Dec.{leb}
 use Rattle.aiger.specs.Circuit.{Circuit}
 use Rattle.aiger.specs.Frames.{freeBits}
-use Rattle.aiger.specs.Search.{reaches}
+use Rattle.aiger.specs.Search.{reaches, greatest}
 use Rattle.support.specs.Support.{support}
 use Rattle.support.proofs.Counting.{passed-least}
 use Rattle.unroll.specs.Chosen.{unrolled}
-use Rattle.place_search.specs.Places.{greatest}
 use Rattle.place_search.proofs.Answers.{tells-in}
 use Rattle.decision.specs.Reach.{tried, floorOf, endOf, reached}
 use Rattle.decision.specs.Decided.{SpentAt}

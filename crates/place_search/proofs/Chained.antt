@@ -7,10 +7,10 @@ use Prim.Native.Nat.{ℕ, _+_, _≤_, _<_, min}
 use native.Mathlib.Decide.{decLe, decLt}
 use native.Mathlib.Omega.{arith}
 use lib.Dec.{T}
-use Rattle.aiger.specs.Search.{Question, Outcome, firstAt, permittedOf}
+use Rattle.aiger.specs.Search.{Question, Outcome, firstAt, permittedOf, greatest, reachedRight}
 use Rattle.meaning.proofs.Decisions.{NoneFrom, FirstHit, first-from}
 use Rattle.meaning.proofs.Outcomes.{Decided, Quiet, answer-same, found-in, found-out, none-in, none-out, spent-out, found-same, none-found}
-use Rattle.place_search.specs.Places.{greatest, Placed, answers, Unspent, reachedRight}
+use Rattle.place_search.specs.Places.{Placed, answers, Unspent}
 use Rattle.place_search.specs.Chains.{Chain, lower, Covers, Ranges}
 use Rattle.place_search.proofs.Answers.{Reached, True, unspent-true, true-same, true-back, answers-out, tells-out}
 
