@@ -3,14 +3,14 @@
 use mathlib.Core.Path.{_≡_, refl, sym, ap, _∙_, subst}
 use mathlib.Core.Bool.{Bool, false}
 use mathlib.Core.List.{List}
-use Prim.Native.Nat.{ℕ, suc, _+_, _-_, _≤_, _<_}
+use Prim.Native.Nat.{ℕ, suc, _+_, _-_, _^_, _≤_, _<_}
 use native.Mathlib.Numerals.{add-one}
 use native.Mathlib.Omega.{arith}
 use lib.Dec.{T}
 use Rattle.aiger.specs.Circuit.{Circuit}
 use Rattle.aiger.specs.Load.{Answer, gives}
-use Rattle.aiger.specs.Search.{question, Decision, Outcome, Report, NeverOf, permitted, reachedRight, firstWitness}
-use Rattle.aiger.specs.Frames.{run}
+use Rattle.aiger.specs.Search.{question, reaches, Decision, Outcome, Report, NeverOf, permitted, tells, reachedRight, firstWitness}
+use Rattle.aiger.specs.Frames.{freeBits, run}
 use Rattle.aiger.specs.Witness.{witness}
 use Rattle.aiger.specs.Operations.{front, shown, shownLength}
 use Rattle.meaning.proofs.Outcomes.{Decided, first-witness}
@@ -25,7 +25,8 @@ use Rattle.stages.proofs.Choice as stages
 use Rattle.stages.proofs.More as more
 use Rattle.staged.specs.Schedule.{stagesOf}
 use Rattle.staged.proofs.Sound.{stages-sound}
-use Rattle.search.specs.Chosen.{outcomeChosen, neverChosen, reachedWith, reachedChosen, chosen}
+use Rattle.place_decision.specs.Decided.{ReachedIs}
+use Rattle.search.specs.Chosen.{outcomeChosen, neverChosen, reachedWith, reachedChosen, chosen, spentReport}
 use Rattle.search.specs.Steps.{FoundShown, SpentTold, Answered}
 
 module _ (c : Circuit) (b : ℕ) where
@@ -79,6 +80,15 @@ module _ (c : Circuit) (b : ℕ) where
   pub chosen-never : (k D : ℕ) → NeverOf (question c b) k (chosen c b k D)
   unfolding chosen
   chosen-never k D h = (never-chosen k D h, never-none k D h)
+
+-- the place that was reached in a frame, told with spent
+pub spent-told : (c : Circuit) (b t D R : ℕ) → ReachedIs c b t D R → SpentTold c b t D (gives (spentReport t R))
+unfolding reachedRight
+spent-told c b t D R r =
+    record {
+      says = ap (λ (x : ℕ). gives (spentReport t x)) (r .is);
+      right = subst (λ (x : ℕ). T (tells (reaches c b t) (2 ^ freeBits c t) 0 D x)) (r .is) (r .told);
+    }
 
 module _ (c : Circuit) (b k D : ℕ) where
   -- the outcome is what frames t to k give
