@@ -3,7 +3,7 @@
 ghost use mathlib.Core.Path.{_≡_};
 ghost use Prim.Native.Nat.{_+_, _≤_};
 ghost use lib.ListN.{length};
-ghost use Rattle.aiger.specs.Text.{digits};
+ghost use Rattle.aiger.specs.Text.{digits, longDigits};
 ghost use Rattle.output.specs.Output.{Room, Placed};
 ghost use Rattle.output.specs.Row.{ending, numberText, rowText};
 
@@ -18,13 +18,21 @@ pub fn put(out: &mut [u8], at: usize, text: &[u8]) -> usize
 }
 
 // Puts the digits of n.
+pub fn put_long(out: &mut [u8], at: usize, n: u64) -> usize
+    requires { ⌜ Room (now out) at (longDigits n) ⌝ }
+    ensures { λ r. ⌜ Placed (now (out .entry)) at (longDigits n) r (now (out .exit)) ⌝ }
+{
+    let end = at + numbers::long_digit_count(n);
+    numbers::fill(&mut out[at..end], n);
+    end
+}
+
+// Puts the digits of n.
 pub fn put_number(out: &mut [u8], at: usize, n: u32) -> usize
     requires { ⌜ Room (now out) at (digits n) ⌝ }
     ensures { λ r. ⌜ Placed (now (out .entry)) at (digits n) r (now (out .exit)) ⌝ }
 {
-    let end = at + numbers::digit_count(n);
-    numbers::fill(&mut out[at..end], n);
-    end
+    put_long(out, at, n as u64)
 }
 
 // The byte after a number that `left` more follow in its line.
