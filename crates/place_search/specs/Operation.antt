@@ -28,11 +28,15 @@ placeTests asked c b t place D room len =
     badTest c b ∷ need 11 (leb t 255 && budgetRight D) ∷ placeTest asked t place ∷ sizeTest c t room
     ∷ need 13 (leb (witnessLength c b t) len) ∷ []
 
--- found leaves the witness of the first hit at or after the place at the front, none and spent leave every byte
+-- found leaves a text at the front, by the place of the first hit at or after the starting place; none and spent leave every byte
+abbrev pub shownAt : (ℕ → List ℕ) → Placed → List ℕ → List ℕ
+shownAt text (Placed.hit x) out = front (text x) out
+shownAt text Placed.clear out = out
+shownAt text (Placed.spent R) out = out
+
+-- the text is the witness of the sequence at that place
 abbrev pub shownFrom : Circuit → ℕ → ℕ → Placed → List ℕ → List ℕ
-shownFrom c b t (Placed.hit x) out = front (witness b (run c t x)) out
-shownFrom c b t Placed.clear out = out
-shownFrom c b t (Placed.spent R) out = out
+shownFrom c b t a out = shownAt (λ x. witness b (run c t x)) a out
 
 -- what is reported: found t with the length of its witness, none t, or spent t with the place that was reached. Nothing is known of other
 -- frames
