@@ -8,9 +8,9 @@ use native.Mathlib.Omega.{arith}
 use lib.Dec.{T}
 use Rattle.aiger.specs.Search.{Question, Decision, Outcome, decides, permittedOf, greatest, tells, reachedRight}
 use Rattle.aiger.proofs.Tests.{and, and-left, and-right}
-use Rattle.aiger.proofs.Reached.{tells-parts, tells-all}
+use Rattle.aiger.proofs.Reached.{tells-parts, tells-all, found-reached, none-reached, spent-reached}
 use Rattle.meaning.proofs.Decisions.{NoneFrom, FirstHit, Exceeded, clear-out, clear-in, decides-out, decides-in, first-same, hit-not-clear}
-use Rattle.meaning.proofs.Outcomes.{Quiet, found-in, none-in, spent-in}
+use Rattle.meaning.proofs.Outcomes.{Decided, Quiet, found-in, none-in, spent-in}
 use Rattle.place_search.specs.Places.{Placed, decisionOf, tellsOf, answers, Unspent, frameAlone, outcomeOf, reachedOf}
 
 module _ (p : ℕ → Bool) (places : ℕ) where
@@ -91,6 +91,17 @@ module _ (p : ℕ → Bool) (places : ℕ) where
       record { from = omega (arith, h .from); fits = h .fits; first = none-then lo R f x (h .first); hit = h .hit }
   true-back lo R le f Placed.clear h = none-then lo R f places h
   true-back lo R le f (Placed.spent Q) h = absurd h
+
+-- ---- what a search of all frames tells
+
+-- Clause 12.10: with spent t a place that was reached in frame t from its first place on; with an answer that is not spent, 0
+pub reached-out : (q : Question) (D R t : ℕ) → T (reachedRight q D (Outcome.spent t) R) → Reached (q .hitting t) (q .places t) 0 D R
+reached-out q D R t h = tells-out (q .hitting t) (q .places t) 0 D R (spent-reached q D R t h)
+
+pub decided-reached : (q : Question) (D R : ℕ) (o : Outcome) → Decided o → T (reachedRight q D o R) → R ≡ 0
+decided-reached q D R (Outcome.found t) d h = found-reached q D R t h
+decided-reached q D R (Outcome.none k) d h = none-reached q D R k h
+decided-reached q D R (Outcome.spent t) d h = absurd d
 
 -- ---- place 0
 
