@@ -136,9 +136,10 @@ module _ {m w out₀ w′ out₀′ : List ℕ} {c : Circuit} {b k D t : ℕ} {o
         → (o₂ .outcome ≡ Outcome.found t) × WroteAlike out out′ out₂ out₂′
     plain-chained e {out₂ = out₂} {out₂′ = out₂′} {k₂ = k₂} {D₂ = D₂} {o₂ = o₂} h₂ s₂ l d =
         let a = acted h₂ s₂ refl .1 in
-        let (f, x, first, w) =
+        let (f, g) =
         all-found (question c b) c b t (λ x. witness b (run c t x)) (Asked c b t) asked-told k D (o₀ .reached) allowed reached r e k₂ D₂ (o₂ .outcome) l d
         (a .allowed) in
+        let (x, first, w) = g in
         let shows : out₂′ ≡ front (firstWitness c b t) out₂ =
         a .shows ∙ ap (λ (z : Outcome). shown c b z out₂) f in (
           f,
