@@ -16,7 +16,7 @@ use Rattle.roundtrip.proofs.LoadWrite.{text-short}
 use Rattle.roundtrip.proofs.LoadValid.{gives-same}
 use Rattle.roundtrip.proofs.Holding.{held, held-valid}
 use Rattle.roundtrip.proofs.Determined.{written-same, written-in, acted, refused-as}
-use Rattle.job.proofs.Printing.{Stored}
+use Rattle.load_laws.proofs.Stored.{Stored}
 use Rattle.fold.specs.Chosen.{chosen}
 use Rattle.replies.specs.Refusal.{refusalText}
 use Rattle.replies.specs.Reply.{Fronts, Leaves}

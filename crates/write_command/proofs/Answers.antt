@@ -11,7 +11,7 @@ use Rattle.aiger.specs.Operations.{front}
 use Rattle.layout.specs.Words.{circuitIn}
 use Rattle.roundtrip.proofs.LoadValid.{gives-same}
 use Rattle.roundtrip.proofs.Holding.{held}
-use Rattle.job.proofs.Printing.{Stored}
+use Rattle.load_laws.proofs.Stored.{Stored}
 use Rattle.renumbered.specs.Renumbered.{writeBinary, WrittenBinary}
 use Rattle.write_binary.proofs.Answers.{text-short}
 use Rattle.write_binary.proofs.RoundTrip.{written-same, written-in}
