@@ -289,6 +289,15 @@ fn change_byte(r: &mut Random, text: &mut Vec<u8>) {
     }
 }
 
+/// A form of write: 0 or 1, or a number that is none.
+pub fn form(r: &mut Random) -> u64 {
+    match r.below(12) {
+        0 => r.choose(&[2, 3, 256, 257, 4_294_967_295, 4_294_967_296, 4_294_967_297, 9_999_999_999, u64::MAX]),
+        1 => r.word(),
+        _ => r.below(2),
+    }
+}
+
 /// One change to a text: bytes, numbers, lines, an early end or a wrong tail.
 pub fn damage_text(r: &mut Random, text: &mut Vec<u8>) {
     match r.below(8) {

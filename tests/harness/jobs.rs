@@ -954,26 +954,25 @@ impl Harness {
 
     fn write_job(&mut self, large: bool, memory: Loan) {
         let words = self.words(&memory);
-        let binary = self.random.one_in(2);
-        let operation = if binary { Operation::WriteBinary } else { Operation::Write };
-        let length = reference::write(&words, binary, u64::MAX).map_or(100, |text| text.len());
+        let form = generate::form(&mut self.random);
+        let length = reference::write(&words, form, u64::MAX).map_or(100, |text| text.len());
         let out_len = self.near(length as u64);
         let out = self.lend_some(Kind::Output, out_len, 1);
         let loans = [memory, out];
-        let told = self.perform(operation, large, &loans, &mut |by| unsafe {
-            let write = if binary { interface::yunverok_write_binary } else { interface::yunverok_write };
-            write(by.user, memory.words(), memory.count(), out.pointer, out.count(), by.answer.numbers(), by.answer.count())
+        let told = self.perform(Operation::Write, large, &loans, &mut |by| unsafe {
+            let (answer, places) = (by.answer.numbers(), by.answer.count());
+            interface::yunverok_write(by.user, memory.words(), memory.count(), form, out.pointer, out.count(), answer, places)
         });
-        let expected = self.may(1).and_then(|()| reference::write(&words, binary, out.count()));
+        let expected = self.may(1).and_then(|()| reference::write(&words, form, out.count()));
         let faults = self.differs(&told, &lengthened(&expected));
         match expected {
             Ok(text) => {
                 self.store(&out).expect(out.offset, &text);
-                self.tally.answer(operation, "written");
+                self.tally.answer(Operation::Write, if form == 0 { "text" } else { "binary" });
             }
-            Err(number) => self.tally.refusal(operation, number),
+            Err(number) => self.tally.refusal(Operation::Write, number),
         }
-        self.settle(operation, &loans, faults, &|| format!("output {} bytes\n{}", out.len, shown(&words)));
+        self.settle(Operation::Write, &loans, faults, &|| format!("form {form}, output {} bytes\n{}", out.len, shown(&words)));
     }
 
     // Waveform

@@ -496,10 +496,13 @@ pub fn binary_text(c: &Circuit) -> Vec<u8> {
     [binary_lines(&c), differences.flat_map(groups).collect()].concat()
 }
 
-/// Text or binary form.
-pub fn write(memory: &[u32], binary: bool, out_len: u64) -> Result<Vec<u8>, u32> {
+/// Form 0 is the text, form 1 the binary form.
+pub fn write(memory: &[u32], form: u64, out_len: u64) -> Result<Vec<u8>, u32> {
+    if form > 1 {
+        return Err(21);
+    }
     let circuit = held(memory).ok_or(9u32)?;
-    let text = if binary { binary_text(&circuit) } else { text(&circuit) };
+    let text = if form == 1 { binary_text(&circuit) } else { text(&circuit) };
     if out_len < text.len() as u64 {
         return Err(13);
     }

@@ -15,6 +15,9 @@ BAD_FILES = {"empty": ("", 1), "header": ("aag 1 2\n", 2), "count": ("aag 1 2 0 
              "literal": ("aag 1 1 0 0 0 1\n2\n9\n", 6), "used": ("aag 2 1 0 0 0 1\n2\n4\n", 7), "cycle": ("aag 2 1 0 0 1 1\n2\n4\n4 4 2\n", 8)}
 BITS = 12
 VERBS = ["load", "preview", "pin", "pin", "search", "search", "search", "fold", "fold", "write", "other", "replay", "replay", "widen", "waveform", "join"]
+OTHER_FORMS = [2, 256, 4294967295, 4294967296, 9999999999]
+MALFORMED = [["fnord"], ["pin", 1], ["search", 0, 1], ["write", "now"], ["write", "01"], ["write", 10000000000], ["write", 1, 1], ["load"], ["load", ""],
+             ["join", "", "c1"], ["pin", "01", 1], ["x" * 5000]]
 
 
 def words(c):
@@ -267,8 +270,12 @@ class Analyser:
         wrong, w = self.shown(text)
         return said.startswith(wrong + ":") if wrong else dump_agrees(self.circuit, w, only, said)
 
-    def write(self, binary):
-        return "refused 9" if self.circuit is None else coded(self.circuit) if binary else text(self.circuit)
+    def write(self, form, said):
+        if form > 1:
+            return said == "refused 21: the form is neither 0 nor 1\n"
+        if self.circuit is None:
+            return said.startswith("refused 9:")
+        return said == (coded(self.circuit) if form else text(self.circuit))
 
 
 def files(r, folder):
@@ -314,15 +321,21 @@ def command(r, user, mine, names, seen, folder):
     if kind == "fold":
         return [kind, r.below(4), bound(r, mine.circuit, mine.pins)]
     if kind == "write":
-        return [kind] + (["binary"] if r.below(2) else [])
-    return [["fnord"], ["pin", 1], ["search", 0, 1], ["write", "now"], ["load"], ["load", ""], ["join", "", "c1"], ["pin", "01", 1], ["x" * 5000]][r.below(9)]
+        return [kind] + ([], ["binary"], [0], [1], [OTHER_FORMS[r.below(len(OTHER_FORMS))]])[r.below(5)]
+    return MALFORMED[r.below(len(MALFORMED))]
+
+
+def form_of(args):
+    """The form that the arguments of write name, none where they name no form."""
+    form = {(): 0, ("binary",): 1}.get(tuple(args), args[0] if args else None)
+    return form if isinstance(form, int) and form < 10 ** 10 else None
 
 
 def agrees(user, words_of, said, users, found, folder):
     """Whether the answer is right; an accepted load is given to both analysers."""
     verb, args = words_of[0], words_of[1:]
     sizes = {"load": [1], "preview": [1], "pin": [2], "search": [3], "fold": [2], "write": [0, 1], "replay": [1], "widen": [1], "waveform": [1, 2], "join": [2]}
-    if len(args) not in sizes.get(verb, []) or "01" in args or "" in args or (verb == "write" and args not in ([], ["binary"])):
+    if len(args) not in sizes.get(verb, []) or "01" in args or "" in args or (verb == "write" and form_of(args) is None):
         return said == "malformed\n"
     if user > 1 or (user == 1 and verb in ("load", "join")):
         return said.startswith("refused 18:")
@@ -359,7 +372,7 @@ def agrees(user, words_of, said, users, found, folder):
         return mine.search(*args, said)
     if verb == "fold":
         return mine.fold(*args, said)
-    return said == mine.write(args == ["binary"]) or (mine.circuit is None and said.startswith("refused 9:"))
+    return mine.write(form_of(args), said)
 
 
 def main():

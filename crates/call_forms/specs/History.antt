@@ -18,7 +18,6 @@ use Rattle.call_forms.specs.Table.{
   searchRow,
   foldRow,
   writeRow,
-  binaryRow,
   previewRow,
   joinRow,
   replayRow,
@@ -34,7 +33,6 @@ use Rattle.call_forms.specs.Forms.{
   UserReplayed,
   UserWidened,
   UserWritten,
-  UserWrittenBinary,
   UserWaveformed,
   UserPreviewed,
 }
@@ -51,16 +49,14 @@ pub data Call : Type 0 where
   setPin : (user input value : ℕ) → Call
   search : (user b k D : ℕ) (out : List ℕ) → Call
   fold : (user b t : ℕ) (out : List ℕ) → Call
-  write : (user : ℕ) (out : List ℕ) → Call
-  writeBinary : (user : ℕ) (out : List ℕ) → Call
+  write : (user form : ℕ) (out : List ℕ) → Call
   preview : (user : ℕ) (file : List ℕ) → Call
   join : (user : ℕ) (first second : List ℕ) → Call
   replay : (user : ℕ) (witness : List ℕ) → Call
   widen : (user : ℕ) (witness out : List ℕ) → Call
   waveform : (user : ℕ) (only : Bool) (witness out : List ℕ) → Call
 
--- what a call returns: the answer, and the output that was lent. A join answers as a load does; the writers, widening and waveform
--- write a text
+-- what a call returns: the answer, and the output that was lent. A join answers as a load does; write, widening and waveform write a text
 pub data Returned : Type 0 where
   loaded : Answer (List ℕ) → Returned
   pinned : Answer (Unit {0}) → Returned
@@ -76,8 +72,7 @@ userOf (Call.load user file) = user
 userOf (Call.setPin user input value) = user
 userOf (Call.search user b k D out) = user
 userOf (Call.fold user b t out) = user
-userOf (Call.write user out) = user
-userOf (Call.writeBinary user out) = user
+userOf (Call.write user form out) = user
 userOf (Call.preview user file) = user
 userOf (Call.join user first second) = user
 userOf (Call.replay user witness) = user
@@ -90,8 +85,7 @@ rowOf (Call.load user file) = loadRow
 rowOf (Call.setPin user input value) = pinRow
 rowOf (Call.search user b k D out) = searchRow
 rowOf (Call.fold user b t out) = foldRow
-rowOf (Call.write user out) = writeRow
-rowOf (Call.writeBinary user out) = binaryRow
+rowOf (Call.write user form out) = writeRow
 rowOf (Call.preview user file) = previewRow
 rowOf (Call.join user first second) = joinRow
 rowOf (Call.replay user witness) = replayRow
@@ -140,10 +134,8 @@ pub data Step (s : State) : Call → Returned → State → Type 0 where
       → UserFolded Fold.chosen (s .memory) (s .pins) user b t (s .work) out a w′ out′
       → length w′ ≡ length (s .work)
       → Step s (Call.fold user b t out) (Returned.folded a out′) (record { memory = s .memory; work = w′; pins = s .pins })
-  writes : {user : ℕ} {out out′ : List ℕ} {a : Answer ℕ} → UserWritten (s .memory) user out a out′
-      → Step s (Call.write user out) (Returned.written a out′) s
-  writesBinary : {user : ℕ} {out out′ : List ℕ} {a : Answer ℕ} → UserWrittenBinary (s .memory) user out a out′
-      → Step s (Call.writeBinary user out) (Returned.written a out′) s
+  writes : {user form : ℕ} {out out′ : List ℕ} {a : Answer ℕ} → UserWritten (s .memory) user form out a out′
+      → Step s (Call.write user form out) (Returned.written a out′) s
   previews : {user n : ℕ} {file : List ℕ} {a : Answer (List ℕ)} → UserPreviewed (length (s .memory)) file user a n
       → Step s (Call.preview user file) (Returned.previewed a n) s
   joins : {user : ℕ} {first second m′ p′ : List ℕ} {a : Answer (List ℕ)} → UserJoined first second (s .memory) (s .pins) user a m′ p′

@@ -34,7 +34,6 @@ ghost use Rattle.call_forms.specs.Forms.{
   UserReplayed,
   UserWidened,
   UserWritten,
-  UserWrittenBinary,
   UserWaveformed,
   UserPreviewed,
 };
@@ -199,24 +198,14 @@ pub fn widen(user: u64, shared: &[u8], m: &[u32], text: &[u8], out: &mut [u8]) -
     widen::widen_under(m, &shared[from..to], text, out)
 }
 
-// Puts the text of the circuit that m holds at the front of out. Pins do not change the circuit that is written.
-pub fn write(user: u64, m: &[u32], out: &mut [u8]) -> WriteAnswer
-    ensures { λ r. ⌜ UserWritten (now (m .entry)) user (now (out .entry)) (Write.answered r) (now (out .exit)) ⌝ }
+// Puts the circuit that m holds at the front of out, in form 0 as text, in form 1 in binary form. Pins do not change what is written.
+pub fn write(user: u64, m: &[u32], form: u64, out: &mut [u8]) -> WriteAnswer
+    ensures { λ r. ⌜ UserWritten (now (m .entry)) user form (now (out .entry)) (Write.answered r) (now (out .exit)) ⌝ }
 {
     if !may(user, 1) {
         return WriteAnswer::Refused(18);
     }
-    write::write(m, out)
-}
-
-// Puts the circuit that m holds, in binary form, at the front of out.
-pub fn write_binary(user: u64, m: &[u32], out: &mut [u8]) -> WriteAnswer
-    ensures { λ r. ⌜ UserWrittenBinary (now (m .entry)) user (now (out .entry)) (Write.answered r) (now (out .exit)) ⌝ }
-{
-    if !may(user, 1) {
-        return WriteAnswer::Refused(18);
-    }
-    write_binary::write_binary(m, out)
+    writer::write(m, form, out)
 }
 
 // Puts the run of a witness of the circuit in m as text at the front of out, all wires or the inputs alone. A witness gives every bit of

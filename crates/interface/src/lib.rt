@@ -229,7 +229,7 @@ fn tell_replayed(said: ReplayAnswer, answer: &mut [u64]) -> u64
 pub extern "C" fn yunverok_version() -> u64
     ensures { λ r. ⌜ r ≡ version ⌝ }
 {
-    1
+    2
 }
 
 // Loads a file, which user 0 alone may do: circuit memory then holds its circuit, and all pins are free.
@@ -422,38 +422,21 @@ pub extern "C" fn yunverok_waveform(
     )
 }
 
-// Writes the circuit as an AIGER file in ASCII.
+// Writes the circuit as an AIGER file: form 0 is the ASCII form, form 1 the binary form.
 #[no_mangle]
 pub extern "C" fn yunverok_write(
     user: u64,
     circuit: &[u32],
+    form: u64,
     out: &mut [u8],
     answer: &mut [u64],
 ) -> u64
     ensures { λ r. ⌜
-        Called (lent [] (now (circuit .entry)) []) (Call.write user (now (out .entry))) (lent [] (now (circuit .entry)) [])
+        Called (lent [] (now (circuit .entry)) []) (Call.write user form (now (out .entry))) (lent [] (now (circuit .entry)) [])
         (now (out .exit))
         (now (answer .entry)) r
         (now (answer .exit))
         ⌝ }
 {
-    tell_written(calls::write(user, circuit, out), answer)
-}
-
-// Writes the circuit as an AIGER file in binary form.
-#[no_mangle]
-pub extern "C" fn yunverok_write_binary(
-    user: u64,
-    circuit: &[u32],
-    out: &mut [u8],
-    answer: &mut [u64],
-) -> u64
-    ensures { λ r. ⌜
-        Called (lent [] (now (circuit .entry)) []) (Call.writeBinary user (now (out .entry))) (lent [] (now (circuit .entry)) [])
-        (now (out .exit))
-        (now (answer .entry)) r
-        (now (answer .exit))
-        ⌝ }
-{
-    tell_written(calls::write_binary(user, circuit, out), answer)
+    tell_written(calls::write(user, circuit, form, out), answer)
 }

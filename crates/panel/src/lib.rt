@@ -15,7 +15,7 @@ ghost use Rattle.replies.specs.Reply.{Leaves};
 ghost use Rattle.search_command.specs.Texts.{saidWords};
 ghost use Rattle.search.specs.Chosen as Search;
 ghost use Rattle.fold.specs.Chosen as Fold;
-ghost use Rattle.call_forms.specs.Forms.{PinSet, UserSearched, UserFolded, UserWritten, UserWrittenBinary};
+ghost use Rattle.call_forms.specs.Forms.{PinSet, UserSearched, UserFolded, UserWritten};
 ghost use Rattle.panel.specs.Answers.{
   pinWords,
   textWords,
@@ -127,31 +127,16 @@ fn fold(
     }
 }
 
-// Writes the circuit.
-fn write(user: u64, m: &[u32], out: &mut [u8], line: &mut [u8]) -> Report
+// Writes the circuit in a form.
+fn write(user: u64, form: u64, m: &[u32], out: &mut [u8], line: &mut [u8]) -> Report
     requires { ⌜ 128 ≤ length (now line) ⌝ }
     ensures { λ r. ⌜
-        Reported (λ a. UserWritten (now (m .entry)) user (now (out .entry)) a (now (out .exit))) textWords textLength (now (line .entry)) r
-        (now (line .exit))
-        (now (out .exit))
-        ⌝ }
-{
-    match calls::write(user, m, out) {
-        WriteAnswer::Length(n) => Report { line: 0, out: n },
-        WriteAnswer::Refused(n) => replies::refuse(line, n),
-    }
-}
-
-// Writes the circuit in binary form.
-fn write_binary(user: u64, m: &[u32], out: &mut [u8], line: &mut [u8]) -> Report
-    requires { ⌜ 128 ≤ length (now line) ⌝ }
-    ensures { λ r. ⌜
-        Reported (λ a. UserWrittenBinary (now (m .entry)) user (now (out .entry)) a (now (out .exit))) textWords textLength
+        Reported (λ a. UserWritten (now (m .entry)) user form (now (out .entry)) a (now (out .exit))) textWords textLength
         (now (line .entry)) r
         (now (line .exit)) (now (out .exit))
         ⌝ }
 {
-    match calls::write_binary(user, m, out) {
+    match calls::write(user, m, form, out) {
         WriteAnswer::Length(n) => Report { line: 0, out: n },
         WriteAnswer::Refused(n) => replies::refuse(line, n),
     }
@@ -180,7 +165,6 @@ pub fn query(
         Query::Pin(input, value) => pin(user, input, value, m, pins, line),
         Query::Search(b, k, d) => search(user, Terms { b, k, d }, m, pins, work, out, line),
         Query::Fold(b, t) => fold(user, Target { b, t }, m, pins, work, out, line),
-        Query::Write => write(user, m, out, line),
-        Query::WriteBinary => write_binary(user, m, out, line),
+        Query::Write(form) => write(user, form, m, out, line),
     }
 }

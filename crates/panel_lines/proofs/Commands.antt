@@ -22,6 +22,7 @@ use Rattle.panel_lines.specs.Grammar.{
   pinOf,
   searchOf,
   foldOf,
+  formOf,
   writeOf,
   loadOf,
   previewOf,
@@ -38,10 +39,19 @@ use Rattle.panel_lines.specs.declared.Part.{Part}
 use Rattle.panel_lines.specs.declared.Verb.{Verb}
 use Rattle.panel_lines.specs.declared.View.{View}
 use Rattle.panel_lines.specs.declared.View.the-variants.{Replay, Widen, Waveform}
-use Rattle.panel_lines.specs.declared.Query.the-variants.{Pin, Search, Fold, Write, WriteBinary}
+use Rattle.panel_lines.specs.declared.Query.the-variants.{Pin, Search, Fold, Write}
 use Rattle.panel_lines.specs.declared.Task.{Task}
 use Rattle.panel_lines.specs.declared.Task.the-variants.{Ask, Load, Preview, Join, Witness, Malformed}
 use Rattle.panel_lines.specs.declared.Request.{Request}
+
+-- the form that a word is
+pub form-binary : (w : List ℕ) → true ≡ same w (bytes "binary") → some 1 ≡ formOf w
+unfolding formOf
+form-binary w e = rw (← e)
+
+pub form-number : (w : List ℕ) → false ≡ same w (bytes "binary") → {n : Option ℕ} → n ≡ numberOf w → n ≡ formOf w
+unfolding formOf
+form-number w e f = rw (← e) f
 
 module _ (s : List ℕ) (at : ℕ) where
   pub pin-none : none ≡ twoNumbers (drop at s) → TaskIs s (pinOf (drop at s)) Malformed
@@ -73,17 +83,25 @@ module _ (s : List ℕ) (at : ℕ) where
     unfolding searchOf
     search-all k d e = record { meaning = rw (x .number-is, ← e); parts = tt }
 
-  pub write-none : none ≡ flagOf (bytes "binary") (drop at s) → TaskIs s (writeOf (drop at s)) Malformed
+  pub write-text : length s ≤ at → TaskIs s (writeOf (drop at s)) (Ask (Write 0))
   unfolding writeOf
-  write-none e = record { meaning = rw (← e); parts = tt }
+  write-text h = record { meaning = rw (drop-of-length-le s {i = at} h); parts = tt }
 
-  pub write-binary : some true ≡ flagOf (bytes "binary") (drop at s) → TaskIs s (writeOf (drop at s)) (Ask WriteBinary)
-  unfolding writeOf
-  write-binary e = record { meaning = rw (← e); parts = tt }
+  -- where something follows
+  module _ (h : at < length s) where
+    write-word : writeOf (drop at s) ≡ (oneName (drop at s) >>= λ w. formOf w >>= λ n. some (Command.query (Write n)))
+    unfolding writeOf
+    write-word = rw (drop-cons s at 0 h)
 
-  pub write-text : some false ≡ flagOf (bytes "binary") (drop at s) → TaskIs s (writeOf (drop at s)) (Ask Write)
-  unfolding writeOf
-  write-text e = record { meaning = rw (← e); parts = tt }
+    pub write-none : oneName (drop at s) ≡ none → TaskIs s (writeOf (drop at s)) Malformed
+    write-none e = record { meaning = sym (write-word ∙ rw e); parts = tt }
+
+    module _ {p : Part} (w : NameAt s at p) where
+      pub write-wrong : none ≡ formOf (bytesOf s p) → TaskIs s (writeOf (drop at s)) Malformed
+      write-wrong e = record { meaning = sym (write-word ∙ rw (w .name-is, ← e)); parts = tt }
+
+      pub write-form : (n : ℕ) → some n ≡ formOf (bytesOf s p) → TaskIs s (writeOf (drop at s)) (Ask (Write n))
+      write-form n e = record { meaning = sym (write-word ∙ rw (w .name-is, ← e)); parts = tt }
 
   pub load-none : oneName (drop at s) ≡ none → TaskIs s (loadOf (drop at s)) Malformed
   unfolding loadOf

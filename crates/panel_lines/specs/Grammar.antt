@@ -13,7 +13,7 @@ use Rattle.panel_lines.specs.declared.Verb.{Verb}
 use Rattle.panel_lines.specs.declared.View.{View}
 use Rattle.panel_lines.specs.declared.View.the-variants.{Replay, Widen, Waveform}
 use Rattle.panel_lines.specs.declared.Query.{Query}
-use Rattle.panel_lines.specs.declared.Query.the-variants.{Pin, Search, Fold, Write, WriteBinary}
+use Rattle.panel_lines.specs.declared.Query.the-variants.{Pin, Search, Fold, Write}
 
 -- a command: a query, which names no file; or load, preview, join, or a view of a witness, which name files
 pub data Command : Type 0 where
@@ -83,9 +83,17 @@ searchOf s = do
 unfoldable pub foldOf : List ℕ → Option Command
 foldOf s = twoNumbers s >>= λ p. some (Command.query (Fold (p .0) (p .1)))
 
--- write [binary]
+-- Clause 12.14: a form, by the word `binary`, which is 1, or by its number
+unfoldable pub formOf : List ℕ → Option ℕ
+formOf w = cond (same w (bytes "binary")) (some 1) (numberOf w)
+
+-- write [binary | FORM], in form 0 where nothing follows
 unfoldable pub writeOf : List ℕ → Option Command
-writeOf s = flagOf (bytes "binary") s >>= λ b. some (Command.query (cond b WriteBinary Write))
+writeOf [] = some (Command.query (Write 0))
+writeOf (c ∷ s) = do
+  w ← oneName (c ∷ s)
+  form ← formOf w
+  some (Command.query (Write form))
 
 -- load FILE
 unfoldable pub loadOf : List ℕ → Option Command

@@ -5,11 +5,13 @@ ghost use mathlib.Core.Bool.{cond};
 ghost use Prim.Native.Nat.{_≤_};
 ghost use lib.ListN.{length, drop};
 ghost use Rattle.aiger.specs.Lists.{same};
+ghost use Rattle.arguments.specs.Arguments.{meant};
 ghost use Rattle.panel_lines.specs.Grammar.{
   twoNumbers,
   pinOf,
   searchOf,
   foldOf,
+  formOf,
   writeOf,
   loadOf,
   previewOf,
@@ -60,8 +62,7 @@ pub enum Query {
     Pin(u64, u64),
     Search(u64, u64, u64),
     Fold(u64, u64),
-    Write,
-    WriteBinary,
+    Write(u64),
 }
 
 // What is done with a witness of the loaded circuit. A waveform has the inputs alone where it says so.
@@ -298,18 +299,34 @@ fn read_flag(request: &[u8], at: usize, word: &[u8]) -> Flag
     Flag::Unknown
 }
 
-// The argument `[binary]` of write.
+// The form that a part of a request is.
+fn read_form(request: &[u8], part: Part) -> Argument
+    requires { ⌜ Inside (now request) part ⌝ }
+    ensures { λ r. ⌜ meant r ≡ formOf (bytesOf (now (request .entry)) part) ⌝ }
+{
+    if is_word(request, part, b"binary") {
+        return Argument::Number(1);
+    }
+    let from = part.from;
+    let to = part.to;
+    arguments::read_argument(&request[from..to])
+}
+
+// The argument `[binary | FORM]` of write.
 fn read_write(request: &[u8], at: usize) -> Task
     requires { ⌜ at ≤ length (now request) ⌝ }
     ensures { λ r. ⌜ TaskIs (now (request .entry)) (writeOf (drop at (now (request .entry)))) r ⌝ }
 {
-    let Flag::Given(binary) = read_flag(request, at, b"binary") else {
+    if at == request.len() {
+        return Task::Ask(Query::Write(0));
+    }
+    let Word::At(part) = one_name(request, at) else {
         return Task::Malformed;
     };
-    if binary {
-        return Task::Ask(Query::WriteBinary);
-    }
-    Task::Ask(Query::Write)
+    let Argument::Number(form) = read_form(request, part) else {
+        return Task::Malformed;
+    };
+    Task::Ask(Query::Write(form))
 }
 
 // The arguments `WITNESS [inputs]` of waveform.
