@@ -24,6 +24,7 @@ use Rattle.call_forms.specs.Table.{
   replayRow,
   widenRow,
   waveformRow,
+  generateRow,
 }
 use Rattle.call_forms.specs.Forms.{
   UserLoaded,
@@ -37,6 +38,7 @@ use Rattle.call_forms.specs.Forms.{
   UserWrittenBinary,
   UserWaveformed,
   UserPreviewed,
+  UserGenerated,
 }
 
 -- what stays from call to call: the circuit memory and the working memory of both users, and the pins of each
@@ -58,9 +60,10 @@ pub data Call : Type 0 where
   replay : (user : ℕ) (witness : List ℕ) → Call
   widen : (user : ℕ) (witness out : List ℕ) → Call
   waveform : (user : ℕ) (only : Bool) (witness out : List ℕ) → Call
+  generate : (user seed i l a : ℕ) (out : List ℕ) → Call
 
--- what a call returns: the answer, and the output that was lent. A join answers as a load does; the writers, widening and waveform
--- write a text
+-- what a call returns: the answer, and the output that was lent. A join answers as a load does; the writers, widening, waveform
+-- and generate write a text
 pub data Returned : Type 0 where
   loaded : Answer (List ℕ) → Returned
   pinned : Answer (Unit {0}) → Returned
@@ -83,6 +86,7 @@ userOf (Call.join user first second) = user
 userOf (Call.replay user witness) = user
 userOf (Call.widen user witness out) = user
 userOf (Call.waveform user only witness out) = user
+userOf (Call.generate user seed i l a out) = user
 
 -- the row of a call in the table of operations
 abbrev pub rowOf : Call → Row
@@ -97,6 +101,7 @@ rowOf (Call.join user first second) = joinRow
 rowOf (Call.replay user witness) = replayRow
 rowOf (Call.widen user witness out) = widenRow
 rowOf (Call.waveform user only witness out) = waveformRow
+rowOf (Call.generate user seed i l a out) = generateRow
 
 -- a load, or a join, was accepted
 abbrev pub isAccepted : Returned → Bool
@@ -154,6 +159,8 @@ pub data Step (s : State) : Call → Returned → State → Type 0 where
       → Step s (Call.widen user witness out) (Returned.written a out′) s
   waveforms : {user : ℕ} {only : Bool} {witness out out′ : List ℕ} {a : Answer ℕ} → UserWaveformed (s .memory) user only witness out a out′
       → Step s (Call.waveform user only witness out) (Returned.written a out′) s
+  generates : {user seed i l a : ℕ} {out out′ : List ℕ} {answer : Answer ℕ} → UserGenerated user seed i l a out answer out′
+      → Step s (Call.generate user seed i l a out) (Returned.written answer out′) s
 
 -- a call that was made, with what it returned
 pub record Event : Type 0 where
