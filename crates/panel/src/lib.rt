@@ -2,6 +2,7 @@
 use calls::PinAnswer;
 use fold::FoldAnswer;
 use fold::Target;
+use generate::GenerateAnswer;
 use panel_lines::Query;
 use replies::Report;
 use search::Terms;
@@ -15,7 +16,7 @@ ghost use Rattle.replies.specs.Reply.{Leaves};
 ghost use Rattle.search_command.specs.Texts.{saidWords};
 ghost use Rattle.search.specs.Chosen as Search;
 ghost use Rattle.fold.specs.Chosen as Fold;
-ghost use Rattle.call_forms.specs.Forms.{PinSet, UserSearched, UserFolded, UserWritten, UserWrittenBinary};
+ghost use Rattle.call_forms.specs.Forms.{PinSet, UserSearched, UserFolded, UserWritten, UserWrittenBinary, UserGenerated};
 ghost use Rattle.panel.specs.Answers.{
   pinWords,
   textWords,
@@ -157,6 +158,24 @@ fn write_binary(user: u64, m: &[u32], out: &mut [u8], line: &mut [u8]) -> Report
     }
 }
 
+// Writes the circuit of a seed and counts.
+fn generate(user: u64, seed: u64, i: u64, l: u64, a: u64, out: &mut [u8], line: &mut [u8]) -> Report
+    requires { ⌜ 128 ≤ length (now line) ⌝ }
+    ensures { λ r. ⌜
+        Reported (λ answer. UserGenerated user seed i l a (now (out .entry)) answer (now (out .exit))) textWords textLength
+        (now (line .entry)) r
+        (now (line .exit)) (now (out .exit))
+        ⌝ }
+{
+    match calls::generate(user, seed, i, l, a, out) {
+        GenerateAnswer::Length(n) => Report {
+            line: 0,
+            out: n as usize,
+        },
+        GenerateAnswer::Refused(n) => replies::refuse(line, n),
+    }
+}
+
 // Does what a query asks.
 pub fn query(
     user: u64,
@@ -182,5 +201,6 @@ pub fn query(
         Query::Fold(b, t) => fold(user, Target { b, t }, m, pins, work, out, line),
         Query::Write => write(user, m, out, line),
         Query::WriteBinary => write_binary(user, m, out, line),
+        Query::Generate(seed, i, l, a) => generate(user, seed, i, l, a, out, line),
     }
 }

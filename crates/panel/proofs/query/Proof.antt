@@ -61,12 +61,25 @@ returns-5 c =
       inside = p .inside;
     })
 
+returns-6 : tie.Need-returns-6
+returns-6 c =
+    let p = c .before .before .before .before .generate .ensures in
+    rw (c .before .before .before .before .before .before .before .before .q4 .given .1) (record {
+      answer = p .answer;
+      permitted = Step.generates (p .permitted);
+      line-is = p .line-is;
+      out-is = p .out-is;
+      inside = p .inside;
+    })
+
 pub query-spec : {M : Type 1} → statement M
 query-spec =
     tie.close
     (tie.spec
     (λ c. search needs) (λ c κs. search needs) (λ c. search needs) (λ c κs. search needs) (λ c. search needs)
     (λ c κs. search needs) (λ c. search needs) (λ c κs. search needs) (λ c. search needs) (λ c κs. search needs)
+    (λ c. search needs) (λ c κs. search needs)
     (λ c. search needs) (λ c. search needs) returns (λ c. search needs) (λ c. search needs) (λ c. search needs) (λ c. search needs)
     returns-2 (λ c. search needs) (λ c. search needs) (λ c. search needs) (λ c. search needs) returns-3 (λ c. search needs)
-    (λ c. search needs) returns-4 (λ c. search needs) (λ c. search needs) returns-5)
+    (λ c. search needs) returns-4 (λ c. search needs) (λ c. search needs) returns-5 (λ c. search needs) (λ c. search needs)
+    returns-6)
