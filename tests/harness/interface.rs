@@ -24,6 +24,8 @@ extern "C" {
                              out_len: u64, answer: *mut u64, answer_len: u64) -> u64;
     pub fn yunverok_write(user: u64, circuit: *const u32, circuit_len: u64, form: u64, out: *mut u8, out_len: u64, answer: *mut u64,
                           answer_len: u64) -> u64;
+    pub fn yunverok_generate(seed: u64, inputs: u64, latches: u64, gates: u64, out: *mut u8, out_len: u64, answer: *mut u64,
+                             answer_len: u64) -> u64;
 }
 
 /// The places of an answer: kind, frame, length, words, reached, seven counts, whether a none holds for every bound, load's number, two

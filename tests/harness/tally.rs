@@ -13,21 +13,22 @@ pub enum Operation {
     Widen,
     Waveform,
     Join,
+    Generate,
 }
 
-pub const NAMES: [&str; 9] = ["load", "pin", "search", "fold", "replay", "write", "widen", "waveform", "join"];
+pub const NAMES: [&str; 10] = ["load", "pin", "search", "fold", "replay", "write", "widen", "waveform", "join", "generate"];
 
 #[derive(Default)]
 pub struct Tally {
     pub jobs: u64,
-    by_operation: [u64; 9],
-    answers: [BTreeMap<&'static str, u64>; 9],
-    refusals: [[u64; 22]; 9],
+    by_operation: [u64; 10],
+    answers: [BTreeMap<&'static str, u64>; 10],
+    refusals: [[u64; 22]; 10],
     folds_by_bits: BTreeMap<u64, u64>,
     loads_with: BTreeMap<&'static str, u64>,
     found_by_frame: BTreeMap<u64, u64>,
     /// Greatest depth of stack and number of measured jobs, of small and of large jobs.
-    depth: [[(usize, u64); 2]; 9],
+    depth: [[(usize, u64); 2]; 10],
     pub large: u64,
     pub repeated: u64,
     pub fold_repeated_otherwise: u64,

@@ -18,6 +18,7 @@ use Rattle.joined.specs.Joined.{JoinedInto}
 use Rattle.load.specs.Preview.{countsOf, wordsNeeded}
 use Rattle.waveform.specs.Waveform.{Waveformed}
 use Rattle.writer.specs.Forms.{formTest, InForm}
+use Rattle.generated.specs.Generated.{Generated}
 use Rattle.call_forms.specs.Table.{
   Row,
   loadRow,
@@ -30,6 +31,7 @@ use Rattle.call_forms.specs.Table.{
   replayRow,
   widenRow,
   waveformRow,
+  generateRow,
 }
 -- the form of a call: tests that need no circuit, then the operation
 pub use Rattle.first_tests.specs.Tested.{Tested}
@@ -116,3 +118,7 @@ UserWaveformed m user only text out a out′ = ForUser waveformRow user out (Wav
 abbrev pub UserPreviewed : ℕ → List ℕ → ℕ → Answer (List ℕ) → ℕ → Type 0
 UserPreviewed room f user a n =
     ForUser previewRow user 0 (λ a n. (a ≡ (load room f >>= λ c. gives (countsOf c))) × (n ≡ wordsNeeded f)) a n
+
+-- Clause 12.12: a circuit made from a seed and counts. It takes no circuit and leaves none
+abbrev pub UserGenerated : ℕ → ℕ → ℕ → ℕ → ℕ → List ℕ → Answer ℕ → List ℕ → Type 0
+UserGenerated user seed i l a out answer out′ = ForUser generateRow user out (Generated seed i l a out) answer out′

@@ -23,6 +23,7 @@ use Rattle.call_forms.specs.Table.{
   replayRow,
   widenRow,
   waveformRow,
+  generateRow,
 }
 use Rattle.call_forms.specs.Forms.{
   UserLoaded,
@@ -35,6 +36,7 @@ use Rattle.call_forms.specs.Forms.{
   UserWritten,
   UserWaveformed,
   UserPreviewed,
+  UserGenerated,
 }
 
 -- what stays from call to call: the circuit memory and the working memory of both users, and the pins of each
@@ -55,8 +57,10 @@ pub data Call : Type 0 where
   replay : (user : ℕ) (witness : List ℕ) → Call
   widen : (user : ℕ) (witness out : List ℕ) → Call
   waveform : (user : ℕ) (only : Bool) (witness out : List ℕ) → Call
+  generate : (user seed i l a : ℕ) (out : List ℕ) → Call
 
--- what a call returns: the answer, and the output that was lent. A join answers as a load does; write, widening and waveform write a text
+-- what a call returns: the answer, and the output that was lent. A join answers as a load does; write, widening, waveform and generate
+-- write a text
 pub data Returned : Type 0 where
   loaded : Answer (List ℕ) → Returned
   pinned : Answer (Unit {0}) → Returned
@@ -78,6 +82,7 @@ userOf (Call.join user first second) = user
 userOf (Call.replay user witness) = user
 userOf (Call.widen user witness out) = user
 userOf (Call.waveform user only witness out) = user
+userOf (Call.generate user seed i l a out) = user
 
 -- the row of a call in the table of operations
 abbrev pub rowOf : Call → Row
@@ -91,6 +96,7 @@ rowOf (Call.join user first second) = joinRow
 rowOf (Call.replay user witness) = replayRow
 rowOf (Call.widen user witness out) = widenRow
 rowOf (Call.waveform user only witness out) = waveformRow
+rowOf (Call.generate user seed i l a out) = generateRow
 
 -- a load, or a join, was accepted
 abbrev pub isAccepted : Returned → Bool
@@ -146,6 +152,8 @@ pub data Step (s : State) : Call → Returned → State → Type 0 where
       → Step s (Call.widen user witness out) (Returned.written a out′) s
   waveforms : {user : ℕ} {only : Bool} {witness out out′ : List ℕ} {a : Answer ℕ} → UserWaveformed (s .memory) user only witness out a out′
       → Step s (Call.waveform user only witness out) (Returned.written a out′) s
+  generates : {user seed i l a : ℕ} {out out′ : List ℕ} {answer : Answer ℕ} → UserGenerated user seed i l a out answer out′
+      → Step s (Call.generate user seed i l a out) (Returned.written answer out′) s
 
 -- a call that was made, with what it returned
 pub record Event : Type 0 where

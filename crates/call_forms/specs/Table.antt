@@ -47,7 +47,10 @@ widenRow = record { name = bytes "widen"; arguments = 0; files = 1; last = 1; ch
 abbrev pub waveformRow : Row
 waveformRow = record { name = bytes "waveform"; arguments = 0; files = 1; last = 1; changes = Changes.nothing }
 
+abbrev pub generateRow : Row
+generateRow = record { name = bytes "generate"; arguments = 4; files = 0; last = 1; changes = Changes.nothing }
+
 -- the table of operations
 abbrev pub operations : List Row
 operations =
-    loadRow ∷ pinRow ∷ searchRow ∷ foldRow ∷ writeRow ∷ previewRow ∷ joinRow ∷ replayRow ∷ widenRow ∷ waveformRow ∷ []
+    loadRow ∷ pinRow ∷ searchRow ∷ foldRow ∷ writeRow ∷ previewRow ∷ joinRow ∷ replayRow ∷ widenRow ∷ waveformRow ∷ generateRow ∷ []

@@ -6,6 +6,7 @@ mod shared_bytes;
 use circuit::Held;
 use fold::FoldAnswer;
 use fold::Target;
+use generate::GenerateAnswer;
 use load::Judgement;
 use load::LoadAnswer;
 use replay::ReplayAnswer;
@@ -25,6 +26,7 @@ ghost use Rattle.write.specs.Answer as Write;
 ghost use Rattle.replay.specs.Answer as Replay;
 ghost use Rattle.widen.specs.Answer as Widen;
 ghost use Rattle.waveform.specs.Answer as Waveform;
+ghost use Rattle.generate.specs.Answer as Generate;
 ghost use Rattle.call_forms.specs.Forms.{
   UserLoaded,
   UserJoined,
@@ -36,6 +38,7 @@ ghost use Rattle.call_forms.specs.Forms.{
   UserWritten,
   UserWaveformed,
   UserPreviewed,
+  UserGenerated,
 };
 ghost use Rattle.calls.specs.Answers.{pinSaid};
 
@@ -219,4 +222,14 @@ pub fn waveform(user: u64, m: &[u32], text: &[u8], only: bool, out: &mut [u8]) -
         return WaveformAnswer::Refused(18);
     }
     waveform::waveform(m, text, only, out)
+}
+
+// Puts the text of the circuit of a seed and counts at the front of out. Nothing is loaded.
+pub fn generate(user: u64, seed: u64, i: u64, l: u64, a: u64, out: &mut [u8]) -> GenerateAnswer
+    ensures { λ r. ⌜ UserGenerated user seed i l a (now (out .entry)) (Generate.answered r) (now (out .exit)) ⌝ }
+{
+    if !may(user, 1) {
+        return GenerateAnswer::Refused(18);
+    }
+    generate::generate(seed, i, l, a, out)
 }

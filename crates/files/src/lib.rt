@@ -9,7 +9,7 @@ ghost use Prim.Native.Nat.{_≤_};
 ghost use lib.ListN.{length, take};
 ghost use Rattle.io.specs.Counts.{Counts};
 ghost use Rattle.input.specs.Reading.{Ended};
-ghost use Rattle.arguments.specs.Arguments.{numberOf, meant};
+ghost use Rattle.arguments.specs.Arguments.{numberOf, seedOf, meant};
 ghost use Rattle.files.specs.Reading.{nameOf, BothRead};
 
 // Writes a text to standard output.
@@ -169,6 +169,16 @@ pub fn number_of(word: Word) -> Argument
     let bytes = word.bytes;
     let count = word.count;
     arguments::read_argument(&bytes[..count])
+}
+
+// The seed that a word is.
+pub fn seed_of(word: Word) -> Argument
+    requires { ⌜ Counts (word .count) (word .bytes) ⌝ }
+    ensures { λ r. ⌜ meant r ≡ seedOf (take (word .count) (word .bytes)) ⌝ }
+{
+    let bytes = word.bytes;
+    let count = word.count;
+    arguments::read_seed(&bytes[..count])
 }
 
 // How much was read of two files, whether one of them was not read, and what was read of each. The last two fields are this crate's own.

@@ -33,6 +33,8 @@ use Rattle.pinned_runs.specs.Obeys.{pinnedShows, PinnedReplayed, PinnedReplayEf
 use Rattle.load.specs.Preview.{countsOf}
 use Rattle.joined.specs.Joined.{joined, joinTests, JoinedInto}
 use Rattle.waveform.specs.Waveform.{Waveformed}
+use Rattle.generated.specs.Generated.{Generated}
+use Rattle.generated.proofs.Theorems.{generated-same}
 use Rattle.pinning.specs.Operations.{PinnedSearchEffect, PinnedFoldEffect, pinnedShown}
 use Rattle.call_forms.specs.Forms.{
   Tested,
@@ -281,6 +283,9 @@ own-step {s = s} {t = t} a (Step.waveforms {user = user} {only = only} {witness 
     under-same (λ m q. Waveformed m only witness out) (λ m q b d o p f g. waveformed-same f g) (a .memory)
     (own-pins user (s .pins) (t .pins) (a .own)) v v′ o₁ o₂ x y in
     (ap₂ Returned.written (z .0) (z .1), a)
+own-step a (Step.generates {seed = seed} {i = i} {l = l} {a = g} {out = out} {out′ = o₁} {answer = v} x) (Step.generates {out′ = o₂} {answer = v′} y) =
+    let z = tested-same (λ (o p : List ℕ). o ≡ p) refl (λ v w o p f h. generated-same f h) v v′ o₁ o₂ x y in
+    (ap₂ Returned.written (z .0) (z .1), a)
 
 -- an accepted load returns one thing, and leaves states that are the same to every user
 pub load-step : (u : ℕ) {c : Call} {r r′ : Returned} {s t s₁ t₁ : State} → Same u s t → T (isAccepted r) → Step s c r s₁ → Step t c r′ t₁ → (r ≡ r′) × Same u s₁ t₁
@@ -294,6 +299,7 @@ load-step u a h (Step.joins {user = user} x) (Step.joins y) = let z = join-same 
 load-step u a h (Step.replays x) y = absurd h
 load-step u a h (Step.widens x) y = absurd h
 load-step u a h (Step.waveforms x) y = absurd h
+load-step u a h (Step.generates x) y = absurd h
 
 pin-other : (u user input value : ℕ) {m p p₁ : List ℕ} {x : Answer (Unit {0})} → (user ≡ u → ⊥) → PinSet m user input value p x p₁ → Agree u p₁ p
 pin-other u user input value n (Tested.refuses h) = (refl, λ i l. refl)
@@ -352,3 +358,4 @@ other-step u {s = s} a n h (Step.joins {first = first} {second = second} {a = v}
 other-step u a n h (Step.replays x) = a
 other-step u a n h (Step.widens x) = a
 other-step u a n h (Step.waveforms x) = a
+other-step u a n h (Step.generates x) = a

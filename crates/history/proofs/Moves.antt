@@ -184,6 +184,7 @@ own-moves {s = s} {t = t} a (Step.widens {user = user} {witness = witness} {out 
     }
 own-moves {t = t} a (Step.waveforms {user = user} {only = only} {witness = witness} {out = out} {out′ = o} {a = v} x) =
     record { next = t; step = Step.waveforms (subst (λ (m : List ℕ). UserWaveformed m user only witness out v o) (a .memory) x); same = a }
+own-moves {t = t} a (Step.generates x) = record { next = t; step = Step.generates x; same = a }
 
 -- so has an accepted load, for any user
 pub accepted-moves : (u : ℕ) {c : Call} {r : Returned} {s t s₁ : State} → Same u s t → T (isAccepted r) → Step s c r s₁ → Moved u t c r s₁
@@ -197,3 +198,4 @@ accepted-moves u a h (Step.joins {user = user} x) = join-moves u a user x
 accepted-moves u a h (Step.replays x) = absurd h
 accepted-moves u a h (Step.widens x) = absurd h
 accepted-moves u a h (Step.waveforms x) = absurd h
+accepted-moves u a h (Step.generates x) = absurd h

@@ -10,7 +10,7 @@ use Rattle.aiger.specs.Load.{Answer, refused, gives}
 use Rattle.aiger.specs.Operations.{Loaded, Operated, Test}
 use Rattle.joined.specs.Joined.{JoinedInto}
 use Rattle.meaning.proofs.Lists.{length-map-upto}
-use Rattle.call_forms.specs.Table.{loadRow, pinRow, searchRow, foldRow, writeRow, previewRow, joinRow, replayRow, widenRow, waveformRow}
+use Rattle.call_forms.specs.Table.{loadRow, pinRow, searchRow, foldRow, writeRow, previewRow, joinRow, replayRow, widenRow, waveformRow, generateRow}
 use Rattle.call_forms.specs.Forms.{Tested, freeByte, sharedAfter, PinSet}
 use Rattle.call_forms.specs.History.{State, Call, Returned, Step, userOf, rowOf, refusalOf, Changed}
 use Rattle.call_forms.proofs.Tests.{first-refuses}
@@ -50,6 +50,7 @@ changes-own {s = s} (Step.joins {first = first} {second = second} x) = (refl, re
 changes-own (Step.replays x) = (refl, refl, refl)
 changes-own (Step.widens x) = (refl, refl, refl)
 changes-own (Step.waveforms x) = (refl, refl, refl)
+changes-own (Step.generates x) = (refl, refl, refl)
 
 pub strangers-refused : {c : Call} {r : Returned} {s s₁ : State} → Step s c r s₁ → rowOf c .last < userOf c → refusalOf r ≡ 18
 strangers-refused (Step.loads {user = user} x) h = ap (λ (a : Answer (List ℕ)). refusalOf (Returned.loaded a)) (first-refuses loadRow user [] h x .0)
@@ -62,3 +63,4 @@ strangers-refused (Step.joins {user = user} x) h = ap (λ (a : Answer (List ℕ)
 strangers-refused (Step.replays {user = user} x) h = ap (λ a. refusalOf (Returned.replayed a)) (first-refuses replayRow user [] h x .0)
 strangers-refused (Step.widens {user = user} {out′ = o} x) h = ap (λ a. refusalOf (Returned.written a o)) (first-refuses widenRow user [] h x .0)
 strangers-refused (Step.waveforms {user = user} {out′ = o} x) h = ap (λ a. refusalOf (Returned.written a o)) (first-refuses waveformRow user [] h x .0)
+strangers-refused (Step.generates {user = user} {out′ = o} x) h = ap (λ a. refusalOf (Returned.written a o)) (first-refuses generateRow user [] h x .0)

@@ -5,6 +5,7 @@
 use calls::PinAnswer;
 use fold::FoldAnswer;
 use fold::Target;
+use generate::GenerateAnswer;
 use load::Counts;
 use load::Judgement;
 use load::LoadAnswer;
@@ -26,6 +27,7 @@ ghost use Rattle.write.specs.Answer as Write;
 ghost use Rattle.replay.specs.Answer as Replay;
 ghost use Rattle.widen.specs.Answer as Widen;
 ghost use Rattle.waveform.specs.Answer as Waveform;
+ghost use Rattle.generate.specs.Answer as Generate;
 ghost use Rattle.calls.specs.Answers as Pin;
 ghost use Rattle.call_forms.specs.History.{Call};
 ghost use Rattle.interface.specs.Told.{
@@ -197,6 +199,19 @@ fn tell_dumped(said: WaveformAnswer, answer: &mut [u64]) -> u64
     match said {
         WaveformAnswer::Refused(n) => n as u64,
         WaveformAnswer::Length(n) => {
+            answer_places::tell(DONE, 0, n as u64, 0, answer);
+            0
+        }
+    }
+}
+
+// Tells the length of a generated circuit.
+fn tell_generated(said: GenerateAnswer, answer: &mut [u64]) -> u64
+    ensures { λ r. ⌜ Tells (textTold (Generate.answered said)) (now (answer .entry)) r (now (answer .exit)) ⌝ }
+{
+    match said {
+        GenerateAnswer::Refused(n) => n as u64,
+        GenerateAnswer::Length(n) => {
             answer_places::tell(DONE, 0, n as u64, 0, answer);
             0
         }
@@ -439,4 +454,28 @@ pub extern "C" fn yunverok_write(
         ⌝ }
 {
     tell_written(calls::write(user, circuit, form, out), answer)
+}
+
+// Writes the circuit of a seed and counts as an AIGER file in ASCII. It needs no memory but the output, so it takes no user: the call is
+// that of user 0, and either user gets the same.
+#[no_mangle]
+pub extern "C" fn yunverok_generate(
+    seed: u64,
+    inputs: u64,
+    latches: u64,
+    gates: u64,
+    out: &mut [u8],
+    answer: &mut [u64],
+) -> u64
+    ensures { λ r. ⌜
+        Called (lent [] [] []) (Call.generate 0 seed inputs latches gates (now (out .entry))) (lent [] [] [])
+        (now (out .exit))
+        (now (answer .entry)) r
+        (now (answer .exit))
+        ⌝ }
+{
+    tell_generated(
+        calls::generate(0, seed, inputs, latches, gates, out),
+        answer,
+    )
 }

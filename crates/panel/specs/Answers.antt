@@ -18,7 +18,7 @@ use Rattle.preview_command.specs.Texts.{previewReply}
 use Rattle.call_forms.specs.Forms.{UserLoaded}
 use Rattle.call_forms.specs.History as History
 use Rattle.panel_lines.specs.declared.Query.{Query}
-use Rattle.panel_lines.specs.declared.Query.the-variants.{Pin, Search, Fold, Write}
+use Rattle.panel_lines.specs.declared.Query.the-variants.{Pin, Search, Fold, Write, Generate}
 
 -- ---- lines, by answers
 
@@ -32,7 +32,7 @@ abbrev pub pinWords : Answer (Unit {0}) → List ℕ
 pinWords (refused n) = refusalText n
 pinWords (gives a) = bytes "set\n"
 
--- fold and write: a text has no line before it
+-- fold, write and generate: a text has no line before it
 abbrev pub textWords : Answer ℕ → List ℕ
 textWords (refused n) = refusalText n
 textWords (gives n) = []
@@ -74,6 +74,9 @@ Queried (Fold b t) user s out line r s′ out′ line′ =
     line r line′ out′
 Queried (Write form) user s out line r s′ out′ line′ =
     Reported (λ a. History.Step s (History.Call.write user form out) (History.Returned.written a out′) s′) textWords textLength
+    line r line′ out′
+Queried (Generate seed i l g) user s out line r s′ out′ line′ =
+    Reported (λ a. History.Step s (History.Call.generate user seed i l g out) (History.Returned.written a out′) s′) textWords textLength
     line r line′ out′
 
 -- preview FILE: what the program preview prints, to user 0 or 1; 18 to any other

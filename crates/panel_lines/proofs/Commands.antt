@@ -1,6 +1,6 @@
 -- The commands of a request, by their verbs. Assumes nothing.
 use mathlib.Core.Path.{_≡_, refl, sym, ap, _∙_, subst}
-use mathlib.Core.Bool.{Bool, true, false}
+use mathlib.Core.Bool.{Bool, true, false, cond}
 use mathlib.Core.List.{List}
 use mathlib.Core.Option.{Option, none, some}
 use Prim.Native.Nat.{ℕ, _-_, _≤_, _<_}
@@ -16,6 +16,7 @@ use Rattle.panel_lines.specs.Grammar.{
   split,
   word,
   number,
+  seed,
   ended,
   twoNumbers,
   oneName,
@@ -30,16 +31,17 @@ use Rattle.panel_lines.specs.Grammar.{
   viewOf,
   flagOf,
   waveformOf,
+  generateOf,
   verbOf,
   commandOf,
   parse,
 }
-use Rattle.panel_lines.specs.Reading.{Inside, bytesOf, Ends, WordAt, NumberAt, NameAt, taskOf, PartsInside, TaskIs, RequestIs}
+use Rattle.panel_lines.specs.Reading.{Inside, bytesOf, Ends, WordAt, NumberAt, SeedAt, NameAt, taskOf, PartsInside, TaskIs, RequestIs}
 use Rattle.panel_lines.specs.declared.Part.{Part}
 use Rattle.panel_lines.specs.declared.Verb.{Verb}
 use Rattle.panel_lines.specs.declared.View.{View}
 use Rattle.panel_lines.specs.declared.View.the-variants.{Replay, Widen, Waveform}
-use Rattle.panel_lines.specs.declared.Query.the-variants.{Pin, Search, Fold, Write}
+use Rattle.panel_lines.specs.declared.Query.the-variants.{Pin, Search, Fold, Write, Generate}
 use Rattle.panel_lines.specs.declared.Task.{Task}
 use Rattle.panel_lines.specs.declared.Task.the-variants.{Ask, Load, Preview, Join, Witness, Malformed}
 use Rattle.panel_lines.specs.declared.Request.{Request}
@@ -145,6 +147,24 @@ module _ (s : List ℕ) (at : ℕ) where
   unfolding waveformOf
   waveform-none e = record { meaning = rw e; parts = tt }
 
+  pub generate-none : seed (drop at s) ≡ none → TaskIs s (generateOf (drop at s)) Malformed
+  unfolding generateOf
+  generate-none e = record { meaning = rw e; parts = tt }
+
+  module _ {n counts : ℕ} (x : SeedAt s at n counts) where
+    pub generate-seed : number (drop counts s) ≡ none → TaskIs s (generateOf (drop at s)) Malformed
+    unfolding generateOf
+    generate-seed e = record { meaning = rw (x .seed-is, e); parts = tt }
+
+    module _ {i next : ℕ} (y : NumberAt s counts i next) where
+      pub generate-half : none ≡ twoNumbers (drop next s) → TaskIs s (generateOf (drop at s)) Malformed
+      unfolding generateOf
+      generate-half e = record { meaning = rw (x .seed-is, y .number-is, ← e); parts = tt }
+
+      pub generate-all : (l a : ℕ) → some (l, a) ≡ twoNumbers (drop next s) → TaskIs s (generateOf (drop at s)) (Ask (Generate n i l a))
+      unfolding generateOf
+      generate-all l a e = record { meaning = rw (x .seed-is, y .number-is, ← e); parts = tt }
+
   module _ (v : View) where
     pub view-none : oneName (drop at s) ≡ none → TaskIs s (viewOf v (drop at s)) Malformed
     unfolding viewOf
@@ -175,6 +195,10 @@ module _ (s : List ℕ) (at : ℕ) where
 
         pub flag-other : false ≡ same (bytesOf s p) w → none ≡ flagOf w (drop at s)
         flag-other e = sym (flag-word ∙ rw (n .name-is, ← e))
+
+-- the table of verbs with one verb more before it
+pub verb-more : (b : Bool) (v : Verb) {r x y : Verb} → r ≡ cond b v x → x ≡ y → r ≡ cond b v y
+verb-more b v e f = e ∙ ap (cond b v) f
 
 -- ---- a request
 

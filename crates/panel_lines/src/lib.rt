@@ -19,6 +19,7 @@ ghost use Rattle.panel_lines.specs.Grammar.{
   viewOf,
   flagOf,
   waveformOf,
+  generateOf,
   verbOf,
   commandOf,
   parse,
@@ -29,6 +30,7 @@ ghost use Rattle.panel_lines.specs.Reading.{
   Ends,
   WordIs,
   NumberIs,
+  SeedIs,
   twoOf,
   NameIs,
   givenOf,
@@ -54,15 +56,17 @@ enum Verb {
     Replay,
     Widen,
     Waveform,
+    Generate,
     Unknown,
 }
 
-// What asks about the loaded circuit, or sets a pin of it.
+// What asks about the loaded circuit, sets a pin of it, or needs no circuit.
 pub enum Query {
     Pin(u64, u64),
     Search(u64, u64, u64),
     Fold(u64, u64),
     Write(u64),
+    Generate(u64, u64, u64, u64),
 }
 
 // What is done with a witness of the loaded circuit. A waveform has the inputs alone where it says so.
@@ -153,6 +157,22 @@ fn number_after(request: &[u8], at: usize) -> NumberWord
     let from = part.from;
     let to = part.to;
     match arguments::read_argument(&request[from..to]) {
+        Argument::Number(n) => NumberWord::Value(n, to),
+        Argument::Malformed => NumberWord::Wrong,
+    }
+}
+
+// The seed after the space at a position.
+fn seed_after(request: &[u8], at: usize) -> NumberWord
+    requires { ⌜ at ≤ length (now request) ⌝ }
+    ensures { λ r. ⌜ SeedIs (now (request .entry)) at r ⌝ }
+{
+    let Word::At(part) = word_after(request, at) else {
+        return NumberWord::Wrong;
+    };
+    let from = part.from;
+    let to = part.to;
+    match arguments::read_seed(&request[from..to]) {
         Argument::Number(n) => NumberWord::Value(n, to),
         Argument::Malformed => NumberWord::Wrong,
     }
@@ -343,6 +363,23 @@ fn read_waveform(request: &[u8], at: usize) -> Task
     Task::Witness(View::Waveform(only), witness)
 }
 
+// The arguments `SEED I L A` of generate.
+fn read_generate(request: &[u8], at: usize) -> Task
+    requires { ⌜ at ≤ length (now request) ⌝ }
+    ensures { λ r. ⌜ TaskIs (now (request .entry)) (generateOf (drop at (now (request .entry)))) r ⌝ }
+{
+    let NumberWord::Value(seed, counts) = seed_after(request, at) else {
+        return Task::Malformed;
+    };
+    let NumberWord::Value(i, next) = number_after(request, counts) else {
+        return Task::Malformed;
+    };
+    let Two::Both(l, a) = two_numbers(request, next) else {
+        return Task::Malformed;
+    };
+    Task::Ask(Query::Generate(seed, i, l, a))
+}
+
 // A verb where a part of a request is its word, and another where it is not.
 fn verb_where(request: &[u8], part: Part, word: &[u8], verb: Verb, other: Verb) -> Verb
     requires { ⌜ Inside (now request) part ⌝ }
@@ -360,6 +397,7 @@ fn verb_of(request: &[u8], part: Part) -> Verb
     ensures { λ r. ⌜ r ≡ verbOf (bytesOf (now (request .entry)) part) ⌝ }
 {
     let verb = Verb::Unknown;
+    let verb = verb_where(request, part, b"generate", Verb::Generate, verb);
     let verb = verb_where(request, part, b"waveform", Verb::Waveform, verb);
     let verb = verb_where(request, part, b"widen", Verb::Widen, verb);
     let verb = verb_where(request, part, b"replay", Verb::Replay, verb);
@@ -388,6 +426,7 @@ fn read_task(request: &[u8], at: usize, verb: Verb) -> Task
         Verb::Replay => read_view(request, at, View::Replay),
         Verb::Widen => read_view(request, at, View::Widen),
         Verb::Waveform => read_waveform(request, at),
+        Verb::Generate => read_generate(request, at),
         Verb::Unknown => Task::Malformed,
     }
 }

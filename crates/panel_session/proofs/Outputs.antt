@@ -31,8 +31,9 @@ use Rattle.pins.proofs.Questions.{run-fills}
 use Rattle.pins.proofs.Valid.{pinned-counts}
 use Rattle.pinned_runs.specs.Obeys.{pinnedShows, pinnedWidenedText}
 use Rattle.pinning.specs.Operations.{PinnedSearchEffect, pinnedShown}
-use Rattle.call_forms.specs.Forms.{Tested, UserSearched, UserFolded, UserWritten, UserWidened, UserWaveformed}
+use Rattle.call_forms.specs.Forms.{Tested, UserSearched, UserFolded, UserWritten, UserWidened, UserWaveformed, UserGenerated}
 use Rattle.writer.specs.Forms.{InForm}
+use Rattle.generated.specs.Generated.{generatedText, generateTests, Generated}
 use Rattle.renumbered.specs.Renumbered.{writeBinary}
 use Rattle.waveform.specs.Waveform.{waveformOf, waveformTests}
 use Rattle.completions.specs.Operations.{widenTests}
@@ -123,6 +124,23 @@ waveform-told user {witness = witness} {out = out} {out₀ = out₀} {only = onl
     (λ c h j n s f.
     record { text = waveformOf c only (readEither c witness); long = f .count; left = f .shows; again = record { count = f .count; shows = refl } }) p)
     x
+
+-- a generated circuit
+generated-told : {seed i l g : ℕ} {out out₀ out′ : List ℕ} {a : Answer ℕ} → length out ≡ length out₀ → Generated seed i l g out a out′
+    → Told out out₀ out′ (textLength a) (Generated seed i l g out₀ a)
+generated-told {seed} {i} {l} {g} e (Generated.refuses j) =
+    none-told refl (Generated.refuses (ap (λ (n : ℕ). judge (generateTests seed i l g n)) (sym e) ∙ j))
+generated-told {seed} {i} {l} {g} e (Generated.writes j) =
+    record {
+      text = generatedText seed i l g;
+      long = refl;
+      left = refl;
+      again = Generated.writes (ap (λ (n : ℕ). judge (generateTests seed i l g n)) (sym e) ∙ j);
+    }
+
+pub generate-told : (user : ℕ) {seed i l g : ℕ} {out out₀ out′ : List ℕ} {a : Answer ℕ} → length out ≡ length out₀ → UserGenerated user seed i l g out a out′
+    → Told out out₀ out′ (textLength a) (UserGenerated user seed i l g out₀ a)
+generate-told user e x = for-told textLength (λ n. refl) (λ a s p. generated-told e p) x
 
 -- a widened witness is as long as the witness
 widened-long : (c : Circuit) (q : ℕ → ℕ) (witness : List ℕ) (b : ℕ) (body : List ℕ) → readEither c witness ≡ some (b, body)

@@ -50,12 +50,24 @@ returns-4 c =
       inside = p .inside;
     })
 
+returns-5 : tie.Need-returns-5
+returns-5 c =
+    let p = c .before .before .before .before .generate .ensures in
+    rw (c .before .before .before .before .before .before .before .q4 .given .1) (record {
+      answer = p .answer;
+      permitted = Step.generates (p .permitted);
+      line-is = p .line-is;
+      out-is = p .out-is;
+      inside = p .inside;
+    })
+
 pub query-spec : {M : Type 1} → statement M
 query-spec =
     tie.close
     (tie.spec
     (λ c. search needs) (λ c κs. search needs) (λ c. search needs) (λ c κs. search needs) (λ c. search needs)
-    (λ c κs. search needs) (λ c. search needs) (λ c κs. search needs) (λ c. search needs)
+    (λ c κs. search needs) (λ c. search needs) (λ c κs. search needs) (λ c. search needs) (λ c κs. search needs)
+    (λ c. search needs)
     (λ c. search needs) returns (λ c. search needs) (λ c. search needs) (λ c. search needs) (λ c. search needs)
     returns-2 (λ c. search needs) (λ c. search needs) (λ c. search needs) (λ c. search needs) returns-3 (λ c. search needs)
-    (λ c. search needs) returns-4)
+    (λ c. search needs) returns-4 (λ c. search needs) (λ c. search needs) returns-5)
