@@ -1,0 +1,6 @@
+pub mod Windows
+pub mod Never
+pub mod Freed
+pub mod Answers
+pub mod Determined
+pub mod Examples
