@@ -1,0 +1,5 @@
+pub mod Entries
+pub mod Sums
+pub mod Order
+pub mod Turns
+pub mod Finished
