@@ -3,3 +3,5 @@ pub mod Sums
 pub mod Order
 pub mod Turns
 pub mod Finished
+pub mod Stores
+pub mod Records
