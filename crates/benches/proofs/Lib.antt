@@ -5,3 +5,5 @@ pub mod Turns
 pub mod Finished
 pub mod Stores
 pub mod Records
+pub mod Meant
+pub mod Called
