@@ -83,16 +83,16 @@ module _ (chosen : Circuit → ℕ → ℕ → ℕ → ℕ → Placed) (shared :
       let most = leb→le D 4294967296 (and-right (leb 1 D) (leb D 4294967296) (and-right (leb k 255) (budgetRight D) h)) in
       let e = fresh b k D in
       let fits : Fits e =
-          record { stage = omega arith; b = l; k = omega arith; budget = omega arith; frame = omega arith; place = omega arith } in
+      record { stage = omega arith; b = l; k = omega arith; budget = omega arith; frame = omega arith; place = omega arith } in
       let right : Right e = record { used = omega arith; stage = omega arith; bound = bound; within = omega arith; budget = most } in
       let s = benchIn shared user in
       let left = putQueued shared user n e in
       let long = entry-length shared (entryPlace user n) e in
       let below = free-below (benchOf shared user) n f in
       let same : benchOf left user ≡ queued (benchOf shared user) n b k D =
-          there-in left user (omega arith) ∙ bench-queued shared user n e there below fits
-          ∙ parts-same (s .allowance) (s .next) n (s .entry) (meant e) e (right-meant e right)
-          ∙ ap (λ (x : Bench). queued x n b k D) (sym (there-in shared user there)) in
+      there-in left user (omega arith) ∙ bench-queued shared user n e there below fits
+      ∙ parts-same (s .allowance) (s .next) n (s .entry) (meant e) e (right-meant e right)
+      ∙ ap (λ (x : Bench). queued x n b k D) (sym (there-in shared user there)) in
       subst (Step chosen (benchOf shared user) (Event.queue n b k D)) (sym same) (Step.queues f h)
 
   -- an accepted allow
@@ -103,8 +103,8 @@ module _ (chosen : Circuit → ℕ → ℕ → ℕ → ℕ → Placed) (shared :
       let left = putAllowed shared user amount in
       let long = put-length shared (allowancePlace user) amount in
       let same : benchOf left user ≡ allowed (benchOf shared user) amount =
-          there-in left user (omega arith) ∙ bench-allowed shared user amount there (omega arith)
-          ∙ ap (λ (x : Bench). allowed x amount) (sym (there-in shared user there)) in
+      there-in left user (omega arith) ∙ bench-allowed shared user amount there (omega arith)
+      ∙ ap (λ (x : Bench). allowed x amount) (sym (there-in shared user there)) in
       subst (Step chosen (benchOf shared user) (Event.allow amount)) (sym same) (Step.allows h)
 
   -- a turn: the bench s, which stands in the bytes, and what its search answered
@@ -115,7 +115,7 @@ module _ (chosen : Circuit → ℕ → ℕ → ℕ → ℕ → Placed) (shared :
       let stands : benchIn shared user ≡ s = sym (there-in shared user there) ∙ is in
       let first = turn-first s (subst (λ (x : Bench). x .next < 16) is (next-of shared user)) n t in
       let reads : s .entry n ≡ entryAt shared (entryPlace user n) =
-          ap (λ (x : Bench). x .entry n) (sym stands) ∙ in-entry shared user n (first .below) in
+      ap (λ (x : Bench). x .entry n) (sym stands) ∙ in-entry shared user n (first .below) in
       let stage = waiting-stage (s .entry n) (first .passes) in
       let fits : Fits (s .entry n) = subst Fits (sym reads) (read-fits shared small (entryPlace user n)) in
       let right : Right (s .entry n) = subst Right (sym reads) (in-right shared (entryPlace user n) (λ z. stage-used (s .entry n) _ reads stage z)) in
@@ -126,7 +126,7 @@ module _ (chosen : Circuit → ℕ → ℕ → ℕ → ℕ → Placed) (shared :
       let left = bytesAfter shared user s n a in
       let long : length left ≡ length shared = turned-length shared user n amount e in
       let allowance : numberAt shared (allowancePlace user) ≡ s .allowance =
-          sym (in-allowance shared user) ∙ ap (λ (x : Bench). x .allowance) stands in
+      sym (in-allowance shared user) ∙ ap (λ (x : Bench). x .allowance) stands in
       let less : amount < 18446744073709551616 = omega (arith, number-small shared small (allowancePlace user)) in
       there-in left user (omega arith) ∙ bench-turned shared user n e there (first .below) e-fits amount less
       ∙ parts-same amount (after n) n (benchIn shared user .entry) (meant e) e (right-meant e (after-right (s .entry n) g a right))

@@ -157,7 +157,7 @@ module _ (chosen : Circuit → ℕ → ℕ → ℕ → ℕ → Placed) (c : Circ
       let h = subst (λ (j : ℕ). Answered chosen c (s .entry j) g a) e (subst (λ (y : Circuit). Answered chosen y (s .entry n) g a) f z) in
       let t = turn-progress (question c b) b k (s .entry i) r one g a (answer-for (s .entry i) g a r h) in
       let same : turned s n g a .entry i ≡ entryAfter (s .entry i) g a =
-          subst (λ (j : ℕ). turned s n g a .entry j ≡ entryAfter (s .entry j) g a) e (replaced-same (s .entry) n (entryAfter (s .entry n) g a)) in
+      subst (λ (j : ℕ). turned s n g a .entry j ≡ entryAfter (s .entry j) g a) e (replaced-same (s .entry) n (entryAfter (s .entry n) g a)) in
       subst (Progress (question c b) b k) (sym same) t
 
   step-stays : {s u : Bench} {e : Event} → Step chosen s e u → T (lasts e) → isTurnOf i e ≡ false

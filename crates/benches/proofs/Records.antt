@@ -91,21 +91,21 @@ module _ (bytes : List ℕ) (p : ℕ) (e : Entry) where
   unfolding entryAt putEntry
   entry-put l f =
       let stage =
-          number-before v5 (p + 40) (e .place) p (omega arith) ∙ number-before v4 (p + 32) (e .frame) p (omega arith)
-          ∙ number-before v3 (p + 24) (e .budget) p (omega arith) ∙ number-before v2 (p + 16) (e .k) p (omega arith)
-          ∙ number-before v1 (p + 8) (e .b) p (omega arith) ∙ number-put bytes p (e .stage) (omega arith) (f .stage) in
+      number-before v5 (p + 40) (e .place) p (omega arith) ∙ number-before v4 (p + 32) (e .frame) p (omega arith)
+      ∙ number-before v3 (p + 24) (e .budget) p (omega arith) ∙ number-before v2 (p + 16) (e .k) p (omega arith)
+      ∙ number-before v1 (p + 8) (e .b) p (omega arith) ∙ number-put bytes p (e .stage) (omega arith) (f .stage) in
       let b =
-          number-before v5 (p + 40) (e .place) (p + 8) (omega arith) ∙ number-before v4 (p + 32) (e .frame) (p + 8) (omega arith)
-          ∙ number-before v3 (p + 24) (e .budget) (p + 8) (omega arith) ∙ number-before v2 (p + 16) (e .k) (p + 8) (omega arith)
-          ∙ number-put v1 (p + 8) (e .b) (omega (arith, length-1)) (f .b) in
+      number-before v5 (p + 40) (e .place) (p + 8) (omega arith) ∙ number-before v4 (p + 32) (e .frame) (p + 8) (omega arith)
+      ∙ number-before v3 (p + 24) (e .budget) (p + 8) (omega arith) ∙ number-before v2 (p + 16) (e .k) (p + 8) (omega arith)
+      ∙ number-put v1 (p + 8) (e .b) (omega (arith, length-1)) (f .b) in
       let k =
-          number-before v5 (p + 40) (e .place) (p + 16) (omega arith) ∙ number-before v4 (p + 32) (e .frame) (p + 16) (omega arith)
-          ∙ number-before v3 (p + 24) (e .budget) (p + 16) (omega arith) ∙ number-put v2 (p + 16) (e .k) (omega (arith, length-2)) (f .k) in
+      number-before v5 (p + 40) (e .place) (p + 16) (omega arith) ∙ number-before v4 (p + 32) (e .frame) (p + 16) (omega arith)
+      ∙ number-before v3 (p + 24) (e .budget) (p + 16) (omega arith) ∙ number-put v2 (p + 16) (e .k) (omega (arith, length-2)) (f .k) in
       let budget =
-          number-before v5 (p + 40) (e .place) (p + 24) (omega arith) ∙ number-before v4 (p + 32) (e .frame) (p + 24) (omega arith)
-          ∙ number-put v3 (p + 24) (e .budget) (omega (arith, length-3)) (f .budget) in
+      number-before v5 (p + 40) (e .place) (p + 24) (omega arith) ∙ number-before v4 (p + 32) (e .frame) (p + 24) (omega arith)
+      ∙ number-put v3 (p + 24) (e .budget) (omega (arith, length-3)) (f .budget) in
       let frame =
-          number-before v5 (p + 40) (e .place) (p + 32) (omega arith) ∙ number-put v4 (p + 32) (e .frame) (omega (arith, length-4)) (f .frame) in
+      number-before v5 (p + 40) (e .place) (p + 32) (omega arith) ∙ number-put v4 (p + 32) (e .frame) (omega (arith, length-4)) (f .frame) in
       let place = number-put v5 (p + 40) (e .place) (omega (arith, length-5)) (f .place) in
       ap meant (λ i. record { stage = stage i; b = b i; k = k i; budget = budget i; frame = frame i; place = place i })
 
@@ -153,7 +153,7 @@ bench-same xs ys user f =
     let allowance = number-same xs ys (allowancePlace user) (λ j a b. f j (omega arith) (omega arith)) in
     let next = number-same xs ys (nextPlace user) (λ j a b. f j (omega arith) (omega arith)) in
     let entry : (n : ℕ) → benchIn xs user .entry n ≡ benchIn ys user .entry n =
-        λ n. entries-same xs ys user n (λ j a b l. f j (omega arith) (omega arith)) in
+    λ n. entries-same xs ys user n (λ j a b l. f j (omega arith) (omega arith)) in
     λ i. record { allowance = allowance i; next = next i % 16; entry = λ n. entry n i }
 
 module _ (shared : List ℕ) (user n : ℕ) (e : Entry) (there : benchPlace user + 1024 ≤ length shared) (l : n < 16) (f : Fits e) where
@@ -164,7 +164,7 @@ module _ (shared : List ℕ) (user n : ℕ) (e : Entry) (there : benchPlace user
       elim (ℕ-discrete i n) [
         | yes q ↦
             let here = in-entry left user n l ∙ entry-put shared (entryPlace user n) e (omega arith) f
-                ∙ sym (replaced-same (benchIn shared user .entry) n (meant e)) in
+            ∙ sym (replaced-same (benchIn shared user .entry) n (meant e)) in
             subst (λ (j : ℕ). benchIn left user .entry j ≡ replaced (benchIn shared user .entry) n (meant e) j) (sym q) here
         | no q ↦
             entries-same left shared user i (λ j a b m. entry-outside shared (entryPlace user n) e j (λ c d. q (omega arith)))
@@ -177,7 +177,7 @@ module _ (shared : List ℕ) (user n : ℕ) (e : Entry) (there : benchPlace user
   bench-queued =
       let left = putEntry shared (entryPlace user n) e in
       let allowance = number-same left shared (allowancePlace user)
-          (λ j a b. entry-outside shared (entryPlace user n) e j (λ c d. omega arith)) in
+      (λ j a b. entry-outside shared (entryPlace user n) e j (λ c d. omega arith)) in
       let next = number-same left shared (nextPlace user) (λ j a b. entry-outside shared (entryPlace user n) e j (λ c d. omega arith)) in
       λ i. record { allowance = allowance i; next = next i % 16; entry = λ m. entry-stored m i }
 
@@ -191,13 +191,13 @@ module _ (shared : List ℕ) (user n : ℕ) (e : Entry) (there : benchPlace user
       let long = entry-length shared (entryPlace user n) e in
       let long′ = put-length one (allowancePlace user) amount in
       let allowance = number-before two (nextPlace user) (after n) (allowancePlace user) (omega arith)
-          ∙ number-put one (allowancePlace user) amount (omega arith) small in
+      ∙ number-put one (allowancePlace user) amount (omega arith) small in
       let next = number-put two (nextPlace user) (after n) (omega arith) (omega arith) in
       let whole : numberAt three (nextPlace user) % 16 ≡ after n = omega (arith, next) in
       let entry : (m : ℕ) → benchIn three user .entry m ≡ replaced (benchIn shared user .entry) n (meant e) m =
-          λ m. entries-same three one user m (λ j a b q.
-              put-outside two (nextPlace user) (after n) j (λ c d. omega arith) ∙ put-outside one (allowancePlace user) amount j (λ c d. omega arith))
-          ∙ entry-stored m in
+      λ m. entries-same three one user m (λ j a b q.
+      put-outside two (nextPlace user) (after n) j (λ c d. omega arith) ∙ put-outside one (allowancePlace user) amount j (λ c d. omega arith))
+      ∙ entry-stored m in
       λ i. record { allowance = allowance i; next = whole i; entry = λ m. entry m i }
 
 -- the allowance is stored
@@ -209,7 +209,7 @@ bench-allowed shared user amount l small =
     let allowance = number-put shared (allowancePlace user) amount (omega arith) small in
     let next = number-same left shared (nextPlace user) (λ j a b. put-outside shared (allowancePlace user) amount j (λ c d. omega arith)) in
     let entry : (n : ℕ) → benchIn left user .entry n ≡ benchIn shared user .entry n =
-        λ n. entries-same left shared user n (λ j a b m. put-outside shared (allowancePlace user) amount j (λ c d. omega arith)) in
+    λ n. entries-same left shared user n (λ j a b m. put-outside shared (allowancePlace user) amount j (λ c d. omega arith)) in
     λ i. record { allowance = allowance i; next = next i % 16; entry = λ n. entry n i }
 
 -- ---- a bench of zeros has ended
@@ -228,7 +228,7 @@ empty-ended user =
     let allowance = nothing (allowancePlace user) in
     let next = nothing (nextPlace user) in
     let entry : (n : ℕ) → benchIn [] user .entry n ≡ noEntry =
-        λ n. elim (decLt n 16) [ yes l ↦ in-entry [] user n l ∙ none-at (entryPlace user n) | no l ↦ in-beyond [] user n (omega arith) ] in
+    λ n. elim (decLt n 16) [ yes l ↦ in-entry [] user n l ∙ none-at (entryPlace user n) | no l ↦ in-beyond [] user n (omega arith) ] in
     λ i. record { allowance = allowance i; next = next i % 16; entry = λ n. entry n i }
 
 -- Clause 12.14: where its bytes are 0, a bench has ended

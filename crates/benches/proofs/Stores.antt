@@ -113,8 +113,8 @@ module _ (bytes : List ℕ) (p x : ℕ) where
       let first = putHalf bytes p low in
       let kept : length first ≡ length bytes = half-length bytes p low in
       let h : halfAt (putHalf first (p + 4) high) p ≡ low =
-          half-same (putHalf first (p + 4) high) first p (λ j a b. half-outside first (p + 4) high j (λ e f. omega arith))
-          ∙ half-put bytes p low (omega arith) (omega arith) in
+      half-same (putHalf first (p + 4) high) first p (λ j a b. half-outside first (p + 4) high j (λ e f. omega arith))
+      ∙ half-put bytes p low (omega arith) (omega arith) in
       let g : halfAt (putHalf first (p + 4) high) (p + 4) ≡ high = half-put first (p + 4) high (omega arith) (omega arith) in
       omega arith
 

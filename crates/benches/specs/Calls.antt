@@ -82,7 +82,7 @@ pub data TurnEffect (chosen : Circuit → ℕ → ℕ → ℕ → ℕ → Placed
   grants : {n : ℕ} {r : Report} {w′ out′ : List ℕ} → (let s = benchOf shared user in turnOf s ≡ some n)
       → (let s = benchOf shared user in effect (s .entry n .b) (s .entry n .frame) (s .entry n .place) (grantOf s n) c r (w′, out′))
       → TurnEffect chosen asked effect user w out shared c (TurnAnswer.turn n (grantOf (benchOf shared user) n) r)
-        (w′, out′, bytesAfter shared user (benchOf shared user) n (placedAt chosen (asked c) (benchOf shared user) n))
+      (w′, out′, bytesAfter shared user (benchOf shared user) n (placedAt chosen (asked c) (benchOf shared user) n))
 
 abbrev pub TurnTaken : (Circuit → ℕ → ℕ → ℕ → ℕ → Placed) → (Circuit → Circuit) → (ℕ → ℕ → ℕ → ℕ → List ℕ → Circuit → Report → List ℕ × List ℕ → Type 0)
     → List ℕ → ℕ → List ℕ → List ℕ → List ℕ → Answer TurnAnswer → List ℕ × List ℕ × List ℕ → Type 0
