@@ -10,8 +10,8 @@ use lib.ListN.{length, getD}
 use borrow.Author.Tests.{lt-ltb, le-ltb, eq-eqb, ne-eqb}
 use Rattle.benches.specs.declared.Entry.{Entry}
 use Rattle.benches.specs.Bench.{noEntry, ended, isFree, isWaiting, waits, after, firstOf, turnOf}
-use Rattle.benches.specs.Bytes.{halfAt, numberAt, rawAt, meant, entryAt, entryPlace, allowancePlace, nextPlace, isThere, benchIn, benchOf}
-use Rattle.benches.proofs.Records.{in-entry}
+use Rattle.bench_bytes.specs.Bytes.{halfAt, numberAt, rawAt, meant, entryAt, entryPlace, allowancePlace, nextPlace, isThere, benchIn, benchOf}
+use Rattle.bench_bytes.proofs.Records.{in-entry}
 use Rattle.bench_record.specs.Steps.{Below, firstIn}
 
 -- ---- numbers

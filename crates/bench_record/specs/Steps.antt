@@ -4,7 +4,7 @@ use mathlib.Core.Option.{Option, none, some}
 use mathlib.Core.List.{List}
 use Prim.Native.Nat.{ℕ, _<_}
 use Rattle.benches.specs.Bench.{isWaiting, firstOf}
-use Rattle.benches.specs.Bytes.{entryAt, entryPlace}
+use Rattle.bench_bytes.specs.Bytes.{entryAt, entryPlace}
 use Rattle.bench_record.specs.declared.Turn.{Turn}
 use Rattle.bench_record.specs.declared.Turn.the-variants.{Idle, Number}
 

@@ -5,7 +5,7 @@ ghost use Prim.Native.Nat.{ℕ, _%_, _<_, _≤_, min};
 ghost use lib.ListN.{getD, set};
 ghost use Rattle.place_search.specs.Places.{Placed};
 ghost use Rattle.benches.specs.Bench as Bench;
-ghost use Rattle.benches.specs.Bytes as Bytes;
+ghost use Rattle.bench_bytes.specs.Bytes as Bytes;
 ghost use Rattle.bench_record.specs.Steps.{Below, turnIs, firstIn};
 
 // Whose turn it is: nobody's, or that of a number.

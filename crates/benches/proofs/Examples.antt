@@ -1,4 +1,4 @@
--- Clause 12.14: benches worked through. Assumes nothing.
+-- Clause 12.17: benches worked through. Assumes nothing.
 use mathlib.Core.Path.{_≡_, refl}
 use mathlib.Core.Bool.{true, false}
 use mathlib.Core.Option.{Option, none, some}
@@ -6,7 +6,6 @@ use Prim.Native.Nat.{ℕ, _-_}
 use Rattle.place_search.specs.Places.{Placed}
 use Rattle.benches.specs.declared.Entry.{Entry}
 use Rattle.benches.specs.Bench.{Bench, noEntry, isFree, firstOf, turnOf, grantOf, entryAfter, queued, allowed, turned, ended}
-use Rattle.benches.specs.Bytes.{meant}
 
 abbrev entry : ℕ → ℕ → ℕ → ℕ → ℕ → Entry
 entry stage k budget frame place = record { stage = stage; b = 2; k = k; budget = budget; frame = frame; place = place }
@@ -56,9 +55,3 @@ pub finished : (turnOf (turned start 2 1 (Placed.hit 0)) ≡ some 14) × (isFree
     × (isFree (turned (queued (allowed ended 9) 2 0 0 5) 2 5 Placed.clear) 2 ≡ false) × (isFree start 16 ≡ false) × (isFree start 3 ≡ true)
 unfolding turnOf firstOf
 finished = (refl, refl, refl, refl, refl)
-
--- contents that are no search: stages 0 and 4, a bound of 256, a frame above the bound, a budget above 2 to the 32
-pub dirt : (meant (entry 0 5 9 3 70) ≡ noEntry) × (meant (entry 4 5 9 3 70) ≡ noEntry) × (meant (entry 1 256 9 3 70) ≡ noEntry)
-    × (meant (entry 1 5 9 6 70) ≡ noEntry) × (meant (entry 1 5 4294967297 3 70) ≡ noEntry)
-    × (meant (entry 3 255 4294967296 255 18446744073709551615) ≡ entry 3 255 4294967296 255 18446744073709551615)
-dirt = (refl, refl, refl, refl, refl, refl)

@@ -1,4 +1,4 @@
--- Clause 12.14: what a finished search says, where all its turns met one circuit. Assumes nothing.
+-- Clause 12.17: what a finished search says, where all its turns met one circuit. Assumes nothing.
 use mathlib.Core.Path.{_≡_, refl, sym, ap, _∙_, subst}
 use mathlib.Core.Bool.{Bool, true, false, cond}
 use mathlib.Core.List.{List, [], _∷_}
@@ -191,7 +191,7 @@ module _ (chosen : Circuit → ℕ → ℕ → ℕ → ℕ → Placed) (c : Circ
       progress chosen c b k n m h l w
       (subst (Progress (question c b) b k) (sym (replaced-same (s .entry) n (fresh b k D))) (fresh-progress (question c b) b k D))
 
-  -- Clause 12.14: found is the answer of every plain search for b and k that is not spent
+  -- Clause 12.17: found is the answer of every plain search for b and k that is not spent
   pub finished-found : u .entry n .stage ≡ 2 → (D′ : ℕ) (o : Outcome) → Decided o → T (permitted c b k D′ o)
       → o ≡ Outcome.found (u .entry n .frame)
   finished-found two D′ o d g =
@@ -207,7 +207,7 @@ module _ (chosen : Circuit → ℕ → ℕ → ℕ → ℕ → Placed) (c : Circ
       answer-same (question c b) k D′ D′ o (Outcome.none k) d tt g
       (none-in (question c b) k D′ k (record { bound = refl; quiet = queued-progress .clear three }))
 
-  -- Clause 12.14: the hit that finishes the search is the first of its frame, and its witness the one that a plain search shows
+  -- Clause 12.17: the hit that finishes the search is the first of its frame, and its witness the one that a plain search shows
   pub finished-witness : {v : Bench} {g x : ℕ} → Step chosen u (Event.turn c n g (Placed.hit x)) v
       → firstWitness c b (u .entry n .frame) ≡ witness b (run c (u .entry n .frame) x)
   finished-witness {g = g} {x = x} (Step.turns y z a) =

@@ -3,10 +3,4 @@ pub mod Sums
 pub mod Order
 pub mod Turns
 pub mod Finished
-pub mod Stores
-pub mod Records
-pub mod Meant
-pub mod Called
-pub mod Apart
-pub mod Framed
 pub mod Examples

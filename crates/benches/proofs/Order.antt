@@ -102,7 +102,7 @@ module _ (s : Bench) (l : s .next < 16) where
       go true e = absurd (not-some e)
       go false e = first-of (waits s) 16 (s .next) n l e
 
-  -- Clause 12.14: while allowance remains and a search waits, no turn is idle
+  -- Clause 12.17: while allowance remains and a search waits, no turn is idle
   pub idle-spent : (i : ℕ) → i < 16 → T (waits s i) → turnOf s ≡ none → s .allowance ≡ 0
   unfolding turnOf
   idle-spent i a t e = go (eqb (s .allowance) 0) refl e

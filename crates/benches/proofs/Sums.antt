@@ -1,4 +1,4 @@
--- Clause 12.14: the grants since the allowance was last set, and what is left of it, are the allowance set. Assumes nothing.
+-- Clause 12.17: the grants since the allowance was last set, and what is left of it, are the allowance set. Assumes nothing.
 use mathlib.Core.Path.{_≡_, refl}
 use mathlib.Core.List.{List, [], _∷_}
 use Prim.Native.Nat.{ℕ, _+_, _-_, _≤_}

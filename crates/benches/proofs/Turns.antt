@@ -1,4 +1,4 @@
--- Clause 12.14: a search that waits gets a turn within sixteen. Assumes nothing.
+-- Clause 12.17: a search that waits gets a turn within sixteen. Assumes nothing.
 use mathlib.Core.Path.{_≡_, refl, sym, ap, _∙_, subst}
 use mathlib.Core.Bool.{Bool, true, false, cond, _&&_}
 use mathlib.Core.List.{List, [], _∷_}
@@ -77,7 +77,7 @@ module _ (chosen : Circuit → ℕ → ℕ → ℕ → ℕ → Placed) where
       let near = nearer i p b a w here (none .0) in
       omega arith
 
-  -- Clause 12.14: of sixteen turns that are granted while the bench lasts, one goes to a search that waits. What else happens between them
+  -- Clause 12.17: of sixteen turns that are granted while the bench lasts, one goes to a search that waits. What else happens between them
   -- does not matter: queues, allowances, refused calls, an overwritten circuit
   pub gets-turn : {s u : Bench} {es : List Event} (i : ℕ) → History chosen s es u → s .next < 16 → i < 16 → T (waits s i)
       → T (every lasts es) → 16 ≤ tally isTurn es → 1 ≤ tally (isTurnOf i) es

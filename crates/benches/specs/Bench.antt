@@ -1,4 +1,4 @@
--- Clause 12.14: a bench of searches on one allowance, and what becomes of it. Assumes nothing.
+-- Clause 12.17: a bench of searches on one allowance, and what becomes of it. Assumes nothing.
 use mathlib.Core.Bool.{Bool, cond, _&&_}
 use mathlib.Core.Option.{Option, none, some}
 use Prim.Native.Nat.{ℕ, zero, suc, _+_, _-_, _%_, min}
@@ -16,7 +16,7 @@ pub record Bench : Type 0 where
 abbrev pub noEntry : Entry
 noEntry = record { stage = 0; b = 0; k = 0; budget = 0; frame = 0; place = 0 }
 
--- Clause 12.14: a bench that has ended: no search, no allowance, and the order begins at 0
+-- Clause 12.17: a bench that has ended: no search, no allowance, and the order begins at 0
 abbrev pub ended : Bench
 ended = record { allowance = 0; next = 0; entry = λ n. noEntry }
 
@@ -57,11 +57,11 @@ unfoldable pub firstOf : (ℕ → Bool) → ℕ → ℕ → Option ℕ
 firstOf p n zero = none
 firstOf p n (suc m) = cond (p n) (some n) (firstOf p (after n) m)
 
--- Clause 12.14: whose turn it is; a turn is idle where no allowance is left or no search waits
+-- Clause 12.17: whose turn it is; a turn is idle where no allowance is left or no search waits
 unfoldable pub turnOf : Bench → Option ℕ
 turnOf s = cond (eqb (s .allowance) 0) none (firstOf (waits s) (s .next) 16)
 
--- Clause 12.14: the grant is the smallest of 1,024, the search's budget and the allowance
+-- Clause 12.17: the grant is the smallest of 1,024, the search's budget and the allowance
 abbrev pub grantOf : Bench → ℕ → ℕ
 grantOf s n = min 1024 (min (s .entry n .budget) (s .allowance))
 
@@ -70,7 +70,7 @@ abbrev pub moved : Entry → ℕ → ℕ → ℕ → ℕ → Entry
 moved e grant stage frame place =
     record { stage = stage; b = e .b; k = e .k; budget = e .budget - grant; frame = frame; place = place }
 
--- Clause 12.14: a hit, or the last frame done without one, finishes the search. Another frame done without a hit sends its next turn to
+-- Clause 12.17: a hit, or the last frame done without one, finishes the search. Another frame done without a hit sends its next turn to
 -- place 0 of the following frame, and a frame that is spent to the place that was reached
 abbrev pub entryAfter : Entry → ℕ → Placed → Entry
 entryAfter e grant (Placed.hit x) = moved e grant 2 (e .frame) (e .place)

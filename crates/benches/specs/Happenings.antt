@@ -1,4 +1,4 @@
--- Clause 12.14: what happens to a bench, one thing after the other. The circuit memory is lent, so its owner may overwrite it between two
+-- Clause 12.17: what happens to a bench, one thing after the other. The circuit memory is lent, so its owner may overwrite it between two
 -- turns: each turn names the circuit that it met. Assumes nothing.
 use mathlib.Core.Path.{_≡_}
 use mathlib.Core.Bool.{Bool, true, false, cond, _&&_}

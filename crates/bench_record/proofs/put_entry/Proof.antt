@@ -1,5 +1,5 @@
 -- `bench_record::put_entry` meets its contract. Assumes nothing.
-use Rattle.benches.specs.Bytes as Bytes
+use Rattle.bench_bytes.specs.Bytes as Bytes
 use borrow.Author.Needs.{needs}
 use Rattle.bench_record.proofs.put_entry.Statement.{statement}
 use Rattle.bench_record.proofs.put_entry.Tie as tie

@@ -1,5 +1,5 @@
 -- `bench_record::put_half` meets its contract. Assumes nothing.
-use Rattle.benches.specs.Bytes as Bytes
+use Rattle.bench_bytes.specs.Bytes as Bytes
 use borrow.Author.Needs.{needs}
 use Rattle.bench_record.proofs.put_half.Statement.{statement}
 use Rattle.bench_record.proofs.put_half.Tie as tie

@@ -1,4 +1,4 @@
--- Clause 12.14: what the calls leave in bytes is what happens to the bench. Assumes nothing.
+-- Clause 12.17: what the calls leave in bytes is what happens to the bench. Assumes nothing.
 use mathlib.Core.Path.{_≡_, refl, sym, ap, _∙_, subst}
 use mathlib.Core.Bool.{Bool, true, false, cond, _&&_}
 use mathlib.Core.List.{List}
@@ -15,16 +15,16 @@ use Rattle.aiger.specs.Operations.{budgetRight}
 use Rattle.aiger.proofs.Tests.{and-left, and-right}
 use Rattle.place_search.specs.Places.{Placed, answers}
 use Rattle.place_search.proofs.Answers.{answers-out}
 use Rattle.benches.specs.declared.Entry.{Entry}
 use Rattle.benches.specs.Bench.{Bench, noEntry, ended, isFree, replaced, fresh, queued, allowed, firstOf, after, turnOf, grantOf, entryAfter, turned}
-use Rattle.benches.specs.Bytes.{numberAt, rawAt, meant, entryAt, benchPlace, entryPlace, allowancePlace, nextPlace, isThere, benchIn, benchOf, putQueued, putAllowed, putTurned, putEntry, putNumber}
-use Rattle.benches.specs.Calls.{placedAt, bytesAfter}
+use Rattle.bench_bytes.specs.Bytes.{numberAt, rawAt, meant, entryAt, benchPlace, entryPlace, allowancePlace, nextPlace, isThere, benchIn, benchOf, putQueued, putAllowed, putTurned, putEntry, putNumber}
+use Rattle.bench_bytes.specs.Calls.{placedAt, bytesAfter}
 use Rattle.benches.specs.Happenings.{Event, Answered, Step}
 use Rattle.benches.proofs.Entries.{free-below, waiting-stage}
-use Rattle.benches.proofs.Stores.{put-length, number-small}
-use Rattle.benches.proofs.Records.{Fits, entry-length, in-entry, benchOfParts, bench-queued, bench-turned, bench-allowed, there-in}
+use Rattle.bench_bytes.proofs.Stores.{put-length, number-small}
+use Rattle.bench_bytes.proofs.Records.{Fits, entry-length, in-entry, benchOfParts, bench-queued, bench-turned, bench-allowed, there-in}
 use Rattle.benches.proofs.Order.{turn-first}
-use Rattle.benches.proofs.Meant.{Right, right-meant, meant-right, after-right, Told, after-fits, read-fits}
+use Rattle.bench_bytes.proofs.Meant.{Right, right-meant, meant-right, after-right, Told, after-fits, read-fits}
 
 -- a bench with other searches, where these are equal
 parts-same : (allowance next n : ℕ) (entry : ℕ → Entry) (e e′ : Entry) → e ≡ e′

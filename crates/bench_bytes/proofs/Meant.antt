@@ -10,11 +10,11 @@ use borrow.Author.Tests.{ltb-true}
 use Rattle.aiger.specs.Search.{greatest}
 use Rattle.aiger.proofs.Tests.{and, and-left, and-right, T-true, true-T}
 use Rattle.place_search.specs.Places.{Placed}
 use Rattle.benches.specs.declared.Entry.{Entry}
 use Rattle.benches.specs.Bench.{noEntry, moved, entryAfter}
-use Rattle.benches.specs.Bytes.{numberAt, rawAt, isEntry, meant, entryAt}
-use Rattle.benches.proofs.Stores.{number-small}
-use Rattle.benches.proofs.Records.{Fits}
+use Rattle.bench_bytes.specs.Bytes.{numberAt, rawAt, isEntry, meant, entryAt}
+use Rattle.bench_bytes.proofs.Stores.{number-small}
+use Rattle.bench_bytes.proofs.Records.{Fits}
 
 -- the test of a search, in plain terms
 pub record Right (e : Entry) : Type 0 where

@@ -1,4 +1,4 @@
--- Clause 12.14: the tests of a turn, and that it answers what the search of its frame from its place does. Assumes nothing.
+-- Clause 12.17: the tests of a turn, and that it answers what the search of its frame from its place does. Assumes nothing.
 use mathlib.Core.Path.{_≡_, refl, sym, ap, _∙_, subst}
 use mathlib.Core.Bool.{Bool, true, false, cond, _&&_}
 use mathlib.Core.List.{List, [], _∷_}
@@ -19,12 +19,12 @@ use Rattle.aiger.specs.Operations.{Test, need, judge, badTest, budgetRight, siz
 use Rattle.aiger.proofs.Tests.{T-true, true-T, and, and-left, and-right}
 use Rattle.place_search.specs.Operation.{placeRight, placeTest, placeTests}
 use Rattle.place_search.proofs.Refused.{judge-pass, judge-fail}
 use Rattle.benches.specs.declared.Entry.{Entry}
 use Rattle.benches.specs.Bench.{Bench, isFree, turnOf, firstOf, waits, grantOf}
-use Rattle.benches.specs.Bytes.{isThere, benchOf}
-use Rattle.benches.specs.Calls.{queueFirst, entryTests, testsAt, turnTests}
+use Rattle.bench_bytes.specs.Bytes.{isThere, benchOf}
+use Rattle.bench_bytes.specs.Calls.{queueFirst, entryTests, testsAt, turnTests}
 use Rattle.benches.proofs.Entries.{waiting-budget}
 use Rattle.benches.proofs.Order.{turn-first}
 
 -- ---- which test refuses
 
@@ -109,7 +109,7 @@ grant-right s n l e = go (eqb (s .allowance) 0) refl e
         let g = grantOf s n in
         and (leb 1 g) (leb g 4294967296) (le→leb 1 g (omega arith)) (le→leb g 4294967296 (omega arith))
 
--- Clause 12.14: a turn that is granted answers and leaves in working memory and output what the search of its frame from its place does
+-- Clause 12.17: a turn that is granted answers and leaves in working memory and output what the search of its frame from its place does
 pub turn-searches : (asked : Circuit → Circuit) (effect : ℕ → ℕ → ℕ → ℕ → Circuit → Report → List ℕ × List ℕ → Type 0) {m w out w′ out′ : List ℕ}
     {c : Circuit} {r : Report} (s : Bench) (n : ℕ) → s .next < 16 → turnOf s ≡ some n → s .entry n .frame ≤ s .entry n .k → s .entry n .k ≤ 255
     → Holds m c → judge (turnTests (asked c) c s (length w) (length out)) ≡ gives tt

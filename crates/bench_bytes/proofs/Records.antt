@@ -8,9 +8,9 @@ use native.Mathlib.Omega.{arith}
 use lib.Dec.{ltb, leb}
 use lib.ListN.{length, getD}
 use borrow.Author.Tests.{lt-ltb, le-ltb, le-leb}
 use Rattle.benches.specs.declared.Entry.{Entry}
 use Rattle.benches.specs.Bench.{Bench, noEntry, ended, replaced, after}
-use Rattle.benches.specs.Bytes.{
+use Rattle.bench_bytes.specs.Bytes.{
   halfAt,
   numberAt,
   putNumber,
@@ -29,8 +29,8 @@ use Rattle.benches.specs.Bytes.{
   putAllowed,
   putTurned,
 }
 use Rattle.benches.proofs.Entries.{replaced-same, replaced-other}
-use Rattle.benches.proofs.Stores.{put-outside, put-length, number-put, number-same, number-before}
+use Rattle.bench_bytes.proofs.Stores.{put-outside, put-length, number-put, number-same, number-before}
 
 -- the numbers of a search have eight bytes
 pub record Fits (e : Entry) : Type 0 where
@@ -145,7 +145,7 @@ entries-same xs ys user n f =
       | no l ↦ in-beyond xs user n (omega arith) ∙ sym (in-beyond ys user n (omega arith))
     ]
 
--- Clause 12.14: a bench depends on its own bytes alone
+-- Clause 12.17: a bench depends on its own bytes alone
 pub bench-same : (xs ys : List ℕ) (user : ℕ) → ((j : ℕ) → benchPlace user ≤ j → j < benchPlace user + 1024 → getD xs j 0 ≡ getD ys j 0)
     → benchIn xs user ≡ benchIn ys user
 unfolding benchIn
@@ -231,7 +231,7 @@ empty-ended user =
     λ n. elim (decLt n 16) [ yes l ↦ in-entry [] user n l ∙ none-at (entryPlace user n) | no l ↦ in-beyond [] user n (omega arith) ] in
     λ i. record { allowance = allowance i; next = next i % 16; entry = λ n. entry n i }
 
--- Clause 12.14: where its bytes are 0, a bench has ended
+-- Clause 12.17: where its bytes are 0, a bench has ended
 pub zeros-ended : (shared : List ℕ) (user : ℕ) → ((j : ℕ) → benchPlace user ≤ j → j < benchPlace user + 1024 → getD shared j 0 ≡ 0)
     → benchOf shared user ≡ ended
 zeros-ended shared user f = go (isThere shared user)

@@ -1,4 +1,4 @@
--- Clause 12.14: the calls of a user leave the pins of both users, the other user's bench, and bytes. Assumes nothing.
+-- Clause 12.17: the calls of a user leave the pins of both users, the other user's bench, and bytes. Assumes nothing.
 use mathlib.Core.Path.{_≡_, refl, sym, ap, _∙_, subst}
 use mathlib.Core.Bool.{Bool, cond}
 use mathlib.Core.List.{List}
@@ -8,9 +8,9 @@ use native.Mathlib.Omega.{arith}
 use lib.Dec.{leb}
 use lib.ListN.{length, getD, set}
 use lib.Seq.{set-out, getD-set-same, getD-set-other}
 use Rattle.benches.specs.declared.Entry.{Entry}
 use Rattle.benches.specs.Bench.{Bench, ended, after}
-use Rattle.benches.specs.Bytes.{
+use Rattle.bench_bytes.specs.Bytes.{
   putHalf,
   putNumber,
   putEntry,
@@ -24,8 +24,8 @@ use Rattle.benches.specs.Bytes.{
   putAllowed,
   putTurned,
 }
-use Rattle.benches.proofs.Stores.{put-outside, put-length}
-use Rattle.benches.proofs.Records.{entry-outside, entry-length, bench-same}
+use Rattle.bench_bytes.proofs.Stores.{put-outside, put-length}
+use Rattle.bench_bytes.proofs.Records.{entry-outside, entry-length, bench-same}
 
 -- as many bytes, and those outside of the user's bench the same
 pub record Apart (user : ℕ) (xs ys : List ℕ) : Type 0 where

@@ -1,4 +1,4 @@
--- Clause 12.14: the calls of a bench, without the test 18 of the user: their tests, what they answer and what they leave of the bytes that
+-- Clause 12.17: the calls of a bench, without the test 18 of the user: their tests, what they answer and what they leave of the bytes that
 -- users share. Looking at a bench has no other test, and leaves everything. Assumes nothing.
 use mathlib.Core.Path.{_≡_}
 use mathlib.Core.Bool.{_&&_}
@@ -15,17 +15,17 @@ use Rattle.aiger.specs.Witness.{witnessLength}
 use Rattle.aiger.specs.Operations.{Test, need, badTest, budgetRight, sizeTest, Operated}
 use Rattle.place_search.specs.Places.{Placed}
 use Rattle.place_search.specs.Operation.{placeTest}
 use Rattle.benches.specs.declared.Entry.{Entry}
 use Rattle.benches.specs.Bench.{Bench, isFree, fresh, turnOf, grantOf, entryAfter}
-use Rattle.benches.specs.Bytes.{isThere, benchOf, putQueued, putAllowed, putTurned}
+use Rattle.bench_bytes.specs.Bytes.{isThere, benchOf, putQueued, putAllowed, putTurned}
 
 -- ---- queue
 
--- Clause 12.14: before the circuit is looked at, 18 where the user's bench is not there, and then 20 where the number is above 15 or in use
+-- Clause 12.17: before the circuit is looked at, 18 where the user's bench is not there, and then 20 where the number is above 15 or in use
 abbrev pub queueFirst : List ℕ → ℕ → ℕ → List Test
 queueFirst shared user n = need 18 (isThere shared user) ∷ need 20 (isFree (benchOf shared user) n) ∷ []
 
--- Clause 12.14: after 9 the tests 10 and 11, and 12 by the size alone
+-- Clause 12.17: after 9 the tests 10 and 11, and 12 by the size alone
 abbrev pub queueTests : ℕ → ℕ → ℕ → Circuit → List Test
 queueTests b k D c = badTest c b ∷ need 11 (leb k 255 && budgetRight D) ∷ need 12 (leb (size c k) 65536) ∷ []
 
@@ -37,7 +37,7 @@ Queued m user n b k D shared a shared′ = Operated m (queueTests b k D) shared 
 
 -- ---- allow
 
--- Clause 12.14: 18 where the user's bench is not there, and then 11; no circuit is needed
+-- Clause 12.17: 18 where the user's bench is not there, and then 11; no circuit is needed
 abbrev pub allowFirst : List ℕ → ℕ → ℕ → List Test
 allowFirst shared user amount = need 18 (isThere shared user) ∷ need 11 (budgetRight amount) ∷ []
 
@@ -51,7 +51,7 @@ pub data TurnAnswer : Type 0 where
   idle : TurnAnswer
   turn : (n grant : ℕ) → Report → TurnAnswer
 
--- Clause 12.14: the tests of a search whose turn it is, after 9: 10 and 19, and 12 and 13 for its bound, whatever its frame. The circuit
+-- Clause 12.17: the tests of a search whose turn it is, after 9: 10 and 19, and 12 and 13 for its bound, whatever its frame. The circuit
 -- `asked` has the free bits: they differ under pins alone
 abbrev pub entryTests : Circuit → Circuit → Entry → ℕ → ℕ → List Test
 entryTests asked c e room len =

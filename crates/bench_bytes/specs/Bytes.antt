@@ -1,4 +1,4 @@
--- Clause 12.14: the bytes of a bench, among those that users share. Numbers have eight bytes, the lowest first. A byte that is not there
+-- Clause 12.17: the bytes of a bench, among those that users share. Numbers have eight bytes, the lowest first. A byte that is not there
 -- is 0, and a store that has no place changes nothing. Any contents mean something. Assumes nothing.
 use mathlib.Core.Bool.{Bool, cond, _&&_}
 use mathlib.Core.List.{List}
@@ -90,7 +90,7 @@ benchIn shared user =
       entry = λ n. cond (ltb n 16) (entryAt shared (entryPlace user n)) noEntry;
     }
 
--- Clause 12.14: the bench of a user. One that is not there as a whole is as one that has ended
+-- Clause 12.17: the bench of a user. One that is not there as a whole is as one that has ended
 abbrev pub benchOf : List ℕ → ℕ → Bench
 benchOf shared user = cond (isThere shared user) (benchIn shared user) ended
 

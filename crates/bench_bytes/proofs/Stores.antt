@@ -5,7 +5,7 @@ use Prim.Native.Nat.{ℕ, _+_, _*_, _/_, _%_, _≤_, _<_}
 use native.Mathlib.Omega.{arith}
 use lib.ListN.{length, getD, set, length-set}
 use lib.Seq.{getD-set-same, getD-set-other}
-use Rattle.benches.specs.Bytes.{halfAt, numberAt, putHalf, putNumber}
+use Rattle.bench_bytes.specs.Bytes.{halfAt, numberAt, putHalf, putNumber}
 
 -- four stores one after the other
 abbrev four : List ℕ → ℕ → ℕ → ℕ → ℕ → ℕ → List ℕ
