@@ -13,6 +13,8 @@ use Rattle.aiger.specs.Operations.{Loaded, Operated, Test, need}
 use Rattle.completions.specs.Either.{Verdict}
 use Rattle.pins.specs.Pins.{pinsOf}
 use Rattle.pinning.specs.Operations.{PinnedSearched, PinnedFolded}
+use Rattle.pinning.specs.FromPlace.{PinnedSearchedFrom}
+use Rattle.place_search.specs.Places.{Placed}
 use Rattle.pinned_runs.specs.Obeys.{PinnedReplayed, PinnedWidened}
 use Rattle.joined.specs.Joined.{JoinedInto}
 use Rattle.load.specs.Preview.{countsOf, wordsNeeded}
@@ -24,6 +26,7 @@ use Rattle.call_forms.specs.Table.{
   loadRow,
   pinRow,
   searchRow,
+  searchFromRow,
   foldRow,
   writeRow,
   previewRow,
@@ -94,6 +97,11 @@ abbrev pub UserSearched : (Circuit → ℕ → ℕ → ℕ → Report) → List 
     → List ℕ → List ℕ → Type 0
 UserSearched chosen m shared user b k D w out a w′ out′ =
     ForUser searchRow user (w, out) (PinnedSearched chosen m (pinsOf shared user) b k D w out) a (w′, out′)
+
+abbrev pub UserSearchedFrom : (Circuit → ℕ → ℕ → ℕ → ℕ → Placed) → List ℕ → List ℕ → ℕ → ℕ → ℕ → ℕ → ℕ → List ℕ → List ℕ → Answer Report
+    → List ℕ → List ℕ → Type 0
+UserSearchedFrom chosen m shared user b t place D w out a w′ out′ =
+    ForUser searchFromRow user (w, out) (PinnedSearchedFrom chosen m (pinsOf shared user) b t place D w out) a (w′, out′)
 
 abbrev pub UserFolded : (Circuit → ℕ → ℕ → Circuit) → List ℕ → List ℕ → ℕ → ℕ → ℕ → List ℕ → List ℕ → Answer ℕ → List ℕ → List ℕ → Type 0
 UserFolded chosen m shared user b t w out a w′ out′ =

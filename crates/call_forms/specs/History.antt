@@ -9,6 +9,7 @@ use Rattle.aiger.specs.Load.{Answer, refused, gives}
 use Rattle.aiger.specs.Search.{Report}
 use Rattle.completions.specs.Either.{Verdict}
 use Rattle.search.specs.Chosen as Search
+use Rattle.place_decision.specs.Reach.{placeChosen}
 use Rattle.fold.specs.Chosen as Fold
 use Rattle.call_forms.specs.Table.{
   Changes,
@@ -16,6 +17,7 @@ use Rattle.call_forms.specs.Table.{
   loadRow,
   pinRow,
   searchRow,
+  searchFromRow,
   foldRow,
   writeRow,
   previewRow,
@@ -30,6 +32,7 @@ use Rattle.call_forms.specs.Forms.{
   UserJoined,
   PinSet,
   UserSearched,
+  UserSearchedFrom,
   UserFolded,
   UserReplayed,
   UserWidened,
@@ -50,6 +53,7 @@ pub data Call : Type 0 where
   load : (user : ℕ) (file : List ℕ) → Call
   setPin : (user input value : ℕ) → Call
   search : (user b k D : ℕ) (out : List ℕ) → Call
+  searchFrom : (user b t place D : ℕ) (out : List ℕ) → Call
   fold : (user b t : ℕ) (out : List ℕ) → Call
   write : (user form : ℕ) (out : List ℕ) → Call
   preview : (user : ℕ) (file : List ℕ) → Call
@@ -75,6 +79,7 @@ abbrev pub userOf : Call → ℕ
 userOf (Call.load user file) = user
 userOf (Call.setPin user input value) = user
 userOf (Call.search user b k D out) = user
+userOf (Call.searchFrom user b t place D out) = user
 userOf (Call.fold user b t out) = user
 userOf (Call.write user form out) = user
 userOf (Call.preview user file) = user
@@ -89,6 +94,7 @@ abbrev pub rowOf : Call → Row
 rowOf (Call.load user file) = loadRow
 rowOf (Call.setPin user input value) = pinRow
 rowOf (Call.search user b k D out) = searchRow
+rowOf (Call.searchFrom user b t place D out) = searchFromRow
 rowOf (Call.fold user b t out) = foldRow
 rowOf (Call.write user form out) = writeRow
 rowOf (Call.preview user file) = previewRow
@@ -136,6 +142,10 @@ pub data Step (s : State) : Call → Returned → State → Type 0 where
       → UserSearched Search.chosen (s .memory) (s .pins) user b k D (s .work) out a w′ out′
       → length w′ ≡ length (s .work)
       → Step s (Call.search user b k D out) (Returned.searched a out′) (record { memory = s .memory; work = w′; pins = s .pins })
+  searchesFrom : {user b t place D : ℕ} {out w′ out′ : List ℕ} {a : Answer Report}
+      → UserSearchedFrom placeChosen (s .memory) (s .pins) user b t place D (s .work) out a w′ out′
+      → length w′ ≡ length (s .work)
+      → Step s (Call.searchFrom user b t place D out) (Returned.searched a out′) (record { memory = s .memory; work = w′; pins = s .pins })
   folds : {user b t : ℕ} {out w′ out′ : List ℕ} {a : Answer ℕ}
       → UserFolded Fold.chosen (s .memory) (s .pins) user b t (s .work) out a w′ out′
       → length w′ ≡ length (s .work)

@@ -26,6 +26,9 @@ pinRow = record { name = bytes "pin"; arguments = 2; files = 0; last = 1; change
 abbrev pub searchRow : Row
 searchRow = record { name = bytes "search"; arguments = 3; files = 0; last = 1; changes = Changes.nothing }
 
+abbrev pub searchFromRow : Row
+searchFromRow = record { name = bytes "search-from"; arguments = 4; files = 0; last = 1; changes = Changes.nothing }
+
 abbrev pub foldRow : Row
 foldRow = record { name = bytes "fold"; arguments = 2; files = 0; last = 1; changes = Changes.nothing }
 
@@ -53,4 +56,5 @@ generateRow = record { name = bytes "generate"; arguments = 4; files = 0; last =
 -- the table of operations
 abbrev pub operations : List Row
 operations =
-    loadRow ∷ pinRow ∷ searchRow ∷ foldRow ∷ writeRow ∷ previewRow ∷ joinRow ∷ replayRow ∷ widenRow ∷ waveformRow ∷ generateRow ∷ []
+    loadRow ∷ pinRow ∷ searchRow ∷ searchFromRow ∷ foldRow ∷ writeRow ∷ previewRow ∷ joinRow ∷ replayRow ∷ widenRow ∷ waveformRow
+    ∷ generateRow ∷ []

@@ -10,6 +10,7 @@ use generate::GenerateAnswer;
 use load::Judgement;
 use load::LoadAnswer;
 use replay::ReplayAnswer;
+use place_limits::PlaceTerms;
 use search::SearchAnswer;
 use search::Terms;
 use waveform::WaveformAnswer;
@@ -20,6 +21,7 @@ ghost use lib.Dec.{leb};
 ghost use lib.ListN.{length};
 ghost use Rattle.load.specs.Answers as Load;
 ghost use Rattle.search.specs.Chosen as Search;
+ghost use Rattle.place_decision.specs.Reach.{placeChosen};
 ghost use Rattle.fold.specs.Chosen as Fold;
 ghost use Rattle.fold.specs.Answer as FoldAnswers;
 ghost use Rattle.write.specs.Answer as Write;
@@ -32,6 +34,7 @@ ghost use Rattle.call_forms.specs.Forms.{
   UserJoined,
   PinSet,
   UserSearched,
+  UserSearchedFrom,
   UserFolded,
   UserReplayed,
   UserWidened,
@@ -147,6 +150,28 @@ pub fn search(
         return SearchAnswer::Refused(18);
     }
     pinned_search::search(m, shared, user as usize, q, work, out)
+}
+
+// Whether the bad line can be reached at a frame by a sequence at or after a place, among those that obey the user's pins.
+pub fn search_from(
+    user: u64,
+    shared: &[u8],
+    m: &[u32],
+    q: PlaceTerms,
+    work: &mut [u32],
+    out: &mut [u8],
+) -> SearchAnswer
+    ensures { λ r. ⌜
+        UserSearchedFrom placeChosen (now (m .entry)) (now (shared .entry)) user (q .b) (q .t) (q .place) (q .d) (now (work .entry))
+        (now (out .entry)) (Search.said r)
+        (now (work .exit))
+        (now (out .exit))
+        ⌝ }
+{
+    if !may(user, 1) {
+        return SearchAnswer::Refused(18);
+    }
+    pinned_search_from::search_from(m, shared, user as usize, q, work, out)
 }
 
 // Writes the hit of a bad line at a frame, under the user's pins, as a circuit without latches.

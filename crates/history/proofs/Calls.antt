@@ -24,7 +24,7 @@ use Rattle.roundtrip.proofs.LoadValid.{some-same}
 use Rattle.roundtrip.proofs.Determined.{Alike, alike-self, operated-same, loaded-same}
 use Rattle.waveform_laws.proofs.Theorems.{waveformed-same}
 use Rattle.limits.proofs.Refusals.{judge-first}
-use Rattle.pins.specs.Pins.{pinsOf}
+use Rattle.pins.specs.Pins.{pinsOf, pinned}
 use Rattle.first_tests.proofs.Tested.{tested-same}
 use Rattle.writer.specs.Forms.{InForm}
 use Rattle.writer.proofs.Forms.{form-same}
@@ -36,6 +36,9 @@ use Rattle.waveform.specs.Waveform.{Waveformed}
 use Rattle.generated.specs.Generated.{Generated}
 use Rattle.generated.proofs.Theorems.{generated-same}
 use Rattle.pinning.specs.Operations.{PinnedSearchEffect, PinnedFoldEffect, pinnedShown}
+use Rattle.pinning.specs.FromPlace.{PinnedPlaceEffect}
+use Rattle.place_search.specs.Operation.{placeTests}
+use Rattle.place_decision.specs.Reach.{placeChosen}
 use Rattle.call_forms.specs.Forms.{
   Tested,
   freeByte,
@@ -46,6 +49,7 @@ use Rattle.call_forms.specs.Forms.{
   PinEffect,
   pinTests,
   UserSearched,
+  UserSearchedFrom,
   UserFolded,
   UserWritten,
   UserPreviewed,
@@ -95,6 +99,22 @@ module _ {m m′ : List ℕ} (pins pins′ w w′ out w₁ w₂ o₁ o₂ : List
           subst (λ (p : ℕ → ℕ). PinnedSearchEffect Search.chosen p b k D out c o′ z) (sym q) g in
           let same : o ≡ o′ = f .chose ∙ sym (h .chose) in
           (same, f .shows ∙ ap (λ (v : Report). pinnedShown c (pinsOf pins u) b (v .outcome) out) same ∙ sym (h .shows))
+
+  pub from-same : (b t place D : ℕ) (x y : Answer Report) → UserSearchedFrom placeChosen m pins u b t place D w out x w₁ o₁
+      → UserSearchedFrom placeChosen m′ pins′ u b t place D w′ out y w₂ o₂ → (x ≡ y) × (o₁ ≡ o₂)
+  from-same b t place D x y s r =
+      tested-same (λ (x y : List ℕ × List ℕ). x .1 ≡ y .1) refl
+      (λ x y s t′ f g.
+      operated-same (λ (x y : List ℕ × List ℕ). x .1 ≡ y .1) alike
+      (λ c. ap₂ (λ (p : ℕ → ℕ) (n : ℕ). placeTests (pinned c p) c b t place D n (length out)) q l) refl one f g)
+      x y (w₁, o₁) (w₂, o₂) s r
+    where
+      one : (c : Circuit) (o o′ : Report) (y z : List ℕ × List ℕ) → PinnedPlaceEffect placeChosen (pinsOf pins u) b t place D out c o y
+          → PinnedPlaceEffect placeChosen (pinsOf pins′ u) b t place D out c o′ z → (o ≡ o′) × (y .1 ≡ z .1)
+      one c o o′ y z f g =
+          let h : PinnedPlaceEffect placeChosen (pinsOf pins u) b t place D out c o′ z =
+          subst (λ (p : ℕ → ℕ). PinnedPlaceEffect placeChosen p b t place D out c o′ z) (sym q) g in
+          (f .chose ∙ sym (h .chose), f .shows ∙ sym (h .shows))
 
   pub fold-same : (b t : ℕ) (x y : Answer ℕ) → UserFolded Fold.chosen m pins u b t w out x w₁ o₁
       → UserFolded Fold.chosen m′ pins′ u b t w′ out y w₂ o₂ → (x ≡ y) × (o₁ ≡ o₂)
@@ -258,6 +278,12 @@ own-step {s = s} {t = t} a (Step.searches {user = user} {b = b} {k = k} {D = D} 
     (Step.searches {w′ = w₂} {out′ = o₂} {a = v′} y d) =
     let z = search-same (s .pins) (t .pins) (s .work) (t .work) out w₁ w₂ o₁ o₂ user (a .memory) (a .work) (own-pins user (s .pins) (t .pins) (a .own)) b k D v v′ x y in
     (ap₂ Returned.searched (z .0) (z .1), record { memory = a .memory; work = e ∙ a .work ∙ sym d; room = a .room; own = a .own })
+own-step {s = s} {t = t} a (Step.searchesFrom {user = user} {b = b} {t = n} {place = place} {D = D} {out = out} {w′ = w₁} {out′ = o₁} {a = v} x e)
+    (Step.searchesFrom {w′ = w₂} {out′ = o₂} {a = v′} y d) =
+    let z =
+    from-same (s .pins) (t .pins) (s .work) (t .work) out w₁ w₂ o₁ o₂ user (a .memory) (a .work) (own-pins user (s .pins) (t .pins) (a .own)) b n place D v v′
+    x y in
+    (ap₂ Returned.searched (z .0) (z .1), record { memory = a .memory; work = e ∙ a .work ∙ sym d; room = a .room; own = a .own })
 own-step {s = s} {t = t} a (Step.folds {user = user} {b = b} {t = n} {out = out} {w′ = w₁} {out′ = o₁} {a = v} x e)
     (Step.folds {w′ = w₂} {out′ = o₂} {a = v′} y d) =
     let z = fold-same (s .pins) (t .pins) (s .work) (t .work) out w₁ w₂ o₁ o₂ user (a .memory) (a .work) (own-pins user (s .pins) (t .pins) (a .own)) b n v v′ x y in
@@ -292,6 +318,7 @@ pub load-step : (u : ℕ) {c : Call} {r r′ : Returned} {s t s₁ t₁ : State}
 load-step u a h (Step.loads {user = user} x) (Step.loads y) = let z = load-same u user a x y in (ap Returned.loaded (z .0), z .1)
 load-step u a h (Step.pins x) y = absurd h
 load-step u a h (Step.searches x e) y = absurd h
+load-step u a h (Step.searchesFrom x e) y = absurd h
 load-step u a h (Step.folds x e) y = absurd h
 load-step u a h (Step.writes x) y = absurd h
 load-step u a h (Step.previews x) y = absurd h
@@ -350,6 +377,7 @@ other-step u a n h (Step.pins {user = user} {input = input} {value = value} x) =
     let z = pin-other u user input value n x in
     record { memory = a .memory; work = a .work; room = z .0 ∙ a .room; own = λ i l. z .1 i l ∙ a .own i l }
 other-step u a n h (Step.searches x e) = record { memory = a .memory; work = e ∙ a .work; room = a .room; own = a .own }
+other-step u a n h (Step.searchesFrom x e) = record { memory = a .memory; work = e ∙ a .work; room = a .room; own = a .own }
 other-step u a n h (Step.folds x e) = record { memory = a .memory; work = e ∙ a .work; room = a .room; own = a .own }
 other-step u a n h (Step.writes x) = a
 other-step u a n h (Step.previews x) = a
