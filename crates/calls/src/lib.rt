@@ -6,6 +6,7 @@ mod shared_bytes;
 use circuit::Held;
 use fold::FoldAnswer;
 use fold::Target;
+use generate::GenerateAnswer;
 use load::Judgement;
 use load::LoadAnswer;
 use replay::ReplayAnswer;
@@ -27,6 +28,7 @@ ghost use Rattle.write.specs.Answer as Write;
 ghost use Rattle.replay.specs.Answer as Replay;
 ghost use Rattle.widen.specs.Answer as Widen;
 ghost use Rattle.waveform.specs.Answer as Waveform;
+ghost use Rattle.generate.specs.Answer as Generate;
 ghost use Rattle.call_forms.specs.Forms.{
   UserLoaded,
   UserJoined,
@@ -37,9 +39,9 @@ ghost use Rattle.call_forms.specs.Forms.{
   UserReplayed,
   UserWidened,
   UserWritten,
-  UserWrittenBinary,
   UserWaveformed,
   UserPreviewed,
+  UserGenerated,
 };
 ghost use Rattle.calls.specs.Answers.{pinSaid};
 
@@ -224,24 +226,14 @@ pub fn widen(user: u64, shared: &[u8], m: &[u32], text: &[u8], out: &mut [u8]) -
     widen::widen_under(m, &shared[from..to], text, out)
 }
 
-// Puts the text of the circuit that m holds at the front of out. Pins do not change the circuit that is written.
-pub fn write(user: u64, m: &[u32], out: &mut [u8]) -> WriteAnswer
-    ensures { λ r. ⌜ UserWritten (now (m .entry)) user (now (out .entry)) (Write.answered r) (now (out .exit)) ⌝ }
+// Puts the circuit that m holds at the front of out, in form 0 as text, in form 1 in binary form. Pins do not change what is written.
+pub fn write(user: u64, m: &[u32], form: u64, out: &mut [u8]) -> WriteAnswer
+    ensures { λ r. ⌜ UserWritten (now (m .entry)) user form (now (out .entry)) (Write.answered r) (now (out .exit)) ⌝ }
 {
     if !may(user, 1) {
         return WriteAnswer::Refused(18);
     }
-    write::write(m, out)
-}
-
-// Puts the circuit that m holds, in binary form, at the front of out.
-pub fn write_binary(user: u64, m: &[u32], out: &mut [u8]) -> WriteAnswer
-    ensures { λ r. ⌜ UserWrittenBinary (now (m .entry)) user (now (out .entry)) (Write.answered r) (now (out .exit)) ⌝ }
-{
-    if !may(user, 1) {
-        return WriteAnswer::Refused(18);
-    }
-    write_binary::write_binary(m, out)
+    writer::write(m, form, out)
 }
 
 // Puts the run of a witness of the circuit in m as text at the front of out, all wires or the inputs alone. A witness gives every bit of
@@ -255,4 +247,14 @@ pub fn waveform(user: u64, m: &[u32], text: &[u8], only: bool, out: &mut [u8]) -
         return WaveformAnswer::Refused(18);
     }
     waveform::waveform(m, text, only, out)
+}
+
+// Puts the text of the circuit of a seed and counts at the front of out. Nothing is loaded.
+pub fn generate(user: u64, seed: u64, i: u64, l: u64, a: u64, out: &mut [u8]) -> GenerateAnswer
+    ensures { λ r. ⌜ UserGenerated user seed i l a (now (out .entry)) (Generate.answered r) (now (out .exit)) ⌝ }
+{
+    if !may(user, 1) {
+        return GenerateAnswer::Refused(18);
+    }
+    generate::generate(seed, i, l, a, out)
 }

@@ -15,10 +15,10 @@ use Rattle.nodes.specs.Graph.{leaves, grown, nodeValues}
 use Rattle.rules.specs.Rules.{basic, lowered, simplified}
 use Rattle.graph.specs.Chosen.{hasOperands, isTwin, twinOf, conjoin}
 use Rattle.cone.specs.Cone.{operandOf, marked, inCone, keptBefore, number, renumbered, keptGate, keptGates, folded}
-use Rattle.unroll.specs.Chosen.{filled, gateMade, gatesMade, leavesMade, linesMade, framesMade, unrolled}
+use Rattle.unroll.specs.Chosen.{filled, gateMade, gatesMade, leavesMade, linesMade, framesMade, unrolledBy}
 use Rattle.fold.specs.Chosen.{chosen}
 use Rattle.fold.specs.Examples.{writesText, texts}
 
 pub written-texts : T (every writesText texts)
-unfolding lastBelow bit isNumber decimal span endedBy token row rows digitsUpTo defined used literalsRight usedDefined gateOf operands settles acyclic isText isBinary header countsFit countsRight isTail body sections load freeStarts freeBits lineOf linesOf latchRow write onLoaded driver completed placedFrom depthFirst freeBefore leaves grown nodeValues basic lowered simplified hasOperands isTwin twinOf conjoin operandOf marked inCone keptBefore number renumbered keptGate keptGates folded filled gateMade gatesMade leavesMade framesMade unrolled chosen writesText texts linesMade
+unfolding lastBelow bit isNumber decimal span endedBy token row rows digitsUpTo defined used literalsRight usedDefined gateOf operands settles acyclic isText isBinary header countsFit countsRight isTail body sections load freeStarts freeBits lineOf linesOf latchRow write onLoaded driver completed placedFrom depthFirst freeBefore leaves grown nodeValues basic lowered simplified hasOperands isTwin twinOf conjoin operandOf marked inCone keptBefore number renumbered keptGate keptGates folded filled gateMade gatesMade leavesMade framesMade unrolledBy chosen writesText texts linesMade
 written-texts = tt

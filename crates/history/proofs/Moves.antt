@@ -23,7 +23,6 @@ use Rattle.call_forms.specs.Forms.{
   PinSet,
   pinTests,
   UserWritten,
-  UserWrittenBinary,
   UserWaveformed,
   UserPreviewed,
 }
@@ -178,10 +177,8 @@ own-moves {s = s} {t = t} a (Step.folds {user = user} {b = b} {t = n} {out = out
           x) refl;
       same = kept user a e;
     }
-own-moves {t = t} a (Step.writes {user = user} {out = out} {out′ = o} {a = v} x) =
-    record { next = t; step = Step.writes (subst (λ (m : List ℕ). UserWritten m user out v o) (a .memory) x); same = a }
-own-moves {t = t} a (Step.writesBinary {user = user} {out = out} {out′ = o} {a = v} x) =
-    record { next = t; step = Step.writesBinary (subst (λ (m : List ℕ). UserWrittenBinary m user out v o) (a .memory) x); same = a }
+own-moves {t = t} a (Step.writes {user = user} {form = form} {out = out} {out′ = o} {a = v} x) =
+    record { next = t; step = Step.writes (subst (λ (m : List ℕ). UserWritten m user form out v o) (a .memory) x); same = a }
 own-moves {t = t} a (Step.previews {user = user} {n = n} {file = file} {a = v} x) =
     record { next = t; step = Step.previews (subst (λ (i : ℕ). UserPreviewed i file user v n) (ap length (a .memory)) x); same = a }
 own-moves a (Step.joins {user = user} x) = join-moves user a user x
@@ -204,6 +201,7 @@ own-moves {s = s} {t = t} a (Step.widens {user = user} {witness = witness} {out 
     }
 own-moves {t = t} a (Step.waveforms {user = user} {only = only} {witness = witness} {out = out} {out′ = o} {a = v} x) =
     record { next = t; step = Step.waveforms (subst (λ (m : List ℕ). UserWaveformed m user only witness out v o) (a .memory) x); same = a }
+own-moves {t = t} a (Step.generates x) = record { next = t; step = Step.generates x; same = a }
 
 -- so has an accepted load, for any user
 pub accepted-moves : (u : ℕ) {c : Call} {r : Returned} {s t s₁ : State} → Same u s t → T (isAccepted r) → Step s c r s₁ → Moved u t c r s₁
@@ -213,9 +211,9 @@ accepted-moves u a h (Step.searches x e) = absurd h
 accepted-moves u a h (Step.searchesFrom x e) = absurd h
 accepted-moves u a h (Step.folds x e) = absurd h
 accepted-moves u a h (Step.writes x) = absurd h
-accepted-moves u a h (Step.writesBinary x) = absurd h
 accepted-moves u a h (Step.previews x) = absurd h
 accepted-moves u a h (Step.joins {user = user} x) = join-moves u a user x
 accepted-moves u a h (Step.replays x) = absurd h
 accepted-moves u a h (Step.widens x) = absurd h
 accepted-moves u a h (Step.waveforms x) = absurd h
+accepted-moves u a h (Step.generates x) = absurd h

@@ -4,7 +4,7 @@ use mathlib.Core.List.{List, [], _∷_, _++_}
 use Prim.Native.Nat.{ℕ, _≤_, _<_}
 use native.Mathlib.Omega.{arith}
 use lib.Dec.{T, leb}
-use lib.ListN.{length, drop, length-append}
+use lib.ListN.{length, drop, length-append, length-take}
 use Rattle.aiger.specs.Circuit.{Circuit}
 use Rattle.aiger.specs.Load.{Answer, refused, gives}
 use Rattle.aiger.specs.Search.{Outcome, Report, permittedOf}
@@ -25,7 +25,9 @@ use Rattle.search.specs.declared.SearchAnswer.{SearchAnswer}
 use Rattle.fold.specs.Chosen as Fold
 use Rattle.pinning.specs.Operations.{PinnedSearched}
 use Rattle.call_forms.specs.Table.{searchRow}
-use Rattle.call_forms.specs.Forms.{Tested, ForUser, UserSearched, UserFolded, UserWritten, UserWrittenBinary}
+use Rattle.call_forms.specs.Forms.{Tested, ForUser, UserSearched, UserFolded, UserWritten, UserGenerated}
+use Rattle.writer.specs.Forms.{InForm}
+use Rattle.generated.proofs.Theorems.{generated-made}
 use Rattle.renumbered.specs.Renumbered.{writeBinary}
 use Rattle.panel.specs.Answers.{loadWords}
 
@@ -43,11 +45,14 @@ pub fold-inside : (m pins w out : List ℕ) {w′ out′ : List ℕ} (user b t :
     → n ≤ length out′
 fold-inside m pins w out user b t (Tested.passes k (Operated.acts c h j e)) = front-inside (write (Fold.chosen (pinned c (pinsOf pins user)) b t)) out (e .count) (e .shows)
 
-pub write-inside : (m out : List ℕ) (user : ℕ) {out′ : List ℕ} {n : ℕ} → UserWritten m user out (gives n) out′ → n ≤ length out′
-write-inside m out user (Tested.passes k (Operated.acts c h j e)) = front-inside (write c) out (e .count) (e .shows)
+pub write-inside : (m out : List ℕ) (user form : ℕ) {out′ : List ℕ} {n : ℕ} → UserWritten m user form out (gives n) out′ → n ≤ length out′
+write-inside m out user form (Tested.passes k (InForm.text f (Operated.acts c h j e))) = front-inside (write c) out (e .count) (e .shows)
+write-inside m out user form (Tested.passes k (InForm.binary f (Operated.acts c h j e))) = front-inside (writeBinary c) out (e .count) (e .shows)
 
-pub binary-inside : (m out : List ℕ) (user : ℕ) {out′ : List ℕ} {n : ℕ} → UserWrittenBinary m user out (gives n) out′ → n ≤ length out′
-binary-inside m out user (Tested.passes k (Operated.acts c h j e)) = front-inside (writeBinary c) out (e .count) (e .shows)
+pub generate-inside : (user seed i l a : ℕ) (out : List ℕ) {out′ : List ℕ} {n : ℕ} → UserGenerated user seed i l a out (gives n) out′ → n ≤ length out′
+generate-inside user seed i l a out {out′ = out′} {n = n} (Tested.passes k g) =
+    let m = generated-made g in
+    omega (arith, length-take n out′, ap length (m .text), m .count)
 
 -- ---- a search
 

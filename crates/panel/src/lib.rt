@@ -2,6 +2,7 @@
 use calls::PinAnswer;
 use fold::FoldAnswer;
 use fold::Target;
+use generate::GenerateAnswer;
 use panel_lines::Query;
 use replies::Report;
 use search::Terms;
@@ -15,7 +16,7 @@ ghost use Rattle.replies.specs.Reply.{Leaves};
 ghost use Rattle.search_command.specs.Texts.{saidWords};
 ghost use Rattle.search.specs.Chosen as Search;
 ghost use Rattle.fold.specs.Chosen as Fold;
-ghost use Rattle.call_forms.specs.Forms.{PinSet, UserSearched, UserFolded, UserWritten, UserWrittenBinary};
+ghost use Rattle.call_forms.specs.Forms.{PinSet, UserSearched, UserFolded, UserWritten, UserGenerated};
 ghost use Rattle.panel.specs.Answers.{
   pinWords,
   textWords,
@@ -127,33 +128,36 @@ fn fold(
     }
 }
 
-// Writes the circuit.
-fn write(user: u64, m: &[u32], out: &mut [u8], line: &mut [u8]) -> Report
+// Writes the circuit in a form.
+fn write(user: u64, form: u64, m: &[u32], out: &mut [u8], line: &mut [u8]) -> Report
     requires { ⌜ 128 ≤ length (now line) ⌝ }
     ensures { λ r. ⌜
-        Reported (λ a. UserWritten (now (m .entry)) user (now (out .entry)) a (now (out .exit))) textWords textLength (now (line .entry)) r
-        (now (line .exit))
-        (now (out .exit))
+        Reported (λ a. UserWritten (now (m .entry)) user form (now (out .entry)) a (now (out .exit))) textWords textLength
+        (now (line .entry)) r
+        (now (line .exit)) (now (out .exit))
         ⌝ }
 {
-    match calls::write(user, m, out) {
+    match calls::write(user, m, form, out) {
         WriteAnswer::Length(n) => Report { line: 0, out: n },
         WriteAnswer::Refused(n) => replies::refuse(line, n),
     }
 }
 
-// Writes the circuit in binary form.
-fn write_binary(user: u64, m: &[u32], out: &mut [u8], line: &mut [u8]) -> Report
+// Writes the circuit of a seed and counts.
+fn generate(user: u64, seed: u64, i: u64, l: u64, a: u64, out: &mut [u8], line: &mut [u8]) -> Report
     requires { ⌜ 128 ≤ length (now line) ⌝ }
     ensures { λ r. ⌜
-        Reported (λ a. UserWrittenBinary (now (m .entry)) user (now (out .entry)) a (now (out .exit))) textWords textLength
+        Reported (λ answer. UserGenerated user seed i l a (now (out .entry)) answer (now (out .exit))) textWords textLength
         (now (line .entry)) r
         (now (line .exit)) (now (out .exit))
         ⌝ }
 {
-    match calls::write_binary(user, m, out) {
-        WriteAnswer::Length(n) => Report { line: 0, out: n },
-        WriteAnswer::Refused(n) => replies::refuse(line, n),
+    match calls::generate(user, seed, i, l, a, out) {
+        GenerateAnswer::Length(n) => Report {
+            line: 0,
+            out: n as usize,
+        },
+        GenerateAnswer::Refused(n) => replies::refuse(line, n),
     }
 }
 
@@ -180,7 +184,7 @@ pub fn query(
         Query::Pin(input, value) => pin(user, input, value, m, pins, line),
         Query::Search(b, k, d) => search(user, Terms { b, k, d }, m, pins, work, out, line),
         Query::Fold(b, t) => fold(user, Target { b, t }, m, pins, work, out, line),
-        Query::Write => write(user, m, out, line),
-        Query::WriteBinary => write_binary(user, m, out, line),
+        Query::Write(form) => write(user, form, m, out, line),
+        Query::Generate(seed, i, l, a) => generate(user, seed, i, l, a, out, line),
     }
 }

@@ -14,9 +14,9 @@ use Rattle.aiger.specs.Lists.{same}
 use Rattle.aiger.specs.Text.{when, _>>=_, _>>_}
 use Rattle.aiger.proofs.Tests.{T-true, true-T}
 use Rattle.meaning.proofs.Lists.{same-eq, same-of}
-use Rattle.arguments.specs.Arguments.{numberOf}
-use Rattle.panel_lines.specs.Grammar.{split, word, number, ended, twoNumbers, oneName}
-use Rattle.panel_lines.specs.Reading.{Inside, bytesOf, Ends, WordAt, NumberAt, NameAt}
+use Rattle.arguments.specs.Arguments.{numberOf, seedOf}
+use Rattle.panel_lines.specs.Grammar.{split, word, number, seed, ended, twoNumbers, oneName}
+use Rattle.panel_lines.specs.Reading.{Inside, bytesOf, Ends, WordAt, NumberAt, SeedAt, NameAt}
 use Rattle.panel_lines.specs.declared.Part.{Part}
 
 -- a flag that is true exactly where two lists are equal
@@ -140,6 +140,21 @@ module _ (s : List ℕ) (at : ℕ) where
   pub a-number : {p : Part} {n : ℕ} → WordAt s at p → some n ≡ numberOf (bytesOf s p) → NumberAt s at n (p .to)
   unfolding number
   a-number w e = record { within = w .inside .within; number-is = rw (w .word-is, ← e) }
+
+-- ---- a seed after a space
+
+module _ (s : List ℕ) (at : ℕ) where
+  pub seedless : word (drop at s) ≡ none → seed (drop at s) ≡ none
+  unfolding seed
+  seedless e = rw e
+
+  pub no-seed : {p : Part} → WordAt s at p → none ≡ seedOf (bytesOf s p) → seed (drop at s) ≡ none
+  unfolding seed
+  no-seed w e = rw (w .word-is, ← e)
+
+  pub a-seed : {p : Part} {n : ℕ} → WordAt s at p → some n ≡ seedOf (bytesOf s p) → SeedAt s at n (p .to)
+  unfolding seed
+  a-seed w e = record { within = w .inside .within; seed-is = rw (w .word-is, ← e) }
 
 -- ---- the end of a request
 

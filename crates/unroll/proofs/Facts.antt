@@ -54,12 +54,12 @@ row-within i u t h =
     let p : i * (u + 1 + 1) ≤ i * (t + 1) = product-le i (omega arith) in
     omega (arith, product-next i (u + 1))
 
--- (t + 1) (i + a + c + 1) is at least the inputs, gates and constraints of t + 1 frames and one node more
-products : (i a c t : ℕ) → i * (t + 1) + (a + c) * (t + 1) + 1 ≤ (t + 1) * (i + a + c + 1)
+-- (t + 1) (i + a + c + 1) is the inputs, gates and constraints of t + 1 frames and one node more for each
+products : (i a c t : ℕ) → i * (t + 1) + (a + c) * (t + 1) + (t + 1) ≤ (t + 1) * (i + a + c + 1)
 products i a c t =
     omega (arith, mul-comm (t + 1) (i + a + c + 1), add-mul (i + a + c) 1 (t + 1), add-mul (i + a) c (t + 1), add-mul i a (t + 1), add-mul a c (t + 1))
 
--- there is room for the nodes of frames 0 to t, their constraints and the bad line
-pub size-enough : (c : Circuit) (t : ℕ) → freeBits c t + 1 + (length (c .gates) + length (c .constraints)) * (t + 1) + 1 ≤ size c t
+-- there is room for the nodes of frames 0 to t, their constraints and bad lines
+pub size-enough : (c : Circuit) (t : ℕ) → freeBits c t + 1 + (length (c .gates) + length (c .constraints)) * (t + 1) + (t + 1) ≤ size c t
 unfolding freeBits size
 size-enough c t = omega (arith, products (length (c .inputs)) (length (c .gates)) (length (c .constraints)) t)

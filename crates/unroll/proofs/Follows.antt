@@ -29,7 +29,7 @@ use Rattle.nodes.specs.Edges.{wordEdge, edgeWord, opposite}
 use Rattle.nodes.specs.declared.Graph.{Graph}
 use Rattle.graph.specs.Chosen.{Outcome, conjoin}
 use Rattle.graph.specs.Stored.{emptyGraph}
-use Rattle.unroll.specs.Chosen.{Mapping, literalIn, filled, gateMade, gatesMade, leavesMade, frameMade, starting, moving, firstMade, nextMade, constrainedMade, framesMade}
+use Rattle.unroll.specs.Chosen.{Mapping, literalIn, filled, gateMade, gatesMade, leavesMade, frameMade, starting, moving, firstMade, nextMade, constrainedMade, barred, framesMade}
 use Rattle.unroll.specs.Map.{literalEdge, startEdge, freeEdge, Written, latchVar, inputVar, startWord, nextWord, inputWord, Blank, Agrees}
 
 -- the edge of a literal
@@ -148,26 +148,28 @@ module _ {m : List ℕ} {layout : Layout} {order : List ℕ} {count : ℕ} (r : 
       (f (leavesMade c first (starting c) s) (leaves-follow first (starting c) s start-words (record { gates = gs; edges = z }) p q))
 
 -- frame 0 with its constraints, and one frame more
-pub framing-first : (c : Circuit) (n : ℕ) {last map : List ℕ} {h : Graph} {e : ℕ} → ((v : ℕ) → getD map v 0 ≡ firstMade c n .edges v)
+pub framing-first : (alone : Bool) (c : Circuit) (b n : ℕ) {last map : List ℕ} {h : Graph} {e : ℕ} → ((v : ℕ) → getD map v 0 ≡ firstMade c n .edges v)
     → constrainedMade c n 1 (firstMade c n) ≡ record { gates = pairsOf last h; edge = e }
-    → Agrees (framesMade c n 0 .mapping) last h map × (e ≡ framesMade c n 0 .left)
+    → Agrees (framesMade alone c b n 0 .mapping) last h map × (e ≡ framesMade alone c b n 0 .left)
 unfolding framesMade
-framing-first c n s q = (
+framing-first alone c b n s q = (
   record { gates = sym (ap (λ (o : Outcome). o .gates) q); edges = s },
   sym (ap (λ (o : Outcome). o .edge) q),
 )
 
-pub framing-next : (c : Circuit) (n u first : ℕ) → first ≡ freeStarts c + length (c .inputs) * (u + 1) → {last map : List ℕ} {h : Graph} {from e : ℕ}
-    → from ≡ framesMade c n u .left → ((v : ℕ) → getD map v 0 ≡ nextMade c n first (framesMade c n u .mapping) .edges v)
-    → constrainedMade c n from (nextMade c n first (framesMade c n u .mapping)) ≡ record { gates = pairsOf last h; edge = e }
-    → Agrees (framesMade c n (u + 1) .mapping) last h map × (e ≡ framesMade c n (u + 1) .left)
+pub framing-next : (alone : Bool) (c : Circuit) (b n u first : ℕ) → first ≡ freeStarts c + length (c .inputs) * (u + 1) → {last map : List ℕ} {h : Graph} {from e : ℕ}
+    → (let f = barred alone c b n (framesMade alone c b n u) in
+    from ≡ f .left → ((v : ℕ) → getD map v 0 ≡ nextMade c n first (f .mapping) .edges v)
+    → constrainedMade c n from (nextMade c n first (f .mapping)) ≡ record { gates = pairsOf last h; edge = e }
+    → Agrees (framesMade alone c b n (u + 1) .mapping) last h map × (e ≡ framesMade alone c b n (u + 1) .left))
 unfolding framesMade
-framing-next c n u first at {last} {map} {h} {from} {e} f s q =
+framing-next alone c b n u first at {last} {map} {h} {from} {e} f s q =
     let i : first ≡ freeStarts c + length (c .inputs) * suc u = at ∙ ap (λ (k : ℕ). freeStarts c + length (c .inputs) * k) (add-one u) in
-    let z = framesMade c n u .mapping in
-    let q′ : constrainedMade c n (framesMade c n u .left) (nextMade c n (freeStarts c + length (c .inputs) * suc u) z) ≡ record { gates = pairsOf last h; edge = e } =
+    let w = barred alone c b n (framesMade alone c b n u) in
+    let z = w .mapping in
+    let q′ : constrainedMade c n (w .left) (nextMade c n (freeStarts c + length (c .inputs) * suc u) z) ≡ record { gates = pairsOf last h; edge = e } =
     ap₂ (λ (a b : ℕ). constrainedMade c n a (nextMade c n b z)) (sym f) (sym i) ∙ q in
-    subst (λ (k : ℕ). Agrees (framesMade c n k .mapping) last h map × (e ≡ framesMade c n k .left)) (sym (add-one u)) (
+    subst (λ (k : ℕ). Agrees (framesMade alone c b n k .mapping) last h map × (e ≡ framesMade alone c b n k .left)) (sym (add-one u)) (
       record {
         gates = sym (ap (λ (o : Outcome). o .gates) q′);
         edges = λ v. s v ∙ ap (λ (b : ℕ). nextMade c n b z .edges v) i;

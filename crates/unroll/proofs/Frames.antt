@@ -1,6 +1,6 @@
 -- Frames in a graph: the leaves of frame 0 and of the frame after another, their constraints, and the hits of the last one. Assumes nothing.
 use mathlib.Core.Path.{_≡_, sym, ap, ap₂, _∙_, subst, fun-ext}
-use mathlib.Core.Bool.{Bool, true, false, cond, _&&_}
+use mathlib.Core.Bool.{Bool, true, false, not, cond, _&&_}
 use mathlib.Core.List.{List, []}
 use Prim.Native.Nat.{ℕ, suc, _+_, _*_, _^_, _≤_, _<_}
 use native.Mathlib.Numerals.{add-one}
@@ -8,16 +8,18 @@ use native.Mathlib.Omega.{arith}
 use lib.Dec.{eqb}
 use lib.ListN.{length, getD}
 use Rattle.aiger.specs.Circuit.{Circuit, Latch, var}
-use Rattle.aiger.specs.Frames.{value, isFree, freeBit, freeBits, freeStarts, run, state, allowed}
-use Rattle.aiger.specs.Search.{reaches, reachesIn}
+use Rattle.aiger.specs.Frames.{value, isFree, freeBit, freeBits, freeStarts, run, state}
+use Rattle.aiger.specs.Fold.{complement}
 use Rattle.layout.specs.Words.{word, circuitIn}
 use Rattle.layout.specs.declared.Layout.{Layout}
 use Rattle.meaning.proofs.Defined.{inputAt, latchAt, input-latch, next-known}
 use Rattle.meaning.proofs.Values.{Valuation, valuation-value, state-start, state-next-at}
 use Rattle.meaning.proofs.Sequences.{run-input, input-number}
-use Rattle.frames.specs.Lanes.{Ready, Leaves, badIn}
+use Rattle.frames.specs.Lanes.{Ready, Leaves}
 use Rattle.frames.proofs.Facts.{right, known, no-cycle, gates-are, constraints-are}
-use Rattle.frames.proofs.Laws.{hit-of-run, allowed-start, allowed-more}
+use Rattle.frames.proofs.Laws.{bad-of-run, constrained-of-run}
+use Rattle.never_search.specs.Runs.{leftBy, reachesBy}
+use Rattle.never_search.proofs.Left.{left-first, left-next, left-reaches}
 use Rattle.frames.specs.Starts.{freeBefore, startBit}
 use Rattle.frames.proofs.Places.{inputs-are, latches-are, input-var, latch-var, latch-place}
 use Rattle.frames.proofs.Starts.{count-part, start-of-run}
@@ -31,13 +33,15 @@ use Rattle.nodes.specs.declared.Edge.{Edge}
 use Rattle.nodes.proofs.Laws.{edge-false, edge-true, word-node, nodes-pairsOf}
 use Rattle.graph.specs.Stored.{Stored}
 use Rattle.graph.specs.declared.Made.{Made}
+use Rattle.graph.specs.Chosen.{Outcome, conjoin}
 use Rattle.unroll.specs.Map.{Written, latchVar, inputVar, startWord, nextWord, inputWord, Blank, Edges, mapped}
-use Rattle.unroll.specs.Map.{Valued, Allowed, Extensible, Grown, Agrees, GatesMapped, ConstrainedMapped, Framed, HitMapped, FramesFit}
+use Rattle.unroll.specs.Map.{Valued, Keeps, Extensible, Grown, Agrees, GatesMapped, ConstrainedMapped, FramedTo, BarredTo, HitMapped, BarMapped, FramesFit}
 use Rattle.unroll.proofs.Edges.{literal-edge, free-node, start-node, literal-value, free-value, start-value}
 use Rattle.unroll.proofs.Stores.{written-edges}
 use Rattle.unroll.proofs.Facts.{input-nonzero, latch-nonzero, product-next, product-le}
 use Rattle.unroll.proofs.Growth.{mapped-kept}
-use Rattle.unroll.specs.Chosen.{Mapping, leavesMade, moving, firstMade, nextMade, framesMade}
+use Rattle.unroll.proofs.Hits.{and-true, complement-value}
+use Rattle.unroll.specs.Chosen.{Mapping, literalIn, leavesMade, moving, firstMade, nextMade, barred, framesMade}
 use Rattle.unroll.proofs.Follows.{next-words, leaves-follow, first-follows, framing-first, framing-next}
 
 -- the gates of frame 0
@@ -199,35 +203,35 @@ module _ {m : List ℕ} {layout : Layout} {order : List ℕ} {count : ℕ} (r : 
 
   -- ---- the hits of the last frame
 
-  pub reached : (b t n : ℕ) (work : List ℕ) (before : Made) (map last : List ℕ) (made : Made) → Valued (circuitIn m) t t n work (before .graph) map
-      → Allowed (circuitIn m) t t n work before → HitMapped (circuitIn m) b n work before map last made → (x : ℕ) → x < 2 ^ n
-      → edgeValue n (pairsOf last (made .graph)) (freeBit n x) (edgeWord (made .edge)) ≡ reaches (circuitIn m) b t x
-  unfolding reaches reachesIn run
-  reached b t n work before map last made v a w x l =
+  pub reached : (alone : Bool) (b t n : ℕ) (work : List ℕ) (before : Made) (map last : List ℕ) (made : Made) → Valued (circuitIn m) t t n work (before .graph) map
+      → Keeps (circuitIn m) t (λ q. leftBy alone (circuitIn m) b q t) n work before → HitMapped (circuitIn m) b n work before map last made → (x : ℕ) → x < 2 ^ n
+      → edgeValue n (pairsOf last (made .graph)) (freeBit n x) (edgeWord (made .edge)) ≡ reachesBy alone (circuitIn m) b t x
+  reached alone b t n work before map last made v a w x l =
       let c = circuitIn m in
-      w .hit x l ∙ ap (λ (y : Bool). y && badIn c b (mapped n work (before .graph) map x)) (a x l)
-      ∙ hit-of-run (right (r .held)) (known (r .held)) (no-cycle (r .held)) (run c t x) t (v x l) b
+      w .line x l
+      ∙ ap₂ (λ (y z : Bool). y && z) (a x l) (bad-of-run (right (r .held)) (known (r .held)) (no-cycle (r .held)) (run c t x) t (v x l) b)
+      ∙ left-reaches alone c b t x
 
   -- ---- frame after frame
 
-  -- the values of a frame stay where its constraints are conjoined
-  kept-values : (t u : ℕ) {from : Edge} {n : ℕ} {work map last : List ℕ} {g : Graph} {made : Made} → Edges g map → ConstrainedMapped (circuitIn m) from n work g map last made
-      → Valued (circuitIn m) t u n work g map → Valued (circuitIn m) t u n last (made .graph) map
-  kept-values t u {n = n} {map = map} s k v x l =
+  -- the values of a frame stay where the graph grows
+  kept-values : (t u : ℕ) (map : List ℕ) {n count : ℕ} {work last : List ℕ} {g h : Graph} → Edges g map → Grown n count work g last h → Valued (circuitIn m) t u n work g map
+      → Valued (circuitIn m) t u n last h map
+  kept-values t u map {n = n} s k v x l =
       let c = circuitIn m in
       subst (λ (w : ℕ → Bool). Valuation c (getD (run c t x .rows) u []) (state c (run c t x) u) w)
-      (sym (fun-ext (λ i. mapped-kept map (k .grown) s x i))) (v x l)
+      (sym (fun-ext (λ i. mapped-kept map k s x i))) (v x l)
 
   -- frame 0
   pub framed-first : {work : List ℕ} {g : Graph} {mid : List ℕ} {h : Graph} {map last : List ℕ} {made : Made} → Stored work g → pairsOf work g ≡ []
       → FirstMapped (circuitIn m) (g .free) work g mid h map → ConstrainedMapped (circuitIn m) (edgeOf 0 true) (h .free) mid h map last made
-      → (t : ℕ) → Framed (circuitIn m) t 0 (g .free) (g .room) last made map
-  framed-first {work} {g} {mid} {h} {map} {last} {made} s none f k′ t =
+      → (alone : Bool) (b t : ℕ) → FramedTo alone (circuitIn m) b t 0 (g .free) (g .room) last made map
+  framed-first {work} {g} {mid} {h} {map} {last} {made} s none f k′ alone b t =
       let c = circuitIn m in
       let n = g .free in
       let k = subst (λ (i : ℕ). ConstrainedMapped c (edgeOf 0 true) i mid h map last made) (f .grown .free) k′ in
       let a = f .follows none in
-      let q = framing-first c n (a .edges) (k .follows (firstMade c n) a) in
+      let q = framing-first alone c b n {last = last} {map = map} {h = made .graph} {e = edgeWord (made .edge)} (a .edges) (k .follows (firstMade c n) a) in
       record {
         stored = k .grown .stored;
         free = k .grown .free;
@@ -235,26 +239,75 @@ module _ {m : List ℕ} {layout : Layout} {order : List ℕ} {count : ℕ} (r : 
         most = omega (arith, k .grown .most, f .grown .most, nodes-pairsOf work g (s .sized .leaves), ap length none);
         edges = λ v. omega (arith, f .edges v, k .grown .least);
         node = k .node;
-        values = λ bits. kept-values t 0 (f .edges) k (f .values t bits);
-        allowed = λ bits x l.
-            allowed-start (right (r .held)) (known (r .held)) (no-cycle (r .held)) (run c t x) (k .left x l) (edge-true n (pairsOf mid h) (freeBit n x)) (f .values t bits x l);
+        values = λ bits. kept-values t 0 map (f .edges) (k .grown) (f .values t bits);
+        kept = λ bits x l.
+            k .left x l
+            ∙ ap₂ (λ (y z : Bool). y && z) (edge-true n (pairsOf mid h) (freeBit n x))
+            (constrained-of-run (right (r .held)) (known (r .held)) (no-cycle (r .held)) (run c t x) 0 (f .values t bits x l))
+            ∙ sym (left-first c b (run c t x) alone);
         agrees = q .0;
         left = q .1;
       }
 
+  -- what goes on to the next frame
+  pub framed-barred : (alone : Bool) (b t u room : ℕ) {work last map : List ℕ} {before made : Made}
+      → FramedTo alone (circuitIn m) b t u (before .graph .free) room work before map
+      → BarMapped alone (circuitIn m) b (before .graph .free) work before map last made
+      → BarredTo alone (circuitIn m) b t u (before .graph .free) room last made map
+  framed-barred true b t u room {work} {last} {map} {before} {made} f w =
+      let c = circuitIn m in
+      let n = before .graph .free in
+      let l = getD (c .bads) b 0 in
+      let z = framesMade true c b n u in
+      let e = ap (λ (i : ℕ). conjoin n (z .mapping .gates) i (literalIn (z .mapping .edges) (complement l))) (sym (f .left)) ∙ w .follows (z .mapping) (f .agrees) in
+      record {
+        stored = w .grown .stored;
+        free = w .grown .free;
+        room-is = w .grown .room ∙ f .room-is;
+        most = omega (arith, w .grown .most, f .most);
+        edges = λ v. omega (arith, f .edges v, w .grown .least);
+        node = w .node;
+        values = λ bits. kept-values t u map (f .edges) (w .grown) (f .values bits);
+        kept = λ bits x h.
+            w .line x h
+            ∙ ap₂ (λ (y i : Bool). y && i) (f .kept bits x h)
+            (complement-value (mapped n work (before .graph) map x) l
+            ∙ ap not (bad-of-run (right (r .held)) (known (r .held)) (no-cycle (r .held)) (run c t x) u (f .values bits x h) b));
+        agrees = record { gates = sym (ap (λ (o : Outcome). o .gates) e); edges = f .agrees .edges };
+        left = sym (ap (λ (o : Outcome). o .edge) e);
+      }
+  framed-barred false b t u room {work} {last} {map} {before} {made} f w =
+      let c = circuitIn m in
+      let n = before .graph .free in
+      subst (λ (x : List ℕ). BarredTo false c b t u n room x made map) (sym (w .0))
+      (subst (λ (y : Made). BarredTo false c b t u n room work y map) (sym (w .1))
+      (record {
+        stored = f .stored;
+        free = f .free;
+        room-is = f .room-is;
+        most = omega (arith, f .most);
+        edges = f .edges;
+        node = f .node;
+        values = f .values;
+        kept = λ bits x h. f .kept bits x h ∙ sym (and-true (leftBy false c b (run c t x) u));
+        agrees = f .agrees;
+        left = f .left;
+      }))
+
   -- one frame more
   pub framed-next : (first : ℕ) {work mid last map after : List ℕ} {before : Made} {h : Graph} {made : Made}
       → NextMapped (circuitIn m) (before .graph .free) first work (before .graph) map mid h after
-      → ConstrainedMapped (circuitIn m) (before .edge) (h .free) mid h after last made → (t u room : ℕ) → u < t
+      → ConstrainedMapped (circuitIn m) (before .edge) (h .free) mid h after last made → (alone : Bool) (b t u room : ℕ) → u < t
       → first ≡ freeStarts (circuitIn m) + length (circuitIn m .inputs) * (u + 1)
-      → Framed (circuitIn m) t u (before .graph .free) room work before map
-      → Framed (circuitIn m) t (u + 1) (before .graph .free) room last made after
-  framed-next first {work = work} {mid = mid} {last = last} {map = map} {after = after} {before = before} {h = h} {made = made} s k′ t u room less at f =
+      → BarredTo alone (circuitIn m) b t u (before .graph .free) room work before map
+      → FramedTo alone (circuitIn m) b t (u + 1) (before .graph .free) room last made after
+  framed-next first {work = work} {mid = mid} {last = last} {map = map} {after = after} {before = before} {h = h} {made = made} s k′ alone b t u room less at f =
       let c = circuitIn m in
       let n = before .graph .free in
+      let z = barred alone c b n (framesMade alone c b n u) in
       let k = subst (λ (i : ℕ). ConstrainedMapped c (before .edge) i mid h after last made) (s .grown .free) k′ in
-      let a = s .follows (framesMade c n u .mapping) (f .agrees) in
-      let q = framing-next c n u first at (f .left) (a .edges) (k .follows (nextMade c n first (framesMade c n u .mapping)) a) in
+      let a = s .follows (z .mapping) (f .agrees) in
+      let q = framing-next alone c b n u first at {last = last} {map = after} {h = made .graph} {from = edgeWord (before .edge)} {e = edgeWord (made .edge)} (f .left) (a .edges) (k .follows (nextMade c n first (z .mapping)) a) in
       let p : u + 1 ≡ suc u = add-one u in
       record {
         stored = k .grown .stored;
@@ -263,25 +316,38 @@ module _ {m : List ℕ} {layout : Layout} {order : List ℕ} {count : ℕ} (r : 
         most = omega (arith, k .grown .most, s .grown .most, f .most, product-next (length (c .gates) + length (c .constraints)) (u + 1));
         edges = λ v. omega (arith, s .edges v, k .grown .least);
         node = k .node;
-        values = λ bits. kept-values t (u + 1) (s .edges) k (s .values t u bits less at (f .values bits));
-        allowed = λ bits x l.
+        values = λ bits. kept-values t (u + 1) after (s .edges) (k .grown) (s .values t u bits less at (f .values bits));
+        kept = λ bits x l.
             let v = s .values t u bits less at (f .values bits) x l in
-            let kept = s .grown .kept (freeBit n x) (edgeWord (before .edge)) (omega (arith, word-node (before .edge), f .node)) ∙ f .allowed bits x l in
-            subst (λ (i : ℕ). edgeValue n (pairsOf last (made .graph)) (freeBit n x) (edgeWord (made .edge)) ≡ allowed c (run c t x) i) (sym p)
-            (allowed-more (right (r .held)) (known (r .held)) (no-cycle (r .held)) (run c t x) u (k .left x l) kept
-            (subst (λ (i : ℕ). Valuation c (getD (run c t x .rows) i []) (state c (run c t x) i) (mapped n mid h after x)) p v));
+            let old = s .grown .kept (freeBit n x) (edgeWord (before .edge)) (omega (arith, word-node (before .edge), f .node)) ∙ f .kept bits x l in
+            subst (λ (i : ℕ). edgeValue n (pairsOf last (made .graph)) (freeBit n x) (edgeWord (made .edge)) ≡ leftBy alone c b (run c t x) i) (sym p)
+            (k .left x l
+            ∙ ap₂ (λ (y i : Bool). y && i) old
+            (constrained-of-run (right (r .held)) (known (r .held)) (no-cycle (r .held)) (run c t x) (suc u)
+            (subst (λ (i : ℕ). Valuation c (getD (run c t x .rows) i []) (state c (run c t x) i) (mapped n mid h after x)) p v))
+            ∙ sym (left-next c b (run c t x) alone u));
         agrees = q .0;
         left = q .1;
       }
 
-  -- there is room for the next frame
-  pub frame-room : {t u : ℕ} {work last after : List ℕ} {start made : Made} {map : List ℕ} → FramesFit m layout t work start map → u + 1 ≤ t
-      → Framed (circuitIn m) t u (start .graph .free) (start .graph .room) last made after → Extensible (layout .a + layout .c) last (made .graph) after
-  frame-room {t} {u} f l w =
-      let a = length (circuitIn m .gates) + length (circuitIn m .constraints) in
-      let e : layout .a + layout .c ≡ a = omega (arith, gates-are r, constraints-are r) in
-      record {
-        stored = w .stored;
-        room = omega (arith, w .most, w .room-is, f .room, e, ap (λ (k : ℕ). k * (t + 1)) e, product-next a (u + 1), product-le a {u = u + 1 + 1} {t = t + 1} (omega arith));
-        edges = w .edges;
-      }
+  -- there is room for the bad line of a frame, and for the next frame
+  module _ {alone : Bool} {b t u : ℕ} {work last after : List ℕ} {start made : Made} {map : List ℕ} (f : FramesFit m layout alone b t work start map) (l : u + 1 ≤ t) where
+    pub bar-room : FramedTo alone (circuitIn m) b t u (start .graph .free) (start .graph .room) last made after → Extensible 1 last (made .graph) after
+    bar-room w =
+        let a = length (circuitIn m .gates) + length (circuitIn m .constraints) in
+        record {
+          stored = w .stored;
+          room = omega (arith, w .most, w .room-is, f .room, product-le a {u = u + 1} {t = t + 1} (omega arith));
+          edges = w .edges;
+        }
+
+    pub frame-room : BarredTo alone (circuitIn m) b t u (start .graph .free) (start .graph .room) last made after
+        → Extensible (layout .a + layout .c) last (made .graph) after
+    frame-room w =
+        let a = length (circuitIn m .gates) + length (circuitIn m .constraints) in
+        let e : layout .a + layout .c ≡ a = omega (arith, gates-are r, constraints-are r) in
+        record {
+          stored = w .stored;
+          room = omega (arith, w .most, w .room-is, f .room, e, product-next a (u + 1), product-le a {u = u + 1 + 1} {t = t + 1} (omega arith));
+          edges = w .edges;
+        }

@@ -1,21 +1,23 @@
 -- The constraints and the bad line, one conjunction after the other. Assumes nothing.
 use mathlib.Core.Path.{_≡_, refl, sym, ap, ap₂, _∙_, subst}
-use mathlib.Core.Bool.{Bool, true, false, _&&_}
+use mathlib.Core.Bool.{Bool, true, false, not, cond, _&&_}
 use mathlib.Core.List.{List}
-use Prim.Native.Nat.{ℕ, _+_, _^_, _<_}
+use Prim.Native.Nat.{ℕ, zero, suc, _+_, _-_, _%_, _^_, _<_}
 use native.Mathlib.Numerals.{add-one}
 use native.Mathlib.Omega.{arith}
 use lib.ListN.{getD}
 use Rattle.aiger.specs.Lists.{everyBelow}
+use Rattle.aiger.specs.Bits.{nonzero, odd}
+use Rattle.aiger.specs.Fold.{complement}
 use Rattle.aiger.specs.Circuit.{var}
 use Rattle.aiger.specs.Frames.{value, freeBit}
 use Rattle.layout.specs.Words.{word, circuitIn}
 use Rattle.layout.specs.declared.Layout.{Layout}
 use Rattle.meaning.proofs.Values.{value-eq}
 use Rattle.frames.specs.Lanes.{Ready}
-use Rattle.frames.proofs.Facts.{constraints-are, constraint-place, bad-place}
-use Rattle.frames.proofs.Hits.{constrained-end, bad-end}
-use Rattle.literals.specs.Literal.{literal}
+use Rattle.frames.proofs.Facts.{constraints-are, constraint-place}
+use Rattle.frames.proofs.Hits.{constrained-end}
+use Rattle.literals.specs.Literal.{signed, literal, complemented}
 use Rattle.nodes.specs.Graph.{Pair, edgeValue}
 use Rattle.nodes.specs.Store.{pairsOf}
 use Rattle.nodes.specs.Edges.{edgeWord}
@@ -26,7 +28,7 @@ use Rattle.graph.specs.Stored.{Operands, Conjoined}
 use Rattle.graph.specs.declared.Made.{Made}
 use Rattle.graph.specs.Chosen.{Outcome, conjoin}
 use Rattle.unroll.specs.Chosen.{Mapping, literalIn, linesMade}
-use Rattle.unroll.specs.Map.{literalEdge, mapped, Agrees, Extensible, Grown, ConstrainedMapped, HitMapped}
+use Rattle.unroll.specs.Map.{literalEdge, mapped, Agrees, Extensible, Grown, ConstrainedMapped, LineMapped}
 use Rattle.unroll.proofs.Follows.{literal-follows}
 use Rattle.unroll.proofs.Edges.{literal-node, literal-edge, literal-value}
 use Rattle.unroll.proofs.Growth.{grown-none, grown-made, grown-more, grown-count, mapped-kept}
@@ -35,7 +37,7 @@ and-assoc : (a b c : Bool) → ((a && b) && c) ≡ (a && (b && c))
 and-assoc true b c = refl
 and-assoc false b c = refl
 
-and-true : (a : Bool) → (a && true) ≡ a
+pub and-true : (a : Bool) → (a && true) ≡ a
 and-true true = refl
 and-true false = refl
 
@@ -147,29 +149,53 @@ left-done {m} r from n work g map last made u =
           ∙ u .follows s a (λ j. getD (c .constraints) j 0) (λ j k. sym (constraint-place r j k));
     }
 
--- the bad line
-module _ {m : List ℕ} {layout : Layout} {order : List ℕ} {count : ℕ} (r : Ready m layout order count) (b : ℕ) (inside : b < word m 5) (work : List ℕ) (before : Made)
-    (map : List ℕ) (fits : Extensible 1 work (before .graph) map) (node : before .edge .0 .0 < before .graph .nodes) (e : Edge)
-    (q : e ≡ literalEdge map (literal (word m (layout .bads + b)))) where
+-- one literal
+module _ (w : ℕ) (work : List ℕ) (before : Made) (map : List ℕ) (fits : Extensible 1 work (before .graph) map) (node : before .edge .0 .0 < before .graph .nodes)
+    (e : Edge) (q : e ≡ literalEdge map (literal w)) where
   abbrev none : Grown (before .graph .free) 0 work (before .graph) work (before .graph)
   none = grown-none work (before .graph) (fits .stored)
 
-  pub hit-operands : Operands work (before .graph) (edgeWord (before .edge)) (edgeWord e)
-  hit-operands = line-operands work (before .graph) map fits {k = 0} (omega arith) work (before .graph) (before .edge) e none node (word m (layout .bads + b)) q
+  pub literal-operands : Operands work (before .graph) (edgeWord (before .edge)) (edgeWord e)
+  literal-operands = line-operands work (before .graph) map fits {k = 0} (omega arith) work (before .graph) (before .edge) e none node w q
 
-  pub hit-done : (last : List ℕ) (made : Made) → Conjoined work last (before .graph) (edgeWord (before .edge)) (edgeWord e) made
-      → HitMapped (circuitIn m) b (before .graph .free) work before map last made
-  hit-done last made c =
+  pub literal-done : (last : List ℕ) (made : Made) → Conjoined work last (before .graph) (edgeWord (before .edge)) (edgeWord e) made
+      → LineMapped w (before .graph .free) work before map last made
+  literal-done last made c =
       let g = before .graph in
       let n = g .free in
-      let w : ℕ = word m (layout .bads + b) in
       record {
         grown = line-grown work g map fits {k = 0} (omega arith) work g (before .edge) e none node w q last made c;
         node = c .node;
-        hit = λ x l.
-            line-conjoined work g map fits {k = 0} (omega arith) work g (before .edge) e none node w q last made c x l
-            ∙ ap (λ (y : Bool). edgeValue n (pairsOf work g) (freeBit n x) (edgeWord (before .edge)) && y) (bad-end r b inside (mapped n work g map x));
+        line = λ x l. line-conjoined work g map fits {k = 0} (omega arith) work g (before .edge) e none node w q last made c x l;
         follows = λ s a.
-            ap (λ (gs : List Pair). conjoin n gs (edgeWord (before .edge)) (literalIn (s .edges) (getD (circuitIn m .bads) b 0))) (sym (a .gates))
-            ∙ line-chosen work g map fits {k = 0} (omega arith) work g (before .edge) e none node w q last made c s a (getD (circuitIn m .bads) b 0) (sym (bad-place r b inside));
+            ap (λ (gs : List Pair). conjoin n gs (edgeWord (before .edge)) (literalIn (s .edges) w)) (sym (a .gates))
+            ∙ line-chosen work g map fits {k = 0} (omega arith) work g (before .edge) e none node w q last made c s a w refl;
       }
+
+-- ---- the complement of a literal
+
+complement-odd : (w : ℕ) → odd (complement w) ≡ not (odd w)
+complement-odd w =
+    let r = w % 2 in
+    let e : complement w % 2 ≡ 1 - r = omega arith in
+    ap nonzero e ∙ go r (omega arith)
+  where
+    go : (r : ℕ) → r < 2 → nonzero (1 - r) ≡ not (nonzero r)
+    go zero l = refl
+    go (suc zero) l = refl
+    go (suc (suc r)) l = absurd (omega arith)
+
+pub complement-literal : (w : ℕ) → complemented (literal w) ≡ literal (complement w)
+complement-literal w =
+    let e : var w ≡ var (complement w) = omega arith in
+    ap₂ signed e (sym (complement-odd w))
+
+pub complement-value : (f : ℕ → Bool) (w : ℕ) → value f (complement w) ≡ not (value f w)
+complement-value f w =
+    let e : var (complement w) ≡ var w = omega arith in
+    ap₂ (λ (b : Bool) (v : ℕ). cond b (not (f v)) (f v)) (complement-odd w) e ∙ go (odd w) (f (var w))
+  where
+    go : (b x : Bool) → cond (not b) (not x) x ≡ not (cond b (not x) x)
+    go true true = refl
+    go true false = refl
+    go false x = refl

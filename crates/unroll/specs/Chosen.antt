@@ -1,5 +1,5 @@
 -- The graph and the edge that unrolling gives, as a function of the circuit, b and t. Assumes nothing.
-use mathlib.Core.Bool.{cond}
+use mathlib.Core.Bool.{Bool, false, cond}
 use mathlib.Core.List.{List, []}
 use Prim.Native.Nat.{ℕ, zero, suc, _+_, _*_}
 use lib.Dec.{eqb}
@@ -7,6 +7,7 @@ use lib.ListN.{length, getD}
 use Rattle.aiger.specs.Bits.{odd}
 use Rattle.aiger.specs.Circuit.{Circuit, Gate, var}
 use Rattle.aiger.specs.Frames.{freeBits, freeStarts}
+use Rattle.aiger.specs.Fold.{complement}
 use Rattle.layout.specs.Order.{gateAt, depthFirst}
 use Rattle.meaning.specs.Frame.{inputAt, latchAt}
 use Rattle.frames.specs.Starts.{freeBefore}
@@ -89,14 +90,29 @@ nextMade c n first s = frameMade c n first (moving c s) s
 abbrev pub constrainedFrame : Circuit → ℕ → ℕ → Mapping → Framing
 constrainedFrame c n from s = framing (s .edges) (constrainedMade c n from s)
 
--- frames 0 to u over n free bits; literal 1 is true
-unfoldable pub framesMade : Circuit → ℕ → ℕ → Framing
-framesMade c n zero = constrainedFrame c n 1 (firstMade c n)
-framesMade c n (suc u) =
-    constrainedFrame c n (framesMade c n u .left) (nextMade c n (freeStarts c + length (c .inputs) * suc u) (framesMade c n u .mapping))
+-- what goes on to the next frame: where a hit is to be alone, the sequences that are left and in which bad line b is false
+abbrev pub barred : Bool → Circuit → ℕ → ℕ → Framing → Framing
+barred alone c b n f =
+    cond alone
+    (framing (f .mapping .edges)
+    (conjoin n (f .mapping .gates) (f .left) (literalIn (f .mapping .edges) (complement (getD (c .bads) b 0))))) f
+
+-- the frame after frame u, whose first input has free bit `first`
+abbrev pub afterFrame : Circuit → ℕ → ℕ → Framing → Framing
+afterFrame c n first f = constrainedFrame c n (f .left) (nextMade c n first (f .mapping))
+
+-- frames 0 to u over n free bits, in the mode; literal 1 is true
+unfoldable pub framesMade : Bool → Circuit → ℕ → ℕ → ℕ → Framing
+framesMade alone c b n zero = constrainedFrame c n 1 (firstMade c n)
+framesMade alone c b n (suc u) =
+    afterFrame c n (freeStarts c + length (c .inputs) * suc u) (barred alone c b n (framesMade alone c b n u))
+
+-- what is left after frames 0 to t, and the bad line
+unfoldable pub unrolledBy : Bool → Circuit → ℕ → ℕ → Outcome
+unrolledBy alone c b t =
+    let f = framesMade alone c b (freeBits c t) t in
+    conjoin (freeBits c t) (f .mapping .gates) (f .left) (literalIn (f .mapping .edges) (getD (c .bads) b 0))
 
 -- the constraints of frames 0 to t and the bad line
-unfoldable pub unrolled : Circuit → ℕ → ℕ → Outcome
-unrolled c b t =
-    let f = framesMade c (freeBits c t) t in
-    conjoin (freeBits c t) (f .mapping .gates) (f .left) (literalIn (f .mapping .edges) (getD (c .bads) b 0))
+abbrev pub unrolled : Circuit → ℕ → ℕ → Outcome
+unrolled c b t = unrolledBy false c b t

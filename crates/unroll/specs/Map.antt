@@ -1,17 +1,19 @@
 -- Maps from variables to edges of a graph, and what the private functions do to them. The word of variable v is that of its edge.
 -- Assumes nothing.
 use mathlib.Core.Path.{_≡_}
-use mathlib.Core.Bool.{Bool, _&&_}
+use mathlib.Core.Bool.{Bool, true, false, not, _&&_}
 use mathlib.Core.List.{List, []}
 use Prim.Native.Nat.{ℕ, _+_, _*_, _^_, _≤_, _<_}
 use lib.ListN.{length, getD}
 use Rattle.aiger.specs.Circuit.{Circuit, Gate, var}
-use Rattle.aiger.specs.Frames.{value, freeBit, freeBits, freeStarts, run, state, allowed}
+use Rattle.aiger.specs.Frames.{Run, value, freeBit, freeBits, freeStarts, run, state, valueAt}
+use Rattle.aiger.specs.Fold.{complement}
 use Rattle.layout.specs.Words.{word, circuitIn}
 use Rattle.meaning.specs.Frame.{Valuation}
+use Rattle.never_search.specs.Runs.{leftBy}
 use Rattle.literals.specs.Literal.{literal}
 use Rattle.layout.specs.declared.Layout.{Layout}
-use Rattle.frames.specs.Lanes.{Ready, Leaves, Computed, constrainedIn, badIn}
+use Rattle.frames.specs.Lanes.{Ready, Leaves, Computed, constrainedIn}
 use Rattle.frames.specs.Lanes as lanes
 use Rattle.frames.specs.Starts.{freeBefore}
 use Rattle.nodes.specs.Graph.{nodeOf, edgeValue}
@@ -23,7 +25,7 @@ use Rattle.graph.specs.Stored.{Stored}
 use Rattle.graph.specs.declared.Made.{Made}
 use Rattle.graph.specs.Chosen.{conjoin}
 pub use Rattle.unroll.specs.Edges.{literalEdge, freeEdge, startEdge}
-use Rattle.unroll.specs.Chosen.{Mapping, Framing, literalIn, gateMade, gatesMade, firstMade, nextMade, constrainedMade, framesMade}
+use Rattle.unroll.specs.Chosen.{Mapping, Framing, literalIn, gateMade, gatesMade, firstMade, nextMade, constrainedMade, barred, framesMade}
 
 -- ---- words of a map
 
@@ -133,35 +135,59 @@ pub record FrameMapped (c : Circuit) (work : List ℕ) (before : Made) (map last
   pub gates : GatesMapped c (before .graph .free) work (before .graph) map mid graph after
   pub constraints : ConstrainedMapped c (before .edge) (graph .free) mid graph after last made
 
--- the edge is true for the sequences of frame t that are allowed at frame u
-abbrev pub Allowed : Circuit → ℕ → ℕ → ℕ → List ℕ → Made → Type 0
-Allowed c t u n work made =
-    (x : ℕ) → x < 2 ^ n → edgeValue n (pairsOf work (made .graph)) (freeBit n x) (edgeWord (made .edge)) ≡ allowed c (run c t x) u
+-- the edge is true for the sequences of frame t whose run is kept
+abbrev pub Keeps : Circuit → ℕ → (Run → Bool) → ℕ → List ℕ → Made → Type 0
+Keeps c t keep n work made =
+    (x : ℕ) → x < 2 ^ n → edgeValue n (pairsOf work (made .graph)) (freeBit n x) (edgeWord (made .edge)) ≡ keep (run c t x)
 
--- frames 0 to u of t, with their constraints: the gates of u + 1 frames and their constraints are the most that was made
-pub record Framed (c : Circuit) (t u n room : ℕ) (work : List ℕ) (made : Made) (map : List ℕ) : Type 0 where
+-- frames 0 to u of t, made as f, with the edge of the sequences that are kept; `count` nodes are the most that was made
+pub record Framed (c : Circuit) (t u n room count : ℕ) (keep : Run → Bool) (f : Framing) (work : List ℕ) (made : Made) (map : List ℕ)
+    : Type 0 where
   pub stored : Stored work (made .graph)
   pub free : made .graph .free ≡ n
   pub room-is : made .graph .room ≡ room
-  pub most : made .graph .nodes ≤ n + 1 + (length (c .gates) + length (c .constraints)) * (u + 1)
+  pub most : made .graph .nodes ≤ n + 1 + count
   pub edges : Edges (made .graph) map
   pub node : made .edge .0 .0 < made .graph .nodes
   pub values : n ≡ freeBits c t → Valued c t u n work (made .graph) map
-  pub allowed : n ≡ freeBits c t → Allowed c t u n work made
-  pub agrees : Agrees (framesMade c n u .mapping) work (made .graph) map
-  pub left : edgeWord (made .edge) ≡ framesMade c n u .left
+  pub kept : n ≡ freeBits c t → Keeps c t keep n work made
+  pub agrees : Agrees (f .mapping) work (made .graph) map
+  pub left : edgeWord (made .edge) ≡ f .left
 
--- the conjunction of the edge that is given with the graph and of bad line b
-pub record HitMapped (c : Circuit) (b n : ℕ) (work : List ℕ) (before : Made) (map last : List ℕ) (made : Made) : Type 0 where
+-- how many nodes frames 0 to u have at most: gates and constraints of each, and the bad line of each before the last
+abbrev pub nodesTo : Circuit → ℕ → ℕ
+nodesTo c u = (length (c .gates) + length (c .constraints)) * (u + 1) + u
+
+-- frames 0 to u with the edge of the sequences that can still hit at frame u
+abbrev pub FramedTo : Bool → Circuit → ℕ → ℕ → ℕ → ℕ → ℕ → List ℕ → Made → List ℕ → Type 0
+FramedTo alone c b t u n room work made map =
+    Framed c t u n room (nodesTo c u) (λ r. leftBy alone c b r u) (framesMade alone c b n u) work made map
+
+-- the same with the edge of those that go on to frame u + 1
+abbrev pub BarredTo : Bool → Circuit → ℕ → ℕ → ℕ → ℕ → ℕ → List ℕ → Made → List ℕ → Type 0
+BarredTo alone c b t u n room work made map =
+    Framed c t u n room (nodesTo c u + 1) (λ r. leftBy alone c b r u && not (alone && valueAt c r u (getD (c .bads) b 0)))
+    (barred alone c b n (framesMade alone c b n u)) work made map
+
+-- the conjunction of the edge that is given with the graph and of literal l
+pub record LineMapped (l n : ℕ) (work : List ℕ) (before : Made) (map last : List ℕ) (made : Made) : Type 0 where
   pub grown : Grown n 1 work (before .graph) last (made .graph)
   pub node : made .edge .0 .0 < made .graph .nodes
-  pub hit : (x : ℕ) → x < 2 ^ n
+  pub line : (x : ℕ) → x < 2 ^ n
       → edgeValue n (pairsOf last (made .graph)) (freeBit n x) (edgeWord (made .edge))
       ≡ (edgeValue n (pairsOf work (before .graph)) (freeBit n x) (edgeWord (before .edge))
-      && badIn c b (mapped n work (before .graph) map x))
+      && value (mapped n work (before .graph) map x) l)
   pub follows : (s : Mapping) → Agrees s work (before .graph) map
-      → conjoin n (s .gates) (edgeWord (before .edge)) (literalIn (s .edges) (getD (c .bads) b 0))
+      → conjoin n (s .gates) (edgeWord (before .edge)) (literalIn (s .edges) l)
       ≡ record { gates = pairsOf last (made .graph); edge = edgeWord (made .edge) }
+
+-- the same of bad line b, and of its complement where a hit is to be alone; else all is as it was
+abbrev pub HitMapped : Circuit → ℕ → ℕ → List ℕ → Made → List ℕ → List ℕ → Made → Type 0
+HitMapped c b n work before map last made = LineMapped (getD (c .bads) b 0) n work before map last made
+
+abbrev pub BarMapped : Bool → Circuit → ℕ → ℕ → List ℕ → Made → List ℕ → List ℕ → Made → Type 0
+BarMapped true c b n work before map last made = LineMapped (complement (getD (c .bads) b 0)) n work before map last made
+BarMapped false c b n work before map last made = (last ≡ work) × (made ≡ before)
 
 -- what frame 0 requires of the graph
 pub record FirstFits (layout : Layout) (work : List ℕ) (g : Graph) (map : List ℕ) : Type 0 where
@@ -170,7 +196,8 @@ pub record FirstFits (layout : Layout) (work : List ℕ) (g : Graph) (map : List
   pub bits : layout .u + layout .i ≤ g .free
 
 -- what the frames after it require
-pub record FramesFit (m : List ℕ) (layout : Layout) (t : ℕ) (work : List ℕ) (first : Made) (map : List ℕ) : Type 0 where
-  pub framed : Framed (circuitIn m) t 0 (first .graph .free) (first .graph .room) work first map
-  pub room : first .graph .free + 1 + (layout .a + layout .c) * (t + 1) ≤ first .graph .room
+pub record FramesFit (m : List ℕ) (layout : Layout) (alone : Bool) (b t : ℕ) (work : List ℕ) (first : Made) (map : List ℕ) : Type 0 where
+  pub bad : b < word m 5
+  pub framed : FramedTo alone (circuitIn m) b t 0 (first .graph .free) (first .graph .room) work first map
+  pub room : first .graph .free + 1 + nodesTo (circuitIn m) t ≤ first .graph .room
   pub bits : layout .u + layout .i * (t + 1) ≤ first .graph .free

@@ -8,12 +8,13 @@ use literals::Var;
 use nodes::Edge;
 use nodes::Graph;
 ghost use mathlib.Core.Path.{_≡_};
+ghost use mathlib.Core.Bool.{Bool};
 ghost use mathlib.Core.List.{[]};
 ghost use Prim.Native.Nat.{ℕ, _+_, _^_, _≤_, _<_};
 ghost use lib.ListN.{length, getD, set};
 ghost use Rattle.nodes.specs.Store.{pairsOf};
 ghost use Rattle.nodes.specs.Edges.{edgeWord};
-ghost use Rattle.literals.specs.Literal.{wordOf};
+ghost use Rattle.literals.specs.Literal.{literal, wordOf};
 ghost use Rattle.layout.specs.Words.{word, gateIn, circuitIn};
 ghost use Rattle.frames.specs.Lanes.{Ready, GateRoom};
 ghost use Rattle.unroll.specs.Map.{
@@ -35,12 +36,21 @@ ghost use Rattle.unroll.specs.Map.{
   LeavesMapped,
   ConstrainedMapped,
   FrameMapped,
-  Framed,
+  FramedTo,
+  LineMapped,
   HitMapped,
+  BarMapped,
   FirstFits,
   FramesFit,
 };
-ghost use Rattle.unroll.specs.Unrolled.{UnrollFits, Unrolled};
+ghost use Rattle.unroll.specs.Unrolled.{UnrollFits, UnrolledBy, Unrolled};
+
+// What is to be hit: bad line b at frame t; where `alone` is true, with the bad line false in every frame before.
+pub struct Aim {
+    pub b: usize,
+    pub t: usize,
+    pub alone: bool,
+}
 
 // The edge of a literal.
 fn edge_of(map: &[u32], l: Lit) -> Edge
@@ -271,8 +281,8 @@ fn first_frame(
     requires { ⌜ Ready (now m) layout (now order) (length (now map)) ⌝ }
     requires { ⌜ FirstFits layout (now work) g (now map) ⌝ }
     ensures { λ r. ⌜
-        (pairsOf (now (work .entry)) g ≡ [] → (t : ℕ) → Framed (circuitIn (now (m .entry))) t 0 (g .free) (g .room) (now (work .exit)) r
-        (now (map .exit)))
+        (pairsOf (now (work .entry)) g ≡ [] → (alone : Bool) (b t : ℕ)
+        → FramedTo alone (circuitIn (now (m .entry))) b t 0 (g .free) (g .room) (now (work .exit)) r (now (map .exit)))
         ⌝ }
 {
     put_starts(m, layout, map);
@@ -281,33 +291,18 @@ fn first_frame(
     constrain(work, graph, m, layout, Edge(Node(0), true), map)
 }
 
-// The frames after frame 0, up to frame t, and the edge that is true where the constraints of all frames hold.
-fn put_frames(
-    work: &mut [u32],
-    first: Made,
-    m: &[u32],
-    layout: Layout,
-    order: &[u32],
-    t: usize,
-    map: &mut [u32],
-) -> Made
-    requires { ⌜ Ready (now m) layout (now order) (length (now map)) ⌝ }
-    requires { ⌜ FramesFit (now m) layout t (now work) first (now map) ⌝ }
+// The conjunction of an edge and a literal.
+fn line_edge(work: &mut [u32], frames: Made, l: Lit, map: &[u32]) -> Made
+    requires { ⌜ ((w : ℕ) × (l ≡ literal w)) × (l .0 .0 < length (now map)) ⌝ }
+    requires { ⌜ Extensible 1 (now work) (frames .graph) (now map) ⌝ }
+    requires { ⌜ frames .edge .0 .0 < frames .graph .nodes ⌝ }
     ensures { λ r. ⌜
-        Framed (circuitIn (now (m .entry))) t t (first .graph .free) (first .graph .room) (now (work .exit)) r (now (map .exit))
+        ((w : ℕ) → l ≡ literal w
+        → LineMapped w (frames .graph .free) (now (work .entry)) frames (now (map .entry)) (now (work .exit)) r)
         ⌝ }
 {
-    let mut state = [0u32; 1024];
-    let starts = layout.u;
-    let inputs = layout.i;
-    let mut made = first;
-    let mut u = 0;
-    while u < t {
-        u += 1;
-        put_leaves(m, layout, starts + inputs * u, &mut state, map);
-        made = put_frame(work, made, m, layout, order, map);
-    }
-    made
+    let e = edge_of(map, l);
+    graph::make(work, frames.graph, frames.edge, e)
 }
 
 // The conjunction of an edge and the bad line.
@@ -328,11 +323,89 @@ fn hit_edge(
         ⌝ }
 {
     let bads = layout.bads;
-    let e = edge_of(map, Lit::from_word(m[bads + b]));
-    graph::make(work, frames.graph, frames.edge, e)
+    let l = Lit::from_word(m[bads + b]);
+    line_edge(work, frames, l, map)
 }
 
-// The hit of b at frame t. room is the number of nodes that working memory has room for.
+// What goes on to the next frame: where a hit is to be alone, the conjunction of an edge and the complement of the bad line.
+fn bar_edge(
+    work: &mut [u32],
+    frames: Made,
+    m: &[u32],
+    layout: Layout,
+    aim: Aim,
+    map: &[u32],
+) -> Made
+    requires { ⌜ Prepared (now m) layout (length (now map)) ⌝ }
+    requires { ⌜ Extensible 1 (now work) (frames .graph) (now map) ⌝ }
+    requires { ⌜ (frames .edge .0 .0 < frames .graph .nodes) × (aim .b < word (now m) 5) ⌝ }
+    ensures { λ r. ⌜
+        BarMapped (aim .alone) (circuitIn (now (m .entry))) (aim .b) (frames .graph .free) (now (work .entry)) frames
+        (now (map .entry)) (now (work .exit)) r
+        ⌝ }
+{
+    if aim.alone {
+        let bads = layout.bads;
+        let b = aim.b;
+        let l = Lit::from_word(m[bads + b]);
+        return line_edge(work, frames, l.complement(), map);
+    }
+    frames
+}
+
+// The frames after frame 0, up to the frame that is aimed at, and the edge that is true where it can still be hit.
+fn put_frames(
+    work: &mut [u32],
+    first: Made,
+    m: &[u32],
+    layout: Layout,
+    order: &[u32],
+    aim: Aim,
+    map: &mut [u32],
+) -> Made
+    requires { ⌜ Ready (now m) layout (now order) (length (now map)) ⌝ }
+    requires { ⌜ FramesFit (now m) layout (aim .alone) (aim .b) (aim .t) (now work) first (now map) ⌝ }
+    ensures { λ r. ⌜
+        FramedTo (aim .alone) (circuitIn (now (m .entry))) (aim .b) (aim .t) (aim .t) (first .graph .free) (first .graph .room)
+        (now (work .exit)) r (now (map .exit))
+        ⌝ }
+{
+    let mut state = [0u32; 1024];
+    let starts = layout.u;
+    let inputs = layout.i;
+    let t = aim.t;
+    let mut made = first;
+    let mut u = 0;
+    while u < t {
+        let kept = bar_edge(work, made, m, layout, aim, map);
+        u += 1;
+        put_leaves(m, layout, starts + inputs * u, &mut state, map);
+        made = put_frame(work, kept, m, layout, order, map);
+    }
+    made
+}
+
+// The hit that is aimed at. room is the number of nodes that working memory has room for.
+pub fn unroll_aim(
+    work: &mut [u32],
+    m: &[u32],
+    layout: Layout,
+    order: &[u32],
+    aim: Aim,
+    room: usize,
+) -> Made
+    requires { ⌜ UnrollFits (now work) (now m) layout (now order) (aim .b) (aim .t) room ⌝ }
+    ensures { λ r. ⌜ UnrolledBy (aim .alone) (circuitIn (now (m .entry))) (aim .b) (aim .t) (now (work .exit)) room r ⌝ }
+{
+    let mut map = [0u32; 4097];
+    let free = layout.u + layout.i * (aim.t + 1);
+    let empty = graph::start(work, free, room);
+    let first = first_frame(work, empty, m, layout, order, &mut map);
+    let frames = put_frames(work, first, m, layout, order, aim, &mut map);
+    hit_edge(work, frames, m, layout, aim.b, &map)
+}
+
+// Any hit of b at frame t.
 pub fn unroll(
     work: &mut [u32],
     m: &[u32],
@@ -345,10 +418,6 @@ pub fn unroll(
     requires { ⌜ UnrollFits (now work) (now m) layout (now order) b t room ⌝ }
     ensures { λ r. ⌜ Unrolled (circuitIn (now (m .entry))) b t (now (work .exit)) room r ⌝ }
 {
-    let mut map = [0u32; 4097];
-    let free = layout.u + layout.i * (t + 1);
-    let empty = graph::start(work, free, room);
-    let first = first_frame(work, empty, m, layout, order, &mut map);
-    let frames = put_frames(work, first, m, layout, order, t, &mut map);
-    hit_edge(work, frames, m, layout, b, &map)
+    let alone = false;
+    unroll_aim(work, m, layout, order, Aim { b, t, alone }, room)
 }

@@ -70,7 +70,7 @@ same-length-2 c =
     g .put-gates .kept .1 .1 .1 .1 .1 .0 ∙ q .put-inputs .kept .1 .1 .1 .0 ∙ p .put-starts .kept .1 .1 .0
 
 returns : tie.Need-returns
-returns c = λ none t.
+returns c = λ none alone b t.
     let k = c .before .before in
     let g = k .before .before .before .before .before .before .before in
     let q = g .before .before .before .before .before in
@@ -79,7 +79,7 @@ returns c = λ none t.
     framed-first (S .pre .0) (S .pre .1 .extensible .stored) none
     (first-mapped (S .pre .0) (S .pre .1 .blank) (p .put-starts .ensures) (S .args .layout .u) (q .put-inputs .ensures)
     (S .pre .0 .layout-of .u-is) (g .put-gates .ensures))
-    (k .constrain .ensures) t
+    (k .constrain .ensures) alone b t
 
 pub first-frame-spec : {M : Type 1} → statement M
 first-frame-spec =

@@ -1,75 +1,19 @@
 -- `unroll::unroll` meets its contract. Assumes nothing.
-use mathlib.Core.Path.{_∙_}
-use native.Mathlib.Omega.{arith}
-use Rattle.unroll.proofs.Facts.{ready-with}
-use Rattle.unroll.proofs.Unrolling.{blank-zeros, room-enough, start-enough, first-fits, frames-fit, hit-fits, hit-node, unrolled}
 use borrow.Author.Needs.{needs}
 use Rattle.unroll.proofs.unroll.Statement.{statement}
 use Rattle.unroll.proofs.unroll.Tie as tie
 
-mul-free : tie.Need-mul-free
-mul-free c = let S = c .before .before .before .before in omega (arith, room-enough (S .pre), S .pre .most)
-
-add-free-2 : tie.Need-add-free-2
-add-free-2 c = let S = c .before .before .before .before .before in omega (arith, room-enough (S .pre), S .pre .most)
-
-start-requires : tie.Need-start-requires
-start-requires c κs = start-enough (c .before .before .before .before .before .before .pre)
-
-first-frame-requires : tie.Need-first-frame-requires
-first-frame-requires c κs =
-    let S = c .before .before .before .before .before .before .before .before .before .before .before in
-    let E = c .before .before .before .before .start in
-    (S .pre .ready, first-fits (S .pre) (E .ensures .0) (E .ensures .1) _ (blank-zeros 4097))
-
-put-frames-requires : tie.Need-put-frames-requires
-put-frames-requires c κs =
-    let f = c .before .before .before .before .before in
-    let e = f .before .before .before .before .before in
-    let S = e .before .before .before .before .before .before .before in
-    let E = e .start in
-    let F = f .first-frame in
-    (ready-with (S .pre .ready) (F .kept .1 .1 .1 .1 .1 .0), frames-fit (S .pre) (E .ensures .0) (E .ensures .1) (F .ensures))
-
-hit-edge-requires : tie.Need-hit-edge-requires
-hit-edge-requires c κs =
-    let g = c .before .before .before .before .before in
-    let f = g .before .before .before .before .before .before in
-    let e = f .before .before .before .before .before in
-    let S = e .before .before .before .before .before .before .before in
-    let E = e .start in
-    let F = f .first-frame in
-    let G = g .put-frames in (
-      (S .args .order .now, ready-with (S .pre .ready) (G .kept .1 .1 .1 .1 .1 .1 .0 ∙ F .kept .1 .1 .1 .1 .1 .0)),
-      (
-        hit-fits (S .pre) (E .ensures .0) (E .ensures .1) (F .ensures) (G .ensures),
-        (hit-node (S .pre) (E .ensures .0) (E .ensures .1) (F .ensures) (G .ensures), S .pre .bad),
-      ),
-    )
+unroll-aim-requires : tie.Need-unroll-aim-requires
+unroll-aim-requires c κs = c .before .before .before .before .pre
 
 same-length : tie.Need-same-length
-same-length c =
-    let h = c .before .before in
-    let g = h .before .before .before .before .before .before in
-    let f = g .before .before .before .before .before .before in
-    let e = f .before .before .before .before .before in
-    h .hit-edge .kept .0 ∙ g .put-frames .kept .0 ∙ f .first-frame .kept .0 ∙ e .start .kept .0
+same-length c = c .before .before .unroll-aim .kept .0
 
 returns : tie.Need-returns
-returns c =
-    let h = c .before .before in
-    let g = h .before .before .before .before .before .before in
-    let f = g .before .before .before .before .before .before in
-    let e = f .before .before .before .before .before in
-    let S = e .before .before .before .before .before .before .before in
-    let E = e .start in
-    let H = h .hit-edge in
-    unrolled (S .pre) (E .ensures .0) (E .ensures .1) (f .first-frame .ensures) (g .put-frames .ensures)
-    (H .last .0) (H .result) (H .ensures)
+returns c = c .before .before .unroll-aim .ensures
 
 pub unroll-spec : {M : Type 1} → statement M
 unroll-spec =
     tie.close
     (tie.spec
-    (λ c. search needs) mul-free add-free-2 start-requires (λ c. search needs) first-frame-requires (λ c. search needs)
-    put-frames-requires (λ c. search needs) hit-edge-requires same-length returns)
+    unroll-aim-requires same-length returns)

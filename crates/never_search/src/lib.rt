@@ -1,0 +1,1 @@
+// Definitions and theorems of the search at a depth, which says that a trigger can never fire. It has no functions.
