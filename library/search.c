@@ -1,5 +1,5 @@
 /* search FILE b k D: searches the circuit in FILE for bad line b, frames 0 to k, with a budget of D sequences for each frame. Prints
-   `found t` and the witness, `none k`, `spent t` or `refused n`. Exit status: 0 for an answer, 1 for a refusal, 2 for a wrong call. */
+   `found t` and the witness, `none k`, `spent t R` or `refused n`. Exit status: 0 for an answer, 1 for a refusal, 2 for a wrong call. */
 #include "yunverok.h"
 #include <errno.h>
 #include <inttypes.h>
@@ -60,6 +60,6 @@ int main(int count, char **words)
         fwrite(out, 1, answer[YUNVEROK_LENGTH], stdout);
         return 0;
     case YUNVEROK_NONE: printf("none %" PRIu64 "\n", answer[YUNVEROK_FRAME]); return 0;
-    default: printf("spent %" PRIu64 "\n", answer[YUNVEROK_FRAME]); return 0;
+    default: printf("spent %" PRIu64 " %" PRIu64 "\n", answer[YUNVEROK_FRAME], answer[YUNVEROK_REACHED]); return 0;
     }
 }

@@ -1,5 +1,5 @@
 //! search FILE b k D: searches the circuit in FILE for bad line b, frames 0 to k, with a budget of D sequences for each frame. Prints
-//! `found t` and the witness, `none k`, `spent t` or `refused n`. Exit status: 0 for an answer, 1 for a refusal, 2 for a wrong call.
+//! `found t` and the witness, `none k`, `spent t R` or `refused n`. Exit status: 0 for an answer, 1 for a refusal, 2 for a wrong call.
 
 use std::io::{self, Read, Write};
 use std::process::exit;
@@ -18,6 +18,7 @@ extern "C" {
 const KIND: usize = 0;
 const FRAME: usize = 1;
 const LENGTH: usize = 2;
+const REACHED: usize = 4;
 const FOUND: u64 = 1;
 const NONE: u64 = 2;
 
@@ -80,7 +81,7 @@ fn main() -> io::Result<()> {
             io::stdout().write_all(&out[..answer[LENGTH] as usize])?;
         }
         NONE => println!("none {}", answer[FRAME]),
-        _ => println!("spent {}", answer[FRAME]),
+        _ => println!("spent {} {}", answer[FRAME], answer[REACHED]),
     }
     Ok(())
 }

@@ -84,7 +84,7 @@ enum yunverok_place {
     YUNVEROK_FRAME = 1,   /* of a search: the frame of found and of spent, the bound of none */
     YUNVEROK_LENGTH = 2,  /* how many bytes stand at the front of out */
     YUNVEROK_WORDS = 3,   /* how many words of circuit memory the circuit needs, where a file or a join gave it */
-    YUNVEROK_REACHED = 4, /* 0 in this version */
+    YUNVEROK_REACHED = 4, /* of a search that is spent: R, how far it got in the frame */
     YUNVEROK_M = 5,       /* the counts of that circuit: greatest variable number, */
     YUNVEROK_I = 6,       /* inputs, */
     YUNVEROK_L = 7,       /* latches, */
@@ -156,7 +156,9 @@ uint64_t yunverok_pin(uint64_t user, uint8_t *shared, uint64_t shared_len, const
                       and length are told;
      YUNVEROK_NONE    no frame from 0 to k has a hit; the frame that is told is k. Where place YUNVEROK_ALWAYS is 1 no frame at all has one,
                       however late; 0 says nothing of later frames (clause 3.9 of docs/REQUIREMENT.md);
-     YUNVEROK_SPENT   frames before t have no hit, frame t has more than d sequences, and none of its first d hits; frame t is told.
+     YUNVEROK_SPENT   frames before t have no hit, frame t has more than d sequences, and none of its first d hits; frame t is told, and R
+                      in place YUNVEROK_REACHED: none of the first R sequences of frame t hits. R is d or more, below 2 to the power n,
+                      and not above 2 to the power 62.
    What is told depends on the circuit, the user's pins, b, k and d alone. Or returns the number of the refusal, 18 for a user who is
    neither 0 nor 1 and then 9 to 13, and work, out and answer are as they were. out needs the length of the witness at bound k: with the
    decimal digits of b, 2 + (1 + digits + 1) + (L + 1) + (k + 1) * (I + 1) + 2 bytes. All bytes of out past the witness are as they

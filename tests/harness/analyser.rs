@@ -133,6 +133,11 @@ impl Analyser {
         (0..count).map(|x| self.witness(c, b, t, x)).find(|text| reference::is_hit(c, text))
     }
 
+    /// Whether a search of frame t with budget d may tell this place.
+    fn reaches(&self, c: &Circuit, b: u64, t: u64, d: u64, reached: u64) -> bool {
+        reference::reached_fits(self.free_bits(c, t), d, reached).is_ok() && self.first(c, b, t, reached).is_none()
+    }
+
     /// The given answer where it is permitted, else one that is not given.
     pub fn search(&self, user: u64, b: u64, k: u64, d: u64, work: u64, out: &[u8], got: &Reply) -> Reply {
         if user > 1 {
@@ -145,7 +150,7 @@ impl Analyser {
         let said = match got.answer[0] {
             interface::FOUND => Said::Found(got.answer[1]),
             interface::NONE => Said::Nothing(got.answer[1]),
-            _ => Said::Spent(got.answer[1]),
+            _ => Said::Spent(got.answer[1], got.answer[interface::REACHED]),
         };
         let none_before = |t: u64| (0..t).all(|u| self.first(&c, b, u, u64::MAX).is_none());
         let wrong = told(interface::searched(u64::MAX, 0, 0), out.to_vec());
@@ -164,8 +169,10 @@ impl Analyser {
                 places[interface::ALWAYS] = always.into();
                 told(places, out.to_vec())
             }
-            Said::Spent(t) if t <= k && none_before(t) && d < 1 << self.free_bits(&c, t) && self.first(&c, b, t, d).is_none() => {
-                told(interface::searched(interface::SPENT, t, 0), out.to_vec())
+            Said::Spent(t, reached) if t <= k && none_before(t) && d < 1 << self.free_bits(&c, t) && self.reaches(&c, b, t, d, reached) => {
+                let mut places = interface::searched(interface::SPENT, t, 0);
+                places[interface::REACHED] = reached;
+                told(places, out.to_vec())
             }
             _ => wrong,
         }

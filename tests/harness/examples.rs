@@ -14,15 +14,19 @@ fn load(file: &str) -> Result<Circuit, u32> {
 }
 
 /// Circuit, k, D, an answer, and the witness or the empty text where it is permitted.
-const SEARCHES: [(&str, u64, u64, Said, Option<&str>); 12] = [
+const SEARCHES: [(&str, u64, u64, Said, Option<&str>); 16] = [
     (S, 3, 16, Said::Found(2), Some("1\nb0\n00\n1\n1\n0\n.\n")),
     (S, 3, 16, Said::Nothing(3), None),
     (S, 1, 16, Said::Nothing(1), Some("")),
     (S, 2, 7, Said::Found(2), Some("1\nb0\n00\n1\n1\n0\n.\n")),
-    (S, 2, 7, Said::Spent(2), None),
+    (S, 2, 7, Said::Spent(2, 7), None),
     (S, 2, 6, Said::Found(2), Some("1\nb0\n00\n1\n1\n0\n.\n")),
-    (S, 2, 6, Said::Spent(2), Some("")),
-    (S, 2, 6, Said::Spent(1), None),
+    (S, 2, 6, Said::Spent(2, 6), Some("")),
+    (S, 2, 6, Said::Spent(2, 7), None),
+    (S, 2, 6, Said::Spent(2, 5), None),
+    (S, 2, 1, Said::Spent(2, 6), Some("")),
+    (S, 2, 1, Said::Spent(2, 8), None),
+    (S, 2, 6, Said::Spent(1, 6), None),
     (OPPOSITE, 0, 2, Said::Nothing(0), Some("")),
     (FREE, 0, 2, Said::Found(0), Some("1\nb0\n1\n\n.\n")),
     (FORBIDDEN, 1, 4, Said::Nothing(1), Some("")),

@@ -42,6 +42,7 @@ pub const ALL: u64 = 4;
 pub const NO: u64 = 5;
 pub const MIXED: u64 = 6;
 
+pub const REACHED: usize = 4;
 pub const ALWAYS: usize = 12;
 
 pub fn kind(kind: u64) -> Places {

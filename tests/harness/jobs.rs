@@ -647,6 +647,9 @@ impl Harness {
         if told.places[0] == interface::NONE {
             expected[interface::ALWAYS] = told.places[interface::ALWAYS];
         }
+        if told.places[0] == interface::SPENT {
+            expected[interface::REACHED] = told.places[interface::REACHED];
+        }
         let mut faults = self.differs(told, &Ok(expected));
         if expected[interface::ALWAYS] == 1 && reference::some_frame_hits(c, b) == Some(true) {
             faults.push("none for every bound, but a frame has a hit".to_string());
@@ -1046,7 +1049,7 @@ fn said(told: &Told) -> Option<Said> {
     match told.places[0] {
         interface::FOUND => Some(Said::Found(told.places[1])),
         interface::NONE => Some(Said::Nothing(told.places[1])),
-        interface::SPENT => Some(Said::Spent(told.places[1])),
+        interface::SPENT => Some(Said::Spent(told.places[1], told.places[interface::REACHED])),
         _ => None,
     }
 }

@@ -591,7 +591,8 @@ fn sequence(n: u64, x: u64) -> Vec<u64> {
 pub enum Said {
     Found(u64),
     Nothing(u64),
-    Spent(u64),
+    /// The frame, and the place that was reached in it.
+    Spent(u64, u64),
 }
 
 /// The circuit to search, or the number of the refusal.
@@ -627,6 +628,34 @@ const MOST_BITS: u64 = 14;
 fn first_hit(evaluator: &mut Evaluator, b: u64, t: u64, count: u64) -> Option<u64> {
     let n = evaluator.circuit.free_bits(t);
     (0..count).find(|&x| evaluator.hits_of(b, t, &sequence(n, x)) & 1 == 1)
+}
+
+/// The greatest place that is told.
+const GREATEST: u64 = 1 << 62;
+
+/// Whether a frame of n free bits may be spent with a budget of d and this place, as far as no hit matters.
+pub fn reached_fits(n: u64, d: u64, reached: u64) -> Result<(), String> {
+    if reached < d.min(GREATEST) || reached > GREATEST || (n < 64 && reached >= 1 << n) {
+        return Err(format!("place {reached} cannot be reached in a frame of {n} free bits with budget {d}"));
+    }
+    Ok(())
+}
+
+/// The number of a sequence, or 2 to the power 63 where it is not below.
+fn number_of(free: &[u64]) -> u64 {
+    free.iter().fold(0u64, |x, &bit| if x >> 62 != 0 { 1 << 63 } else { 2 * x + (bit & 1) })
+}
+
+/// Whether frame t may be spent with this place: none of the sequences before it hits, as far as they can be tried or the states tell.
+fn reached_permitted(evaluator: &mut Evaluator, b: u64, t: u64, d: u64, reached: u64, states: Option<&[Reached]>) -> Result<(), String> {
+    reached_fits(evaluator.circuit.free_bits(t), d, reached)?;
+    if let Some(x) = first_hit(evaluator, b, t, reached.min(d.max(1 << MOST_BITS))) {
+        return Err(format!("sequence {x} of frame {t} is a hit before place {reached}"));
+    }
+    match states.and_then(|states| step(evaluator, b, states)) {
+        Some((Some(free), _)) if number_of(&free) < reached => Err(format!("frame {t} has a hit before place {reached}")),
+        _ => Ok(()),
+    }
 }
 
 /// A state of a frame, and the free bits of the first prefix in counting order that leads to it.
@@ -695,11 +724,11 @@ pub fn search_permits(c: &Circuit, b: u64, k: u64, d: u64, said: Said) -> Result
     for t in 0..=k {
         let n = c.free_bits(t);
         let more_than_budget = n > 32 || 1 << n > d;
-        if said == Said::Spent(t) && more_than_budget {
-            return match first_hit(&mut evaluator, b, t, d) {
-                None => Ok(Judged::Text(Vec::new())),
-                Some(x) => Err(format!("sequence {x} of frame {t} is a hit within the budget")),
-            };
+        if let Said::Spent(at, reached) = said {
+            if at == t && more_than_budget {
+                reached_permitted(&mut evaluator, b, t, d, reached, states.as_deref())?;
+                return Ok(Judged::Text(Vec::new()));
+            }
         }
         let stepped = states.as_deref().and_then(|states| step(&mut evaluator, b, states));
         let hit = match stepped {

@@ -80,10 +80,13 @@ def permitted(job, full, d, said):
     """Whether a search with budget d may say this, where `full` is what it says when the budget covers every sequence."""
     if said == full:
         return True
-    spent = re.fullmatch(r"spent (\d+)\n", said)
+    spent = re.fullmatch(r"spent (\d+)(?: (\d+))?\n", said)
     if not spent or 1 << job.bits(int(spent[1])) <= d:
+        return False
+    reached = int(spent[2] or d)
+    if not d <= reached <= 1 << 62 or reached >= 1 << job.bits(int(spent[1])):
         return False
     hit = re.match(r"found (\d+)\n", full)
     if not hit or int(spent[1]) < int(hit[1]):
         return int(spent[1]) <= job.k
-    return int(spent[1]) == int(hit[1]) and rank(job, full) >= d
+    return int(spent[1]) == int(hit[1]) and rank(job, full) >= reached

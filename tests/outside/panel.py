@@ -5,6 +5,7 @@ of one user's commands reaches the other's analyser. A search is judged over all
 value; a folded circuit is evaluated on all of its inputs. The last line is `N compared, M differ`.
 """
 import pathlib
+import re
 import subprocess
 import sys
 import tempfile
@@ -224,8 +225,10 @@ class Analyser:
             table = Table(self.circuit, self.pins, t)
             hits = table.hits(self.circuit, b)
             first = (hits & -hits).bit_length() - 1
-            if said == f"spent {t}\n":
-                return 1 << table.bits > d and not 0 <= first < d
+            spent = re.fullmatch(rf"spent {t} (\d+)\n", said)
+            if spent:
+                reached = int(spent[1])
+                return d <= reached <= 1 << 62 and reached < 1 << table.bits and not 0 <= first < reached
             if hits:
                 return said == f"found {t}\n" + table.witness(b, first)
         return said == f"none {k}\n"

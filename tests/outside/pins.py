@@ -10,7 +10,7 @@ import tools
 
 ARCHIVE = f"{tools.ROOT}/target/staticlib/libyunverok.a"
 MEMORY, WORK, SHARED, WITNESS = 33032, 1 << 20, 512, 66825
-KIND, FRAME, LENGTH, PLACES = 0, 1, 2, 16
+KIND, FRAME, LENGTH, REACHED, PLACES = 0, 1, 2, 4, 16
 FOUND, NONE = 1, 2
 BUDGET = 1 << 20
 
@@ -58,7 +58,7 @@ class Library:
         if kind == FOUND:
             lines = bytes(self.out[:self.answer[LENGTH]]).split(b"\n")
             return f"found {frame}", [line.decode() for line in lines[3:4 + frame]]
-        return (f"none {frame}" if kind == NONE else f"spent {frame}"), []
+        return (f"none {frame}" if kind == NONE else f"spent {frame} {self.answer[REACHED]}"), []
 
 
 def held(r, c):

@@ -1,3 +1,4 @@
 pub mod Tests
+pub mod Reached
 pub mod Examples
 pub mod Forms

@@ -11,7 +11,7 @@ use lib.ListN.{length, drop}
 use Rattle.aiger.specs.Circuit.{Circuit}
 use Rattle.aiger.specs.Load.{Answer, refused, gives, load}
 use Rattle.aiger.specs.Frames.{size}
-use Rattle.aiger.specs.Search.{Outcome, Report, NeverOf, question, permitted, firstWitness}
+use Rattle.aiger.specs.Search.{Outcome, Report, NeverOf, reachedRight, question, permitted, firstWitness}
 use Rattle.aiger.specs.Witness.{Witness, witnessLength, readWitness, confirms}
 use Rattle.aiger.specs.Write.{countRow, write}
 use Rattle.aiger.specs.Memory.{Holds, image}
@@ -88,8 +88,8 @@ shownLength c b (Outcome.found t) = witnessLength c b t
 shownLength c b (Outcome.none k) = 0
 shownLength c b (Outcome.spent t) = 0
 
--- search: where several outcomes are permitted the program's choice is a function of the circuit, b, k and D alone, so that
--- what working memory held never matters (Clause 3.7). Working memory and output are lent to be written; what working memory holds after
+-- search: where several outcomes, or several reached places (Clause 12.10), are permitted the program's choice is a function of the
+-- circuit, b, k and D alone, so that what working memory held never matters (Clause 3.7). Working memory and output are lent to be written; what working memory holds after
 -- is not promised.
 pub record SearchEffect (chosen : Circuit → ℕ → ℕ → ℕ → Report) (b k D : ℕ) (out : List ℕ)
     (c : Circuit) (o : Report) (left : List ℕ × List ℕ) : Type 0 where
@@ -97,6 +97,7 @@ pub record SearchEffect (chosen : Circuit → ℕ → ℕ → ℕ → Report) (b
   pub allowed : T (permitted c b k D (o .outcome))
   pub measured : o .length ≡ shownLength c b (o .outcome)
   pub never : NeverOf (question c b) k o
+  pub told : T (reachedRight (question c b) D (o .outcome) (o .reached))
   pub shows : left .1 ≡ shown c b (o .outcome) out
 
 abbrev pub Searched : (Circuit → ℕ → ℕ → ℕ → Report) → List ℕ → ℕ → ℕ → ℕ → List ℕ → List ℕ → Answer Report → List ℕ → List ℕ → Type 0

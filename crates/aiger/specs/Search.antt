@@ -3,7 +3,7 @@ use mathlib.Core.Path.{_≡_}
 use mathlib.Core.Bool.{Bool, not, cond, _&&_}
 use mathlib.Core.List.{List, []}
 use mathlib.Core.Option.{Option}
-use Prim.Native.Nat.{ℕ, zero, suc, _+_, _^_, _<_}
+use Prim.Native.Nat.{ℕ, zero, suc, _+_, _^_, _<_, min}
 use lib.Dec.{T, leb, ltb, eqb}
 use Rattle.aiger.specs.Lists.{everyBelow}
 use Rattle.aiger.specs.Circuit.{Circuit}
@@ -41,6 +41,15 @@ decides p places lo D (Decision.hit x) = leb lo x && ltb x places && clearFrom p
 decides p places lo D Decision.clear = clearFrom p lo places
 decides p places lo D Decision.spent = ltb (lo + D) places && clearFrom p lo (lo + D)
 
+-- Clause 12.10: no greater number is told: 2 to the power 62
+unfoldable pub greatest : ℕ
+greatest = 4611686018427387904
+
+-- Clause 12.10: R may be told where the places from lo on are spent: it is lo + D or more, under the greatest number that is told, it is a
+-- place, and no place from lo up to R hits
+unfoldable pub tells : (ℕ → Bool) → ℕ → ℕ → ℕ → ℕ → Bool
+tells p places lo D R = leb (min (lo + D) greatest) R && leb R greatest && ltb R places && clearFrom p lo R
+
 -- ---- frame after frame
 
 -- what is asked: how many places each frame has, and which of them hit
@@ -54,12 +63,13 @@ pub data Outcome : Type 0 where
   none : ℕ → Outcome
   spent : ℕ → Outcome
 
--- what a search reports: the outcome, the length of the witness that found leaves (0 otherwise), and whether it knows that no frame at
--- all, however late, has a hit
+-- what a search reports: the outcome, the length of the witness that found leaves (0 otherwise), whether it knows that no frame at all,
+-- however late, has a hit, and the place that was reached in the frame that is spent (0 otherwise)
 pub record Report : Type 0 where
   pub outcome : Outcome
   pub length : ℕ
   pub never : Bool
+  pub reached : ℕ
 
 -- what may be decided of frame t, from its first place on
 abbrev pub decidesAt : Question → ℕ → ℕ → Decision → Bool
@@ -89,6 +99,13 @@ permittedOf q k D (Outcome.spent t) = leb t k && clearBefore q t && decidesAt q 
 -- where a search knows that no frame at all has a hit, it answers none, and no frame, also past the bound k, has one
 abbrev pub NeverOf : Question → ℕ → Report → Type 0
 NeverOf q k o = T (o .never) → (o .outcome ≡ Outcome.none k) × ((t x : ℕ) → x < q .places t → T (q .hitting t x) → ⊥)
+
+-- Clause 12.10: what a search of all frames may tell with its outcome: where frame t is spent, a place that was reached in it from its
+-- first place on; else 0
+unfoldable pub reachedRight : Question → ℕ → Outcome → ℕ → Bool
+reachedRight q D (Outcome.found t) R = eqb R 0
+reachedRight q D (Outcome.none k) R = eqb R 0
+reachedRight q D (Outcome.spent t) R = tells (q .hitting t) (q .places t) 0 D R
 
 -- ---- the question about bad line b of a circuit
 

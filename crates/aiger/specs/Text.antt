@@ -87,3 +87,7 @@ digitsUpTo (suc k) n = cond (ltb n 10) ((48 + n) ∷ []) (digitsUpTo k (n / 10) 
 -- a number below ten to the power 10, written
 abbrev pub digits : ℕ → List ℕ
 digits n = digitsUpTo 9 n
+
+-- a number below ten to the power 20, written: every number of 64 bits
+abbrev pub longDigits : ℕ → List ℕ
+longDigits n = digitsUpTo 19 n

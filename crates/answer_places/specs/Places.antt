@@ -24,12 +24,16 @@ no = 5
 abbrev pub mixed : ℕ
 mixed = 6
 
--- the places in their order: 0 kind, 1 frame, 2 the length of the text that was written, 3 the words that the circuit needs, 4 kept for
--- later, 5 to 11 the counts M I L O A B C, 12 whether a none holds for every bound, 13 the number that load would answer, 14 and 15 kept
--- for later. Each is 0 where it does not apply
+-- the places in their order: 0 kind, 1 frame, 2 the length of the text that was written, 3 the words that the circuit needs, 4 the place
+-- that a spent search reached, 5 to 11 the counts M I L O A B C, 12 whether a none holds for every bound, 13 the number that load would
+-- answer, 14 and 15 kept for later. Each is 0 where it does not apply
+abbrev pub placesWith : ℕ → ℕ → ℕ → ℕ → ℕ → List ℕ → ℕ → ℕ → List ℕ
+placesWith kind frame length words reached counts always number =
+    kind ∷ frame ∷ length ∷ words ∷ reached ∷ (counts ++ (always ∷ number ∷ 0 ∷ 0 ∷ []))
+
+-- where no search is spent
 abbrev pub places : ℕ → ℕ → ℕ → ℕ → List ℕ → ℕ → ℕ → List ℕ
-places kind frame length words counts always number =
-    kind ∷ frame ∷ length ∷ words ∷ 0 ∷ (counts ++ (always ∷ number ∷ 0 ∷ 0 ∷ []))
+places kind frame length words counts always number = placesWith kind frame length words 0 counts always number
 
 abbrev pub noCounts : List ℕ
 noCounts = 0 ∷ 0 ∷ 0 ∷ 0 ∷ 0 ∷ 0 ∷ 0 ∷ []

@@ -4,7 +4,7 @@ use load::Counts;
 ghost use mathlib.Core.Path.{_≡_};
 ghost use Prim.Native.Nat.{min};
 ghost use Rattle.load.specs.Answers.{numbers};
-ghost use Rattle.answer_places.specs.Places.{places, noCounts, overlaid};
+ghost use Rattle.answer_places.specs.Places.{placesWith, places, noCounts, overlaid};
 
 // The smaller of two lengths.
 fn smaller(a: usize, b: usize) -> usize
@@ -33,6 +33,14 @@ pub fn tell(kind: u64, frame: u64, len: u64, always: u64, answer: &mut [u64])
     ensures { λ _. ⌜ now (answer .exit) ≡ overlaid (places kind frame len 0 noCounts always 0) (now (answer .entry)) ⌝ }
 {
     let row = [kind, frame, len, 0, 0, 0, 0, 0, 0, 0, 0, 0, always, 0, 0, 0];
+    put(&row, answer);
+}
+
+// Tells a kind, a frame and the place that was reached in it.
+pub fn tell_reached(kind: u64, frame: u64, reached: u64, answer: &mut [u64])
+    ensures { λ _. ⌜ now (answer .exit) ≡ overlaid (placesWith kind frame 0 0 reached noCounts 0 0) (now (answer .entry)) ⌝ }
+{
+    let row = [kind, frame, 0, 0, reached, 0, 0, 0, 0, 0, 0, 0, 0, 0, 0, 0];
     put(&row, answer);
 }
 

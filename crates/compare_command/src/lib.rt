@@ -2,10 +2,13 @@
 // at the fronts of line and out.
 use search::SearchAnswer;
 ghost use mathlib.Core.Path.{_≡_};
+ghost use mathlib.Core.List.{_++_};
 ghost use Prim.Native.Nat.{_+_, _≤_};
 ghost use lib.ListN.{length};
+ghost use Rattle.aiger.specs.Text.{bytes, digits};
 ghost use Rattle.aiger.specs.Memory.{Holds};
 ghost use Rattle.layout.specs.Words.{circuitIn};
+ghost use Rattle.output.specs.Row.{placeText};
 ghost use Rattle.search.specs.Chosen.{said};
 ghost use Rattle.replies.specs.Reply.{Fronts};
 ghost use Rattle.compare_command.specs.Texts.{outputLine, saidWords, isRefused, PairSaid};
@@ -35,6 +38,19 @@ fn write_output(line: &mut [u8], j: u32, word: &[u8], n: u32) -> usize
     output::put(line, end, b"\n")
 }
 
+// Writes `output j`, that frame t is spent, and the place that was reached in it.
+fn write_spent(line: &mut [u8], j: u32, t: u32, reached: u64) -> usize
+    requires { ⌜ 128 ≤ length (now line) ⌝ }
+    ensures { λ r. ⌜
+        Fronts (bytes "output " ++ digits j ++ bytes ": spent " ++ placeText t reached) (now (line .entry)) r (now (line .exit))
+        ⌝ }
+{
+    let number = output::put(line, 0, b"output ");
+    let words = output::put_number(line, number, j);
+    let at = output::put(line, words, b": spent ");
+    output::put_place(line, at, t, reached)
+}
+
 // Writes what a search of pair j says.
 fn write_said(line: &mut [u8], j: u32, answer: SearchAnswer) -> usize
     requires { ⌜ 128 ≤ length (now line) ⌝ }
@@ -43,7 +59,7 @@ fn write_said(line: &mut [u8], j: u32, answer: SearchAnswer) -> usize
     match answer {
         SearchAnswer::Found(t, _) => write_output(line, j, b": found ", t),
         SearchAnswer::Nothing(k, _) => write_output(line, j, b": the same up to ", k),
-        SearchAnswer::Spent(t) => write_output(line, j, b": spent ", t),
+        SearchAnswer::Spent(t, reached) => write_spent(line, j, t, reached),
         SearchAnswer::Refused(n) => replies::write_refusal(line, n),
     }
 }
@@ -55,7 +71,7 @@ fn is_refused(answer: SearchAnswer) -> bool
         SearchAnswer::Refused(_) => true,
         SearchAnswer::Found(_, _) => false,
         SearchAnswer::Nothing(_, _) => false,
-        SearchAnswer::Spent(_) => false,
+        SearchAnswer::Spent(_, _) => false,
     }
 }
 

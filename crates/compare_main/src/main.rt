@@ -25,7 +25,7 @@ fn say_help() {
     );
     say(b"    output j: the same up to k  no allowed runs part it in frames 0 to k\n");
     say(
-        b"    output j: spent t           they do not part before frame t; there the budget was spent\n\n",
+        b"    output j: spent t R         they do not part before frame t, nor in its first R sequences; there the budget was spent\n\n",
     );
     help::say_file_refusals();
     help::say_refusals(11, 12);

@@ -204,14 +204,7 @@ fn held(n: usize) -> usize
 
 // What the frame that is aimed at has by all places of the support, where the conflict search has not decided it and there are more free
 // bits than have room.
-fn search_all(
-    m: &[u32],
-    layout: Layout,
-    order: &[u32],
-    aim: Aim,
-    d: u64,
-    work: &mut [u32],
-) -> Frame
+fn search_all(m: &[u32], layout: Layout, order: &[u32], aim: Aim, d: u64, work: &mut [u32]) -> Frame
     requires { ⌜ FrameFits (now work) (now m) layout (now order) (aim .b) (aim .t) d ⌝ }
     requires { ⌜ R.Undecided (aim .alone) (circuitIn (now m)) (aim .b) (aim .t) d ⌝ }
     requires { ⌜ 1024 < freeBits (circuitIn (now m)) (aim .t) ⌝ }

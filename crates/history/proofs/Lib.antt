@@ -4,3 +4,4 @@ pub mod Undisturbed
 pub mod Free
 pub mod Obeying
 pub mod Rows
+pub mod Budgets

@@ -138,7 +138,14 @@ own-moves {s = s} {t = t} a (Step.searches {user = user} {b = b} {k = k} {D = D}
           (λ v l p. operated-moves (λ (l : List ℕ × List ℕ). (t .work, l .1)) (a .memory) (λ c. ap (λ (n : ℕ). searchTests c b k D n (length out)) (a .work))
           (λ c v l f.
           subst (λ (q : ℕ → ℕ). PinnedSearchEffect Search.chosen q b k D out c v (t .work, l .1)) (own-pins user (s .pins) (t .pins) (a .own))
-          (record { chose = f .chose; allowed = f .allowed; measured = f .measured; never = f .never; shows = f .shows })) p)
+          (record {
+            chose = f .chose;
+            allowed = f .allowed;
+            measured = f .measured;
+            never = f .never;
+            told = f .told;
+            shows = f .shows;
+          })) p)
           x) refl;
       same = kept user a e;
     }

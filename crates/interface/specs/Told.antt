@@ -8,7 +8,7 @@ use lib.ListN.{getD}
 use Rattle.aiger.specs.Load.{Answer, refused, gives, needed}
 use Rattle.aiger.specs.Search.{Outcome, Report}
 use Rattle.completions.specs.Either.{Verdict}
-use Rattle.answer_places.specs.Places.{done, found, none, spent, all, no, mixed, places, noCounts, overlaid}
+use Rattle.answer_places.specs.Places.{done, found, none, spent, all, no, mixed, placesWith, places, noCounts, overlaid}
 use Rattle.call_forms.specs.History.{State, Call, Returned, Step}
 
 -- the number of this interface: it grows by 1 with each change of it
@@ -40,10 +40,11 @@ frameOf (Outcome.spent t) = t
 abbrev pub flag : Bool → ℕ
 flag b = cond b 1 0
 
--- a search: its outcome, the length of its witness, and whether no frame at all has a hit
+-- a search: its outcome, the length of its witness, the place that was reached (Clause 12.10), and whether no frame at all has a hit
 abbrev pub searchTold : Answer Report → Answer (List ℕ)
 searchTold (refused n) = refused n
-searchTold (gives r) = gives (places (kindOf (r .outcome)) (frameOf (r .outcome)) (r .length) 0 noCounts (flag (r .never)) 0)
+searchTold (gives r) =
+    gives (placesWith (kindOf (r .outcome)) (frameOf (r .outcome)) (r .length) 0 (r .reached) noCounts (flag (r .never)) 0)
 
 -- a text that was written: its length
 abbrev pub textTold : Answer ℕ → Answer (List ℕ)

@@ -129,7 +129,8 @@ fn number(b: bool) -> u64
     0
 }
 
-// Tells what a search answered. Clause 3.9: with none, whether no frame at all has a hit.
+// Tells what a search answered. Clause 3.9: with none, whether no frame at all has a hit. Clause 12.10: with spent, the place that was
+// reached.
 fn tell_searched(said: SearchAnswer, answer: &mut [u64]) -> u64
     ensures { λ r. ⌜ Tells (searchTold (Search.said said)) (now (answer .entry)) r (now (answer .exit)) ⌝ }
 {
@@ -143,8 +144,8 @@ fn tell_searched(said: SearchAnswer, answer: &mut [u64]) -> u64
             answer_places::tell(NONE, k as u64, 0, number(never), answer);
             0
         }
-        SearchAnswer::Spent(t) => {
-            answer_places::tell(SPENT, t as u64, 0, 0, answer);
+        SearchAnswer::Spent(t, reached) => {
+            answer_places::tell_reached(SPENT, t as u64, reached, answer);
             0
         }
     }

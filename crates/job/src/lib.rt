@@ -78,7 +78,7 @@ fn write_answer(line: &mut [u8], answer: SearchAnswer) -> usize
     match answer {
         SearchAnswer::Found(t, _) => replies::write_line(line, b"found ", t),
         SearchAnswer::Nothing(k, _) => replies::write_line(line, b"none ", k),
-        SearchAnswer::Spent(t) => replies::write_line(line, b"spent ", t),
+        SearchAnswer::Spent(t, _) => replies::write_line(line, b"spent ", t),
         SearchAnswer::Refused(n) => replies::write_line(line, b"refused ", n),
     }
 }
@@ -102,7 +102,7 @@ pub fn shown_length(answer: SearchAnswer) -> usize
     match answer {
         SearchAnswer::Found(_, length) => length as usize,
         SearchAnswer::Nothing(_, _) => 0,
-        SearchAnswer::Spent(_) => 0,
+        SearchAnswer::Spent(_, _) => 0,
         SearchAnswer::Refused(_) => 0,
     }
 }

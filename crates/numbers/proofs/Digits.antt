@@ -1,5 +1,5 @@
 -- The digits that a number is written with: how many they are, and one after another. Assumes nothing.
-use mathlib.Core.Path.{_≡_, refl, sym, ap}
+use mathlib.Core.Path.{_≡_, refl, sym, ap, _∙_}
 use mathlib.Core.List.{List, [], _∷_, _++_}
 use Prim.Native.Nat.{ℕ, zero, suc, _+_, _-_, _/_, _%_, _^_, _≤_, _<_}
 use native.Mathlib.Nat.{pow-suc}
@@ -9,7 +9,7 @@ use native.Mathlib.Decide.{decLt}
 use borrow.Author.Tests.{lt-ltb, le-ltb}
 use lib.ListN.{length, drop, set, length-append, length-set}
 use lib.Seq.{drop-cons, getD-set-same, drop-set-lt, append-snoc}
-use Rattle.aiger.specs.Text.{digitsUpTo, digits}
+use Rattle.aiger.specs.Text.{digitsUpTo, digits, longDigits}
 use Rattle.numbers.specs.Last.{lastDigits}
 
 -- how many there are
@@ -59,18 +59,30 @@ roomier (suc k) n h =
           simp (le-ltb n 10 (omega arith)) (ap (λ (w : List ℕ). w ++ ((48 + n % 10) ∷ [])) (roomier k (n / 10) less))
     ]
 
+-- one digit, and one digit more, where there is room for k + 2
+pub up-to-one : (k n : ℕ) → n < 10 → digitsUpTo k n ≡ (48 + n) ∷ []
+unfolding digitsUpTo
+up-to-one zero n h = refl
+up-to-one (suc k) n h = simp (lt-ltb n 10 h)
+
 pub digits-one : (n : ℕ) → n < 10 → digits n ≡ (48 + n) ∷ []
-unfolding digitsUpTo
-digits-one n h = simp (lt-ltb n 10 h)
+digits-one n h = up-to-one 9 n h
 
-pub digits-more : (n : ℕ) → 9 < n → n < 10 ^ 10 → digits n ≡ digits (n / 10) ++ ((48 + n % 10) ∷ [])
+up-to-more : (k n : ℕ) → 9 < n → n < 10 ^ suc (suc k) → digitsUpTo (suc k) n ≡ digitsUpTo (suc k) (n / 10) ++ ((48 + n % 10) ∷ [])
 unfolding digitsUpTo
-digits-more n h b =
+up-to-more k n h b =
     simp (le-ltb n 10 (omega arith))
-    (ap (λ (w : List ℕ). w ++ ((48 + n % 10) ∷ [])) (sym (roomier 8 (n / 10) (omega arith))))
+    (ap (λ (w : List ℕ). w ++ ((48 + n % 10) ∷ [])) (sym (roomier k (n / 10) (omega (arith, pow-suc 10 (suc k))))))
 
-pub digits-more-length : (n : ℕ) → 9 < n → n < 10 ^ 10 → length (digits n) ≡ length (digits (n / 10)) + 1
-digits-more-length n h b = rw (digits-more n h b) (length-append (digits (n / 10)) _)
+pub long-more-length : (n : ℕ) → 9 < n → n < 10 ^ 20 → length (longDigits n) ≡ length (longDigits (n / 10)) + 1
+long-more-length n h b = rw (up-to-more 18 n h b) (length-append (longDigits (n / 10)) _)
+
+-- a number that is not long is written alike
+pub long-same : (n : ℕ) → n < 10 ^ 10 → longDigits n ≡ digits n
+long-same n h =
+    roomier 18 n (omega arith) ∙ roomier 17 n (omega arith) ∙ roomier 16 n (omega arith) ∙ roomier 15 n (omega arith)
+    ∙ roomier 14 n (omega arith) ∙ roomier 13 n (omega arith) ∙ roomier 12 n (omega arith) ∙ roomier 11 n (omega arith)
+    ∙ roomier 10 n (omega arith) ∙ roomier 9 n h
 
 -- the digits are the last of the number
 one-last : (n : ℕ) → n < 10 → lastDigits 1 n ≡ (48 + n) ∷ []
@@ -92,8 +104,8 @@ last-up (suc k) n h =
           simp (le-ltb n 10 (omega arith)) (snoc-last n (digitsUpTo k (n / 10)) (last-up k (n / 10) less))
     ]
 
-pub digits-last : (n : ℕ) → n < 10 ^ 10 → lastDigits (length (digits n)) n ≡ digits n
-digits-last n h = last-up 9 n h
+pub digits-last : (n : ℕ) → n < 10 ^ 20 → lastDigits (length (longDigits n)) n ≡ longDigits n
+digits-last n h = last-up 19 n h
 
 -- one more digit, before those that stand from k on
 pub fill-before : (out : List ℕ) (k n : ℕ) → 0 < k → k ≤ length out → lastDigits (k - 1) (n / 10) ++ drop (k - 1) (set out (k - 1) (48 + n % 10)) ≡ lastDigits k n ++ drop k out

@@ -3,7 +3,7 @@
 // Clause 11.4: a match with ranges tells bytes apart.
 ghost use mathlib.Core.Path.{_≡_};
 ghost use lib.ListN.{length};
-ghost use Rattle.aiger.specs.Text.{isNumber, digits};
+ghost use Rattle.aiger.specs.Text.{isNumber, digits, longDigits};
 ghost use Rattle.numbers.specs.Number.{NumberAt, Digits, part};
 ghost use Rattle.numbers.specs.Last.{lastDigits};
 
@@ -75,8 +75,8 @@ pub fn read_number(s: &[u8], at: usize) -> Number
 }
 
 // How many digits n is written with.
-pub fn digit_count(n: u32) -> usize
-    ensures { λ r. ⌜ r ≡ length (digits n) ⌝ }
+pub fn long_digit_count(n: u64) -> usize
+    ensures { λ r. ⌜ r ≡ length (longDigits n) ⌝ }
 {
     let mut count: usize = 1;
     let mut rest = n;
@@ -87,8 +87,15 @@ pub fn digit_count(n: u32) -> usize
     count
 }
 
+// How many digits n is written with.
+pub fn digit_count(n: u32) -> usize
+    ensures { λ r. ⌜ r ≡ length (digits n) ⌝ }
+{
+    long_digit_count(n as u64)
+}
+
 // Fills out with the last digits of n, zeros before a shorter n.
-pub fn fill(out: &mut [u8], n: u32)
+pub fn fill(out: &mut [u8], n: u64)
     ensures { λ _. ⌜ now (out .exit) ≡ lastDigits (length (now (out .entry))) n ⌝ }
 {
     let mut k = out.len();

@@ -9,7 +9,7 @@ use lib.ListN.{length, take, drop, set, take-append-drop, length-append, length-
 use lib.Seq.{length-take-le, drop-drop, take-all, take-at, drop-append-add, set-split}
 use borrow.Rule.Slice.PartMut.{putMid}
 use Rattle.aiger.specs.Operations.{front}
-use Rattle.aiger.specs.Text.{digits}
+use Rattle.aiger.specs.Text.{longDigits}
 use Rattle.numbers.specs.Last.{lastDigits}
 use Rattle.numbers.proofs.Digits.{digits-last}
 use Rattle.output.specs.Output.{putText, Room, Placed}
@@ -74,13 +74,13 @@ copied out text part at e =
     part-put out part text at n refl (rw k at e ∙ rw (z, take-all n text (omega arith)) (append-nil text))
 
 -- it is filled with the last digits of n, as many as n has
-pub filled : (out part : List ℕ) (at n count : ℕ) → n < 10 ^ 10 → count ≡ length (digits n) → at + count ≤ length out
+pub filled : (out part : List ℕ) (at n count : ℕ) → n < 10 ^ 20 → count ≡ length (longDigits n) → at + count ≤ length out
     → part ≡ lastDigits (length (take (at + count - at) (drop at out))) n
-    → putMid at (at + count - at) out part ≡ putText out at (digits n)
+    → putMid at (at + count - at) out part ≡ putText out at (longDigits n)
 filled out part at n count small c room e =
     let k : at + count - at ≡ count = omega arith in
     let m : length (take count (drop at out)) ≡ count = length-take-le count (drop at out) (omega (arith, length-drop at out)) in
-    part-put out part (digits n) at count c (e ∙ rw (k, m, c) (digits-last n small))
+    part-put out part (longDigits n) at count c (e ∙ rw (k, m, c) (digits-last n small))
 
 -- ---- one text after the other
 

@@ -6,10 +6,10 @@ use native.Mathlib.Numerals.{add-one}
 use native.Mathlib.Omega.{arith}
 use lib.Dec.{eqb·suc-zero}
 use lib.ListN.{length, getD, length-append}
-use Rattle.aiger.specs.Text.{digits}
+use Rattle.aiger.specs.Text.{digits, longDigits}
 use Rattle.aiger.specs.Write.{lineOf}
 use Rattle.numbers.proofs.Digits.{digits-most}
-use Rattle.output.specs.Row.{ending, numberText, rowText}
+use Rattle.output.specs.Row.{ending, numberText, placeText, rowText}
 
 -- n words from position p on
 abbrev pub wordsFrom : List ℕ → ℕ → ℕ → List ℕ
@@ -57,3 +57,15 @@ module _ (m : List ℕ) where
   unfolding rowText lineOf
   row-line p zero = append-nil (digits (getD m p 0) ++ 10 ∷ [])
   row-line p (suc n) = simp (eqb·suc-zero n) (ap (λ (w : List ℕ). digits (getD m p 0) ++ 32 ∷ [] ++ w) (row-line (suc p) n))
+
+-- a frame and a place have at most 32 bytes
+pub place-short : (t R : ℕ) → length (placeText t R) ≤ 32
+place-short t R =
+    omega (
+      arith,
+      length-append (numberText t 1) (longDigits R ++ 10 ∷ []),
+      length-append (digits t) (ending 1 ∷ []),
+      length-append (longDigits R) (10 ∷ []),
+      digits-most 9 t,
+      digits-most 19 R,
+    )

@@ -215,6 +215,7 @@ module _ (c : Circuit) (q : ℕ → ℕ) where
           allowed = f .allowed;
           measured = f .measured;
           never = f .never;
+          told = f .told;
           shows = sym (shown-text b (o .outcome) out₀);
         };
       }

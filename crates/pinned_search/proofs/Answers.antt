@@ -12,7 +12,7 @@ use Rattle.aiger.specs.Text.{digits}
 use Rattle.aiger.specs.Circuit.{Circuit}
 use Rattle.aiger.specs.Load.{Answer, refused, gives}
 use Rattle.aiger.specs.Memory.{Holds}
-use Rattle.aiger.specs.Search.{Question, Outcome, Report, NeverOf, question, permitted, firstWitness}
+use Rattle.aiger.specs.Search.{Question, Outcome, Report, NeverOf, reachedRight, question, permitted, firstWitness}
 use Rattle.aiger.specs.Witness.{witnessLength}
 use Rattle.aiger.specs.Operations.{front, need, judge, budgetRight, Operated, searchTests, Searched, SearchEffect, shown}
 use Rattle.aiger.proofs.Tests.{T-true}
@@ -89,6 +89,7 @@ module _ {m : List ℕ} {p : Layout} {user b k D room len : ℕ} (f : PinnedFits
         says = r .1 ∙ ap gives (x .chose);
         allowed = subst (λ (o : Report). T (permitted (pinned c q) b k D (o .outcome))) (x .chose) (x .allowed);
         never = subst (NeverOf (question (pinned c q) b) k) (x .chose) (x .never);
+        told = subst (λ (o : Report). T (reachedRight (question (pinned c q) b) D (o .outcome) (o .reached))) (x .chose) (x .told);
         shows = x .shows ∙ ap (λ (o : Report). shown (pinned c q) b (o .outcome) text) (x .chose);
       }
 
@@ -153,6 +154,7 @@ module _ {m : List ℕ} {p : Layout} {user b k D room len : ℕ} (f : PinnedFits
           says = ap (λ (r : Report). gives (pinnedReport c b r)) (report-is x refl);
           allowed = x .allowed;
           never = x .never;
+          told = x .told;
           shows =
               ap (front W) w ∙ over W first before size
               ∙ ap (λ (z : List ℕ). front z before)
@@ -200,6 +202,7 @@ module _ {m : List ℕ} {p : Layout} {user b k D room len : ℕ} (f : PinnedFits
           says = ap gives (e ∙ ap (pinnedReport c b) (report-is x refl));
           allowed = x .allowed;
           never = x .never;
+          told = x .told;
           shows =
               x .shows ∙ ap (λ (o : Outcome). shown (pinned c q) b o before) (sym (outcome-is x)) ∙ s before
               ∙ ap (λ (o : Outcome). pinnedShown c q b o before) (outcome-is x);
@@ -209,9 +212,9 @@ module _ {m : List ℕ} {p : Layout} {user b k D room len : ℕ} (f : PinnedFits
         → OutputIs c q b k D before (gives (noneReport n flag)) after
     none-is {n = n} {flag = flag} x = other-is (noneReport n flag) refl (λ out. refl) x
 
-    pub spent-is : {before after : List ℕ} {t : ℕ} → TextIs c q b k D before (gives (spentReport t)) after
-        → OutputIs c q b k D before (gives (spentReport t)) after
-    spent-is {t = t} x = other-is (spentReport t) refl (λ out. refl) x
+    pub spent-is : {before after : List ℕ} {t R : ℕ} → TextIs c q b k D before (gives (spentReport t R)) after
+        → OutputIs c q b k D before (gives (spentReport t R)) after
+    spent-is {t = t} {R = R} x = other-is (spentReport t R) refl (λ out. refl) x
 
     pub never-refused : {before after : List ℕ} {n : ℕ} → TextIs c q b k D before (refused n) after → ⊥
     never-refused x = let e = x .says in let z : _≡_ {A = ℕ} 0 1 = cc in omega arith
@@ -232,6 +235,8 @@ module _ {m : List ℕ} (q : ℕ → ℕ) (h : Holds m (circuitIn m)) {b k D : �
         measured = refl;
         never = subst (λ (z : Question). NeverOf z k (pinnedReport c b (chosen (pinned c q) b k D)))
             (pinned-question c q (T-true (v .literals)) (T-true (v .uses)) (T-true (v .order)) b bad) (x .never);
+        told = subst (λ (z : Question). T (reachedRight z D (chosen (pinned c q) b k D .outcome) (chosen (pinned c q) b k D .reached)))
+            (pinned-question c q (T-true (v .literals)) (T-true (v .uses)) (T-true (v .order)) b bad) (x .told);
         shows = x .shows;
       }))
     where

@@ -6,7 +6,7 @@ use lib.Dec.{T}
 use Rattle.aiger.specs.Circuit.{Circuit}
 use Rattle.aiger.specs.Load.{Answer, gives}
 use Rattle.aiger.specs.Memory.{Holds}
-use Rattle.aiger.specs.Search.{Report, NeverOf, question, permitted}
+use Rattle.aiger.specs.Search.{Report, NeverOf, reachedRight, question, permitted}
 use Rattle.aiger.specs.Operations.{judge, searchTests, shown}
 use Rattle.layout.specs.Words.{circuitIn}
 use Rattle.layout.specs.Layout.{LayoutOf}
@@ -27,6 +27,7 @@ pub record TextIs (c : Circuit) (q : ℕ → ℕ) (b k D : ℕ) (before : List �
   pub says : a ≡ gives (chosen (pinned c q) b k D)
   pub allowed : T (permitted (pinned c q) b k D (chosen (pinned c q) b k D .outcome))
   pub never : NeverOf (question (pinned c q) b) k (chosen (pinned c q) b k D)
+  pub told : T (reachedRight (question (pinned c q) b) D (chosen (pinned c q) b k D .outcome) (chosen (pinned c q) b k D .reached))
   pub shows : after ≡ shown (pinned c q) b (chosen (pinned c q) b k D .outcome) before
 
 -- what a pinned search answers and leaves
@@ -34,4 +35,5 @@ pub record OutputIs (c : Circuit) (q : ℕ → ℕ) (b k D : ℕ) (before : List
   pub says : a ≡ gives (pinnedReport c b (chosen (pinned c q) b k D))
   pub allowed : T (permitted (pinned c q) b k D (chosen (pinned c q) b k D .outcome))
   pub never : NeverOf (question (pinned c q) b) k (chosen (pinned c q) b k D)
+  pub told : T (reachedRight (question (pinned c q) b) D (chosen (pinned c q) b k D .outcome) (chosen (pinned c q) b k D .reached))
   pub shows : after ≡ pinnedShown c q b (chosen (pinned c q) b k D .outcome) before

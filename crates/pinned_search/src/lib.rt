@@ -70,7 +70,7 @@ fn search_known(
             SearchAnswer::Found(t, length as u32)
         }
         SearchAnswer::Nothing(n, never) => SearchAnswer::Nothing(n, never),
-        SearchAnswer::Spent(t) => SearchAnswer::Spent(t),
+        SearchAnswer::Spent(t, reached) => SearchAnswer::Spent(t, reached),
         SearchAnswer::Refused(n) => SearchAnswer::Refused(n),
     }
 }

@@ -13,7 +13,7 @@ use Rattle.aiger.specs.Circuit.{Circuit}
 use Rattle.aiger.specs.Load.{Answer}
 use Rattle.aiger.specs.Memory.{Holds}
 use Rattle.aiger.specs.Frames.{Space, bitsIn, freeBits, run}
-use Rattle.aiger.specs.Search.{Outcome, Report, NeverOf, Question, question, reaches, reachesIn, permittedOf}
+use Rattle.aiger.specs.Search.{Outcome, Report, NeverOf, Question, question, reaches, reachesIn, permittedOf, reachedRight}
 use Rattle.aiger.specs.Operations.{Test, Operated, SearchEffect, Searched, FoldEffect, Folded, shown, front}
 use Rattle.aiger.proofs.Tests.{T-true, false-of, below-at}
 use Rattle.meaning.proofs.Lists.{length-map-upto}
@@ -108,6 +108,7 @@ module _ (q : ℕ → ℕ) {m : List ℕ} (free : (c : Circuit) → Holds m c �
           allowed = subst (λ (z : Question). T (permittedOf z k D (o .outcome))) (question-free q c (free c h) b) (e .allowed);
           measured = e .measured;
           never = subst (λ (z : Question). NeverOf z k o) (question-free q c (free c h) b) (e .never);
+          told = subst (λ (z : Question). T (reachedRight z D (o .outcome) (o .reached))) (question-free q c (free c h) b) (e .told);
           shows = e .shows ∙ shown-free q c (free c h) b (o .outcome) out;
         })
 
@@ -118,6 +119,7 @@ module _ (q : ℕ → ℕ) {m : List ℕ} (free : (c : Circuit) → Holds m c �
           allowed = subst (λ (z : Question). T (permittedOf z k D (o .outcome))) (sym (question-free q c (free c h) b)) (e .allowed);
           measured = e .measured;
           never = subst (λ (z : Question). NeverOf z k o) (sym (question-free q c (free c h) b)) (e .never);
+          told = subst (λ (z : Question). T (reachedRight z D (o .outcome) (o .reached))) (sym (question-free q c (free c h) b)) (e .told);
           shows = e .shows ∙ sym (shown-free q c (free c h) b (o .outcome) out);
         })
 

@@ -6,7 +6,7 @@ use lib.Dec.{T}
 use lib.ListN.{length}
 use Rattle.aiger.specs.Circuit.{Circuit}
 use Rattle.aiger.specs.Load.{Answer}
-use Rattle.aiger.specs.Search.{Outcome, Report, NeverOf, permittedOf}
+use Rattle.aiger.specs.Search.{Outcome, Report, NeverOf, permittedOf, reachedRight}
 use Rattle.aiger.specs.Operations.{Operated, FoldEffect, front, searchTests, shownLength, foldTests}
 use Rattle.pins.specs.Pins.{pinned, pinnedQuestion, pinnedWitness}
 
@@ -18,16 +18,18 @@ pinnedShown c q b (Outcome.spent t) out = out
 
 -- what is reported of a circuit, from what is chosen of the pinned circuit: the witness has the bits of all inputs
 abbrev pub pinnedReport : Circuit → ℕ → Report → Report
-pinnedReport c b r = record { outcome = r .outcome; length = shownLength c b (r .outcome); never = r .never }
+pinnedReport c b r =
+    record { outcome = r .outcome; length = shownLength c b (r .outcome); never = r .never; reached = r .reached }
 
 -- search under the pins q: the outcome is permitted of the sequences that obey them, and is a function of circuit, pins, b, k and D; no
--- frame at all has a hit, where this is told, by a sequence that obeys them
+-- frame at all has a hit, where this is told, by a sequence that obeys them; and the place that was reached is one of theirs
 pub record PinnedSearchEffect (chosen : Circuit → ℕ → ℕ → ℕ → Report) (q : ℕ → ℕ) (b k D : ℕ) (out : List ℕ)
     (c : Circuit) (o : Report) (left : List ℕ × List ℕ) : Type 0 where
   pub chose : o ≡ pinnedReport c b (chosen (pinned c q) b k D)
   pub allowed : T (permittedOf (pinnedQuestion c q b) k D (o .outcome))
   pub measured : o .length ≡ shownLength c b (o .outcome)
   pub never : NeverOf (pinnedQuestion c q b) k o
+  pub told : T (reachedRight (pinnedQuestion c q b) D (o .outcome) (o .reached))
   pub shows : left .1 ≡ pinnedShown c q b (o .outcome) out
 
 -- the tests are those of the circuit itself, so that size and output needed do not depend on pins

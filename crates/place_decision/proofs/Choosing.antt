@@ -11,7 +11,7 @@ use borrow.Author.Tests.{le-leb, lt-leb, leb-true}
 use lib.Dec.{T, leb, leb→le, le→leb}
 use Rattle.aiger.specs.Circuit.{Circuit}
 use Rattle.aiger.specs.Frames.{freeBits, size}
-use Rattle.aiger.specs.Search.{Decision, onward, reaches}
+use Rattle.aiger.specs.Search.{Decision, onward, reaches, greatest}
 use Rattle.aiger.proofs.Tests.{and, and-left, and-right}
 use Rattle.meaning.proofs.Decisions.{Least, least-below, NoneFrom, FirstHit, Exceeded}
 use Rattle.enumeration.specs.Choice.{leastBelow, decided, decision}
@@ -21,7 +21,7 @@ use Rattle.enumeration.specs.declared.Frame.the-variants as N
 use Rattle.enumeration.proofs.Laws.{hit-first, clear-none, spent-first}
 use Rattle.conflicts.specs.declared.Verdict.{Verdict}
 use Rattle.conflicts.specs.declared.Verdict.the-variants.{Found, Clear, Out}
-use Rattle.place_search.specs.Places.{greatest, Placed, answers}
+use Rattle.place_search.specs.Places.{Placed, answers}
 use Rattle.place_search.proofs.Answers.{answers-in}
 use Rattle.place_enumeration.specs.From.{FrameFrom}
 use Rattle.decision.specs.Reach.{firstPlaces, decidedOr}

@@ -9,14 +9,14 @@ use lib.ListN.{length, getD}
 use Rattle.aiger.specs.Bits.{nonzero}
 use Rattle.aiger.specs.Circuit.{Circuit}
 use Rattle.aiger.specs.Frames.{freeBits}
-use Rattle.aiger.specs.Search.{reaches}
+use Rattle.aiger.specs.Search.{reaches, greatest, tells}
 use Rattle.layout.specs.Words.{circuitIn}
 use Rattle.layout.specs.declared.Layout.{Layout}
 use Rattle.enumeration.specs.Frame.{FreeBits}
 use Rattle.enumeration.specs.declared.Frame.{Frame}
 use Rattle.enumeration.specs.declared.Frame.the-variants as N
 use Rattle.place_enumeration.specs.From.{FrameFrom}
-use Rattle.place_search.specs.Places.{greatest, Placed, tells, answers}
+use Rattle.place_search.specs.Places.{Placed, answers}
 use Rattle.decision.specs.Decided.{FrameFits}
 use Rattle.place_decision.specs.Reach.{placeChosen, reachedTold}
 use Rattle.place_decision.specs.declared.PlaceFrame.{PlaceFrame}

@@ -6,11 +6,11 @@ use Prim.Native.Nat.{ℕ, _+_, _*_, _^_, min, max}
 use lib.Dec.{leb}
 use Rattle.aiger.specs.Circuit.{Circuit}
 use Rattle.aiger.specs.Frames.{freeBits, size}
-use Rattle.aiger.specs.Search.{Decision, reaches}
+use Rattle.aiger.specs.Search.{Decision, reaches, greatest}
 use Rattle.enumeration.specs.Choice.{decision}
 use Rattle.unroll.specs.Chosen.{unrolled}
 use Rattle.conflicts.specs.declared.Verdict.{Verdict}
-use Rattle.place_search.specs.Places.{greatest, Placed}
+use Rattle.place_search.specs.Places.{Placed}
 use Rattle.place_solver.specs.From.{solvedFrom, floorFrom}
 use Rattle.decision.specs.Reach.{firstPlaces, effort, decidedOr, reached}
 

@@ -5,12 +5,13 @@ use mathlib.Core.Option.{Option}
 use Prim.Native.Nat.{ℕ, _+_, _≤_, _<_, min}
 use native.Mathlib.Decide.{decLt}
 use native.Mathlib.Omega.{arith}
-use lib.Dec.{T, leb, ltb, eqb, leb→le, le→leb, ltb→lt, lt→ltb}
-use Rattle.aiger.specs.Search.{Question, Decision, Outcome, clearFrom, decides, firstAt, permittedOf}
+use lib.Dec.{T}
+use Rattle.aiger.specs.Search.{Question, Decision, Outcome, decides, permittedOf, greatest, tells, reachedRight}
 use Rattle.aiger.proofs.Tests.{and, and-left, and-right}
+use Rattle.aiger.proofs.Reached.{tells-parts, tells-all, found-reached, none-reached, spent-reached}
 use Rattle.meaning.proofs.Decisions.{NoneFrom, FirstHit, Exceeded, clear-out, clear-in, decides-out, decides-in, first-same, hit-not-clear}
-use Rattle.meaning.proofs.Outcomes.{Quiet, found-in, none-in, spent-in}
-use Rattle.place_search.specs.Places.{greatest, Placed, decisionOf, tells, tellsOf, answers, Unspent, reachedRight, frameAlone, outcomeOf, reachedOf}
+use Rattle.meaning.proofs.Outcomes.{Decided, Quiet, found-in, none-in, spent-in}
+use Rattle.place_search.specs.Places.{Placed, decisionOf, tellsOf, answers, Unspent, frameAlone, outcomeOf, reachedOf}
 
 module _ (p : ℕ → Bool) (places : ℕ) where
   -- what is told of R, in plain terms
@@ -21,30 +22,12 @@ module _ (p : ℕ → Bool) (places : ℕ) where
     pub none : NoneFrom p lo R
 
   pub tells-out : (lo D R : ℕ) → T (tells p places lo D R) → Reached lo D R
-  unfolding tells
   tells-out lo D R h =
-      let p1 = leb (min (lo + D) greatest) R in
-      let p2 = leb R greatest in
-      let p3 = ltb R places in
-      let p4 = clearFrom p lo R in
-      let h3 = and-left (p1 && p2 && p3) p4 h in
-      let h2 = and-left (p1 && p2) p3 h3 in
-      record {
-        far = leb→le (min (lo + D) greatest) R (and-left p1 p2 h2);
-        told = leb→le R greatest (and-right p1 p2 h2);
-        fits = ltb→lt R places (and-right (p1 && p2) p3 h3);
-        none = clear-out p lo R (and-right (p1 && p2 && p3) p4 h);
-      }
+      let (far, told, fits, clear) = tells-parts p places lo D R h in
+      record { far = far; told = told; fits = fits; none = clear-out p lo R clear }
 
   pub tells-in : (lo D R : ℕ) → Reached lo D R → T (tells p places lo D R)
-  unfolding tells
-  tells-in lo D R r =
-      let p1 = leb (min (lo + D) greatest) R in
-      let p2 = leb R greatest in
-      let p3 = ltb R places in
-      and (p1 && p2 && p3) (clearFrom p lo R)
-      (and (p1 && p2) p3 (and p1 p2 (le→leb (min (lo + D) greatest) R (r .far)) (le→leb R greatest (r .told))) (lt→ltb R places (r .fits)))
-      (clear-in p lo R (r .none))
+  tells-in lo D R r = tells-all p places lo D R (r .far) (r .told) (r .fits) (clear-in p lo R (r .none))
 
   -- what an answer says: the first hit at or after lo; none from there on; or D places and those up to R without a hit, and places beyond
   abbrev pub Said : ℕ → ℕ → Placed → Type 0
@@ -108,6 +91,17 @@ module _ (p : ℕ → Bool) (places : ℕ) where
       record { from = omega (arith, h .from); fits = h .fits; first = none-then lo R f x (h .first); hit = h .hit }
   true-back lo R le f Placed.clear h = none-then lo R f places h
   true-back lo R le f (Placed.spent Q) h = absurd h
+
+-- ---- what a search of all frames tells
+
+-- Clause 12.10: with spent t a place that was reached in frame t from its first place on; with an answer that is not spent, 0
+pub reached-out : (q : Question) (D R t : ℕ) → T (reachedRight q D (Outcome.spent t) R) → Reached (q .hitting t) (q .places t) 0 D R
+reached-out q D R t h = tells-out (q .hitting t) (q .places t) 0 D R (spent-reached q D R t h)
+
+pub decided-reached : (q : Question) (D R : ℕ) (o : Outcome) → Decided o → T (reachedRight q D o R) → R ≡ 0
+decided-reached q D R (Outcome.found t) d h = found-reached q D R t h
+decided-reached q D R (Outcome.none k) d h = none-reached q D R k h
+decided-reached q D R (Outcome.spent t) d h = absurd d
 
 -- ---- place 0
 

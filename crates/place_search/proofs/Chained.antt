@@ -7,12 +7,12 @@ use Prim.Native.Nat.{ℕ, _+_, _≤_, _<_, min}
 use native.Mathlib.Decide.{decLe, decLt}
 use native.Mathlib.Omega.{arith}
 use lib.Dec.{T}
-use Rattle.aiger.specs.Search.{Question, Outcome, firstAt, permittedOf}
+use Rattle.aiger.specs.Search.{Question, Outcome, firstAt, permittedOf, greatest, reachedRight}
 use Rattle.meaning.proofs.Decisions.{NoneFrom, FirstHit, first-from}
 use Rattle.meaning.proofs.Outcomes.{Decided, Quiet, answer-same, found-in, found-out, none-in, none-out, spent-out, found-same, none-found}
-use Rattle.place_search.specs.Places.{greatest, Placed, answers, Unspent, reachedRight}
+use Rattle.place_search.specs.Places.{Placed, answers, Unspent}
 use Rattle.place_search.specs.Chains.{Chain, lower, Covers, Ranges}
-use Rattle.place_search.proofs.Answers.{Reached, True, unspent-true, true-same, true-back, answers-out, tells-out}
+use Rattle.place_search.proofs.Answers.{Reached, True, unspent-true, true-same, true-back, answers-out, reached-out}
 
 module _ (p : ℕ → Bool) (places : ℕ) where
   -- the end of a chain is so from its first place on
@@ -66,8 +66,7 @@ module _ (p : ℕ → Bool) (places : ℕ) where
 
 module _ (q : Question) (k D t R : ℕ) (h : T (permittedOf q k D (Outcome.spent t))) (r : T (reachedRight q D (Outcome.spent t) R)) where
   reached : Reached (q .hitting t) (q .places t) 0 D R
-  unfolding reachedRight
-  reached = tells-out (q .hitting t) (q .places t) 0 D R r
+  reached = reached-out q D R t r
 
   -- what the chain ends with is so of all of frame t
   pub plain-true : (a : Placed) → Chain (q .hitting t) (q .places t) R a → True (q .hitting t) (q .places t) 0 a

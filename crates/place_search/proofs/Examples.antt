@@ -3,8 +3,8 @@ use mathlib.Core.Path.{_≡_, refl}
 use mathlib.Core.Bool.{Bool, true, false, _||_}
 use Prim.Native.Nat.{ℕ}
 use lib.Dec.{eqb}
-use Rattle.aiger.specs.Search.{decides}
-use Rattle.place_search.specs.Places.{greatest, Placed, tells, answers}
+use Rattle.aiger.specs.Search.{decides, greatest, tells}
+use Rattle.place_search.specs.Places.{Placed, answers}
 use Rattle.place_search.specs.Operation.{placeRight}
 
 -- three free bits, of which the middle one does not lead to the hit: places 0 and 2 hit

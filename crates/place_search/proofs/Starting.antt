@@ -5,7 +5,7 @@ use Prim.Native.Nat.{ℕ, _+_, _*_, _%_, _^_, _≤_, _<_}
 use native.Mathlib.Omega.{arith}
 use lib.Dec.{T, leb, ltb, leb→le, le→leb, ltb→lt, lt→ltb}
 use lib.Pow.{pow-mono}
-use Rattle.place_search.specs.Places.{greatest}
+use Rattle.aiger.specs.Search.{greatest}
 use Rattle.place_search.specs.Operation.{placeRight}
 
 -- of two tests the one that implies the other is their conjunction

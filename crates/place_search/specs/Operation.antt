@@ -8,10 +8,10 @@ use lib.ListN.{length}
 use Rattle.aiger.specs.Circuit.{Circuit}
 use Rattle.aiger.specs.Frames.{freeBits, run}
 use Rattle.aiger.specs.Load.{Answer}
-use Rattle.aiger.specs.Search.{Outcome, question, reaches}
+use Rattle.aiger.specs.Search.{Outcome, question, reaches, greatest}
 use Rattle.aiger.specs.Witness.{witness, witnessLength}
 use Rattle.aiger.specs.Operations.{Test, need, badTest, budgetRight, sizeTest, front, Operated}
-use Rattle.place_search.specs.Places.{greatest, Placed, answers, outcomeOf, reachedOf}
+use Rattle.place_search.specs.Places.{Placed, answers, outcomeOf, reachedOf}
 
 -- Clause 12.11: a starting place is not above the greatest number that is told, and is one of the 2 to the power n places
 abbrev pub placeRight : ℕ → ℕ → Bool

@@ -1,13 +1,8 @@
 -- What a search of one frame from a starting place may answer, and what it tells where it is spent. Sequence x stands at place x, p says
 -- which places hit, there are `places` in all, lo is the starting place and D the budget. Assumes nothing.
 use mathlib.Core.Bool.{Bool, true, _&&_}
-use Prim.Native.Nat.{ℕ, _+_, _<_, min}
-use lib.Dec.{leb, ltb, eqb}
-use Rattle.aiger.specs.Search.{Decision, clearFrom, decides, Question, Outcome}
-
--- Clause 12.10: no greater number is told: 2 to the power 62
-unfoldable pub greatest : ℕ
-greatest = 4611686018427387904
+use Prim.Native.Nat.{ℕ}
+use Rattle.aiger.specs.Search.{Decision, decides, tells, Question, Outcome}
 
 -- the first hit at or after the starting place; no hit from there on; or spent, with the place that was reached
 pub data Placed : Type 0 where
@@ -20,11 +15,6 @@ abbrev pub decisionOf : Placed → Decision
 decisionOf (Placed.hit x) = Decision.hit x
 decisionOf Placed.clear = Decision.clear
 decisionOf (Placed.spent R) = Decision.spent
-
--- Clause 12.10: R may be told where the places from lo on are spent: it is lo + D or more, under the greatest number that is told, it is a
--- place, and no place from lo up to R hits
-unfoldable pub tells : (ℕ → Bool) → ℕ → ℕ → ℕ → ℕ → Bool
-tells p places lo D R = leb (min (lo + D) greatest) R && leb R greatest && ltb R places && clearFrom p lo R
 
 -- R of an answer may be told
 abbrev pub tellsOf : (ℕ → Bool) → ℕ → ℕ → ℕ → Placed → Bool
@@ -41,13 +31,6 @@ abbrev pub Unspent : Placed → Type 0
 Unspent (Placed.hit x) = Unit {0}
 Unspent Placed.clear = Unit {0}
 Unspent (Placed.spent R) = ⊥
-
--- Clause 12.10: what a search of all frames may tell with its outcome: where frame t is spent, a place that was reached in it from its
--- first place on; else 0
-unfoldable pub reachedRight : Question → ℕ → Outcome → ℕ → Bool
-reachedRight q D (Outcome.found t) R = eqb R 0
-reachedRight q D (Outcome.none k) R = eqb R 0
-reachedRight q D (Outcome.spent t) R = tells (q .hitting t) (q .places t) 0 D R
 
 -- the question about frame t alone
 abbrev pub frameAlone : Question → ℕ → Question

@@ -61,5 +61,6 @@ module _ {m : List ℕ} (held : Holds m (circuitIn m)) {b k D : ℕ} {work out :
         allowed = chosen-permitted (circuitIn m) b k D (both .0 .bound);
         measured = refl;
         never = chosen-never (circuitIn m) b k D;
+        told = w .told;
         shows = w .shows;
       }))

@@ -1,16 +1,16 @@
 -- What the search chooses: by its stages, and what they leave frame after frame. It is always a permitted outcome, and request 13 holds of
 -- it. Assumes nothing.
-use mathlib.Core.Path.{_≡_, refl, sym, ap, _∙_}
+use mathlib.Core.Path.{_≡_, refl, sym, ap, _∙_, subst}
 use mathlib.Core.Bool.{Bool, false}
 use mathlib.Core.List.{List}
-use Prim.Native.Nat.{ℕ, suc, _+_, _-_, _≤_, _<_}
+use Prim.Native.Nat.{ℕ, suc, _+_, _-_, _^_, _≤_, _<_}
 use native.Mathlib.Numerals.{add-one}
 use native.Mathlib.Omega.{arith}
 use lib.Dec.{T}
 use Rattle.aiger.specs.Circuit.{Circuit}
 use Rattle.aiger.specs.Load.{Answer, gives}
-use Rattle.aiger.specs.Search.{question, Decision, Outcome, Report, NeverOf, permitted, firstWitness}
-use Rattle.aiger.specs.Frames.{run}
+use Rattle.aiger.specs.Search.{question, reaches, Decision, Outcome, Report, NeverOf, permitted, tells, reachedRight, firstWitness}
+use Rattle.aiger.specs.Frames.{freeBits, run}
 use Rattle.aiger.specs.Witness.{witness}
 use Rattle.aiger.specs.Operations.{front, shown, shownLength}
 use Rattle.meaning.proofs.Outcomes.{Decided, first-witness}
@@ -25,8 +25,9 @@ use Rattle.stages.proofs.Choice as stages
 use Rattle.stages.proofs.More as more
 use Rattle.staged.specs.Schedule.{stagesOf}
 use Rattle.staged.proofs.Sound.{stages-sound}
-use Rattle.search.specs.Chosen.{outcomeChosen, neverChosen, chosen}
-use Rattle.search.specs.Steps.{FoundShown, Answered}
+use Rattle.place_decision.specs.Decided.{ReachedIs}
+use Rattle.search.specs.Chosen.{outcomeChosen, neverChosen, reachedWith, reachedChosen, chosen, spentReport}
+use Rattle.search.specs.Steps.{FoundShown, SpentTold, Answered}
 
 module _ (c : Circuit) (b : ℕ) where
   -- the chosen outcome is permitted
@@ -80,18 +81,41 @@ module _ (c : Circuit) (b : ℕ) where
   unfolding chosen
   chosen-never k D h = (never-chosen k D h, never-none k D h)
 
+-- the place that was reached in a frame, told with spent
+pub spent-told : (c : Circuit) (b t D R : ℕ) → ReachedIs c b t D R → SpentTold c b t D (gives (spentReport t R))
+unfolding reachedRight
+spent-told c b t D R r =
+    record {
+      says = ap (λ (x : ℕ). gives (spentReport t x)) (r .is);
+      right = subst (λ (x : ℕ). T (tells (reaches c b t) (2 ^ freeBits c t) 0 D x)) (r .is) (r .told);
+    }
+
 module _ (c : Circuit) (b k D : ℕ) where
   -- the outcome is what frames t to k give
   abbrev pub Left : ℕ → Type 0
   Left t = outcomeChosen c b k D ≡ chosenFrom (λ u. decisionOf c b u D) k t (k + 1 - t)
 
-  -- the answer that says and shows an outcome, and tells a flag
-  pub answered : (o : Outcome) (flag : Bool) → outcomeChosen c b k D ≡ o → neverChosen c b k D ≡ flag → {out out′ : List ℕ} → out′ ≡ shown c b o out
-      → Answered c b k D out (gives (record { outcome = o; length = shownLength c b o; never = flag })) out′
-  unfolding chosen
-  answered o flag e n {out} q =
+  -- where no frame is spent no place is told
+  found-told : (t : ℕ) → T (reachedRight (question c b) D (Outcome.found t) 0)
+  unfolding reachedRight
+  found-told t = tt
+
+  pub none-told : (j : ℕ) → T (reachedRight (question c b) D (Outcome.none j) 0)
+  unfolding reachedRight
+  none-told j = tt
+
+  -- the answer that says and shows an outcome, and tells a flag and the place that goes with the outcome
+  pub answered : (o : Outcome) (flag : Bool) → outcomeChosen c b k D ≡ o → neverChosen c b k D ≡ flag
+      → T (reachedRight (question c b) D o (reachedWith c b D o)) → {out out′ : List ℕ} → out′ ≡ shown c b o out
+      → Answered c b k D out (gives (record { outcome = o; length = shownLength c b o; never = flag; reached = reachedWith c b D o })) out′
+  unfolding chosen reachedChosen
+  answered o flag e n r {out} q =
       record {
-        says = λ i. gives (record { outcome = sym e i; length = shownLength c b (sym e i); never = sym n i });
+        says =
+            λ i.
+            gives
+            (record { outcome = sym e i; length = shownLength c b (sym e i); never = sym n i; reached = reachedWith c b D (sym e i) });
+        told = subst (λ (x : Outcome). T (reachedRight (question c b) D x (reachedWith c b D x))) (sym e) r;
         shows = q ∙ sym (ap (λ (x : Outcome). shown c b x out) e);
       }
 
@@ -99,8 +123,15 @@ module _ (c : Circuit) (b k D : ℕ) where
   pub answered-found : (t : ℕ) → outcomeChosen c b k D ≡ Outcome.found t → neverChosen c b k D ≡ false → {free out out′ : List ℕ} {a : Answer Report}
       → FoundShown c b t free out a out′ → (x : ℕ) → SequenceIn free c t x → witness b (run c t x) ≡ firstWitness c b t → Answered c b k D out a out′
   answered-found t e n {out = out} w x f v =
-      let q = answered (Outcome.found t) false e n (w .shows x f ∙ ap (λ (z : List ℕ). front z out) v) in
-      record { says = w .says ∙ q .says; shows = q .shows }
+      let q = answered (Outcome.found t) false e n (found-told t) (w .shows x f ∙ ap (λ (z : List ℕ). front z out) v) in
+      record { says = w .says ∙ q .says; told = q .told; shows = q .shows }
+
+  -- spent, as it is told
+  pub answered-spent : (t : ℕ) → outcomeChosen c b k D ≡ Outcome.spent t → neverChosen c b k D ≡ false → {a : Answer Report} → SpentTold c b t D a
+      → {out out′ : List ℕ} → out′ ≡ out → Answered c b k D out a out′
+  answered-spent t e n w o =
+      let q = answered (Outcome.spent t) false e n (w .right) o in
+      record { says = w .says ∙ q .says; told = q .told; shows = q .shows }
 
   -- the first hit of a frame is the one that is shown
   first-shown : {t x : ℕ} → FirstAt (question c b) t x → witness b (run c t x) ≡ firstWitness c b t

@@ -1,16 +1,18 @@
--- What the contract of the search says of its answers. Clauses 3.2, 3.3, 3.4, 3.6, 3.7. Assumes nothing.
+-- What the contract of the search says of its answers. Clauses 3.2, 3.3, 3.4, 3.6, 3.7, 12.10. Assumes nothing.
 use mathlib.Core.Path.{_≡_, refl, sym, ap, _∙_, subst}
 use mathlib.Core.List.{List, [], _∷_}
-use Prim.Native.Nat.{ℕ, _≤_}
+use Prim.Native.Nat.{ℕ, _^_, _≤_}
 use lib.Dec.{T, leb}
 use lib.ListN.{length}
 use Rattle.aiger.specs.Circuit.{Circuit}
+use Rattle.aiger.specs.Frames.{freeBits}
 use Rattle.aiger.specs.Load.{Answer, gives}
-use Rattle.aiger.specs.Search.{question, Outcome, Report, permitted, firstWitness}
+use Rattle.aiger.specs.Search.{question, reaches, Outcome, Report, permitted, reachedRight, firstWitness}
 use Rattle.aiger.specs.Memory.{Holds}
 use Rattle.aiger.specs.Witness.{witnessLength}
 use Rattle.aiger.specs.Operations.{need, budgetRight, Searched, shown, shownLength, front}
 use Rattle.meaning.proofs.Outcomes.{Decided, Found, None, Spent, answer-same, found-out, none-out, spent-out, first-witness}
+use Rattle.place_search.proofs.Answers.{Reached, reached-out, decided-reached}
 use Rattle.roundtrip.proofs.Witness.{run-length}
 use Rattle.roundtrip.proofs.Determined.{OneText, alike-held, acted, searched-same, shown-text, shownText}
 use Rattle.stages.specs.Endings.{NoHit}
@@ -50,6 +52,15 @@ module _ {m w out w′ out′ : List ℕ} {c : Circuit} {b k D : ℕ} {o : Repor
   -- spent is said only where the frame has more than D sequences, none of the first D hits, and no earlier frame has a hit
   pub spent-only : {t : ℕ} → o .outcome ≡ Outcome.spent t → Spent (question c b) k D t
   spent-only {t} e = spent-out (question c b) k D t (subst (λ (x : Outcome). T (permitted c b k D x)) e (result .0))
+
+  -- Clause 12.10: with it a place is told that was reached in that frame: none of the sequences before it hits; and 0 with the others
+  pub reached-only : {t : ℕ} → o .outcome ≡ Outcome.spent t → Reached (reaches c b t) (2 ^ freeBits c t) 0 D (o .reached)
+  reached-only {t} e =
+      reached-out (question c b) D (o .reached) t
+      (subst (λ (x : Outcome). T (reachedRight (question c b) D x (o .reached))) e (acted h s refl .1 .told))
+
+  pub reached-nothing : Decided (o .outcome) → o .reached ≡ 0
+  reached-nothing d = decided-reached (question c b) D (o .reached) (o .outcome) d (acted h s refl .1 .told)
 
   -- found is said only where the frame is the first with a hit, and the output shows the first hit in counting order
   pub found-only : {t : ℕ} → o .outcome ≡ Outcome.found t → Found (question c b) k t × (out′ ≡ front (firstWitness c b t) out)

@@ -6,6 +6,7 @@ use Rattle.aiger.specs.Load.{Answer, refused, gives}
 use Rattle.aiger.specs.Search.{Outcome, Report}
 use Rattle.aiger.specs.Operations.{shownLength}
 use Rattle.decision.specs.Reach.{decisionOf}
+use Rattle.place_decision.specs.Reach.{reachedTold}
 use Rattle.stages.specs.Choice.{chosenBy, neverBy}
 use Rattle.staged.specs.Schedule.{stagesOf}
 use Rattle.search.specs.declared.SearchAnswer.{SearchAnswer}
@@ -19,24 +20,38 @@ outcomeChosen c b k D = chosenBy (stagesOf c b) (decisionOf c b) k D
 unfoldable pub neverChosen : Circuit → ℕ → ℕ → ℕ → Bool
 neverChosen c b k D = neverBy (stagesOf c b) k D
 
+-- Clause 12.10: the place that is told with an outcome: that of the frame that is spent, 0 where none is
+abbrev pub reachedWith : Circuit → ℕ → ℕ → Outcome → ℕ
+reachedWith c b D (Outcome.found t) = 0
+reachedWith c b D (Outcome.none k) = 0
+reachedWith c b D (Outcome.spent t) = reachedTold c b t D
+
+unfoldable pub reachedChosen : Circuit → ℕ → ℕ → ℕ → ℕ
+reachedChosen c b k D = reachedWith c b D (outcomeChosen c b k D)
+
 -- what it reports
 unfoldable pub chosen : Circuit → ℕ → ℕ → ℕ → Report
 chosen c b k D =
-    record { outcome = outcomeChosen c b k D; length = shownLength c b (outcomeChosen c b k D); never = neverChosen c b k D }
+    record {
+      outcome = outcomeChosen c b k D;
+      length = shownLength c b (outcomeChosen c b k D);
+      never = neverChosen c b k D;
+      reached = reachedChosen c b k D;
+    }
 
--- the report of found t with a witness of n bytes, of none k, and of spent t
+-- the report of found t with a witness of n bytes, of none k, and of spent t with place R
 abbrev pub foundReport : ℕ → ℕ → Report
-foundReport t n = record { outcome = Outcome.found t; length = n; never = false }
+foundReport t n = record { outcome = Outcome.found t; length = n; never = false; reached = 0 }
 
 abbrev pub noneReport : ℕ → Bool → Report
-noneReport k flag = record { outcome = Outcome.none k; length = 0; never = flag }
+noneReport k flag = record { outcome = Outcome.none k; length = 0; never = flag; reached = 0 }
 
-abbrev pub spentReport : ℕ → Report
-spentReport t = record { outcome = Outcome.spent t; length = 0; never = false }
+abbrev pub spentReport : ℕ → ℕ → Report
+spentReport t R = record { outcome = Outcome.spent t; length = 0; never = false; reached = R }
 
 -- the answer that each case of the enum is
 abbrev pub said : SearchAnswer → Answer Report
 said (Found t n) = gives (foundReport t n)
 said (Nothing k flag) = gives (noneReport k flag)
-said (Spent t) = gives (spentReport t)
+said (Spent t R) = gives (spentReport t R)
 said (Refused n) = refused n

@@ -8,23 +8,25 @@ use limits::Ruling;
 use staged::Rounds;
 ghost use mathlib.Core.Path.{_≡_};
 ghost use mathlib.Core.Bool.{false};
-ghost use Prim.Native.Nat.{_+_, _-_, _≤_};
+ghost use Prim.Native.Nat.{ℕ, _+_, _-_, _*_, _≤_};
+ghost use lib.ListN.{length};
 ghost use Rattle.aiger.specs.Circuit.{Circuit};
 ghost use Rattle.aiger.specs.Operations.{judge, budgetRight, searchTests, Searched};
 ghost use Rattle.layout.specs.Words.{circuitIn};
 ghost use Rattle.limits.specs.Limits.{Limited, CountsOf, told};
 ghost use Rattle.witness.specs.Writing.{WitnessFits};
 ghost use Rattle.decision.specs.Reach.{decisionOf};
+ghost use Rattle.decision.specs.Decided.{SpentAt};
 ghost use Rattle.stages.specs.Choice.{chosenFrom};
 ghost use Rattle.search.specs.Chosen.{outcomeChosen, neverChosen, chosen, said};
-ghost use Rattle.search.specs.Steps.{SearchFits, FoundShown, Answered};
+ghost use Rattle.search.specs.Steps.{SearchFits, FoundShown, SpentTold, Answered};
 
 // What a search answers: the first frame with a hit, and the length of the witness; no frame up to the bound has one, and whether it is
-// known that no frame at all has one; the frame whose budget is spent; the number of a refusal.
+// known that no frame at all has one; the frame whose budget is spent, and the place that was reached in it; the number of a refusal.
 pub enum SearchAnswer {
     Found(u32, u32),
     Nothing(u32, bool),
-    Spent(u32),
+    Spent(u32, u64),
     Refused(u32),
 }
 
@@ -77,6 +79,19 @@ fn show_found(
     SearchAnswer::Found(t as u32, length as u32)
 }
 
+// Spent at frame t, with the place that was reached there, as working memory tells it.
+fn tell_spent(work: &[u32], layout: Layout, t: usize, d: u64) -> SearchAnswer
+    requires { ⌜
+        Limited layout × (t ≤ 255) × (layout .u + layout .i * (t + 1) ≤ length (now work)) × (d ≤ 4294967296)
+        ⌝ }
+    ensures { λ r. ⌜
+        ((c : Circuit) (b : ℕ) → CountsOf c layout → SpentAt c b t d (now (work .entry)) → SpentTold c b t d (said r))
+        ⌝ }
+{
+    let n = layout.u + layout.i * (t + 1);
+    SearchAnswer::Spent(t as u32, place_decision::reached_number(work, n, d))
+}
+
 // The search of frames `start` to k of a circuit that is ready, frame after frame.
 fn search_from(
     m: &[u32],
@@ -109,7 +124,7 @@ fn search_from(
                 t += 1;
             }
             Frame::Spent => {
-                return SearchAnswer::Spent(t as u32);
+                return tell_spent(work, layout, t, d);
             }
         }
     }

@@ -4,10 +4,13 @@ use load::LoadAnswer;
 use search::SearchAnswer;
 use search::Terms;
 ghost use mathlib.Core.Path.{_≡_};
+ghost use mathlib.Core.List.{_++_};
 ghost use Prim.Native.Nat.{_≤_};
 ghost use lib.ListN.{length};
+ghost use Rattle.aiger.specs.Text.{bytes};
 ghost use Rattle.aiger.specs.Memory.{Holds};
 ghost use Rattle.layout.specs.Words.{circuitIn};
+ghost use Rattle.output.specs.Row.{placeText};
 ghost use Rattle.search.specs.Chosen.{said};
 ghost use Rattle.replies.specs.Reply.{Fronts};
 ghost use Rattle.replies.specs.Loading.{loadedWords};
@@ -29,6 +32,15 @@ pub struct Said {
     pub note: usize,
 }
 
+// Writes that frame t is spent, and the place that was reached in it.
+fn write_spent(line: &mut [u8], t: u32, reached: u64) -> usize
+    requires { ⌜ 128 ≤ length (now line) ⌝ }
+    ensures { λ r. ⌜ Fronts (bytes "spent " ++ placeText t reached) (now (line .entry)) r (now (line .exit)) ⌝ }
+{
+    let at = output::put(line, 0, b"spent ");
+    output::put_place(line, at, t, reached)
+}
+
 // Writes what a search says to the front of line: with its cause in words where it refuses.
 pub fn write_answer(line: &mut [u8], answer: SearchAnswer) -> usize
     requires { ⌜ 128 ≤ length (now line) ⌝ }
@@ -37,7 +49,7 @@ pub fn write_answer(line: &mut [u8], answer: SearchAnswer) -> usize
     match answer {
         SearchAnswer::Found(t, _) => replies::write_line(line, b"found ", t),
         SearchAnswer::Nothing(k, _) => replies::write_line(line, b"none ", k),
-        SearchAnswer::Spent(t) => replies::write_line(line, b"spent ", t),
+        SearchAnswer::Spent(t, reached) => write_spent(line, t, reached),
         SearchAnswer::Refused(n) => replies::write_refusal(line, n),
     }
 }
@@ -61,7 +73,7 @@ fn write_note(note: &mut [u8], answer: SearchAnswer) -> usize
     match answer {
         SearchAnswer::Nothing(_, never) => put_note(note, never),
         SearchAnswer::Found(_, _) => 0,
-        SearchAnswer::Spent(_) => 0,
+        SearchAnswer::Spent(_, _) => 0,
         SearchAnswer::Refused(_) => 0,
     }
 }

@@ -20,7 +20,7 @@ fn say_help() {
         b"    none k    no frame from 0 to k has a hit; `no frame at all` on standard error says that none has one, however late\n",
     );
     say(
-        b"    spent t   frames before t have none; frame t has more than D sequences, and none of the first D hits\n\n",
+        b"    spent t R frames before t have none; frame t has more than D sequences, and none of the first R, D or more, hits\n\n",
     );
     help::say_file_refusals();
     help::say_refusals(10, 12);

@@ -23,10 +23,10 @@ returns-3 c =
     record { returns = rw e; leaves = rw e (flag-told (c .before .before .before .before .before .before .said3 .given .0 .0) (c .before .before .before .before .before .before .said3 .given .0 .1 .0) (c .before .before .before .before .before .before .before .before .before .args .answer .now) (c .before .before .before .before .number .ensures) (c .before .before .tell2 .ensures)) }
 
 same-length-3 : tie.Need-same-length-3
-same-length-3 c = c .before .before .tell3 .kept .1 .1 .1 .1 .0
+same-length-3 c = c .before .before .tell-reached .kept .1 .1 .1 .0
 
 returns-4 : tie.Need-returns-4
-returns-4 c = record { returns = rw (c .before .before .before .before .before .said4 .given .1); leaves = rw (c .before .before .before .before .before .said4 .given .1) (c .before .before .tell3 .ensures) }
+returns-4 c = record { returns = rw (c .before .before .before .before .before .said4 .given .1); leaves = rw (c .before .before .before .before .before .said4 .given .1) (c .before .before .tell-reached .ensures) }
 
 pub tell-searched-spec : {M : Type 1} → statement M
 tell-searched-spec =

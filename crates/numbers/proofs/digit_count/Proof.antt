@@ -1,35 +1,14 @@
--- `numbers::digit_count` meets its contract. The loop's invariant: the digits that are left, and those that are counted but for the last,
--- are those of n. The measure is the number that is left. Assumes nothing.
-use mathlib.Core.Path.{_≡_, ap}
-use Prim.Native.Nat.{_+_, _≤_}
+-- `numbers::digit_count` meets its contract: it is the count of a number that may be longer. Assumes nothing.
+use mathlib.Core.Path.{ap, _∙_}
 use native.Mathlib.Omega.{arith}
 use lib.ListN.{length}
-use Rattle.aiger.specs.Text.{digits}
-use Rattle.numbers.proofs.Digits.{digits-most, digits-one, digits-more-length}
+use Rattle.numbers.proofs.Digits.{long-same}
+use borrow.Author.Needs.{needs}
 use Rattle.numbers.proofs.digit_count.Statement.{statement}
 use Rattle.numbers.proofs.digit_count.Tie as tie
 
-abbrev Inv-loop : tie.InvT-loop
-Inv-loop n count₀ rest₀ count rest = (rest ≤ n) × (length (digits n) + 1 ≡ count + length (digits rest))
-
-abbrev μ-loop : tie.MeasureT-loop
-μ-loop n count₀ rest₀ count rest = rest
-
-loop-holds : tie.Need-loop-holds Inv-loop μ-loop
-loop-holds c = (omega arith, omega arith)
-
-add-count : tie.Need-add-count Inv-loop μ-loop
-add-count c = omega (arith, digits-most 9 (c .before .before .args .n))
-
-loop-less : tie.Need-loop-less Inv-loop μ-loop
-loop-less c = omega arith
-
-loop-again : tie.Need-loop-again Inv-loop μ-loop
-loop-again c = (omega arith, omega (arith, digits-more-length (c .before .loop .rest) (omega arith) (omega arith)))
-
-returns : tie.Need-returns Inv-loop μ-loop
-returns c = omega (arith, ap length (digits-one (c .before .loop .rest) (omega arith)))
+returns : tie.Need-returns
+returns c = c .long-digit-count .ensures ∙ ap length (long-same (c .before .args .n) (omega arith))
 
 pub digit-count-spec : {M : Type 1} → statement M
-digit-count-spec =
-    tie.close (tie.spec Inv-loop μ-loop loop-holds add-count loop-less loop-again returns)
+digit-count-spec = tie.close (tie.spec (λ c κs. search needs) returns)

@@ -58,8 +58,8 @@ witness-length-requires c κs =
       omega (arith, found-within (s .pre) (pinsOf (s .args .pins .now) (s .args .user)) x, fits-bound (s .pre)),
     )
 
-cast-t27 : tie.Need-cast-t27
-cast-t27 c =
+cast-t28 : tie.Need-cast-t28
+cast-t28 c =
     let s = c .before .before .before .before .before .before .before .before .before .before .before .before .before .before .before .before .before .before .before .before .before in
     let x = rw (c .before .before .before .before .before .before .t .given .1) at (c .before .before .before .before .before .before .before .before .before .before .before .before .search-text .ensures) in
     omega (arith, length-is-found (s .pre) (pinsOf (s .args .pins .now) (s .args .user)) x .1, c .witness-length .ensures)
@@ -117,5 +117,5 @@ search-known-spec =
     tie.close
     (tie.spec
     cast-b rows-at-requires search-text-requires (λ c. search needs) cast-expand expand-requires cast-witness-length
-    witness-length-requires cast-t27 (λ c. search needs) (λ c. search needs) (λ c. search needs) same-length same-length-2 returns
+    witness-length-requires cast-t28 (λ c. search needs) (λ c. search needs) (λ c. search needs) same-length same-length-2 returns
     same-length-3 same-length-4 returns-2 same-length-5 same-length-6 returns-3 same-length-7 same-length-8 returns-4)

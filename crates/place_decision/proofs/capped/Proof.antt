@@ -1,7 +1,7 @@
 -- `place_decision::capped` meets its contract. Assumes nothing.
 use native.Mathlib.Omega.{arith}
-use Rattle.place_search.specs.Places.{greatest}
 use borrow.Author.Needs.{needs}
+use Rattle.aiger.specs.Search.{greatest}
 use Rattle.place_decision.proofs.capped.Statement.{statement}
 use Rattle.place_decision.proofs.capped.Tie as tie
 

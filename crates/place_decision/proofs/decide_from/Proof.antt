@@ -4,11 +4,11 @@ use Prim.Native.Nat.{ℕ, _+_, _*_}
 use native.Mathlib.Omega.{arith}
 use denote.Ref.{now}
 use Rattle.aiger.specs.Frames.{freeBits}
+use Rattle.aiger.specs.Search.{greatest}
 use Rattle.layout.specs.Words.{circuitIn}
 use Rattle.frames.proofs.Places.{inputs-are}
 use Rattle.frames.proofs.Starts.{bits-are}
 use Rattle.limits.proofs.Sizes.{bits-within, limited, counts-of, size-is}
-use Rattle.place_search.specs.Places.{greatest}
 use Rattle.place_enumeration.specs.From.{FrameFrom}
 use Rattle.decision.specs.Reach.{firstPlaces}
 use Rattle.decision.proofs.Graphs.{part-long}

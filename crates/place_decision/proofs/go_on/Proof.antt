@@ -4,8 +4,8 @@ use mathlib.Core.Logic.{_⊎_, inl, inr}
 use Prim.Native.Nat.{ℕ, _+_, _-_}
 use native.Mathlib.Omega.{arith}
 use denote.Ref.{now}
+use Rattle.aiger.specs.Search.{greatest}
 use Rattle.layout.specs.Words.{circuitIn}
-use Rattle.place_search.specs.Places.{greatest}
 use Rattle.place_enumeration.specs.From.{FrameFrom}
 use Rattle.place_decision.specs.declared.PlaceFrame.the-variants as P
 use borrow.Author.Needs.{needs}

@@ -2,7 +2,7 @@
 use mathlib.Core.Path.{_≡_, ap, _∙_}
 use Prim.Native.Nat.{ℕ, min}
 use native.Mathlib.Omega.{arith}
-use Rattle.place_search.specs.Places.{greatest}
+use Rattle.aiger.specs.Search.{greatest}
 use Rattle.place_decision.proofs.Told.{told-few, told-many}
 use borrow.Author.Needs.{needs}
 use Rattle.place_decision.proofs.reached_number.Statement.{statement}

@@ -4,6 +4,7 @@ use Prim.Native.Nat.{ℕ, _+_, _*_, _^_, _≤_, _<_, min, max}
 use native.Mathlib.Omega.{arith}
 use denote.Ref.{now}
 use Rattle.aiger.specs.Frames.{freeBits, size}
+use Rattle.aiger.specs.Search.{greatest}
 use Rattle.layout.specs.Words.{circuitIn}
 use Rattle.nodes.specs.Store.{pairsOf}
 use Rattle.nodes.specs.Edges.{edgeWord}
@@ -11,7 +12,6 @@ use Rattle.frames.proofs.Places.{inputs-are}
 use Rattle.frames.proofs.Starts.{bits-are}
 use Rattle.limits.proofs.Sizes.{bits-within, limited}
 use Rattle.conflicts.specs.declared.Verdict.{Verdict}
-use Rattle.place_search.specs.Places.{greatest}
 use Rattle.place_solver.specs.From.{SolvedFrom}
 use Rattle.decision.specs.Reach.{firstPlaces, effort}
 use Rattle.decision.proofs.Graphs.{marked}

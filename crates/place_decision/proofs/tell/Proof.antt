@@ -1,8 +1,8 @@
 -- `place_decision::tell` meets its contract. Assumes nothing.
 use mathlib.Core.Path.{_≡_, sym, ap, _∙_}
 use Prim.Native.Nat.{min}
+use Rattle.aiger.specs.Search.{greatest}
 use Rattle.enumeration.specs.declared.Frame.{Frame}
-use Rattle.place_search.specs.Places.{greatest}
 use Rattle.place_decision.specs.Decided.{toldOf}
 use Rattle.place_decision.specs.declared.PlaceFrame.the-variants as P
 use borrow.Author.Needs.{needs}

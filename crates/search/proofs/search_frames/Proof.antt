@@ -9,7 +9,7 @@ use Rattle.aiger.specs.Search.{Outcome}
 use Rattle.layout.specs.Words.{circuitIn}
 use Rattle.frames.proofs.Facts.{bad-count}
 use Rattle.limits.proofs.Sizes.{bits-within, length-within, limited}
-use Rattle.search.proofs.Choice.{answered, answered-found}
+use Rattle.search.proofs.Choice.{none-told, answered, answered-found}
 use Rattle.search.proofs.ByRounds.{of-hit, of-nothing, of-never, of-left}
 use Rattle.search.proofs.search_frames.Statement.{statement}
 use Rattle.search.proofs.search_frames.Tie as tie
@@ -97,7 +97,7 @@ returns-2 c =
     let C = circuitIn (s .m .now) in
     let f = c .before .before .before .before .pass-stages in
     let (o, n) = of-nothing C (s .q .b) (s .q .k) (s .q .d) (f .last .1 .1 .1 .1 .0) (f .result) (f .ensures) (c .enum-told .given .1) in
-    answered C (s .q .b) (s .q .k) (s .q .d) (Outcome.none (s .q .k)) false o n refl
+    answered C (s .q .b) (s .q .k) (s .q .d) (Outcome.none (s .q .k)) false o n (none-told C (s .q .b) (s .q .k) (s .q .d) _) refl
 
 same-length-4 : tie.Need-same-length-4
 same-length-4 c = c .before .before .before .before .pass-stages .kept .1 .1 .1 .1 .0
@@ -108,7 +108,7 @@ returns-3 c =
     let C = circuitIn (s .m .now) in
     let f = c .before .before .before .before .pass-stages in
     let (o, n) = of-never C (s .q .b) (s .q .k) (s .q .d) (f .last .1 .1 .1 .1 .0) (f .result) (f .ensures) (c .enum-told2 .given .1) in
-    answered C (s .q .b) (s .q .k) (s .q .d) (Outcome.none (s .q .k)) true o n refl
+    answered C (s .q .b) (s .q .k) (s .q .d) (Outcome.none (s .q .k)) true o n (none-told C (s .q .b) (s .q .k) (s .q .d) _) refl
 
 same-length-5 : tie.Need-same-length-5
 same-length-5 c = c .before .before .before .before .search-from .kept .1 .1 .1 .1 .1 .0 ∙ c .before .before .before .before .before .before .before .before .before .before .before .before .pass-stages .kept .1 .1 .1 .1 .0

@@ -11,13 +11,25 @@ use lib.ListN.{length}
 use Rattle.aiger.specs.Search.{Outcome}
 use Rattle.layout.specs.Words.{circuitIn}
 use Rattle.frames.proofs.Facts.{bad-count}
+use Rattle.frames.proofs.Starts.{bits-are}
 use Rattle.decision.specs.Decided.{FrameDecided}
 use Rattle.enumeration.specs.declared.Frame.{Frame}
-use Rattle.limits.proofs.Sizes.{bits-within, length-within, limited}
+use Rattle.limits.proofs.Sizes.{bits-within, counts-of, length-within, limited}
 use Rattle.search.specs.Chosen.{said}
 use Rattle.search.specs.Steps.{Answered}
 use Rattle.search.proofs.Within.{size-within}
-use Rattle.search.proofs.Choice.{Left, hit-shown, left-found, left-spent, left-more, left-none, answered, answered-found}
+use Rattle.search.proofs.Choice.{
+  Left,
+  hit-shown,
+  left-found,
+  left-spent,
+  left-more,
+  left-none,
+  none-told,
+  answered,
+  answered-found,
+  answered-spent,
+}
 use Rattle.search.proofs.search_from.Statement.{statement}
 use Rattle.search.proofs.search_from.Tie as tie
 
@@ -118,27 +130,41 @@ loop-again c =
       left-more (circuitIn (s .m .now)) (s .q .b) (s .q .k) (s .q .d) (l .t) (omega (arith, i)) (l .inv .3) e,
     )
 
-cast-t21 : tie.Need-cast-t21 Inv-loop μ-loop
-cast-t21 c = omega (arith, c .before .before .before .before .before .before .loop-test .taken, c .before .before .before .before .before .before .before .before .before .before .before .before .pre .0 .bound)
+tell-spent-requires : tie.Need-tell-spent-requires Inv-loop μ-loop
+tell-spent-requires c κs =
+    let s = c .before .before .before .before .before .before .before .before .before .before .before .before .before in
+    let p = s .pre .0 in
+    let l = c .before .before .before .before .before .before .before .before .loop in
+    let i = c .before .before .before .before .before .before .before .loop-test .taken in
+    let C = circuitIn (s .args .m .now) in
+    let n = counts-of (p .ready .held) (p .ready .layout-of) in
+    let kept = c .before .before .before .before .before .decide .kept .1 .1 .1 .1 .1 .1 .0 ∙ l .inv .1 in (
+      limited (p .ready .held) (p .ready .layout-of),
+      omega (arith, i, p .bound),
+      omega (arith, bits-are C (l .t) (n .starts) (n .inputs), bits-within C (l .t) (s .args .q .k) (omega (arith, i)), p .room, kept),
+      p .most,
+    )
 
 same-length-3 : tie.Need-same-length-3 Inv-loop μ-loop
-same-length-3 c = c .before .before .before .before .decide .kept .1 .1 .1 .1 .1 .1 .0 ∙ c .before .before .before .before .before .before .before .loop .inv .1
+same-length-3 c = c .before .before .before .before .before .before .decide .kept .1 .1 .1 .1 .1 .1 .0 ∙ c .before .before .before .before .before .before .before .before .before .loop .inv .1
 
 same-length-4 : tie.Need-same-length-4 Inv-loop μ-loop
-same-length-4 c = ap length (c .before .before .before .before .before .before .before .loop .inv .2)
+same-length-4 c = ap length (c .before .before .before .before .before .before .before .before .before .loop .inv .2)
 
 returns-2 : tie.Need-returns-2 Inv-loop μ-loop
 returns-2 c =
-    let s = c .before .before .before .before .before .before .before .before .before .before .before .before .args in
-    let l = c .before .before .before .before .before .before .before .loop in
+    let S = c .before .before .before .before .before .before .before .before .before .before .before .before .before .before in
+    let s = S .args in
+    let p = S .pre .0 in
+    let l = c .before .before .before .before .before .before .before .before .before .loop in
     let C = circuitIn (s .m .now) in
-    let e = told (c .before .before .before .before) _ (c .enum-told3 .given .1) in
-    answered C (s .q .b) (s .q .k) (s .q .d) (Outcome.spent (l .t)) false
-    (left-spent C (s .q .b) (s .q .k) (s .q .d) (l .t) (omega (arith, c .before .before .before .before .before .before .loop-test .taken)) (l .inv .3) (e .decided))
-    (c .before .before .before .before .before .before .before .before .before .before .before .before .pre .1 .2) (l .inv .2)
+    let e = told (c .before .before .before .before .before .before) _ (c .before .before .enum-told3 .given .1) in
+    answered-spent C (s .q .b) (s .q .k) (s .q .d) (l .t)
+    (left-spent C (s .q .b) (s .q .k) (s .q .d) (l .t) (omega (arith, c .before .before .before .before .before .before .before .before .loop-test .taken)) (l .inv .3) (e .decided))
+    (S .pre .1 .2) (c .tell-spent .ensures C (s .q .b) (counts-of (p .ready .held) (p .ready .layout-of)) e) (l .inv .2)
 
-cast-t22 : tie.Need-cast-t22 Inv-loop μ-loop
-cast-t22 c = omega (arith, c .before .before .before .before .before .before .pre .0 .bound)
+cast-t23 : tie.Need-cast-t23 Inv-loop μ-loop
+cast-t23 c = omega (arith, c .before .before .before .before .before .before .pre .0 .bound)
 
 same-length-5 : tie.Need-same-length-5 Inv-loop μ-loop
 same-length-5 c = c .before .loop .inv .1
@@ -152,12 +178,13 @@ returns-3 c =
     let l = c .before .loop in
     let C = circuitIn (s .m .now) in
     answered C (s .q .b) (s .q .k) (s .q .d) (Outcome.none (s .q .k)) false
-    (left-none C (s .q .b) (s .q .k) (s .q .d) (l .t) (omega (arith, c .loop-test .left)) (l .inv .3)) (c .before .before .before .before .before .before .pre .1 .2) (l .inv .2)
+    (left-none C (s .q .b) (s .q .k) (s .q .d) (l .t) (omega (arith, c .loop-test .left)) (l .inv .3)) (c .before .before .before .before .before .before .pre .1 .2)
+    (none-told C (s .q .b) (s .q .k) (s .q .d) (s .q .k)) (l .inv .2)
 
 pub search-from-spec : {M : Type 1} → statement M
 search-from-spec =
     tie.close
     (tie.spec
     Inv-loop μ-loop loop-holds decide-requires (λ c. search needs) cast-show-found show-found-requires same-length same-length-2
-    returns (λ c. search needs) add-t loop-less loop-again (λ c. search needs) cast-t21 same-length-3 same-length-4 returns-2
-    cast-t22 same-length-5 same-length-6 returns-3)
+    returns (λ c. search needs) add-t loop-less loop-again (λ c. search needs) tell-spent-requires same-length-3 same-length-4 returns-2
+    cast-t23 same-length-5 same-length-6 returns-3)
