@@ -14,5 +14,5 @@ pub query-inside : (q : Query) (user : ℕ) (s : State) (out line : List ℕ) (r
 query-inside (Pin input value) user s out line r s′ out′ line′ x = (fronts-inside (x .line-is), x .inside)
 query-inside (Search b k D) user s out line r s′ out′ line′ x = (fronts-inside (x .line-is), x .inside)
 query-inside (Fold b t) user s out line r s′ out′ line′ x = (fronts-inside (x .line-is), x .inside)
-query-inside Write user s out line r s′ out′ line′ x = (fronts-inside (x .line-is), x .inside)
+query-inside (Write form) user s out line r s′ out′ line′ x = (fronts-inside (x .line-is), x .inside)
 query-inside (Generate seed i l a) user s out line r s′ out′ line′ x = (fronts-inside (x .line-is), x .inside)
