@@ -1,7 +1,7 @@
 -- All that is claimed, in one record: the three demands and what the requests add, each field proved by a theorem of the crates below. That
 -- every call stays within what was lent, that nothing wraps and that every call returns is what the check of each function shows; the
--- contracts that the fields speak of are those of the operations, in the specs of aiger, completions, joined, renumbered, waveform, load and
--- history. Assumes nothing.
+-- contracts that the fields speak of are those of the operations, in the specs of aiger, completions, joined, renumbered, waveform, load,
+-- history and generated. Assumes nothing.
 use mathlib.Core.Path.{_≡_, refl, sym, ap, _∙_, subst}
 use mathlib.Core.Bool.{Bool, true, false, cond}
 use mathlib.Core.List.{List, [], _∷_, List·Memᴰ, map}
@@ -67,6 +67,9 @@ use Rattle.waveform.specs.Waveform.{levelAt, frameCount, waveformOf, Waveformed
 use Rattle.waveform_laws.proofs.Own.{own-input, own-latch}
 use Rattle.waveform_laws.proofs.Theorems.{waveformed-same, never-short, runText, waveform-plain, badWire, all-shown}
 use Rattle.search.proofs.Constraints.{questionAlone, witness-allowed, permitted-alone}
+use Rattle.generated.specs.Generated.{generated, generatedText, countsPermitted, Generated, Permitted}
+use Rattle.generated.proofs.Theorems as drawn
+use Rattle.generated.proofs.Theorems.{generated-kept, generated-same, generated-loaded, same-bytes}
 
 pub record Correct : Type 1 where
   -- ---- Demand 1: bad input gets its number, in the table's order, and changes nothing; input with no such cause is never refused.
@@ -266,6 +269,24 @@ pub record Correct : Type 1 where
       → map {B = List ℕ × Files} (λ (e : Exchange). (e .request, e .files)) (b .exchanges)
       ≡ map {B = List ℕ × Files} (λ (e : Exchange). (e .request, e .files)) (sessions.concerning u (a .exchanges))
       → (map (λ (e : Exchange). e .reply) (b .exchanges) ≡ map (λ (e : Exchange). e .reply) (sessions.concerning u (a .exchanges))) × Same u t t₂
+  -- ---- Clause 12.12: circuits made from a seed.
+
+  -- generate answers one thing and leaves one output
+  pub generate-determined : {s i l a : ℕ} {out o₁ o₂ : List ℕ} {x y : Answer ℕ} → Generated s i l a out x o₁ → Generated s i l a out y o₂
+      → (x ≡ y) × (o₁ ≡ o₂)
+  -- the text is a function of seed and counts: equal ones give equal bytes, whatever the outputs held
+  pub generate-bytes : {s i l a m n : ℕ} {out₁ out₂ o₁ o₂ : List ℕ} → Generated s i l a out₁ (gives m) o₁ → Generated s i l a out₂ (gives n) o₂
+      → (m ≡ n) × (take m o₁ ≡ take n o₂)
+  -- a refusal is 3 for counts that are not permitted, or 13 for an output that is shorter than the text, and leaves every byte
+  pub generate-refused : {s i l a n : ℕ} {out out′ : List ℕ} → Generated s i l a out (refused n) out′
+      → (out′ ≡ out)
+      × (((n ≡ 3) × (countsPermitted i l a ≡ false)) ⊎ ((n ≡ 13) × Permitted i l a × (length out < length (generatedText s i l a))))
+  -- it is never refused with 13 where 55,798 bytes are lent
+  pub generate-room : {s i l a n : ℕ} {out out′ : List ℕ} → 55798 ≤ length out → Generated s i l a out (refused n) out′ → n ≡ 3
+  -- every such file loads where circuit memory suffices: load answers the counts of the circuit, and leaves a memory that holds it
+  pub generate-loads : {s i l a n : ℕ} {out out′ m m′ : List ℕ} {x : Answer (List ℕ)} → Generated s i l a out (gives n) out′
+      → needed (i + l + a) ≤ length m → Loaded m (take n out′) x m′
+      → (x ≡ gives (generated s i l a .maxVar ∷ countRow (generated s i l a))) × Holds m′ (generated s i l a)
 
 -- ---- the fields that stand nowhere else
 
@@ -374,4 +395,9 @@ correct =
       panel-start-free = start-free;
       panel-apart = loop-apart;
       panel-undisturbed = loop-undisturbed;
+      generate-determined = generated-same;
+      generate-bytes = same-bytes;
+      generate-refused = λ g. let k = generated-kept g in (k .kept, k .cause);
+      generate-room = drawn.never-short;
+      generate-loads = generated-loaded;
     }
