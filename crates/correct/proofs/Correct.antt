@@ -27,7 +27,7 @@ use Rattle.completions.specs.Forms.{Completes}
 use Rattle.meaning.proofs.Defined.{Known}
 use Rattle.meaning.proofs.Runs.{Satisfies, run-determined, run-satisfies}
 use Rattle.meaning.proofs.Sequences.{Shaped, every-run, run-same}
-use Rattle.meaning.proofs.Outcomes.{Found, None, Spent}
+use Rattle.meaning.proofs.Outcomes.{Decided, Found, None, Spent}
 use Rattle.meaning.proofs.Values.{frameAt}
 use Rattle.roundtrip.proofs.LoadValid.{gives-same}
 use Rattle.roundtrip.proofs.Holding.{held-valid, load-again}
@@ -40,9 +40,13 @@ use Rattle.load.specs.Preview.{Previewed}
 use Rattle.load.specs.declared.Judgement.{Judgement}
 use Rattle.load.proofs.Previews.{preview-load}
 use Rattle.pins.specs.Pins.{pinsOf}
+use Rattle.place_search.proofs.Answers.{Reached}
+use Rattle.pinned_search.proofs.More.{Stays}
+use Rattle.call_forms.specs.Forms.{UserSearched}
 use Rattle.call_forms.specs.History.{State, Event, History, Same}
 use Rattle.history.specs.Concerning.{concerning}
 use Rattle.history.proofs.Undisturbed.{undisturbed, apart}
+use Rattle.history.proofs.Budgets.{user-budget-kept, user-found-kept, user-none-kept}
 use Rattle.panel_session.specs.Session.{Files, Exchange, Session, SessionOf, Totals, start}
 use Rattle.panel_session.specs.Session as sessions
 use Rattle.panel_session.proofs.Undisturbed as panel
@@ -61,7 +65,19 @@ use Rattle.renumbered_laws.proofs.Same.{same-run, same-value, same-output, same
 use Rattle.search.specs.Chosen.{chosen}
 use Rattle.replay.proofs.Theorems.{Hit, either-same, all-is-yes, all-hits, no-hits}
 use Rattle.widen.proofs.Theorems.{made, widened-same, widened-all, widened-copied, widened-twice}
-use Rattle.search.proofs.Theorems.{found-only, found-length, none-only, never-only, spent-only, memory-same}
+use Rattle.search.proofs.Theorems.{
+  found-only,
+  found-length,
+  none-only,
+  never-only,
+  spent-only,
+  reached-only,
+  reached-nothing,
+  memory-same,
+  budget-kept,
+  found-kept,
+  none-kept,
+}
 use Rattle.vcd.specs.Text.{Level}
 use Rattle.waveform.specs.Waveform.{levelAt, frameCount, waveformOf, Waveformed}
 use Rattle.waveform_laws.proofs.Own.{own-input, own-latch}
@@ -147,6 +163,12 @@ pub record Correct : Type 1 where
   -- spent: no earlier frame has a hit, the frame has more than D sequences, and none of the first D hits
   pub says-spent : {m w out w′ out′ : List ℕ} {c : Circuit} {b k D t : ℕ} {r : Report} → Holds m c → Searched chosen m b k D w out (gives r) w′ out′
       → r .outcome ≡ Outcome.spent t → Spent (question c b) k D t
+  -- Clause 12.10: with spent a place is told that was reached in that frame, D or more, below 2 to the power n and not above 2 to the power
+  -- 62, before which no sequence hits; with found and none 0
+  pub says-reached : {m w out w′ out′ : List ℕ} {c : Circuit} {b k D t : ℕ} {r : Report} → Holds m c → Searched chosen m b k D w out (gives r) w′ out′
+      → r .outcome ≡ Outcome.spent t → Reached (reaches c b t) (2 ^ freeBits c t) 0 D (r .reached)
+  pub says-no-place : {m w out w′ out′ : List ℕ} {c : Circuit} {b k D : ℕ} {r : Report} → Holds m c → Searched chosen m b k D w out (gives r) w′ out′
+      → Decided (r .outcome) → r .reached ≡ 0
   -- a witness that is shown breaks no constraint in any of its frames
   pub constraints-hold : {m w out w′ out′ : List ℕ} {c : Circuit} {b k D t : ℕ} {r : Report} → Holds m c → Searched chosen m b k D w out (gives r) w′ out′
       → r .outcome ≡ Outcome.found t → (x : ℕ) × (x < 2 ^ freeBits c t) × (out′ ≡ front (witness b (run c t x)) out)
@@ -157,6 +179,31 @@ pub record Correct : Type 1 where
   pub memory-never-matters : {m m′ w w′ out out′ w₁ w₂ o₁ o₂ : List ℕ} {c : Circuit} {b k D : ℕ} {x y : Answer Report} → Holds m c → Holds m′ c
       → length w ≡ length w′ → length out ≡ length out′ → Searched chosen m b k D w out x w₁ o₁ → Searched chosen m′ b k D w′ out′ y w₂ o₂
       → (x ≡ y) × OneText out o₁ out′ o₂
+  -- ---- Request 13: more budget keeps an answer, of any two searches that are not refused, whatever their memories.
+
+  -- found and none stay with every larger budget, with the same witness
+  pub budget-keeps : {m m′ w w′ w₁ w₂ out out′ o₁ o₂ : List ℕ} {c : Circuit} {b k D E : ℕ} {o o′ : Report} → Holds m c → Holds m′ c → D ≤ E
+      → Searched chosen m b k D w out (gives o) w₁ o₁ → Searched chosen m′ b k E w′ out′ (gives o′) w₂ o₂ → Decided (o .outcome)
+      → (o′ .outcome ≡ o .outcome) × OneText out o₁ out′ o₂
+  -- found stays with every larger bound too, none with every smaller one
+  pub found-keeps : {m m′ w w′ w₁ w₂ out out′ o₁ o₂ : List ℕ} {c : Circuit} {b k k′ D E : ℕ} {o o′ : Report} → Holds m c → Holds m′ c → D ≤ E → k ≤ k′
+      → Searched chosen m b k D w out (gives o) w₁ o₁ → Searched chosen m′ b k′ E w′ out′ (gives o′) w₂ o₂ → (t : ℕ) → o .outcome ≡ Outcome.found t
+      → (o′ .outcome ≡ Outcome.found t) × OneText out o₁ out′ o₂
+  pub none-keeps : {m m′ w w′ w₁ w₂ out out′ o₁ o₂ : List ℕ} {c : Circuit} {b k k′ D E : ℕ} {o o′ : Report} → Holds m c → Holds m′ c → D ≤ E → k′ ≤ k
+      → Searched chosen m b k D w out (gives o) w₁ o₁ → Searched chosen m′ b k′ E w′ out′ (gives o′) w₂ o₂ → (i : ℕ) → o .outcome ≡ Outcome.none i
+      → o′ .outcome ≡ Outcome.none k′
+  -- the same of a user's searches under any pins; length and place stay too
+  pub user-budget-keeps : {m m′ w w′ w₁ w₂ out out′ o₁ o₂ shared shared′ : List ℕ} {user : ℕ} {c : Circuit} {b k D E : ℕ} {o o′ : Report}
+      → pinsOf shared user ≡ pinsOf shared′ user → Holds m c → Holds m′ c → D ≤ E → UserSearched chosen m shared user b k D w out (gives o) w₁ o₁
+      → UserSearched chosen m′ shared′ user b k E w′ out′ (gives o′) w₂ o₂ → Decided (o .outcome) → Stays o o′ out o₁ out′ o₂
+  pub user-found-keeps : {m m′ w w′ w₁ w₂ out out′ o₁ o₂ shared shared′ : List ℕ} {user : ℕ} {c : Circuit} {b k k′ D E : ℕ} {o o′ : Report}
+      → pinsOf shared user ≡ pinsOf shared′ user → Holds m c → Holds m′ c → D ≤ E → k ≤ k′
+      → UserSearched chosen m shared user b k D w out (gives o) w₁ o₁ → UserSearched chosen m′ shared′ user b k′ E w′ out′ (gives o′) w₂ o₂
+      → (t : ℕ) → o .outcome ≡ Outcome.found t → Stays o o′ out o₁ out′ o₂
+  pub user-none-keeps : {m m′ w w′ w₁ w₂ out out′ o₁ o₂ shared shared′ : List ℕ} {user : ℕ} {c : Circuit} {b k k′ D E : ℕ} {o o′ : Report}
+      → pinsOf shared user ≡ pinsOf shared′ user → Holds m c → Holds m′ c → D ≤ E → k′ ≤ k
+      → UserSearched chosen m shared user b k D w out (gives o) w₁ o₁ → UserSearched chosen m′ shared′ user b k′ E w′ out′ (gives o′) w₂ o₂
+      → (i : ℕ) → o .outcome ≡ Outcome.none i → o′ .outcome ≡ Outcome.none k′
   -- ---- Clause 12.2: witnesses that may hold `x`.
 
   -- replay answers one thing
@@ -353,9 +400,17 @@ correct =
       says-none = λ h s e. none-only h s e;
       says-never = λ h s f. never-only h s f;
       says-spent = λ h s e. spent-only h s e;
+      says-reached = λ h s e. reached-only h s e;
+      says-no-place = λ h s d. reached-nothing h s d;
       constraints-hold = λ h s e. witness-allowed h s e;
       without-constraints = λ c none b. permitted-alone c none b;
       memory-never-matters = memory-same;
+      budget-keeps = λ h h′ l s s′ d. budget-kept h h′ l s s′ refl d;
+      found-keeps = λ h h′ l n s s′ t e. found-kept h h′ l s s′ t n e;
+      none-keeps = λ h h′ l n s s′ i e. none-kept h h′ l s s′ i n e;
+      user-budget-keeps = λ p h h′ l s s′ d. user-budget-kept p h h′ l s s′ refl d;
+      user-found-keeps = λ p h h′ l n s s′ t e. user-found-kept p h h′ l s s′ t n e;
+      user-none-keeps = λ p h h′ l n s s′ i e. user-none-kept p h h′ l s s′ i n e;
       replay-determined = either-same;
       replay-plain = λ {c = c} h r s. all-is-yes c h r s;
       replay-all = λ {c = c} h r. all-hits c h r;

@@ -56,7 +56,7 @@ abbrev pub endOf : ℕ → List Pair → ℕ → ℕ → ℕ → ℕ
 endOf n gs root D x = cond (leb D (before (inCone n gs root) (freeBit n x) n)) x (passed (support n gs root) n D)
 
 -- where frame t is spent none of so many sequences hits: the floor, or what is tried; the latter where there are more than 1,024 free
--- bits. Request 9 is to tell it
+-- bits. What the search tells is made of it (Clause 12.10)
 unfoldable pub reached : Circuit → ℕ → ℕ → ℕ → ℕ
 reached c b t D =
     cond (leb (freeBits c t) 1024) (endOf (freeBits c t) (unrolled c b t .gates) (unrolled c b t .edge) (max D 16384) (floorOf c b t D))
