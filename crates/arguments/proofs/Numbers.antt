@@ -15,7 +15,7 @@ use Rattle.aiger.specs.Text.{isDigit, isNumber, decimal}
 use Rattle.aiger.proofs.Tests.{T-true, true-T, and-left, and-right}
 use Rattle.numbers.proofs.Run as numbers
 use Rattle.numbers.proofs.Run.{small-more, small-in}
-use Rattle.arguments.specs.Arguments.{numberOf, isDigits, seedOf}
+use Rattle.arguments.specs.Arguments.{numberOf, isDigits, seedOf, placeOf}
 
 -- ---- conjunctions
 
@@ -108,6 +108,30 @@ seed-number w h = go (every isDigit w) refl
         (cond (isDigits 10 w) (some (decimal 0 w)) none)
     go true e = simp (a, b, c (T-true e), and-true)
     go false e = simp e
+
+-- and one of at most nineteen where it is a place
+pub seed-place : (w : List ℕ) → length w ≤ 19 → seedOf w ≡ placeOf w
+unfolding seedOf placeOf
+seed-place w h = go (every isDigit w) refl
+  where
+    a : leb (length w) 20 ≡ true
+    a = le-leb (length w) 20 (omega arith)
+
+    b : leb (length w) 19 ≡ true
+    b = le-leb (length w) 19 h
+
+    c : T (every isDigit w) → leb (decimal 0 w) 18446744073709551615 ≡ true
+    c t = le-leb (decimal 0 w) 18446744073709551615 (omega (arith, small-in (0 + length w) 19 (decimal 0 w) (omega arith) (decimal-small 0 0 w t (omega arith))))
+
+    go : (d : Bool) → every isDigit w ≡ d
+        → _≡_ {A = Option ℕ} (cond (isDigits 20 w && leb (decimal 0 w) 18446744073709551615) (some (decimal 0 w)) none)
+        (cond (isDigits 19 w) (some (decimal 0 w)) none)
+    go true e = simp (a, b, c (T-true e), and-true)
+    go false e = simp e
+
+pub not-place : (w : List ℕ) → 19 < length w → none ≡ placeOf w
+unfolding placeOf
+not-place w h = rw (overlong 19 w h)
 
 -- one that is longer is none
 pub not-number : (w : List ℕ) → 10 < length w → none ≡ numberOf w

@@ -22,6 +22,10 @@ isDigits most w = every isDigit w && leb 1 (length w) && leb (length w) most && 
 unfoldable pub seedOf : List ℕ → Option ℕ
 seedOf w = cond (isDigits 20 w && leb (decimal 0 w) 18446744073709551615) (some (decimal 0 w)) none
 
+-- Clause 12.11: the place that a text is: one to nineteen digits. Whether there is such a place the search decides
+unfoldable pub placeOf : List ℕ → Option ℕ
+placeOf w = cond (isDigits 19 w) (some (decimal 0 w)) none
+
 abbrev pub meant : Argument → Option ℕ
 meant (Number v) = some v
 meant Malformed = none

@@ -1,6 +1,6 @@
 // A number that is an argument of a program.
 ghost use mathlib.Core.Path.{_≡_};
-ghost use Rattle.arguments.specs.Arguments.{numberOf, seedOf, meant};
+ghost use Rattle.arguments.specs.Arguments.{numberOf, seedOf, placeOf, meant};
 
 // The number, where there is one.
 pub enum Argument {
@@ -57,6 +57,16 @@ pub fn read_argument(text: &[u8]) -> Argument
     ensures { λ r. ⌜ meant r ≡ numberOf (now (text .entry)) ⌝ }
 {
     if 10 < text.len() {
+        return Argument::Malformed;
+    }
+    read_seed(text)
+}
+
+// The place that a text of at most nineteen digits is.
+pub fn read_place(text: &[u8]) -> Argument
+    ensures { λ r. ⌜ meant r ≡ placeOf (now (text .entry)) ⌝ }
+{
+    if 19 < text.len() {
         return Argument::Malformed;
     }
     read_seed(text)

@@ -9,7 +9,7 @@ ghost use Prim.Native.Nat.{_≤_};
 ghost use lib.ListN.{length, take};
 ghost use Rattle.io.specs.Counts.{Counts};
 ghost use Rattle.input.specs.Contents.{Whole, nothing};
-ghost use Rattle.arguments.specs.Arguments.{numberOf, seedOf, meant};
+ghost use Rattle.arguments.specs.Arguments.{numberOf, seedOf, placeOf, meant};
 ghost use Rattle.files.specs.Reading.{nameOf, FiledAs, Names, Read, BothRead};
 
 // Writes a text to standard output.
@@ -239,6 +239,16 @@ pub fn seed_of(word: Word) -> Argument
     let bytes = word.bytes;
     let count = word.count;
     arguments::read_seed(&bytes[..count])
+}
+
+// The place that a word is.
+pub fn place_of(word: Word) -> Argument
+    requires { ⌜ Counts (word .count) (word .bytes) ⌝ }
+    ensures { λ r. ⌜ meant r ≡ placeOf (take (word .count) (word .bytes)) ⌝ }
+{
+    let bytes = word.bytes;
+    let count = word.count;
+    arguments::read_place(&bytes[..count])
 }
 
 // How much was read of two files, whether one of them was not read, and what was read of each. The last two fields are this crate's own.

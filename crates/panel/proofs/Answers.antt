@@ -24,8 +24,12 @@ use Rattle.search.specs.Chosen as Search
 use Rattle.search.specs.declared.SearchAnswer.{SearchAnswer}
 use Rattle.fold.specs.Chosen as Fold
 use Rattle.pinning.specs.Operations.{PinnedSearched}
-use Rattle.call_forms.specs.Table.{searchRow}
-use Rattle.call_forms.specs.Forms.{Tested, ForUser, UserSearched, UserFolded, UserWritten, UserGenerated}
+use Rattle.pinning.specs.FromPlace.{PinnedSearchedFrom}
+use Rattle.place_search.specs.Places.{Placed, outcomeOf}
+use Rattle.place_limits.proofs.Passing.{place-passed}
+use Rattle.place_decision.specs.Reach.{placeChosen}
+use Rattle.call_forms.specs.Table.{searchRow, searchFromRow}
+use Rattle.call_forms.specs.Forms.{Tested, ForUser, UserSearched, UserSearchedFrom, UserFolded, UserWritten, UserGenerated}
 use Rattle.writer.specs.Forms.{InForm}
 use Rattle.generated.proofs.Theorems.{generated-made}
 use Rattle.renumbered.specs.Renumbered.{writeBinary}
@@ -80,3 +84,29 @@ module _ (m pins w out : List ℕ) (user b k D : ℕ) where
   pub shown-inside : (a : SearchAnswer) {w′ out′ : List ℕ} {n : ℕ} → UserSearched Search.chosen m pins user b k D w out (Search.said a) w′ out′
       → length out′ ≡ length out → n ≡ toldLength (Search.said a) → n ≤ length out′
   shown-inside a s l e = omega (arith, told-within s)
+
+-- ---- a search from a place
+
+placed-within : (c : Circuit) (b t : ℕ) (a : Placed) → shownLength c b (outcomeOf t a) ≤ witnessLength c b t
+placed-within c b t (Placed.hit x) = omega arith
+placed-within c b t Placed.clear = omega arith
+placed-within c b t (Placed.spent R) = omega arith
+
+module _ (m pins w out : List ℕ) (user b t place D : ℕ) where
+  from-within : {a : Answer Report} {l : List ℕ × List ℕ}
+      → ForUser searchFromRow user (w, out) (PinnedSearchedFrom placeChosen m (pinsOf pins user) b t place D w out) a l → toldLength a ≤ length out
+  from-within (Tested.refuses h) = omega arith
+  from-within (Tested.passes u (Operated.noCircuit h)) = omega arith
+  from-within (Tested.passes u (Operated.refuses c h j)) = omega arith
+  from-within (Tested.passes u (Operated.acts c {a = o} h j e)) =
+      let d = pinned c (pinsOf pins user) in
+      omega (
+        arith,
+        ap (λ (r : Report). r .length) (e .chose),
+        placed-within c b t (placeChosen d b t place D),
+        place-passed d c b t place D (length w) (length out) j .output,
+      )
+
+  pub from-inside : (a : SearchAnswer) {w′ out′ : List ℕ} {n : ℕ} → UserSearchedFrom placeChosen m pins user b t place D w out (Search.said a) w′ out′
+      → length out′ ≡ length out → n ≡ toldLength (Search.said a) → n ≤ length out′
+  from-inside a s l e = omega (arith, from-within s)

@@ -18,7 +18,7 @@ use Rattle.preview_command.specs.Texts.{previewReply}
 use Rattle.call_forms.specs.Forms.{UserLoaded}
 use Rattle.call_forms.specs.History as History
 use Rattle.panel_lines.specs.declared.Query.{Query}
-use Rattle.panel_lines.specs.declared.Query.the-variants.{Pin, Search, Fold, Write, Generate}
+use Rattle.panel_lines.specs.declared.Query.the-variants.{Pin, Search, Fold, Write, Generate, SearchFrom}
 
 -- ---- lines, by answers
 
@@ -77,6 +77,9 @@ Queried (Write form) user s out line r s′ out′ line′ =
     line r line′ out′
 Queried (Generate seed i l g) user s out line r s′ out′ line′ =
     Reported (λ a. History.Step s (History.Call.generate user seed i l g out) (History.Returned.written a out′) s′) textWords textLength
+    line r line′ out′
+Queried (SearchFrom b t place D) user s out line r s′ out′ line′ =
+    Reported (λ a. History.Step s (History.Call.searchFrom user b t place D out) (History.Returned.searched a out′) s′) saidWords toldLength
     line r line′ out′
 
 -- preview FILE: what the program preview prints, to user 0 or 1; 18 to any other

@@ -19,6 +19,7 @@ use Rattle.panel_lines.specs.Grammar.{
   seed,
   ended,
   twoNumbers,
+  placeNumber,
   oneName,
   pinOf,
   searchOf,
@@ -32,6 +33,7 @@ use Rattle.panel_lines.specs.Grammar.{
   flagOf,
   waveformOf,
   generateOf,
+  searchFromOf,
   verbOf,
   commandOf,
   parse,
@@ -41,7 +43,7 @@ use Rattle.panel_lines.specs.declared.Part.{Part}
 use Rattle.panel_lines.specs.declared.Verb.{Verb}
 use Rattle.panel_lines.specs.declared.View.{View}
 use Rattle.panel_lines.specs.declared.View.the-variants.{Replay, Widen, Waveform}
-use Rattle.panel_lines.specs.declared.Query.the-variants.{Pin, Search, Fold, Write, Generate}
+use Rattle.panel_lines.specs.declared.Query.the-variants.{Pin, Search, Fold, Write, Generate, SearchFrom}
 use Rattle.panel_lines.specs.declared.Task.{Task}
 use Rattle.panel_lines.specs.declared.Task.the-variants.{Ask, Load, Preview, Join, Witness, Malformed}
 use Rattle.panel_lines.specs.declared.Request.{Request}
@@ -164,6 +166,24 @@ module _ (s : List ℕ) (at : ℕ) where
       pub generate-all : (l a : ℕ) → some (l, a) ≡ twoNumbers (drop next s) → TaskIs s (generateOf (drop at s)) (Ask (Generate n i l a))
       unfolding generateOf
       generate-all l a e = record { meaning = rw (x .seed-is, y .number-is, ← e); parts = tt }
+
+  pub from-none : number (drop at s) ≡ none → TaskIs s (searchFromOf (drop at s)) Malformed
+  unfolding searchFromOf
+  from-none e = record { meaning = rw e; parts = tt }
+
+  module _ {b frame : ℕ} (x : NumberAt s at b frame) where
+    pub from-line : number (drop frame s) ≡ none → TaskIs s (searchFromOf (drop at s)) Malformed
+    unfolding searchFromOf
+    from-line e = record { meaning = rw (x .number-is, e); parts = tt }
+
+    module _ {t next : ℕ} (y : NumberAt s frame t next) where
+      pub from-half : none ≡ placeNumber (drop next s) → TaskIs s (searchFromOf (drop at s)) Malformed
+      unfolding searchFromOf
+      from-half e = record { meaning = rw (x .number-is, y .number-is, ← e); parts = tt }
+
+      pub from-all : (p d : ℕ) → some (p, d) ≡ placeNumber (drop next s) → TaskIs s (searchFromOf (drop at s)) (Ask (SearchFrom b t p d))
+      unfolding searchFromOf
+      from-all p d e = record { meaning = rw (x .number-is, y .number-is, ← e); parts = tt }
 
   module _ (v : View) where
     pub view-none : oneName (drop at s) ≡ none → TaskIs s (viewOf v (drop at s)) Malformed

@@ -8,12 +8,12 @@ use lib.Dec.{eqb, leb}
 use lib.ListN.{length}
 use Rattle.aiger.specs.Lists.{same}
 use Rattle.aiger.specs.Text.{bytes, when, _>>=_, _>>_}
-use Rattle.arguments.specs.Arguments.{numberOf, seedOf}
+use Rattle.arguments.specs.Arguments.{numberOf, seedOf, placeOf}
 use Rattle.panel_lines.specs.declared.Verb.{Verb}
 use Rattle.panel_lines.specs.declared.View.{View}
 use Rattle.panel_lines.specs.declared.View.the-variants.{Replay, Widen, Waveform}
 use Rattle.panel_lines.specs.declared.Query.{Query}
-use Rattle.panel_lines.specs.declared.Query.the-variants.{Pin, Search, Fold, Write, Generate}
+use Rattle.panel_lines.specs.declared.Query.the-variants.{Pin, Search, Fold, Write, Generate, SearchFrom}
 
 -- a command: a query, which names no file; or load, preview, join, or a view of a witness, which name files
 pub data Command : Type 0 where
@@ -48,12 +48,27 @@ seed s = do
   n ← seedOf (w .0)
   some (n, w .1)
 
+-- a word that is a place
+unfoldable pub place : List ℕ → Option (ℕ × List ℕ)
+place s = do
+  w ← word s
+  n ← placeOf (w .0)
+  some (n, w .1)
+
 -- nothing follows
 unfoldable pub ended : List ℕ → Option (Unit {0})
 ended [] = some tt
 ended (c ∷ s) = none
 
 -- ---- the arguments of a verb
+
+-- a place and a number
+unfoldable pub placeNumber : List ℕ → Option (ℕ × ℕ)
+placeNumber s = do
+  a ← place s
+  b ← number (a .1)
+  ended (b .1)
+  some (a .0, b .0)
 
 -- two numbers
 unfoldable pub twoNumbers : List ℕ → Option (ℕ × ℕ)
@@ -136,6 +151,14 @@ generateOf s = do
   p ← twoNumbers (i .1)
   some (Command.query (Generate (n .0) (i .0) (p .0) (p .1)))
 
+-- search-from b t PLACE D
+unfoldable pub searchFromOf : List ℕ → Option Command
+searchFromOf s = do
+  b ← number s
+  t ← number (b .1)
+  p ← placeNumber (t .1)
+  some (Command.query (SearchFrom (b .0) (t .0) (p .0) (p .1)))
+
 -- ---- a request
 
 -- the verbs
@@ -152,6 +175,7 @@ verbs =
     ∷ (bytes "widen", Verb.Widen)
     ∷ (bytes "waveform", Verb.Waveform)
     ∷ (bytes "generate", Verb.Generate)
+    ∷ (bytes "search-from", Verb.SearchFrom)
     ∷ []
 
 -- the verb that a table gives for a word
@@ -175,6 +199,7 @@ commandOf Verb.Replay s = viewOf Replay s
 commandOf Verb.Widen s = viewOf Widen s
 commandOf Verb.Waveform s = waveformOf s
 commandOf Verb.Generate s = generateOf s
+commandOf Verb.SearchFrom s = searchFromOf s
 commandOf Verb.Unknown s = none
 
 -- a request of at most 4,096 bytes, without the line feed: the user, and the command

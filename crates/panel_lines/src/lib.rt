@@ -20,6 +20,8 @@ ghost use Rattle.panel_lines.specs.Grammar.{
   flagOf,
   waveformOf,
   generateOf,
+  placeNumber,
+  searchFromOf,
   verbOf,
   commandOf,
   parse,
@@ -31,6 +33,7 @@ ghost use Rattle.panel_lines.specs.Reading.{
   WordIs,
   NumberIs,
   SeedIs,
+  PlaceIs,
   twoOf,
   NameIs,
   givenOf,
@@ -57,6 +60,7 @@ enum Verb {
     Widen,
     Waveform,
     Generate,
+    SearchFrom,
     Unknown,
 }
 
@@ -67,6 +71,7 @@ pub enum Query {
     Fold(u64, u64),
     Write(u64),
     Generate(u64, u64, u64, u64),
+    SearchFrom(u64, u64, u64, u64),
 }
 
 // What is done with a witness of the loaded circuit. A waveform has the inputs alone where it says so.
@@ -176,6 +181,39 @@ fn seed_after(request: &[u8], at: usize) -> NumberWord
         Argument::Number(n) => NumberWord::Value(n, to),
         Argument::Malformed => NumberWord::Wrong,
     }
+}
+
+// The place after the space at a position.
+fn place_after(request: &[u8], at: usize) -> NumberWord
+    requires { ⌜ at ≤ length (now request) ⌝ }
+    ensures { λ r. ⌜ PlaceIs (now (request .entry)) at r ⌝ }
+{
+    let Word::At(part) = word_after(request, at) else {
+        return NumberWord::Wrong;
+    };
+    let from = part.from;
+    let to = part.to;
+    match arguments::read_place(&request[from..to]) {
+        Argument::Number(n) => NumberWord::Value(n, to),
+        Argument::Malformed => NumberWord::Wrong,
+    }
+}
+
+// The place and the number after a position, where nothing follows them.
+fn place_number(request: &[u8], at: usize) -> Two
+    requires { ⌜ at ≤ length (now request) ⌝ }
+    ensures { λ r. ⌜ twoOf r ≡ placeNumber (drop at (now (request .entry))) ⌝ }
+{
+    let NumberWord::Value(a, next) = place_after(request, at) else {
+        return Two::Neither;
+    };
+    let NumberWord::Value(b, end) = number_after(request, next) else {
+        return Two::Neither;
+    };
+    if end < request.len() {
+        return Two::Neither;
+    }
+    Two::Both(a, b)
 }
 
 // The two numbers after a position, where nothing follows them.
@@ -380,6 +418,23 @@ fn read_generate(request: &[u8], at: usize) -> Task
     Task::Ask(Query::Generate(seed, i, l, a))
 }
 
+// The arguments `b t PLACE D` of search-from.
+fn read_search_from(request: &[u8], at: usize) -> Task
+    requires { ⌜ at ≤ length (now request) ⌝ }
+    ensures { λ r. ⌜ TaskIs (now (request .entry)) (searchFromOf (drop at (now (request .entry)))) r ⌝ }
+{
+    let NumberWord::Value(b, frame) = number_after(request, at) else {
+        return Task::Malformed;
+    };
+    let NumberWord::Value(t, next) = number_after(request, frame) else {
+        return Task::Malformed;
+    };
+    let Two::Both(place, d) = place_number(request, next) else {
+        return Task::Malformed;
+    };
+    Task::Ask(Query::SearchFrom(b, t, place, d))
+}
+
 // A verb where a part of a request is its word, and another where it is not.
 fn verb_where(request: &[u8], part: Part, word: &[u8], verb: Verb, other: Verb) -> Verb
     requires { ⌜ Inside (now request) part ⌝ }
@@ -397,6 +452,7 @@ fn verb_of(request: &[u8], part: Part) -> Verb
     ensures { λ r. ⌜ r ≡ verbOf (bytesOf (now (request .entry)) part) ⌝ }
 {
     let verb = Verb::Unknown;
+    let verb = verb_where(request, part, b"search-from", Verb::SearchFrom, verb);
     let verb = verb_where(request, part, b"generate", Verb::Generate, verb);
     let verb = verb_where(request, part, b"waveform", Verb::Waveform, verb);
     let verb = verb_where(request, part, b"widen", Verb::Widen, verb);
@@ -427,6 +483,7 @@ fn read_task(request: &[u8], at: usize, verb: Verb) -> Task
         Verb::Widen => read_view(request, at, View::Widen),
         Verb::Waveform => read_waveform(request, at),
         Verb::Generate => read_generate(request, at),
+        Verb::SearchFrom => read_search_from(request, at),
         Verb::Unknown => Task::Malformed,
     }
 }

@@ -31,7 +31,12 @@ use Rattle.pins.proofs.Questions.{run-fills}
 use Rattle.pins.proofs.Valid.{pinned-counts}
 use Rattle.pinned_runs.specs.Obeys.{pinnedShows, pinnedWidenedText}
 use Rattle.pinning.specs.Operations.{PinnedSearchEffect, pinnedShown}
-use Rattle.call_forms.specs.Forms.{Tested, UserSearched, UserFolded, UserWritten, UserWidened, UserWaveformed, UserGenerated}
+use Rattle.pinning.specs.FromPlace.{pinnedTextAt, PinnedPlaceEffect}
+use Rattle.place_search.specs.Places.{Placed, outcomeOf}
+use Rattle.place_search.specs.Operation.{placeTests}
+use Rattle.place_search.proofs.Searches.{textOf, shown-as}
+use Rattle.place_decision.specs.Reach.{placeChosen}
+use Rattle.call_forms.specs.Forms.{Tested, UserSearched, UserSearchedFrom, UserFolded, UserWritten, UserWidened, UserWaveformed, UserGenerated}
 use Rattle.writer.specs.Forms.{InForm}
 use Rattle.generated.specs.Generated.{generatedText, generateTests, Generated}
 use Rattle.renumbered.specs.Renumbered.{writeBinary}
@@ -238,6 +243,23 @@ module _ (c : Circuit) (q : ℕ → ℕ) where
         };
       }
 
+  -- from a place
+  placed-long : (b t : ℕ) (a : Placed) → shownLength c b (outcomeOf t a) ≡ length (textOf (pinnedTextAt c q b t) a)
+  placed-long b t (Placed.hit x) = sym (witness-length c b t (runIn (pinnedSpace c q) t x) (shaped t x))
+  placed-long b t Placed.clear = refl
+  placed-long b t (Placed.spent R) = refl
+
+  placed-told : {out out₀ s : List ℕ} (w : List ℕ) (b t place D : ℕ) (o : Report) → PinnedPlaceEffect placeChosen q b t place D out c o (w, s)
+      → Told out out₀ s (o .length) (λ (z : List ℕ). PinnedPlaceEffect placeChosen q b t place D out₀ c o (w, z))
+  placed-told {out = out} {out₀ = out₀} w b t place D o f =
+      let a = placeChosen (pinned c q) b t place D in
+      record {
+        text = textOf (pinnedTextAt c q b t) a;
+        long = ap (λ (r : Report). r .length) (f .chose) ∙ placed-long b t a;
+        left = f .shows ∙ shown-as (pinnedTextAt c q b t) a out;
+        again = record { chose = f .chose; allowed = f .allowed; shows = sym (shown-as (pinnedTextAt c q b t) a out₀) };
+      }
+
 pub search-told : (pins : List ℕ) (user : ℕ) {m w w′ out out₀ out′ : List ℕ} {b k D : ℕ} {a : Answer Report} → length out ≡ length out₀
     → UserSearched Search.chosen m pins user b k D w out a w′ out′
     → Told out out₀ out′ (toldLength a) (λ (o : List ℕ). UserSearched Search.chosen m pins user b k D w out₀ a w′ o)
@@ -246,4 +268,14 @@ search-told pins user {w = w} {out = out} {out₀ = out₀} {b = b} {k = k} {D =
     (λ a w′ s p.
     operated-told-beside toldLength (λ n. refl) (λ c. ap (λ (n : ℕ). searchTests c b k D (length w) n) e)
     (λ c h j o w′ s f. report-told c (pinsOf pins user) w′ b k D o f) p)
+    x
+
+pub from-told : (pins : List ℕ) (user : ℕ) {m w w′ out out₀ out′ : List ℕ} {b t place D : ℕ} {a : Answer Report} → length out ≡ length out₀
+    → UserSearchedFrom placeChosen m pins user b t place D w out a w′ out′
+    → Told out out₀ out′ (toldLength a) (λ (o : List ℕ). UserSearchedFrom placeChosen m pins user b t place D w out₀ a w′ o)
+from-told pins user {w = w} {out = out} {out₀ = out₀} {b = b} {t = t} {place = place} {D = D} e x =
+    for-told-beside toldLength (λ n. refl)
+    (λ a w′ s p.
+    operated-told-beside toldLength (λ n. refl) (λ c. ap (λ (n : ℕ). placeTests (pinned c (pinsOf pins user)) c b t place D (length w) n) e)
+    (λ c h j o w′ s f. placed-told c (pinsOf pins user) w′ b t place D o f) p)
     x

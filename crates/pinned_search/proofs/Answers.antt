@@ -243,10 +243,10 @@ module _ {m : List ℕ} {p : Layout} {user b k D room len : ℕ} (f : PinnedFits
         → InFull p q b x after a out → OutputIs c q b k D before a out
     full-is (Found t n) {before} {out = out} long x w =
         subst (λ (y : Answer Report). OutputIs c q b k D before y out) (sym (w .0)) (expand-is long x refl (w .1) refl)
-    full-is (Nothing n flag) {before} long x w =
-        subst (λ (y : Answer Report). OutputIs c q b k D before y _) (sym (w .0)) (subst (OutputIs c q b k D before (gives (noneReport n flag))) (sym (w .1)) (none-is x))
-    full-is (Spent t R) {before} long x w =
-        subst (λ (y : Answer Report). OutputIs c q b k D before y _) (sym (w .0)) (subst (OutputIs c q b k D before (gives (spentReport t R))) (sym (w .1)) (spent-is x))
+    full-is (Nothing n flag) {before} {out = out} long x w =
+        subst (λ (y : Answer Report). OutputIs c q b k D before y out) (sym (w .0)) (subst (OutputIs c q b k D before (gives (noneReport n flag))) (sym (w .1)) (none-is x))
+    full-is (Spent t R) {before} {out = out} long x w =
+        subst (λ (y : Answer Report). OutputIs c q b k D before y out) (sym (w .0)) (subst (OutputIs c q b k D before (gives (spentReport t R))) (sym (w .1)) (spent-is x))
     full-is (Refused n) long x w = absurd (never-refused x)
 
 -- what writing a witness out requires

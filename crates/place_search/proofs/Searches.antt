@@ -77,7 +77,7 @@ textOf text (Placed.hit x) = text x
 textOf text Placed.clear = []
 textOf text (Placed.spent R) = []
 
-shown-as : (text : ℕ → List ℕ) (a : Placed) (out : List ℕ) → shownAt text a out ≡ front (textOf text a) out
+pub shown-as : (text : ℕ → List ℕ) (a : Placed) (out : List ℕ) → shownAt text a out ≡ front (textOf text a) out
 shown-as text (Placed.hit x) out = refl
 shown-as text Placed.clear out = refl
 shown-as text (Placed.spent R) out = refl

@@ -19,19 +19,23 @@ verb-where-requires-11 c κs = c .before .before .before .before .before .before
 
 returns : tie.Need-returns
 returns c =
-    let start = c .before .before .before .before .before .before .before .before .before .before .before .before .before .before .before .before .before .before .before .before .before .before .before in
+    let start = c .before .before .before .before .before .before .before .before .before .before .before .before .before .before .before .before .before .before .before .before .before .before .before .before .before in
     let w = bytesOf (start .args .request .now) (start .args .part) in
-    verb-more (same w (bytes "pin")) Verb.Pin (c .verb-where11 .ensures)
-    (verb-more (same w (bytes "search")) Verb.Search (c .before .before .verb-where10 .ensures)
-    (verb-more (same w (bytes "fold")) Verb.Fold (c .before .before .before .before .verb-where9 .ensures)
-    (verb-more (same w (bytes "write")) Verb.Write (c .before .before .before .before .before .before .verb-where8 .ensures)
-    (verb-more (same w (bytes "load")) Verb.Load (c .before .before .before .before .before .before .before .before .verb-where7 .ensures)
-    (verb-more (same w (bytes "preview")) Verb.Preview (c .before .before .before .before .before .before .before .before .before .before .verb-where6 .ensures)
-    (verb-more (same w (bytes "join")) Verb.Join (c .before .before .before .before .before .before .before .before .before .before .before .before .verb-where5 .ensures)
-    (verb-more (same w (bytes "replay")) Verb.Replay (c .before .before .before .before .before .before .before .before .before .before .before .before .before .before .verb-where4 .ensures)
-    (verb-more (same w (bytes "widen")) Verb.Widen (c .before .before .before .before .before .before .before .before .before .before .before .before .before .before .before .before .verb-where3 .ensures)
-    (verb-more (same w (bytes "waveform")) Verb.Waveform (c .before .before .before .before .before .before .before .before .before .before .before .before .before .before .before .before .before .before .verb-where2 .ensures)
-    (c .before .before .before .before .before .before .before .before .before .before .before .before .before .before .before .before .before .before .before .before .verb-where .ensures))))))))))
+    verb-more (same w (bytes "pin")) Verb.Pin (c .verb-where12 .ensures)
+    (verb-more (same w (bytes "search")) Verb.Search (c .before .before .verb-where11 .ensures)
+    (verb-more (same w (bytes "fold")) Verb.Fold (c .before .before .before .before .verb-where10 .ensures)
+    (verb-more (same w (bytes "write")) Verb.Write (c .before .before .before .before .before .before .verb-where9 .ensures)
+    (verb-more (same w (bytes "load")) Verb.Load (c .before .before .before .before .before .before .before .before .verb-where8 .ensures)
+    (verb-more (same w (bytes "preview")) Verb.Preview (c .before .before .before .before .before .before .before .before .before .before .verb-where7 .ensures)
+    (verb-more (same w (bytes "join")) Verb.Join (c .before .before .before .before .before .before .before .before .before .before .before .before .verb-where6 .ensures)
+    (verb-more (same w (bytes "replay")) Verb.Replay (c .before .before .before .before .before .before .before .before .before .before .before .before .before .before .verb-where5 .ensures)
+    (verb-more (same w (bytes "widen")) Verb.Widen (c .before .before .before .before .before .before .before .before .before .before .before .before .before .before .before .before .verb-where4 .ensures)
+    (verb-more (same w (bytes "waveform")) Verb.Waveform (c .before .before .before .before .before .before .before .before .before .before .before .before .before .before .before .before .before .before .verb-where3 .ensures)
+    (verb-more (same w (bytes "generate")) Verb.Generate (c .before .before .before .before .before .before .before .before .before .before .before .before .before .before .before .before .before .before .before .before .verb-where2 .ensures)
+    (c .before .before .before .before .before .before .before .before .before .before .before .before .before .before .before .before .before .before .before .before .before .before .verb-where .ensures)))))))))))
+
+verb-where-requires-12 : tie.Need-verb-where-requires-12
+verb-where-requires-12 c κs = c .before .before .before .before .before .before .before .before .before .before .before .before .before .before .before .before .before .before .before .before .before .before .before .before .pre
 
 pub verb-of-spec : {M : Type 1} → statement M
 verb-of-spec =
@@ -41,4 +45,4 @@ verb-of-spec =
     (λ c κs. search needs) (λ c. search needs) (λ c κs. search needs) (λ c. search needs) (λ c κs. search needs)
     (λ c. search needs) (λ c κs. search needs) (λ c. search needs) (λ c κs. search needs) (λ c. search needs)
     (λ c κs. search needs) (λ c. search needs) verb-where-requires-9 (λ c. search needs) verb-where-requires-10 (λ c. search needs)
-    verb-where-requires-11 returns)
+    verb-where-requires-11 (λ c. search needs) verb-where-requires-12 returns)
