@@ -40,15 +40,9 @@ static void test(void)
     if (yunverok_pin(0, NULL, 0, memory, 33040, 256, 2, answer, YUNVEROK_ANSWER) != 18) abort();
 }
 
-static size_t write_text(uint8_t *to, size_t room)
+static size_t write_form(uint64_t form, uint8_t *to, size_t room)
 {
-    if (yunverok_write(0, memory, 33040, to, room, answer, YUNVEROK_ANSWER)) abort();
-    return answer[YUNVEROK_LENGTH];
-}
-
-static size_t write_binary(uint8_t *to, size_t room)
-{
-    if (yunverok_write_binary(0, memory, 33040, to, room, answer, YUNVEROK_ANSWER)) abort();
+    if (yunverok_write(0, memory, 33040, form, to, room, answer, YUNVEROK_ANSWER)) abort();
     return answer[YUNVEROK_LENGTH];
 }
 
@@ -84,9 +78,9 @@ static void loads(void)
                 for (int k = 0; k < 20; k++) test();
                 double c = now();
                 for (int k = 0; k < 20; k++)
-                    if (write_text(back, sizeof back) != n) abort();
+                    if (write_form(0, back, sizeof back) != n) abort();
                 double d = now();
-                for (int k = 0; k < 20; k++) write_binary(out, sizeof out);
+                for (int k = 0; k < 20; k++) write_form(1, out, sizeof out);
                 double e = now();
                 if ((b - a) / 20 < loaded) loaded = (b - a) / 20;
                 if ((c - b) / 20 < tested) tested = (c - b) / 20;

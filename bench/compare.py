@@ -4,7 +4,6 @@ import argparse
 import math
 import os
 import platform
-import random
 import re
 import statistics
 import subprocess
@@ -80,16 +79,13 @@ def binary(text):
 
 
 def drawn(seed):
-    """A random machine: each next value is a random function of inputs and latches, the bad line asks for three latches at once."""
-    draw = random.Random(seed)
-    i, l, a = draw.randint(1, 4), draw.randint(6, 14), draw.randint(30, 160)
-    first = i + l + 1
-    some = lambda top: 2 * draw.randint(1, top) + draw.randint(0, 1)
-    gates = [[2 * v, some(v - 1), some(v - 1)] for v in range(first, first + a)]
-    x, y, z = draw.sample(range(i + 1, first), 3)
-    gates += [[2 * (first + a), 2 * x + draw.randint(0, 1), 2 * y], [2 * (first + a + 1), 2 * (first + a), 2 * z + 1]]
-    rows = [["aag", first + a + 1, i, l, 0, a + 2, 1]] + [[2 * v] for v in range(1, i + 1)]
-    rows += [[2 * v, some(first + a - 1)] for v in range(i + 1, first)] + [[2 * (first + a + 1)]] + gates
+    """The machine that the library generates of a seed, with another bad line, which asks for its first three latches at once."""
+    i, l, a = 1 + seed % 4, 6 + 5 * seed % 9, 30 + 37 * seed % 131
+    made = subprocess.run([os.path.join(WORK, "draw"), *map(str, (seed, i, l, a))], capture_output=True, text=True, check=True).stdout
+    _, (inputs, latches, _, _, _, gates) = parse(made)
+    top, (x, y, z) = i + l + a + 2, [row[0] for row in latches[:3]]
+    gates += [[2 * top - 2, x, y], [2 * top, 2 * top - 2, z + 1]]
+    rows = [["aag", top, i, l, 0, a + 2, 1]] + inputs + latches + [[2 * top]] + gates
     return "".join(" ".join(map(str, row)) + "\n" for row in rows)
 
 
@@ -147,7 +143,7 @@ def queries(machines):
             for b, k, answer in re.findall(r"^Ask: search \S+ (\d+) (\d+) \d+\nAnswer: (\w+ \d+)", text, flags=re.M):
                 yield "examples", f"{name[:-4]} {b}", one_bad_line(text, int(b)), int(k), answer
     for seed in range(1, machines + 1):
-        yield "drawn machines", f"drawn {seed}", drawn(seed), 20, None
+        yield "generated machines", f"generated {seed}", drawn(seed), 20, None
     for name, text, _ in triggers:
         if name.split("_")[0] in ("t01", "t08", "t31"):
             for k in (16, 32, 64, 128, 192, 255):
@@ -222,7 +218,7 @@ def means(rows):
 
 def main():
     args = argparse.ArgumentParser()
-    args.add_argument("--machines", type=int, default=8, help="how many random machines are drawn")
+    args.add_argument("--machines", type=int, default=8, help="how many machines are generated")
     args.add_argument("--runs", type=int, default=5, help="runs of which the median is taken, where one takes less than a second")
     args.add_argument("--limit", type=int, default=30, help="seconds for a query")
     args.add_argument("--family", default="", help="ask only the families whose name has this word")

@@ -106,20 +106,14 @@ static void triggers(int count, char **names)
 
 enum { INPUTS = 4, LATCHES = 24, GATES = 1000, FRAMES = 256 };
 
-/* A random machine; bad is the literal of its bad line. */
-static size_t machine(uint32_t bad)
+/* The machine that the library generates of a seed, with another bad line: bad is its literal, of four digits as that of the last gate. */
+static size_t machine(uint64_t from, uint32_t bad)
 {
-    char *p = (char *)text;
-    uint32_t first = INPUTS + LATCHES + 1;
-    p += sprintf(p, "aag %d %d %d 0 %d 1\n", INPUTS + LATCHES + GATES, INPUTS, LATCHES, GATES);
-    for (int i = 0; i < INPUTS; i++) p += sprintf(p, "%d\n", 2 * (i + 1));
-    for (int j = 0; j < LATCHES; j++) p += sprintf(p, "%d %u\n", 2 * (INPUTS + 1 + j), draw(2 * (first + GATES)));
-    p += sprintf(p, "%u\n", bad);
-    for (int g = 0; g < GATES; g++) {
-        uint32_t lit = 2 * (first + g);
-        p += sprintf(p, "%u %u %u\n", lit, draw(lit - 2) + 2, draw(lit - 2) + 2);
-    }
-    return p - (char *)text;
+    if (yunverok_generate(from, INPUTS, LATCHES, GATES, text, sizeof text, answer, YUNVEROK_ANSWER)) abort();
+    char *p = (char *)text, digits[11];
+    for (int line = 0; line < 1 + INPUTS + LATCHES; line++) p = strchr(p, '\n') + 1;
+    memcpy(p, digits, sprintf(digits, "%u", bad));
+    return answer[YUNVEROK_LENGTH];
 }
 
 static void machines(void)
@@ -137,12 +131,8 @@ static void machines(void)
             *p++ = '\n';
         }
         p += sprintf(p, ".\n");
-        uint32_t drawn = seed;
-        load(text, machine(bad));
-        if (replay(witness, p - (char *)witness) == YUNVEROK_NO) {
-            seed = drawn;
-            load(text, machine(bad + 1));
-        }
+        load(text, machine(i, bad));
+        if (replay(witness, p - (char *)witness) == YUNVEROK_NO) load(text, machine(i, bad + 1));
         double time = widen(p - (char *)witness);
         int x = eithers(p - (char *)witness);
         sum += time;

@@ -1,5 +1,5 @@
-/* Yunverok: load, join, search, fold, replay, widen and write AIGER circuits, and show the run of a witness as a waveform, for two
-   users of one circuit. The functions are proved: crates/interface/src/lib.rt has their contracts, which this page tells in words. They
+/* Yunverok: load, join, search, fold, replay, widen, write and generate AIGER circuits, and show the run of a witness as a waveform, for
+   two users of one circuit. The functions are proved: crates/interface/src/lib.rt has their contracts, which this page tells in words. They
    are in the archive libyunverok.a, which library/build makes.
 
    What is lent. A slice is a pointer and a length in elements. The memory must exist; a pointer must be aligned for its element; a
@@ -24,7 +24,8 @@
     15  in a binary file: a difference absent, cut short, of more than five groups or 32 bits, or an operand not below its gate or below 0
     17  circuits to join: no output or more than 16, or not the same numbers of inputs and of outputs
     18  a user who may not call the function; for a pin also a value above 2, an input that is not there, and a pin that has no byte
-   (*) in a binary file I+L+A other than M.
+    21  the form is neither 0 nor 1
+   (*) in a binary file I+L+A other than M; of generate, counts that are not permitted.
 
    The answer (answer) has sixteen places, each with one meaning in all functions; the names below are the numbers of the places. A call
    that is not refused writes all of them, 0 where a place does not apply; a refused call writes none. Places that are not there,
@@ -59,15 +60,15 @@
    call never matters. What it holds after a call that is not refused is not promised.
 
    Stack. At most 240 kilobytes are used by search and 195 by fold where a pin of the user holds an input, 140 by either where none does;
-   185 by write_binary, 165 by replay, and 105 by the others, whatever the circuit; docs/MEMORY.md has the greatest depth measured for
+   185 by write, 165 by replay, and 105 by the others, whatever the circuit; docs/MEMORY.md has the greatest depth measured for
    each function. */
 #ifndef YUNVEROK_H
 #define YUNVEROK_H
 #include <stdint.h>
 
 /* Lengths that are never too short: of circuit memory and working memory in words; of the output of search and of widen (the longest
-   witness that replay accepts; that of a search has at most 66,568 bytes), of write, of write_binary, of fold and of waveform in bytes;
-   of what users share in bytes; and of an answer in numbers. A file to load has at most YUNVEROK_TEXT bytes. */
+   witness that replay accepts; that of a search has at most 66,568 bytes), of write in form 0 and in form 1, of fold, of waveform and of
+   generate in bytes; of what users share in bytes; and of an answer in numbers. A file to load has at most YUNVEROK_TEXT bytes. */
 #define YUNVEROK_MEMORY 33032
 #define YUNVEROK_WORK 1048576
 #define YUNVEROK_WITNESS 66825
@@ -75,6 +76,7 @@
 #define YUNVEROK_BINARY 24576
 #define YUNVEROK_FOLD 1572928
 #define YUNVEROK_WAVEFORM 1456223
+#define YUNVEROK_GENERATED 55798
 #define YUNVEROK_SHARED 2560
 #define YUNVEROK_ANSWER 16
 
@@ -112,7 +114,7 @@ enum yunverok_kind {
 extern "C" {
 #endif
 
-/* The number of this interface: 1. It grows by 1 with each change of it. */
+/* The number of this interface: 2. It grows by 1 with each change of it. */
 uint64_t yunverok_version(void);
 
 /* Loads an AIGER 1.9 file, in ASCII or in binary form, told apart by the header's first word, aag or aig. User 0 alone may. Returns 0,
@@ -211,22 +213,28 @@ uint64_t yunverok_widen(uint64_t user, const uint8_t *shared, uint64_t shared_le
 uint64_t yunverok_waveform(uint64_t user, const uint32_t *circuit, uint64_t circuit_len, const uint8_t *text, uint64_t text_len,
                            uint64_t inputs, uint8_t *out, uint64_t out_len, uint64_t *answer, uint64_t answer_len);
 
-/* Writes the circuit as an AIGER file in ASCII: seven header numbers, definitions in file order, a reset only where it is not 0, no
-   tail. Either user may, and pins change nothing. Returns 0, and the text stands at the front of out; answer tells its length. Or
-   returns the number of the refusal, 18 for a user who is neither 0 nor 1 and then 9 or 13, and out and answer are as they were. out
-   needs the text's length, at most YUNVEROK_TEXT; the bytes past the text are as they were. A call with out_len 0 returns 13 where
-   circuit holds a circuit, and 9 where it holds none. */
-uint64_t yunverok_write(uint64_t user, const uint32_t *circuit, uint64_t circuit_len, uint8_t *out, uint64_t out_len, uint64_t *answer,
-                        uint64_t answer_len);
+/* Writes the circuit as an AIGER file in a form. Form 0 is the ASCII form: seven header numbers, definitions in file order, a reset only
+   where it is not 0, no tail. Form 1 is the binary form: seven header numbers, a reset only where it is not 0, differences in the fewest
+   groups, no tail; variables get new numbers, inputs, latches, then gates, each time the earliest listed gate whose operands have
+   numbers, and the larger operand of a gate comes first. Either user may, and pins change nothing. Returns 0, and the text stands at the
+   front of out; answer tells its length. Or returns the number of the refusal, 18 for a user who is neither 0 nor 1, then 21, 9 or 13, in
+   this order, and out and answer are as they were. out needs the text's length, in form 0 at most YUNVEROK_TEXT, in form 1 at most
+   YUNVEROK_BINARY; the bytes past the text are as they were. A call with form 0 or 1 and out_len 0 returns 13 where circuit holds a
+   circuit, and 9 where it holds none. */
+uint64_t yunverok_write(uint64_t user, const uint32_t *circuit, uint64_t circuit_len, uint64_t form, uint8_t *out, uint64_t out_len,
+                        uint64_t *answer, uint64_t answer_len);
 
-/* Writes the circuit as an AIGER file in binary form: seven header numbers, a reset only where it is not 0, differences in the fewest
-   groups, no tail. Variables get new numbers: inputs, latches, then gates, each time the earliest listed gate whose operands have
-   numbers; the larger operand of a gate comes first. Either user may, and pins change nothing. Returns 0, and the text stands at the
-   front of out; answer tells its length. Or returns the number of the refusal, 18 for a user who is neither 0 nor 1 and then 9 or 13,
-   and out and answer are as they were. out needs the text's length, at most YUNVEROK_BINARY; the bytes past the text are as they were.
-   */
-uint64_t yunverok_write_binary(uint64_t user, const uint32_t *circuit, uint64_t circuit_len, uint8_t *out, uint64_t out_len,
-                               uint64_t *answer, uint64_t answer_len);
+/* Generates a circuit from a seed and counts, as an AIGER file in ASCII: the same seed and counts give the same bytes wherever it runs.
+   Variables are numbered in the order inputs, latches, gates, so that M is inputs + latches + gates. The seed is the state of Knuth's MMIX
+   generator. Each latch's next literal, in file order, and then for each gate its first and its second operand takes one draw, the upper
+   32 bits of the state after the step, modulo the number of literals that may stand there: 2M + 2 for a latch, 2v for the gate of
+   variable v. The header has six numbers; there is no output, constraint, reset or tail, and the one bad line is the last gate. It needs no
+   memory but out and takes no user: nothing is loaded, and either user may load what is written. Returns 0, and the text stands at the
+   front of out; answer tells its length. Or returns 3 for inputs above 256, latches above 1,024, gates above 3,072, more than 4,096 of
+   them together, no gate, or neither input nor latch; then 13 for an out that is shorter than the text; and out and answer are as they
+   were. out needs the text's length, at most YUNVEROK_GENERATED; the bytes past the text are as they were. */
+uint64_t yunverok_generate(uint64_t seed, uint64_t inputs, uint64_t latches, uint64_t gates, uint8_t *out, uint64_t out_len,
+                           uint64_t *answer, uint64_t answer_len);
 
 #ifdef __cplusplus
 }

@@ -268,8 +268,8 @@ impl Analyser {
         text_reply(Ok(wide), out)
     }
 
-    pub fn write(&self, user: u64, binary: bool, out: &[u8]) -> Reply {
-        let text = if user > 1 { Err(18) } else { reference::write(&self.memory, binary, out.len() as u64) };
+    pub fn write(&self, user: u64, form: u64, out: &[u8]) -> Reply {
+        let text = if user > 1 { Err(18) } else { reference::write(&self.memory, form, out.len() as u64) };
         text_reply(text, out)
     }
 

@@ -1,5 +1,7 @@
-//! Random circuits, their files, witnesses, and damage to them. Nothing here knows what an operation answers.
+//! Random circuits, their files, witnesses, and damage to them. Nothing here knows what an operation answers. A circuit without outputs,
+//! constraints, spare variables and free starts is one that the library generates.
 
+use crate::interface;
 use crate::random::Random;
 use crate::reference::{self, Circuit, Gate, Latch};
 
@@ -17,7 +19,15 @@ pub struct Plan {
     pub free_one_in: u64,
 }
 
-/// A plan whose circuit needs at most `words` words, mostly far fewer.
+impl Plan {
+    /// Whether the operation generate has circuits of this plan.
+    fn is_plain(&self) -> bool {
+        let others = self.outputs + self.constraints + self.spare + self.free_one_in;
+        self.inputs + self.latches > 0 && self.gates > 0 && self.bads == 1 && others == 0
+    }
+}
+
+/// A plan whose circuit needs at most `words` words, mostly far fewer. One in three is plain, where there is room for it.
 pub fn small_plan(r: &mut Random, words: u64) -> Plan {
     let most = (words.saturating_sub(256) / 8).saturating_sub(1).min(4096);
     let scale = if r.one_in(12) { 8 } else { 1 };
@@ -25,6 +35,9 @@ pub fn small_plan(r: &mut Random, words: u64) -> Plan {
     let latches = r.below(5 * scale).min(most - inputs);
     let gates = r.below(14 * scale).min(most - inputs - latches);
     let spare = r.choose(&[0, 0, 0, 1, 3]).min(most - inputs - latches - gates);
+    if r.one_in(3) {
+        return Plan { inputs, latches, gates, bads: 1, ..Plan::default() };
+    }
     Plan {
         inputs,
         latches,
@@ -52,6 +65,9 @@ pub fn large_plan(r: &mut Random) -> Plan {
     };
     let spare = r.below(4097 - inputs - latches - gates);
     let outputs = r.choose(&[0, 1, 64]);
+    if r.one_in(3) {
+        return Plan { inputs, latches, gates, bads: 1, ..Plan::default() };
+    }
     Plan { inputs, latches, gates, outputs, bads, constraints, free_one_in, spare: r.choose(&[0, spare]) }
 }
 
@@ -82,7 +98,19 @@ fn reset(r: &mut Random, lit: u64, free_one_in: u64) -> u64 {
     u64::from(r.one_in(4))
 }
 
+/// The circuit that the library generates of a seed and a plain plan, as the reference reads it.
+fn generated(seed: u64, p: &Plan) -> Circuit {
+    let (mut out, mut answer) = (vec![0; 55_798], [0; 16]);
+    let room = out.len() as u64;
+    let number = unsafe { interface::yunverok_generate(seed, p.inputs, p.latches, p.gates, out.as_mut_ptr(), room, answer.as_mut_ptr(), 16) };
+    assert_eq!(number, 0, "generate of seed {seed} is refused");
+    reference::load(&out[..answer[2] as usize], 33_032).expect("a generated circuit loads")
+}
+
 pub fn circuit(r: &mut Random, p: &Plan) -> Circuit {
+    if p.is_plain() {
+        return generated(r.word(), p);
+    }
     let max_var = p.inputs + p.latches + p.gates + p.spare;
     let mut variables: Vec<u64> = (1..=max_var).collect();
     if r.one_in(2) {
@@ -286,6 +314,15 @@ fn change_byte(r: &mut Random, text: &mut Vec<u8>) {
         1 => text[at] = byte,
         2 => text.insert(at, byte),
         _ => drop(text.remove(at)),
+    }
+}
+
+/// A form of write: 0 or 1, or a number that is none.
+pub fn form(r: &mut Random) -> u64 {
+    match r.below(12) {
+        0 => r.choose(&[2, 3, 256, 257, 4_294_967_295, 4_294_967_296, 4_294_967_297, 9_999_999_999, u64::MAX]),
+        1 => r.word(),
+        _ => r.below(2),
     }
 }
 

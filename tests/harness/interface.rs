@@ -22,17 +22,17 @@ extern "C" {
                           text_len: u64, out: *mut u8, out_len: u64, answer: *mut u64, answer_len: u64) -> u64;
     pub fn yunverok_waveform(user: u64, circuit: *const u32, circuit_len: u64, text: *const u8, text_len: u64, inputs: u64, out: *mut u8,
                              out_len: u64, answer: *mut u64, answer_len: u64) -> u64;
-    pub fn yunverok_write(user: u64, circuit: *const u32, circuit_len: u64, out: *mut u8, out_len: u64, answer: *mut u64,
+    pub fn yunverok_write(user: u64, circuit: *const u32, circuit_len: u64, form: u64, out: *mut u8, out_len: u64, answer: *mut u64,
                           answer_len: u64) -> u64;
-    pub fn yunverok_write_binary(user: u64, circuit: *const u32, circuit_len: u64, out: *mut u8, out_len: u64, answer: *mut u64,
-                                 answer_len: u64) -> u64;
+    pub fn yunverok_generate(seed: u64, inputs: u64, latches: u64, gates: u64, out: *mut u8, out_len: u64, answer: *mut u64,
+                             answer_len: u64) -> u64;
 }
 
 /// The places of an answer: kind, frame, length, words, reached, seven counts, whether a none holds for every bound, load's number, two
 /// that are 0.
 pub type Places = [u64; 16];
 
-pub const VERSION: u64 = 1;
+pub const VERSION: u64 = 2;
 
 pub const DONE: u64 = 0;
 pub const FOUND: u64 = 1;

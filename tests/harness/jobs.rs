@@ -98,7 +98,8 @@ impl Harness {
             72..=80 => self.on_memory(large, Harness::replay_job),
             81..=85 => self.on_memory(large, Harness::widen_job),
             86..=90 => self.on_memory(large, Harness::join_job),
-            91..=95 => self.on_memory(large, Harness::write_job),
+            91..=94 => self.on_memory(large, Harness::write_job),
+            95 | 96 => self.generate_job(large),
             _ => self.on_memory(large, Harness::waveform_job),
         }
     }
@@ -957,26 +958,59 @@ impl Harness {
 
     fn write_job(&mut self, large: bool, memory: Loan) {
         let words = self.words(&memory);
-        let binary = self.random.one_in(2);
-        let operation = if binary { Operation::WriteBinary } else { Operation::Write };
-        let length = reference::write(&words, binary, u64::MAX).map_or(100, |text| text.len());
+        let form = generate::form(&mut self.random);
+        let length = reference::write(&words, form, u64::MAX).map_or(100, |text| text.len());
         let out_len = self.near(length as u64);
         let out = self.lend_some(Kind::Output, out_len, 1);
         let loans = [memory, out];
-        let told = self.perform(operation, large, &loans, &mut |by| unsafe {
-            let write = if binary { interface::yunverok_write_binary } else { interface::yunverok_write };
-            write(by.user, memory.words(), memory.count(), out.pointer, out.count(), by.answer.numbers(), by.answer.count())
+        let told = self.perform(Operation::Write, large, &loans, &mut |by| unsafe {
+            let (answer, places) = (by.answer.numbers(), by.answer.count());
+            interface::yunverok_write(by.user, memory.words(), memory.count(), form, out.pointer, out.count(), answer, places)
         });
-        let expected = self.may(1).and_then(|()| reference::write(&words, binary, out.count()));
+        let expected = self.may(1).and_then(|()| reference::write(&words, form, out.count()));
         let faults = self.differs(&told, &lengthened(&expected));
         match expected {
             Ok(text) => {
                 self.store(&out).expect(out.offset, &text);
-                self.tally.answer(operation, "written");
+                self.tally.answer(Operation::Write, if form == 0 { "text" } else { "binary" });
             }
-            Err(number) => self.tally.refusal(operation, number),
+            Err(number) => self.tally.refusal(Operation::Write, number),
         }
-        self.settle(operation, &loans, faults, &|| format!("output {} bytes\n{}", out.len, shown(&words)));
+        self.settle(Operation::Write, &loans, faults, &|| format!("form {form}, output {} bytes\n{}", out.len, shown(&words)));
+    }
+
+    // Generate
+
+    /// A count: mostly small, or at the limit, or next to it, or one whose sum with others does not fit in 64 bits.
+    fn count(&mut self, large: bool, most: u64) -> u64 {
+        match self.random.below(24) {
+            0 => self.random.choose(&[most, most + 1, most - 1]),
+            1 => self.random.choose(&[1 << 32, u64::MAX, u64::MAX - most, 1 << 63]),
+            _ if large => self.random.below(most + 1),
+            _ => self.random.below(most.min(30)),
+        }
+    }
+
+    fn generate_job(&mut self, large: bool) {
+        let seed = if self.random.one_in(4) { self.random.choose(&[0, 1, 1 << 63, u64::MAX]) } else { self.random.word() };
+        let counts = [256, 1024, 3072].map(|most| self.count(large, most));
+        let length = reference::generate(seed, counts, u64::MAX).map_or(100, |text| text.len());
+        let out_len = self.near(length as u64);
+        let out = self.lend_some(Kind::Output, out_len, 1);
+        let told = self.perform(Operation::Generate, large, &[out], &mut |by| unsafe {
+            let [inputs, latches, gates] = counts;
+            interface::yunverok_generate(seed, inputs, latches, gates, out.pointer, out.count(), by.answer.numbers(), by.answer.count())
+        });
+        let expected = reference::generate(seed, counts, out.count());
+        let faults = self.differs(&told, &lengthened(&expected));
+        match expected {
+            Ok(text) => {
+                self.store(&out).expect(out.offset, &text);
+                self.tally.answer(Operation::Generate, "generated");
+            }
+            Err(number) => self.tally.refusal(Operation::Generate, number),
+        }
+        self.settle(Operation::Generate, &[out], faults, &|| format!("seed {seed}, counts {counts:?}, output {} bytes", out.len));
     }
 
     // Waveform

@@ -496,14 +496,42 @@ pub fn binary_text(c: &Circuit) -> Vec<u8> {
     [binary_lines(&c), differences.flat_map(groups).collect()].concat()
 }
 
-/// Text or binary form.
-pub fn write(memory: &[u32], binary: bool, out_len: u64) -> Result<Vec<u8>, u32> {
+/// Form 0 is the text, form 1 the binary form.
+pub fn write(memory: &[u32], form: u64, out_len: u64) -> Result<Vec<u8>, u32> {
+    if form > 1 {
+        return Err(21);
+    }
     let circuit = held(memory).ok_or(9u32)?;
-    let text = if binary { binary_text(&circuit) } else { text(&circuit) };
+    let text = if form == 1 { binary_text(&circuit) } else { text(&circuit) };
     if out_len < text.len() as u64 {
         return Err(13);
     }
     Ok(text)
+}
+
+// Generate
+
+/// Clause 12.12: the text of the circuit of a seed and counts. A draw is the state after its step, and its upper half chooses a literal.
+pub fn generate(seed: u64, [i, l, a]: [u64; 3], out_len: u64) -> Result<Vec<u8>, u32> {
+    let all = u128::from(i) + u128::from(l) + u128::from(a);
+    if i > 256 || l > 1024 || a > 3072 || all > 4096 || i + l == 0 || a == 0 {
+        return Err(3);
+    }
+    let (top, mut state) = (i + l + a, seed);
+    let mut literal = |allowed: u64| {
+        state = state.wrapping_mul(6_364_136_223_846_793_005).wrapping_add(1_442_695_040_888_963_407);
+        (state >> 32) % allowed
+    };
+    let mut lines = vec![format!("aag {top} {i} {l} 0 {a} 1")];
+    lines.extend((1..=i).map(|v| format!("{}", 2 * v)));
+    lines.extend((i + 1..=i + l).map(|v| format!("{} {}", 2 * v, literal(2 * top + 2))));
+    lines.push(format!("{}", 2 * top));
+    for v in i + l + 1..=top {
+        let (first, second) = (literal(2 * v), literal(2 * v));
+        lines.push(format!("{} {first} {second}", 2 * v));
+    }
+    let text: Vec<u8> = lines.iter().flat_map(|line| format!("{line}\n").into_bytes()).collect();
+    if out_len < text.len() as u64 { Err(13) } else { Ok(text) }
 }
 
 // Frames

@@ -133,11 +133,11 @@ impl Shared {
         })
     }
 
-    pub fn write(&mut self, user: u64, binary: bool, out: &[u8]) -> Reply {
+    pub fn write(&mut self, user: u64, form: u64, out: &[u8]) -> Reply {
         let stack = self.paints.then_some(&mut self.painted);
-        let (m, write) = (&self.memory, if binary { yunverok_write_binary } else { yunverok_write });
+        let m = &self.memory;
         reply(stack, out.to_vec(), |answer, places, out| unsafe {
-            write(user, m.as_ptr(), len(m), out.as_mut_ptr(), len(out), answer, places)
+            yunverok_write(user, m.as_ptr(), len(m), form, out.as_mut_ptr(), len(out), answer, places)
         })
     }
 }

@@ -10,20 +10,20 @@ pub enum Operation {
     Fold,
     Replay,
     Write,
-    WriteBinary,
     Widen,
     Waveform,
     Join,
+    Generate,
 }
 
-pub const NAMES: [&str; 10] = ["load", "pin", "search", "fold", "replay", "write", "binary", "widen", "waveform", "join"];
+pub const NAMES: [&str; 10] = ["load", "pin", "search", "fold", "replay", "write", "widen", "waveform", "join", "generate"];
 
 #[derive(Default)]
 pub struct Tally {
     pub jobs: u64,
     by_operation: [u64; 10],
     answers: [BTreeMap<&'static str, u64>; 10],
-    refusals: [[u64; 19]; 10],
+    refusals: [[u64; 22]; 10],
     folds_by_bits: BTreeMap<u64, u64>,
     loads_with: BTreeMap<&'static str, u64>,
     found_by_frame: BTreeMap<u64, u64>,
@@ -103,7 +103,7 @@ impl Tally {
     fn report_refusals(&self) {
         let heading: String = NAMES.iter().map(|name| format!("{name:>9}")).collect();
         println!("\nrefusals {heading}      all");
-        for number in 1..19 {
+        for number in (1..19).chain([21]) {
             let row = self.refusals.map(|by_number| by_number[number]);
             let cells: String = row.iter().map(|&count| if count == 0 { format!("{:>9}", "-") } else { format!("{count:>9}") }).collect();
             println!("{number:>8} {cells} {:>8}", row.iter().sum::<u64>());

@@ -157,12 +157,12 @@ impl Run {
                 ("widen", self.shared.widen(user, &text, &out), expected)
             }
             20 => {
-                let binary = self.random.below(2) == 1;
-                let text = if binary { reference::binary_text } else { reference::text };
+                let form = generate::form(&mut self.random);
+                let text = if form == 1 { reference::binary_text } else { reference::text };
                 let need = self.analysers[me].circuit().map_or(20, |c| text(&c).len() as u64);
                 let out = self.output(need);
-                let expected = self.analysers[me].write(user, binary, &out);
-                (if binary { "write_binary" } else { "write" }, self.shared.write(user, binary, &out), expected)
+                let expected = self.analysers[me].write(user, form, &out);
+                ("write", self.shared.write(user, form, &out), expected)
             }
             21 => {
                 let file = self.file();

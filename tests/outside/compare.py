@@ -136,10 +136,10 @@ def compare_triggers(tally, how):
         say(job, ", with constraints, the file unchanged" if job.circuit.constraints else "")
 
 
-def compare_random(tally, how, seed, count, least, most):
+def compare_random(tally, how, searches, what):
     """Part b: random circuits, each searched with a budget that covers every sequence and with a smaller one."""
-    searches = list(rows.random_searches(seed, count, least, most))
-    jobs = [rows.job_of(f"r{i}", f"random {i} of seed {seed}", text) for i, (text, _) in enumerate(searches)]
+    searches = list(searches)
+    jobs = [rows.job_of(f"r{i}", f"{what} {i}", text) for i, (text, _) in enumerate(searches)]
     answer_all(jobs, how)
     spent = 0
     for job, (_, budget) in zip(jobs, searches):
@@ -148,9 +148,7 @@ def compare_random(tally, how, seed, count, least, most):
         spent += said.startswith("spent")
         tally.note("smaller budget", f"{job.title}, budget {budget}", said, full, answers.permitted(job, full, budget, said))
     seen = Counter(first_line(job.ours) if job.ours.startswith("found") else job.ours.split(" ")[0] for job in jobs)
-    with_constraints = f" with {least} to {most} constraints" if most else ""
-    print(f"{count} random circuits{with_constraints}: " + ", ".join(f"{seen[x]} {x}" for x in sorted(seen)) +
-          f"; with the smaller budget {spent} spent")
+    print(f"{len(jobs)} of {what}: " + ", ".join(f"{seen[x]} {x}" for x in sorted(seen)) + f"; with the smaller budget {spent} spent")
 
 
 def same_files():
@@ -163,7 +161,8 @@ def same_files():
 
 def options():
     parser = argparse.ArgumentParser(prog="tests/outside/run")
-    parser.add_argument("--circuits", type=int, default=4000, help="random circuits without constraints (4000)")
+    parser.add_argument("--generated", type=int, default=1500, help="circuits that the command generate makes (1500)")
+    parser.add_argument("--circuits", type=int, default=2500, help="random circuits with resets and free starts, without constraints (2500)")
     parser.add_argument("--constrained", type=int, default=1600, help="random circuits with 1 to 4 constraints (1600)")
     parser.add_argument("--seed", type=int, default=rows.SEED, help=f"seed of the random circuits ({rows.SEED})")
     parser.add_argument("--spoil", choices=["frame", "spent", "bit"], help="spoil our answers, to show that it is noticed")
@@ -176,8 +175,10 @@ def main():
     same = same_files()
     compare_published(tally, given.spoil)
     compare_triggers(tally, given.spoil)
-    compare_random(tally, given.spoil, given.seed, given.circuits, 0, 0)
-    compare_random(tally, given.spoil, given.seed + 1, given.constrained, 1, 4)
+    compare_random(tally, given.spoil, rows.generated_searches(given.seed, given.generated), f"circuits generated from seed {given.seed}")
+    compare_random(tally, given.spoil, rows.random_searches(given.seed, given.circuits, 0, 0), f"random circuits of seed {given.seed}")
+    constrained = f"random circuits of seed {given.seed + 1} with 1 to 4 constraints"
+    compare_random(tally, given.spoil, rows.random_searches(given.seed + 1, given.constrained, 1, 4), constrained)
     for kind, count in tally.made.items():
         print(f"{kind}: {count} compared, {tally.differ[kind]} differ")
     total, differ = sum(tally.made.values()), sum(tally.differ.values())

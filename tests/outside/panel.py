@@ -11,11 +11,15 @@ import sys
 import tempfile
 
 import aiger
+import draws
 
 BAD_FILES = {"empty": ("", 1), "header": ("aag 1 2\n", 2), "count": ("aag 1 2 0 0 0\n2\n4\n", 3), "line": ("aag 1 1 0 0 0\n3 3\n", 5),
              "literal": ("aag 1 1 0 0 0 1\n2\n9\n", 6), "used": ("aag 2 1 0 0 0 1\n2\n4\n", 7), "cycle": ("aag 2 1 0 0 1 1\n2\n4\n4 4 2\n", 8)}
 BITS = 12
-VERBS = ["load", "preview", "pin", "pin", "search", "search", "search", "fold", "fold", "write", "other", "replay", "replay", "widen", "waveform", "join"]
+VERBS = ["load", "preview", "pin", "pin", "search", "search", "search", "fold", "fold", "write", "other", "replay", "replay", "widen", "waveform", "join", "generate"]
+OTHER_FORMS = [2, 256, 4294967295, 4294967296, 9999999999]
+MALFORMED = [["fnord"], ["pin", 1], ["search", 0, 1], ["write", "now"], ["write", "01"], ["write", 10000000000], ["write", 1, 1], ["load"], ["load", ""],
+             ["join", "", "c1"], ["pin", "01", 1], ["x" * 5000]]
 
 
 def words(c):
@@ -270,15 +274,27 @@ class Analyser:
         wrong, w = self.shown(text)
         return said.startswith(wrong + ":") if wrong else dump_agrees(self.circuit, w, only, said)
 
-    def write(self, binary):
-        return "refused 9" if self.circuit is None else coded(self.circuit) if binary else text(self.circuit)
+    def write(self, form, said):
+        if form > 1:
+            return said == "refused 21: the form is neither 0 nor 1\n"
+        if self.circuit is None:
+            return said.startswith("refused 9:")
+        return said == (coded(self.circuit) if form else text(self.circuit))
 
 
-def files(r, folder):
-    """Files by name: their texts, and the number of the refusal, 0 where they load."""
+def ask(panel, words_of):
+    """What the resident program answers to a command."""
+    panel.stdin.write((" ".join(map(str, words_of)) + "\n").encode())
+    panel.stdin.flush()
+    return panel.stdout.read(int(panel.stdout.readline())).decode("latin-1")
+
+
+def files(r, folder, panel):
+    """Files by name: their texts, and the number of the refusal, 0 where they load. Half of the circuits are those that the program itself
+    generates, and have no output, constraint, reset or free start."""
     found = {name: (body, n) for name, (body, n) in BAD_FILES.items()}
     for i in range(40):
-        found[f"c{i}"] = (r.circuit(0, 2), 0)
+        found[f"c{i}"] = (r.circuit(0, 2) if i % 2 else ask(panel, [0, "generate", r.below(1 << 40), 1 + r.below(4), r.below(6), 1 + r.below(20)]), 0)
     for name, (body, _) in found.items():
         (folder / name).write_text(body)
     return found
@@ -301,6 +317,21 @@ def witness(r, seen, folder):
     return "witness"
 
 
+def generated(r):
+    """Seed and counts: seeds up to 20 digits, small counts, and some that are not permitted, or no numbers."""
+    seed = [0, 1, 1 << 63, (1 << 64) - 1, r.below(1 << 40), r.below(1 << 40), 1 << 64, "01", 10 ** 20][r.below(9)]
+    counts = [r.below(5), r.below(6), r.below(20)]
+    if r.below(4) == 0:
+        counts[r.below(3)] = [257, 1025, 3073, 0, 1 << 33, 10 ** 10, "00"][r.below(7)]
+    return [seed] + counts
+
+
+def generate_agrees(args, said):
+    if any(str(n) != str(int(n)) for n in args) or args[0] >= 1 << 64 or any(n >= 10 ** 10 for n in args[1:]):
+        return said == "malformed\n"
+    return said == draws.text(*args).decode() if draws.permitted(*args[1:]) else said.startswith("refused 3:")
+
+
 def command(r, user, mine, names, seen, folder):
     """A command that the analyser of its user can judge."""
     kind = VERBS[r.below(len(VERBS))]
@@ -317,15 +348,25 @@ def command(r, user, mine, names, seen, folder):
     if kind == "fold":
         return [kind, r.below(4), bound(r, mine.circuit, mine.pins)]
     if kind == "write":
-        return [kind] + (["binary"] if r.below(2) else [])
-    return [["fnord"], ["pin", 1], ["search", 0, 1], ["write", "now"], ["load"], ["load", ""], ["join", "", "c1"], ["pin", "01", 1], ["x" * 5000]][r.below(9)]
+        return [kind] + ([], ["binary"], [0], [1], [OTHER_FORMS[r.below(len(OTHER_FORMS))]])[r.below(5)]
+    if kind == "generate":
+        return [kind] + generated(r)[:3 if r.below(30) == 0 else 4]
+    return MALFORMED[r.below(len(MALFORMED))]
+
+
+def form_of(args):
+    """The form that the arguments of write name, none where they name no form."""
+    form = {(): 0, ("binary",): 1}.get(tuple(args), args[0] if args else None)
+    return form if isinstance(form, int) and form < 10 ** 10 else None
 
 
 def agrees(user, words_of, said, users, found, folder):
     """Whether the answer is right; an accepted load is given to both analysers."""
     verb, args = words_of[0], words_of[1:]
-    sizes = {"load": [1], "preview": [1], "pin": [2], "search": [3], "fold": [2], "write": [0, 1], "replay": [1], "widen": [1], "waveform": [1, 2], "join": [2]}
-    if len(args) not in sizes.get(verb, []) or "01" in args or "" in args or (verb == "write" and args not in ([], ["binary"])):
+    if verb == "generate" and len(args) == 4 and (user < 2 or said == "malformed\n"):
+        return generate_agrees(args, said)
+    sizes = {"load": [1], "preview": [1], "pin": [2], "search": [3], "fold": [2], "write": [0, 1], "replay": [1], "widen": [1], "waveform": [1, 2], "join": [2], "generate": [4]}
+    if len(args) not in sizes.get(verb, []) or "01" in args or "" in args or (verb == "write" and form_of(args) is None):
         return said == "malformed\n"
     if user > 1 or (user == 1 and verb in ("load", "join")):
         return said.startswith("refused 18:")
@@ -362,7 +403,7 @@ def agrees(user, words_of, said, users, found, folder):
         return mine.search(*args, said)
     if verb == "fold":
         return mine.fold(*args, said)
-    return said == mine.write(args == ["binary"]) or (mine.circuit is None and said.startswith("refused 9:"))
+    return mine.write(form_of(args), said)
 
 
 def main():
@@ -371,15 +412,13 @@ def main():
     r, users, differ, done = aiger.Random(seed), [Analyser(), Analyser()], 0, {}
     with tempfile.TemporaryDirectory() as name:
         folder, seen = pathlib.Path(name), []
-        found = files(r, folder)
-        names = [n for n in found if n[0] == "c" and n[1:].isdigit()] * 3 + list(found)
         panel = subprocess.Popen([top / "target/bin/panel_main"], cwd=name, stdin=subprocess.PIPE, stdout=subprocess.PIPE, stderr=subprocess.DEVNULL)
+        found = files(r, folder, panel)
+        names = [n for n in found if n[0] == "c" and n[1:].isdigit()] * 3 + list(found)
         for i in range(count):
             user = 2 if r.below(50) == 0 else r.below(2)
             words_of = command(r, user, users[min(user, 1)], names, seen, folder)
-            panel.stdin.write((" ".join(map(str, [user] + words_of)) + "\n").encode())
-            panel.stdin.flush()
-            said = panel.stdout.read(int(panel.stdout.readline())).decode("latin-1")
+            said = ask(panel, [user] + words_of)
             kind = f"{words_of[0]}: {said.split(' ')[0].split(chr(10))[0]}" if len(words_of[0]) < 9 else "long line"
             done[kind] = done.get(kind, 0) + 1
             if said.startswith("found "):

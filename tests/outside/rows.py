@@ -51,6 +51,17 @@ def random_searches(seed, count, least, most):
         yield f"search {b} {k} {BUDGET}\n{text}", 1 + draws.below(1 << exponent)
 
 
+def generated_searches(seed, count):
+    """The same of circuits that the command generate makes, with I up to 4, L up to 5 and A up to 20."""
+    draws = aiger.Random(seed)
+    for _ in range(count):
+        i, l, a = draws.below(5), draws.below(6), 1 + draws.below(20)
+        text = tools.generate(draws.below(1 << 52), i, l if i else l + 1, a)
+        c = aiger.parse(text)
+        k = draws.bound(c, tools.MOST_BITS)
+        yield f"search 0 {k} {BUDGET}\n{text}", 1 + draws.below(1 << draws.below(len(c.inputs) * (k + 1) + 1))
+
+
 def made():
     """The search text of every row that this program makes, by title."""
     texts = {title: text for title, _, text in published()}

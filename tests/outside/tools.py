@@ -11,6 +11,7 @@ HERE = os.path.dirname(os.path.abspath(__file__))
 ROOT = os.path.dirname(os.path.dirname(HERE))
 WORK = os.path.join(ROOT, "target", "outside")
 SEARCH = os.path.join(ROOT, "target", "bin", "search_main")
+GENERATE = os.path.join(ROOT, "target", "bin", "generate_main")
 MOST_BITS = 16  # ABC writes truth tables of 3 to 16 inputs.
 
 
@@ -80,6 +81,11 @@ def sections(text):
     """The parts of a log by the mark that stands before each: a line `@@ IDENT`."""
     parts = re.split(r"^@@ (\S+)\s*$", text, flags=re.M)
     return dict(zip(parts[1::2], parts[2::2]))
+
+
+def generate(seed, i, l, a):
+    """The circuit that the command generate makes."""
+    return run([GENERATE, str(seed), str(i), str(l), str(a)])
 
 
 def search(job, d):

@@ -89,8 +89,8 @@ shownLength c b (Outcome.none k) = 0
 shownLength c b (Outcome.spent t) = 0
 
 -- search: where several outcomes, or several reached places (Clause 12.10), are permitted the program's choice is a function of the
--- circuit, b, k and D alone, so that what working memory held never matters (Clause 3.7). Working memory and output are lent to be written; what working memory holds after
--- is not promised.
+-- circuit, b, k and D alone, so that what working memory held never matters (Clause 3.7). Working memory and output are lent to be
+-- written; what working memory holds after is not promised.
 pub record SearchEffect (chosen : Circuit → ℕ → ℕ → ℕ → Report) (b k D : ℕ) (out : List ℕ)
     (c : Circuit) (o : Report) (left : List ℕ × List ℕ) : Type 0 where
   pub chose : o ≡ chosen c b k D

@@ -1,6 +1,6 @@
 // A number that is an argument of a program.
 ghost use mathlib.Core.Path.{_≡_};
-ghost use Rattle.arguments.specs.Arguments.{numberOf, meant};
+ghost use Rattle.arguments.specs.Arguments.{numberOf, seedOf, placeOf, meant};
 
 // The number, where there is one.
 pub enum Argument {
@@ -14,15 +14,15 @@ fn wide(x: u8) -> u64
     x as u64
 }
 
-// The number that a text is. Its value is made digit by digit.
-pub fn read_argument(text: &[u8]) -> Argument
-    ensures { λ r. ⌜ meant r ≡ numberOf (now (text .entry)) ⌝ }
+// The number of 64 bits that a text is. Its value is made digit by digit.
+pub fn read_seed(text: &[u8]) -> Argument
+    ensures { λ r. ⌜ meant r ≡ seedOf (now (text .entry)) ⌝ }
 {
     let n = text.len();
     if n == 0 {
         return Argument::Malformed;
     }
-    if 10 < n {
+    if 20 < n {
         return Argument::Malformed;
     }
     let mut total: u64 = 0;
@@ -31,7 +31,11 @@ pub fn read_argument(text: &[u8]) -> Argument
         let b = text[i];
         match b {
             b'0'..=b'9' => {
-                total = total * 10 + wide(b - b'0');
+                let digit = wide(b - b'0');
+                if (18446744073709551615 - digit) / 10 < total {
+                    return Argument::Malformed;
+                }
+                total = total * 10 + digit;
                 i += 1;
             }
             _ => {
@@ -46,4 +50,24 @@ pub fn read_argument(text: &[u8]) -> Argument
         return Argument::Malformed;
     }
     Argument::Number(total)
+}
+
+// The number that a text of at most ten digits is.
+pub fn read_argument(text: &[u8]) -> Argument
+    ensures { λ r. ⌜ meant r ≡ numberOf (now (text .entry)) ⌝ }
+{
+    if 10 < text.len() {
+        return Argument::Malformed;
+    }
+    read_seed(text)
+}
+
+// The place that a text of at most nineteen digits is.
+pub fn read_place(text: &[u8]) -> Argument
+    ensures { λ r. ⌜ meant r ≡ placeOf (now (text .entry)) ⌝ }
+{
+    if 19 < text.len() {
+        return Argument::Malformed;
+    }
+    read_seed(text)
 }

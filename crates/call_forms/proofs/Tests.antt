@@ -8,14 +8,10 @@ use borrow.Author.Tests.{le-leb, lt-leb}
 use lib.Dec.{leb}
 use Rattle.aiger.specs.Load.{Answer, refused, gives}
 use Rattle.aiger.specs.Operations.{Test, need, judge}
-use Rattle.call_forms.specs.Table.{Row, pinRow}
-use Rattle.call_forms.specs.Forms.{Tested, ForUser, userTest, PinSet}
-
-never : {A : Type 0} {n : ℕ} {a : A} → refused n ≡ gives a → ⊥
-never e = let z : _≡_ {A = ℕ} 0 1 = cc in omega arith
-
-refused-same : {A : Type 0} {n k : ℕ} → _≡_ {A = Answer A} (refused n) (refused k) → n ≡ k
-refused-same e = cc
+use Rattle.first_tests.proofs.Tested.{never, refused-same}
+use Rattle.writer.specs.Forms.{formTest, WrittenIn}
+use Rattle.call_forms.specs.Table.{Row, pinRow, writeRow}
+use Rattle.call_forms.specs.Forms.{Tested, ForUser, userTest, PinSet, UserWritten}
 
 -- a user who may
 pub judged-known : (row : Row) (user : ℕ) → leb user (row .last) ≡ true → judge (userTest row user ∷ []) ≡ gives tt
@@ -56,3 +52,26 @@ first-refuses row user more h (Tested.passes k p) = absurd (never (sym (judged-s
 pub pin-stranger : (user input value : ℕ) {m shared shared′ : List ℕ} {a : Answer (Unit {0})} → 1 < user → PinSet m user input value shared a shared′
     → (a ≡ refused 18) × (shared′ ≡ shared)
 pin-stranger user input value h x = first-refuses pinRow user (need 18 (leb value 2) ∷ []) h x
+
+-- and for write, before 21 and whatever its form
+pub write-stranger : (user form : ℕ) {m out out′ : List ℕ} {a : Answer ℕ} → 1 < user → UserWritten m user form out a out′
+    → (a ≡ refused 18) × (out′ ≡ out)
+write-stranger user form h x = first-refuses writeRow user (formTest form ∷ []) h x
+
+-- a user who may write: what the operation answers without users
+module _ (user : ℕ) (e : leb user (writeRow .last) ≡ true) (form : ℕ) where
+  -- the two tests are that of the form
+  form-alone : judge (userTest writeRow user ∷ formTest form ∷ []) ≡ judge (formTest form ∷ [])
+  unfolding judge
+  form-alone = rw e
+
+  pub write-known : {m out out′ : List ℕ} {a : Answer ℕ} → WrittenIn form m out a out′ → UserWritten m user form out a out′
+  write-known (Tested.refuses h) = Tested.refuses (form-alone ∙ h)
+  write-known (Tested.passes h w) = Tested.passes (form-alone ∙ h) w
+
+  pub write-only : {m out out′ : List ℕ} {a : Answer ℕ} → UserWritten m user form out a out′ → WrittenIn form m out a out′
+  write-only (Tested.refuses h) = Tested.refuses (sym form-alone ∙ h)
+  write-only (Tested.passes h w) = Tested.passes (sym form-alone ∙ h) w
+
+pub write-refused : (user form : ℕ) {m : List ℕ} (out : List ℕ) → leb user (writeRow .last) ≡ false → UserWritten m user form out (refused 18) out
+write-refused user form out e = Tested.refuses (judged-stranger writeRow user (formTest form ∷ []) e)

@@ -9,35 +9,35 @@ use Rattle.aiger.specs.Lists.{upto}
 use Rattle.aiger.specs.Circuit.{Circuit}
 use Rattle.aiger.specs.Load.{Answer, refused, gives, load, _>>=_}
 use Rattle.aiger.specs.Search.{Report}
-use Rattle.aiger.specs.Operations.{Loaded, Written, Operated, Test, need, judge}
+use Rattle.aiger.specs.Operations.{Loaded, Operated, Test, need}
 use Rattle.completions.specs.Either.{Verdict}
 use Rattle.pins.specs.Pins.{pinsOf}
 use Rattle.pinning.specs.Operations.{PinnedSearched, PinnedFolded}
+use Rattle.pinning.specs.FromPlace.{PinnedSearchedFrom}
+use Rattle.place_search.specs.Places.{Placed}
 use Rattle.pinned_runs.specs.Obeys.{PinnedReplayed, PinnedWidened}
-use Rattle.renumbered.specs.Renumbered.{WrittenBinary}
 use Rattle.joined.specs.Joined.{JoinedInto}
 use Rattle.load.specs.Preview.{countsOf, wordsNeeded}
 use Rattle.waveform.specs.Waveform.{Waveformed}
+use Rattle.writer.specs.Forms.{formTest, InForm}
+use Rattle.generated.specs.Generated.{Generated}
 use Rattle.call_forms.specs.Table.{
   Row,
   loadRow,
   pinRow,
   searchRow,
+  searchFromRow,
   foldRow,
   writeRow,
-  binaryRow,
   previewRow,
   joinRow,
   replayRow,
   widenRow,
   waveformRow,
+  generateRow,
 }
-
--- The form of a call: tests that need no circuit, in their order, come before all others; the first that fails refuses, and leaves what
--- was lent as it was. Where all pass, the operation answers.
-pub data Tested {A S : Type 0} (tests : List Test) (lent : S) (answers : Answer A → S → Type 0) : Answer A → S → Type 0 where
-  refuses : {n : ℕ} → judge tests ≡ refused n → Tested tests lent answers (refused n) lent
-  passes : {a : Answer A} {s : S} → judge tests ≡ gives tt → answers a s → Tested tests lent answers a s
+-- the form of a call: tests that need no circuit, then the operation
+pub use Rattle.first_tests.specs.Tested.{Tested}
 
 -- 18 where the user may not call the operation
 abbrev pub userTest : Row → ℕ → Test
@@ -98,6 +98,11 @@ abbrev pub UserSearched : (Circuit → ℕ → ℕ → ℕ → Report) → List 
 UserSearched chosen m shared user b k D w out a w′ out′ =
     ForUser searchRow user (w, out) (PinnedSearched chosen m (pinsOf shared user) b k D w out) a (w′, out′)
 
+abbrev pub UserSearchedFrom : (Circuit → ℕ → ℕ → ℕ → ℕ → Placed) → List ℕ → List ℕ → ℕ → ℕ → ℕ → ℕ → ℕ → List ℕ → List ℕ → Answer Report
+    → List ℕ → List ℕ → Type 0
+UserSearchedFrom chosen m shared user b t place D w out a w′ out′ =
+    ForUser searchFromRow user (w, out) (PinnedSearchedFrom chosen m (pinsOf shared user) b t place D w out) a (w′, out′)
+
 abbrev pub UserFolded : (Circuit → ℕ → ℕ → Circuit) → List ℕ → List ℕ → ℕ → ℕ → ℕ → List ℕ → List ℕ → Answer ℕ → List ℕ → List ℕ → Type 0
 UserFolded chosen m shared user b t w out a w′ out′ =
     ForUser foldRow user (w, out) (PinnedFolded chosen m (pinsOf shared user) b t w out) a (w′, out′)
@@ -110,11 +115,9 @@ UserWidened m shared user text out a out′ = ForUser widenRow user out (PinnedW
 
 -- ---- operations that pins do not change
 
-abbrev pub UserWritten : List ℕ → ℕ → List ℕ → Answer ℕ → List ℕ → Type 0
-UserWritten m user out a out′ = ForUser writeRow user out (Written m out) a out′
-
-abbrev pub UserWrittenBinary : List ℕ → ℕ → List ℕ → Answer ℕ → List ℕ → Type 0
-UserWrittenBinary m user out a out′ = ForUser binaryRow user out (WrittenBinary m out) a out′
+-- Clause 12.14: 18, then 21, then what the writer of the form answers
+abbrev pub UserWritten : List ℕ → ℕ → ℕ → List ℕ → Answer ℕ → List ℕ → Type 0
+UserWritten m user form out a out′ = Tested (userTest writeRow user ∷ formTest form ∷ []) out (InForm form m out) a out′
 
 abbrev pub UserWaveformed : List ℕ → ℕ → Bool → List ℕ → List ℕ → Answer ℕ → List ℕ → Type 0
 UserWaveformed m user only text out a out′ = ForUser waveformRow user out (Waveformed m only text out) a out′
@@ -123,3 +126,7 @@ UserWaveformed m user only text out a out′ = ForUser waveformRow user out (Wav
 abbrev pub UserPreviewed : ℕ → List ℕ → ℕ → Answer (List ℕ) → ℕ → Type 0
 UserPreviewed room f user a n =
     ForUser previewRow user 0 (λ a n. (a ≡ (load room f >>= λ c. gives (countsOf c))) × (n ≡ wordsNeeded f)) a n
+
+-- Clause 12.12: a circuit made from a seed and counts. It takes no circuit and leaves none
+abbrev pub UserGenerated : ℕ → ℕ → ℕ → ℕ → ℕ → List ℕ → Answer ℕ → List ℕ → Type 0
+UserGenerated user seed i l a out answer out′ = ForUser generateRow user out (Generated seed i l a out) answer out′

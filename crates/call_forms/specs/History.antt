@@ -9,6 +9,7 @@ use Rattle.aiger.specs.Load.{Answer, refused, gives}
 use Rattle.aiger.specs.Search.{Report}
 use Rattle.completions.specs.Either.{Verdict}
 use Rattle.search.specs.Chosen as Search
+use Rattle.place_decision.specs.Reach.{placeChosen}
 use Rattle.fold.specs.Chosen as Fold
 use Rattle.call_forms.specs.Table.{
   Changes,
@@ -16,27 +17,29 @@ use Rattle.call_forms.specs.Table.{
   loadRow,
   pinRow,
   searchRow,
+  searchFromRow,
   foldRow,
   writeRow,
-  binaryRow,
   previewRow,
   joinRow,
   replayRow,
   widenRow,
   waveformRow,
+  generateRow,
 }
 use Rattle.call_forms.specs.Forms.{
   UserLoaded,
   UserJoined,
   PinSet,
   UserSearched,
+  UserSearchedFrom,
   UserFolded,
   UserReplayed,
   UserWidened,
   UserWritten,
-  UserWrittenBinary,
   UserWaveformed,
   UserPreviewed,
+  UserGenerated,
 }
 
 -- what stays from call to call: the circuit memory and the working memory of both users, and the pins of each
@@ -50,16 +53,17 @@ pub data Call : Type 0 where
   load : (user : ℕ) (file : List ℕ) → Call
   setPin : (user input value : ℕ) → Call
   search : (user b k D : ℕ) (out : List ℕ) → Call
+  searchFrom : (user b t place D : ℕ) (out : List ℕ) → Call
   fold : (user b t : ℕ) (out : List ℕ) → Call
-  write : (user : ℕ) (out : List ℕ) → Call
-  writeBinary : (user : ℕ) (out : List ℕ) → Call
+  write : (user form : ℕ) (out : List ℕ) → Call
   preview : (user : ℕ) (file : List ℕ) → Call
   join : (user : ℕ) (first second : List ℕ) → Call
   replay : (user : ℕ) (witness : List ℕ) → Call
   widen : (user : ℕ) (witness out : List ℕ) → Call
   waveform : (user : ℕ) (only : Bool) (witness out : List ℕ) → Call
+  generate : (user seed i l a : ℕ) (out : List ℕ) → Call
 
--- what a call returns: the answer, and the output that was lent. A join answers as a load does; the writers, widening and waveform
+-- what a call returns: the answer, and the output that was lent. A join answers as a load does; write, widening, waveform and generate
 -- write a text
 pub data Returned : Type 0 where
   loaded : Answer (List ℕ) → Returned
@@ -75,28 +79,30 @@ abbrev pub userOf : Call → ℕ
 userOf (Call.load user file) = user
 userOf (Call.setPin user input value) = user
 userOf (Call.search user b k D out) = user
+userOf (Call.searchFrom user b t place D out) = user
 userOf (Call.fold user b t out) = user
-userOf (Call.write user out) = user
-userOf (Call.writeBinary user out) = user
+userOf (Call.write user form out) = user
 userOf (Call.preview user file) = user
 userOf (Call.join user first second) = user
 userOf (Call.replay user witness) = user
 userOf (Call.widen user witness out) = user
 userOf (Call.waveform user only witness out) = user
+userOf (Call.generate user seed i l a out) = user
 
 -- the row of a call in the table of operations
 abbrev pub rowOf : Call → Row
 rowOf (Call.load user file) = loadRow
 rowOf (Call.setPin user input value) = pinRow
 rowOf (Call.search user b k D out) = searchRow
+rowOf (Call.searchFrom user b t place D out) = searchFromRow
 rowOf (Call.fold user b t out) = foldRow
-rowOf (Call.write user out) = writeRow
-rowOf (Call.writeBinary user out) = binaryRow
+rowOf (Call.write user form out) = writeRow
 rowOf (Call.preview user file) = previewRow
 rowOf (Call.join user first second) = joinRow
 rowOf (Call.replay user witness) = replayRow
 rowOf (Call.widen user witness out) = widenRow
 rowOf (Call.waveform user only witness out) = waveformRow
+rowOf (Call.generate user seed i l a out) = generateRow
 
 -- a load, or a join, was accepted
 abbrev pub isAccepted : Returned → Bool
@@ -136,14 +142,16 @@ pub data Step (s : State) : Call → Returned → State → Type 0 where
       → UserSearched Search.chosen (s .memory) (s .pins) user b k D (s .work) out a w′ out′
       → length w′ ≡ length (s .work)
       → Step s (Call.search user b k D out) (Returned.searched a out′) (record { memory = s .memory; work = w′; pins = s .pins })
+  searchesFrom : {user b t place D : ℕ} {out w′ out′ : List ℕ} {a : Answer Report}
+      → UserSearchedFrom placeChosen (s .memory) (s .pins) user b t place D (s .work) out a w′ out′
+      → length w′ ≡ length (s .work)
+      → Step s (Call.searchFrom user b t place D out) (Returned.searched a out′) (record { memory = s .memory; work = w′; pins = s .pins })
   folds : {user b t : ℕ} {out w′ out′ : List ℕ} {a : Answer ℕ}
       → UserFolded Fold.chosen (s .memory) (s .pins) user b t (s .work) out a w′ out′
       → length w′ ≡ length (s .work)
       → Step s (Call.fold user b t out) (Returned.folded a out′) (record { memory = s .memory; work = w′; pins = s .pins })
-  writes : {user : ℕ} {out out′ : List ℕ} {a : Answer ℕ} → UserWritten (s .memory) user out a out′
-      → Step s (Call.write user out) (Returned.written a out′) s
-  writesBinary : {user : ℕ} {out out′ : List ℕ} {a : Answer ℕ} → UserWrittenBinary (s .memory) user out a out′
-      → Step s (Call.writeBinary user out) (Returned.written a out′) s
+  writes : {user form : ℕ} {out out′ : List ℕ} {a : Answer ℕ} → UserWritten (s .memory) user form out a out′
+      → Step s (Call.write user form out) (Returned.written a out′) s
   previews : {user n : ℕ} {file : List ℕ} {a : Answer (List ℕ)} → UserPreviewed (length (s .memory)) file user a n
       → Step s (Call.preview user file) (Returned.previewed a n) s
   joins : {user : ℕ} {first second m′ p′ : List ℕ} {a : Answer (List ℕ)} → UserJoined first second (s .memory) (s .pins) user a m′ p′
@@ -154,6 +162,8 @@ pub data Step (s : State) : Call → Returned → State → Type 0 where
       → Step s (Call.widen user witness out) (Returned.written a out′) s
   waveforms : {user : ℕ} {only : Bool} {witness out out′ : List ℕ} {a : Answer ℕ} → UserWaveformed (s .memory) user only witness out a out′
       → Step s (Call.waveform user only witness out) (Returned.written a out′) s
+  generates : {user seed i l a : ℕ} {out out′ : List ℕ} {answer : Answer ℕ} → UserGenerated user seed i l a out answer out′
+      → Step s (Call.generate user seed i l a out) (Returned.written answer out′) s
 
 -- a call that was made, with what it returned
 pub record Event : Type 0 where

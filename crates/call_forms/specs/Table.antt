@@ -26,14 +26,14 @@ pinRow = record { name = bytes "pin"; arguments = 2; files = 0; last = 1; change
 abbrev pub searchRow : Row
 searchRow = record { name = bytes "search"; arguments = 3; files = 0; last = 1; changes = Changes.nothing }
 
+abbrev pub searchFromRow : Row
+searchFromRow = record { name = bytes "search-from"; arguments = 4; files = 0; last = 1; changes = Changes.nothing }
+
 abbrev pub foldRow : Row
 foldRow = record { name = bytes "fold"; arguments = 2; files = 0; last = 1; changes = Changes.nothing }
 
 abbrev pub writeRow : Row
-writeRow = record { name = bytes "write"; arguments = 0; files = 0; last = 1; changes = Changes.nothing }
-
-abbrev pub binaryRow : Row
-binaryRow = record { name = bytes "write binary"; arguments = 0; files = 0; last = 1; changes = Changes.nothing }
+writeRow = record { name = bytes "write"; arguments = 1; files = 0; last = 1; changes = Changes.nothing }
 
 abbrev pub previewRow : Row
 previewRow = record { name = bytes "preview"; arguments = 0; files = 1; last = 1; changes = Changes.nothing }
@@ -50,7 +50,11 @@ widenRow = record { name = bytes "widen"; arguments = 0; files = 1; last = 1; ch
 abbrev pub waveformRow : Row
 waveformRow = record { name = bytes "waveform"; arguments = 0; files = 1; last = 1; changes = Changes.nothing }
 
+abbrev pub generateRow : Row
+generateRow = record { name = bytes "generate"; arguments = 4; files = 0; last = 1; changes = Changes.nothing }
+
 -- the table of operations
 abbrev pub operations : List Row
 operations =
-    loadRow ∷ pinRow ∷ searchRow ∷ foldRow ∷ writeRow ∷ binaryRow ∷ previewRow ∷ joinRow ∷ replayRow ∷ widenRow ∷ waveformRow ∷ []
+    loadRow ∷ pinRow ∷ searchRow ∷ searchFromRow ∷ foldRow ∷ writeRow ∷ previewRow ∷ joinRow ∷ replayRow ∷ widenRow ∷ waveformRow
+    ∷ generateRow ∷ []

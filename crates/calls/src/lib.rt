@@ -6,8 +6,10 @@ mod shared_bytes;
 use circuit::Held;
 use fold::FoldAnswer;
 use fold::Target;
+use generate::GenerateAnswer;
 use load::Judgement;
 use load::LoadAnswer;
+use place_limits::PlaceTerms;
 use replay::ReplayAnswer;
 use search::SearchAnswer;
 use search::Terms;
@@ -19,24 +21,27 @@ ghost use lib.Dec.{leb};
 ghost use lib.ListN.{length};
 ghost use Rattle.load.specs.Answers as Load;
 ghost use Rattle.search.specs.Chosen as Search;
+ghost use Rattle.place_decision.specs.Reach.{placeChosen};
 ghost use Rattle.fold.specs.Chosen as Fold;
 ghost use Rattle.fold.specs.Answer as FoldAnswers;
 ghost use Rattle.write.specs.Answer as Write;
 ghost use Rattle.replay.specs.Answer as Replay;
 ghost use Rattle.widen.specs.Answer as Widen;
 ghost use Rattle.waveform.specs.Answer as Waveform;
+ghost use Rattle.generate.specs.Answer as Generate;
 ghost use Rattle.call_forms.specs.Forms.{
   UserLoaded,
   UserJoined,
   PinSet,
   UserSearched,
+  UserSearchedFrom,
   UserFolded,
   UserReplayed,
   UserWidened,
   UserWritten,
-  UserWrittenBinary,
   UserWaveformed,
   UserPreviewed,
+  UserGenerated,
 };
 ghost use Rattle.calls.specs.Answers.{pinSaid};
 
@@ -147,6 +152,28 @@ pub fn search(
     pinned_search::search(m, shared, user as usize, q, work, out)
 }
 
+// Whether the bad line can be reached at a frame by a sequence at or after a place, among those that obey the user's pins.
+pub fn search_from(
+    user: u64,
+    shared: &[u8],
+    m: &[u32],
+    q: PlaceTerms,
+    work: &mut [u32],
+    out: &mut [u8],
+) -> SearchAnswer
+    ensures { λ r. ⌜
+        UserSearchedFrom placeChosen (now (m .entry)) (now (shared .entry)) user (q .b) (q .t) (q .place) (q .d) (now (work .entry))
+        (now (out .entry)) (Search.said r)
+        (now (work .exit))
+        (now (out .exit))
+        ⌝ }
+{
+    if !may(user, 1) {
+        return SearchAnswer::Refused(18);
+    }
+    pinned_search_from::search_from(m, shared, user as usize, q, work, out)
+}
+
 // Writes the hit of a bad line at a frame, under the user's pins, as a circuit without latches.
 pub fn fold(
     user: u64,
@@ -199,24 +226,14 @@ pub fn widen(user: u64, shared: &[u8], m: &[u32], text: &[u8], out: &mut [u8]) -
     widen::widen_under(m, &shared[from..to], text, out)
 }
 
-// Puts the text of the circuit that m holds at the front of out. Pins do not change the circuit that is written.
-pub fn write(user: u64, m: &[u32], out: &mut [u8]) -> WriteAnswer
-    ensures { λ r. ⌜ UserWritten (now (m .entry)) user (now (out .entry)) (Write.answered r) (now (out .exit)) ⌝ }
+// Puts the circuit that m holds at the front of out, in form 0 as text, in form 1 in binary form. Pins do not change what is written.
+pub fn write(user: u64, m: &[u32], form: u64, out: &mut [u8]) -> WriteAnswer
+    ensures { λ r. ⌜ UserWritten (now (m .entry)) user form (now (out .entry)) (Write.answered r) (now (out .exit)) ⌝ }
 {
     if !may(user, 1) {
         return WriteAnswer::Refused(18);
     }
-    write::write(m, out)
-}
-
-// Puts the circuit that m holds, in binary form, at the front of out.
-pub fn write_binary(user: u64, m: &[u32], out: &mut [u8]) -> WriteAnswer
-    ensures { λ r. ⌜ UserWrittenBinary (now (m .entry)) user (now (out .entry)) (Write.answered r) (now (out .exit)) ⌝ }
-{
-    if !may(user, 1) {
-        return WriteAnswer::Refused(18);
-    }
-    write_binary::write_binary(m, out)
+    writer::write(m, form, out)
 }
 
 // Puts the run of a witness of the circuit in m as text at the front of out, all wires or the inputs alone. A witness gives every bit of
@@ -230,4 +247,14 @@ pub fn waveform(user: u64, m: &[u32], text: &[u8], only: bool, out: &mut [u8]) -
         return WaveformAnswer::Refused(18);
     }
     waveform::waveform(m, text, only, out)
+}
+
+// Puts the text of the circuit of a seed and counts at the front of out. Nothing is loaded.
+pub fn generate(user: u64, seed: u64, i: u64, l: u64, a: u64, out: &mut [u8]) -> GenerateAnswer
+    ensures { λ r. ⌜ UserGenerated user seed i l a (now (out .entry)) (Generate.answered r) (now (out .exit)) ⌝ }
+{
+    if !may(user, 1) {
+        return GenerateAnswer::Refused(18);
+    }
+    generate::generate(seed, i, l, a, out)
 }

@@ -8,15 +8,16 @@ use Rattle.aiger.specs.Circuit.{Circuit}
 use Rattle.aiger.specs.Load.{Answer, refused, gives, load}
 use Rattle.aiger.specs.Write.{write}
 use Rattle.aiger.specs.Memory.{Holds}
-use Rattle.aiger.specs.Operations.{front, Folded, Written}
+use Rattle.aiger.specs.Operations.{front, Folded}
 use Rattle.completions.specs.Either.{Verdict}
 use Rattle.completions.specs.Operations.{EitherReplayed}
 use Rattle.layout.specs.Words.{circuitIn}
-use Rattle.roundtrip.proofs.LoadWrite.{text-short}
 use Rattle.roundtrip.proofs.LoadValid.{gives-same}
-use Rattle.roundtrip.proofs.Holding.{held, held-valid}
-use Rattle.roundtrip.proofs.Determined.{written-same, written-in, acted, refused-as}
-use Rattle.job.proofs.Printing.{Stored}
+use Rattle.roundtrip.proofs.Holding.{held}
+use Rattle.roundtrip.proofs.Determined.{acted, refused-as}
+use Rattle.writer.specs.Forms.{WrittenIn}
+use Rattle.writer.proofs.Texts.{wrote}
+use Rattle.load_laws.proofs.Stored.{Stored}
 use Rattle.fold.specs.Chosen.{chosen}
 use Rattle.replies.specs.Refusal.{refusalText}
 use Rattle.replies.specs.Reply.{Fronts, Leaves}
@@ -24,6 +25,7 @@ use Rattle.replies.specs.declared.Report.{Report}
 use Rattle.replies.proofs.Putting.{fronts-none, refused-leaves}
 use Rattle.commands.specs.Texts.{
   written,
+  writtenIn,
   textOf,
   verdictText,
   replayAnswer,
@@ -33,24 +35,17 @@ use Rattle.commands.specs.Texts.{
 }
 
 -- write, on a loaded circuit
-module _ {m out out′ : List ℕ} {a : Answer ℕ} (h : Holds m (circuitIn m)) (room : 65536 ≤ length out) (w : Written m out a out′) where
-  fits : Written m out (gives (length (write (circuitIn m)))) (front (write (circuitIn m)) out)
-  fits = written-in (circuitIn m) h (omega (arith, text-short (held-valid h)))
-
-  pub write-gives : a ≡ gives (length (write (circuitIn m)))
-  write-gives = written-same w fits .0
-
-  pub write-leaves : out′ ≡ front (write (circuitIn m)) out
-  write-leaves = written-same w fits .1
-
+module _ {m out out′ : List ℕ} {a : Answer ℕ} (form : ℕ) (k : form ≤ 1) (h : Holds m (circuitIn m)) (room : 65536 ≤ length out)
+    (w : WrittenIn form m out a out′) where
   pub write-shown : (line : List ℕ) {n : ℕ} → a ≡ gives n
-      → Leaves (written (circuitIn m)) line out (record { line = 0; out = n }) line out′
+      → Leaves (writtenIn form (circuitIn m)) line out (record { line = 0; out = n }) line out′
   write-shown line e =
-      record { line-is = fronts-none line; out-is = record { long = sym (gives-same (sym write-gives ∙ e)); contents = write-leaves } }
+      let s = wrote form k h room w in
+      record { line-is = fronts-none line; out-is = record { long = sym (gives-same (sym (s .0) ∙ e)); contents = s .1 } }
 
   pub write-never : {n : ℕ} → a ≡ refused n → ⊥
   write-never e =
-      let g = write-gives in
+      let g = wrote form k h room w .0 in
       let z : _≡_ {A = ℕ} 0 1 = cc in
       omega arith
 

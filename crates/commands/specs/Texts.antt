@@ -10,12 +10,17 @@ use Rattle.aiger.specs.Operations.{judge, foldTests}
 use Rattle.completions.specs.Either.{Verdict, shows, verdict, readEither}
 use Rattle.completions.specs.Operations.{eitherTests}
 use Rattle.fold.specs.Chosen.{chosen}
+use Rattle.writer.specs.Forms.{textIn}
 use Rattle.replies.specs.Refusal.{refusalText}
 use Rattle.replies.specs.Reply.{Reply, replyOf}
 
--- write: the text of the loaded circuit
+-- the text of a circuit
 abbrev pub written : Circuit → Reply
 written c = record { line = []; out = write c }
+
+-- write: the loaded circuit in a form
+abbrev pub writtenIn : ℕ → Circuit → Reply
+writtenIn form c = record { line = []; out = textIn form c }
 
 abbrev pub verdictText : Verdict → List ℕ
 verdictText Verdict.all = bytes "all\n"

@@ -14,7 +14,7 @@ ghost use Rattle.layout.specs.Words.{circuitIn};
 ghost use Rattle.replies.specs.Reply.{Fronts, Leaves};
 ghost use Rattle.replies.specs.Loading.{loadedWords};
 ghost use Rattle.commands.specs.Texts.{
-  written,
+  writtenIn,
   textOf,
   verdictText,
   replayAnswer,
@@ -23,14 +23,14 @@ ghost use Rattle.commands.specs.Texts.{
   foldReply,
 };
 
-// Writes the circuit in m.
-pub fn write_loaded(m: &[u32], out: &mut [u8], line: &mut [u8]) -> Report
-    requires { ⌜ Holds (now m) (circuitIn (now m)) × (65536 ≤ length (now out)) × (128 ≤ length (now line)) ⌝ }
+// Writes the circuit in m in a form.
+pub fn write_loaded(form: u64, m: &[u32], out: &mut [u8], line: &mut [u8]) -> Report
+    requires { ⌜ Holds (now m) (circuitIn (now m)) × (65536 ≤ length (now out)) × (128 ≤ length (now line)) × (form ≤ 1) ⌝ }
     ensures { λ r. ⌜
-        Leaves (written (circuitIn (now (m .entry)))) (now (line .entry)) (now (out .entry)) r (now (line .exit)) (now (out .exit))
+        Leaves (writtenIn form (circuitIn (now (m .entry)))) (now (line .entry)) (now (out .entry)) r (now (line .exit)) (now (out .exit))
         ⌝ }
 {
-    match write::write(m, out) {
+    match writer::write(m, form, out) {
         WriteAnswer::Length(n) => Report { line: 0, out: n },
         WriteAnswer::Refused(n) => replies::refuse(line, n),
     }

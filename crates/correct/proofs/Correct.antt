@@ -1,7 +1,7 @@
 -- All that is claimed, in one record: the three demands and what the requests add, each field proved by a theorem of the crates below. That
 -- every call stays within what was lent, that nothing wraps and that every call returns is what the check of each function shows; the
--- contracts that the fields speak of are those of the operations, in the specs of aiger, completions, joined, renumbered, waveform, load and
--- history. Assumes nothing.
+-- contracts that the fields speak of are those of the operations, in the specs of aiger, completions, joined, renumbered, waveform, load,
+-- history and generated. Assumes nothing.
 use mathlib.Core.Path.{_≡_, refl, sym, ap, _∙_, subst}
 use mathlib.Core.Bool.{Bool, true, false, cond}
 use mathlib.Core.List.{List, [], _∷_, List·Memᴰ, map}
@@ -20,7 +20,7 @@ use Rattle.aiger.specs.Witness.{Witness, agrees, witness, readWitness}
 use Rattle.aiger.specs.Write.{countRow, write}
 use Rattle.aiger.specs.Memory.{Holds, image}
 use Rattle.aiger.specs.Fold.{folds, valueOn, output}
-use Rattle.aiger.specs.Operations.{front, HoldsNone, Loaded, Test, judge, Operated, Searched, Folded, Replayed}
+use Rattle.aiger.specs.Operations.{front, HoldsNone, Loaded, Test, judge, Operated, Searched, Folded, Replayed, Written}
 use Rattle.completions.specs.Either.{Verdict, shows, readEither}
 use Rattle.completions.specs.Operations.{EitherReplayed, Widened}
 use Rattle.completions.specs.Forms.{Completes}
@@ -58,8 +58,10 @@ use Rattle.parting.proofs.Parted.{firstRun, secondRun}
 use Rattle.parting.proofs.Theorems.{Parting, found-parts, none-parts, self-same}
 use Rattle.parting.proofs.Contract.{join-without, join-refused, join-accepted, join-loads}
 use Rattle.renumbered.specs.Renumbered.{newNumber, renumbered, WrittenBinary}
+use Rattle.writer.specs.Forms.{WrittenIn}
+use Rattle.writer.proofs.Forms.{form-text, text-form, form-binary, binary-form, other-form, write-same}
+use Rattle.writer.proofs.RoundTrip as writer
 use Rattle.renumbered_laws.proofs.Same.{same-run, same-value, same-output, same-hits, same-permitted, same-witness}
-use Rattle.write_binary.proofs.RoundTrip as binary
 use Rattle.search.specs.Chosen.{chosen}
 use Rattle.replay.proofs.Theorems.{Hit, either-same, all-is-yes, all-hits, no-hits}
 use Rattle.widen.proofs.Theorems.{made, widened-same, widened-all, widened-copied, widened-twice}
@@ -81,6 +83,9 @@ use Rattle.waveform.specs.Waveform.{levelAt, frameCount, waveformOf, Waveformed
 use Rattle.waveform_laws.proofs.Own.{own-input, own-latch}
 use Rattle.waveform_laws.proofs.Theorems.{waveformed-same, never-short, runText, waveform-plain, badWire, all-shown}
 use Rattle.search.proofs.Constraints.{questionAlone, witness-allowed, permitted-alone}
+use Rattle.generated.specs.Generated.{generated, generatedText, countsPermitted, Generated, Permitted}
+use Rattle.generated.proofs.Theorems as drawn
+use Rattle.generated.proofs.Theorems.{generated-kept, generated-same, generated-loaded, same-bytes}
 
 pub record Correct : Type 1 where
   -- ---- Demand 1: bad input gets its number, in the table's order, and changes nothing; input with no such cause is never refused.
@@ -231,15 +236,25 @@ pub record Correct : Type 1 where
   pub text-alone : (room : ℕ) (f : List ℕ) → isBinary f ≡ false → load room f ≡ loadText room f
   -- a preview answers what a load into that memory answers
   pub preview-agrees : (m f m′ : List ℕ) (a : Answer (List ℕ)) (r : Judgement) → Loaded m f a m′ → Previewed (length m) f r → answered (r .answer) ≡ a
-  -- ---- Clause 12.1: the binary form, written.
+  -- ---- Clauses 12.1 and 12.14: the operation write in its two forms.
 
-  -- the binary writer answers one thing and leaves one output
-  pub binary-determined : {m out o₁ o₂ : List ℕ} {a b : Answer ℕ} → WrittenBinary m out a o₁ → WrittenBinary m out b o₂ → (a ≡ b) × (o₁ ≡ o₂)
-  -- every circuit that a memory holds is written, into an output of 24,576 bytes at least
-  pub binary-written : {m out out′ : List ℕ} {c : Circuit} {a : Answer ℕ} → Holds m c → 24576 ≤ length out → WrittenBinary m out a out′
+  -- write answers one thing and leaves one output
+  pub write-determined : {form : ℕ} {m out o₁ o₂ : List ℕ} {a b : Answer ℕ} → WrittenIn form m out a o₁ → WrittenIn form m out b o₂ → (a ≡ b) × (o₁ ≡ o₂)
+  -- form 0 is the text writer, form 1 the binary writer
+  pub write-text : {m out out′ : List ℕ} {a : Answer ℕ}
+      → (WrittenIn 0 m out a out′ → Written m out a out′) × (Written m out a out′ → WrittenIn 0 m out a out′)
+  pub write-binary : {m out out′ : List ℕ} {a : Answer ℕ}
+      → (WrittenIn 1 m out a out′ → WrittenBinary m out a out′) × (WrittenBinary m out a out′ → WrittenIn 1 m out a out′)
+  -- any other form gets 21, whatever is lent
+  pub write-form : {m out out′ : List ℕ} {a : Answer ℕ} (form : ℕ) → 1 < form → WrittenIn form m out a out′ → (a ≡ refused 21) × (out′ ≡ out)
+  -- load accepts what form 0 wrote, with the same counts, and leaves the same needed words
+  pub text-back : {m out out′ m₂ m₂′ : List ℕ} {n : ℕ} {a : Answer (List ℕ)} → WrittenIn 0 m out (gives n) out′ → needed (word m 0) ≤ length m₂
+      → Loaded m₂ (take n out′) a m₂′ → (a ≡ gives (take 7 m)) × (take (needed (word m 0)) m₂′ ≡ take (needed (word m 0)) m)
+  -- every circuit that a memory holds is written in form 1, into an output of 24,576 bytes at least
+  pub binary-written : {m out out′ : List ℕ} {c : Circuit} {a : Answer ℕ} → Holds m c → 24576 ≤ length out → WrittenIn 1 m out a out′
       → (n : ℕ) × (a ≡ gives n)
   -- load accepts what it wrote, and leaves the renumbered circuit
-  pub binary-back : {m out out′ m₂ m₂′ : List ℕ} {n : ℕ} {a : Answer (List ℕ)} {c : Circuit} → Holds m c → WrittenBinary m out (gives n) out′
+  pub binary-back : {m out out′ m₂ m₂′ : List ℕ} {n : ℕ} {a : Answer (List ℕ)} {c : Circuit} → Holds m c → WrittenIn 1 m out (gives n) out′
       → needed (renumbered c .maxVar) ≤ length m₂ → Loaded m₂ (take n out′) a m₂′
       → (a ≡ gives (renumbered c .maxVar ∷ countRow (renumbered c))) × (m₂′ ≡ front (image (renumbered c)) m₂) × Holds m₂′ (renumbered c)
   -- each sequence has the same run in it, and hits where it hits in the circuit that was written
@@ -254,8 +269,8 @@ pub record Correct : Type 1 where
   pub binary-answers : {m : List ℕ} {c : Circuit} → Holds m c → (b k D : ℕ) (o : Outcome)
       → (permitted (renumbered c) b k D o ≡ permitted c b k D o) × ((t : ℕ) → firstWitness (renumbered c) b t ≡ firstWitness c b t)
   -- written again, it gives the same bytes
-  pub binary-again : {m out out′ m₂ out₂ out₂′ : List ℕ} {n k : ℕ} {c : Circuit} → Holds m c → WrittenBinary m out (gives n) out′ → Holds m₂ (renumbered c)
-      → WrittenBinary m₂ out₂ (gives k) out₂′ → (k ≡ n) × (take k out₂′ ≡ take n out′)
+  pub binary-again : {m out out′ m₂ out₂ out₂′ : List ℕ} {n k : ℕ} {c : Circuit} → Holds m c → WrittenIn 1 m out (gives n) out′ → Holds m₂ (renumbered c)
+      → WrittenIn 1 m₂ out₂ (gives k) out₂′ → (k ≡ n) × (take k out₂′ ≡ take n out′)
   -- ---- Clause 13: waveforms.
 
   -- waveform answers one thing and leaves one output
@@ -301,6 +316,24 @@ pub record Correct : Type 1 where
       → map {B = List ℕ × Files} (λ (e : Exchange). (e .request, e .files)) (b .exchanges)
       ≡ map {B = List ℕ × Files} (λ (e : Exchange). (e .request, e .files)) (sessions.concerning u (a .exchanges))
       → (map (λ (e : Exchange). e .reply) (b .exchanges) ≡ map (λ (e : Exchange). e .reply) (sessions.concerning u (a .exchanges))) × Same u t t₂
+  -- ---- Clause 12.12: circuits made from a seed.
+
+  -- generate answers one thing and leaves one output
+  pub generate-determined : {s i l a : ℕ} {out o₁ o₂ : List ℕ} {x y : Answer ℕ} → Generated s i l a out x o₁ → Generated s i l a out y o₂
+      → (x ≡ y) × (o₁ ≡ o₂)
+  -- the text is a function of seed and counts: equal ones give equal bytes, whatever the outputs held
+  pub generate-bytes : {s i l a m n : ℕ} {out₁ out₂ o₁ o₂ : List ℕ} → Generated s i l a out₁ (gives m) o₁ → Generated s i l a out₂ (gives n) o₂
+      → (m ≡ n) × (take m o₁ ≡ take n o₂)
+  -- a refusal is 3 for counts that are not permitted, or 13 for an output that is shorter than the text, and leaves every byte
+  pub generate-refused : {s i l a n : ℕ} {out out′ : List ℕ} → Generated s i l a out (refused n) out′
+      → (out′ ≡ out)
+      × (((n ≡ 3) × (countsPermitted i l a ≡ false)) ⊎ ((n ≡ 13) × Permitted i l a × (length out < length (generatedText s i l a))))
+  -- it is never refused with 13 where 55,798 bytes are lent
+  pub generate-room : {s i l a n : ℕ} {out out′ : List ℕ} → 55798 ≤ length out → Generated s i l a out (refused n) out′ → n ≡ 3
+  -- every such file loads where circuit memory suffices: load answers the counts of the circuit, and leaves a memory that holds it
+  pub generate-loads : {s i l a n : ℕ} {out out′ m m′ : List ℕ} {x : Answer (List ℕ)} → Generated s i l a out (gives n) out′
+      → needed (i + l + a) ≤ length m → Loaded m (take n out′) x m′
+      → (x ≡ gives (generated s i l a .maxVar ∷ countRow (generated s i l a))) × Holds m′ (generated s i l a)
 
 -- ---- the fields that stand nowhere else
 
@@ -389,16 +422,20 @@ correct =
       binary-causes-few = binary-causes;
       text-alone = load-text;
       preview-agrees = preview-load;
-      binary-determined = binary.written-same;
-      binary-written = λ h room w. binary.always-written h room w;
-      binary-back = λ h w room l. binary.write-load h w room l;
+      write-determined = λ w v. write-same w v;
+      write-text = (form-text, text-form 0 refl);
+      write-binary = (form-binary, binary-form 1 refl);
+      write-form = other-form;
+      text-back = λ w room l. writer.text-back w room l;
+      binary-written = λ h room w. writer.binary-written h room w;
+      binary-back = λ h w room l. writer.binary-back h w room l;
       binary-runs = λ {c = c} h b t x.
           let v = held-valid h in
           (same-run v t x, same-hits v b (run (renumbered c) t x) t ∙ ap (λ (r : Run). hits c b r t) (same-run v t x));
       binary-values = λ h. same-value (held-valid h);
       binary-outputs = λ h. same-output (held-valid h);
       binary-answers = λ h b k D o. let v = held-valid h in (same-permitted v b k D o, same-witness v b);
-      binary-again = λ h w h₂ w₂. binary.write-again h w h₂ w₂;
+      binary-again = λ h w h₂ w₂. writer.binary-again h w h₂ w₂;
       waveform-determined = waveformed-same;
       waveform-room = λ {c = c} h l w e. never-short c h l w e;
       waveform-values = waveform-plain;
@@ -413,4 +450,9 @@ correct =
       panel-start-free = start-free;
       panel-apart = loop-apart;
       panel-undisturbed = loop-undisturbed;
+      generate-determined = generated-same;
+      generate-bytes = same-bytes;
+      generate-refused = λ g. let k = generated-kept g in (k .kept, k .cause);
+      generate-room = drawn.never-short;
+      generate-loads = generated-loaded;
     }

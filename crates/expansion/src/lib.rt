@@ -48,7 +48,7 @@ fn bits_of(pin: u8) -> usize
 }
 
 // How many of the first n inputs are free.
-fn free_inputs(pins: &[u8], user: usize, n: usize) -> usize
+pub fn free_inputs(pins: &[u8], user: usize, n: usize) -> usize
     requires { ⌜ (user ≤ 1) × (n ≤ 256) ⌝ }
     ensures { λ r. ⌜ r ≡ freeInputs (pinsOf (now (pins .entry)) user) n ⌝ }
 {

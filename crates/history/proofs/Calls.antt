@@ -16,23 +16,29 @@ use Rattle.aiger.specs.Load.{Answer, refused, gives, load, _>>=_}
 use Rattle.aiger.specs.Memory.{Holds, image}
 use Rattle.aiger.specs.Search.{Report}
 use Rattle.aiger.specs.Write.{countRow}
-use Rattle.aiger.specs.Operations.{Loaded, Written, Operated, Test, judge, searchTests, foldTests, front}
+use Rattle.aiger.specs.Operations.{Loaded, Operated, Test, judge, searchTests, foldTests, front}
 use Rattle.aiger.proofs.Tests.{and-left, and-right}
 use Rattle.roundtrip.proofs.LoadWrite.{counts-fit}
 use Rattle.roundtrip.proofs.Holding.{held-valid, one-circuit}
 use Rattle.roundtrip.proofs.LoadValid.{some-same}
-use Rattle.roundtrip.proofs.Determined.{Alike, alike-self, operated-same, loaded-same, written-same}
+use Rattle.roundtrip.proofs.Determined.{Alike, alike-self, operated-same, loaded-same}
 use Rattle.waveform_laws.proofs.Theorems.{waveformed-same}
 use Rattle.limits.proofs.Refusals.{judge-first}
-use Rattle.pins.specs.Pins.{pinsOf}
-use Rattle.renumbered.specs.Renumbered.{WrittenBinary}
-use Rattle.write_binary.proofs.RoundTrip as binary
+use Rattle.pins.specs.Pins.{pinsOf, pinned}
+use Rattle.first_tests.proofs.Tested.{tested-same}
+use Rattle.writer.specs.Forms.{InForm}
+use Rattle.writer.proofs.Forms.{form-same}
 use Rattle.completions.specs.Either.{Verdict, verdict}
 use Rattle.pinned_runs.specs.Obeys.{pinnedShows, PinnedReplayed, PinnedReplayEffect, pinnedWidenedText, PinnedWidened, PinnedWidenEffect}
 use Rattle.load.specs.Preview.{countsOf}
 use Rattle.joined.specs.Joined.{joined, joinTests, JoinedInto}
 use Rattle.waveform.specs.Waveform.{Waveformed}
+use Rattle.generated.specs.Generated.{Generated}
+use Rattle.generated.proofs.Theorems.{generated-same}
 use Rattle.pinning.specs.Operations.{PinnedSearchEffect, PinnedFoldEffect, pinnedShown}
+use Rattle.pinning.specs.FromPlace.{PinnedPlaceEffect}
+use Rattle.place_search.specs.Operation.{placeTests}
+use Rattle.place_decision.specs.Reach.{placeChosen}
 use Rattle.call_forms.specs.Forms.{
   Tested,
   freeByte,
@@ -43,6 +49,7 @@ use Rattle.call_forms.specs.Forms.{
   PinEffect,
   pinTests,
   UserSearched,
+  UserSearchedFrom,
   UserFolded,
   UserWritten,
   UserPreviewed,
@@ -73,21 +80,6 @@ own-pins u p p′ h = λ j i. one i j
 
 -- ---- an operation under pins
 
-never : {A : Type 0} {n : ℕ} {a : A} → refused n ≡ gives a → ⊥
-never e = let z : _≡_ {A = ℕ} 0 1 = cc in omega arith
-
-refused-same : {A : Type 0} {n k : ℕ} → _≡_ {A = Answer A} (refused n) (refused k) → n ≡ k
-refused-same e = cc
-
--- two calls with the same first tests have one answer, where the operation has
-pub tested-same : {A S : Type 0} {tests : List Test} {lent lent′ : S} {P Q : Answer A → S → Type 0} (R : S → S → Type 0) → R lent lent′
-    → ((x y : Answer A) (s t : S) → P x s → Q y t → (x ≡ y) × R s t)
-    → (x y : Answer A) (s t : S) → Tested tests lent P x s → Tested tests lent′ Q y t → (x ≡ y) × R s t
-tested-same R r f x y s t (Tested.refuses h) (Tested.refuses k) = (ap refused (refused-same (sym h ∙ k)), r)
-tested-same R r f x y s t (Tested.refuses h) (Tested.passes k q) = absurd (never (sym h ∙ k))
-tested-same R r f x y s t (Tested.passes h p) (Tested.refuses k) = absurd (never (sym k ∙ h))
-tested-same R r f x y s t (Tested.passes h p) (Tested.passes k q) = f x y s t p q
-
 module _ {m m′ : List ℕ} (pins pins′ w w′ out w₁ w₂ o₁ o₂ : List ℕ) (u : ℕ) (e : m ≡ m′) (l : length w ≡ length w′) (q : pinsOf pins u ≡ pinsOf pins′ u) where
   alike : Alike m m′
   alike = subst (Alike m) e alike-self
@@ -108,6 +100,22 @@ module _ {m m′ : List ℕ} (pins pins′ w w′ out w₁ w₂ o₁ o₂ : List
           let same : o ≡ o′ = f .chose ∙ sym (h .chose) in
           (same, f .shows ∙ ap (λ (v : Report). pinnedShown c (pinsOf pins u) b (v .outcome) out) same ∙ sym (h .shows))
 
+  pub from-same : (b t place D : ℕ) (x y : Answer Report) → UserSearchedFrom placeChosen m pins u b t place D w out x w₁ o₁
+      → UserSearchedFrom placeChosen m′ pins′ u b t place D w′ out y w₂ o₂ → (x ≡ y) × (o₁ ≡ o₂)
+  from-same b t place D x y s r =
+      tested-same (λ (x y : List ℕ × List ℕ). x .1 ≡ y .1) refl
+      (λ x y s t′ f g.
+      operated-same (λ (x y : List ℕ × List ℕ). x .1 ≡ y .1) alike
+      (λ c. ap₂ (λ (p : ℕ → ℕ) (n : ℕ). placeTests (pinned c p) c b t place D n (length out)) q l) refl one f g)
+      x y (w₁, o₁) (w₂, o₂) s r
+    where
+      one : (c : Circuit) (o o′ : Report) (y z : List ℕ × List ℕ) → PinnedPlaceEffect placeChosen (pinsOf pins u) b t place D out c o y
+          → PinnedPlaceEffect placeChosen (pinsOf pins′ u) b t place D out c o′ z → (o ≡ o′) × (y .1 ≡ z .1)
+      one c o o′ y z f g =
+          let h : PinnedPlaceEffect placeChosen (pinsOf pins u) b t place D out c o′ z =
+          subst (λ (p : ℕ → ℕ). PinnedPlaceEffect placeChosen p b t place D out c o′ z) (sym q) g in
+          (f .chose ∙ sym (h .chose), f .shows ∙ sym (h .shows))
+
   pub fold-same : (b t : ℕ) (x y : Answer ℕ) → UserFolded Fold.chosen m pins u b t w out x w₁ o₁
       → UserFolded Fold.chosen m′ pins′ u b t w′ out y w₂ o₂ → (x ≡ y) × (o₁ ≡ o₂)
   fold-same b t x y s r =
@@ -123,11 +131,11 @@ module _ {m m′ : List ℕ} (pins pins′ w w′ out w₁ w₂ o₁ o₂ : List
           subst (λ (p : ℕ → ℕ). PinnedFoldEffect Fold.chosen p b t out c n′ z) (sym q) g in
           (f .count ∙ sym (h .count), f .shows ∙ sym (h .shows))
 
-pub write-same : {m m′ : List ℕ} (user : ℕ) (out o₁ o₂ : List ℕ) (x y : Answer ℕ) → m ≡ m′ → UserWritten m user out x o₁ → UserWritten m′ user out y o₂
-    → (x ≡ y) × (o₁ ≡ o₂)
-write-same {m} {m′} user out o₁ o₂ x y e s t =
+pub write-same : {m m′ : List ℕ} (user form : ℕ) (out o₁ o₂ : List ℕ) (x y : Answer ℕ) → m ≡ m′ → UserWritten m user form out x o₁
+    → UserWritten m′ user form out y o₂ → (x ≡ y) × (o₁ ≡ o₂)
+write-same {m} {m′} user form out o₁ o₂ x y e s t =
     tested-same (λ (o p : List ℕ). o ≡ p) refl
-    (λ x y o p f g. written-same f (subst (λ (n : List ℕ). Written n out y p) (sym e) g))
+    (λ x y o p f g. form-same x y o p f (subst (λ (n : List ℕ). InForm form n out y p) (sym e) g))
     x y o₁ o₂ s t
 
 -- ---- the setting of a pin
@@ -270,17 +278,18 @@ own-step {s = s} {t = t} a (Step.searches {user = user} {b = b} {k = k} {D = D} 
     (Step.searches {w′ = w₂} {out′ = o₂} {a = v′} y d) =
     let z = search-same (s .pins) (t .pins) (s .work) (t .work) out w₁ w₂ o₁ o₂ user (a .memory) (a .work) (own-pins user (s .pins) (t .pins) (a .own)) b k D v v′ x y in
     (ap₂ Returned.searched (z .0) (z .1), record { memory = a .memory; work = e ∙ a .work ∙ sym d; room = a .room; own = a .own })
+own-step {s = s} {t = t} a (Step.searchesFrom {user = user} {b = b} {t = n} {place = place} {D = D} {out = out} {w′ = w₁} {out′ = o₁} {a = v} x e)
+    (Step.searchesFrom {w′ = w₂} {out′ = o₂} {a = v′} y d) =
+    let z =
+    from-same (s .pins) (t .pins) (s .work) (t .work) out w₁ w₂ o₁ o₂ user (a .memory) (a .work) (own-pins user (s .pins) (t .pins) (a .own)) b n place D v v′
+    x y in
+    (ap₂ Returned.searched (z .0) (z .1), record { memory = a .memory; work = e ∙ a .work ∙ sym d; room = a .room; own = a .own })
 own-step {s = s} {t = t} a (Step.folds {user = user} {b = b} {t = n} {out = out} {w′ = w₁} {out′ = o₁} {a = v} x e)
     (Step.folds {w′ = w₂} {out′ = o₂} {a = v′} y d) =
     let z = fold-same (s .pins) (t .pins) (s .work) (t .work) out w₁ w₂ o₁ o₂ user (a .memory) (a .work) (own-pins user (s .pins) (t .pins) (a .own)) b n v v′ x y in
     (ap₂ Returned.folded (z .0) (z .1), record { memory = a .memory; work = e ∙ a .work ∙ sym d; room = a .room; own = a .own })
-own-step a (Step.writes {user = user} {out = out} {out′ = o₁} {a = v} x) (Step.writes {out′ = o₂} {a = v′} y) =
-    let z = write-same user out o₁ o₂ v v′ (a .memory) x y in
-    (ap₂ Returned.written (z .0) (z .1), a)
-own-step {s = s} {t = t} a (Step.writesBinary {user = user} {out = out} {out′ = o₁} {a = v} x) (Step.writesBinary {out′ = o₂} {a = v′} y) =
-    let z =
-    under-same (λ m q. WrittenBinary m out) (λ m q b d o p f g. binary.written-same f g) (a .memory)
-    (own-pins user (s .pins) (t .pins) (a .own)) v v′ o₁ o₂ x y in
+own-step a (Step.writes {user = user} {form = form} {out = out} {out′ = o₁} {a = v} x) (Step.writes {out′ = o₂} {a = v′} y) =
+    let z = write-same user form out o₁ o₂ v v′ (a .memory) x y in
     (ap₂ Returned.written (z .0) (z .1), a)
 own-step a (Step.previews {user = user} {n = n} {file = file} {a = v} x) (Step.previews {n = k} {a = v′} y) =
     (preview-same file user v v′ n k (ap length (a .memory)) x y, a)
@@ -300,20 +309,24 @@ own-step {s = s} {t = t} a (Step.waveforms {user = user} {only = only} {witness 
     under-same (λ m q. Waveformed m only witness out) (λ m q b d o p f g. waveformed-same f g) (a .memory)
     (own-pins user (s .pins) (t .pins) (a .own)) v v′ o₁ o₂ x y in
     (ap₂ Returned.written (z .0) (z .1), a)
+own-step a (Step.generates {seed = seed} {i = i} {l = l} {a = g} {out = out} {out′ = o₁} {answer = v} x) (Step.generates {out′ = o₂} {answer = v′} y) =
+    let z = tested-same (λ (o p : List ℕ). o ≡ p) refl (λ v w o p f h. generated-same f h) v v′ o₁ o₂ x y in
+    (ap₂ Returned.written (z .0) (z .1), a)
 
 -- an accepted load returns one thing, and leaves states that are the same to every user
 pub load-step : (u : ℕ) {c : Call} {r r′ : Returned} {s t s₁ t₁ : State} → Same u s t → T (isAccepted r) → Step s c r s₁ → Step t c r′ t₁ → (r ≡ r′) × Same u s₁ t₁
 load-step u a h (Step.loads {user = user} x) (Step.loads y) = let z = load-same u user a x y in (ap Returned.loaded (z .0), z .1)
 load-step u a h (Step.pins x) y = absurd h
 load-step u a h (Step.searches x e) y = absurd h
+load-step u a h (Step.searchesFrom x e) y = absurd h
 load-step u a h (Step.folds x e) y = absurd h
 load-step u a h (Step.writes x) y = absurd h
-load-step u a h (Step.writesBinary x) y = absurd h
 load-step u a h (Step.previews x) y = absurd h
 load-step u a h (Step.joins {user = user} x) (Step.joins y) = let z = join-same u user a x y in (ap Returned.loaded (z .0), z .1)
 load-step u a h (Step.replays x) y = absurd h
 load-step u a h (Step.widens x) y = absurd h
 load-step u a h (Step.waveforms x) y = absurd h
+load-step u a h (Step.generates x) y = absurd h
 
 pin-other : (u user input value : ℕ) {m p p₁ : List ℕ} {x : Answer (Unit {0})} → (user ≡ u → ⊥) → PinSet m user input value p x p₁ → Agree u p₁ p
 pin-other u user input value n (Tested.refuses h) = (refl, λ i l. refl)
@@ -364,12 +377,13 @@ other-step u a n h (Step.pins {user = user} {input = input} {value = value} x) =
     let z = pin-other u user input value n x in
     record { memory = a .memory; work = a .work; room = z .0 ∙ a .room; own = λ i l. z .1 i l ∙ a .own i l }
 other-step u a n h (Step.searches x e) = record { memory = a .memory; work = e ∙ a .work; room = a .room; own = a .own }
+other-step u a n h (Step.searchesFrom x e) = record { memory = a .memory; work = e ∙ a .work; room = a .room; own = a .own }
 other-step u a n h (Step.folds x e) = record { memory = a .memory; work = e ∙ a .work; room = a .room; own = a .own }
 other-step u a n h (Step.writes x) = a
-other-step u a n h (Step.writesBinary x) = a
 other-step u a n h (Step.previews x) = a
 other-step u {s = s} a n h (Step.joins {first = first} {second = second} {a = v} x) =
     other-replaces u (JoinedInto first second (s .memory)) a h (λ m l. join-kept v l h) x
 other-step u a n h (Step.replays x) = a
 other-step u a n h (Step.widens x) = a
 other-step u a n h (Step.waveforms x) = a
+other-step u a n h (Step.generates x) = a

@@ -11,6 +11,9 @@ use Rattle.aiger.specs.Operations.{Searched, Folded}
 use Rattle.pins.specs.Pins.{isHeld, pinsOf}
 use Rattle.pinning.proofs.Free.{searched-plain, folded-plain}
 use Rattle.pinning.specs.Operations.{pinnedReport}
+use Rattle.pinning.proofs.FromPlace.{from-plain}
+use Rattle.place_search.specs.Places.{Placed}
+use Rattle.place_search.specs.Operation.{PlaceSearched}
 use Rattle.completions.specs.Either.{Verdict}
 use Rattle.completions.specs.Operations.{EitherReplayed, Widened}
 use Rattle.pinned_runs.proofs.Free.{replayed-free, widened-free}
@@ -18,8 +21,8 @@ use Rattle.search.specs.Chosen.{chosen}
 use Rattle.load.specs.declared.Judgement.{Judgement}
 use Rattle.load.specs.Preview.{Previewed}
 use Rattle.load.specs.Answers.{answered}
-use Rattle.call_forms.specs.Table.{Row, previewRow, searchRow, foldRow, replayRow, widenRow}
-use Rattle.call_forms.specs.Forms.{Replaced, UserSearched, UserFolded, UserReplayed, UserWidened, UserPreviewed}
+use Rattle.call_forms.specs.Table.{Row, previewRow, searchRow, searchFromRow, foldRow, replayRow, widenRow}
+use Rattle.call_forms.specs.Forms.{Replaced, UserSearched, UserSearchedFrom, UserFolded, UserReplayed, UserWidened, UserPreviewed}
 use Rattle.call_forms.proofs.Tests.{known-only}
 
 pub known-preview : {room : ℕ} {f : List ℕ} (user : ℕ) → user ≤ 1 → (r : Judgement) → UserPreviewed room f user (answered (r .answer)) (r .needed)
@@ -48,6 +51,10 @@ module _ (pins : List ℕ) (user : ℕ) (u : user ≤ 1) (free : (i : ℕ) → i
       → Searched chosen m b k D w out a w′ out′
   searched-free {w′ = w′} {out′ = out′} {a = a} x =
       searched-plain q (λ c h k _ _. free k) plain-report (known-only searchRow user u a (w′, out′) x)
+
+  pub searched-from-free : {chosen : Circuit → ℕ → ℕ → ℕ → ℕ → Placed} {m w w′ out out′ : List ℕ} {b t place D : ℕ} {a : Answer Report}
+      → UserSearchedFrom chosen m pins user b t place D w out a w′ out′ → PlaceSearched chosen m b t place D w out a w′ out′
+  searched-from-free {w′ = w′} {out′ = out′} {a = a} x = from-plain q (λ c h k _ _. free k) (known-only searchFromRow user u a (w′, out′) x)
 
   pub folded-free : {chosen : Circuit → ℕ → ℕ → Circuit} {m w w′ out out′ : List ℕ} {b t : ℕ} {a : Answer ℕ}
       → UserFolded chosen m pins user b t w out a w′ out′ → Folded chosen m b t w out a w′ out′

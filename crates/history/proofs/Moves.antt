@@ -1,5 +1,5 @@
 -- A call of a user, or an accepted load, can be answered the same from any state that is the same to the user. Clause 12.7. Assumes nothing.
-use mathlib.Core.Path.{_≡_, refl, sym, ap, _∙_, subst}
+use mathlib.Core.Path.{_≡_, refl, sym, ap, ap₂, _∙_, subst}
 use mathlib.Core.Bool.{Bool}
 use mathlib.Core.List.{List, [], _∷_}
 use Prim.Native.Nat.{ℕ, _+_, _*_, _≤_, _<_}
@@ -9,7 +9,10 @@ use Rattle.aiger.specs.Circuit.{Circuit}
 use Rattle.aiger.specs.Load.{Answer, refused, gives}
 use Rattle.aiger.specs.Memory.{Holds}
 use Rattle.aiger.specs.Operations.{Loaded, Written, Operated, HoldsNone, Test, judge, searchTests, foldTests}
-use Rattle.pins.specs.Pins.{pinsOf}
+use Rattle.pins.specs.Pins.{pinsOf, pinned}
+use Rattle.pinning.specs.FromPlace.{PinnedPlaceEffect}
+use Rattle.place_search.specs.Operation.{placeTests}
+use Rattle.place_decision.specs.Reach.{placeChosen}
 use Rattle.pinning.specs.Operations.{PinnedSearchEffect, PinnedFoldEffect}
 use Rattle.call_forms.specs.Forms.{
   Tested,
@@ -20,7 +23,6 @@ use Rattle.call_forms.specs.Forms.{
   PinSet,
   pinTests,
   UserWritten,
-  UserWrittenBinary,
   UserWaveformed,
   UserPreviewed,
 }
@@ -149,6 +151,20 @@ own-moves {s = s} {t = t} a (Step.searches {user = user} {b = b} {k = k} {D = D}
           x) refl;
       same = kept user a e;
     }
+own-moves {s = s} {t = t} a (Step.searchesFrom {user = user} {b = b} {t = n} {place = place} {D = D} {out = out} {w′ = w} {out′ = o} x e) =
+    record {
+      next = t;
+      step = Step.searchesFrom
+          (tested-moves (λ (l : List ℕ × List ℕ). (t .work, l .1))
+          (λ v l p. operated-moves (λ (l : List ℕ × List ℕ). (t .work, l .1)) (a .memory)
+          (λ c.
+          ap₂ (λ (q : ℕ → ℕ) (i : ℕ). placeTests (pinned c q) c b n place D i (length out)) (own-pins user (s .pins) (t .pins) (a .own)) (a .work))
+          (λ c v l f.
+          subst (λ (q : ℕ → ℕ). PinnedPlaceEffect placeChosen q b n place D out c v (t .work, l .1)) (own-pins user (s .pins) (t .pins) (a .own))
+          (record { chose = f .chose; allowed = f .allowed; shows = f .shows })) p)
+          x) refl;
+      same = kept user a e;
+    }
 own-moves {s = s} {t = t} a (Step.folds {user = user} {b = b} {t = n} {out = out} {w′ = w} {out′ = o} x e) =
     record {
       next = t;
@@ -161,10 +177,8 @@ own-moves {s = s} {t = t} a (Step.folds {user = user} {b = b} {t = n} {out = out
           x) refl;
       same = kept user a e;
     }
-own-moves {t = t} a (Step.writes {user = user} {out = out} {out′ = o} {a = v} x) =
-    record { next = t; step = Step.writes (subst (λ (m : List ℕ). UserWritten m user out v o) (a .memory) x); same = a }
-own-moves {t = t} a (Step.writesBinary {user = user} {out = out} {out′ = o} {a = v} x) =
-    record { next = t; step = Step.writesBinary (subst (λ (m : List ℕ). UserWrittenBinary m user out v o) (a .memory) x); same = a }
+own-moves {t = t} a (Step.writes {user = user} {form = form} {out = out} {out′ = o} {a = v} x) =
+    record { next = t; step = Step.writes (subst (λ (m : List ℕ). UserWritten m user form out v o) (a .memory) x); same = a }
 own-moves {t = t} a (Step.previews {user = user} {n = n} {file = file} {a = v} x) =
     record { next = t; step = Step.previews (subst (λ (i : ℕ). UserPreviewed i file user v n) (ap length (a .memory)) x); same = a }
 own-moves a (Step.joins {user = user} x) = join-moves user a user x
@@ -187,17 +201,19 @@ own-moves {s = s} {t = t} a (Step.widens {user = user} {witness = witness} {out 
     }
 own-moves {t = t} a (Step.waveforms {user = user} {only = only} {witness = witness} {out = out} {out′ = o} {a = v} x) =
     record { next = t; step = Step.waveforms (subst (λ (m : List ℕ). UserWaveformed m user only witness out v o) (a .memory) x); same = a }
+own-moves {t = t} a (Step.generates x) = record { next = t; step = Step.generates x; same = a }
 
 -- so has an accepted load, for any user
 pub accepted-moves : (u : ℕ) {c : Call} {r : Returned} {s t s₁ : State} → Same u s t → T (isAccepted r) → Step s c r s₁ → Moved u t c r s₁
 accepted-moves u a h (Step.loads {user = user} x) = load-moves u a user x
 accepted-moves u a h (Step.pins x) = absurd h
 accepted-moves u a h (Step.searches x e) = absurd h
+accepted-moves u a h (Step.searchesFrom x e) = absurd h
 accepted-moves u a h (Step.folds x e) = absurd h
 accepted-moves u a h (Step.writes x) = absurd h
-accepted-moves u a h (Step.writesBinary x) = absurd h
 accepted-moves u a h (Step.previews x) = absurd h
 accepted-moves u a h (Step.joins {user = user} x) = join-moves u a user x
 accepted-moves u a h (Step.replays x) = absurd h
 accepted-moves u a h (Step.widens x) = absurd h
 accepted-moves u a h (Step.waveforms x) = absurd h
+accepted-moves u a h (Step.generates x) = absurd h

@@ -10,7 +10,7 @@ use Rattle.aiger.specs.Load.{Answer, refused, gives}
 use Rattle.aiger.specs.Operations.{Loaded, Operated, Test}
 use Rattle.joined.specs.Joined.{JoinedInto}
 use Rattle.meaning.proofs.Lists.{length-map-upto}
-use Rattle.call_forms.specs.Table.{loadRow, pinRow, searchRow, foldRow, writeRow, binaryRow, previewRow, joinRow, replayRow, widenRow, waveformRow}
+use Rattle.call_forms.specs.Table.{loadRow, pinRow, searchRow, searchFromRow, foldRow, writeRow, previewRow, joinRow, replayRow, widenRow, waveformRow, generateRow}
 use Rattle.call_forms.specs.Forms.{Tested, freeByte, sharedAfter, PinSet}
 use Rattle.call_forms.specs.History.{State, Call, Returned, Step, userOf, rowOf, refusalOf, Changed}
 use Rattle.call_forms.proofs.Tests.{first-refuses}
@@ -43,24 +43,26 @@ changes-own (Step.pins {user = user} {input = input} {value = value} x) =
     let z = pin-changes user input value x in
     (refl, refl, z .0, z .1)
 changes-own (Step.searches x e) = (refl, refl, e)
+changes-own (Step.searchesFrom x e) = (refl, refl, e)
 changes-own (Step.folds x e) = (refl, refl, e)
 changes-own (Step.writes x) = (refl, refl, refl)
-changes-own (Step.writesBinary x) = (refl, refl, refl)
 changes-own (Step.previews x) = (refl, refl, refl)
 changes-own {s = s} (Step.joins {first = first} {second = second} x) = (refl, replaced-changes s (JoinedInto first second (s .memory)) x)
 changes-own (Step.replays x) = (refl, refl, refl)
 changes-own (Step.widens x) = (refl, refl, refl)
 changes-own (Step.waveforms x) = (refl, refl, refl)
+changes-own (Step.generates x) = (refl, refl, refl)
 
 pub strangers-refused : {c : Call} {r : Returned} {s s₁ : State} → Step s c r s₁ → rowOf c .last < userOf c → refusalOf r ≡ 18
 strangers-refused (Step.loads {user = user} x) h = ap (λ (a : Answer (List ℕ)). refusalOf (Returned.loaded a)) (first-refuses loadRow user [] h x .0)
 strangers-refused (Step.pins {user = user} x) h = ap (λ (a : Answer (Unit {0})). refusalOf (Returned.pinned a)) (first-refuses pinRow user _ h x .0)
 strangers-refused (Step.searches {user = user} {out′ = o} x e) h = ap (λ a. refusalOf (Returned.searched a o)) (first-refuses searchRow user [] h x .0)
+strangers-refused (Step.searchesFrom {user = user} {out′ = o} x e) h = ap (λ a. refusalOf (Returned.searched a o)) (first-refuses searchFromRow user [] h x .0)
 strangers-refused (Step.folds {user = user} {out′ = o} x e) h = ap (λ a. refusalOf (Returned.folded a o)) (first-refuses foldRow user [] h x .0)
-strangers-refused (Step.writes {user = user} {out′ = o} x) h = ap (λ a. refusalOf (Returned.written a o)) (first-refuses writeRow user [] h x .0)
-strangers-refused (Step.writesBinary {user = user} {out′ = o} x) h = ap (λ a. refusalOf (Returned.written a o)) (first-refuses binaryRow user [] h x .0)
+strangers-refused (Step.writes {user = user} {out′ = o} x) h = ap (λ a. refusalOf (Returned.written a o)) (first-refuses writeRow user _ h x .0)
 strangers-refused (Step.previews {user = user} {n = n} x) h = ap (λ a. refusalOf (Returned.previewed a n)) (first-refuses previewRow user [] h x .0)
 strangers-refused (Step.joins {user = user} x) h = ap (λ (a : Answer (List ℕ)). refusalOf (Returned.loaded a)) (first-refuses joinRow user [] h x .0)
 strangers-refused (Step.replays {user = user} x) h = ap (λ a. refusalOf (Returned.replayed a)) (first-refuses replayRow user [] h x .0)
 strangers-refused (Step.widens {user = user} {out′ = o} x) h = ap (λ a. refusalOf (Returned.written a o)) (first-refuses widenRow user [] h x .0)
 strangers-refused (Step.waveforms {user = user} {out′ = o} x) h = ap (λ a. refusalOf (Returned.written a o)) (first-refuses waveformRow user [] h x .0)
+strangers-refused (Step.generates {user = user} {out′ = o} x) h = ap (λ a. refusalOf (Returned.written a o)) (first-refuses generateRow user [] h x .0)

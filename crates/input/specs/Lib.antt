@@ -1,2 +1,3 @@
 -- What the contracts of `input` cite. Assumes nothing.
 pub mod Reading
+pub mod Contents

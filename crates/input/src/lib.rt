@@ -1,55 +1,65 @@
 // Reading an open file, where a read that fails is told apart from the end of the file.
+mod content;
 mod reading;
 
+pub use content::Chunk;
+pub use content::Content;
+pub use content::bytes_of;
+pub use content::is_failed;
+pub use content::size_of;
+pub use content::unread;
 pub use reading::Read;
 pub use reading::count_of;
 pub use reading::has_failed;
 pub use reading::read_once;
 ghost use mathlib.Core.Path.{_≡_};
-ghost use mathlib.Core.Bool.{Bool, true};
 ghost use Prim.Native.Nat.{_≤_};
 ghost use lib.ListN.{length};
-ghost use Rattle.input.specs.Reading.{Gave, Ended};
+ghost use Rattle.input.specs.Reading.{isFailure};
+ghost use Rattle.input.specs.Contents.{Within, Whole, Delivered, Ended};
 
-// How many bytes were read, whether a read failed, and the last read. The last field is this crate's own, so that a value of this type is
-// one that `read_all` or `unopened` made.
+// Reads an open file until it ends, a read fails, or 66,826 bytes were read.
+pub fn read_content(fd: i32) -> Content
+    ensures { λ r. ⌜ Whole r ⌝ }
+{
+    let mut got = content::advance(content::unread(), fd);
+    while content::goes_on(got) {
+        got = content::advance(content::content_of(got), fd);
+    }
+    content::content_of(got)
+}
+
+// Copies a content to the front of buf, as much of it as has room. The answer is how many bytes these are.
+pub fn deliver(c: Content, buf: &mut [u8]) -> usize
+    requires { ⌜ Within c ⌝ }
+    ensures { λ n. ⌜ Delivered (now (buf .exit)) n c ⌝ }
+{
+    let bytes = content::bytes_of(c);
+    let n = content::size_of(c);
+    let room = buf.len();
+    if n <= room {
+        return bytes::copy(&bytes[..n], buf);
+    }
+    bytes::copy(&bytes[..room], buf)
+}
+
+// How many bytes stand in a buffer, whether a read failed, and what was read. The last field is this crate's own.
 pub struct Got {
     pub count: usize,
     pub failed: bool,
-    last: Read,
+    content: Content,
 }
 
-// So many bytes at the front of buf, after which a read gave nothing.
-fn told(count: usize, last: Read, buf: &[u8]) -> Got
-    requires { ⌜ (count ≤ length (now buf)) × (last .count ≡ 0) ⌝ }
-    ensures { λ r. ⌜ Ended (now (buf .entry)) r × (r .count ≡ count) × (r .last ≡ last) ⌝ }
-{
-    let failed = reading::has_failed(last);
-    Got {
-        count,
-        failed,
-        last,
-    }
-}
-
-// Nothing was read, since the file could not be opened.
-pub fn unopened(buf: &[u8]) -> Got
-    ensures { λ r. ⌜ Ended (now (buf .entry)) r × (r .count ≡ 0) × (r .failed ≡ true) ⌝ }
-{
-    told(0, reading::failure(), buf)
-}
-
-// Reads an open file into the front of buf until it ends, buf is full or a read fails: until a read gives nothing.
+// Reads an open file into the front of buf, as much as has room.
 pub fn read_all(fd: i32, buf: &mut [u8]) -> Got
     ensures { λ r. ⌜ Ended (now (buf .exit)) r ⌝ }
 {
-    let mut last = reading::read_once(fd, buf);
-    let mut more = reading::count_of(last);
-    let mut done = more;
-    while 0 < more {
-        last = reading::read_once(fd, &mut buf[done..]);
-        more = reading::count_of(last);
-        done += more;
+    let content = read_content(fd);
+    let count = deliver(content, buf);
+    let failed = content::is_failed(content);
+    Got {
+        count,
+        failed,
+        content,
     }
-    told(done, last, buf)
 }

@@ -1,22 +1,18 @@
-// One read of an open file. The fields are this module's own, so that a value of this type is what a read gave.
+// One read of an open file. The field is this module's own, so that a value of this type is the number that the system gave.
 ghost use mathlib.Core.Path.{_≡_};
-ghost use mathlib.Core.Bool.{Bool, true};
-ghost use Rattle.input.specs.Reading.{Gave};
+ghost use lib.IntN.{negsuc};
+ghost use Rattle.input.specs.Reading.{Gave, countGiven, isFailure};
 
-// What a read gave: so many bytes at the front of the buffer, none at the end of the file; or it failed.
+// What a read gave: the number of bytes at the front of the buffer, 0 at the end of the file, below 0 where it failed.
 pub struct Read {
-    count: usize,
-    failed: bool,
+    given: isize,
 }
 
 // A read that failed, of a file that could not be opened too.
 pub fn failure() -> Read
-    ensures { λ r. ⌜ (r .count ≡ 0) × (r .failed ≡ true) ⌝ }
+    ensures { λ r. ⌜ r ≡ record { given = negsuc 0 } ⌝ }
 {
-    Read {
-        count: 0,
-        failed: true,
-    }
+    Read { given: -1 }
 }
 
 // Reads once, and again as long as a signal interrupts the read before a byte came.
@@ -25,15 +21,12 @@ pub fn read_once(fd: i32, buf: &mut [u8]) -> Read
 {
     let mut turns = u64::MAX;
     while 0 < turns {
-        let got = libc::read(fd, buf);
-        if got >= 0 {
-            return Read {
-                count: io::count(got, buf),
-                failed: false,
-            };
+        let given = libc::read(fd, buf);
+        if given >= 0 {
+            return Read { given };
         }
         if os::errno() != libc::EINTR {
-            return failure();
+            return Read { given };
         }
         turns -= 1;
     }
@@ -41,13 +34,18 @@ pub fn read_once(fd: i32, buf: &mut [u8]) -> Read
 }
 
 pub fn count_of(r: Read) -> usize
-    ensures { λ n. ⌜ n ≡ r .count ⌝ }
+    ensures { λ n. ⌜ n ≡ countGiven (r .given) ⌝ }
 {
-    r.count
+    let given = r.given;
+    if given > 0 {
+        return given as usize;
+    }
+    0
 }
 
 pub fn has_failed(r: Read) -> bool
-    ensures { λ b. ⌜ b ≡ r .failed ⌝ }
+    ensures { λ b. ⌜ b ≡ isFailure (r .given) ⌝ }
 {
-    r.failed
+    let given = r.given;
+    given < 0
 }

@@ -13,7 +13,7 @@ use Rattle.call_forms.specs.History.{State, Call, Returned, Step}
 
 -- the number of this interface: it grows by 1 with each change of it
 abbrev pub version : ℕ
-version = 1
+version = 2
 
 -- ---- what is told of each answer: the number of a refusal, or the sixteen places
 

@@ -5,6 +5,7 @@
 use calls::PinAnswer;
 use fold::FoldAnswer;
 use fold::Target;
+use generate::GenerateAnswer;
 use load::Counts;
 use load::Judgement;
 use load::LoadAnswer;
@@ -26,6 +27,7 @@ ghost use Rattle.write.specs.Answer as Write;
 ghost use Rattle.replay.specs.Answer as Replay;
 ghost use Rattle.widen.specs.Answer as Widen;
 ghost use Rattle.waveform.specs.Answer as Waveform;
+ghost use Rattle.generate.specs.Answer as Generate;
 ghost use Rattle.calls.specs.Answers as Pin;
 ghost use Rattle.call_forms.specs.History.{Call};
 ghost use Rattle.interface.specs.Told.{
@@ -203,6 +205,19 @@ fn tell_dumped(said: WaveformAnswer, answer: &mut [u64]) -> u64
     }
 }
 
+// Tells the length of a generated circuit.
+fn tell_generated(said: GenerateAnswer, answer: &mut [u64]) -> u64
+    ensures { λ r. ⌜ Tells (textTold (Generate.answered said)) (now (answer .entry)) r (now (answer .exit)) ⌝ }
+{
+    match said {
+        GenerateAnswer::Refused(n) => n as u64,
+        GenerateAnswer::Length(n) => {
+            answer_places::tell(DONE, 0, n as u64, 0, answer);
+            0
+        }
+    }
+}
+
 // Tells what a replay answered.
 fn tell_replayed(said: ReplayAnswer, answer: &mut [u64]) -> u64
     ensures { λ r. ⌜ Tells (replayTold (Replay.answered said)) (now (answer .entry)) r (now (answer .exit)) ⌝ }
@@ -229,7 +244,7 @@ fn tell_replayed(said: ReplayAnswer, answer: &mut [u64]) -> u64
 pub extern "C" fn yunverok_version() -> u64
     ensures { λ r. ⌜ r ≡ version ⌝ }
 {
-    1
+    2
 }
 
 // Loads a file, which user 0 alone may do: circuit memory then holds its circuit, and all pins are free.
@@ -422,38 +437,45 @@ pub extern "C" fn yunverok_waveform(
     )
 }
 
-// Writes the circuit as an AIGER file in ASCII.
+// Writes the circuit as an AIGER file: form 0 is the ASCII form, form 1 the binary form.
 #[no_mangle]
 pub extern "C" fn yunverok_write(
     user: u64,
     circuit: &[u32],
+    form: u64,
     out: &mut [u8],
     answer: &mut [u64],
 ) -> u64
     ensures { λ r. ⌜
-        Called (lent [] (now (circuit .entry)) []) (Call.write user (now (out .entry))) (lent [] (now (circuit .entry)) [])
+        Called (lent [] (now (circuit .entry)) []) (Call.write user form (now (out .entry))) (lent [] (now (circuit .entry)) [])
         (now (out .exit))
         (now (answer .entry)) r
         (now (answer .exit))
         ⌝ }
 {
-    tell_written(calls::write(user, circuit, out), answer)
+    tell_written(calls::write(user, circuit, form, out), answer)
 }
 
-// Writes the circuit as an AIGER file in binary form.
+// Writes the circuit of a seed and counts as an AIGER file in ASCII. It needs no memory but the output, so it takes no user: the call is
+// that of user 0, and either user gets the same.
 #[no_mangle]
-pub extern "C" fn yunverok_write_binary(
-    user: u64,
-    circuit: &[u32],
+pub extern "C" fn yunverok_generate(
+    seed: u64,
+    inputs: u64,
+    latches: u64,
+    gates: u64,
     out: &mut [u8],
     answer: &mut [u64],
 ) -> u64
     ensures { λ r. ⌜
-        Called (lent [] (now (circuit .entry)) []) (Call.writeBinary user (now (out .entry))) (lent [] (now (circuit .entry)) [])
+        Called (lent [] [] []) (Call.generate 0 seed inputs latches gates (now (out .entry))) (lent [] [] [])
         (now (out .exit))
         (now (answer .entry)) r
         (now (answer .exit))
         ⌝ }
 {
-    tell_written(calls::write_binary(user, circuit, out), answer)
+    tell_generated(
+        calls::generate(0, seed, inputs, latches, gates, out),
+        answer,
+    )
 }

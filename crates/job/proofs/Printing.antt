@@ -1,45 +1,23 @@
--- What load leaves, and that what a job answers may be printed. Assumes nothing.
-use mathlib.Core.Path.{_≡_, refl, sym, subst}
+-- What a job answers may be printed. Assumes nothing.
+use mathlib.Core.Path.{_≡_, refl}
 use mathlib.Core.Bool.{Bool, true, false}
 use mathlib.Core.List.{List, [], _∷_, _++_, append-nil}
 use mathlib.Core.Option.{Option, none, some}
 use Prim.Native.Nat.{ℕ, _≤_}
-use native.Mathlib.Omega.{arith}
 use borrow.Author.Tests.{leb-true, leb-false}
 use lib.Dec.{leb}
 use lib.ListN.{length}
 use Rattle.aiger.specs.Circuit.{Circuit}
 use Rattle.aiger.specs.Load.{Answer, refused, gives, test, read, load, _>>=_, _>>_}
 use Rattle.aiger.specs.Search.{Outcome}
-use Rattle.aiger.specs.Memory.{Holds}
 use Rattle.aiger.specs.Witness.{witnessLength}
-use Rattle.aiger.specs.Operations.{Loaded, judge, need, budgetRight, searchTests}
+use Rattle.aiger.specs.Operations.{judge, need, budgetRight, searchTests}
 use Rattle.aiger.specs.Program.{Request, request, report, refusalLine, Prints}
-use Rattle.layout.specs.Words.{circuitIn}
 use Rattle.limits.proofs.Refusals.{passed}
-use Rattle.roundtrip.proofs.Holding.{held, loaded-holds}
 use Rattle.search.specs.Chosen.{outcomeChosen}
 use Rattle.search.proofs.Theorems.{always-permitted}
 use Rattle.job.specs.Replies.{outcomeWords}
 use Rattle.job.specs.Job.{requested, searched, requestAnswer, jobAnswer, Result, replyTo}
-
--- an answer of load, taken apart
-pub not-loaded : {m f m′ : List ℕ} {a : Answer (List ℕ)} {n : ℕ} → Loaded m f a m′ → a ≡ refused n → load (length m) f ≡ refused n
-not-loaded (Loaded.refuses e) q = cc
-not-loaded (Loaded.stores c e) q = let z : _≡_ {A = ℕ} 0 1 = cc in absurd (omega arith)
-
-pub record Stored (m f m′ : List ℕ) : Type 0 where
-  pub circuit : Circuit
-  pub accepted : load (length m) f ≡ gives circuit
-  pub holds : Holds m′ circuit
-
-pub stored : {m f m′ : List ℕ} {a : Answer (List ℕ)} {ns : List ℕ} → Loaded m f a m′ → a ≡ gives ns → Stored m f m′
-stored (Loaded.refuses e) q = let z : _≡_ {A = ℕ} 0 1 = cc in absurd (omega arith)
-stored {m} {f} (Loaded.stores c e) q = record { circuit = c; accepted = e; holds = loaded-holds m f e }
-
--- the circuit is the one that the words say
-pub stored-in : {m f m′ : List ℕ} → Stored m f m′ → Holds m′ (circuitIn m′)
-stored-in {m′ = m′} s = subst (Holds m′) (sym (held (s .holds))) (s .holds)
 
 -- what is printed for an answer, by the cases in which it comes
 module _ (input : List ℕ) where

@@ -17,7 +17,8 @@ use Rattle.replies.specs.declared.Report.{Report}
 use Rattle.replies.proofs.Putting.{fronts-inside, fronts-taken}
 use Rattle.replies.proofs.Loading.{loaded-words}
 use Rattle.job.specs.Job.{requested, accepted, searched, requestAnswer, jobAnswer, Result, Replied, Ran}
-use Rattle.job.proofs.Printing.{not-loaded, stored, job-prints}
+use Rattle.load_laws.proofs.Stored.{not-loaded, stored}
+use Rattle.job.proofs.Printing.{job-prints}
 use Rattle.job.proofs.Replying.{refused-replied}
 pub use Rattle.roundtrip.proofs.Lists.{take-rest as whole-rest}
 

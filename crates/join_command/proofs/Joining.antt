@@ -19,7 +19,7 @@ use Rattle.roundtrip.proofs.Holding.{held, loaded-holds}
 use Rattle.load.specs.declared.Counts.{Counts}
 use Rattle.load.specs.Answers.{numbers}
 use Rattle.limits.proofs.Refusals.{judge-first}
-use Rattle.job.proofs.Printing.{Stored}
+use Rattle.load_laws.proofs.Stored.{Stored}
 use Rattle.joined.specs.Joined.{joined, joinTests, JoinedInto}
 use Rattle.parting.proofs.Contract.{join-determined, join-refused, join-accepted, join-valid, bad-lines}
 use Rattle.replies.specs.Refusal.{refusalText}

@@ -129,5 +129,5 @@ pub fn join(
             out: 0,
         };
     }
-    commands::write_loaded(third, out, line)
+    commands::write_loaded(0, third, out, line)
 }

@@ -10,8 +10,9 @@ use lib.ListN.{length}
 use Rattle.aiger.specs.Circuit.{Circuit}
 use Rattle.aiger.specs.Load.{Answer, refused, gives}
 use Rattle.aiger.specs.Frames.{size}
-use Rattle.aiger.specs.Operations.{Test, need, judge, boundTests}
+use Rattle.aiger.specs.Operations.{Test, need, judge, sizeTest, boundTests}
 use Rattle.aiger.proofs.Tests.{and-left, and-right}
+use Rattle.limits.specs.Limits.{lineTests}
 use Rattle.limits.specs.declared.Ruling.the-variants.{Accepted, Refused}
 
 -- ---- any tests
@@ -101,34 +102,43 @@ pub record Passed (c : Circuit) (b k : ℕ) (budget : Bool) (room : ℕ) : Type 
   pub small : size c k ≤ 65536
   pub words : 16 * size c k ≤ room
 
-module _ (c : Circuit) (b k : ℕ) (budget : Bool) (room : ℕ) where
-  pub bad-refused : length (c .bads) ≤ b → judge (boundTests c b k budget room) ≡ refused 10
+module _ (c : Circuit) (b k : ℕ) (budget : Bool) where
+  pub bad-refused : length (c .bads) ≤ b → judge (lineTests c b k budget) ≡ refused 10
   unfolding judge
   bad-refused h = rw (le-ltb b (length (c .bads)) h)
 
   module _ (h : b < length (c .bads)) where
-    pub bound-refused : 255 < k → judge (boundTests c b k budget room) ≡ refused 11
+    pub bound-refused : 255 < k → judge (lineTests c b k budget) ≡ refused 11
     unfolding judge
     bound-refused l = rw (lt-ltb b (length (c .bads)) h, lt-leb k 255 l)
 
     module _ (l : k ≤ 255) where
-      pub budget-refused : budget ≡ false → judge (boundTests c b k budget room) ≡ refused 11
+      pub budget-refused : budget ≡ false → judge (lineTests c b k budget) ≡ refused 11
       unfolding judge
       budget-refused e = rw (lt-ltb b (length (c .bads)) h, le-leb k 255 l, e)
 
-      module _ (e : budget ≡ true) where
-        pub size-refused : 65536 < size c k → judge (boundTests c b k budget room) ≡ refused 12
-        unfolding judge
-        size-refused z = rw (lt-ltb b (length (c .bads)) h, le-leb k 255 l, e, lt-leb (size c k) 65536 z)
+      pub line-passes : budget ≡ true → judge (lineTests c b k budget) ≡ gives tt
+      unfolding judge
+      line-passes e = rw (lt-ltb b (length (c .bads)) h, le-leb k 255 l, e)
 
-        module _ (q : size c k ≤ 65536) where
-          pub room-refused : room < 16 * size c k → judge (boundTests c b k budget room) ≡ refused 12
-          unfolding judge
-          room-refused z = rw (lt-ltb b (length (c .bads)) h, le-leb k 255 l, e, le-leb (size c k) 65536 q, lt-leb (16 * size c k) room z)
+module _ (c : Circuit) (k room : ℕ) where
+  pub size-refused : 65536 < size c k → judge (sizeTest c k room ∷ []) ≡ refused 12
+  unfolding judge
+  size-refused z = rw (lt-leb (size c k) 65536 z)
 
-          pub passes : 16 * size c k ≤ room → judge (boundTests c b k budget room) ≡ gives tt
-          unfolding judge
-          passes z = rw (lt-ltb b (length (c .bads)) h, le-leb k 255 l, e, le-leb (size c k) 65536 q, le-leb (16 * size c k) room z)
+  module _ (q : size c k ≤ 65536) where
+    pub room-refused : room < 16 * size c k → judge (sizeTest c k room ∷ []) ≡ refused 12
+    unfolding judge
+    room-refused z = rw (le-leb (size c k) 65536 q, lt-leb (16 * size c k) room z)
+
+    pub size-passes : 16 * size c k ≤ room → judge (sizeTest c k room ∷ []) ≡ gives tt
+    unfolding judge
+    size-passes z = rw (le-leb (size c k) 65536 q, le-leb (16 * size c k) room z)
+
+module _ (c : Circuit) (b k : ℕ) (budget : Bool) (room : ℕ) where
+  pub passes : b < length (c .bads) → k ≤ 255 → budget ≡ true → size c k ≤ 65536 → 16 * size c k ≤ room
+      → judge (boundTests c b k budget room) ≡ gives tt
+  passes h l e q z = judge-rest (lineTests c b k budget) (sizeTest c k room ∷ []) (line-passes c b k budget h l e) ∙ size-passes c k room q z
 
   -- where these tests and the others pass
   pub passed : (ys : List Test) → judge (boundTests c b k budget room ++ ys) ≡ gives tt → Passed c b k budget room × (judge ys ≡ gives tt)

@@ -2,7 +2,8 @@
 use layout::Layout;
 ghost use mathlib.Core.Path.{_≡_};
 ghost use Prim.Native.Nat.{_≤_};
-ghost use Rattle.limits.specs.Limits.{Limited, sizeOf, lengthOf, RulingIs};
+ghost use Rattle.aiger.specs.Operations.{budgetRight};
+ghost use Rattle.limits.specs.Limits.{Limited, sizeOf, lengthOf, LineIs, SizeIs, RulingIs};
 
 // What the tests of a request say: all pass, or the number of the first that fails.
 pub enum Ruling {
@@ -27,11 +28,16 @@ pub fn witness_length(layout: Layout, b: u32, k: usize) -> usize
     3 + number + 1 + (layout.l + 1) + (k + 1) * (layout.i + 1) + 2
 }
 
-// The number of the first of the tests 10, 11 and 12 that fails, or that all pass. budget is whether the budget is right, and room the
-// words of working memory.
-pub fn check_bounds(layout: Layout, b: u64, k: u64, budget: bool, room: usize) -> Ruling
-    requires { ⌜ Limited layout ⌝ }
-    ensures { λ r. ⌜ RulingIs layout b k budget room r ⌝ }
+// Whether a budget is right.
+pub fn is_budget(d: u64) -> bool
+    ensures { λ r. ⌜ r ≡ budgetRight d ⌝ }
+{
+    (1 <= d) & (d <= 4294967296)
+}
+
+// The number of the first of the tests 10 and 11 that fails, or that both pass. budget is whether the budget is right.
+pub fn check_line(layout: Layout, b: u64, k: u64, budget: bool) -> Ruling
+    ensures { λ r. ⌜ LineIs layout b k budget r ⌝ }
 {
     if layout.b as u64 <= b {
         return Ruling::Refused(10);
@@ -42,7 +48,15 @@ pub fn check_bounds(layout: Layout, b: u64, k: u64, budget: bool, room: usize) -
     if !budget {
         return Ruling::Refused(11);
     }
-    let units = size(layout, k as usize);
+    Ruling::Accepted
+}
+
+// Test 12: room is the words of working memory.
+pub fn check_size(layout: Layout, k: usize, room: usize) -> Ruling
+    requires { ⌜ Limited layout × (k ≤ 255) ⌝ }
+    ensures { λ r. ⌜ SizeIs layout k room r ⌝ }
+{
+    let units = size(layout, k);
     if 65536 < units {
         return Ruling::Refused(12);
     }
@@ -50,4 +64,16 @@ pub fn check_bounds(layout: Layout, b: u64, k: u64, budget: bool, room: usize) -
         return Ruling::Refused(12);
     }
     Ruling::Accepted
+}
+
+// The number of the first of the tests 10, 11 and 12 that fails, or that all pass. budget is whether the budget is right, and room the
+// words of working memory.
+pub fn check_bounds(layout: Layout, b: u64, k: u64, budget: bool, room: usize) -> Ruling
+    requires { ⌜ Limited layout ⌝ }
+    ensures { λ r. ⌜ RulingIs layout b k budget room r ⌝ }
+{
+    if let Ruling::Refused(n) = check_line(layout, b, k, budget) {
+        return Ruling::Refused(n);
+    }
+    check_size(layout, k as usize, room)
 }

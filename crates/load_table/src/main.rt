@@ -39,7 +39,7 @@ fn say_text(n: usize, out: &[u8]) {
 }
 
 fn say_written(m: &[u32], out: &mut [u8]) {
-    match write::write(m, out) {
+    match writer::write(m, 0, out) {
         WriteAnswer::Length(n) => say_text(n, out),
         WriteAnswer::Refused(n) => say_refused(n),
     }

@@ -1,5 +1,5 @@
 -- What a search at a depth may answer, in plain terms: which answers exclude each other, what each says of the circuit, and that more
--- budget keeps all but spent. Clause 12.14. Assumes nothing.
+-- budget keeps all but spent. Clause 12.15. Assumes nothing.
 use mathlib.Core.Path.{_≡_, refl, sym, ap, ap₂, _∙_, subst}
 use mathlib.Core.Bool.{Bool, not, cond, _&&_}
 use mathlib.Core.List.{List, []}
@@ -149,7 +149,7 @@ module _ (c : Circuit) (s : Space) (b k : ℕ) where
       → FirstHit (reachesAlone (freedSpace c s) c b (k + 1)) (2 ^ bitsIn (freedSpace c s) (k + 1)) 0 x
   second-first x h = subst (λ (w : Bool). FirstHit (hittingBy (k + 1) w) (placesBy (k + 1) w) 0 x) (lt-leb (k + 1) k (omega arith)) h
 
-  -- Clause 12.14: found is what the plain search with bound k may answer, and the other way round
+  -- Clause 12.15: found is what the plain search with bound k may answer, and the other way round
   pub found-plain : (D t : ℕ) → T (permittedAt asked k D (Verdict.found t)) → T (permittedOf plainQuestion k D (Outcome.found t))
   found-plain D t h =
       let a = permitted-out asked k D (Verdict.found t) h in
@@ -174,7 +174,7 @@ module _ (c : Circuit) (s : Space) (b k : ℕ) where
         first = first-plain t (f .place) (f .within) (f .first);
       }))
 
-  -- Clause 12.14: where never is answered no sequence of any frame hits, however late the frame
+  -- Clause 12.15: where never is answered no sequence of any frame hits, however late the frame
   pub never-fires : Local c s → (D j : ℕ) → T (permittedAt asked k D (Verdict.never j)) → (t x : ℕ) → x < 2 ^ bitsIn s t → T (reachesIn s c b t x) → ⊥
   never-fires local D j h t x l r =
       let a = permitted-out asked k D (Verdict.never j) h in

@@ -1,5 +1,5 @@
 -- The search at a depth as an operation: it answers one thing and writes one text, whatever working memory and output held; its answers say
--- what they say of the circuit in memory; and its tests, one after the other. Clause 12.14. Assumes nothing.
+-- what they say of the circuit in memory; and its tests, one after the other. Clause 12.15. Assumes nothing.
 use mathlib.Core.Path.{_≡_, refl, sym, ap, ap₂, _∙_, subst}
 use mathlib.Core.Bool.{Bool, true, false, cond, _&&_}
 use mathlib.Core.List.{List, [], _∷_}
@@ -49,7 +49,7 @@ module _ {chosen : Circuit → ℕ → ℕ → ℕ → Verdict} {b k D : ℕ} wh
         },
       )
 
-  -- Clause 12.14: two calls answer one thing and write one text, whatever the memories held and whichever of them holds the circuit
+  -- Clause 12.15: two calls answer one thing and write one text, whatever the memories held and whichever of them holds the circuit
   pub never-searched-same : {m m′ w w′ out out′ w₁ w₂ o₁ o₂ : List ℕ} {x y : Answer NeverReport} → Alike m m′ → length w ≡ length w′
       → length out ≡ length out′ → NeverSearched chosen m b k D w out x w₁ o₁ → NeverSearched chosen m′ b k D w′ out′ y w₂ o₂
       → (x ≡ y) × OneText out o₁ out′ o₂
@@ -71,7 +71,7 @@ module _ {chosen : Circuit → ℕ → ℕ → ℕ → Verdict} {b k D : ℕ} wh
     showing : {v : Verdict} → r .verdict ≡ v → out′ ≡ shownAt c (space c) b k v out
     showing e = subst (λ (v : Verdict). out′ ≡ shownAt c (space c) b k v out) e (effect .shows)
 
-    -- Clause 12.14: where never is answered no sequence hits at any frame, however late, and no byte is written
+    -- Clause 12.15: where never is answered no sequence hits at any frame, however late, and no byte is written
     pub never-only : {j : ℕ} → r .verdict ≡ Verdict.never j → ((t x : ℕ) → x < 2 ^ freeBits c t → T (reaches c b t x) → ⊥) × (out′ ≡ out)
     never-only {j} e = (never-search c b k D j (right e), showing e)
 

@@ -1,4 +1,4 @@
--- Clause 12.14: searches at a depth, worked through. Assumes nothing.
+-- Clause 12.15: searches at a depth, worked through. Assumes nothing.
 use mathlib.Core.Path.{_≡_, refl}
 use mathlib.Core.Bool.{Bool, true, false}
 use mathlib.Core.List.{List, [], _∷_, map}

@@ -1,6 +1,6 @@
 -- The circuit in which every latch has a free start: load accepts it where it accepts the circuit, its runs have the same values, and its
 -- sequences are those of the space with every latch free, so that the second question of a circuit is a question about the runs of that
--- one. Clause 12.14. Assumes nothing.
+-- one. Clause 12.15. Assumes nothing.
 use mathlib.Core.Path.{_≡_, refl, sym, ap, ap₂, _∙_, subst}
 use mathlib.Core.Bool.{Bool, true, false, not, cond, _&&_, _||_}
 use mathlib.Core.List.{List, [], _∷_, _++_, map}
@@ -78,7 +78,7 @@ module _ (c : Circuit) where
   unfolding run
   freed-run t x = ap (λ (s : Space). runIn s t x) freed-space
 
-  -- Clause 12.14: its size is that of c with L in place of U
+  -- Clause 12.15: its size is that of c with L in place of U
   pub freed-size : (k : ℕ)
       → size (freed c) k ≡ (k + 1) * (length (c .inputs) + length (c .gates) + length (c .constraints) + 1) + length (c .latches) + 1
   unfolding size freed

@@ -1,4 +1,4 @@
--- Clause 12.14: where frames 0 to k have no hit and no run from any latch values hits in the last of its k + 2 frames alone, no frame at all
+-- Clause 12.15: where frames 0 to k have no hit and no run from any latch values hits in the last of its k + 2 frames alone, no frame at all
 -- has a hit, however late. Assumes nothing.
 use mathlib.Core.Path.{_≡_, sym, ap, ap₂, _∙_, subst}
 use mathlib.Core.Bool.{Bool, not, _&&_}

@@ -1,4 +1,4 @@
--- The search at a depth as an operation: its tests, what it answers and what it leaves. Clause 12.14. Assumes nothing.
+-- The search at a depth as an operation: its tests, what it answers and what it leaves. Clause 12.15. Assumes nothing.
 use mathlib.Core.Path.{_≡_}
 use mathlib.Core.Bool.{Bool, _&&_}
 use mathlib.Core.List.{List, [], _∷_}
@@ -13,14 +13,14 @@ use Rattle.aiger.specs.Operations.{Test, need, badTest, budgetRight, sizeTest, 
 use Rattle.never_search.specs.Runs.{freed}
 use Rattle.never_search.specs.Depth.{Verdict, depthQuestion, permittedAt, witnessAt}
 
--- Clause 12.14: the tests 10 to 13. The depth is at most 254; size and output are those of bound k+1, and every latch counts as free in the
+-- Clause 12.15: the tests 10 to 13. The depth is at most 254; size and output are those of bound k+1, and every latch counts as free in the
 -- size. Working memory has `room` words and the output `len` bytes
 abbrev pub neverTests : Circuit → ℕ → ℕ → ℕ → ℕ → ℕ → List Test
 neverTests c b k D room len =
     badTest c b ∷ need 11 (leb k 254 && budgetRight D) ∷ sizeTest (freed c) (k + 1) room
     ∷ need 13 (leb (witnessLength c b (k + 1)) len) ∷ []
 
--- Clause 12.14: found and open leave their witness at the front, never and spent leave every byte
+-- Clause 12.15: found and open leave their witness at the front, never and spent leave every byte
 abbrev pub shownAt : Circuit → Space → ℕ → ℕ → Verdict → List ℕ → List ℕ
 shownAt c s b k (Verdict.found t) out = front (witnessAt c s b k t) out
 shownAt c s b k (Verdict.never j) out = out
@@ -39,7 +39,7 @@ pub record NeverReport : Type 0 where
   pub verdict : Verdict
   pub length : ℕ
 
--- Clause 12.14: which of the permitted answers is given is a function of the circuit, b, k and D alone. Working memory and output are
+-- Clause 12.15: which of the permitted answers is given is a function of the circuit, b, k and D alone. Working memory and output are
 -- lent to be written; what working memory holds after is not promised
 pub record NeverEffect (chosen : Circuit → ℕ → ℕ → ℕ → Verdict) (b k D : ℕ) (out : List ℕ)
     (c : Circuit) (r : NeverReport) (left : List ℕ × List ℕ) : Type 0 where

@@ -1,4 +1,4 @@
--- Runs that hit in their last frame alone, from any latch values: the second question of a search at a depth. Clause 12.14. Assumes
+-- Runs that hit in their last frame alone, from any latch values: the second question of a search at a depth. Clause 12.15. Assumes
 -- nothing.
 use mathlib.Core.Bool.{Bool, not, cond, _&&_}
 use mathlib.Core.List.{map}
@@ -9,11 +9,11 @@ use Rattle.aiger.specs.Circuit.{Circuit, Latch}
 use Rattle.aiger.specs.Frames.{Run, Space, space, valueAt, constrained, hits, runIn, bitsIn, freeBits}
 use Rattle.aiger.specs.Search.{Question, reaches}
 
--- Clause 12.14: run r hits bad line b at frame t, with the constraints true up to there, and the bad line is false in every frame before
+-- Clause 12.15: run r hits bad line b at frame t, with the constraints true up to there, and the bad line is false in every frame before
 unfoldable pub hitsAlone : Circuit → ℕ → Run → ℕ → Bool
 hitsAlone c b r t = hits c b r t && everyBelow t (λ u. not (valueAt c r u (getD (c .bads) b 0)))
 
--- Clause 12.14: the space s with every latch free, also one that has a reset: the start values in file order are the first free bits, and
+-- Clause 12.15: the space s with every latch free, also one that has a reset: the start values in file order are the first free bits, and
 -- the bits of each frame are those of s
 abbrev pub freedSpace : Circuit → Space → Space
 freedSpace c s =

@@ -4,7 +4,7 @@ use mathlib.Core.List.{List, [], _∷_, _++_}
 use Prim.Native.Nat.{ℕ, _≤_, _<_}
 use native.Mathlib.Omega.{arith}
 use lib.Dec.{T, leb}
-use lib.ListN.{length, drop, length-append}
+use lib.ListN.{length, drop, length-append, length-take}
 use Rattle.aiger.specs.Circuit.{Circuit}
 use Rattle.aiger.specs.Load.{Answer, refused, gives}
 use Rattle.aiger.specs.Search.{Outcome, Report, permittedOf}
@@ -24,8 +24,14 @@ use Rattle.search.specs.Chosen as Search
 use Rattle.search.specs.declared.SearchAnswer.{SearchAnswer}
 use Rattle.fold.specs.Chosen as Fold
 use Rattle.pinning.specs.Operations.{PinnedSearched}
-use Rattle.call_forms.specs.Table.{searchRow}
-use Rattle.call_forms.specs.Forms.{Tested, ForUser, UserSearched, UserFolded, UserWritten, UserWrittenBinary}
+use Rattle.pinning.specs.FromPlace.{PinnedSearchedFrom}
+use Rattle.place_search.specs.Places.{Placed, outcomeOf}
+use Rattle.place_limits.proofs.Passing.{place-passed}
+use Rattle.place_decision.specs.Reach.{placeChosen}
+use Rattle.call_forms.specs.Table.{searchRow, searchFromRow}
+use Rattle.call_forms.specs.Forms.{Tested, ForUser, UserSearched, UserSearchedFrom, UserFolded, UserWritten, UserGenerated}
+use Rattle.writer.specs.Forms.{InForm}
+use Rattle.generated.proofs.Theorems.{generated-made}
 use Rattle.renumbered.specs.Renumbered.{writeBinary}
 use Rattle.panel.specs.Answers.{loadWords}
 
@@ -43,11 +49,14 @@ pub fold-inside : (m pins w out : List ℕ) {w′ out′ : List ℕ} (user b t :
     → n ≤ length out′
 fold-inside m pins w out user b t (Tested.passes k (Operated.acts c h j e)) = front-inside (write (Fold.chosen (pinned c (pinsOf pins user)) b t)) out (e .count) (e .shows)
 
-pub write-inside : (m out : List ℕ) (user : ℕ) {out′ : List ℕ} {n : ℕ} → UserWritten m user out (gives n) out′ → n ≤ length out′
-write-inside m out user (Tested.passes k (Operated.acts c h j e)) = front-inside (write c) out (e .count) (e .shows)
+pub write-inside : (m out : List ℕ) (user form : ℕ) {out′ : List ℕ} {n : ℕ} → UserWritten m user form out (gives n) out′ → n ≤ length out′
+write-inside m out user form (Tested.passes k (InForm.text f (Operated.acts c h j e))) = front-inside (write c) out (e .count) (e .shows)
+write-inside m out user form (Tested.passes k (InForm.binary f (Operated.acts c h j e))) = front-inside (writeBinary c) out (e .count) (e .shows)
 
-pub binary-inside : (m out : List ℕ) (user : ℕ) {out′ : List ℕ} {n : ℕ} → UserWrittenBinary m user out (gives n) out′ → n ≤ length out′
-binary-inside m out user (Tested.passes k (Operated.acts c h j e)) = front-inside (writeBinary c) out (e .count) (e .shows)
+pub generate-inside : (user seed i l a : ℕ) (out : List ℕ) {out′ : List ℕ} {n : ℕ} → UserGenerated user seed i l a out (gives n) out′ → n ≤ length out′
+generate-inside user seed i l a out {out′ = out′} {n = n} (Tested.passes k g) =
+    let m = generated-made g in
+    omega (arith, length-take n out′, ap length (m .text), m .count)
 
 -- ---- a search
 
@@ -75,3 +84,29 @@ module _ (m pins w out : List ℕ) (user b k D : ℕ) where
   pub shown-inside : (a : SearchAnswer) {w′ out′ : List ℕ} {n : ℕ} → UserSearched Search.chosen m pins user b k D w out (Search.said a) w′ out′
       → length out′ ≡ length out → n ≡ toldLength (Search.said a) → n ≤ length out′
   shown-inside a s l e = omega (arith, told-within s)
+
+-- ---- a search from a place
+
+placed-within : (c : Circuit) (b t : ℕ) (a : Placed) → shownLength c b (outcomeOf t a) ≤ witnessLength c b t
+placed-within c b t (Placed.hit x) = omega arith
+placed-within c b t Placed.clear = omega arith
+placed-within c b t (Placed.spent R) = omega arith
+
+module _ (m pins w out : List ℕ) (user b t place D : ℕ) where
+  from-within : {a : Answer Report} {l : List ℕ × List ℕ}
+      → ForUser searchFromRow user (w, out) (PinnedSearchedFrom placeChosen m (pinsOf pins user) b t place D w out) a l → toldLength a ≤ length out
+  from-within (Tested.refuses h) = omega arith
+  from-within (Tested.passes u (Operated.noCircuit h)) = omega arith
+  from-within (Tested.passes u (Operated.refuses c h j)) = omega arith
+  from-within (Tested.passes u (Operated.acts c {a = o} h j e)) =
+      let d = pinned c (pinsOf pins user) in
+      omega (
+        arith,
+        ap (λ (r : Report). r .length) (e .chose),
+        placed-within c b t (placeChosen d b t place D),
+        place-passed d c b t place D (length w) (length out) j .output,
+      )
+
+  pub from-inside : (a : SearchAnswer) {w′ out′ : List ℕ} {n : ℕ} → UserSearchedFrom placeChosen m pins user b t place D w out (Search.said a) w′ out′
+      → length out′ ≡ length out → n ≡ toldLength (Search.said a) → n ≤ length out′
+  from-inside a s l e = omega (arith, from-within s)

@@ -18,7 +18,7 @@ use Rattle.preview_command.specs.Texts.{previewReply}
 use Rattle.call_forms.specs.Forms.{UserLoaded}
 use Rattle.call_forms.specs.History as History
 use Rattle.panel_lines.specs.declared.Query.{Query}
-use Rattle.panel_lines.specs.declared.Query.the-variants.{Pin, Search, Fold, Write, WriteBinary}
+use Rattle.panel_lines.specs.declared.Query.the-variants.{Pin, Search, Fold, Write, Generate, SearchFrom}
 
 -- ---- lines, by answers
 
@@ -32,7 +32,7 @@ abbrev pub pinWords : Answer (Unit {0}) → List ℕ
 pinWords (refused n) = refusalText n
 pinWords (gives a) = bytes "set\n"
 
--- fold and write: a text has no line before it
+-- fold, write and generate: a text has no line before it
 abbrev pub textWords : Answer ℕ → List ℕ
 textWords (refused n) = refusalText n
 textWords (gives n) = []
@@ -72,11 +72,14 @@ Queried (Search b k D) user s out line r s′ out′ line′ =
 Queried (Fold b t) user s out line r s′ out′ line′ =
     Reported (λ a. History.Step s (History.Call.fold user b t out) (History.Returned.folded a out′) s′) textWords textLength
     line r line′ out′
-Queried Write user s out line r s′ out′ line′ =
-    Reported (λ a. History.Step s (History.Call.write user out) (History.Returned.written a out′) s′) textWords textLength
+Queried (Write form) user s out line r s′ out′ line′ =
+    Reported (λ a. History.Step s (History.Call.write user form out) (History.Returned.written a out′) s′) textWords textLength
     line r line′ out′
-Queried WriteBinary user s out line r s′ out′ line′ =
-    Reported (λ a. History.Step s (History.Call.writeBinary user out) (History.Returned.written a out′) s′) textWords textLength
+Queried (Generate seed i l g) user s out line r s′ out′ line′ =
+    Reported (λ a. History.Step s (History.Call.generate user seed i l g out) (History.Returned.written a out′) s′) textWords textLength
+    line r line′ out′
+Queried (SearchFrom b t place D) user s out line r s′ out′ line′ =
+    Reported (λ a. History.Step s (History.Call.searchFrom user b t place D out) (History.Returned.searched a out′) s′) saidWords toldLength
     line r line′ out′
 
 -- preview FILE: what the program preview prints, to user 0 or 1; 18 to any other

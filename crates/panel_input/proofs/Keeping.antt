@@ -10,36 +10,37 @@ use lib.Dec.{eqb, ltb}
 use lib.Seq.{take-all, take-append-le, take-suc-set, length-take-le}
 use lib.ListN.{length, take, set, length-append, length-set, length-take, length-replicate}
 use borrow.Author.Tests.{ltb-true, ltb-false, eq-eqb, ne-eqb}
-use Rattle.panel_input.specs.Line.{emptyLine, missedRead, inputEnd, lineFeed, keepByte, step, gathered, byteOf, bytesOf, Keeps, Received}
+use Rattle.input.specs.Reading.{countGiven, isFailure}
+use Rattle.panel_input.specs.Line.{emptyLine, missedRead, inputEnd, lineFeed, keepByte, step, gathered, byteOf, bytesOf, Keeps, NoneOver, Received}
 use Rattle.panel_input.specs.declared.gathering.ByteRead.{ByteRead}
 use Rattle.panel_input.specs.declared.gathering.RequestLine.{RequestLine}
 
 -- ---- which step a read is
 
 module _ (l : RequestLine) {t : RequestLine} (r : ByteRead) where
-  pub step-failed : r .read .failed ≡ true → t ≡ missedRead l → t ≡ step l r
+  pub step-failed : isFailure (r .read .given) ≡ true → t ≡ missedRead l → t ≡ step l r
   unfolding step
   step-failed f e =
       e
       ∙ ap
       (λ (b : Bool).
       cond b (missedRead l)
-      (cond (eqb (r .read .count) 0) (inputEnd l) (cond (eqb (r .byte) 10) (lineFeed l) (keepByte l (r .byte)))))
+      (cond (eqb (countGiven (r .read .given)) 0) (inputEnd l) (cond (eqb (r .byte) 10) (lineFeed l) (keepByte l (r .byte)))))
       (sym f)
 
-  module _ (f : r .read .failed ≡ false) where
-    pub step-ended : r .read .count ≡ 0 → t ≡ inputEnd l → t ≡ step l r
+  module _ (f : isFailure (r .read .given) ≡ false) where
+    pub step-ended : countGiven (r .read .given) ≡ 0 → t ≡ inputEnd l → t ≡ step l r
     unfolding step
-    step-ended z e = rw (f, eq-eqb (r .read .count) 0 z) e
+    step-ended z e = rw (f, eq-eqb (countGiven (r .read .given)) 0 z) e
 
-    module _ (z : r .read .count ≡ 0 → ⊥) where
+    module _ (z : countGiven (r .read .given) ≡ 0 → ⊥) where
       pub step-fed : r .byte ≡ 10 → t ≡ lineFeed l → t ≡ step l r
       unfolding step
-      step-fed n e = rw (f, ne-eqb (r .read .count) 0 z, eq-eqb (r .byte) 10 n) e
+      step-fed n e = rw (f, ne-eqb (countGiven (r .read .given)) 0 z, eq-eqb (r .byte) 10 n) e
 
       pub step-kept : (r .byte ≡ 10 → ⊥) → t ≡ keepByte l (r .byte) → t ≡ step l r
       unfolding step
-      step-kept n e = rw (f, ne-eqb (r .read .count) 0 z, ne-eqb (r .byte) 10 n) e
+      step-kept n e = rw (f, ne-eqb (countGiven (r .read .given)) 0 z, ne-eqb (r .byte) 10 n) e
 
 -- ---- the bytes that were read stand at the front
 
@@ -106,7 +107,7 @@ module _ (l : RequestLine) (bytes : List ℕ) (k : Keeps bytes (l .line) (l .cou
 
   after : (r : ByteRead) → After (l .reads) (bytes ++ byteOf r) (step l r)
   unfolding step
-  after r = go (r .read .failed) (eqb (r .read .count) 0) (eqb (r .byte) 10)
+  after r = go (isFailure (r .read .given)) (eqb (countGiven (r .read .given)) 0) (eqb (r .byte) 10)
     where
       go : (f e n : Bool) → After (l .reads) (bytes ++ cond f [] (cond e [] (cond n [] (r .byte ∷ []))))
           (cond f (missedRead l) (cond e (inputEnd l) (cond n (lineFeed l) (keepByte l (r .byte)))))
@@ -124,9 +125,10 @@ pub record Gathers (l : RequestLine) : Type 0 where
   pub number : length reads ≡ l .reads
   pub keeps : Keeps (bytesOf reads) (l .line) (l .count)
   pub long : length (l .line) ≡ 4097
+  pub first-end : NoneOver reads
 
 pub empty-gathers : {l : RequestLine} → l ≡ emptyLine → Gathers l
-unfolding emptyLine gathered bytesOf
+unfolding emptyLine gathered bytesOf NoneOver
 empty-gathers {l} e =
     let n : l .count ≡ 0 = ap (λ (x : RequestLine). x .count) e in
     record {
@@ -139,6 +141,7 @@ empty-gathers {l} e =
         all = λ h. n;
       };
       long = ap (λ (x : RequestLine). length (x .line)) e ∙ length-replicate {A = ℕ} 4097 0;
+      first-end = tt;
     }
 
 pub empty-reads : {l : RequestLine} → l ≡ emptyLine → l .reads < 18446744073709551615
@@ -150,9 +153,13 @@ pub step-reads : {l k t : RequestLine} (r : ByteRead) → Gathers l → k ≡ l 
 step-reads {l} r g d e =
     ap (λ (x : RequestLine). x .reads) (e ∙ ap (λ (x : RequestLine). step x r) d) ∙ after l (bytesOf (g .reads)) (g .keeps) (g .long) r .2
 
-pub step-gathers : {l k t : RequestLine} (r : ByteRead) → Gathers l → k ≡ l → t ≡ step k r → Gathers t
-unfolding gathered bytesOf
-step-gathers {l} {k} {t} r g d e =
+pub empty-open : {l : RequestLine} → l ≡ emptyLine → l .over ≡ false
+unfolding emptyLine
+empty-open e = ap (λ (x : RequestLine). x .over) e
+
+pub step-gathers : {l k t : RequestLine} (r : ByteRead) → Gathers l → l .over ≡ false → k ≡ l → t ≡ step k r → Gathers t
+unfolding gathered bytesOf NoneOver
+step-gathers {l} {k} {t} r g o d e =
     let f : t ≡ step l r = e ∙ ap (λ (x : RequestLine). step x r) d in
     let a = after l (bytesOf (g .reads)) (g .keeps) (g .long) r in
     record {
@@ -161,6 +168,7 @@ step-gathers {l} {k} {t} r g d e =
       number = sym (add-one (length (g .reads))) ∙ ap (λ (n : ℕ). n + 1) (g .number) ∙ sym (a .2) ∙ sym (ap (λ (x : RequestLine). x .reads) f);
       keeps = subst (λ (x : RequestLine). Keeps (bytesOf (g .reads) ++ byteOf r) (x .line) (x .count)) (sym f) (a .0);
       long = ap (λ (x : RequestLine). length (x .line)) f ∙ a .1;
+      first-end = (ap (λ (x : RequestLine). x .over) (sym (g .line-is)) ∙ o, g .first-end);
     }
 
 pub received : {l t : RequestLine} → t ≡ l → Gathers l → ((l .over ≡ true) ⊎ (l .reads ≡ 18446744073709551615)) → Received t
@@ -172,6 +180,7 @@ received {l} {t} e g s =
       number = g .number;
       keeps = g .keeps;
       counts = (g .keeps .inside, sym (length-take-le (l .count) (l .line) (g .keeps .inside)));
+      first-end = g .first-end;
       stops = s;
     })
 

@@ -7,6 +7,7 @@ use Prim.Native.Nat.{ℕ, _+_, _≤_, _<_}
 use lib.Dec.{eqb, ltb}
 use lib.ListN.{length, take, set, replicate}
 use Rattle.io.specs.Counts.{Counts}
+use Rattle.input.specs.Reading.{countGiven, isFailure}
 use Rattle.panel_input.specs.declared.gathering.ByteRead.{ByteRead}
 use Rattle.panel_input.specs.declared.gathering.RequestLine.{RequestLine}
 
@@ -90,8 +91,8 @@ keepByte l b =
 -- a line after one read more
 unfoldable pub step : RequestLine → ByteRead → RequestLine
 step l r =
-    cond (r .read .failed) (missedRead l)
-    (cond (eqb (r .read .count) 0) (inputEnd l) (cond (eqb (r .byte) 10) (lineFeed l) (keepByte l (r .byte))))
+    cond (isFailure (r .read .given)) (missedRead l)
+    (cond (eqb (countGiven (r .read .given)) 0) (inputEnd l) (cond (eqb (r .byte) 10) (lineFeed l) (keepByte l (r .byte))))
 
 -- a line after these reads, the last of them first
 unfoldable pub gathered : List ByteRead → RequestLine
@@ -100,7 +101,8 @@ gathered (r ∷ rs) = step (gathered rs) r
 
 -- the bytes that a read gave to the line: none where it failed, where the input ended, and where it was a line feed
 abbrev pub byteOf : ByteRead → List ℕ
-byteOf r = cond (r .read .failed) [] (cond (eqb (r .read .count) 0) [] (cond (eqb (r .byte) 10) [] (r .byte ∷ [])))
+byteOf r =
+    cond (isFailure (r .read .given)) [] (cond (eqb (countGiven (r .read .given)) 0) [] (cond (eqb (r .byte) 10) [] (r .byte ∷ [])))
 
 -- those of these reads, the last of which is the first
 unfoldable pub bytesOf : List ByteRead → List ℕ
@@ -113,16 +115,22 @@ pub record Keeps (bytes buf : List ℕ) (n : ℕ) : Type 0 where
   pub kept : take n buf ≡ take (length buf) bytes
   pub all : n < length buf → n ≡ length bytes
 
+-- no read but the last ended the line: each line before the last read is not over
+unfoldable pub NoneOver : List ByteRead → Type 0
+NoneOver [] = Unit {0}
+NoneOver (r ∷ rs) = (gathered rs .over ≡ false) × NoneOver rs
+
 -- whether a line goes on
 pub record GoesOn (l : RequestLine) (b : Bool) : Type 0 where
   pub more : b ≡ true → (l .over ≡ false) × (l .reads < 18446744073709551615)
   pub ends : b ≡ false → (l .over ≡ true) ⊎ (l .reads ≡ 18446744073709551615)
 
--- a line that was read: it is that of as many reads as it counts, its bytes are theirs, and it is over
+-- a line that was read: it is that of as many reads as it counts, its bytes are theirs, and it is over with the last of them and not before
 pub record Received (l : RequestLine) : Type 0 where
   pub reads : List ByteRead
   pub line-is : l ≡ gathered reads
   pub number : length reads ≡ l .reads
   pub keeps : Keeps (bytesOf reads) (l .line) (l .count)
   pub counts : Counts (l .count) (l .line)
+  pub first-end : NoneOver reads
   pub stops : (l .over ≡ true) ⊎ (l .reads ≡ 18446744073709551615)

@@ -1,6 +1,6 @@
 -- The commands of a request, by their verbs. Assumes nothing.
 use mathlib.Core.Path.{_≡_, refl, sym, ap, _∙_, subst}
-use mathlib.Core.Bool.{Bool, true, false}
+use mathlib.Core.Bool.{Bool, true, false, cond}
 use mathlib.Core.List.{List}
 use mathlib.Core.Option.{Option, none, some}
 use Prim.Native.Nat.{ℕ, _-_, _≤_, _<_}
@@ -16,12 +16,15 @@ use Rattle.panel_lines.specs.Grammar.{
   split,
   word,
   number,
+  seed,
   ended,
   twoNumbers,
+  placeNumber,
   oneName,
   pinOf,
   searchOf,
   foldOf,
+  formOf,
   writeOf,
   loadOf,
   previewOf,
@@ -29,19 +32,30 @@ use Rattle.panel_lines.specs.Grammar.{
   viewOf,
   flagOf,
   waveformOf,
+  generateOf,
+  searchFromOf,
   verbOf,
   commandOf,
   parse,
 }
-use Rattle.panel_lines.specs.Reading.{Inside, bytesOf, Ends, WordAt, NumberAt, NameAt, taskOf, PartsInside, TaskIs, RequestIs}
+use Rattle.panel_lines.specs.Reading.{Inside, bytesOf, Ends, WordAt, NumberAt, SeedAt, NameAt, taskOf, PartsInside, TaskIs, RequestIs}
 use Rattle.panel_lines.specs.declared.Part.{Part}
 use Rattle.panel_lines.specs.declared.Verb.{Verb}
 use Rattle.panel_lines.specs.declared.View.{View}
 use Rattle.panel_lines.specs.declared.View.the-variants.{Replay, Widen, Waveform}
-use Rattle.panel_lines.specs.declared.Query.the-variants.{Pin, Search, Fold, Write, WriteBinary}
+use Rattle.panel_lines.specs.declared.Query.the-variants.{Pin, Search, Fold, Write, Generate, SearchFrom}
 use Rattle.panel_lines.specs.declared.Task.{Task}
 use Rattle.panel_lines.specs.declared.Task.the-variants.{Ask, Load, Preview, Join, Witness, Malformed}
 use Rattle.panel_lines.specs.declared.Request.{Request}
+
+-- the form that a word is
+pub form-binary : (w : List ℕ) → true ≡ same w (bytes "binary") → some 1 ≡ formOf w
+unfolding formOf
+form-binary w e = rw (← e)
+
+pub form-number : (w : List ℕ) → false ≡ same w (bytes "binary") → {n : Option ℕ} → n ≡ numberOf w → n ≡ formOf w
+unfolding formOf
+form-number w e f = rw (← e) f
 
 module _ (s : List ℕ) (at : ℕ) where
   pub pin-none : none ≡ twoNumbers (drop at s) → TaskIs s (pinOf (drop at s)) Malformed
@@ -73,17 +87,25 @@ module _ (s : List ℕ) (at : ℕ) where
     unfolding searchOf
     search-all k d e = record { meaning = rw (x .number-is, ← e); parts = tt }
 
-  pub write-none : none ≡ flagOf (bytes "binary") (drop at s) → TaskIs s (writeOf (drop at s)) Malformed
+  pub write-text : length s ≤ at → TaskIs s (writeOf (drop at s)) (Ask (Write 0))
   unfolding writeOf
-  write-none e = record { meaning = rw (← e); parts = tt }
+  write-text h = record { meaning = rw (drop-of-length-le s {i = at} h); parts = tt }
 
-  pub write-binary : some true ≡ flagOf (bytes "binary") (drop at s) → TaskIs s (writeOf (drop at s)) (Ask WriteBinary)
-  unfolding writeOf
-  write-binary e = record { meaning = rw (← e); parts = tt }
+  -- where something follows
+  module _ (h : at < length s) where
+    write-word : writeOf (drop at s) ≡ (oneName (drop at s) >>= λ w. formOf w >>= λ n. some (Command.query (Write n)))
+    unfolding writeOf
+    write-word = rw (drop-cons s at 0 h)
 
-  pub write-text : some false ≡ flagOf (bytes "binary") (drop at s) → TaskIs s (writeOf (drop at s)) (Ask Write)
-  unfolding writeOf
-  write-text e = record { meaning = rw (← e); parts = tt }
+    pub write-none : oneName (drop at s) ≡ none → TaskIs s (writeOf (drop at s)) Malformed
+    write-none e = record { meaning = sym (write-word ∙ rw e); parts = tt }
+
+    module _ {p : Part} (w : NameAt s at p) where
+      pub write-wrong : none ≡ formOf (bytesOf s p) → TaskIs s (writeOf (drop at s)) Malformed
+      write-wrong e = record { meaning = sym (write-word ∙ rw (w .name-is, ← e)); parts = tt }
+
+      pub write-form : (n : ℕ) → some n ≡ formOf (bytesOf s p) → TaskIs s (writeOf (drop at s)) (Ask (Write n))
+      write-form n e = record { meaning = sym (write-word ∙ rw (w .name-is, ← e)); parts = tt }
 
   pub load-none : oneName (drop at s) ≡ none → TaskIs s (loadOf (drop at s)) Malformed
   unfolding loadOf
@@ -127,6 +149,42 @@ module _ (s : List ℕ) (at : ℕ) where
   unfolding waveformOf
   waveform-none e = record { meaning = rw e; parts = tt }
 
+  pub generate-none : seed (drop at s) ≡ none → TaskIs s (generateOf (drop at s)) Malformed
+  unfolding generateOf
+  generate-none e = record { meaning = rw e; parts = tt }
+
+  module _ {n counts : ℕ} (x : SeedAt s at n counts) where
+    pub generate-seed : number (drop counts s) ≡ none → TaskIs s (generateOf (drop at s)) Malformed
+    unfolding generateOf
+    generate-seed e = record { meaning = rw (x .seed-is, e); parts = tt }
+
+    module _ {i next : ℕ} (y : NumberAt s counts i next) where
+      pub generate-half : none ≡ twoNumbers (drop next s) → TaskIs s (generateOf (drop at s)) Malformed
+      unfolding generateOf
+      generate-half e = record { meaning = rw (x .seed-is, y .number-is, ← e); parts = tt }
+
+      pub generate-all : (l a : ℕ) → some (l, a) ≡ twoNumbers (drop next s) → TaskIs s (generateOf (drop at s)) (Ask (Generate n i l a))
+      unfolding generateOf
+      generate-all l a e = record { meaning = rw (x .seed-is, y .number-is, ← e); parts = tt }
+
+  pub from-none : number (drop at s) ≡ none → TaskIs s (searchFromOf (drop at s)) Malformed
+  unfolding searchFromOf
+  from-none e = record { meaning = rw e; parts = tt }
+
+  module _ {b frame : ℕ} (x : NumberAt s at b frame) where
+    pub from-line : number (drop frame s) ≡ none → TaskIs s (searchFromOf (drop at s)) Malformed
+    unfolding searchFromOf
+    from-line e = record { meaning = rw (x .number-is, e); parts = tt }
+
+    module _ {t next : ℕ} (y : NumberAt s frame t next) where
+      pub from-half : none ≡ placeNumber (drop next s) → TaskIs s (searchFromOf (drop at s)) Malformed
+      unfolding searchFromOf
+      from-half e = record { meaning = rw (x .number-is, y .number-is, ← e); parts = tt }
+
+      pub from-all : (p d : ℕ) → some (p, d) ≡ placeNumber (drop next s) → TaskIs s (searchFromOf (drop at s)) (Ask (SearchFrom b t p d))
+      unfolding searchFromOf
+      from-all p d e = record { meaning = rw (x .number-is, y .number-is, ← e); parts = tt }
+
   module _ (v : View) where
     pub view-none : oneName (drop at s) ≡ none → TaskIs s (viewOf v (drop at s)) Malformed
     unfolding viewOf
@@ -157,6 +215,10 @@ module _ (s : List ℕ) (at : ℕ) where
 
         pub flag-other : false ≡ same (bytesOf s p) w → none ≡ flagOf w (drop at s)
         flag-other e = sym (flag-word ∙ rw (n .name-is, ← e))
+
+-- the table of verbs with one verb more before it
+pub verb-more : (b : Bool) (v : Verb) {r x y : Verb} → r ≡ cond b v x → x ≡ y → r ≡ cond b v y
+verb-more b v e f = e ∙ ap (cond b v) f
 
 -- ---- a request
 

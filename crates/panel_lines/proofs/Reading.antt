@@ -14,9 +14,9 @@ use Rattle.aiger.specs.Lists.{same}
 use Rattle.aiger.specs.Text.{when, _>>=_, _>>_}
 use Rattle.aiger.proofs.Tests.{T-true, true-T}
 use Rattle.meaning.proofs.Lists.{same-eq, same-of}
-use Rattle.arguments.specs.Arguments.{numberOf}
-use Rattle.panel_lines.specs.Grammar.{split, word, number, ended, twoNumbers, oneName}
-use Rattle.panel_lines.specs.Reading.{Inside, bytesOf, Ends, WordAt, NumberAt, NameAt}
+use Rattle.arguments.specs.Arguments.{numberOf, seedOf, placeOf}
+use Rattle.panel_lines.specs.Grammar.{split, word, number, seed, place, ended, twoNumbers, placeNumber, oneName}
+use Rattle.panel_lines.specs.Reading.{Inside, bytesOf, Ends, WordAt, NumberAt, SeedAt, PlaceAt, NameAt}
 use Rattle.panel_lines.specs.declared.Part.{Part}
 
 -- a flag that is true exactly where two lists are equal
@@ -141,6 +141,36 @@ module _ (s : List ℕ) (at : ℕ) where
   unfolding number
   a-number w e = record { within = w .inside .within; number-is = rw (w .word-is, ← e) }
 
+-- ---- a seed after a space
+
+module _ (s : List ℕ) (at : ℕ) where
+  pub seedless : word (drop at s) ≡ none → seed (drop at s) ≡ none
+  unfolding seed
+  seedless e = rw e
+
+  pub no-seed : {p : Part} → WordAt s at p → none ≡ seedOf (bytesOf s p) → seed (drop at s) ≡ none
+  unfolding seed
+  no-seed w e = rw (w .word-is, ← e)
+
+  pub a-seed : {p : Part} {n : ℕ} → WordAt s at p → some n ≡ seedOf (bytesOf s p) → SeedAt s at n (p .to)
+  unfolding seed
+  a-seed w e = record { within = w .inside .within; seed-is = rw (w .word-is, ← e) }
+
+-- ---- a place after a space
+
+module _ (s : List ℕ) (at : ℕ) where
+  pub placeless : word (drop at s) ≡ none → place (drop at s) ≡ none
+  unfolding place
+  placeless e = rw e
+
+  pub no-place : {p : Part} → WordAt s at p → none ≡ placeOf (bytesOf s p) → place (drop at s) ≡ none
+  unfolding place
+  no-place w e = rw (w .word-is, ← e)
+
+  pub a-place : {p : Part} {n : ℕ} → WordAt s at p → some n ≡ placeOf (bytesOf s p) → PlaceAt s at n (p .to)
+  unfolding place
+  a-place w e = record { within = w .inside .within; place-is = rw (w .word-is, ← e) }
+
 -- ---- the end of a request
 
 pub more-follows : (s : List ℕ) (at : ℕ) → at < length s → ended (drop at s) ≡ none
@@ -171,6 +201,24 @@ module _ (s : List ℕ) (at : ℕ) where
       pub two-all : length s ≤ end → some (a, b) ≡ twoNumbers (drop at s)
       unfolding twoNumbers
       two-all h = rw (x .number-is, y .number-is, all-read s end h)
+
+  pub pair-none : place (drop at s) ≡ none → none ≡ placeNumber (drop at s)
+  unfolding placeNumber
+  pair-none e = rw e
+
+  module _ {a next : ℕ} (x : PlaceAt s at a next) where
+    pub pair-half : number (drop next s) ≡ none → none ≡ placeNumber (drop at s)
+    unfolding placeNumber
+    pair-half e = rw (x .place-is, e)
+
+    module _ {b end : ℕ} (y : NumberAt s next b end) where
+      pub pair-more : end < length s → none ≡ placeNumber (drop at s)
+      unfolding placeNumber
+      pair-more h = rw (x .place-is, y .number-is, more-follows s end h)
+
+      pub pair-all : length s ≤ end → some (a, b) ≡ placeNumber (drop at s)
+      unfolding placeNumber
+      pair-all h = rw (x .place-is, y .number-is, all-read s end h)
 
   pub name-none : word (drop at s) ≡ none → oneName (drop at s) ≡ none
   unfolding oneName

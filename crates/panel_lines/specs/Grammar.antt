@@ -8,12 +8,12 @@ use lib.Dec.{eqb, leb}
 use lib.ListN.{length}
 use Rattle.aiger.specs.Lists.{same}
 use Rattle.aiger.specs.Text.{bytes, when, _>>=_, _>>_}
-use Rattle.arguments.specs.Arguments.{numberOf}
+use Rattle.arguments.specs.Arguments.{numberOf, seedOf, placeOf}
 use Rattle.panel_lines.specs.declared.Verb.{Verb}
 use Rattle.panel_lines.specs.declared.View.{View}
 use Rattle.panel_lines.specs.declared.View.the-variants.{Replay, Widen, Waveform}
 use Rattle.panel_lines.specs.declared.Query.{Query}
-use Rattle.panel_lines.specs.declared.Query.the-variants.{Pin, Search, Fold, Write, WriteBinary}
+use Rattle.panel_lines.specs.declared.Query.the-variants.{Pin, Search, Fold, Write, Generate, SearchFrom}
 
 -- a command: a query, which names no file; or load, preview, join, or a view of a witness, which name files
 pub data Command : Type 0 where
@@ -41,12 +41,34 @@ number s = do
   n ← numberOf (w .0)
   some (n, w .1)
 
+-- a word that is a seed
+unfoldable pub seed : List ℕ → Option (ℕ × List ℕ)
+seed s = do
+  w ← word s
+  n ← seedOf (w .0)
+  some (n, w .1)
+
+-- a word that is a place
+unfoldable pub place : List ℕ → Option (ℕ × List ℕ)
+place s = do
+  w ← word s
+  n ← placeOf (w .0)
+  some (n, w .1)
+
 -- nothing follows
 unfoldable pub ended : List ℕ → Option (Unit {0})
 ended [] = some tt
 ended (c ∷ s) = none
 
 -- ---- the arguments of a verb
+
+-- a place and a number
+unfoldable pub placeNumber : List ℕ → Option (ℕ × ℕ)
+placeNumber s = do
+  a ← place s
+  b ← number (a .1)
+  ended (b .1)
+  some (a .0, b .0)
 
 -- two numbers
 unfoldable pub twoNumbers : List ℕ → Option (ℕ × ℕ)
@@ -83,9 +105,17 @@ searchOf s = do
 unfoldable pub foldOf : List ℕ → Option Command
 foldOf s = twoNumbers s >>= λ p. some (Command.query (Fold (p .0) (p .1)))
 
--- write [binary]
+-- Clause 12.14: a form, by the word `binary`, which is 1, or by its number
+unfoldable pub formOf : List ℕ → Option ℕ
+formOf w = cond (same w (bytes "binary")) (some 1) (numberOf w)
+
+-- write [binary | FORM], in form 0 where nothing follows
 unfoldable pub writeOf : List ℕ → Option Command
-writeOf s = flagOf (bytes "binary") s >>= λ b. some (Command.query (cond b WriteBinary Write))
+writeOf [] = some (Command.query (Write 0))
+writeOf (c ∷ s) = do
+  w ← oneName (c ∷ s)
+  form ← formOf w
+  some (Command.query (Write form))
 
 -- load FILE
 unfoldable pub loadOf : List ℕ → Option Command
@@ -113,6 +143,22 @@ waveformOf s = do
   only ← flagOf (bytes "inputs") (f .1)
   some (Command.view (Waveform only) (f .0))
 
+-- generate SEED I L A
+unfoldable pub generateOf : List ℕ → Option Command
+generateOf s = do
+  n ← seed s
+  i ← number (n .1)
+  p ← twoNumbers (i .1)
+  some (Command.query (Generate (n .0) (i .0) (p .0) (p .1)))
+
+-- search-from b t PLACE D
+unfoldable pub searchFromOf : List ℕ → Option Command
+searchFromOf s = do
+  b ← number s
+  t ← number (b .1)
+  p ← placeNumber (t .1)
+  some (Command.query (SearchFrom (b .0) (t .0) (p .0) (p .1)))
+
 -- ---- a request
 
 -- the verbs
@@ -128,6 +174,8 @@ verbs =
     ∷ (bytes "replay", Verb.Replay)
     ∷ (bytes "widen", Verb.Widen)
     ∷ (bytes "waveform", Verb.Waveform)
+    ∷ (bytes "generate", Verb.Generate)
+    ∷ (bytes "search-from", Verb.SearchFrom)
     ∷ []
 
 -- the verb that a table gives for a word
@@ -150,6 +198,8 @@ commandOf Verb.Join s = joinOf s
 commandOf Verb.Replay s = viewOf Replay s
 commandOf Verb.Widen s = viewOf Widen s
 commandOf Verb.Waveform s = waveformOf s
+commandOf Verb.Generate s = generateOf s
+commandOf Verb.SearchFrom s = searchFromOf s
 commandOf Verb.Unknown s = none
 
 -- a request of at most 4,096 bytes, without the line feed: the user, and the command

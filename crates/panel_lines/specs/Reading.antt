@@ -6,7 +6,7 @@ use mathlib.Core.Option.{Option, none, some}
 use Prim.Native.Nat.{ℕ, _-_, _≤_}
 use lib.ListN.{length, take, drop}
 use Rattle.aiger.specs.Text.{_>>=_}
-use Rattle.panel_lines.specs.Grammar.{Command, split, word, number, twoNumbers, oneName}
+use Rattle.panel_lines.specs.Grammar.{Command, split, word, number, seed, place, twoNumbers, oneName}
 use Rattle.panel_lines.specs.declared.Part.{Part}
 use Rattle.panel_lines.specs.declared.Word.{Word}
 use Rattle.panel_lines.specs.declared.Word.the-variants.{At, Missing}
@@ -52,6 +52,24 @@ pub record NumberAt (s : List ℕ) (at n end : ℕ) : Type 0 where
 abbrev pub NumberIs : List ℕ → ℕ → NumberWord → Type 0
 NumberIs s at (Value n end) = NumberAt s at n end
 NumberIs s at Wrong = number (drop at s) ≡ none
+
+-- the same of a seed
+pub record SeedAt (s : List ℕ) (at n end : ℕ) : Type 0 where
+  pub within : end ≤ length s
+  pub seed-is : seed (drop at s) ≡ some (n, drop end s)
+
+abbrev pub SeedIs : List ℕ → ℕ → NumberWord → Type 0
+SeedIs s at (Value n end) = SeedAt s at n end
+SeedIs s at Wrong = seed (drop at s) ≡ none
+
+-- the same of a place
+pub record PlaceAt (s : List ℕ) (at n end : ℕ) : Type 0 where
+  pub within : end ≤ length s
+  pub place-is : place (drop at s) ≡ some (n, drop end s)
+
+abbrev pub PlaceIs : List ℕ → ℕ → NumberWord → Type 0
+PlaceIs s at (Value n end) = PlaceAt s at n end
+PlaceIs s at Wrong = place (drop at s) ≡ none
 
 abbrev pub twoOf : Two → Option (ℕ × ℕ)
 twoOf (Both a b) = some (a, b)

@@ -5,11 +5,13 @@ ghost use mathlib.Core.Bool.{cond};
 ghost use Prim.Native.Nat.{_≤_};
 ghost use lib.ListN.{length, drop};
 ghost use Rattle.aiger.specs.Lists.{same};
+ghost use Rattle.arguments.specs.Arguments.{meant};
 ghost use Rattle.panel_lines.specs.Grammar.{
   twoNumbers,
   pinOf,
   searchOf,
   foldOf,
+  formOf,
   writeOf,
   loadOf,
   previewOf,
@@ -17,6 +19,9 @@ ghost use Rattle.panel_lines.specs.Grammar.{
   viewOf,
   flagOf,
   waveformOf,
+  generateOf,
+  placeNumber,
+  searchFromOf,
   verbOf,
   commandOf,
   parse,
@@ -27,6 +32,8 @@ ghost use Rattle.panel_lines.specs.Reading.{
   Ends,
   WordIs,
   NumberIs,
+  SeedIs,
+  PlaceIs,
   twoOf,
   NameIs,
   givenOf,
@@ -52,16 +59,19 @@ enum Verb {
     Replay,
     Widen,
     Waveform,
+    Generate,
+    SearchFrom,
     Unknown,
 }
 
-// What asks about the loaded circuit, or sets a pin of it.
+// What asks about the loaded circuit, sets a pin of it, or needs no circuit.
 pub enum Query {
     Pin(u64, u64),
     Search(u64, u64, u64),
     Fold(u64, u64),
-    Write,
-    WriteBinary,
+    Write(u64),
+    Generate(u64, u64, u64, u64),
+    SearchFrom(u64, u64, u64, u64),
 }
 
 // What is done with a witness of the loaded circuit. A waveform has the inputs alone where it says so.
@@ -155,6 +165,55 @@ fn number_after(request: &[u8], at: usize) -> NumberWord
         Argument::Number(n) => NumberWord::Value(n, to),
         Argument::Malformed => NumberWord::Wrong,
     }
+}
+
+// The seed after the space at a position.
+fn seed_after(request: &[u8], at: usize) -> NumberWord
+    requires { ⌜ at ≤ length (now request) ⌝ }
+    ensures { λ r. ⌜ SeedIs (now (request .entry)) at r ⌝ }
+{
+    let Word::At(part) = word_after(request, at) else {
+        return NumberWord::Wrong;
+    };
+    let from = part.from;
+    let to = part.to;
+    match arguments::read_seed(&request[from..to]) {
+        Argument::Number(n) => NumberWord::Value(n, to),
+        Argument::Malformed => NumberWord::Wrong,
+    }
+}
+
+// The place after the space at a position.
+fn place_after(request: &[u8], at: usize) -> NumberWord
+    requires { ⌜ at ≤ length (now request) ⌝ }
+    ensures { λ r. ⌜ PlaceIs (now (request .entry)) at r ⌝ }
+{
+    let Word::At(part) = word_after(request, at) else {
+        return NumberWord::Wrong;
+    };
+    let from = part.from;
+    let to = part.to;
+    match arguments::read_place(&request[from..to]) {
+        Argument::Number(n) => NumberWord::Value(n, to),
+        Argument::Malformed => NumberWord::Wrong,
+    }
+}
+
+// The place and the number after a position, where nothing follows them.
+fn place_number(request: &[u8], at: usize) -> Two
+    requires { ⌜ at ≤ length (now request) ⌝ }
+    ensures { λ r. ⌜ twoOf r ≡ placeNumber (drop at (now (request .entry))) ⌝ }
+{
+    let NumberWord::Value(a, next) = place_after(request, at) else {
+        return Two::Neither;
+    };
+    let NumberWord::Value(b, end) = number_after(request, next) else {
+        return Two::Neither;
+    };
+    if end < request.len() {
+        return Two::Neither;
+    }
+    Two::Both(a, b)
 }
 
 // The two numbers after a position, where nothing follows them.
@@ -298,18 +357,34 @@ fn read_flag(request: &[u8], at: usize, word: &[u8]) -> Flag
     Flag::Unknown
 }
 
-// The argument `[binary]` of write.
+// The form that a part of a request is.
+fn read_form(request: &[u8], part: Part) -> Argument
+    requires { ⌜ Inside (now request) part ⌝ }
+    ensures { λ r. ⌜ meant r ≡ formOf (bytesOf (now (request .entry)) part) ⌝ }
+{
+    if is_word(request, part, b"binary") {
+        return Argument::Number(1);
+    }
+    let from = part.from;
+    let to = part.to;
+    arguments::read_argument(&request[from..to])
+}
+
+// The argument `[binary | FORM]` of write.
 fn read_write(request: &[u8], at: usize) -> Task
     requires { ⌜ at ≤ length (now request) ⌝ }
     ensures { λ r. ⌜ TaskIs (now (request .entry)) (writeOf (drop at (now (request .entry)))) r ⌝ }
 {
-    let Flag::Given(binary) = read_flag(request, at, b"binary") else {
+    if at == request.len() {
+        return Task::Ask(Query::Write(0));
+    }
+    let Word::At(part) = one_name(request, at) else {
         return Task::Malformed;
     };
-    if binary {
-        return Task::Ask(Query::WriteBinary);
-    }
-    Task::Ask(Query::Write)
+    let Argument::Number(form) = read_form(request, part) else {
+        return Task::Malformed;
+    };
+    Task::Ask(Query::Write(form))
 }
 
 // The arguments `WITNESS [inputs]` of waveform.
@@ -324,6 +399,40 @@ fn read_waveform(request: &[u8], at: usize) -> Task
         return Task::Malformed;
     };
     Task::Witness(View::Waveform(only), witness)
+}
+
+// The arguments `SEED I L A` of generate.
+fn read_generate(request: &[u8], at: usize) -> Task
+    requires { ⌜ at ≤ length (now request) ⌝ }
+    ensures { λ r. ⌜ TaskIs (now (request .entry)) (generateOf (drop at (now (request .entry)))) r ⌝ }
+{
+    let NumberWord::Value(seed, counts) = seed_after(request, at) else {
+        return Task::Malformed;
+    };
+    let NumberWord::Value(i, next) = number_after(request, counts) else {
+        return Task::Malformed;
+    };
+    let Two::Both(l, a) = two_numbers(request, next) else {
+        return Task::Malformed;
+    };
+    Task::Ask(Query::Generate(seed, i, l, a))
+}
+
+// The arguments `b t PLACE D` of search-from.
+fn read_search_from(request: &[u8], at: usize) -> Task
+    requires { ⌜ at ≤ length (now request) ⌝ }
+    ensures { λ r. ⌜ TaskIs (now (request .entry)) (searchFromOf (drop at (now (request .entry)))) r ⌝ }
+{
+    let NumberWord::Value(b, frame) = number_after(request, at) else {
+        return Task::Malformed;
+    };
+    let NumberWord::Value(t, next) = number_after(request, frame) else {
+        return Task::Malformed;
+    };
+    let Two::Both(place, d) = place_number(request, next) else {
+        return Task::Malformed;
+    };
+    Task::Ask(Query::SearchFrom(b, t, place, d))
 }
 
 // A verb where a part of a request is its word, and another where it is not.
@@ -343,6 +452,8 @@ fn verb_of(request: &[u8], part: Part) -> Verb
     ensures { λ r. ⌜ r ≡ verbOf (bytesOf (now (request .entry)) part) ⌝ }
 {
     let verb = Verb::Unknown;
+    let verb = verb_where(request, part, b"search-from", Verb::SearchFrom, verb);
+    let verb = verb_where(request, part, b"generate", Verb::Generate, verb);
     let verb = verb_where(request, part, b"waveform", Verb::Waveform, verb);
     let verb = verb_where(request, part, b"widen", Verb::Widen, verb);
     let verb = verb_where(request, part, b"replay", Verb::Replay, verb);
@@ -371,6 +482,8 @@ fn read_task(request: &[u8], at: usize, verb: Verb) -> Task
         Verb::Replay => read_view(request, at, View::Replay),
         Verb::Widen => read_view(request, at, View::Widen),
         Verb::Waveform => read_waveform(request, at),
+        Verb::Generate => read_generate(request, at),
+        Verb::SearchFrom => read_search_from(request, at),
         Verb::Unknown => Task::Malformed,
     }
 }

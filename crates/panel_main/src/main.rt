@@ -32,7 +32,10 @@ fn say_help() {
         b"    USER waveform WITNESS [inputs]    the run of a witness as a value change dump, all wires or the inputs alone\n",
     );
     say(
-        b"    USER join OLD NEW       joins the circuits of two files into the shared memory, as a load\n\n",
+        b"    USER join OLD NEW       joins the circuits of two files into the shared memory, as a load\n",
+    );
+    say(
+        b"    USER generate SEED I L A          a circuit drawn from a seed, as text; nothing is loaded\n\n",
     );
     say(
         b"An answer is a line that has its length in bytes, and then so many bytes: what the command of this name prints, or\n",

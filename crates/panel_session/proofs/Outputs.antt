@@ -31,7 +31,14 @@ use Rattle.pins.proofs.Questions.{run-fills}
 use Rattle.pins.proofs.Valid.{pinned-counts}
 use Rattle.pinned_runs.specs.Obeys.{pinnedShows, pinnedWidenedText}
 use Rattle.pinning.specs.Operations.{PinnedSearchEffect, pinnedShown}
-use Rattle.call_forms.specs.Forms.{Tested, UserSearched, UserFolded, UserWritten, UserWrittenBinary, UserWidened, UserWaveformed}
+use Rattle.pinning.specs.FromPlace.{pinnedTextAt, PinnedPlaceEffect}
+use Rattle.place_search.specs.Places.{Placed, outcomeOf}
+use Rattle.place_search.specs.Operation.{placeTests}
+use Rattle.place_search.proofs.Searches.{textOf, shown-as}
+use Rattle.place_decision.specs.Reach.{placeChosen}
+use Rattle.call_forms.specs.Forms.{Tested, UserSearched, UserSearchedFrom, UserFolded, UserWritten, UserWidened, UserWaveformed, UserGenerated}
+use Rattle.writer.specs.Forms.{InForm}
+use Rattle.generated.specs.Generated.{generatedText, generateTests, Generated}
 use Rattle.renumbered.specs.Renumbered.{writeBinary}
 use Rattle.waveform.specs.Waveform.{waveformOf, waveformTests}
 use Rattle.completions.specs.Operations.{widenTests}
@@ -96,23 +103,22 @@ module _ {A : Type 0} {first : List Test} {out out₀ : List ℕ} (long : Answer
 
 -- ---- operations that write a text and answer its length
 
-pub write-told : (user : ℕ) {m out out₀ out′ : List ℕ} {a : Answer ℕ} → length out ≡ length out₀ → UserWritten m user out a out′
-    → Told out out₀ out′ (textLength a) (UserWritten m user out₀ a)
-write-told user {out = out} {out₀ = out₀} e x =
-    for-told textLength (λ n. refl)
-    (λ a s p.
+form-told : (form : ℕ) {m out out₀ : List ℕ} → length out ≡ length out₀ → (a : Answer ℕ) (s : List ℕ) → InForm form m out a s
+    → Told out out₀ s (textLength a) (InForm form m out₀ a)
+form-told form e a s (InForm.text z p) =
+    let t =
     operated-told textLength (λ n. refl) (λ c. ap (λ (n : ℕ). need 13 (leb (length (write c)) n) ∷ []) e)
-    (λ c h j n s f. record { text = write c; long = f .count; left = f .shows; again = record { count = f .count; shows = refl } }) p)
-    x
-
-pub binary-told : (user : ℕ) {m out out₀ out′ : List ℕ} {a : Answer ℕ} → length out ≡ length out₀ → UserWrittenBinary m user out a out′
-    → Told out out₀ out′ (textLength a) (UserWrittenBinary m user out₀ a)
-binary-told user {out = out} {out₀ = out₀} e x =
-    for-told textLength (λ n. refl)
-    (λ a s p.
+    (λ c h j n s f. record { text = write c; long = f .count; left = f .shows; again = record { count = f .count; shows = refl } }) p in
+    record { text = t .text; long = t .long; left = t .left; again = InForm.text z (t .again) }
+form-told form e a s (InForm.binary z p) =
+    let t =
     operated-told textLength (λ n. refl) (λ c. ap (λ (n : ℕ). need 13 (leb (length (writeBinary c)) n) ∷ []) e)
-    (λ c h j n s f. record { text = writeBinary c; long = f .count; left = f .shows; again = record { count = f .count; shows = refl } }) p)
-    x
+    (λ c h j n s f. record { text = writeBinary c; long = f .count; left = f .shows; again = record { count = f .count; shows = refl } }) p in
+    record { text = t .text; long = t .long; left = t .left; again = InForm.binary z (t .again) }
+
+pub write-told : (user form : ℕ) {m out out₀ out′ : List ℕ} {a : Answer ℕ} → length out ≡ length out₀ → UserWritten m user form out a out′
+    → Told out out₀ out′ (textLength a) (UserWritten m user form out₀ a)
+write-told user form e x = for-told textLength (λ n. refl) (form-told form e) x
 
 pub waveform-told : (user : ℕ) {m witness out out₀ out′ : List ℕ} {only : Bool} {a : Answer ℕ} → length out ≡ length out₀
     → UserWaveformed m user only witness out a out′ → Told out out₀ out′ (textLength a) (UserWaveformed m user only witness out₀ a)
@@ -123,6 +129,23 @@ waveform-told user {witness = witness} {out = out} {out₀ = out₀} {only = onl
     (λ c h j n s f.
     record { text = waveformOf c only (readEither c witness); long = f .count; left = f .shows; again = record { count = f .count; shows = refl } }) p)
     x
+
+-- a generated circuit
+generated-told : {seed i l g : ℕ} {out out₀ out′ : List ℕ} {a : Answer ℕ} → length out ≡ length out₀ → Generated seed i l g out a out′
+    → Told out out₀ out′ (textLength a) (Generated seed i l g out₀ a)
+generated-told {seed} {i} {l} {g} e (Generated.refuses j) =
+    none-told refl (Generated.refuses (ap (λ (n : ℕ). judge (generateTests seed i l g n)) (sym e) ∙ j))
+generated-told {seed} {i} {l} {g} e (Generated.writes j) =
+    record {
+      text = generatedText seed i l g;
+      long = refl;
+      left = refl;
+      again = Generated.writes (ap (λ (n : ℕ). judge (generateTests seed i l g n)) (sym e) ∙ j);
+    }
+
+pub generate-told : (user : ℕ) {seed i l g : ℕ} {out out₀ out′ : List ℕ} {a : Answer ℕ} → length out ≡ length out₀ → UserGenerated user seed i l g out a out′
+    → Told out out₀ out′ (textLength a) (UserGenerated user seed i l g out₀ a)
+generate-told user e x = for-told textLength (λ n. refl) (λ a s p. generated-told e p) x
 
 -- a widened witness is as long as the witness
 widened-long : (c : Circuit) (q : ℕ → ℕ) (witness : List ℕ) (b : ℕ) (body : List ℕ) → readEither c witness ≡ some (b, body)
@@ -220,6 +243,23 @@ module _ (c : Circuit) (q : ℕ → ℕ) where
         };
       }
 
+  -- from a place
+  placed-long : (b t : ℕ) (a : Placed) → shownLength c b (outcomeOf t a) ≡ length (textOf (pinnedTextAt c q b t) a)
+  placed-long b t (Placed.hit x) = sym (witness-length c b t (runIn (pinnedSpace c q) t x) (shaped t x))
+  placed-long b t Placed.clear = refl
+  placed-long b t (Placed.spent R) = refl
+
+  placed-told : {out out₀ s : List ℕ} (w : List ℕ) (b t place D : ℕ) (o : Report) → PinnedPlaceEffect placeChosen q b t place D out c o (w, s)
+      → Told out out₀ s (o .length) (λ (z : List ℕ). PinnedPlaceEffect placeChosen q b t place D out₀ c o (w, z))
+  placed-told {out = out} {out₀ = out₀} w b t place D o f =
+      let a = placeChosen (pinned c q) b t place D in
+      record {
+        text = textOf (pinnedTextAt c q b t) a;
+        long = ap (λ (r : Report). r .length) (f .chose) ∙ placed-long b t a;
+        left = f .shows ∙ shown-as (pinnedTextAt c q b t) a out;
+        again = record { chose = f .chose; allowed = f .allowed; shows = sym (shown-as (pinnedTextAt c q b t) a out₀) };
+      }
+
 pub search-told : (pins : List ℕ) (user : ℕ) {m w w′ out out₀ out′ : List ℕ} {b k D : ℕ} {a : Answer Report} → length out ≡ length out₀
     → UserSearched Search.chosen m pins user b k D w out a w′ out′
     → Told out out₀ out′ (toldLength a) (λ (o : List ℕ). UserSearched Search.chosen m pins user b k D w out₀ a w′ o)
@@ -228,4 +268,14 @@ search-told pins user {w = w} {out = out} {out₀ = out₀} {b = b} {k = k} {D =
     (λ a w′ s p.
     operated-told-beside toldLength (λ n. refl) (λ c. ap (λ (n : ℕ). searchTests c b k D (length w) n) e)
     (λ c h j o w′ s f. report-told c (pinsOf pins user) w′ b k D o f) p)
+    x
+
+pub from-told : (pins : List ℕ) (user : ℕ) {m w w′ out out₀ out′ : List ℕ} {b t place D : ℕ} {a : Answer Report} → length out ≡ length out₀
+    → UserSearchedFrom placeChosen m pins user b t place D w out a w′ out′
+    → Told out out₀ out′ (toldLength a) (λ (o : List ℕ). UserSearchedFrom placeChosen m pins user b t place D w out₀ a w′ o)
+from-told pins user {w = w} {out = out} {out₀ = out₀} {b = b} {t = t} {place = place} {D = D} e x =
+    for-told-beside toldLength (λ n. refl)
+    (λ a w′ s p.
+    operated-told-beside toldLength (λ n. refl) (λ c. ap (λ (n : ℕ). placeTests (pinned c (pinsOf pins user)) c b t place D (length w) n) e)
+    (λ c h j o w′ s f. placed-told c (pinsOf pins user) w′ b t place D o f) p)
     x

@@ -28,7 +28,7 @@ use Rattle.call_forms.specs.History as History
 use Rattle.preview_command.specs.Texts.{previewLine, previewReply, wordsLine}
 use Rattle.panel_lines.specs.Grammar.{Command, parse}
 use Rattle.panel_lines.specs.declared.Query.{Query}
-use Rattle.panel_lines.specs.declared.Query.the-variants.{Pin, Search, Fold, Write, WriteBinary}
+use Rattle.panel_lines.specs.declared.Query.the-variants.{Pin, Search, Fold, Write, Generate, SearchFrom}
 use Rattle.panel_lines.specs.declared.View.{View}
 use Rattle.panel_lines.specs.declared.View.the-variants.{Replay, Widen, Waveform}
 use Rattle.panel.specs.Answers.{loadWords, LoadReported, Queried, previewReplyTo}
@@ -37,7 +37,7 @@ use Rattle.panel_join.specs.Joins.{NewJoined, FilesJoined, JoinReported}
 use Rattle.panel_session.specs.Session.{Files, Action, fileWords, queryCall, viewCall, actionOf, requestAction, callReply, Turn}
 use Rattle.panel_session.specs.Answered.{LineAlone, Answered}
 use Rattle.panel_session.specs.declared.Response.{Response}
-use Rattle.panel_session.proofs.Outputs.{Told, search-told, fold-told, write-told, binary-told, widen-told, waveform-told}
+use Rattle.panel_session.proofs.Outputs.{Told, search-told, from-told, fold-told, write-told, widen-told, waveform-told, generate-told}
 
 -- what a report says of the printed line and of the output, for an action
 pub record Taken (room : ℕ) (action : Action) (s : History.State) (line out : List ℕ) (r : Report) (s′ : History.State) (line′ out′ : List ℕ) : Type 0 where
@@ -119,20 +119,29 @@ module _ {m w p line out : List ℕ} {r : Report} {line′ out′ : List ℕ} wh
       go (History.Step.folds y l) =
           let t = fold-told p user (as-long out) y in
           called (History.Step.folds (t .again) l) (x .line-is) (printed t (x .out-is))
-  query-taken user Write x = go (x .permitted)
+  query-taken user (Write form) x = go (x .permitted)
     where
-      go : {s′ : History.State} → History.Step (record { memory = m; work = w; pins = p }) (History.Call.write user out) (History.Returned.written (x .answer) out′) s′
-          → Taken (length out) (Action.calls (queryCall (length out) user Write)) (record { memory = m; work = w; pins = p }) line out r s′ line′ out′
+      go : {s′ : History.State} → History.Step (record { memory = m; work = w; pins = p }) (History.Call.write user form out) (History.Returned.written (x .answer) out′) s′
+          → Taken (length out) (Action.calls (queryCall (length out) user (Write form))) (record { memory = m; work = w; pins = p }) line out r s′ line′ out′
       go (History.Step.writes y) =
-          let t = write-told user (as-long out) y in
+          let t = write-told user form (as-long out) y in
           called (History.Step.writes (t .again)) (x .line-is) (printed t (x .out-is))
-  query-taken user WriteBinary x = go (x .permitted)
+  query-taken user (Generate seed i l g) x = go (x .permitted)
     where
-      go : {s′ : History.State} → History.Step (record { memory = m; work = w; pins = p }) (History.Call.writeBinary user out) (History.Returned.written (x .answer) out′) s′
-          → Taken (length out) (Action.calls (queryCall (length out) user WriteBinary)) (record { memory = m; work = w; pins = p }) line out r s′ line′ out′
-      go (History.Step.writesBinary y) =
-          let t = binary-told user (as-long out) y in
-          called (History.Step.writesBinary (t .again)) (x .line-is) (printed t (x .out-is))
+      go : {s′ : History.State} → History.Step (record { memory = m; work = w; pins = p }) (History.Call.generate user seed i l g out) (History.Returned.written (x .answer) out′) s′
+          → Taken (length out) (Action.calls (queryCall (length out) user (Generate seed i l g))) (record { memory = m; work = w; pins = p }) line out r s′ line′ out′
+      go (History.Step.generates y) =
+          let t = generate-told user (as-long out) y in
+          called (History.Step.generates (t .again)) (x .line-is) (printed t (x .out-is))
+  query-taken user (SearchFrom b t place D) x = go (x .permitted)
+    where
+      go : {s′ : History.State}
+          → History.Step (record { memory = m; work = w; pins = p }) (History.Call.searchFrom user b t place D out) (History.Returned.searched (x .answer) out′) s′
+          → Taken (length out) (Action.calls (queryCall (length out) user (SearchFrom b t place D))) (record { memory = m; work = w; pins = p }) line out r s′ line′
+          out′
+      go (History.Step.searchesFrom y l) =
+          let z = from-told p user (as-long out) y in
+          called (History.Step.searchesFrom (z .again) l) (x .line-is) (printed z (x .out-is))
 
   -- ---- views
 

@@ -22,7 +22,7 @@ use Rattle.history.proofs.Calls.{own-step, load-step, other-step}
 use Rattle.history.proofs.Moves.{Moved, own-moves, accepted-moves}
 use Rattle.panel_lines.specs.Grammar.{Command, parse}
 use Rattle.panel_lines.specs.declared.Query.{Query}
-use Rattle.panel_lines.specs.declared.Query.the-variants.{Pin, Search, Fold, Write, WriteBinary}
+use Rattle.panel_lines.specs.declared.Query.the-variants.{Pin, Search, Fold, Write, Generate, SearchFrom}
 use Rattle.panel_lines.specs.declared.View.{View}
 use Rattle.panel_lines.specs.declared.View.the-variants.{Replay, Widen, Waveform}
 use Rattle.panel_names.specs.Naming.{filesOf}
@@ -35,8 +35,9 @@ query-user : (room user : ℕ) (q : Query) → History.userOf (queryCall room us
 query-user room user (Pin input value) = refl
 query-user room user (Search b k D) = refl
 query-user room user (Fold b t) = refl
-query-user room user Write = refl
-query-user room user WriteBinary = refl
+query-user room user (Write form) = refl
+query-user room user (Generate seed i l a) = refl
+query-user room user (SearchFrom b t place D) = refl
 
 view-user : (room user : ℕ) (witness : List ℕ) (v : View) → History.userOf (viewCall room user witness v) ≡ user
 view-user room user witness Replay = refl

@@ -21,7 +21,7 @@ use Rattle.preview_command.specs.Texts.{wordsLine}
 use Rattle.call_forms.specs.History as History
 use Rattle.panel_lines.specs.Grammar.{Command, parse}
 use Rattle.panel_lines.specs.declared.Query.{Query}
-use Rattle.panel_lines.specs.declared.Query.the-variants.{Pin, Search, Fold, Write, WriteBinary}
+use Rattle.panel_lines.specs.declared.Query.the-variants.{Pin, Search, Fold, Write, Generate, SearchFrom}
 use Rattle.panel_lines.specs.declared.View.{View}
 use Rattle.panel_lines.specs.declared.View.the-variants.{Replay, Widen, Waveform}
 use Rattle.panel_names.specs.Naming.{filesOf}
@@ -58,8 +58,9 @@ abbrev pub queryCall : ℕ → ℕ → Query → History.Call
 queryCall room user (Pin input value) = History.Call.setPin user input value
 queryCall room user (Search b k D) = History.Call.search user b k D (replicate room 0)
 queryCall room user (Fold b t) = History.Call.fold user b t (replicate room 0)
-queryCall room user Write = History.Call.write user (replicate room 0)
-queryCall room user WriteBinary = History.Call.writeBinary user (replicate room 0)
+queryCall room user (Write form) = History.Call.write user form (replicate room 0)
+queryCall room user (Generate seed i l a) = History.Call.generate user seed i l a (replicate room 0)
+queryCall room user (SearchFrom b t place D) = History.Call.searchFrom user b t place D (replicate room 0)
 
 -- a view of a witness
 abbrev pub viewCall : ℕ → ℕ → List ℕ → View → History.Call

@@ -24,17 +24,19 @@ use Rattle.numbers.proofs.Digits.{digits-short}
 use Rattle.roundtrip.proofs.Witness.{run-length}
 use Rattle.roundtrip.proofs.LoadWrite.{counts-fit}
 use Rattle.roundtrip.proofs.Holding.{held-valid}
-use Rattle.limits.specs.Limits.{lengthOf}
+use Rattle.limits.specs.Limits.{Limited, lengthOf}
 use Rattle.limits.proofs.Refusals.{passed, length-enough}
-use Rattle.limits.proofs.Sizes.{counts-of, length-is, length-within}
+use Rattle.limits.proofs.Sizes.{counts-of, limited, length-is, length-within}
 use Rattle.pins.specs.Pins.{pinsOf, pinned, pinnedWitness}
 use Rattle.pins.proofs.Questions.{pinned-question, pinned-permitted}
 use Rattle.expansion.specs.Rows.{rowsText, expanded}
 use Rattle.expansion.proofs.Witnesses.{rowsAt, length-rows, expanded-first}
 use Rattle.pinning.specs.Operations.{PinnedSearched, PinnedSearchEffect, pinnedReport, pinnedShown}
 use Rattle.pinning.proofs.Tests.{acts-only, search-pinned, length-pinned}
-use Rattle.search.specs.Chosen.{chosen, foundReport, noneReport, spentReport}
-use Rattle.pinned_search.specs.Steps.{PinnedFits, TextIs, OutputIs}
+use Rattle.search.specs.Chosen.{chosen, foundReport, noneReport, spentReport, said}
+use Rattle.search.specs.declared.SearchAnswer.{SearchAnswer}
+use Rattle.search.specs.declared.SearchAnswer.the-variants.{Found, Nothing, Spent, Refused}
+use Rattle.pinned_search.specs.Steps.{rowsStart, FullFits, InFull, PinnedFits, TextIs, OutputIs}
 
 -- the longest witness
 long-most : (c : Circuit) (b k : ℕ) → b < 16 → k ≤ 255 → length (c .latches) ≤ 1024 → length (c .inputs) ≤ 256 → witnessLength c b k ≤ 66825
@@ -50,7 +52,7 @@ unfolding chosen
 plain-report c b k D = refl
 
 -- a text written over a shorter one at the front
-over : (w v out : List ℕ) → length v ≤ length w → front w (front v out) ≡ front w out
+pub over : (w v out : List ℕ) → length v ≤ length w → front w (front v out) ≡ front w out
 over w v out h =
     let d = length w - length v in
     let e : length w ≡ length v + d = omega arith in
@@ -218,6 +220,41 @@ module _ {m : List ℕ} {p : Layout} {user b k D room len : ℕ} (f : PinnedFits
 
     pub never-refused : {before after : List ℕ} {n : ℕ} → TextIs c q b k D before (refused n) after → ⊥
     never-refused x = let e = x .says in let z : _≡_ {A = ℕ} 0 1 = cc in omega arith
+
+    -- ---- the answer in full
+
+    -- what writing its witness out requires
+    pub fits-full : (x : SearchAnswer) {before after : List ℕ} → length after ≡ len → TextIs c q b k D before (said x) after
+        → FullFits p user b x (length after)
+    fits-full (Found t n) {before} {after} long x =
+        let counts = counts-of (f .held) (f .layout-of) in (
+          limited (f .held) (f .layout-of),
+          f .user-of,
+          omega (arith, fits-bad, counts .bads),
+          omega (arith, found-within x, fits-bound),
+          omega (arith, length-is-found x .0, length-within c b t k (found-within x), fits-output, long),
+        )
+    fits-full (Nothing n flag) long x = tt
+    fits-full (Spent t R) long x = tt
+    fits-full (Refused n) long x = tt
+
+    -- and what it makes of the answer
+    pub full-is : (x : SearchAnswer) {before after out : List ℕ} {a : Answer Report} → length after ≡ len → TextIs c q b k D before (said x) after
+        → InFull p q b x after a out → OutputIs c q b k D before a out
+    full-is (Found t n) {before} {out = out} long x w =
+        subst (λ (y : Answer Report). OutputIs c q b k D before y out) (sym (w .0)) (expand-is long x refl (w .1) refl)
+    full-is (Nothing n flag) {before} {out = out} long x w =
+        subst (λ (y : Answer Report). OutputIs c q b k D before y out) (sym (w .0)) (subst (OutputIs c q b k D before (gives (noneReport n flag))) (sym (w .1)) (none-is x))
+    full-is (Spent t R) {before} {out = out} long x w =
+        subst (λ (y : Answer Report). OutputIs c q b k D before y out) (sym (w .0)) (subst (OutputIs c q b k D before (gives (spentReport t R))) (sym (w .1)) (spent-is x))
+    full-is (Refused n) long x w = absurd (never-refused x)
+
+-- what writing a witness out requires
+pub expand-room : {p : Layout} {user b t len : ℕ} (q : ℕ → ℕ) (out : List ℕ) → length out ≡ len
+    → Limited p × (user ≤ 1) × (b < p .b) × (t ≤ 255) × (lengthOf p b t ≤ len) → {start : ℕ} → start ≡ rowsStart p b
+    → (user ≤ 1) × (p .i ≤ 256) × (t ≤ 255) × (start + length (rowsText out q (p .i) start (t + 1)) ≤ length out)
+expand-room {p} {t = t} q out long h {start} e =
+    (h .1, h .0 .inputs, h .3, omega (arith, length-rows out q (p .i) start (t + 1), h .4))
 
 -- what the user gets
 module _ {m : List ℕ} (q : ℕ → ℕ) (h : Holds m (circuitIn m)) {b k D : ℕ} {w out : List ℕ} where

@@ -12,7 +12,7 @@ ghost use Rattle.layout.specs.Words.{circuitIn};
 ghost use Rattle.pins.specs.Pins.{pinsOf};
 ghost use Rattle.pinning.specs.Operations.{PinnedSearched};
 ghost use Rattle.search.specs.Chosen.{chosen, said};
-ghost use Rattle.pinned_search.specs.Steps.{PinnedFits, TextIs, OutputIs};
+ghost use Rattle.pinned_search.specs.Steps.{FullFits, InFull, PinnedFits, TextIs, OutputIs};
 
 // Searches the pinned circuit. Found leaves its witness, which has the free inputs alone, at the front of text.
 fn search_text(
@@ -44,6 +44,33 @@ fn rows_at(latches: usize, b: u32) -> usize
     4 + numbers::digit_count(b) + (latches + 1)
 }
 
+// The answer of a search of the pinned circuit, whose witness stands at the front of out, as that of the circuit: the witness has the bits
+// of all inputs.
+pub fn in_full(
+    answer: SearchAnswer,
+    layout: Layout,
+    b: u32,
+    pins: &[u8],
+    user: usize,
+    out: &mut [u8],
+) -> SearchAnswer
+    requires { ⌜ FullFits layout user b answer (length (now out)) ⌝ }
+    ensures { λ r. ⌜ InFull layout (pinsOf (now (pins .entry)) user) b answer (now (out .entry)) (said r) (now (out .exit)) ⌝ }
+{
+    match answer {
+        SearchAnswer::Found(t, _) => {
+            let inputs = layout.i;
+            let start = rows_at(layout.l, b);
+            expansion::expand(out, start, t as usize, inputs, pins, user);
+            let length = limits::witness_length(layout, b, t as usize);
+            SearchAnswer::Found(t, length as u32)
+        }
+        SearchAnswer::Nothing(n, never) => SearchAnswer::Nothing(n, never),
+        SearchAnswer::Spent(t, reached) => SearchAnswer::Spent(t, reached),
+        SearchAnswer::Refused(n) => SearchAnswer::Refused(n),
+    }
+}
+
 // Searches under the pins of a user who is known, where all tests pass.
 fn search_known(
     m: &[u32],
@@ -60,19 +87,9 @@ fn search_known(
         (now (out .exit))
         ⌝ }
 {
-    let inputs = layout.i;
     let b = q.b as u32;
-    let start = rows_at(layout.l, b);
-    match search_text(m, layout, pins, user, q, work, out) {
-        SearchAnswer::Found(t, _) => {
-            expansion::expand(out, start, t as usize, inputs, pins, user);
-            let length = limits::witness_length(layout, b, t as usize);
-            SearchAnswer::Found(t, length as u32)
-        }
-        SearchAnswer::Nothing(n, never) => SearchAnswer::Nothing(n, never),
-        SearchAnswer::Spent(t, reached) => SearchAnswer::Spent(t, reached),
-        SearchAnswer::Refused(n) => SearchAnswer::Refused(n),
-    }
+    let answer = search_text(m, layout, pins, user, q, work, out);
+    in_full(answer, layout, b, pins, user, out)
 }
 
 // Searches under the pins of a user who is known, in a copy of the circuit without the inputs that are held.

@@ -4,3 +4,4 @@ pub mod Contents
 pub mod Fresh
 pub mod Tests
 pub mod Free
+pub mod FromPlace

@@ -3,3 +3,4 @@ pub mod Chained
 pub mod Starting
 pub mod Refused
 pub mod Examples
+pub mod Searches

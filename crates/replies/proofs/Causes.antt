@@ -26,8 +26,8 @@ past [] n h = refl
 past (x ∷ xs) zero h = absurd (omega arith)
 past (x ∷ xs) (suc n) h = past xs n (omega arith)
 
--- numbers above 18 have no cause
-pub no-words : (line : List ℕ) (at n : ℕ) → 18 < n → Placed line at (cause n) at line
+-- numbers above 21 have no cause
+pub no-words : (line : List ℕ) (at n : ℕ) → 21 < n → Placed line at (cause n) at line
 unfolding cause
 no-words line at n h = rw (past causes n (omega arith)) (record { past = omega arith; contents = sym (put-nil line at) })
 
@@ -69,10 +69,10 @@ ends from [] = []
 ends from (x ∷ xs) = (from + length x) ∷ ends (from + length x) xs
 
 -- cause n is cut from them at these places
-pub cause-part : (n : ℕ) → n ≤ 18 → Part 0 (ends 0 causes) (joined causes) n
+pub cause-part : (n : ℕ) → n ≤ 21 → Part 0 (ends 0 causes) (joined causes) n
 cause-part n h = part 0 (ends 0 causes) (joined causes) n tt (omega arith)
 
-pub cause-words : (n : ℕ) → n ≤ 18
+pub cause-words : (n : ℕ) → n ≤ 21
     → (let p = ends 0 causes in take (getD p n 0 - getD (0 ∷ p) n 0) (drop (getD (0 ∷ p) n 0) (joined causes)) ≡ cause n)
 unfolding cause
 cause-words n h = cause-part n h .contents

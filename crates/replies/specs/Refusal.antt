@@ -4,7 +4,7 @@ use Prim.Native.Nat.{ℕ}
 use lib.ListN.{getD}
 use Rattle.aiger.specs.Text.{bytes, digits}
 
--- Clauses 6.1, 12.1, 12.2, 12.6 and 12.7: the causes by their numbers; there is no number 0
+-- Clauses 6.1, 12.1, 12.2, 12.6, 12.7, 12.11 and 12.14: the causes by their numbers; there is no number 0
 abbrev pub causes : List (List ℕ)
 causes =
     []
@@ -26,6 +26,9 @@ causes =
     ∷ bytes "the witness holds more than 16 x"
     ∷ bytes "the circuits differ in I or O, or O is 0 or above 16"
     ∷ bytes "the user, the input or the pin value is wrong"
+    ∷ bytes "the place is above 2 to the 62 or not below 2 to the power n"
+    ∷ bytes "the search number is above 15 or in use"
+    ∷ bytes "the form is neither 0 nor 1"
     ∷ []
 
 -- the words of cause n

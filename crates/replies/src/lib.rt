@@ -15,7 +15,7 @@ pub struct Report {
 }
 
 // Where the words of each cause begin, by its number; the last entry is where they end.
-const STARTS: [usize; 20] = [
+const STARTS: [usize; 23] = [
     0,
     0,
     38,
@@ -36,6 +36,9 @@ const STARTS: [usize; 20] = [
     627,
     679,
     724,
+    784,
+    823,
+    850,
 ];
 
 // Writes a word, n and a line feed to the front of line. The answer is their length.
@@ -53,7 +56,7 @@ fn put_cause(line: &mut [u8], at: usize, n: u32) -> usize
     requires { ⌜ at + 80 ≤ length (now line) ⌝ }
     ensures { λ r. ⌜ Placed (now (line .entry)) at (cause n) r (now (line .exit)) ⌝ }
 {
-    if 18 < n {
+    if 21 < n {
         return at;
     }
     let words: &[u8] = b"\
@@ -74,7 +77,10 @@ fn put_cause(line: &mut [u8], at: usize, n: u32) -> usize
         a difference is cut short, too long, or gives a wrong operand\
         the witness holds more than 16 x\
         the circuits differ in I or O, or O is 0 or above 16\
-        the user, the input or the pin value is wrong";
+        the user, the input or the pin value is wrong\
+        the place is above 2 to the 62 or not below 2 to the power n\
+        the search number is above 15 or in use\
+        the form is neither 0 nor 1";
     let i = n as usize;
     let from = STARTS[i];
     let to = STARTS[i + 1];

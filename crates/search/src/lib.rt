@@ -11,7 +11,7 @@ ghost use mathlib.Core.Bool.{false};
 ghost use Prim.Native.Nat.{ℕ, _+_, _-_, _*_, _≤_};
 ghost use lib.ListN.{length};
 ghost use Rattle.aiger.specs.Circuit.{Circuit};
-ghost use Rattle.aiger.specs.Operations.{judge, budgetRight, searchTests, Searched};
+ghost use Rattle.aiger.specs.Operations.{judge, searchTests, Searched};
 ghost use Rattle.layout.specs.Words.{circuitIn};
 ghost use Rattle.limits.specs.Limits.{Limited, CountsOf, told};
 ghost use Rattle.witness.specs.Writing.{WitnessFits};
@@ -37,20 +37,13 @@ pub struct Terms {
     pub d: u64,
 }
 
-// Whether a budget is right.
-fn is_budget(d: u64) -> bool
-    ensures { λ r. ⌜ r ≡ budgetRight d ⌝ }
-{
-    (1 <= d) & (d <= 4294967296)
-}
-
 // The number of the first of the tests 10 to 13 that fails, or that all pass. room is the words of working memory and len the bytes of
 // output.
 pub fn check_search(layout: Layout, b: u64, k: u64, d: u64, room: usize, len: usize) -> Ruling
     requires { ⌜ Limited layout ⌝ }
     ensures { λ r. ⌜ ((c : Circuit) → CountsOf c layout → judge (searchTests c b k d room len) ≡ told r) ⌝ }
 {
-    let budget = is_budget(d);
+    let budget = limits::is_budget(d);
     if let Ruling::Refused(n) = limits::check_bounds(layout, b, k, budget, room) {
         return Ruling::Refused(n);
     }
@@ -61,7 +54,7 @@ pub fn check_search(layout: Layout, b: u64, k: u64, d: u64, room: usize, len: us
 }
 
 // Writes the witness of the sequence of frame t whose free bits stand in free to the front of out, and answers found.
-fn show_found(
+pub fn show_found(
     out: &mut [u8],
     m: &[u32],
     layout: Layout,

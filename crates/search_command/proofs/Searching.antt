@@ -9,7 +9,7 @@ use Rattle.aiger.specs.Search.{Report}
 use Rattle.layout.specs.Words.{circuitIn}
 use Rattle.roundtrip.proofs.Holding.{held}
 use Rattle.job.specs.Replies.{toldLength}
-use Rattle.job.proofs.Printing.{Stored}
+use Rattle.load_laws.proofs.Stored.{Stored}
 use Rattle.job.proofs.Replying.{Judged, shows}
 use Rattle.replies.specs.Refusal.{refusalText}
 use Rattle.replies.specs.Reply.{Fronts}

@@ -10,7 +10,7 @@ use Rattle.aiger.specs.Memory.{Holds}
 use Rattle.layout.specs.Words.{circuitIn}
 use Rattle.roundtrip.proofs.Holding.{held}
 use Rattle.roundtrip.proofs.Determined.{acted, refused-as}
-use Rattle.job.proofs.Printing.{Stored}
+use Rattle.load_laws.proofs.Stored.{Stored}
 use Rattle.replies.specs.Refusal.{refusalText}
 use Rattle.replies.specs.Reply.{Fronts, Leaves}
 use Rattle.replies.specs.declared.Report.{Report}

@@ -16,7 +16,7 @@ use Rattle.completions.specs.Either.{readEither}
 use Rattle.completions.specs.Operations.{fewEithers, widenTests, Widened}
 use Rattle.widen.proofs.Theorems.{widened-length}
 use Rattle.limits.proofs.Refusals.{judge-past, judge-last}
-use Rattle.job.proofs.Printing.{Stored}
+use Rattle.load_laws.proofs.Stored.{Stored}
 use Rattle.replies.specs.Refusal.{refusalText}
 use Rattle.replies.specs.Reply.{Fronts, Leaves}
 use Rattle.replies.specs.declared.Report.{Report}

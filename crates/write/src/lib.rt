@@ -142,7 +142,7 @@ fn write_text(m: &[u32], layout: Layout, out: &mut [u8])
     }
 }
 
-// The operation write: puts the text of the circuit that m holds at the front of out.
+// Form 0 of the operation write: puts the text of the circuit that m holds at the front of out.
 pub fn write(m: &[u32], out: &mut [u8]) -> WriteAnswer
     ensures { λ r. ⌜ Written (now (m .entry)) (now (out .entry)) (answered r) (now (out .exit)) ⌝ }
 {

@@ -1,4 +1,4 @@
--- The answers of the operation write_binary, by what the test of the memory and the length of the text say. Assumes nothing.
+-- The answers of the binary writer, by what the test of the memory and the length of the text say. Assumes nothing.
 use mathlib.Core.Path.{_≡_, refl, sym, ap, _∙_}
 use mathlib.Core.List.{List, [], _++_, append-nil}
 use Prim.Native.Nat.{ℕ, _≤_, _<_}

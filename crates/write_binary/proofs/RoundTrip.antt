@@ -5,7 +5,6 @@ use mathlib.Core.Bool.{Bool}
 use mathlib.Core.List.{List, _∷_}
 use Prim.Native.Nat.{ℕ, _≤_}
 use native.Mathlib.Omega.{arith}
-use borrow.Author.Tests.{le-leb}
 use lib.ListN.{length, take, drop}
 use lib.Seq.{take-at}
 use Rattle.aiger.specs.Circuit.{Circuit}
@@ -13,13 +12,14 @@ use Rattle.aiger.specs.Load.{Answer, refused, gives, load, needed}
 use Rattle.aiger.specs.Write.{countRow}
 use Rattle.aiger.specs.Memory.{Holds, image}
 use Rattle.aiger.specs.Search.{Outcome, permitted}
-use Rattle.aiger.specs.Operations.{front, judge, Loaded, Operated}
+use Rattle.aiger.specs.Operations.{front, Loaded, Operated}
 use Rattle.layout.specs.Words.{circuitIn}
 use Rattle.roundtrip.proofs.LoadWrite.{Valid}
 use Rattle.roundtrip.proofs.LoadValid.{gives-same}
 use Rattle.roundtrip.proofs.Holding.{held, one-circuit, held-valid, valid-room, loaded-holds}
 use Rattle.roundtrip.proofs.Determined.{loaded-same, alike-self, operated-same}
 use Rattle.renumbered.specs.Renumbered.{renumbered, binaryText, writeBinary, BinaryEffect, WrittenBinary}
+use Rattle.renumbered.proofs.Written.{written-in}
 use Rattle.renumbered_laws.proofs.Accepted.{placed, renumbered-valid}
 use Rattle.renumbered_laws.proofs.Same.{same-permitted}
 use Rattle.renumbered_laws.proofs.Reading.{binary-short, load-binary}
@@ -30,13 +30,6 @@ pub written-same : {m out o₁ o₂ : List ℕ} {a b : Answer ℕ} → WrittenBi
 written-same w v =
     operated-same (λ (o p : List ℕ). o ≡ p) alike-self (λ c. refl) refl
     (λ c a b s t e f. (e .count ∙ sym (f .count), e .shows ∙ sym (f .shows))) w v
-
--- a text that fits is written
-pub written-in : {m out : List ℕ} (c : Circuit) → Holds m c → length (writeBinary c) ≤ length out
-    → WrittenBinary m out (gives (length (writeBinary c))) (front (writeBinary c) out)
-unfolding judge
-written-in {out = out} c h l = Operated.acts c h (rw (le-leb (length (writeBinary c)) (length out) l))
-    (record { count = refl; shows = refl })
 
 -- every circuit that a memory holds is written, into an output of 24,576 bytes at least
 pub always-written : {m out out′ : List ℕ} {c : Circuit} {a : Answer ℕ} → Holds m c → 24576 ≤ length out → WrittenBinary m out a out′

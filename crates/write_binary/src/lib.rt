@@ -1,4 +1,4 @@
-// The circuit that a circuit memory holds, in binary form: the public operation.
+// The circuit that a circuit memory holds, in binary form.
 use circuit::Held;
 use layout::Layout;
 use write::WriteAnswer;
@@ -56,8 +56,8 @@ fn encode(m: &[u32], p: Layout, out: &mut [u8]) -> usize
     write_text(m, p, &names, &order, out)
 }
 
-// The operation write_binary: puts the circuit that m holds in binary form at the front of out. The text is made apart, so that its length
-// is known before a byte of out changes.
+// Form 1 of the operation write: puts the circuit that m holds in binary form at the front of out. The text is made apart, so that its
+// length is known before a byte of out changes.
 pub fn write_binary(m: &[u32], out: &mut [u8]) -> WriteAnswer
     ensures { λ r. ⌜ WrittenBinary (now (m .entry)) (now (out .entry)) (answered r) (now (out .exit)) ⌝ }
 {

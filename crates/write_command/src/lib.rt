@@ -1,9 +1,7 @@
 // The work of the program write: from the bytes of a file to what is printed, at the fronts of line and out.
 use load::LoadAnswer;
 use replies::Report;
-use write::WriteAnswer;
 ghost use mathlib.Core.Path.{_≡_};
-ghost use mathlib.Core.Bool.{true, false};
 ghost use Prim.Native.Nat.{_≤_};
 ghost use lib.ListN.{length};
 ghost use Rattle.aiger.specs.Memory.{Holds};
@@ -11,19 +9,6 @@ ghost use Rattle.layout.specs.Words.{circuitIn};
 ghost use Rattle.replies.specs.Reply.{Leaves};
 ghost use Rattle.replies.specs.Loading.{loadedWords};
 ghost use Rattle.write_command.specs.Texts.{written, writeReply};
-
-// Writes the circuit in m in binary form.
-fn write_binary_loaded(m: &[u32], out: &mut [u8], line: &mut [u8]) -> Report
-    requires { ⌜ Holds (now m) (circuitIn (now m)) × (65536 ≤ length (now out)) × (128 ≤ length (now line)) ⌝ }
-    ensures { λ r. ⌜
-        Leaves (written true (circuitIn (now (m .entry)))) (now (line .entry)) (now (out .entry)) r (now (line .exit)) (now (out .exit))
-        ⌝ }
-{
-    match write_binary::write_binary(m, out) {
-        WriteAnswer::Length(n) => Report { line: 0, out: n },
-        WriteAnswer::Refused(n) => replies::refuse(line, n),
-    }
-}
 
 // Writes the circuit in m, in binary form or as text.
 fn write_loaded(binary: bool, m: &[u32], out: &mut [u8], line: &mut [u8]) -> Report
@@ -33,9 +18,9 @@ fn write_loaded(binary: bool, m: &[u32], out: &mut [u8], line: &mut [u8]) -> Rep
         ⌝ }
 {
     if binary {
-        write_binary_loaded(m, out, line)
+        commands::write_loaded(1, m, out, line)
     } else {
-        commands::write_loaded(m, out, line)
+        commands::write_loaded(0, m, out, line)
     }
 }
 

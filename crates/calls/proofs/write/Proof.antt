@@ -2,18 +2,23 @@
 use mathlib.Core.Path.{sym, _∙_}
 use borrow.Author.Needs.{needs}
 use borrow.Author.Tests.{not-true, not-false}
-use Rattle.call_forms.specs.Table.{writeRow}
-use Rattle.call_forms.proofs.Tests.{known, stranger}
+use Rattle.call_forms.proofs.Tests.{write-known, write-refused}
 use Rattle.calls.proofs.write.Statement.{statement}
 use Rattle.calls.proofs.write.Tie as tie
 
 returns : tie.Need-returns
-returns c = stranger writeRow (c .before .before .before .before .args .user) (sym (c .before .may .ensures) ∙ not-true (c .before .may .result) (c .if1 .taken))
+returns c =
+    let at-may = c .before in
+    let a = at-may .before .before .before .args in
+    write-refused (a .user) (a .form) (a .out .now) (sym (at-may .may .ensures) ∙ not-true (at-may .may .result) (c .if1 .taken))
 
 returns-2 : tie.Need-returns-2
 returns-2 c =
-    known writeRow (c .before .before .before .before .before .before .before .before .args .user) (sym (c .before .before .before .before .before .may .ensures) ∙ not-false (c .before .before .before .before .before .may .result) (c .before .before .before .before .if1 .left))
-    (c .before .before .write .ensures)
+    let at-write = c .before .before in
+    let at-if = at-write .before .before in
+    let at-may = at-if .before in
+    let a = at-may .before .before .before .args in
+    write-known (a .user) (sym (at-may .may .ensures) ∙ not-false (at-may .may .result) (at-if .if1 .left)) (a .form) (at-write .write .ensures)
 
 pub write-spec : {M : Type 1} → statement M
 write-spec =

@@ -7,7 +7,7 @@ use Rattle.interface.proofs.yunverok_write.Statement.{statement}
 use Rattle.interface.proofs.yunverok_write.Tie as tie
 
 returns : tie.Need-returns
-returns c = record { returned = Returned.written (answered (c .before .before .before .before .before .before .write .result)) (c .before .before .before .before .before .before .write .last .1 .1 .0); step = Step.writes (c .before .before .before .before .before .before .write .ensures); output = refl; tells = c .before .before .tell-written .ensures }
+returns c = record { returned = Returned.written (answered (c .before .before .before .before .before .before .write .result)) (c .before .before .before .before .before .before .write .last .1 .1 .1 .0); step = Step.writes (c .before .before .before .before .before .before .write .ensures); output = refl; tells = c .before .before .tell-written .ensures }
 
 pub yunverok-write-spec : {M : Type 1} → statement M
 yunverok-write-spec =

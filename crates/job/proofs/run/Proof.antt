@@ -8,7 +8,7 @@ use Rattle.aiger.specs.Operations.{Loaded}
 use Rattle.aiger.specs.Program.{request}
 use Rattle.load.specs.Answers.{answered}
 use Rattle.job.specs.Query.{requestOf}
-use Rattle.job.proofs.Printing.{stored, stored-in}
+use Rattle.load_laws.proofs.Stored.{stored, stored-in}
 use Rattle.job.proofs.Running.{whole-rest, all-ensured, too-long, no-request, refused-load, search-ran}
 use borrow.Author.Needs.{needs}
 use Rattle.job.proofs.run.Statement.{statement}

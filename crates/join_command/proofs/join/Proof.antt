@@ -19,7 +19,7 @@ write-loaded-requires c κs =
     let s = c .before .before .before .before .before .before .before .before .before .before .before .before .before .before .before .before .before .before .before .before .before .before .before .before .before in
     let a = s .args in
     let h = join-held (a .third .now) (a .old .now) (a .new .now) (s .pre .2) (c .before .before .before .before .before .before .before .before .before .before .before .before .before .join-files .ensures .0) (c .before .before .before .if1 .left) in
-    (h .0, s .pre .3, omega (arith, ap length (h .2), s .pre .4))
+    (h .0, s .pre .3, omega (arith, ap length (h .2), s .pre .4), omega arith)
 
 returns-2 : tie.Need-returns-2
 returns-2 c =

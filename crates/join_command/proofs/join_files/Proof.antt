@@ -1,7 +1,7 @@
 -- `join_command::join_files` meets its contract. Assumes nothing.
 use mathlib.Core.Path.{ap}
 use Rattle.load.specs.Answers.{answered}
-use Rattle.job.proofs.Printing.{not-loaded, stored, stored-in}
+use Rattle.load_laws.proofs.Stored.{not-loaded, stored, stored-in}
 use Rattle.replies.proofs.Loading.{loaded-words}
 use Rattle.join_command.proofs.Joining.{first-left, first-joined, both-left, both-loaded}
 use borrow.Author.Needs.{needs}

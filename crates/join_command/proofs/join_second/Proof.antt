@@ -2,7 +2,7 @@
 use mathlib.Core.Path.{ap}
 use Rattle.load.specs.Answers.{answered}
 use Rattle.layout.specs.Words.{circuitIn}
-use Rattle.job.proofs.Printing.{not-loaded, stored, stored-in}
+use Rattle.load_laws.proofs.Stored.{not-loaded, stored, stored-in}
 use Rattle.replies.proofs.Loading.{loaded-words}
 use Rattle.join_command.proofs.Joining.{second-left, second-joined}
 use borrow.Author.Needs.{needs}

@@ -1,74 +1,43 @@
--- `limits::check_bounds` meets its contract: each number by the first test that fails. Assumes nothing.
+-- `limits::check_bounds` meets its contract: the tests 10 and 11, then 12. Assumes nothing.
 use mathlib.Core.Path.{_∙_}
-use native.Mathlib.Omega.{arith}
+use mathlib.Core.List.{_∷_, []}
 use borrow.Author.Needs.{needs}
-use borrow.Author.Tests.{not-true, not-false}
-use Rattle.aiger.proofs.Tests.{T-true}
-use Rattle.limits.proofs.Sizes.{size-is}
-use Rattle.limits.proofs.Refusals.{not-accepted, bad-refused, bound-refused, budget-refused, size-refused, room-refused, passes}
+use Rattle.aiger.specs.Operations.{sizeTest}
+use Rattle.limits.specs.Limits.{lineTests}
+use Rattle.limits.proofs.Refusals.{not-accepted, judge-refused, judge-rest}
 use Rattle.limits.proofs.check_bounds.Statement.{statement}
 use Rattle.limits.proofs.check_bounds.Tie as tie
 
 returns : tie.Need-returns
 returns c =
-    let a = c .before .args in
+    let l = c .before .before .before in
+    let a = c .before .before .before .before .args in
     record {
-      tests = λ x e. bad-refused x (a .b) (a .k) (a .budget) (a .room) (omega (arith, e .bads));
-      within = λ z. absurd (not-accepted 10 z);
+      tests = λ x e.
+          judge-refused (lineTests x (a .b) (a .k) (a .budget)) (sizeTest x (a .k) (a .room) ∷ []) _
+          (rw (c .before .n .given .1) at (l .check-line .ensures .tests x e));
+      within = λ z. absurd (not-accepted _ z);
     }
+
+check-size-requires : tie.Need-check-size-requires
+check-size-requires c κs = (c .before .before .before .pre, c .before .before .check-line .ensures .within (c .enum-told .given .1) .bound)
 
 returns-2 : tie.Need-returns-2
 returns-2 c =
-    let a = c .before .before .args in
-    record {
-      tests = λ x e. bound-refused x (a .b) (a .k) (a .budget) (a .room) (omega (arith, e .bads)) (omega arith);
-      within = λ z. absurd (not-accepted 11 z);
-    }
-
-returns-3 : tie.Need-returns-3
-returns-3 c =
-    let a = c .before .before .before .args in
+    let s = c .check-size .ensures in
+    let l = c .before .before .before in
+    let a = c .before .before .before .before .args in
+    let h = c .before .enum-told .given .1 in
+    let w = l .check-line .ensures .within h in
     record {
       tests = λ x e.
-          budget-refused x (a .b) (a .k) (a .budget) (a .room) (omega (arith, e .bads)) (omega arith) (not-true (a .budget) (c .if3 .taken));
-      within = λ z. absurd (not-accepted 11 z);
-    }
-
-returns-4 : tie.Need-returns-4
-returns-4 c =
-    let a = c .before .before .before .before .before .args in
-    let right = not-false (a .budget) (c .before .before .if3 .left) in
-    record {
-      tests = λ x e.
-          let u = c .before .size .ensures ∙ size-is e (a .k) in
-          size-refused x (a .b) (a .k) (a .budget) (a .room) (omega (arith, e .bads)) (omega arith) right (omega arith);
-      within = λ z. absurd (not-accepted 12 z);
-    }
-
-returns-5 : tie.Need-returns-5
-returns-5 c =
-    let a = c .before .before .before .before .before .before .args in
-    let right = not-false (a .budget) (c .before .before .before .if3 .left) in
-    record {
-      tests = λ x e.
-          let u = c .before .before .size .ensures ∙ size-is e (a .k) in
-          room-refused x (a .b) (a .k) (a .budget) (a .room) (omega (arith, e .bads)) (omega arith) right (omega arith) (omega arith);
-      within = λ z. absurd (not-accepted 12 z);
-    }
-
-returns-6 : tie.Need-returns-6
-returns-6 c =
-    let a = c .before .before .before .before .before .before .args in
-    let right = not-false (a .budget) (c .before .before .before .if3 .left) in
-    let n = c .before .before .size .ensures in
-    record {
-      tests = λ x e.
-          let u = n ∙ size-is e (a .k) in
-          passes x (a .b) (a .k) (a .budget) (a .room) (omega (arith, e .bads)) (omega arith) right (omega arith) (omega arith);
-      within = λ z. record { bad = omega arith; bound = omega arith; right = T-true right; small = omega arith; words = omega arith };
+          judge-rest (lineTests x (a .b) (a .k) (a .budget)) (sizeTest x (a .k) (a .room) ∷ []) (rw h at (l .check-line .ensures .tests x e))
+          ∙ s .tests x e;
+      within = λ z. record { bad = w .bad; bound = w .bound; right = w .right; small = s .within z .small; words = s .within z .words };
     }
 
 pub check-bounds-spec : {M : Type 1} → statement M
 check-bounds-spec =
     tie.close
-    (tie.spec returns returns-2 returns-3 (λ c κs. search needs) returns-4 (λ c. search needs) returns-5 returns-6)
+    (tie.spec
+    (λ c κs. search needs) (λ c. search needs) returns (λ c. search needs) check-size-requires returns-2)

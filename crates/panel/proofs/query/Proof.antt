@@ -42,7 +42,7 @@ returns-3 c =
 returns-4 : tie.Need-returns-4
 returns-4 c =
     let p = c .before .before .before .before .write .ensures in
-    rw (c .before .before .before .before .before .before .before .enum-told .given .1) (record {
+    rw (c .before .before .before .before .before .before .before .before .q4 .given .1) (record {
       answer = p .answer;
       permitted = Step.writes (p .permitted);
       line-is = p .line-is;
@@ -52,10 +52,10 @@ returns-4 c =
 
 returns-5 : tie.Need-returns-5
 returns-5 c =
-    let p = c .before .before .before .before .write-binary .ensures in
-    rw (c .before .before .before .before .before .before .before .enum-told2 .given .1) (record {
+    let p = c .before .before .before .before .generate .ensures in
+    rw (c .before .before .before .before .before .before .before .q4 .given .1) (record {
       answer = p .answer;
-      permitted = Step.writesBinary (p .permitted);
+      permitted = Step.generates (p .permitted);
       line-is = p .line-is;
       out-is = p .out-is;
       inside = p .inside;
@@ -67,6 +67,7 @@ query-spec =
     (tie.spec
     (λ c. search needs) (λ c κs. search needs) (λ c. search needs) (λ c κs. search needs) (λ c. search needs)
     (λ c κs. search needs) (λ c. search needs) (λ c κs. search needs) (λ c. search needs) (λ c κs. search needs)
-    (λ c. search needs) (λ c. search needs) returns (λ c. search needs) (λ c. search needs) (λ c. search needs) (λ c. search needs)
+    (λ c. search needs)
+    (λ c. search needs) returns (λ c. search needs) (λ c. search needs) (λ c. search needs) (λ c. search needs)
     returns-2 (λ c. search needs) (λ c. search needs) (λ c. search needs) (λ c. search needs) returns-3 (λ c. search needs)
     (λ c. search needs) returns-4 (λ c. search needs) (λ c. search needs) returns-5)

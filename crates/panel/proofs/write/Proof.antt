@@ -19,7 +19,7 @@ returns c =
       permitted = e;
       line-is = fronts-none _;
       out-is = refl;
-      inside = write-inside (start .args .m .now) (start .args .out .now) (start .args .user) e;
+      inside = write-inside (start .args .m .now) (start .args .out .now) (start .args .user) (start .args .form) e;
     }
 
 returns-2 : tie.Need-returns-2

@@ -3,7 +3,7 @@ use mathlib.Core.Path.{_≡_, refl, sym, ap, _∙_}
 use Prim.Native.Nat.{ℕ, _-_}
 use native.Mathlib.Omega.{arith}
 use Rattle.panel_input.specs.declared.gathering.RequestLine.{RequestLine}
-use Rattle.panel_input.proofs.Keeping.{Gathers, empty-gathers, empty-reads, step-gathers, step-reads, received}
+use Rattle.panel_input.proofs.Keeping.{Gathers, empty-gathers, empty-reads, empty-open, step-gathers, step-reads, received}
 use borrow.Author.Needs.{needs}
 use Rattle.panel_input.proofs.receive.Statement.{statement}
 use Rattle.panel_input.proofs.receive.Tie as tie
@@ -18,7 +18,7 @@ advance-requires : tie.Need-advance-requires Inv-loop μ-loop
 advance-requires c κs = empty-reads (c .empty .ensures)
 
 loop-holds : tie.Need-loop-holds Inv-loop μ-loop
-loop-holds c = let a = c .advance in step-gathers (a .result .last) (empty-gathers (c .before .empty .ensures)) refl (a .ensures)
+loop-holds c = let a = c .advance in step-gathers (a .result .last) (empty-gathers (c .before .empty .ensures)) (empty-open (c .before .empty .ensures)) refl (a .ensures)
 
 advance-requires-2 : tie.Need-advance-requires-2 Inv-loop μ-loop
 advance-requires-2 c κs =
@@ -32,7 +32,10 @@ loop-less c =
     omega (arith, e, c .before .before .before .goes-on .ensures .more (c .before .before .if1 .taken) .1)
 
 loop-again : tie.Need-loop-again Inv-loop μ-loop
-loop-again c = let a = c .advance2 in step-gathers (a .result .last) (c .before .before .before .before .loop .inv) (c .before .gathered-line .ensures) (a .ensures)
+loop-again c =
+    let a = c .advance2 in
+    let o = c .before .before .before .goes-on .ensures .more (c .before .before .if1 .taken) .0 in
+    step-gathers (a .result .last) (c .before .before .before .before .loop .inv) o (c .before .gathered-line .ensures) (a .ensures)
 
 returns : tie.Need-returns Inv-loop μ-loop
 returns c = received (c .gathered-line2 .ensures) (c .before .before .before .loop .inv) (c .before .before .goes-on .ensures .ends (c .before .if1 .left))

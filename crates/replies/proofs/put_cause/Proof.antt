@@ -22,7 +22,7 @@ module _ (w : tie.After-put-arg) where
   abbrev to : ℕ
   to = getD (0 ∷ ends 0 causes) (number + 1) 0
 
-  few : number ≤ 18
+  few : number ≤ 21
   few = omega (arith, w .before .before .if1 .left)
 
   forward : from ≤ to

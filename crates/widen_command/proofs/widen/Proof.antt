@@ -1,7 +1,7 @@
 -- `widen_command::widen` meets its contract. Assumes nothing.
 use mathlib.Core.Path.{ap}
 use Rattle.load.specs.Answers.{answered}
-use Rattle.job.proofs.Printing.{not-loaded, stored, stored-in}
+use Rattle.load_laws.proofs.Stored.{not-loaded, stored, stored-in}
 use Rattle.replies.proofs.Loading.{loaded-words}
 use Rattle.widen_command.proofs.Answers.{widen-unloaded, widen-text}
 use borrow.Author.Needs.{needs}

@@ -1,0 +1,1 @@
+// Laws of what load answers and leaves: proofs/. This crate has no code.
