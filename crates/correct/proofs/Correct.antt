@@ -58,6 +58,7 @@ use Rattle.parting.proofs.Parted.{firstRun, secondRun}
 use Rattle.parting.proofs.Theorems.{Parting, found-parts, none-parts, self-same}
 use Rattle.parting.proofs.Contract.{join-without, join-refused, join-accepted, join-loads}
 use Rattle.renumbered.specs.Renumbered.{newNumber, renumbered, WrittenBinary}
+use Rattle.layout.specs.Words.{word}
 use Rattle.writer.specs.Forms.{WrittenIn}
 use Rattle.writer.proofs.Forms.{form-text, text-form, form-binary, binary-form, other-form, write-same}
 use Rattle.writer.proofs.RoundTrip as writer
@@ -423,8 +424,8 @@ correct =
       text-alone = load-text;
       preview-agrees = preview-load;
       write-determined = λ w v. write-same w v;
-      write-text = (form-text, text-form 0 refl);
-      write-binary = (form-binary, binary-form 1 refl);
+      write-text = (λ w. form-text w, λ w. text-form 0 refl w);
+      write-binary = (λ w. form-binary w, λ w. binary-form 1 refl w);
       write-form = other-form;
       text-back = λ w room l. writer.text-back w room l;
       binary-written = λ h room w. writer.binary-written h room w;
