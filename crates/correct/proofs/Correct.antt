@@ -194,14 +194,14 @@ pub record Correct : Type 1 where
       → Searched chosen m b k D w out (gives o) w₁ o₁ → Searched chosen m′ b k′ E w′ out′ (gives o′) w₂ o₂ → (i : ℕ) → o .outcome ≡ Outcome.none i
       → o′ .outcome ≡ Outcome.none k′
   -- the same of a user's searches under any pins; length and place stay too
-  pub user-budget-keeps : {m m′ w w′ w₁ w₂ out out′ o₁ o₂ shared shared′ : List ℕ} {user : ℕ} {c : Circuit} {b k D E : ℕ} {o o′ : Report}
+  pub user-budget-keeps : (shared shared′ : List ℕ) (user : ℕ) {m m′ w w′ w₁ w₂ out out′ o₁ o₂ : List ℕ} {c : Circuit} {b k D E : ℕ} {o o′ : Report}
       → pinsOf shared user ≡ pinsOf shared′ user → Holds m c → Holds m′ c → D ≤ E → UserSearched chosen m shared user b k D w out (gives o) w₁ o₁
       → UserSearched chosen m′ shared′ user b k E w′ out′ (gives o′) w₂ o₂ → Decided (o .outcome) → Stays o o′ out o₁ out′ o₂
-  pub user-found-keeps : {m m′ w w′ w₁ w₂ out out′ o₁ o₂ shared shared′ : List ℕ} {user : ℕ} {c : Circuit} {b k k′ D E : ℕ} {o o′ : Report}
+  pub user-found-keeps : (shared shared′ : List ℕ) (user : ℕ) {m m′ w w′ w₁ w₂ out out′ o₁ o₂ : List ℕ} {c : Circuit} {b k k′ D E : ℕ} {o o′ : Report}
       → pinsOf shared user ≡ pinsOf shared′ user → Holds m c → Holds m′ c → D ≤ E → k ≤ k′
       → UserSearched chosen m shared user b k D w out (gives o) w₁ o₁ → UserSearched chosen m′ shared′ user b k′ E w′ out′ (gives o′) w₂ o₂
       → (t : ℕ) → o .outcome ≡ Outcome.found t → Stays o o′ out o₁ out′ o₂
-  pub user-none-keeps : {m m′ w w′ w₁ w₂ out out′ o₁ o₂ shared shared′ : List ℕ} {user : ℕ} {c : Circuit} {b k k′ D E : ℕ} {o o′ : Report}
+  pub user-none-keeps : (shared shared′ : List ℕ) (user : ℕ) {m m′ w w′ w₁ w₂ out out′ o₁ o₂ : List ℕ} {c : Circuit} {b k k′ D E : ℕ} {o o′ : Report}
       → pinsOf shared user ≡ pinsOf shared′ user → Holds m c → Holds m′ c → D ≤ E → k′ ≤ k
       → UserSearched chosen m shared user b k D w out (gives o) w₁ o₁ → UserSearched chosen m′ shared′ user b k′ E w′ out′ (gives o′) w₂ o₂
       → (i : ℕ) → o .outcome ≡ Outcome.none i → o′ .outcome ≡ Outcome.none k′
@@ -409,9 +409,9 @@ correct =
       budget-keeps = λ h h′ l s s′ d. budget-kept h h′ l s s′ refl d;
       found-keeps = λ h h′ l n s s′ t e. found-kept h h′ l s s′ t n e;
       none-keeps = λ h h′ l n s s′ i e. none-kept h h′ l s s′ i n e;
-      user-budget-keeps = λ p h h′ l s s′ d. user-budget-kept p h h′ l s s′ refl d;
-      user-found-keeps = λ p h h′ l n s s′ t e. user-found-kept p h h′ l s s′ t n e;
-      user-none-keeps = λ p h h′ l n s s′ i e. user-none-kept p h h′ l s s′ i n e;
+      user-budget-keeps = λ x y u p h h′ l s s′ d. user-budget-kept x y u p h h′ l s s′ refl d;
+      user-found-keeps = λ x y u p h h′ l n s s′ t e. user-found-kept x y u p h h′ l s s′ t n e;
+      user-none-keeps = λ x y u p h h′ l n s s′ i e. user-none-kept x y u p h h′ l s s′ i n e;
       replay-determined = either-same;
       replay-plain = λ {c = c} h r s. all-is-yes c h r s;
       replay-all = λ {c = c} h r. all-hits c h r;

@@ -23,7 +23,7 @@ answered : {A S : Type 0} {tests : List Test} {lent s : S} {P : Answer A → S �
 answered (Tested.refuses e) q = absurd (never q)
 answered (Tested.passes e p) q = p
 
-module _ {m m′ w w′ w₁ w₂ out out′ o₁ o₂ shared shared′ : List ℕ} {user : ℕ} {c : Circuit} {b k k′ D E : ℕ} {o o′ : Report}
+module _ (shared shared′ : List ℕ) (user : ℕ) {m m′ w w′ w₁ w₂ out out′ o₁ o₂ : List ℕ} {c : Circuit} {b k k′ D E : ℕ} {o o′ : Report}
     (own : pinsOf shared user ≡ pinsOf shared′ user) (h : Holds m c) (h′ : Holds m′ c) (larger : D ≤ E)
     (s : UserSearched chosen m shared user b k D w out (gives o) w₁ o₁)
     (s′ : UserSearched chosen m′ shared′ user b k′ E w′ out′ (gives o′) w₂ o₂) where
