@@ -67,8 +67,8 @@
 #include <stdint.h>
 
 /* Lengths that are never too short: of circuit memory and working memory in words; of the output of search and of widen (the longest
-   witness that replay accepts; that of a search has at most 66,568 bytes), of write in form 0 and in form 1, of fold and of waveform in bytes;
-   of what users share in bytes; and of an answer in numbers. A file to load has at most YUNVEROK_TEXT bytes. */
+   witness that replay accepts; that of a search has at most 66,568 bytes), of write in form 0 and in form 1, of fold and of waveform in
+   bytes; of what users share in bytes; and of an answer in numbers. A file to load has at most YUNVEROK_TEXT bytes. */
 #define YUNVEROK_MEMORY 33032
 #define YUNVEROK_WORK 1048576
 #define YUNVEROK_WITNESS 66825
