@@ -1,6 +1,7 @@
 """Request 13: asks random questions through the C interface under budgets that double and bounds that rise, with pins, with exactly the words and
 bytes that are needed and with more. Found and none must stay, with the same witness: under every larger budget, found under every larger
-bound, none under every smaller one. The place that a spent search tells must be one that it may tell. The last line is `N asked, M differ`."""
+bound, none under every smaller one. The place that a spent search tells must be one that it may tell, and no hit that is found stands before
+it. The last line is `N asked, M differ`."""
 import argparse
 import ctypes
 import sys
@@ -109,6 +110,23 @@ def disagreements(given):
                 yield f"bound {k}, budget {d}: {kind} {frame}; bound {k2}, budget {d2}: {other[0]} {other[1]}"
 
 
+def place(c, held, text):
+    """The number of the sequence that a witness shows, among those that obey the pins."""
+    lines = text.decode().split("\n")[2:]
+    rows = lines[1:lines.index(".")]
+    free = [lines[0][i] for i in c.free()] + [row[i] for row in rows for i in range(len(c.inputs)) if i not in held]
+    return int("0" + "".join(free), 2)
+
+
+def hits_before(c, held, given):
+    """The hits that one answer shows before the place that another one has passed."""
+    found = {answer[1:3] for answer in given.values() if answer[0] == "found"}
+    for (k, d), (kind, t, _, reached) in given.items():
+        for frame, text in found:
+            if kind == "spent" and (frame < t or frame == t and place(c, held, text) < reached):
+                yield f"bound {k}, budget {d}: spent {t} {reached}, but sequence {place(c, held, text)} of frame {frame} hits"
+
+
 class Run:
     def __init__(self, seed, budgets, spoil):
         self.r, self.library, self.budgets, self.spoil = aiger.Random(seed), pins.Library(), budgets, spoil
@@ -118,6 +136,13 @@ class Run:
         for fault in faults:
             self.differ += 1
             print(f"DIFFER {title}: {fault}")
+
+    def spoiled(self, told, d):
+        """Another frame where found is told with the largest budget, or another place where spent is told with the others."""
+        kind, frame, text, reached = told
+        if self.spoil == "frame" and kind == "found" and d == self.budgets[-1]:
+            return kind, frame + 1, text, reached
+        return (kind, frame, text, 2 * reached) if self.spoil == "place" and kind == "spent" else told
 
     def question(self, number):
         r = self.r
@@ -141,14 +166,14 @@ class Run:
                 told = ask(self.library, user, b, k, d, words, length)
                 more = ask(self.library, user, b, k, d, pins.WORK, pins.WITNESS)
                 self.asked += 2
-                if self.spoil and told[0] == "found" and d == self.budgets[-1]:
-                    told = ("found", told[1] + 1, *told[2:])
+                told = self.spoiled(told, d)
                 given[k, d] = told
                 self.kinds[told[0]] = self.kinds.get(told[0], 0) + 1
                 faults = [] if told == more or self.spoil else [f"bound {k}, budget {d}: {told[:2]} with the words needed, {more[:2]} with more"]
                 faults += [] if reached_right(told, bits(c, held, told[1]), d) else [f"bound {k}, budget {d}: place {told[3]} told"]
                 self.note(title, faults)
         self.note(title, disagreements(given))
+        self.note(title, hits_before(c, held, given))
 
 
 def main():
@@ -156,7 +181,7 @@ def main():
     options.add_argument("--questions", type=int, default=120)
     options.add_argument("--seed", type=int, default=13)
     options.add_argument("--largest", type=int, default=12, help="the largest budget as a power of 2")
-    options.add_argument("--spoil", action="store_true", help="changes the frame of found with the largest budget, to see that it is noticed")
+    options.add_argument("--spoil", choices=["frame", "place"], help="changes the frame of found or the place of spent, to see that it is noticed")
     given = options.parse_args()
     tools.empty_work()
     run = Run(given.seed, [1 << i for i in range(0, given.largest + 1, 2)], given.spoil)
