@@ -10,6 +10,7 @@ use load::Counts;
 use load::Judgement;
 use load::LoadAnswer;
 use replay::ReplayAnswer;
+use place_limits::PlaceTerms;
 use search::SearchAnswer;
 use search::Terms;
 use waveform::WaveformAnswer;
@@ -343,6 +344,35 @@ pub extern "C" fn yunverok_search(
 {
     tell_searched(
         calls::search(user, shared, circuit, Terms { b, k, d }, work, out),
+        answer,
+    )
+}
+
+// Searches frame t for a hit of bad line b at or after a place, under the user's pins, with a budget of d sequences.
+#[no_mangle]
+pub extern "C" fn yunverok_search_from(
+    user: u64,
+    shared: &[u8],
+    circuit: &[u32],
+    b: u64,
+    t: u64,
+    place: u64,
+    d: u64,
+    work: &mut [u32],
+    out: &mut [u8],
+    answer: &mut [u64],
+) -> u64
+    ensures { λ r. ⌜
+        Called (lent (now (shared .entry)) (now (circuit .entry)) (now (work .entry)))
+        (Call.searchFrom user b t place d (now (out .entry)))
+        (lent (now (shared .entry)) (now (circuit .entry)) (now (work .exit)))
+        (now (out .exit))
+        (now (answer .entry)) r
+        (now (answer .exit))
+        ⌝ }
+{
+    tell_searched(
+        calls::search_from(user, shared, circuit, PlaceTerms { b, t, place, d }, work, out),
         answer,
     )
 }

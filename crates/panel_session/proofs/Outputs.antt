@@ -33,8 +33,8 @@ use Rattle.pinned_runs.specs.Obeys.{pinnedShows, pinnedWidenedText}
 use Rattle.pinning.specs.Operations.{PinnedSearchEffect, pinnedShown}
 use Rattle.pinning.specs.FromPlace.{pinnedTextAt, PinnedPlaceEffect}
 use Rattle.place_search.specs.Places.{Placed, outcomeOf}
-use Rattle.place_search.specs.Operation.{placeTests}
-use Rattle.place_search.proofs.Searches.{textOf, shown-as}
+use Rattle.place_search.specs.Operation.{placeTests, textOf}
+use Rattle.place_search.proofs.Searches.{shown-as}
 use Rattle.place_decision.specs.Reach.{placeChosen}
 use Rattle.call_forms.specs.Forms.{Tested, UserSearched, UserSearchedFrom, UserFolded, UserWritten, UserWidened, UserWaveformed, UserGenerated}
 use Rattle.writer.specs.Forms.{InForm}

@@ -13,7 +13,7 @@ use Rattle.aiger.specs.Search.{Question, Outcome, Report, firstAt, permittedOf,
 use Rattle.aiger.specs.Operations.{front}
 use Rattle.meaning.proofs.Outcomes.{Decided, Quiet}
 use Rattle.place_search.specs.Places.{Placed, answers, Unspent, outcomeOf, reachedOf}
-use Rattle.place_search.specs.Operation.{shownAt, reportOf}
+use Rattle.place_search.specs.Operation.{shownAt, textOf, reportOf}
 use Rattle.place_search.specs.Chains.{Chain, lower, Ranges}
 use Rattle.place_search.proofs.Answers.{True, unspent-true, true-same}
 use Rattle.place_search.proofs.Chained.{chain-answer, ranges-true, ranges-answer, plain-found, plain-none}
@@ -71,12 +71,7 @@ of-none t (Placed.hit x) e = absurd (found-none e)
 of-none t Placed.clear e = refl
 of-none t (Placed.spent R) e = absurd (none-spent (sym e))
 
--- the text that an answer shows
-abbrev pub textOf : (ℕ → List ℕ) → Placed → List ℕ
-textOf text (Placed.hit x) = text x
-textOf text Placed.clear = []
-textOf text (Placed.spent R) = []
-
+-- what an answer shows is its text at the front
 pub shown-as : (text : ℕ → List ℕ) (a : Placed) (out : List ℕ) → shownAt text a out ≡ front (textOf text a) out
 shown-as text (Placed.hit x) out = refl
 shown-as text Placed.clear out = refl

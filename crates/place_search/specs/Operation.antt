@@ -34,6 +34,12 @@ shownAt text (Placed.hit x) out = front (text x) out
 shownAt text Placed.clear out = out
 shownAt text (Placed.spent R) out = out
 
+-- the text that is left, nothing where it is none or spent
+abbrev pub textOf : (ℕ → List ℕ) → Placed → List ℕ
+textOf text (Placed.hit x) = text x
+textOf text Placed.clear = []
+textOf text (Placed.spent R) = []
+
 -- the text is the witness of the sequence at that place
 abbrev pub shownFrom : Circuit → ℕ → ℕ → Placed → List ℕ → List ℕ
 shownFrom c b t a out = shownAt (λ x. witness b (run c t x)) a out

@@ -26,7 +26,7 @@ causes =
     ∷ bytes "the witness holds more than 16 x"
     ∷ bytes "the circuits differ in I or O, or O is 0 or above 16"
     ∷ bytes "the user, the input or the pin value is wrong"
-    ∷ bytes "the place is above 2 to the 62 or not below 2 to the power n"
+    ∷ bytes "the place is above 2 to the 62, or not below 2 to the power n"
     ∷ bytes "the search number is above 15 or in use"
     ∷ bytes "the form is neither 0 nor 1"
     ∷ []

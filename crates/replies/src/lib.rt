@@ -36,9 +36,9 @@ const STARTS: [usize; 23] = [
     627,
     679,
     724,
-    784,
-    823,
-    850,
+    785,
+    824,
+    851,
 ];
 
 // Writes a word, n and a line feed to the front of line. The answer is their length.
@@ -78,7 +78,7 @@ fn put_cause(line: &mut [u8], at: usize, n: u32) -> usize
         the witness holds more than 16 x\
         the circuits differ in I or O, or O is 0 or above 16\
         the user, the input or the pin value is wrong\
-        the place is above 2 to the 62 or not below 2 to the power n\
+        the place is above 2 to the 62, or not below 2 to the power n\
         the search number is above 15 or in use\
         the form is neither 0 nor 1";
     let i = n as usize;
