@@ -74,8 +74,8 @@ at-zero {c = c} {q = q} {b = b} {t = t} {D = D} {o = o} h s =
     let z = pinnedQuestion c q b in (
       alone-permitted z t D a (r .1),
       λ quiet.
-      subst (λ (y : Report). T (permittedOf z t D (y .outcome)) × T (reachedRight z D (y .outcome) (y .reached))) (sym (r .0))
-      (zero-permitted z t D a quiet (r .1), zero-tells z t D a (r .1)),
+          subst (λ (y : Report). T (permittedOf z t D (y .outcome)) × T (reachedRight z D (y .outcome) (y .reached))) (sym (r .0))
+          (zero-permitted z t D a quiet (r .1), zero-tells z t D a (r .1)),
     )
 
 -- Request 13: what is not spent is answered with every larger budget, with the same witness
