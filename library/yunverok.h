@@ -23,6 +23,7 @@
      7  a used variable is undefined                16  witness with more than 16 x
     15  in a binary file: a difference absent, cut short, of more than five groups or 32 bits, or an operand not below its gate or below 0
     17  circuits to join: no output or more than 16, or not the same numbers of inputs and of outputs
+    19  a starting place above 2 to the power 62, or not below 2 to the power n
     18  a user who may not call the function; for a pin also a value above 2, an input that is not there, and a pin that has no byte
     21  the form is neither 0 nor 1
    (*) in a binary file I+L+A other than M; of generate, counts that are not permitted.
@@ -168,6 +169,24 @@ uint64_t yunverok_pin(uint64_t user, uint8_t *shared, uint64_t shared_len, const
 uint64_t yunverok_search(uint64_t user, const uint8_t *shared, uint64_t shared_len, const uint32_t *circuit, uint64_t circuit_len,
                          uint64_t b, uint64_t k, uint64_t d, uint32_t *work, uint64_t work_len, uint8_t *out, uint64_t out_len,
                          uint64_t *answer, uint64_t answer_len);
+
+/* Searches frame t alone for a hit of bad line b among its sequences from a place on: place p is the p-th sequence in counting order, the
+   first of which is 0. The budget is d sequences. Returns 0, and answer tells the kind, and the frame t in place YUNVEROK_FRAME:
+     YUNVEROK_FOUND   the witness of the first hit at or after the place stands at the front of out; its length is told;
+     YUNVEROK_NONE    no sequence from the place on hits; place YUNVEROK_ALWAYS is 0;
+     YUNVEROK_SPENT   the frame has more than place + d sequences, and none of the d from the place on hits; R is told in place
+                      YUNVEROK_REACHED: none of the sequences from the place up to R hits. R is place + d or more, but not above 2 to
+                      the power 62, and below 2 to the power n.
+   Earlier frames do not count: a hit that found shows may not be of the first frame with one. Where this call or yunverok_search is spent
+   with R, a call with the same b and t and with R as the place goes on there; what such a chain of calls ends with is what one call from
+   its first place with a budget large enough tells, with the same witness. Where d cannot raise R any more because R is 2 to the power
+   62, the d sequences from there are still searched.
+   What is told depends on the circuit, the user's pins, b, t, the place and d alone. n counts the inputs that the user's pins leave free.
+   Or returns the number of the refusal, 18 for a user who is neither 0 nor 1 and then 9, 10, 11, 19, 12 and 13, and work, out and answer
+   are as they were. work and out need what yunverok_search needs for bound t. shared and circuit are read only. */
+uint64_t yunverok_search_from(uint64_t user, const uint8_t *shared, uint64_t shared_len, const uint32_t *circuit, uint64_t circuit_len,
+                              uint64_t b, uint64_t t, uint64_t place, uint64_t d, uint32_t *work, uint64_t work_len, uint8_t *out,
+                              uint64_t out_len, uint64_t *answer, uint64_t answer_len);
 
 /* Folds the hit of bad line b at frame t into one circuit over the n free bits of that frame. Returns 0, and the circuit's text stands at
    the front of out as an AIGER file in ASCII; answer tells its length. The text has seven header numbers, no latch, no bad line and no

@@ -15,7 +15,7 @@ use Rattle.aiger.specs.Circuit.{Circuit, var, literalsRight, usedDefined, acycl
 use Rattle.aiger.specs.Frames.{Run, value, valueAt, hits, run, freeBits, freeStarts}
 use Rattle.aiger.specs.File.{isBinary}
 use Rattle.aiger.specs.Load.{Answer, refused, gives, load, loadText, needed}
-use Rattle.aiger.specs.Search.{Outcome, Report, question, reaches, firstWitness, permitted, permittedOf}
+use Rattle.aiger.specs.Search.{Outcome, Report, question, reaches, firstWitness, permitted, permittedOf, reachedRight}
 use Rattle.aiger.specs.Witness.{Witness, agrees, witness, readWitness}
 use Rattle.aiger.specs.Write.{countRow, write}
 use Rattle.aiger.specs.Memory.{Holds, image}
@@ -27,7 +27,7 @@ use Rattle.completions.specs.Forms.{Completes}
 use Rattle.meaning.proofs.Defined.{Known}
 use Rattle.meaning.proofs.Runs.{Satisfies, run-determined, run-satisfies}
 use Rattle.meaning.proofs.Sequences.{Shaped, every-run, run-same}
-use Rattle.meaning.proofs.Outcomes.{Decided, Found, None, Spent}
+use Rattle.meaning.proofs.Outcomes.{Decided, Found, None, Spent, Quiet}
 use Rattle.meaning.proofs.Values.{frameAt}
 use Rattle.roundtrip.proofs.LoadValid.{gives-same}
 use Rattle.roundtrip.proofs.Holding.{held-valid, load-again}
@@ -39,7 +39,14 @@ use Rattle.load.specs.Answers.{answered}
 use Rattle.load.specs.Preview.{Previewed}
 use Rattle.load.specs.declared.Judgement.{Judgement}
 use Rattle.load.proofs.Previews.{preview-load}
-use Rattle.pins.specs.Pins.{pinsOf}
+use Rattle.pins.specs.Pins.{pinsOf, pinned, pinnedQuestion}
+use Rattle.pinning.specs.Operations.{PinnedSearched}
+use Rattle.pinning.specs.FromPlace.{PinnedSearchedFrom}
+use Rattle.place_search.specs.Places.{frameAlone, outcomeOf}
+use Rattle.place_search.proofs.Searches.{SearchChain, SearchRanges, WroteAlike}
+use Rattle.place_decision.specs.Reach.{placeChosen}
+use Rattle.pinned_search_from.proofs.Theorems.{AskedUnder}
+use Rattle.pinned_search_from.proofs.Theorems as from
 use Rattle.place_search.proofs.Answers.{Reached}
 use Rattle.pinned_search.proofs.More.{Stays}
 use Rattle.call_forms.specs.Forms.{UserSearched}
@@ -292,6 +299,37 @@ pub record Correct : Type 1 where
   -- where replay says all, the wire of the witness's bad line is 1 in the last frame
   pub waveform-hit : {m text : List ℕ} {c : Circuit} → Holds m c → EitherReplayed m text (gives Verdict.all)
       → (h : ℕ × List ℕ) × (readEither c text ≡ some h) × (levelAt c (h .0) (h .1) (frameCount c (h .0) (h .1) - 1) (badWire c (h .0)) ≡ Level.high)
+  -- ---- Clauses 12.10, 12.11 and 12.13: searches from a place, under any pins.
+
+  -- what a chain of searches ends with, each from the place that the one before it reached, is the report and the witness of every search
+  -- from its first place that is not spent
+  pub from-chained : {c : Circuit} {q : ℕ → ℕ} {b t lo : ℕ} {o o₁ : Report} {out out′ out₁ out₁′ : List ℕ} → AskedUnder c q b t lo o₁ out₁ out₁′
+      → Decided (o₁ .outcome) → SearchChain (AskedUnder c q b t) lo o out out′ → (o₁ ≡ o) × WroteAlike out out′ out₁ out₁′
+  -- so is what searches from several places end with, in any order of time
+  pub from-ranged : {c : Circuit} {q : ℕ → ℕ} {b t lo : ℕ} {o o₁ : Report} {out out′ out₁ out₁′ : List ℕ} → AskedUnder c q b t lo o₁ out₁ out₁′
+      → Decided (o₁ .outcome) → SearchRanges (AskedUnder c q b t) lo o out out′ → (o₁ ≡ o) × WroteAlike out out′ out₁ out₁′
+  -- where a search of all frames is spent at t, and a chain from the place that it reached ends with found, that is the answer, with its
+  -- witness, of every search of all frames that is not spent and whose bound is t or more
+  pub from-spent : {m w out₀ : List ℕ} {left₀ : List ℕ × List ℕ} {c : Circuit} {q : ℕ → ℕ} {b k D t u : ℕ} {o₀ o : Report} {out out′ : List ℕ} → Holds m c
+      → PinnedSearched chosen m q b k D w out₀ (gives o₀) left₀ → o₀ .outcome ≡ Outcome.spent t
+      → SearchChain (AskedUnder c q b t) (o₀ .reached) o out out′ → o .outcome ≡ Outcome.found u
+      → {m₂ w₂ out₂ : List ℕ} {left₂ : List ℕ × List ℕ} {k₂ D₂ : ℕ} {o₂ : Report} → Holds m₂ c
+      → PinnedSearched chosen m₂ q b k₂ D₂ w₂ out₂ (gives o₂) left₂ → t ≤ k₂ → Decided (o₂ .outcome)
+      → (o₂ .outcome ≡ Outcome.found t) × WroteAlike out out′ out₂ (left₂ .1)
+  -- and where it ends with none, no frame up to t has a hit
+  pub from-spent-none : {m w out₀ : List ℕ} {left₀ : List ℕ × List ℕ} {c : Circuit} {q : ℕ → ℕ} {b k D t u : ℕ} {o₀ o : Report} {out out′ : List ℕ}
+      → Holds m c → PinnedSearched chosen m q b k D w out₀ (gives o₀) left₀ → o₀ .outcome ≡ Outcome.spent t
+      → SearchChain (AskedUnder c q b t) (o₀ .reached) o out out′ → o .outcome ≡ Outcome.none u → Quiet (pinnedQuestion c q b) (t + 1)
+  -- at place 0 the answer is permitted for the search of that frame alone; where no frame before t has a hit, for the search with bound t
+  pub from-zero : {m w out w′ out′ : List ℕ} {c : Circuit} {q : ℕ → ℕ} {b t D : ℕ} {o : Report} → Holds m c
+      → PinnedSearchedFrom placeChosen m q b t 0 D w out (gives o) (w′, out′)
+      → T (permittedOf (frameAlone (pinnedQuestion c q b) t) 0 D (outcomeOf 0 (placeChosen (pinned c q) b t 0 D)))
+      × (Quiet (pinnedQuestion c q b) t
+      → T (permittedOf (pinnedQuestion c q b) t D (o .outcome)) × T (reachedRight (pinnedQuestion c q b) D (o .outcome) (o .reached)))
+  -- what is not spent is answered with every larger budget, with the same witness
+  pub from-kept : {m m′ w w′ w₁ w₂ out out′ o₁ o₂ : List ℕ} {c : Circuit} {q : ℕ → ℕ} {b t place D E : ℕ} {o o′ : Report} → Holds m c → Holds m′ c
+      → D ≤ E → PinnedSearchedFrom placeChosen m q b t place D w out (gives o) (w₁, o₁)
+      → PinnedSearchedFrom placeChosen m′ q b t place E w′ out′ (gives o′) (w₂, o₂) → Decided (o .outcome) → (o′ ≡ o) × WroteAlike out o₁ out′ o₂
   -- ---- Clause 12.7: two users.
 
   -- a history without the calls of the other user, save accepted loads, is a history, from any state that is the same to user u
@@ -443,6 +481,12 @@ correct =
       waveform-own-input = own-input;
       waveform-own-latch = own-latch;
       waveform-hit = λ {c = c} h r. all-shown c h r;
+      from-chained = λ a d r. from.chained a d r;
+      from-ranged = λ a d r. from.ranged a d r;
+      from-spent = λ h s e r f h₂ s₂ l d. from.plain-chained h s e r f h₂ s₂ l d;
+      from-spent-none = λ h s e r f. from.plain-quiet h s e r f;
+      from-zero = λ h s. from.at-zero h s;
+      from-kept = λ h h′ l s s′ d. from.budget-kept h h′ l s s′ d;
       users-apart = apart;
       users-undisturbed = undisturbed;
       sessions-apart = panel.apart;
