@@ -79,10 +79,10 @@ module _ {m : List ℕ} {p : Layout} {q : ℕ → ℕ} {user b t place D room le
       record { says = r .1 ∙ ap gives (x .chose); allowed = x .allowed; shows = x .shows }
 
   -- the witness of a run of the pinned circuit, written out over it
-  written-out : (y : ℕ) {before after out : List ℕ} → length after ≡ len → after ≡ front (witness b (run (pinned c q) t y)) before
+  written-out : (y : ℕ) (before after : List ℕ) {out : List ℕ} → length after ≡ len → after ≡ front (witness b (run (pinned c q) t y)) before
       → out ≡ front (expanded after q (p .i) (rowsStart p b) (t + 1)) after → out ≡ front (pinnedTextAt c q b t y) before
   unfolding witnessLength expanded
-  written-out y {before} {after} {out} long w e =
+  written-out y before after {out} long w e =
       let counts = counts-of (f .held) (f .layout-of) in
       let n = length (c .inputs) in
       let s = rowsAt c q b in
@@ -103,31 +103,31 @@ module _ {m : List ℕ} {p : Layout} {q : ℕ → ℕ} {user b t place D room le
       ∙ ap (λ (z : List ℕ). front z before) full
 
   -- the answer in full, by what is chosen
-  in-full : (a : Placed) (x : SearchAnswer) {before after out : List ℕ} {r : Answer Report} → length after ≡ len
+  in-full : (a : Placed) (x : SearchAnswer) (before after out : List ℕ) (r : Answer Report) → length after ≡ len
       → said x ≡ gives (reportOf (pinned c q) b t a) → after ≡ shownFrom (pinned c q) b t a before → InFull p q b x after r out
       → (r ≡ gives (reportOf c b t a)) × (out ≡ shownAt (pinnedTextAt c q b t) a before)
-  in-full (Placed.hit y) (Found u n) {before} {after} {out} {r} long e w g =
+  in-full (Placed.hit y) (Found u n) before after out r long e w g =
       let k : u ≡ t = found-frame (same-outcome e) in
       let l : lengthOf p b t ≡ witnessLength c b t = length-is (counts-of (f .held) (f .layout-of)) b t in (
         g .0 ∙ ap (λ (v : ℕ). gives (foundReport v (lengthOf p b v))) k ∙ ap (λ (z : ℕ). gives (foundReport t z)) l,
-        written-out y long w (g .1 ∙ ap (λ (v : ℕ). front (expanded after q (p .i) (rowsStart p b) (v + 1)) after) k),
+        written-out y before after long w (g .1 ∙ ap (λ (v : ℕ). front (expanded after q (p .i) (rowsStart p b) (v + 1)) after) k),
       )
-  in-full (Placed.hit y) (Nothing u flag) long e w g = absurd (found-none (sym (same-outcome e)))
-  in-full (Placed.hit y) (Spent u R) long e w g = absurd (found-spent (sym (same-outcome e)))
-  in-full (Placed.hit y) (Refused n) long e w g = absurd (refused-gives e)
-  in-full Placed.clear (Found u n) long e w g = absurd (found-none (same-outcome e))
-  in-full Placed.clear (Nothing u flag) long e w g = (g .0 ∙ e, g .1 ∙ w)
-  in-full Placed.clear (Spent u R) long e w g = absurd (none-spent (sym (same-outcome e)))
-  in-full Placed.clear (Refused n) long e w g = absurd (refused-gives e)
-  in-full (Placed.spent Q) (Found u n) long e w g = absurd (found-spent (same-outcome e))
-  in-full (Placed.spent Q) (Nothing u flag) long e w g = absurd (none-spent (same-outcome e))
-  in-full (Placed.spent Q) (Spent u R) long e w g = (g .0 ∙ e, g .1 ∙ w)
-  in-full (Placed.spent Q) (Refused n) long e w g = absurd (refused-gives e)
+  in-full (Placed.hit y) (Nothing u flag) before after out r long e w g = absurd (found-none (sym (same-outcome e)))
+  in-full (Placed.hit y) (Spent u R) before after out r long e w g = absurd (found-spent (sym (same-outcome e)))
+  in-full (Placed.hit y) (Refused n) before after out r long e w g = absurd (refused-gives e)
+  in-full Placed.clear (Found u n) before after out r long e w g = absurd (found-none (same-outcome e))
+  in-full Placed.clear (Nothing u flag) before after out r long e w g = (g .0 ∙ e, g .1 ∙ w)
+  in-full Placed.clear (Spent u R) before after out r long e w g = absurd (none-spent (sym (same-outcome e)))
+  in-full Placed.clear (Refused n) before after out r long e w g = absurd (refused-gives e)
+  in-full (Placed.spent Q) (Found u n) before after out r long e w g = absurd (found-spent (same-outcome e))
+  in-full (Placed.spent Q) (Nothing u flag) before after out r long e w g = absurd (none-spent (same-outcome e))
+  in-full (Placed.spent Q) (Spent u R) before after out r long e w g = (g .0 ∙ e, g .1 ∙ w)
+  in-full (Placed.spent Q) (Refused n) before after out r long e w g = absurd (refused-gives e)
 
   pub full-is : (x : SearchAnswer) {before after out : List ℕ} {r : Answer Report} → length after ≡ len → FromTextIs c q b t place D before (said x) after
       → InFull p q b x after r out → FromOutputIs c q b t place D before r out
-  full-is x long h g =
-      let z = in-full (chosenUnder c q b t place D) x long (h .says) (h .shows) g in
+  full-is x {before} {after} {out} {r} long h g =
+      let z = in-full (chosenUnder c q b t place D) x before after out r long (h .says) (h .shows) g in
       record { says = z .0; allowed = h .allowed; shows = z .1 }
 
   -- what writing its witness out requires
