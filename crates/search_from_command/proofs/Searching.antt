@@ -45,7 +45,7 @@ left {out = out} {out′ = out′} b t place D (refused i) h s line {line′} l 
 left {out = out} {out′ = out′} {c = c} b t place D (gives o) h s line {line′} l n f z =
     let e = acted h s refl in
     let a = placeChosen c b t place D in
-    let text = λ (x : ℕ). witness b (run c t x) in
+    let text : ℕ → List ℕ = λ x. witness b (run c t x) in
     rw (e .0)
     (record {
       line-is = subst (λ (r : Report). Fronts (reportWords r) line l line′) (e .1 .chose) f;
