@@ -115,7 +115,7 @@ enum yunverok_kind {
 extern "C" {
 #endif
 
-/* The number of this interface: 2. It grows by 1 with each change of it. */
+/* The number of this interface: 2. It grows by 1 with each delivery that changes it. */
 uint64_t yunverok_version(void);
 
 /* Loads an AIGER 1.9 file, in ASCII or in binary form, told apart by the header's first word, aag or aig. User 0 alone may. Returns 0,
@@ -248,7 +248,7 @@ uint64_t yunverok_write(uint64_t user, const uint32_t *circuit, uint64_t circuit
    generator. Each latch's next literal, in file order, and then for each gate its first and its second operand takes one draw, the upper
    32 bits of the state after the step, modulo the number of literals that may stand there: 2M + 2 for a latch, 2v for the gate of
    variable v. The header has six numbers; there is no output, constraint, reset or tail, and the one bad line is the last gate. It needs no
-   memory but out and takes no user: nothing is loaded, and either user may load what is written. Returns 0, and the text stands at the
+   memory but out and takes no user: nothing is loaded, and user 0 may load what is written. Returns 0, and the text stands at the
    front of out; answer tells its length. Or returns 3 for inputs above 256, latches above 1,024, gates above 3,072, more than 4,096 of
    them together, no gate, or neither input nor latch; then 13 for an out that is shorter than the text; and out and answer are as they
    were. out needs the text's length, at most YUNVEROK_GENERATED; the bytes past the text are as they were. */

@@ -187,7 +187,7 @@ pub record Correct : Type 1 where
   pub memory-never-matters : {m m′ w w′ out out′ w₁ w₂ o₁ o₂ : List ℕ} {c : Circuit} {b k D : ℕ} {x y : Answer Report} → Holds m c → Holds m′ c
       → length w ≡ length w′ → length out ≡ length out′ → Searched chosen m b k D w out x w₁ o₁ → Searched chosen m′ b k D w′ out′ y w₂ o₂
       → (x ≡ y) × OneText out o₁ out′ o₂
-  -- ---- Request 13: more budget keeps an answer, of any two searches that are not refused, whatever their memories.
+  -- ---- Clause 12.16: more budget keeps an answer, of any two searches that are not refused, whatever their memories.
 
   -- found and none stay with every larger budget, with the same witness
   pub budget-keeps : {m m′ w w′ w₁ w₂ out out′ o₁ o₂ : List ℕ} {c : Circuit} {b k D E : ℕ} {o o′ : Report} → Holds m c → Holds m′ c → D ≤ E

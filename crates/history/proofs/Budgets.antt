@@ -1,4 +1,4 @@
--- Request 13: more budget keeps an answer of a user's search. Of two searches of one circuit by a user whose pins are the same, whatever
+-- Clause 12.16: more budget keeps an answer of a user's search. Of two searches of one circuit by a user whose pins are the same, whatever
 -- their memories, that are not refused. Assumes nothing.
 use mathlib.Core.Path.{_≡_, refl, sym, subst}
 use mathlib.Core.List.{List}

@@ -11,7 +11,7 @@ use Rattle.completions.specs.Either.{Verdict}
 use Rattle.answer_places.specs.Places.{done, found, none, spent, all, no, mixed, placesWith, places, noCounts, overlaid}
 use Rattle.call_forms.specs.History.{State, Call, Returned, Step}
 
--- the number of this interface: it grows by 1 with each change of it
+-- the number of this interface: it grows by 1 with each delivery that changes it
 abbrev pub version : ℕ
 version = 2
 

@@ -9,8 +9,8 @@ use generate::GenerateAnswer;
 use load::Counts;
 use load::Judgement;
 use load::LoadAnswer;
-use replay::ReplayAnswer;
 use place_limits::PlaceTerms;
+use replay::ReplayAnswer;
 use search::SearchAnswer;
 use search::Terms;
 use waveform::WaveformAnswer;
@@ -372,7 +372,14 @@ pub extern "C" fn yunverok_search_from(
         ⌝ }
 {
     tell_searched(
-        calls::search_from(user, shared, circuit, PlaceTerms { b, t, place, d }, work, out),
+        calls::search_from(
+            user,
+            shared,
+            circuit,
+            PlaceTerms { b, t, place, d },
+            work,
+            out,
+        ),
         answer,
     )
 }

@@ -21,9 +21,13 @@ fn say_help() {
     say(b"    USER pin INPUT VALUE    holds an input at 0 or 1 for this user, or frees it (2)\n");
     say(b"    USER search b k D       searches bad line b up to bound k, under the user's pins\n");
     say(
+        b"    USER search-from b t PLACE D      searches frame t alone, from a starting place on, under the user's pins\n",
+    );
+    say(
         b"    USER fold b t           the hit of bad line b at frame t, under the user's pins, as a circuit\n",
     );
     say(b"    USER write [binary]     the loaded circuit as text, or in binary form\n");
+    say(b"    USER write FORM         the same by number: 0 for text, 1 for binary form\n");
     say(
         b"    USER replay WITNESS     whether the completions of a witness are hits under the user's pins\n",
     );

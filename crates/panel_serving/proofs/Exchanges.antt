@@ -174,9 +174,9 @@ pub turns-unread : {q : RequestLine} {f : Fetched} {t : Told} {k : Resident} (s 
 turns-unread {q = q} {t = t} s out e a = Turns.unread e (a (take (q .count) (q .line)) s out)
 
 -- the bytes of the line
-pub serves-line : {q : RequestLine} {v : Served} {line : List ℕ} {n : ℕ} {s s′ : State} {out out′ : List ℕ} → line ≡ q .line → n ≡ q .count
+pub serves-line : (q : RequestLine) {v : Served} {line : List ℕ} {n : ℕ} {s s′ : State} {out out′ : List ℕ} → line ≡ q .line → n ≡ q .count
     → Serves (take n line) s out v s′ out′ → Serves (take (q .count) (q .line)) s out v s′ out′
-serves-line {q} {v} {line} {n} {s} {s′} {out} {out′} l c x =
+serves-line q {v} {line} {n} {s} {s′} {out} {out′} l c x =
     subst (λ (w : List ℕ). Serves (take (q .count) w) s out v s′ out′) l
     (subst (λ (i : ℕ). Serves (take i line) s out v s′ out′) c x)
 
@@ -186,10 +186,10 @@ turns-serves {q} {r} {s} {s′} {out} {out′} p e d x =
     Turns.serves (ap (λ (z : RequestLine). z .failed) p ∙ e) (ap (λ (z : RequestLine). z .ended) p ∙ d)
     (subst (λ (z : RequestLine). Serves (take (z .count) (z .line)) s out (r .served) s′ out′) (sym p) x)
 
-pub tallied-served : {q : RequestLine} {r : Turned} (n : Totals) → r .request ≡ q → q .failed ≡ false → q .ended ≡ false
+pub tallied-served : {q : RequestLine} (r : Turned) (n : Totals) → r .request ≡ q → q .failed ≡ false → q .ended ≡ false
     → totalsOf (r .after .tally) ≡ oneMore n (q .count) (r .served .told .response .count + r .served .told .response .out)
     → totalsOf (r .after .tally) ≡ tallied n (r .request) (r .served .told .response)
-tallied-served {q} {r} n p e d t =
+tallied-served {q} r n p e d t =
     t ∙ tallied-read n q (r .served .told .response) e d
     ∙ ap (λ (z : RequestLine). tallied n z (r .served .told .response)) (sym p)
 

@@ -14,7 +14,13 @@ pub struct Served {
 }
 
 // Answers a request that was read: reads the files that it names and prints the reply.
-pub fn serve(request: &[u8], m: &mut [u32], work: &mut [u32], pins: &mut [u8], out: &mut [u8]) -> Served
+pub fn serve(
+    request: &[u8],
+    m: &mut [u32],
+    work: &mut [u32],
+    pins: &mut [u8],
+    out: &mut [u8],
+) -> Served
     requires { ⌜ (length (now m) ≡ 33032) × (32 ≤ length (now out)) ⌝ }
     ensures { λ r. ⌜
         Serves (now (request .entry))

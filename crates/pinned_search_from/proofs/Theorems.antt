@@ -74,11 +74,11 @@ at-zero {c = c} {q = q} {b = b} {t = t} {D = D} {o = o} h s =
     let z = pinnedQuestion c q b in (
       alone-permitted z t D a (r .1),
       λ quiet.
-      subst (λ (y : Report). T (permittedOf z t D (y .outcome)) × T (reachedRight z D (y .outcome) (y .reached))) (sym (r .0))
-      (zero-permitted z t D a quiet (r .1), zero-tells z t D a (r .1)),
+          subst (λ (y : Report). T (permittedOf z t D (y .outcome)) × T (reachedRight z D (y .outcome) (y .reached))) (sym (r .0))
+          (zero-permitted z t D a quiet (r .1), zero-tells z t D a (r .1)),
     )
 
--- Request 13: what is not spent is answered with every larger budget, with the same witness
+-- Clause 12.16: what is not spent is answered with every larger budget, with the same witness
 pub budget-kept : {m m′ w w′ w₁ w₂ out out′ o₁ o₂ : List ℕ} {c : Circuit} {q : ℕ → ℕ} {b t place D E : ℕ} {o o′ : Report} → Holds m c → Holds m′ c
     → D ≤ E → PinnedSearchedFrom placeChosen m q b t place D w out (gives o) (w₁, o₁)
     → PinnedSearchedFrom placeChosen m′ q b t place E w′ out′ (gives o′) (w₂, o₂) → Decided (o .outcome) → (o′ ≡ o) × WroteAlike out o₁ out′ o₂

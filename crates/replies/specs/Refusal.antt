@@ -10,7 +10,7 @@ causes =
     []
     ∷ bytes "the file is empty or over 65,536 bytes"
     ∷ bytes "the header is malformed"
-    ∷ bytes "a count is too large, or I+L+A is above M, or not M in binary form"
+    ∷ bytes "a count is not permitted, or I+L+A is above M, or not M in binary form"
     ∷ bytes "circuit memory is too short"
     ∷ bytes "a line is missing or malformed, or the tail is wrong"
     ∷ bytes "a literal is above 2M+1, or a definition or reset is wrong"

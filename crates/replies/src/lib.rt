@@ -20,25 +20,25 @@ const STARTS: [usize; 23] = [
     0,
     38,
     61,
-    127,
-    154,
-    206,
-    264,
-    292,
-    318,
-    349,
-    365,
-    406,
-    462,
-    485,
-    534,
-    595,
-    627,
-    679,
-    724,
-    785,
-    824,
-    851,
+    131,
+    158,
+    210,
+    268,
+    296,
+    322,
+    353,
+    369,
+    410,
+    466,
+    489,
+    538,
+    599,
+    631,
+    683,
+    728,
+    789,
+    828,
+    855,
 ];
 
 // Writes a word, n and a line feed to the front of line. The answer is their length.
@@ -62,7 +62,7 @@ fn put_cause(line: &mut [u8], at: usize, n: u32) -> usize
     let words: &[u8] = b"\
         the file is empty or over 65,536 bytes\
         the header is malformed\
-        a count is too large, or I+L+A is above M, or not M in binary form\
+        a count is not permitted, or I+L+A is above M, or not M in binary form\
         circuit memory is too short\
         a line is missing or malformed, or the tail is wrong\
         a literal is above 2M+1, or a definition or reset is wrong\

@@ -14,9 +14,7 @@ fn say_help() {
     say(
         b"counting order, the first of which is 0, with a budget of D sequences. Earlier frames do not count. Prints one of\n",
     );
-    say(
-        b"    found t     and after that line the witness of the first hit at or after PLACE\n",
-    );
+    say(b"    found t     and after that line the witness of the first hit at or after PLACE\n");
     say(b"    none t      no sequence from PLACE on hits\n");
     say(
         b"    spent t R   more than D sequences are there from PLACE on, and none of those before place R hits: go on from R\n\n",

@@ -53,9 +53,20 @@ returns-4 c =
 returns-5 : tie.Need-returns-5
 returns-5 c =
     let p = c .before .before .before .before .generate .ensures in
-    rw (c .before .before .before .before .before .before .before .q4 .given .1) (record {
+    rw (c .before .before .before .before .before .before .before .before .q5 .given .1) (record {
       answer = p .answer;
       permitted = Step.generates (p .permitted);
+      line-is = p .line-is;
+      out-is = p .out-is;
+      inside = p .inside;
+    })
+
+returns-6 : tie.Need-returns-6
+returns-6 c =
+    let p = c .before .before .before .before .before .before .search-from .ensures in
+    rw (c .before .before .before .before .before .before .before .before .before .before .before .before .q6 .given .1) (record {
+      answer = p .answer;
+      permitted = Step.searchesFrom (p .permitted) (c .before .before .before .before .before .before .search-from .kept .1 .1 .1 .1 .0);
       line-is = p .line-is;
       out-is = p .out-is;
       inside = p .inside;
@@ -67,7 +78,7 @@ query-spec =
     (tie.spec
     (λ c. search needs) (λ c κs. search needs) (λ c. search needs) (λ c κs. search needs) (λ c. search needs)
     (λ c κs. search needs) (λ c. search needs) (λ c κs. search needs) (λ c. search needs) (λ c κs. search needs)
-    (λ c. search needs)
-    (λ c. search needs) returns (λ c. search needs) (λ c. search needs) (λ c. search needs) (λ c. search needs)
-    returns-2 (λ c. search needs) (λ c. search needs) (λ c. search needs) (λ c. search needs) returns-3 (λ c. search needs)
-    (λ c. search needs) returns-4 (λ c. search needs) (λ c. search needs) returns-5)
+    (λ c. search needs) (λ c κs. search needs) (λ c. search needs) (λ c. search needs) returns (λ c. search needs)
+    (λ c. search needs) (λ c. search needs) (λ c. search needs) returns-2 (λ c. search needs) (λ c. search needs)
+    (λ c. search needs) (λ c. search needs) returns-3 (λ c. search needs) (λ c. search needs) returns-4 (λ c. search needs)
+    (λ c. search needs) returns-5 (λ c. search needs) (λ c. search needs) (λ c. search needs) (λ c. search needs) returns-6)

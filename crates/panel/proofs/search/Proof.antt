@@ -7,23 +7,21 @@ use Rattle.panel.proofs.search.Tie as tie
 
 returns : tie.Need-returns
 returns c =
-    let at-write-answer = c .before .before in
-    let at-shown-length = at-write-answer .before .before in
-    let at-search = at-shown-length .before .before .before .before .before in
-    let start = at-search .before .before .before .before .before .before .before .before in
+    let s = c .before .before .before .before .before .before .before .before .search in
+    let p = c .before .before .report-search .ensures in
+    let a = c .before .before .before .before .before .before .before .before .before .before .before .before .before .before .before .before .args in
     record {
-      answer = said (at-search .search .result);
-      permitted = at-search .search .ensures;
-      line-is = at-write-answer .write-answer .ensures;
-      out-is = at-shown-length .shown-length .ensures;
-      inside = shown-inside (start .args .m .now) (start .args .pins .now) (start .args .work .now) (start .args .out .now) (start .args .user)
-          (start .args .q .b) (start .args .q .k) (start .args .q .d) (at-search .search .result) (at-search .search .ensures) (at-search .search .kept .1 .1 .1 .1 .1 .0)
-          (at-shown-length .shown-length .ensures);
+      answer = said (s .result);
+      permitted = s .ensures;
+      line-is = p .0;
+      out-is = p .1;
+      inside =
+          shown-inside (a .m .now) (a .pins .now) (a .work .now) (a .out .now) (a .user) (a .q .b) (a .q .k) (a .q .d) (s .result) (s .ensures)
+          (s .kept .1 .1 .1 .1 .1 .0) (p .1);
     }
 
 pub search-spec : {M : Type 1} → statement M
 search-spec =
     tie.close
     (tie.spec
-    (λ c κs. search needs) (λ c κs. search needs) (λ c κs. search needs) (λ c. search needs) (λ c. search needs) (λ c. search needs)
-    returns)
+    (λ c κs. search needs) (λ c κs. search needs) (λ c. search needs) (λ c. search needs) (λ c. search needs) returns)

@@ -10,16 +10,16 @@ use Rattle.pinned_search_from.proofs.search_from.Statement.{statement}
 use Rattle.pinned_search_from.proofs.search_from.Tie as tie
 
 none-held-requires : tie.Need-none-held-requires
-none-held-requires c κs =     omega arith
+none-held-requires c κs = omega arith
 
 search-from-requires : tie.Need-search-from-requires
-search-from-requires c κs =     tt
+search-from-requires c κs = tt
 
 same-length : tie.Need-same-length
-same-length c =     c .before .before .before .before .search-from .kept .1 .1 .0
+same-length c = c .before .before .before .before .search-from .kept .1 .1 .0
 
 same-length-2 : tie.Need-same-length-2
-same-length-2 c =     c .before .before .before .before .search-from .kept .1 .1 .1 .0
+same-length-2 c = c .before .before .before .before .search-from .kept .1 .1 .1 .0
 
 returns : tie.Need-returns
 returns c =
@@ -28,25 +28,25 @@ returns c =
     plain-from q (held-free q (sym (c .before .before .before .before .before .before .before .before .none-held .ensures) ∙ c .before .before .before .before .before .before .before .if1 .taken)) (c .before .before .before .before .search-from .ensures)
 
 search-held-requires : tie.Need-search-held-requires
-search-held-requires c κs =     omega arith
+search-held-requires c κs = omega arith
 
 same-length-3 : tie.Need-same-length-3
-same-length-3 c =     c .before .before .before .before .search-held .kept .1 .1 .1 .1 .0
+same-length-3 c = c .before .before .before .before .search-held .kept .1 .1 .1 .1 .0
 
 same-length-4 : tie.Need-same-length-4
-same-length-4 c =     c .before .before .before .before .search-held .kept .1 .1 .1 .1 .1 .0
+same-length-4 c = c .before .before .before .before .search-held .kept .1 .1 .1 .1 .1 .0
 
 returns-2 : tie.Need-returns-2
-returns-2 c =     searched-for (c .before .before .before .before .before .before .before .before .before .before .before .before .before .before .args .pins .now) (c .before .before .before .before .before .before .before .if2 .taken) (c .before .before .before .before .search-held .ensures)
+returns-2 c = searched-for (c .before .before .before .before .before .before .before .before .before .before .before .before .before .before .args .pins .now) (c .before .before .before .before .before .before .before .if2 .taken) (c .before .before .before .before .search-held .ensures)
 
 search-held-requires-2 : tie.Need-search-held-requires-2
-search-held-requires-2 c κs =     omega arith
+search-held-requires-2 c κs = omega arith
 
 same-length-5 : tie.Need-same-length-5
-same-length-5 c =     c .before .before .before .before .search-held2 .kept .1 .1 .1 .1 .0
+same-length-5 c = c .before .before .before .before .search-held2 .kept .1 .1 .1 .1 .0
 
 same-length-6 : tie.Need-same-length-6
-same-length-6 c =     c .before .before .before .before .search-held2 .kept .1 .1 .1 .1 .1 .0
+same-length-6 c = c .before .before .before .before .search-held2 .kept .1 .1 .1 .1 .1 .0
 
 returns-3 : tie.Need-returns-3
 returns-3 c =

@@ -24,10 +24,10 @@ inputs-free : {m : List ℕ} {p : Layout} (q : ℕ → ℕ) → Holds m (circuit
 inputs-free {m} q h a e = free-inputs (circuitIn m) q ∙ ap (freeInputs q) (sym (counts-of h a .inputs)) ∙ sym e
 
 test-requires : tie.Need-test-requires
-test-requires c κs =     tt
+test-requires c κs = tt
 
 returns : tie.Need-returns
-returns c =     Operated.noCircuit (rw (c .enum-told .given .1) at (c .before .before .test .ensures))
+returns c = Operated.noCircuit (rw (c .enum-told .given .1) at (c .before .before .test .ensures))
 
 free-inputs-requires : tie.Need-free-inputs-requires
 free-inputs-requires c κs =
@@ -64,10 +64,10 @@ search-known-requires c κs =
     }
 
 same-length : tie.Need-same-length
-same-length c =     c .before .before .before .before .search-known .kept .1 .1 .1 .1 .1 .0
+same-length c = c .before .before .before .before .search-known .kept .1 .1 .1 .1 .1 .0
 
 same-length-2 : tie.Need-same-length-2
-same-length-2 c =     c .before .before .before .before .search-known .kept .1 .1 .1 .1 .1 .1 .0
+same-length-2 c = c .before .before .before .before .search-known .kept .1 .1 .1 .1 .1 .1 .0
 
 returns-3 : tie.Need-returns-3
 returns-3 c =

@@ -15,7 +15,7 @@ cast-b c =
     omega (arith, fits-all (s .pre) .bad, counts-fit (circuitIn (s .args .m .now)) (held-valid (s .pre .held) .fit) .bads)
 
 search-text-requires : tie.Need-search-text-requires
-search-text-requires c κs =     c .before .before .before .before .before .before .before .pre
+search-text-requires c κs = c .before .before .before .before .before .before .before .pre
 
 in-full-requires : tie.Need-in-full-requires
 in-full-requires c κs =
@@ -23,10 +23,10 @@ in-full-requires c κs =
     fits-full (c .before .before .before .before .before .before .before .before .before .before .before .before .before .pre) (x .result) (x .kept .1 .1 .1 .1 .1 .1 .0) (x .ensures)
 
 same-length : tie.Need-same-length
-same-length c =     c .before .before .before .before .before .before .before .before .search-text .kept .1 .1 .1 .1 .1 .0
+same-length c = c .before .before .before .before .before .before .before .before .search-text .kept .1 .1 .1 .1 .1 .0
 
 same-length-2 : tie.Need-same-length-2
-same-length-2 c =     c .before .before .in-full .kept .1 .1 .1 .1 .1 .0 ∙ c .before .before .before .before .before .before .before .before .search-text .kept .1 .1 .1 .1 .1 .1 .0
+same-length-2 c = c .before .before .in-full .kept .1 .1 .1 .1 .1 .0 ∙ c .before .before .before .before .before .before .before .before .search-text .kept .1 .1 .1 .1 .1 .1 .0
 
 returns : tie.Need-returns
 returns c =

@@ -42,7 +42,7 @@ returns-3 c =
     let e = c .before .before .before .before .served .ensures in (
       turns-serves (e .1 .0) failed ended (e .0),
       (
-        tallied-served (totalsOf (c .before .before .before .before .before .before .before .before .before .before .before .before .before .before .args .before .tally)) (e .1 .0) failed ended (e .1 .2),
+        tallied-served (c .before .before .before .before .served .result) (totalsOf (c .before .before .before .before .before .before .before .before .before .before .before .before .before .before .args .before .tally)) (e .1 .0) failed ended (e .1 .2),
         received-same (e .1 .0) (c .before .before .before .before .before .before .before .before .before .before .before .receive .ensures),
         e .1 .1,
       ),
