@@ -55,7 +55,8 @@ pub data TurnAnswer : Type 0 where
 -- `asked` has the free bits: they differ under pins alone
 abbrev pub entryTests : Circuit → Circuit → Entry → ℕ → ℕ → List Test
 entryTests asked c e room len =
-    badTest c (e .b) ∷ placeTest asked (e .frame) (e .place) ∷ sizeTest c (e .k) room ∷ need 13 (leb (witnessLength c (e .b) (e .k)) len) ∷ []
+    badTest c (e .b) ∷ placeTest asked (e .frame) (e .place) ∷ sizeTest c (e .k) room
+    ∷ need 13 (leb (witnessLength c (e .b) (e .k)) len) ∷ []
 
 -- an idle turn has none
 abbrev pub testsAt : Circuit → Circuit → Bench → ℕ → ℕ → Option ℕ → List Test
@@ -84,7 +85,8 @@ pub data TurnEffect (chosen : Circuit → ℕ → ℕ → ℕ → ℕ → Placed
       → TurnEffect chosen asked effect user w out shared c (TurnAnswer.turn n (grantOf (benchOf shared user) n) r)
       (w′, out′, bytesAfter shared user (benchOf shared user) n (placedAt chosen (asked c) (benchOf shared user) n))
 
-abbrev pub TurnTaken : (Circuit → ℕ → ℕ → ℕ → ℕ → Placed) → (Circuit → Circuit) → (ℕ → ℕ → ℕ → ℕ → List ℕ → Circuit → Report → List ℕ × List ℕ → Type 0)
+abbrev pub TurnTaken : (Circuit → ℕ → ℕ → ℕ → ℕ → Placed) → (Circuit → Circuit)
+    → (ℕ → ℕ → ℕ → ℕ → List ℕ → Circuit → Report → List ℕ × List ℕ → Type 0)
     → List ℕ → ℕ → List ℕ → List ℕ → List ℕ → Answer TurnAnswer → List ℕ × List ℕ × List ℕ → Type 0
 TurnTaken chosen asked effect m user w out shared a left =
     Operated m (λ c. turnTests (asked c) c (benchOf shared user) (length w) (length out)) (w, out, shared)

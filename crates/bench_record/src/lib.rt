@@ -335,7 +335,10 @@ pub fn put_turned(shared: &mut [u8], user: usize, n: usize, allowance: u64, e: E
 // Stores what a turn of number n leaves whose search found a hit.
 pub fn settle_hit(shared: &mut [u8], user: usize, n: usize)
     requires { ⌜ (user ≤ 1) × (Bench.turnOf (Bytes.benchOf (now shared) user) ≡ Option.some n) ⌝ }
-    ensures { λ r. ⌜ ((x : ℕ) → now (shared .exit) ≡ Calls.bytesAfter (now (shared .entry)) user (Bytes.benchOf (now (shared .entry)) user) n (Placed.hit x)) ⌝ }
+    ensures { λ r. ⌜
+        ((x : ℕ) → now (shared .exit)
+        ≡ Calls.bytesAfter (now (shared .entry)) user (Bytes.benchOf (now (shared .entry)) user) n (Placed.hit x))
+        ⌝ }
 {
     let e = entry_of(shared, user, n);
     let allowance = allowance_of(shared, user);

@@ -4,7 +4,7 @@ use Rattle.panel.proofs.report_search.Statement.{statement}
 use Rattle.panel.proofs.report_search.Tie as tie
 
 returns : tie.Need-returns
-returns c =     (c .before .before .write-answer .ensures, c .before .before .before .before .shown-length .ensures)
+returns c = (c .before .before .write-answer .ensures, c .before .before .before .before .shown-length .ensures)
 
 pub report-search-spec : {M : Type 1} → statement M
 report-search-spec =
