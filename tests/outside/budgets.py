@@ -1,7 +1,7 @@
-"""Request 13: asks random questions through the C interface under budgets that double and bounds that rise, with pins, with exactly the words and
-bytes that are needed and with more. Found and none must stay, with the same witness: under every larger budget, found under every larger
+"""Clause 12.16: asks random questions through the C interface under budgets that double and bounds that rise, with pins, with exactly the words
+and bytes that are needed and with more. Found and none must stay, with the same witness: under every larger budget, found under every larger
 bound, none under every smaller one. The place that a spent search tells must be one that it may tell, and no hit that is found stands before
-it. The last line is `N asked, M differ`."""
+it. The same of searches of one frame from random places under budgets that double. The last line is `N asked, M differ`."""
 import argparse
 import ctypes
 import sys
@@ -78,12 +78,12 @@ def lent(memory, kind, length):
     return (kind * length).from_buffer(memory)
 
 
-def ask(library, user, b, k, d, words, length):
+def ask(library, name, user, numbers, words, length):
     """The kind, the frame, the text at the front of the output and the place that was reached."""
     work, out = lent(library.work, ctypes.c_uint32, words), lent(library.out, ctypes.c_uint8, length)
-    refused = library.call("search", user, library.shared, library.memory, b, k, d, work, out)
+    refused = library.call(name, user, library.shared, library.memory, *numbers, work, out)
     if refused:
-        raise tools.ToolError(f"search refused {refused}")
+        raise tools.ToolError(f"{name} refused {refused}")
     told = library.answer
     return ANSWERS[told[pins.KIND]], told[pins.FRAME], bytes(out[:told[pins.LENGTH]]), told[pins.REACHED]
 
@@ -92,11 +92,11 @@ def bits(c, held, t):
     return len(c.free()) + (len(c.inputs) - len(held)) * (t + 1)
 
 
-def reached_right(answer, n, d):
+def reached_right(answer, n, d, lo=0):
     kind, _, text, reached = answer
     if kind != "spent":
         return reached == 0
-    return not text and d <= reached <= 1 << 62 and reached < 1 << n
+    return not text and min(lo + d, 1 << 62) <= reached <= 1 << 62 and reached < 1 << n and lo + d < 1 << n
 
 
 def disagreements(given):
@@ -163,8 +163,8 @@ class Run:
         for d in self.budgets:
             for k in bounds:
                 words, length = needed(c, b, k)
-                told = ask(self.library, user, b, k, d, words, length)
-                more = ask(self.library, user, b, k, d, pins.WORK, pins.WITNESS)
+                told = ask(self.library, "search", user, (b, k, d), words, length)
+                more = ask(self.library, "search", user, (b, k, d), pins.WORK, pins.WITNESS)
                 self.asked += 2
                 told = self.spoiled(told, d)
                 given[k, d] = told
@@ -174,6 +174,28 @@ class Run:
                 self.note(title, faults)
         self.note(title, disagreements(given))
         self.note(title, hits_before(c, held, given))
+        self.answer_from(title, c, user, held, b, bounds[self.r.below(len(bounds))])
+
+    def answer_from(self, title, c, user, held, b, t):
+        """Frame t alone, from a random place, under budgets that double: what is not spent stays."""
+        n = bits(c, held, t)
+        lo = self.r.below(min(1 << n, 1 << 62)) >> self.r.below(min(n, 62) + 1)
+        words, length = needed(c, b, t)
+        settled = None
+        for d in self.budgets:
+            told = self.spoiled(ask(self.library, "search_from", user, (b, t, lo, d), words, length), d)
+            more = ask(self.library, "search_from", user, (b, t, lo, d), pins.WORK, pins.WITNESS)
+            self.asked += 2
+            self.kinds[f"{told[0]} from a place"] = self.kinds.get(f"{told[0]} from a place", 0) + 1
+            where = f"frame {t}, place {lo}, budget {d}"
+            faults = [] if told == more or self.spoil else [f"{where}: {told[:2]} with the words needed, {more[:2]} with more"]
+            faults += [] if reached_right(told, n, d, lo) else [f"{where}: place {told[3]} told"]
+            faults += [] if settled in (None, told) else [f"{where}: {told[:2]}, with a smaller budget {settled[:2]}"]
+            if told[0] == "found" and place(c, held, told[2]) < lo:
+                faults.append(f"{where}: found a hit before the place")
+            if told[0] != "spent":
+                settled = told
+            self.note(title, faults)
 
 
 def main():
