@@ -74,7 +74,7 @@ def main():
     for path in sorted(glob.glob(os.path.join(root, "crates", "*", "**", "*"), recursive=True)):
         if not path.endswith((".rt", ".antt")) or "/out/" in path:
             continue
-        text = open(path, encoding="utf-8").read()
+        text = was = open(path, encoding="utf-8").read()
         code = path.endswith(".rt")
         if look:
             words = set(re.findall(r"[A-Za-z_][A-Za-z0-9_']*", text))
@@ -88,7 +88,7 @@ def main():
         new = turn(text, code)
         if code:
             new = tactics(path, derives(new))
-        if new != text:
+        if new != was:
             open(path, "w", encoding="utf-8").write(new)
 
 

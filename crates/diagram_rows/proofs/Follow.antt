@@ -18,7 +18,7 @@ use Rattle.literals.specs.Literal.{literal}
 use Rattle.literals.specs.declared.Lit.{Lit}
 use Rattle.layout.specs.Words.{word}
 use Rattle.meaning.specs.Frame.{input_at, gate_at}
-use Rattle.meaning.proofs.Lists.{get_d_map}
+use Rattle.meaning.proofs.Lists.{get_or-map}
 use Rattle.diagrams.specs.States.{State, Outcome, outcome, and_then, made}
 use Rattle.conjunction.specs.Conjunction.{both}
 use Rattle.diagram_rows.specs.Rows.{is_present, edge_in, Filled, filled, fill_then, fill_from, leaves, noted_in, latch_literal, next_literal, latches_put, bits_put, gate_put, gate_put_in, gates_put, with_literal, with_literals, row_words, row_end, blank, row_made, plan_of, plan_length, row_in}
@@ -206,7 +206,7 @@ row-whole f xs n ws con hit e l b =
     elim (dec_lt k n) [
       | yes z ↦
           get_or-set_other (set ws n con) (n + 1) k hit 0 (λ q. omega arith) ∙ get_or-set_other ws n k con 0 (λ q. omega arith) ∙ b k z
-          ∙ sym (get_or-append (map f xs) (con ∷ hit ∷ []) 0 k (omega arith) ∙ get_d_map f xs k 0 0 (omega arith))
+          ∙ sym (get_or-append (map f xs) (con ∷ hit ∷ []) 0 k (omega arith) ∙ get_or-map f xs k 0 0 (omega arith))
       | no z ↦
           elim (ℕ_discrete k n) [
             | yes u ↦

@@ -18,7 +18,7 @@ use Rattle.aiger.specs.Frames as frames
 use Rattle.aiger.proofs.Tests.{T_true, true-T}
 use Rattle.literals.specs.Literal.{literal}
 use Rattle.meaning.specs.Frame.{input_at, latch_at, gate_at}
-use Rattle.meaning.proofs.Lists.{get_d_map, get_d-same, every-at}
+use Rattle.meaning.proofs.Lists.{get_or-map, get_d-same, every-at}
 use Rattle.frames.specs.Lanes.{constrained_in, hit_in}
 use Rattle.diagrams.specs.States.{State, Outcome, made}
 use Rattle.diagrams.specs.declared.Vertex.{Vertex}
@@ -289,7 +289,7 @@ module _ (c : Circuit) (p : Plan) (r : ℕ) where
                 subst (λ (x : ℕ). Means c p r (λ w. frames.value w (latch_at c j).next) ns x)
                 (sym
                 (get_or-append (map (λ j. edge_in m (next_literal c j)) p.latches) (con ∷ hit ∷ []) 0 v (omega (arith, size))
-                ∙ get_d_map (λ j. edge_in m (next_literal c j)) p.latches v 0 0 l))
+                ∙ get_or-map (λ j. edge_in m (next_literal c j)) p.latches v 0 0 l))
                 (told-literal t (latch_at c j).next
                 (true-T (is_present m (next_literal c j)) (every-at (λ j. is_present m (next_literal c j)) p.latches v 0 l (T_true e))));
             con =

@@ -16,7 +16,7 @@ use Rattle.aiger.specs.Frames.{Run, run_in, run, free_bits}
 use Rattle.aiger.specs.Search.{Outcome, question, permitted, reaches, first_at, first_witness}
 use Rattle.aiger.specs.Witness.{bit_line, bit_lines, witness, witness_length}
 use Rattle.aiger.specs.Operations.{front}
-use Rattle.meaning.proofs.Lists.{length-map-upto, get_d_map}
+use Rattle.meaning.proofs.Lists.{length-map-upto, get_or-map}
 use Rattle.meaning.proofs.Outcomes.{found-out, first-witness}
 use Rattle.meaning.proofs.Decisions.{first-from}
 use Rattle.meaning.proofs.Sequences.{run-shaped}
@@ -112,7 +112,7 @@ module _ (c : Circuit) (q : ℕ → ℕ) where
       ext_get_or [] s.rows (map F r.rows) (l ∙ sym (length-map r.rows F ∙ shape.frames))
       (λ u h.
       (run-fills c q t x).row u (omega arith)
-      ∙ sym (get_d_map F r.rows u [] [] (omega (arith, shape.frames))))
+      ∙ sym (get_or-map F r.rows u [] [] (omega (arith, shape.frames))))
 
   -- the text of a run of the pinned circuit, written out
   pub expanded-run : (b t x : ℕ) (text z : List ℕ) → text ≡ witness b (run (pinned c q) t x) ++ z

@@ -1,9 +1,9 @@
 -- A content with one read more. Assumes nothing.
 use mathlib.Core.Path.{◌≡◌, refl, sym, ap, ap₂, ◌∙◌, subst}
-use mathlib.Core.Bool.{Bool, true, false, cond, ◌||◌}
+use mathlib.Core.Bool.{Bool, true, false, ◌||◌}
 use mathlib.Core.List.{List, [], ◌∷◌, ◌++◌, append-nil, append_assoc}
-use mathlib.Core.Logic.{◌⊎◌, inl, inr}
-use Prim.Native.Nat.{ℕ, suc, ◌+◌, ◌-◌, ◌≤◌, ◌<◌, zero-le}
+use mathlib.Core.Logic.{◌⊎◌, inl}
+use Prim.Native.Nat.{ℕ, ◌+◌, ◌-◌, ◌≤◌, ◌<◌}
 use native.Mathlib.Numerals.{add-one}
 use native.Mathlib.Omega.{arith}
 use lib.Dec.{eqb}
@@ -11,13 +11,11 @@ use lib.Seq.{take_all, take_at, take-take, length-take-le}
 use lib.ListN.{length, take, drop, length-append, length-drop, length-replicate, drop_of_length-le}
 use borrow.Author.Tests.{eq-eqb, ne_eqb}
 use borrow.Rule.Slice.PartMut.{put_mid}
-use Rattle.io.specs.Counts.{IsPrefixLen}
-use Rattle.input.specs.Reading.{count_given}
-use Rattle.input.specs.Contents.{size_of, piece_of, text_of, nothing, extended, gathered, bytes_of, is_done, NoneDone, Grows, GoesOn, Whole, Within, Delivered}
+use Rattle.input.specs.Reading.{IsPrefixLen, count_given}
+use Rattle.input.specs.Contents.{size_of, piece_of, text_of, nothing, extended, gathered, bytes_of, is_done, NoneDone, Grows, Whole, Within, Delivered}
 use Rattle.input.specs.declared.content.Chunk.{Chunk}
 use Rattle.input.specs.declared.content.Content.{Content}
 use Rattle.input.specs.declared.content.Extended.{Extended}
-use Rattle.input.proofs.Numbers.{differ}
 
 -- ---- the bytes of a read, copied behind those before them
 

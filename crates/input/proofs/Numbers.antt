@@ -1,21 +1,19 @@
 -- The number that a read gave, above 0, 0 or below it. Assumes nothing.
-use mathlib.Core.Path.{◌≡◌, refl, sym, ap, ◌∙◌, subst}
+use mathlib.Core.Path.{◌≡◌, refl, sym, ap}
 use mathlib.Core.Bool.{Bool, true, false, cond}
 use mathlib.Core.List.{List, ◌++◌}
-use Prim.Native.Nat.{ℕ, ◌+◌, ◌≤◌, ◌<◌, ◌^◌, zero-le}
+use Prim.Native.Nat.{ℕ, ◌≤◌, ◌<◌, ◌^◌, zero-le}
 use native.Mathlib.Omega.{arith}
-use lib.Dec.{T, ltb}
+use lib.Dec.{T}
 use lib.IntN.{ℤ, pos, negsuc, nat_abs}
 use lib.Signed.{lt_z, non_neg, mag}
-use lib.ListN.{length, take, length-append}
+use lib.ListN.{length, length-append}
 use mir.Syntax.{w64}
-use mir.Val.{Fits, SFits, to_z, of_z}
+use mir.Val.{Fits, to_z, of_z}
 use mir.ValLaws.{to_z-of_z}
 use lib.Seq.{length-take-le}
 use borrow.Author.Tests.{ltb-false, le-ltb}
-use Rattle.io.specs.Counts.{IsPrefixLen}
-use Rattle.libc.specs.Io.{Moved}
-use Rattle.input.specs.Reading.{count_given, is_failure}
+use Rattle.input.specs.Reading.{IsPrefixLen, count_given, is_failure}
 
 pub differ : {A : Type 0} → false ≡ true → A
 differ e = let z : ◌≡◌ {A = ℕ} 0 1 = ap (λ (b : Bool). cond b 1 0) e in absurd (omega (arith, z))
@@ -39,11 +37,6 @@ pub not-above : (z : ℤ) → lt_z (pos 0) z ≡ false → 0 ≡ count_given z
 not-above (pos k) e = omega (arith, ltb-false 0 k e)
 not-above (negsuc k) e = refl
 
--- what the system may give counts bytes of the buffer
-moved-counts : (buf : List ℕ) (z : ℤ) {n : ℕ} → n ≡ length buf → Moved n z → IsPrefixLen (count_given z) buf
-moved-counts buf (pos k) e m = (omega (arith, e, m), sym (length-take-le k buf (omega (arith, e, m))))
-moved-counts buf (negsuc k) e m = (zero-le, refl)
-
 -- a number that a field or a variable holds is read back
 pub read_back : (z : ℤ) → mag z < 2 ^ 63 → to_z w64 (of_z w64 z) ≡ z
 read_back z l = to_z-of_z w64 z (record { sfits = l })
@@ -56,10 +49,6 @@ absolute-fits (negsuc k) l = record { fits = omega (arith, l) }
 pub failure-none : (z : ℤ) → is_failure z ≡ true → count_given z ≡ 0
 failure-none (pos k) e = differ e
 failure-none (negsuc k) e = refl
-
--- what the system gave, as it stands in a field
-pub given-counts : (buf : List ℕ) (z : ℤ) {n : ℕ} → mag z < 2 ^ 63 → n ≡ length buf → Moved n z → IsPrefixLen (count_given (to_z w64 (of_z w64 z))) buf
-given-counts buf z l e m = subst (λ (y : ℤ). IsPrefixLen (count_given y) buf) (sym (read_back z l)) (moved-counts buf z e m)
 
 -- a number that counts bytes of a part counts bytes of the whole
 pub counts-front : {n k : ℕ} (part rest : List ℕ) → length part ≡ k → IsPrefixLen n part → (n ≤ k) × IsPrefixLen n (part ++ rest)

@@ -1,7 +1,6 @@
 -- The bytes of a file, read by read. What each read gives is said by the system; what becomes of it is said here. Assumes nothing.
 use Rattle.std.specs.Prelude.{◌≡◌, Bool, true, false, ◌||◌, List, [], ◌∷◌, ◌++◌, ◌⊎◌, ℕ, ◌+◌, ◌≤◌, ◌<◌, eqb, negsuc, length, take, drop, replicate}
-use Rattle.io.specs.Counts.{IsPrefixLen}
-use Rattle.input.specs.Reading.{count_given, is_failure}
+use Rattle.input.specs.Reading.{IsPrefixLen, count_given, is_failure}
 use Rattle.input.specs.declared.content.Chunk.{Chunk}
 use Rattle.input.specs.declared.content.Content.{Content}
 use Rattle.input.specs.declared.content.Extended.{Extended}

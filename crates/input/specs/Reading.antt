@@ -1,7 +1,10 @@
 -- What a read says of the buffer that it was lent. Assumes nothing.
-use Rattle.std.specs.Prelude.{◌≡◌, Bool, true, false, List, ℕ, ℤ, pos, negsuc}
-use Rattle.io.specs.Counts.{IsPrefixLen}
+use Rattle.std.specs.Prelude.{◌≡◌, ◌≤◌, Bool, true, false, List, ℕ, ℤ, pos, negsuc, length, take}
 use Rattle.input.specs.declared.reading.Read.{Read}
+
+-- n counts bytes at the front of a list
+abbrev pub IsPrefixLen : ℕ → List ℕ → Type 0
+IsPrefixLen n xs = (n ≤ length xs) × (n ≡ length (take n xs))
 
 -- how many bytes a read gave, by the number that the system gave
 abbrev pub count_given : ℤ → ℕ

@@ -1,15 +1,15 @@
 // The bytes of a file, gathered read by read. The fields are this module's own, so that a content grows by what a read gave, and by nothing
 // else.
 ghost use Rattle.std.specs.Prelude.{◌≡◌, ℕ, ◌+◌, ◌≤◌, ◌<◌, length, take};
-ghost use Rattle.io.specs.Counts.{IsPrefixLen};
-ghost use Rattle.input.specs.Reading.{is_failure};
+ghost use Rattle.input.specs.Reading.{IsPrefixLen, is_failure};
 ghost use Rattle.input.specs.Contents.{nothing, size_of, extended, Within, Grows, GoesOn};
 
 use crate::reading;
 use crate::reading::Read;
+use std::io;
 
 // What one read gave: its bytes, at the front, and the number that the system gave.
-#[derive(Drop)]
+#[derive(Clone, Copy)]
 pub struct Chunk {
     bytes: [u8; 4096],
     read: Read,
@@ -17,7 +17,7 @@ pub struct Chunk {
 
 // The bytes of a file so far, at the front; how many they are; how many reads there were; and the last of them. A witness has at most
 // 66,825 bytes, and no file that is not refused has more.
-#[derive(Drop)]
+#[derive(Clone, Copy)]
 pub struct Content {
     bytes: [u8; 66826],
     count: usize,
@@ -45,12 +45,12 @@ pub fn unread() -> Content
 }
 
 // Reads once, at most n bytes.
-fn read_chunk(fd: i32, n: usize) -> Chunk
+fn read_chunk<R: io::Read>(source: &mut R, n: usize) -> Chunk
     requires { n ≤ 4096 }
     ensures { (size_of result ≤ n) × IsPrefixLen (size_of result) result.bytes }
 {
-    let mut bytes = io::buffer();
-    let read = reading::read_once(fd, &mut bytes[..n]);
+    let mut bytes = [0u8; 4096];
+    let read = reading::read_once(source, &mut bytes[..n]);
     Chunk { bytes, read }
 }
 
@@ -77,7 +77,7 @@ fn joined(c: Content, chunk: Chunk) -> Content
     let k = reading::count_of(read);
     let piece = chunk.bytes;
     let mut all = c.bytes;
-    bytes::copy(&piece[..k], &mut all[n..]);
+    all[n..n + k].copy_from_slice(&piece[..k]);
     Content {
         bytes: all,
         count: n + k,
@@ -87,11 +87,11 @@ fn joined(c: Content, chunk: Chunk) -> Content
 }
 
 // Reads once more.
-pub fn advance(c: Content, fd: i32) -> Extended
+pub fn advance<R: io::Read>(c: Content, source: &mut R) -> Extended
     requires { Within c × (c.reads < 18446744073709551615) }
     ensures { Grows c result }
 {
-    let chunk = read_chunk(fd, asked(c.count));
+    let chunk = read_chunk(source, asked(c.count));
     let content = joined(c, chunk);
     Extended { content, chunk }
 }
@@ -139,4 +139,9 @@ pub fn is_failed(c: Content) -> bool
 {
     let last = c.last;
     reading::has_failed(last)
+}
+
+// The number of the error with which the last read failed, as the system counts them.
+pub fn error_of(c: Content) -> i32 {
+    reading::error_of(c.last)
 }

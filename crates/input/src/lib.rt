@@ -3,21 +3,24 @@
 
 mod content;
 mod reading;
+mod telling;
 
 ghost use Rattle.std.specs.Prelude.{◌≡◌, ◌≤◌, length};
 ghost use Rattle.input.specs.Reading.{is_failure};
 ghost use Rattle.input.specs.Contents.{Within, Whole, Delivered, Ended};
 
-pub use content::{Chunk, Content, bytes_of, is_failed, size_of, unread};
-pub use reading::{Read, count_of, has_failed, read_once};
+pub use content::{Chunk, Content, bytes_of, error_of, is_failed, size_of, unread};
+pub use reading::{Read, count_of, error_of as read_error_of, has_failed, read_once};
+use std::io;
+pub use telling::{fail, note, write_all};
 
 // Reads an open file until it ends, a read fails, or 66,826 bytes were read.
-pub fn read_content(fd: i32) -> Content
+pub fn read_content<R: io::Read>(source: &mut R) -> Content
     ensures { Whole result }
 {
-    let mut got = content::advance(content::unread(), fd);
+    let mut got = content::advance(content::unread(), source);
     while content::goes_on(got) {
-        got = content::advance(content::content_of(got), fd);
+        got = content::advance(content::content_of(got), source);
     }
     content::content_of(got)
 }
@@ -31,9 +34,11 @@ pub fn deliver(c: Content, buf: &mut [u8]) -> usize
     let n = content::size_of(c);
     let room = buf.len();
     if n <= room {
-        return bytes::copy(&bytes[..n], buf);
+        buf[..n].copy_from_slice(&bytes[..n]);
+        return n;
     }
-    bytes::copy(&bytes[..room], buf)
+    buf.copy_from_slice(&bytes[..room]);
+    room
 }
 
 // How many bytes stand in a buffer, whether a read failed, and what was read. The last field is this crate's own.
@@ -45,10 +50,10 @@ pub struct Got {
 }
 
 // Reads an open file into the front of buf, as much as has room.
-pub fn read_all(fd: i32, buf: &mut [u8]) -> Got
+pub fn read_all<R: io::Read>(source: &mut R, buf: &mut [u8]) -> Got
     ensures { Ended buf.new result }
 {
-    let content = read_content(fd);
+    let content = read_content(source);
     let count = deliver(content, buf);
     let failed = content::is_failed(content);
     Got {

@@ -1,8 +1,12 @@
-// One read of an open file. The field is this module's own, so that a value of this type is the number that the system gave.
-ghost use Rattle.std.specs.Prelude.{◌≡◌, negsuc};
-ghost use Rattle.input.specs.Reading.{Gave, count_given, is_failure};
+// One read of an open file. The field is this module's own, so that a value of this type is what the system gave.
+ghost use Rattle.std.specs.Prelude.{◌≡◌, true, negsuc};
+ghost use Rattle.input.specs.Reading.{Gave, IsPrefixLen, count_given, is_failure};
 
-// What a read gave: the number of bytes at the front of the buffer, 0 at the end of the file, below 0 where it failed.
+use std::io;
+use std::io::{Error, ErrorKind};
+
+// What a read gave: the number of bytes at the front of the buffer, 0 at the end of the file, and below 0 where it failed: then it is the
+// number of the error, turned about.
 #[derive(Clone, Copy)]
 pub struct Read {
     given: isize,
@@ -15,20 +19,43 @@ pub fn failure() -> Read
     Read { given: -1 }
 }
 
+// A read that failed with an error.
+fn failed(error: Error) -> Read
+    ensures { is_failure result.given ≡ true }
+{
+    if let Some(code) = error.raw_os_error() {
+        if code > 0 {
+            return Read {
+                given: -(code as isize),
+            };
+        }
+    }
+    failure()
+}
+
+// A read that gave count bytes.
+fn gave(count: usize, buf: &[u8]) -> Read
+    requires { IsPrefixLen count buf.now }
+    ensures { Gave buf.now result }
+{
+    Read {
+        given: count as isize,
+    }
+}
+
 // Reads once, and again as long as a signal interrupts the read before a byte came.
-pub fn read_once(fd: i32, buf: &mut [u8]) -> Read
+pub fn read_once<R: io::Read>(source: &mut R, buf: &mut [u8]) -> Read
     ensures { Gave buf.new result }
 {
-    let mut turns = u64::MAX;
-    while 0 < turns {
-        let given = libc::read(fd, buf);
-        if given >= 0 {
-            return Read { given };
+    for _ in 0..u64::MAX {
+        match source.read(buf) {
+            Ok(count) => return gave(count, buf),
+            Err(error) => {
+                if error.kind() != ErrorKind::Interrupted {
+                    return failed(error);
+                }
+            }
         }
-        if os::errno() != libc::EINTR {
-            return Read { given };
-        }
-        turns -= 1;
     }
     failure()
 }
@@ -48,4 +75,15 @@ pub fn has_failed(r: Read) -> bool
 {
     let given = r.given;
     given < 0
+}
+
+// The number of the error of a read that failed, as the system counts them.
+pub fn error_of(r: Read) -> i32 {
+    let given = r.given;
+    if given < 0 {
+        if -65536 < given {
+            return (-given) as i32;
+        }
+    }
+    0
 }

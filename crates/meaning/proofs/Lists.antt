@@ -33,10 +33,10 @@ get_d-all P [] d z h i = z
 get_d-all P (x ∷ xs) d z h zero = h x (Memᴰ.head refl)
 get_d-all P (x ∷ xs) d z h (suc i) = get_d-all P xs d z (λ y m. h y (Memᴰ.tail m)) i
 
-pub get_d_map : {A B : Type 0} (f : A → B) (xs : List A) (i : ℕ) (a : A) (b : B) → i < length xs → get_or (map f xs) i b ≡ f (get_or xs i a)
-get_d_map f [] i a b h = absurd (not-suc-le-zero h)
-get_d_map f (x ∷ xs) zero a b h = refl
-get_d_map f (x ∷ xs) (suc i) a b h = get_d_map f xs i a b (le_of_suc-le-suc h)
+pub get_or-map : {A B : Type 0} (f : A → B) (xs : List A) (i : ℕ) (a : A) (b : B) → i < length xs → get_or (map f xs) i b ≡ f (get_or xs i a)
+get_or-map f [] i a b h = absurd (not-suc-le-zero h)
+get_or-map f (x ∷ xs) zero a b h = refl
+get_or-map f (x ∷ xs) (suc i) a b h = get_or-map f xs i a b (le_of_suc-le-suc h)
 
 pub length_from : (i n : ℕ) → length (from i n) ≡ n
 length_from i zero = refl
@@ -83,7 +83,7 @@ length-map-upto f n = length-map (upto n) f ∙ length_from 0 n
 
 pub get_d-map-upto : {A : Type 0} (f : ℕ → A) (n j : ℕ) (d : A) → j < n → get_or (map f (upto n)) j d ≡ f j
 get_d-map-upto f n j d h =
-    get_d_map f (upto n) j 0 d (let e = length_from 0 n in omega arith) ∙ ap f (get_d-upto n j 0 h)
+    get_or-map f (upto n) j 0 d (let e = length_from 0 n in omega arith) ∙ ap f (get_d-upto n j 0 h)
 
 -- what stands at j after a store at i
 pub get_d_set : (l : List ℕ) (i v j : ℕ) → i < length l

@@ -15,7 +15,7 @@ use Rattle.aiger.specs.Bits.{nonzero, odd}
 use Rattle.aiger.specs.Circuit.{Circuit, Gate, var, defined, literals_right, used_defined, gate_of, operands, settles, acyclic}
 use Rattle.aiger.specs.Frames.{Run, value, conjunction, through, look, leaf, frame, state, value_at}
 pub use Rattle.meaning.specs.Frame.{Valuation}
-use Rattle.meaning.proofs.Lists.{mem-at, get_d_map}
+use Rattle.meaning.proofs.Lists.{mem-at, get_or-map}
 use Rattle.meaning.proofs.Defined.{no_latch, no_gate, input_at, latch_at, gate_at, Known, constant, input, latch, gate, Apart, input-in, latch-in, gate-in, definition, apart-inputs, apart-latches, apart-gates, input-latch, input-gate, latch-gate, left-known, right-known, gate_of-none, gate_of-at}
 use Rattle.meaning.proofs.Cycles.{operands-at, all-settle}
 
@@ -92,7 +92,7 @@ module _ (c : Circuit) where
     look-latches : (v : ℕ) → ((j : ℕ) → j < length c.latches → var (latch_at c j).lit ≡ v → ⊥) → look (map (λ l. l.lit) c.latches) st v false ≡ false
     look-latches v h =
         look-out (map (λ l. l.lit) c.latches) st v false
-        (λ j k e. h j (simp length-map at k) (ap var (sym (ListN.get_d_map (λ l. l.lit) c.latches j no_latch)) ∙ e))
+        (λ j k e. h j (simp length-map at k) (ap var (sym (ListN.get_or-map (λ l. l.lit) c.latches j no_latch)) ∙ e))
 
     leaf-constant : leaf c st row 0 ≡ false
     unfolding leaf
@@ -112,7 +112,7 @@ module _ (c : Circuit) where
     leaf-latch j h =
         let v = var (latch_at c j).lit in
         look-out c.inputs row v (look (map (λ l. l.lit) c.latches) st v false) (λ i k e. input-latch c right i j k h e)
-        ∙ ap (λ (x : ℕ). look (map (λ l. l.lit) c.latches) st (var x) false) (sym (ListN.get_d_map (λ l. l.lit) c.latches j no_latch))
+        ∙ ap (λ (x : ℕ). look (map (λ l. l.lit) c.latches) st (var x) false) (sym (ListN.get_or-map (λ l. l.lit) c.latches j no_latch))
         ∙ look_at (map (λ l. l.lit) c.latches) st j false (apart-latches c right) (simp length-map h)
 
     frame-gate : (i : ℕ) → i < length c.gates → (g : Gate) → gate_at c i ≡ g
@@ -206,7 +206,7 @@ module _ (c : Circuit) where
 
     -- the same of the j-th latch
     pub state-next-at : (j : ℕ) → j < length c.latches → get_or (state c r (suc t)) j false ≡ value_at c r t (latch_at c j).next
-    state-next-at j h = ap (λ (s : List Bool). get_or s j false) state-next ∙ get_d_map (λ l. value_at c r t l.next) c.latches j no_latch false h
+    state-next-at j h = ap (λ (s : List Bool). get_or s j false) state-next ∙ get_or-map (λ l. value_at c r t l.next) c.latches j no_latch false h
 
     module _ (right : T (literals_right c)) (a : T (acyclic c)) where
       values : Valuation c (get_or r.rows t []) (state c r t) frame_at

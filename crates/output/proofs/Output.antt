@@ -73,6 +73,10 @@ copied out text part at e =
     let z : drop n d ≡ [] = drop_of_length-le d {i = n} (omega (arith, length-take n (drop at out))) in
     part-put out part text at n refl (rw k at e ∙ rw (z, take_all n text (omega arith)) (append-nil text))
 
+-- a text is copied to a part of its length
+pub copied_whole : (out text part : List ℕ) (at : ℕ) → part ≡ text → put_mid at (at + length text - at) out part ≡ put_text out at text
+copied_whole out text part at e = part-put out part text at (length text) refl e
+
 -- it is filled with the last digits of n, as many as n has
 pub filled : (out part : List ℕ) (at n count : ℕ) → n < 10 ^ 20 → count ≡ length (long_digits n) → at + count ≤ length out
     → part ≡ last_digits (length (take (at + count - at) (drop at out))) n

@@ -12,7 +12,7 @@ use Rattle.layout.specs.Words.{word, outputs_at, circuit_in}
 use Rattle.layout.specs.Layout.{LayoutOf}
 use Rattle.layout.specs.declared.Layout.{Layout}
 use Rattle.roundtrip.proofs.Lists.{upto-length, upto-get}
-use Rattle.meaning.proofs.Lists.{map-upto-eq, get_d_map, length-map-upto}
+use Rattle.meaning.proofs.Lists.{map-upto-eq, get_or-map, length-map-upto}
 use Rattle.frames.proofs.Facts.{latch-count, gate-count, constraint-count}
 use Rattle.joined.specs.Joined.{literal_under, latch_under, gate_under, complement, pairs_gates, first_number, second_number, pairs_from, joined}
 use Rattle.renumber.specs.Names.{under, Named}
@@ -163,13 +163,13 @@ module _ {a b : List ℕ} (ha : Holds a (circuit_in a)) (hb : Holds b (circuit_i
   first-output j h =
       let k : j < word a 3 = omega (arith, la.o_is) in
       ap (λ (x : ℕ). under first (word a (x + j))) la.outputs-is ∙ outputs-renamed ha _ _ first first-named j k
-      ∙ ap (literal_under σ) (sym (output-at a j k)) ∙ sym (get_d_map (literal_under σ) c.outputs j 0 0 (omega (arith, of_c.outputs)))
+      ∙ ap (literal_under σ) (sym (output-at a j k)) ∙ sym (get_or-map (literal_under σ) c.outputs j 0 0 (omega (arith, of_c.outputs)))
 
   second-output : (j : ℕ) → j < p.o → under second (word b (q.outputs + j)) ≡ get_or qs j 0
   second-output j h =
       let k : j < word b 3 = omega (arith, lb.o_is, outputs) in
       ap (λ (x : ℕ). under second (word b (x + j))) lb.outputs-is ∙ outputs-renamed hb _ _ second second-named j k
-      ∙ ap (literal_under τ) (sym (output-at b j k)) ∙ sym (get_d_map (literal_under τ) d.outputs j 0 0 (omega (arith, output-count b)))
+      ∙ ap (literal_under τ) (sym (output-at b j k)) ∙ sym (get_or-map (literal_under τ) d.outputs j 0 0 (omega (arith, output-count b)))
 
   pairs-var : pairs_var p q ≡ pairs_from c d
   pairs-var = omega (arith, of_c.inputs, of_c.latches, of-d.latches, of_c.gates, of-d.gates)

@@ -1,7 +1,6 @@
 -- A line of standard input, read by read. What each read gives is said by the system; what becomes of it is said here. Assumes nothing.
 use Rattle.std.specs.Prelude.{◌≡◌, Bool, true, false, cond, not, ◌&&◌, List, [], ◌∷◌, ◌++◌, ◌⊎◌, ℕ, ◌+◌, ◌≤◌, ◌<◌, eqb, ltb, length, take, set, replicate}
-use Rattle.io.specs.Counts.{IsPrefixLen}
-use Rattle.input.specs.Reading.{count_given, is_failure}
+use Rattle.input.specs.Reading.{IsPrefixLen, count_given, is_failure}
 use Rattle.panel_input.specs.declared.gathering.ByteRead.{ByteRead}
 use Rattle.panel_input.specs.declared.gathering.RequestLine.{RequestLine}
 

@@ -4,7 +4,6 @@ ghost use Rattle.input.specs.Reading.{Gave};
 ghost use Rattle.panel_input.specs.Line.{empty_line, missed_read, input_end, line_feed, keep_byte, step, GoesOn};
 
 use input::Read;
-use libc::STDIN_FILENO;
 
 // A read of one byte: the byte, and what the read gave.
 #[derive(Clone, Copy)]
@@ -15,7 +14,7 @@ pub struct ByteRead {
 
 // A line so far: its bytes, how many they are, whether a read failed, how many reads failed in a row, whether nothing more is to be had,
 // whether the line is over, and how many reads there were.
-#[derive(Drop)]
+#[derive(Clone, Copy)]
 pub struct RequestLine {
     line: [u8; 4097],
     count: usize,
@@ -49,11 +48,12 @@ pub fn empty() -> RequestLine
 }
 
 // Reads one byte.
-fn read_byte(buf: &mut [u8]) -> ByteRead
+fn read_byte(rt: HostRuntime, buf: &mut [u8]) -> ByteRead
     requires { ◌≡◌ {A = ℕ} (length buf.old) 1 }
     ensures { Gave buf.new result.read × (result.byte ≡ get_or buf.new 0 0) }
 {
-    let read = input::read_once(STDIN_FILENO, buf);
+    let mut source = rt.stdin();
+    let read = input::read_once(&mut source, buf);
     let byte = buf[0];
     ByteRead { byte, read }
 }
@@ -177,23 +177,23 @@ fn stepped(l: RequestLine, r: ByteRead) -> RequestLine
 }
 
 // Says on standard error that a read failed, where the read before it did not.
-fn say_failure(l: RequestLine, r: ByteRead) {
+fn say_failure(rt: HostRuntime, l: RequestLine, r: ByteRead) {
     let read = r.read;
     if input::has_failed(read) {
         if l.missed == 0 {
-            os::fail(b"standard input");
+            input::fail(rt, b"standard input", input::read_error_of(read));
         }
     }
 }
 
 // Reads once more.
-pub fn advance(l: RequestLine) -> Gathered
+pub fn advance(rt: HostRuntime, l: RequestLine) -> Gathered
     requires { l.reads < 18446744073709551615 }
     ensures { result.line ≡ step l result.last }
 {
     let mut byte = [0u8; 1];
-    let last = read_byte(&mut byte);
-    say_failure(l, last);
+    let last = read_byte(rt, &mut byte);
+    say_failure(rt, l, last);
     let line = stepped(l, last);
     Gathered { line, last }
 }

@@ -8,12 +8,12 @@ ghost use Rattle.panel_input.specs.Line.{Received};
 pub use gathering::{RequestLine, count_of, has_ended, has_failed, line_of};
 
 // Reads the next line of standard input, byte by byte. One of more than 4,096 bytes is kept as 4,097, which are no command.
-pub fn receive() -> RequestLine
+pub fn receive(rt: HostRuntime) -> RequestLine
     ensures { Received result }
 {
-    let mut got = gathering::advance(gathering::empty());
+    let mut got = gathering::advance(rt, gathering::empty());
     while gathering::goes_on(got) {
-        got = gathering::advance(gathering::gathered_line(got));
+        got = gathering::advance(rt, gathering::gathered_line(got));
     }
     gathering::gathered_line(got)
 }

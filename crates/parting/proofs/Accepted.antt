@@ -13,7 +13,7 @@ use Rattle.aiger.specs.Lists.{every, upto, member, distinct, pairwise}
 use Rattle.aiger.specs.Bits.{nonzero, odd}
 use Rattle.aiger.specs.Circuit.{Circuit, Latch, Gate, var, defined, used, literal_tests, literals_right, used_defined}
 use Rattle.aiger.proofs.Tests.{and, and_left, and_right, not_T, every-imp, all-at, or_cases, every_true}
-use Rattle.meaning.proofs.Lists.{get_d-map-upto, length-map-upto, every_in, every-both, every-mapped, pairwise-in, member-in, get_d_map, or_left, or_right, eqb_of}
+use Rattle.meaning.proofs.Lists.{get_d-map-upto, length-map-upto, every_in, every-both, every-mapped, pairwise-in, member-in, get_or-map, or_left, or_right, eqb_of}
 use Rattle.joined.specs.Joined.{place_from, number_of, literal_under, latch_under, gate_under, complement, pair_gates, pairs_gates, first_number, second_number, pairs_from, joined}
 use Rattle.parting.proofs.Numbers.{number-zero}
 use Rattle.parting.proofs.Shape.{evens, evens_at, evens-length, joined-defined}
@@ -183,7 +183,7 @@ module _ (c d : Circuit) (inputs : length c.inputs ≡ length d.inputs) (outputs
       where
         place : (v : ℕ) → v ≤ M → get_or (0 ∷ map var (evens 1 M)) v 0 ≡ v
         place zero h = refl
-        place (suc v) h = get_d_map var (evens 1 M) v 0 0 (omega (arith, evens-length 1 M)) ∙ ap var (evens_at 1 M v (omega arith)) ∙ omega arith
+        place (suc v) h = get_or-map var (evens 1 M) v 0 0 (omega (arith, evens-length 1 M)) ∙ ap var (evens_at 1 M v (omega arith)) ∙ omega arith
 
     resets-right : (e : Circuit) → T (literals_right e) → (f : ℕ → ℕ) → f 0 ≡ 0
         → T (every (λ l. leb l.reset 1 || eqb l.reset l.lit) (map (latch_under f) e.latches))

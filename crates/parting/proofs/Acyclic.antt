@@ -11,7 +11,7 @@ use lib.Dec.{T, ltb}
 use lib.ListN.{length, get_or, length-map, length-append, get_or-append}
 use lib.Seq.{get_or-append-add}
 use Rattle.aiger.specs.Circuit.{Circuit, Latch, Gate, var, literals_right, used_defined, acyclic}
-use Rattle.meaning.proofs.Lists.{get_d_map}
+use Rattle.meaning.proofs.Lists.{get_or-map}
 use Rattle.meaning.proofs.Defined.{Known, constant, input, latch, gate, no_gate, input_at, latch_at, gate_at, left-known, right-known, output-known}
 use Rattle.meaning.proofs.Cycles.{ranked}
 use Rattle.joined.specs.Joined.{number_of, literal_under, gate_under, complement, pair_gates, pairs_gates, first_number, second_number, pairs_from, joined}
@@ -138,7 +138,7 @@ module _ (c d : Circuit) (right : T (literals_right c)) (known : T (used_defined
       ap rank_of (under-var σ g.lit ∙ number-gate c right _ _ i k) ∙ rank-first i k in
       let l = ap rank_of (under-var σ g.left) in
       let r = ap rank_of (under-var σ g.right) in
-      subst Lower (sym (get_d_map (gate_under σ) c.gates i no_gate no_gate k)) (
+      subst Lower (sym (get_or-map (gate_under σ) c.gates i no_gate no_gate k)) (
         omega (arith, own, l, below-first (var g.left) (left-known c known i), left-rank c right a i k),
         omega (arith, own, r, below-first (var g.right) (right-known c known i), right-rank c right a i k),
       )
@@ -151,7 +151,7 @@ module _ (c d : Circuit) (right : T (literals_right c)) (known : T (used_defined
       ap rank_of (under-var τ g.lit ∙ number-gate d right' _ _ i k) ∙ rank-second i k in
       let l = ap rank_of (under-var τ g.left) in
       let r = ap rank_of (under-var τ g.right) in
-      subst Lower (sym (get_d_map (gate_under τ) d.gates i no_gate no_gate k)) (
+      subst Lower (sym (get_or-map (gate_under τ) d.gates i no_gate no_gate k)) (
         omega (arith, own, l, below-second (var g.left) (left-known d known' i), left-rank d right' a' i k),
         omega (arith, own, r, below-second (var g.right) (right-known d known' i), right-rank d right' a' i k),
       )
@@ -167,14 +167,14 @@ module _ (c d : Circuit) (right : T (literals_right c)) (known : T (used_defined
   low_first j h =
       let n : j < length c.outputs = omega (arith, length-map c.outputs (literal_under σ)) in
       let o = get_or c.outputs j 0 in
-      let e = ap (λ (l : ℕ). rank_of (var l)) (get_d_map (literal_under σ) c.outputs j 0 0 n) ∙ ap rank_of (under-var σ o) in
+      let e = ap (λ (l : ℕ). rank_of (var l)) (get_or-map (literal_under σ) c.outputs j 0 0 n) ∙ ap rank_of (under-var σ o) in
       omega (arith, e, below-first (var o) (output-known c known j), rank_most c right a (var o))
 
   low_second : (j : ℕ) → j < length ps → rank_of (var (get_or qs j 0)) ≤ B
   low_second j h =
       let n : j < length d.outputs = omega (arith, length-map c.outputs (literal_under σ)) in
       let o = get_or d.outputs j 0 in
-      let e = ap (λ (l : ℕ). rank_of (var l)) (get_d_map (literal_under τ) d.outputs j 0 0 n) ∙ ap rank_of (under-var τ o) in
+      let e = ap (λ (l : ℕ). rank_of (var l)) (get_or-map (literal_under τ) d.outputs j 0 0 n) ∙ ap rank_of (under-var τ o) in
       omega (arith, e, below-second (var o) (output-known d known' j), rank_most d right' a' (var o))
 
   rank-at : (v k : ℕ) → v ≡ third + k → rank_of v ≡ A + B + 1 + k

@@ -13,7 +13,7 @@ use lib.Seq.{get_or-append-add, get_or-take, get_or-drop}
 use Rattle.aiger.specs.Lists.{every, upto}
 use Rattle.aiger.specs.Circuit.{Circuit, Latch, Gate, var, literals_right, used_defined, acyclic}
 use Rattle.aiger.specs.Frames.{Run, value_at}
-use Rattle.meaning.proofs.Lists.{get_d_map, length-map-upto, get_d-map-upto}
+use Rattle.meaning.proofs.Lists.{get_or-map, length-map-upto, get_d-map-upto}
 use Rattle.meaning.proofs.Defined.{Known, no_latch, no_gate, input_at, latch_at, gate_at, output-known}
 use Rattle.meaning.proofs.Values.{complement-value, gate-value}
 use Rattle.meaning.proofs.Embedding.{Embeds, embedded-value}
@@ -112,7 +112,7 @@ module _ (c d : Circuit) (right : T (literals_right c)) (known : T (used_defined
       let xs = map (latch_under σ) c.latches in
       let ys = map (latch_under τ) d.latches in (
         omega (arith, length-append xs ys, length-map c.latches (latch_under σ)),
-        get_or-append xs ys no_latch j (omega (arith, length-map c.latches (latch_under σ))) ∙ get_d_map (latch_under σ) c.latches j no_latch no_latch h,
+        get_or-append xs ys no_latch j (omega (arith, length-map c.latches (latch_under σ))) ∙ get_or-map (latch_under σ) c.latches j no_latch no_latch h,
       )
 
   second-latch : (j : ℕ) → j < length d.latches → (L + j < length J.latches) × (latch_at J (L + j) ≡ latch_under τ (latch_at d j))
@@ -122,7 +122,7 @@ module _ (c d : Circuit) (right : T (literals_right c)) (known : T (used_defined
       let ys = map (latch_under τ) d.latches in
       let n : length xs ≡ L = length-map c.latches (latch_under σ) in (
         omega (arith, length-append xs ys, n, length-map d.latches (latch_under τ)),
-        ap (λ (k : ℕ). get_or (xs ++ ys) (k + j) no_latch) (sym n) ∙ get_or-append-add xs ys j no_latch ∙ get_d_map (latch_under τ) d.latches j no_latch no_latch h,
+        ap (λ (k : ℕ). get_or (xs ++ ys) (k + j) no_latch) (sym n) ∙ get_or-append-add xs ys j no_latch ∙ get_or-map (latch_under τ) d.latches j no_latch no_latch h,
       )
 
   gate-count : length J.gates ≡ A + B + 3 * length c.outputs
@@ -148,7 +148,7 @@ module _ (c d : Circuit) (right : T (literals_right c)) (known : T (used_defined
       let ys = map (gate_under τ) d.gates in
       let n : length xs ≡ A = length-map c.gates (gate_under σ) in
       get_or-append (xs ++ ys) pair_list no_gate i (omega (arith, length-append xs ys)) ∙ get_or-append xs ys no_gate i (omega arith)
-      ∙ get_d_map (gate_under σ) c.gates i no_gate no_gate h
+      ∙ get_or-map (gate_under σ) c.gates i no_gate no_gate h
 
   second-gate : (i : ℕ) → i < B → gate_at J (A + i) ≡ gate_under τ (gate_at d i)
   unfolding joined
@@ -157,7 +157,7 @@ module _ (c d : Circuit) (right : T (literals_right c)) (known : T (used_defined
       let ys = map (gate_under τ) d.gates in
       let n : length xs ≡ A = length-map c.gates (gate_under σ) in
       get_or-append (xs ++ ys) pair_list no_gate (A + i) (omega (arith, length-append xs ys, length-map d.gates (gate_under τ)))
-      ∙ ap (λ (k : ℕ). get_or (xs ++ ys) (k + i) no_gate) (sym n) ∙ get_or-append-add xs ys i no_gate ∙ get_d_map (gate_under τ) d.gates i no_gate no_gate h
+      ∙ ap (λ (k : ℕ). get_or (xs ++ ys) (k + i) no_gate) (sym n) ∙ get_or-append-add xs ys i no_gate ∙ get_or-map (gate_under τ) d.gates i no_gate no_gate h
 
   pair-gate : (j i : ℕ) → j < length c.outputs → i < 3
       → gate_at J (A + B + (3 * j + i)) ≡ get_or (pair_gates (pairs_from c d + 3 * j) (literal_under σ (get_or c.outputs j 0)) (literal_under τ (get_or d.outputs j 0))) i no_gate
@@ -170,8 +170,8 @@ module _ (c d : Circuit) (right : T (literals_right c)) (known : T (used_defined
       let same : length ps ≡ length qs = m ∙ outputs ∙ sym (length-map d.outputs (literal_under τ)) in
       ap (λ (x : ℕ). get_or (xs ++ ys ++ pair_list) (x + (3 * j + i)) no_gate) (sym n) ∙ get_or-append-add (xs ++ ys) pair_list (3 * j + i) no_gate
       ∙ pairs-at (pairs_from c d) ps qs j i same (omega arith) k
-      ∙ ap₂ (λ (p q : ℕ). get_or (pair_gates (pairs_from c d + 3 * j) p q) i no_gate) (get_d_map (literal_under σ) c.outputs j 0 0 h)
-      (get_d_map (literal_under τ) d.outputs j 0 0 (omega arith))
+      ∙ ap₂ (λ (p q : ℕ). get_or (pair_gates (pairs_from c d + 3 * j) p q) i no_gate) (get_or-map (literal_under σ) c.outputs j 0 0 h)
+      (get_or-map (literal_under τ) d.outputs j 0 0 (omega arith))
 
   bad-at : (j : ℕ) → j < length c.outputs → get_or J.bads j 0 ≡ 2 * (pairs_from c d + 3 * j + 2) + 1
   unfolding joined

@@ -10,7 +10,7 @@ use Rattle.aiger.specs.Lists.{every}
 use Rattle.aiger.specs.Circuit.{Circuit, var, literals_right, used_defined, acyclic}
 use Rattle.aiger.specs.Frames.{Run, value, state, value_at, constrained, allowed, hits}
 use Rattle.meaning.proofs.Allowed.{allowed_same}
-use Rattle.meaning.proofs.Lists.{get_d_map, every-under}
+use Rattle.meaning.proofs.Lists.{get_or-map, every-under}
 use Rattle.meaning.proofs.Defined.{Known, no_latch, no_gate, input_at, latch_at, gate_at, bad-known, constraint-known}
 use Rattle.meaning.proofs.Values.{frame_at}
 use Rattle.meaning.proofs.Runs.{Satisfies, run-determined, run-satisfies}
@@ -56,16 +56,16 @@ module _ (c : Circuit) (q : ℕ → ℕ) (right : T (literals_right c)) (known :
         input = input-now;
         start = λ j l.
             let k : j < length c.latches = subst (λ (n : ℕ). j < n) (length-map c.latches (tied_latch q c.inputs)) l in
-            ap (λ x. w 0 (var x.lit)) (get_d_map (tied_latch q c.inputs) c.latches j no_latch no_latch k)
+            ap (λ x. w 0 (var x.lit)) (get_or-map (tied_latch q c.inputs) c.latches j no_latch no_latch k)
             ∙ sat.start j k ∙ ap (λ (x : List Bool). get_or x j false) fills.start;
         next = λ u h j l.
             let k : j < length c.latches = subst (λ (n : ℕ). j < n) (length-map c.latches (tied_latch q c.inputs)) l in
-            let e = get_d_map (tied_latch q c.inputs) c.latches j no_latch no_latch k in
+            let e = get_or-map (tied_latch q c.inputs) c.latches j no_latch no_latch k in
             ap (λ x. w (suc u) (var x.lit)) e ∙ sat.next u h j k ∙ sym (tied-now u (omega arith) (latch_at c j).next)
             ∙ ap (λ x. value (w u) x.next) (sym e);
         gate = λ u h i l.
             let k : i < length c.gates = subst (λ (n : ℕ). i < n) (length-map c.gates (tied_gate q c.inputs)) l in
-            let e = get_d_map (tied_gate q c.inputs) c.gates i no_gate no_gate k in
+            let e = get_or-map (tied_gate q c.inputs) c.gates i no_gate no_gate k in
             ap (λ x. w u (var x.lit)) e ∙ sat.gate u h i k
             ∙ ap₂ (λ (x y : Bool). x && y) (sym (tied-now u h (gate_at c i).left)) (sym (tied-now u h (gate_at c i).right))
             ∙ ap (λ x. value (w u) x.left && value (w u) x.right) (sym e);
@@ -84,7 +84,7 @@ module _ (c : Circuit) (q : ℕ → ℕ) (right : T (literals_right c)) (known :
   unfolding pinned
   constraint-value u h i l =
       pinned-value u h (get_or c.constraints i 0)
-      (subst (λ (x : ℕ). Known (pinned c q) (var x)) (get_d_map (tied q c.inputs) c.constraints i 0 0 l)
+      (subst (λ (x : ℕ). Known (pinned c q) (var x)) (get_or-map (tied q c.inputs) c.constraints i 0 0 l)
       (constraint-known (pinned c q) (pinned-known c q known) i))
 
   -- the constraints of a frame
@@ -99,7 +99,7 @@ module _ (c : Circuit) (q : ℕ → ℕ) (right : T (literals_right c)) (known :
   pub pinned-bad : (b : ℕ) → b < length c.bads → value_at (pinned c q) r t (get_or (pinned c q).bads b 0) ≡ value_at c s t (get_or c.bads b 0)
   unfolding pinned
   pinned-bad b l =
-      let e = get_d_map (tied q c.inputs) c.bads b 0 0 l in
+      let e = get_or-map (tied q c.inputs) c.bads b 0 0 l in
       ap (value_at (pinned c q) r t) e
       ∙ pinned-value t (omega arith) (get_or c.bads b 0)
       (subst (λ (x : ℕ). Known (pinned c q) (var x)) e (bad-known (pinned c q) (pinned-known c q known) b))

@@ -16,7 +16,7 @@ use Rattle.aiger.specs.File.{count_tests, counts_fit, header_of}
 use Rattle.aiger.specs.Load.{needed}
 use Rattle.aiger.specs.Binary.{implied}
 use Rattle.aiger.proofs.Tests.{T_true, true-T, and, not_T, every-imp, all-at, all_hold, or_cases, every_true}
-use Rattle.meaning.proofs.Lists.{get_d_map, every_in, every-both, every-mapped, pairwise-in, or_left, or_right, eqb_of}
+use Rattle.meaning.proofs.Lists.{get_or-map, every_in, every-both, every-mapped, pairwise-in, or_left, or_right, eqb_of}
 use Rattle.meaning.proofs.Shape.{not-odd}
 use Rattle.parting.proofs.Accepted.{reset-right}
 use Rattle.meaning.proofs.Defined.{no_latch, no_gate, input_at, latch_at, gate_at, definition, input-in, latch-in, gate-in}
@@ -140,16 +140,16 @@ module _ {room : ℕ} {c : Circuit} (valid : Valid room c) where
 
   pub input-at : (i : ℕ) → i < length c.inputs → input_at (renumbered c) i ≡ literal_under (new_number c) (input_at c i)
   unfolding renumbered
-  input-at i h = get_d_map (literal_under σ) c.inputs i 0 0 h
+  input-at i h = get_or-map (literal_under σ) c.inputs i 0 0 h
 
   pub latch-at : (j : ℕ) → j < length c.latches → latch_at (renumbered c) j ≡ latch_under (new_number c) (latch_at c j)
   unfolding renumbered
-  latch-at j h = get_d_map (latch_under σ) c.latches j no_latch no_latch h
+  latch-at j h = get_or-map (latch_under σ) c.latches j no_latch no_latch h
 
   pub gate-at : (p : ℕ) → p < length c.gates
       → gate_at (renumbered c) p ≡ sorted (gate_under (new_number c) (gate_at c (get_or (numbering c).0 p 0)))
   unfolding renumbered
-  gate-at p h = get_d_map make order p 0 no_gate (omega (arith, order-length valid))
+  gate-at p h = get_or-map make order p 0 no_gate (omega (arith, order-length valid))
 
   even : (l : ℕ) → Memᴰ l (defined c) → l % 2 ≡ 0
   even l m = (definition c right l m).1
@@ -166,7 +166,7 @@ module _ {room : ℕ} {c : Circuit} (valid : Valid room c) where
       implied-of (map (λ (l : Latch). l.lit) (renumbered c).latches) (I + 1) L
       (length-map (renumbered c).latches (λ (l : Latch). l.lit) ∙ latches-length)
       (λ j h.
-      get_d_map (λ (l : Latch). l.lit) (renumbered c).latches j no_latch 0 (omega (arith, latches-length)) ∙ ap (λ (l : Latch). l.lit)
+      get_or-map (λ (l : Latch). l.lit) (renumbered c).latches j no_latch 0 (omega (arith, latches-length)) ∙ ap (λ (l : Latch). l.lit)
       (latch-at j h)
       ∙ under-even σ (latch_at c j).lit (I + 1 + j) (even (latch_at c j).lit (latch-in c j h)) (number-latch valid j h))
 
@@ -183,7 +183,7 @@ module _ {room : ℕ} {c : Circuit} (valid : Valid room c) where
       implied-of (map (λ (g : Gate). g.lit) (renumbered c).gates) (I + L + 1) A
       (length-map (renumbered c).gates (λ (g : Gate). g.lit) ∙ gates-length)
       (λ p h.
-      get_d_map (λ (g : Gate). g.lit) (renumbered c).gates p no_gate 0 (omega (arith, gates-length)) ∙ ap (λ (g : Gate). g.lit)
+      get_or-map (λ (g : Gate). g.lit) (renumbered c).gates p no_gate 0 (omega (arith, gates-length)) ∙ ap (λ (g : Gate). g.lit)
       (gate-at p h)
       ∙ sorted-lit (gate_under σ (gate_at c (get_or order p 0))) ∙ gate-lit p h)
 

@@ -17,7 +17,7 @@ use Rattle.aiger.specs.Lists.{from, upto}
 use Rattle.aiger.specs.Search.{least_below}
 use Rattle.aiger.specs.Circuit.{Circuit, Latch, Gate, var, literal_tests, literals_right, used_defined}
 use Rattle.aiger.proofs.Tests.{T_true, and, and_left, and_right, all-at, or_cases}
-use Rattle.meaning.proofs.Lists.{get_d_map, get_d-upto, every-at, or_right, eqb_of}
+use Rattle.meaning.proofs.Lists.{get_or-map, get_d-upto, every-at, or_right, eqb_of}
 use Rattle.meaning.proofs.Defined.{Known, constant, input, latch, gate, no_latch, no_gate, input_at, latch_at, gate_at, next_known}
 use Rattle.meaning.proofs.Defined.{output-known, bad-known, constraint-known, left-known, right-known}
 use Rattle.roundtrip.proofs.LoadWrite.{Valid}
@@ -130,11 +130,11 @@ module _ {room : ℕ} {d : Circuit} (v : Valid room d) (p : Placed d) where
 
   latch-lit : (j : ℕ) → j < length d.latches → (latch_at d j).lit ≡ 2 * (length d.inputs + 1 + j)
   latch-lit j h =
-      sym (ListN.get_d_map (λ (l : Latch). l.lit) d.latches j no_latch) ∙ ap (λ (ls : List ℕ). get_or ls j 0) p.latches ∙ implied-at
+      sym (ListN.get_or-map (λ (l : Latch). l.lit) d.latches j no_latch) ∙ ap (λ (ls : List ℕ). get_or ls j 0) p.latches ∙ implied-at
       (I + 1) L j h
 
   gate-lit : (i : ℕ) → i < length d.gates → (gate_at d i).lit ≡ 2 * (length d.inputs + length d.latches + 1 + i)
-  gate-lit i h = sym (ListN.get_d_map (λ (g : Gate). g.lit) d.gates i no_gate) ∙ ap (λ (ls : List ℕ). get_or ls i 0) p.gates
+  gate-lit i h = sym (ListN.get_or-map (λ (g : Gate). g.lit) d.gates i no_gate) ∙ ap (λ (ls : List ℕ). get_or ls i 0) p.gates
       ∙ implied-at K A i h
 
   descending : (i : ℕ) → i < length d.gates → T (descends (gate_at d i))
@@ -225,7 +225,7 @@ module _ {room : ℕ} {d : Circuit} (v : Valid room d) (p : Placed d) where
       ext_get_or no_gate (map make (numbering d).0) d.gates n
       (λ i h.
       let l : i < A = omega arith in
-      get_d_map make (numbering d).0 i 0 no_gate (omega (arith, order-length v)) ∙ ap make (order-at i l) ∙ gate_same i l)
+      get_or-map make (numbering d).0 i 0 no_gate (omega (arith, order-length v)) ∙ ap make (order-at i l) ∙ gate_same i l)
 
   -- the circuit stays
   pub renumbered-same : renumbered d ≡ d

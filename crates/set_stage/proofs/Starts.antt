@@ -14,7 +14,7 @@ use Rattle.aiger.specs.Circuit.{Circuit}
 use Rattle.aiger.specs.Frames.{is_free, free_starts, free_bit}
 use Rattle.aiger.proofs.Tests.{true-T, T_true, nonzero-bit}
 use Rattle.meaning.specs.Frame.{latch_at}
-use Rattle.meaning.proofs.Lists.{get_d_map}
+use Rattle.meaning.proofs.Lists.{get_or-map}
 use Rattle.frames.specs.Starts.{free_before, start_bit}
 use Rattle.frames.proofs.Starts.{free-none, free_more, free_all}
 use Rattle.machine.specs.Machine.{Machine}
@@ -118,11 +118,11 @@ module _ (part : Part) (listed : Listed part) (b : ℕ) (latches : List ℕ) (am
 
   frees-at : (u : ℕ) → u < length (free_places part.circuit) → get_or (frees_of part.circuit latches) u 0 ≡ rank_in latches (get_or (free_places part.circuit) u 0)
   unfolding frees_of
-  frees-at u l = get_d_map (rank_in latches) (free_places c) u 0 0 l
+  frees-at u l = get_or-map (rank_in latches) (free_places c) u 0 0 l
 
   base-at : (v : ℕ) → v < length latches → get_or (base_of part.circuit latches) v 0 ≡ reset_word part.circuit (get_or latches v 0)
   unfolding base_of
-  base-at v l = get_d_map (reset_word c) latches v 0 0 l
+  base-at v l = get_or-map (reset_word c) latches v 0 0 l
 
   base-length : length (base_of part.circuit latches) ≡ length latches
   unfolding base_of

@@ -17,7 +17,7 @@ use Rattle.literals.proofs.Words.{word_read}
 use Rattle.layout.specs.Words.{circuit_in}
 use Rattle.layout.specs.declared.Layout.{Layout}
 use Rattle.meaning.specs.Frame.{no_latch, latch_at}
-use Rattle.meaning.proofs.Lists.{get_d_map}
+use Rattle.meaning.proofs.Lists.{get_or-map}
 use Rattle.frames.proofs.Facts.{latch-place, latches-are}
 use Rattle.diagrams.specs.Words.{flip}
 use Rattle.diagrams.specs.States.{State, Outcome, outcome, and_then, made}
@@ -63,7 +63,7 @@ unfolding base_of
 base-whole c js base n e l b =
     let m : length (map (reset_word c) js) ≡ length js = simp length-map in
     ext_get_or 0 base (map (reset_word c) js) (omega arith)
-    (λ k h. b k (omega arith) ∙ sym (get_d_map (reset_word c) js k 0 0 (omega arith)))
+    (λ k h. b k (omega arith) ∙ sym (get_or-map (reset_word c) js k 0 0 (omega arith)))
 
 -- ---- the edge of the start states
 

@@ -18,7 +18,7 @@ use Rattle.aiger.specs.Circuit.{Circuit}
 use Rattle.aiger.specs.Frames.{Run, value, frame, state, value_at, constrained, allowed, hits, free_starts, free_bits, free_bit, run, space}
 use Rattle.aiger.specs.Search.{reaches, reaches_in}
 use Rattle.aiger.proofs.Tests.{T_true, and_left, true-T}
-use Rattle.meaning.proofs.Lists.{get_d_map}
+use Rattle.meaning.proofs.Lists.{get_or-map}
 use Rattle.meaning.proofs.Defined.{no_latch, latch_at}
 use Rattle.meaning.proofs.Values.{length-state}
 use Rattle.meaning.proofs.Sequences.{Shaped, run-shaped}
@@ -117,7 +117,7 @@ module _ (part : Part) (b : ℕ) where
         let j = kept_at part i in
         map_at g part.kept i k ∙ sym ((same-values t y).next i k)
         ∙ ap (λ (row : List Bool). value (frame c st row) (latch_at c j).next) (sym (last_row c t y))
-        ∙ sym (get_d_map (λ x. value (frame c st (get_or (run c t y).rows t [])) x.next) c.latches j no_latch false (closed.listed.inside i k))
+        ∙ sym (get_or-map (λ x. value (frame c st (get_or (run c t y).rows t [])) x.next) c.latches j no_latch false (closed.listed.inside i k))
         ∙ sym (map_at h part.kept i k)))
 
     step_of : (t y : ℕ) → stepped (machine_of part b) (some (packed part (state c (run c t y) t))) (y % 2 ^ W)

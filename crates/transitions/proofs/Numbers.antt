@@ -12,7 +12,7 @@ use lib.Seq.{ext_get_or}
 use Rattle.aiger.specs.Lists.{upto, from}
 use Rattle.aiger.specs.Bits.{nonzero, odd, bit}
 use Rattle.words.proofs.Bits.{bit-zero, bit-suc, bit-none, join-low, join-high}
-use Rattle.meaning.proofs.Lists.{length-map-upto, get_d-map-upto, get_d_map}
+use Rattle.meaning.proofs.Lists.{length-map-upto, get_d-map-upto, get_or-map}
 use Rattle.influence.specs.Part.{Part, kept_at, Agree, Listed}
 use Rattle.transitions.specs.Transitions.{number_of, rank_in, latches_of, packed}
 use Rattle.aiger.proofs.Tests.{nonzero-bit}
@@ -51,7 +51,7 @@ rank-at (k ∷ ks) h (suc i) l =
 
 -- a list under a function, by position
 pub map_at : (f : ℕ → Bool) (ks : List ℕ) (i : ℕ) → i < length ks → get_or (map f ks) i false ≡ f (get_or ks i 0)
-map_at f ks i l = get_d_map f ks i 0 false l
+map_at f ks i l = get_or-map f ks i 0 false l
 
 pub map-through : (f : ℕ → Bool) (ks : List ℕ) → map (λ i. f (get_or ks i 0)) (upto (length ks)) ≡ map f ks
 map-through f ks =

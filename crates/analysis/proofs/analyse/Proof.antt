@@ -7,8 +7,8 @@ use Rattle.analysis.proofs.analyse.Tie as tie
 returns : tie.Need-returns
 unfolding S.analysed
 returns c =
-    let e = c.before.before.before.before.before.before.start.ensures in
-    rw (← e.words, ← e.draft) c.before.before.follow.ensures
+    let e = c.start-d.ensures in
+    rw (← e.words, ← e.draft) c.follow.ensures
 
-pub analyse-spec : {M : Type 1} → statement M
-analyse-spec = tie.close (tie.spec (λ c κs. search rules) (λ c κs. search rules) (λ c. search rules) returns)
+pub analyse_spec : {M : Type 1} → statement M
+analyse_spec = tie.close (tie.spec (λ c κs. search rules) (λ c κs. search rules) (λ c. search rules) returns)

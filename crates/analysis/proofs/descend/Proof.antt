@@ -8,42 +8,40 @@ use borrow.Author.Rules.{rules}
 use Rattle.analysis.proofs.descend.Statement.{statement}
 use Rattle.analysis.proofs.descend.Tie as tie
 
-abbrev invariant-loop : tie.invariant-loop
+abbrev invariant-loop : tie.invariant-loop-left
 invariant-loop work₀ net arena n level step b₀ left₀ work b left =
     (N.length work ≡ N.length work₀) × (descended work net arena b level step left ≡ descended work₀ net arena b₀ level step left₀)
 
-abbrev decreases-loop : tie.decreases-loop
+abbrev decreases-loop : tie.decreases-loop-left
 decreases-loop work₀ net arena n level step b₀ left₀ work b left = left
 
-same_length : tie.Need-same-length invariant-loop decreases-loop
-same_length c = c.before.before.before.loop.invariant.0
+same_length : tie.Need-shape_of-work-then-b-le1 invariant-loop decreases-loop
+same_length c = c.loop-left.invariant.0
 
-returns : tie.Need-returns invariant-loop decreases-loop
+returns : tie.Need-returns-then-b-le1 invariant-loop decreases-loop
 returns c =
-    let l = c.before.before.before.loop in
-    let s = c.before.before.before.before.before.args in
+    let l = c.loop-left in
+    let s = c.args in
     left_by (sym (descended-stop l.work s.net s.arena l.b s.level s.step l.left (omega arith)) ∙ l.invariant.1)
 
-loop-again : tie.Need-loop-preserved invariant-loop decreases-loop
+loop-again : tie.Need-loop-left-preserved invariant-loop decreases-loop
 loop-again c =
-    let l = c.before.before.before.before.before.before.before.loop in
-    let s = c.before.before.before.before.before.before.before.before.before.args in
+    let l = c.loop-left in
+    let s = c.args in
     let more = descended-more l.work s.net s.arena l.b s.level s.step l.left (omega arith) (omega arith) in
-    let u = c.before.before.visit in
-    (u.auto.0 ∙ l.invariant.0, rw (u.ensures.words, u.ensures.now) (sym more ∙ l.invariant.1))
+    let u = c.visit-b in
+    (u.auto.work ∙ l.invariant.0, rw (u.ensures.words, u.ensures.now) (sym more ∙ l.invariant.1))
 
-same-length-2 : tie.Need-same-length-2 invariant-loop decreases-loop
-same-length-2 c = c.before.loop.invariant.0
+same-length-2 : tie.Need-shape_of-work invariant-loop decreases-loop
+same-length-2 c = c.loop-left.invariant.0
 
-returns-2 : tie.Need-returns-2 invariant-loop decreases-loop
+returns-2 : tie.Need-returns invariant-loop decreases-loop
 returns-2 c =
-    let l = c.before.loop in
-    let s = c.before.before.before.args in
+    let l = c.loop-left in
+    let s = c.args in
     left_by (sym (descended-none l.work s.net s.arena l.b s.level s.step l.left (omega arith)) ∙ l.invariant.1)
 
-pub descend-spec : {M : Type 1} → statement M
-descend-spec =
+pub descend_spec : {M : Type 1} → statement M
+descend_spec =
     tie.close
-    (tie.spec
-    invariant-loop decreases-loop (λ c. (refl, refl)) same_length returns (λ c. omega arith) (λ c κs. search rules) (λ c. omega arith) loop-again
-    same-length-2 returns-2)
+    (tie.spec invariant-loop decreases-loop (λ c. (refl, refl)) same_length returns (λ c. omega arith) (λ c κs. search rules) (λ c. omega arith) loop-again same-length-2 returns-2)

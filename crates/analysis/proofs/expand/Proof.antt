@@ -24,42 +24,40 @@ passed w net arena d l why e = rw e (go (is_reason net arena why))
     go true = refl
     go false = refl
 
-returns : tie.Need-returns
+returns : tie.Need-returns-then-is_reason
 unfolding S.expanded S.unfolded
 returns c =
     rw (
-      ← c.before.before.before.before.before.before.before.before.before.before.before.before.field.ensures,
-      ← c.before.before.before.before.before.before.field2.ensures,
-      ← c.before.before.before.before.before.is-reason.ensures,
-      ← c.before.before.before.before.before.before.before.before.before.before.opposite.ensures,
-      ← c.before.before.before.before.before.before.before.before.before.is_member.ensures,
-      c.before.before.before.before.before.before.before.before.if1.true,
-      c.before.before.before.before.if2.true,
-    ) c.before.before.resolve.ensures
+      ← c.field-l.ensures,
+      ← c.field-why.ensures,
+      ← c.is_reason.ensures,
+      ← c.opposite.ensures,
+      ← c.is_member.ensures,
+      c.if-is_member.true,
+      c.if-is_reason.true,
+    ) c.resolve.ensures
 
-returns-2 : tie.Need-returns-2
+returns-2 : tie.Need-returns-else-is_reason
 unfolding S.expanded S.unfolded
 returns-2 c =
     rw (
-      ← c.before.before.before.before.before.before.before.before.field.ensures,
-      ← c.before.before.field2.ensures,
-      ← c.before.is-reason.ensures,
-      c.if2.false,
+      ← c.field-l.ensures,
+      ← c.field-why.ensures,
+      ← c.is_reason.ensures,
+      c.if-is_reason.false,
     ) (record { words = refl; draft = refl })
 
-returns-3 : tie.Need-returns-3
+returns-3 : tie.Need-returns-else-is_member
 unfolding S.expanded
 returns-3 c =
-    let a = c.before.before.before.before.before.before.before.args in
-    let l = c.before.before.before.before.field.result in
+    let a = c.args in
+    let l = c.field-l.result in
     let out : D.is_member a.work.now a.net a.arena a.d (opposite l) ≡ false =
-    ap (D.is_member a.work.now a.net a.arena a.d) (sym c.before.before.opposite.ensures) ∙ sym c.before.is_member.ensures
-    ∙ c.if1.false in
-    rw (← c.before.before.before.before.field.ensures, passed a.work.now a.net a.arena a.d l (field a.work.now a.net.nodes (l / 2) 4) out) (record { words = refl; draft = refl })
+    ap (D.is_member a.work.now a.net a.arena a.d) (sym c.opposite.ensures) ∙ sym c.is_member.ensures
+    ∙ c.if-is_member.false in
+    rw (← c.field-l.ensures, passed a.work.now a.net a.arena a.d l (field a.work.now a.net.nodes (l / 2) 4) out) (record { words = refl; draft = refl })
 
-pub expand-spec : {M : Type 1} → statement M
-expand-spec =
+pub expand_spec : {M : Type 1} → statement M
+expand_spec =
     tie.close
-    (tie.spec
-    (λ c κs. search rules) (λ c κs. search rules) (λ c κs. search rules) (λ c κs. search rules) (λ c κs. search rules)
-    (λ c κs. search rules) (λ c. search rules) returns (λ c. search rules) returns-2 (λ c. search rules) returns-3)
+    (tie.spec (λ c κs. search rules) (λ c κs. search rules) (λ c κs. search rules) (λ c κs. search rules) (λ c κs. search rules) (λ c κs. search rules) (λ c. search rules) returns (λ c. search rules) returns-2 (λ c. search rules) returns-3)

@@ -7,8 +7,8 @@ use Rattle.analysis.proofs.expand_all.Tie as tie
 returns : tie.Need-returns
 unfolding S.expanded_all
 returns c =
-    let e = c.before.before.before.before.before.before.start.ensures in
-    rw (← e.words, ← e.draft) c.before.before.expand-from.ensures
+    let e = c.start-d.ensures in
+    rw (← e.words, ← e.draft) c.expand_from.ensures
 
-pub expand-all-spec : {M : Type 1} → statement M
-expand-all-spec = tie.close (tie.spec (λ c κs. search rules) (λ c κs. search rules) (λ c. search rules) returns)
+pub expand_all_spec : {M : Type 1} → statement M
+expand_all_spec = tie.close (tie.spec (λ c κs. search rules) (λ c κs. search rules) (λ c. search rules) returns)

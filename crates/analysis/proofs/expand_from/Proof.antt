@@ -9,32 +9,31 @@ use borrow.Author.Rules.{rules}
 use Rattle.analysis.proofs.expand_from.Statement.{statement}
 use Rattle.analysis.proofs.expand_from.Tie as tie
 
-abbrev invariant-loop : tie.invariant-loop
+abbrev invariant-loop : tie.invariant-loop-left
 invariant-loop work₀ net arena n e₀ left₀ work e left =
     (N.length work ≡ N.length work₀) × (expanded_from work net arena e left ≡ expanded_from work₀ net arena e₀ left₀)
 
-abbrev decreases-loop : tie.decreases-loop
+abbrev decreases-loop : tie.decreases-loop-left
 decreases-loop work₀ net arena n e₀ left₀ work e left = left
 
-loop-again : tie.Need-loop-preserved invariant-loop decreases-loop
+loop-again : tie.Need-loop-left-preserved invariant-loop decreases-loop
 loop-again c =
-    let l = c.before.before.before.before.before.loop in
-    let s = c.before.before.before.before.before.before.before.args in
+    let l = c.loop-left in
+    let s = c.args in
     let more = expanded-more l.work s.net s.arena l.e l.left (omega arith) in
-    let u = c.before.before.expand in
-    (u.auto.0 ∙ l.invariant.0, rw (u.ensures.words, u.ensures.draft) (sym more ∙ l.invariant.1))
+    let u = c.expand-e in
+    (u.auto.work ∙ l.invariant.0, rw (u.ensures.words, u.ensures.draft) (sym more ∙ l.invariant.1))
 
-same_length : tie.Need-same-length invariant-loop decreases-loop
-same_length c = c.before.loop.invariant.0
+same_length : tie.Need-shape_of-work invariant-loop decreases-loop
+same_length c = c.loop-left.invariant.0
 
 returns : tie.Need-returns invariant-loop decreases-loop
 returns c =
-    let l = c.before.loop in
-    let s = c.before.before.before.args in
+    let l = c.loop-left in
+    let s = c.args in
     left_by (sym (expanded-none l.work s.net s.arena l.e l.left (omega arith)) ∙ l.invariant.1)
 
-pub expand-from-spec : {M : Type 1} → statement M
-expand-from-spec =
+pub expand_from_spec : {M : Type 1} → statement M
+expand_from_spec =
     tie.close
-    (tie.spec
-    invariant-loop decreases-loop (λ c. (refl, refl)) (λ c. omega arith) (λ c κs. search rules) (λ c. omega arith) loop-again same_length returns)
+    (tie.spec invariant-loop decreases-loop (λ c. (refl, refl)) (λ c. omega arith) (λ c κs. search rules) (λ c. omega arith) loop-again same_length returns)

@@ -8,9 +8,9 @@ use Rattle.analysis.proofs.follow.Tie as tie
 returns : tie.Need-returns
 unfolding S.followed
 returns c =
-    let t = c.before.before.before.before.before.before.touch-all.ensures in
-    let e = c.before.before.descend.ensures in
+    let t = c.touch_all-n.ensures in
+    let e = c.descend-a.ensures in
     rw (← t.words, ← t.count) (record { words = e.words; draft = ap S.draft e.now })
 
-pub follow-spec : {M : Type 1} → statement M
-follow-spec = tie.close (tie.spec (λ c κs. search rules) (λ c κs. search rules) (λ c. search rules) returns)
+pub follow_spec : {M : Type 1} → statement M
+follow_spec = tie.close (tie.spec (λ c κs. search rules) (λ c κs. search rules) (λ c. search rules) returns)

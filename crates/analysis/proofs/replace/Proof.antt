@@ -8,14 +8,14 @@ use Rattle.analysis.proofs.replace.Tie as tie
 returns : tie.Need-returns
 unfolding S.replaced S.recounted
 returns c =
-    let r = c.before.before.before.before.before.before.before.before.before.resolve.ensures in
-    let t = c.before.before.before.before.touch-all.ensures in
+    let r = c.resolve-e.ensures in
+    let t = c.touch_all-n.ensures in
     rw (
-      ← c.before.before.before.before.before.before.before.before.before.before.before.field.ensures,
+      ← c.field-why.ensures,
       ← r.words,
       ← r.draft,
-      ← c.before.before.before.before.before.less.ensures,
-      ← c.before.less2.ensures,
+      ← c.less.ensures,
+      ← c.less-2.ensures,
       ← t.count,
       ← c.sum.ensures,
     ) (record { words = t.words; now = refl })
@@ -23,6 +23,4 @@ returns c =
 pub replace_spec : {M : Type 1} → statement M
 replace_spec =
     tie.close
-    (tie.spec
-    (λ c κs. search rules) (λ c κs. search rules) (λ c κs. search rules) (λ c κs. search rules) (λ c κs. search rules)
-    (λ c κs. search rules) (λ c. search rules) returns)
+    (tie.spec (λ c κs. search rules) (λ c κs. search rules) (λ c κs. search rules) (λ c κs. search rules) (λ c κs. search rules) (λ c κs. search rules) (λ c. search rules) returns)

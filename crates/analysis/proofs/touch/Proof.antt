@@ -8,9 +8,9 @@ returns : tie.Need-returns
 unfolding S.touched
 returns c =
     rw (
-      ← c.before.before.before.before.before.field.ensures,
-      ← c.before.before.before.sum.ensures,
-    ) c.before.before.set-field.ensures
+      ← c.field-act.ensures,
+      ← c.sum.ensures,
+    ) c.set_field.ensures
 
-pub touch-spec : {M : Type 1} → statement M
-touch-spec = tie.close (tie.spec (λ c κs. search rules) (λ c κs. search rules) (λ c κs. search rules) (λ c. search rules) returns)
+pub touch_spec : {M : Type 1} → statement M
+touch_spec = tie.close (tie.spec (λ c κs. search rules) (λ c κs. search rules) (λ c κs. search rules) (λ c. search rules) returns)

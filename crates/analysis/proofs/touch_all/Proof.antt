@@ -9,40 +9,38 @@ use borrow.Author.Rules.{rules}
 use Rattle.analysis.proofs.touch_all.Statement.{statement}
 use Rattle.analysis.proofs.touch_all.Tie as tie
 
-abbrev invariant-loop : tie.invariant-loop
+abbrev invariant-loop : tie.invariant-loop-left
 invariant-loop work₀ net arena length from level step left₀ n₀ work left n =
     (N.length work ≡ N.length work₀) × (touched_all work net arena from level step left n
     ≡ touched_all work₀ net arena from level step left₀ n₀)
 
-abbrev decreases-loop : tie.decreases-loop
+abbrev decreases-loop : tie.decreases-loop-left
 decreases-loop work₀ net arena length from level step left₀ n₀ work left n = left
 
-loop-again : tie.Need-loop-preserved invariant-loop decreases-loop
+loop-again : tie.Need-loop-left-preserved invariant-loop decreases-loop
 loop-again c =
-    let l = c.before.before.before.before.before.before.before.before.before.loop in
-    let s = c.before.before.before.before.before.before.before.before.before.before.before.args in
+    let l = c.loop-left in
+    let s = c.args in
     let more = touched-more l.work s.net s.arena s.from s.level s.step l.left l.n (omega arith) in
-    let u = c.before.before.touch in (
-      u.auto.0 ∙ l.invariant.0,
+    let u = c.touch in (
+      u.auto.work ∙ l.invariant.0,
       rw (
         u.ensures,
-        c.before.before.before.before.tally.ensures,
-        c.before.before.before.before.before.before.literal.ensures,
+        c.tally-n.ensures,
+        c.literal-v.ensures,
       ) (sym more ∙ l.invariant.1),
     )
 
-same_length : tie.Need-same-length invariant-loop decreases-loop
-same_length c = c.before.loop.invariant.0
+same_length : tie.Need-shape_of-work invariant-loop decreases-loop
+same_length c = c.loop-left.invariant.0
 
 returns : tie.Need-returns invariant-loop decreases-loop
 returns c =
-    let l = c.before.loop in
-    let s = c.before.before.before.args in
+    let l = c.loop-left in
+    let s = c.args in
     told-by (sym (touched_none l.work s.net s.arena s.from s.level s.step l.left l.n (omega arith)) ∙ l.invariant.1)
 
-pub touch-all-spec : {M : Type 1} → statement M
-touch-all-spec =
+pub touch_all_spec : {M : Type 1} → statement M
+touch_all_spec =
     tie.close
-    (tie.spec
-    invariant-loop decreases-loop (λ c. (refl, refl)) (λ c. omega arith) (λ c κs. search rules) (λ c κs. search rules) (λ c κs. search rules)
-    (λ c. omega arith) loop-again same_length returns)
+    (tie.spec invariant-loop decreases-loop (λ c. (refl, refl)) (λ c. omega arith) (λ c κs. search rules) (λ c κs. search rules) (λ c κs. search rules) (λ c. omega arith) loop-again same_length returns)

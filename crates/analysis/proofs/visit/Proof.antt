@@ -5,28 +5,26 @@ use borrow.Author.Rules.{rules}
 use Rattle.analysis.proofs.visit.Statement.{statement}
 use Rattle.analysis.proofs.visit.Tie as tie
 
-returns : tie.Need-returns
+returns : tie.Need-returns-then-is_member
 unfolding S.visited
 returns c = rw (
-  ← c.before.before.before.before.before.before.before.before.field.ensures,
-  ← c.before.before.before.before.before.before.opposite.ensures,
-  ← c.before.before.before.before.before.is_member.ensures,
-  c.before.before.before.before.if1.true,
-) c.before.before.replace.ensures
+  ← c.field-l.ensures,
+  ← c.opposite.ensures,
+  ← c.is_member.ensures,
+  c.if-is_member.true,
+) c.replace.ensures
 
-returns-2 : tie.Need-returns-2
+returns-2 : tie.Need-returns
 unfolding S.visited
 returns-2 c =
     rw (
-      ← c.before.before.before.before.field.ensures,
-      ← c.before.before.opposite.ensures,
-      ← c.before.is_member.ensures,
-      c.if1.false,
+      ← c.field-l.ensures,
+      ← c.opposite.ensures,
+      ← c.is_member.ensures,
+      c.if-is_member.false,
     ) (record { words = refl; now = refl })
 
-pub visit-spec : {M : Type 1} → statement M
-visit-spec =
+pub visit_spec : {M : Type 1} → statement M
+visit_spec =
     tie.close
-    (tie.spec
-    (λ c κs. search rules) (λ c κs. search rules) (λ c κs. search rules) (λ c κs. search rules) (λ c. search rules) returns
-    (λ c. search rules) returns-2)
+    (tie.spec (λ c κs. search rules) (λ c κs. search rules) (λ c κs. search rules) (λ c κs. search rules) (λ c. search rules) returns (λ c. search rules) returns-2)

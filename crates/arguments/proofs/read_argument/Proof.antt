@@ -6,14 +6,13 @@ use Rattle.arguments.proofs.Numbers.{seed-number, not-number}
 use Rattle.arguments.proofs.read_argument.Statement.{statement}
 use Rattle.arguments.proofs.read_argument.Tie as tie
 
-returns : tie.Need-returns
+returns : tie.Need-returns-then-text-gt10
 returns c = not-number _ (omega arith)
 
-returns-2 : tie.Need-returns-2
-returns-2 c = c.read-seed.ensures ∙ seed-number _ (omega arith)
+returns-2 : tie.Need-returns
+returns-2 c = c.read_seed.ensures ∙ seed-number _ (omega arith)
 
-pub read-argument-spec : {M : Type 1} → statement M
-read-argument-spec =
+pub read_argument_spec : {M : Type 1} → statement M
+read_argument_spec =
     tie.close
-    (tie.spec
-    returns (λ c κs. search rules) returns-2)
+    (tie.spec returns (λ c κs. search rules) returns-2)

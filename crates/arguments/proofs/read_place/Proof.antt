@@ -6,14 +6,13 @@ use Rattle.arguments.proofs.Numbers.{seed-place, not-place}
 use Rattle.arguments.proofs.read_place.Statement.{statement}
 use Rattle.arguments.proofs.read_place.Tie as tie
 
-returns : tie.Need-returns
+returns : tie.Need-returns-then-text-gt19
 returns c = not-place _ (omega arith)
 
-returns-2 : tie.Need-returns-2
-returns-2 c = c.read-seed.ensures ∙ seed-place _ (omega arith)
+returns-2 : tie.Need-returns
+returns-2 c = c.read_seed.ensures ∙ seed-place _ (omega arith)
 
-pub read-place-spec : {M : Type 1} → statement M
-read-place-spec =
+pub read_place_spec : {M : Type 1} → statement M
+read_place_spec =
     tie.close
-    (tie.spec
-    returns (λ c κs. search rules) returns-2)
+    (tie.spec returns (λ c κs. search rules) returns-2)

@@ -5,21 +5,19 @@ use borrow.Author.Rules.{rules}
 use Rattle.choices.proofs.conclude.Statement.{statement}
 use Rattle.choices.proofs.conclude.Tie as tie
 
-returns : tie.Need-returns
+returns : tie.Need-returns-in-Raised
 unfolding Ch.concluded
-returns c = rw c.before.before.before.before.before.raise.given.1 c.before.before.release.ensures
+returns c = rw c.in-Raised.is c.release.ensures
 
-returns-2 : tie.Need-returns-2
+returns-2 : tie.Need-returns-in-NoHit
 unfolding Ch.concluded
-returns-2 c = rw c.before.enum_told.given.1 (record { words = refl; search = c.end.ensures })
+returns-2 c = rw c.in-NoHit.is (record { words = refl; search = c.end.ensures })
 
-returns-3 : tie.Need-returns-3
+returns-3 : tie.Need-returns-in-Unlearnt
 unfolding Ch.concluded
-returns-3 c = rw c.before.enum-told2.given.1 (record { words = refl; search = c.end2.ensures })
+returns-3 c = rw c.in-Unlearnt.is (record { words = refl; search = c.end-in-Unlearnt.ensures })
 
-pub conclude-spec : {M : Type 1} → statement M
-conclude-spec =
+pub conclude_spec : {M : Type 1} → statement M
+conclude_spec =
     tie.close
-    (tie.spec
-    (λ c. search rules) (λ c κs. search rules) (λ c. search rules) (λ c κs. search rules) (λ c. search rules) (λ c κs. search rules)
-    (λ c. search rules) returns returns-2 returns-3)
+    (tie.spec (λ c. search rules) (λ c κs. search rules) (λ c. search rules) (λ c κs. search rules) (λ c. search rules) (λ c κs. search rules) (λ c. search rules) returns returns-2 returns-3)

@@ -6,21 +6,19 @@ use borrow.Author.Rules.{rules}
 use Rattle.choices.proofs.decide_active.Statement.{statement}
 use Rattle.choices.proofs.decide_active.Tie as tie
 
-returns : tie.Need-returns
-returns c = let s = c.before.before.before.before.before.before.before.before.before.before.before.before.before.args in rw (← active-none s.work.now s.net s.s c.before.before.before.before.before.before.before.before.before.skim.ensures.words c.before.before.before.before.before.before.before.before.before.skim.ensures.heap c.before.before.before.with-heap.ensures c.before.before.before.before.before.if1.true) c.before.before.model.ensures
+returns : tie.Need-returns-then-g-eq0
+returns c = let s = c.args in rw (← active-none s.work.now s.net s.s c.skim-g.ensures.words c.skim-g.ensures.heap c.with_heap.ensures c.if-g-eq0.true) c.model.ensures
 
-mul-take : tie.Need-overflow-mul-take
+mul-take : tie.Need-overflow_mul-v
 mul-take c = omega arith
 
-add-take : tie.Need-overflow-add-take
+add-take : tie.Need-overflow_add-v
 add-take c = omega arith
 
-returns-2 : tie.Need-returns-2
-returns-2 c = let s = c.before.before.before.before.before.before.before.before.before.before.before.before.before.before.before.args in rw (← active-some s.work.now s.net s.s c.before.before.before.before.before.before.before.before.before.before.before.skim.ensures.words c.before.before.before.before.before.before.before.before.before.before.before.skim.ensures.heap c.before.before.before.with-heap2.ensures c.before.before.before.before.before.before.before.if1.false c.before.before.before.before.before.at_place.ensures) c.before.before.take.ensures
+returns-2 : tie.Need-returns
+returns-2 c = let s = c.args in rw (← active-some s.work.now s.net s.s c.skim-g.ensures.words c.skim-g.ensures.heap c.with_heap-2.ensures c.if-g-eq0.false c.at_place-v.ensures) c.take.ensures
 
-pub decide-active-spec : {M : Type 1} → statement M
-decide-active-spec =
+pub decide_active_spec : {M : Type 1} → statement M
+decide_active_spec =
     tie.close
-    (tie.spec
-    (λ c κs. search rules) (λ c κs. search rules) (λ c κs. search rules) (λ c. search rules) returns (λ c κs. search rules)
-    (λ c κs. search rules) mul-take add-take (λ c κs. search rules) (λ c. search rules) returns-2)
+    (tie.spec (λ c κs. search rules) (λ c κs. search rules) (λ c κs. search rules) (λ c. search rules) returns (λ c κs. search rules) (λ c κs. search rules) mul-take add-take (λ c κs. search rules) (λ c. search rules) returns-2)

@@ -5,15 +5,13 @@ use borrow.Author.Rules.{rules}
 use Rattle.choices.proofs.decide_next.Statement.{statement}
 use Rattle.choices.proofs.decide_next.Tie as tie
 
-returns : tie.Need-returns
-returns c = let s = c.before.before.before.before.before.before.before.before.before.before.before.args in rw (← next-some s.work.now s.net s.s s.end c.before.before.before.before.before.before.before.agree.ensures c.before.before.before.before.before.before.with-agreed.ensures c.before.before.before.before.before.with-order.ensures c.before.before.before.before.if1.true) c.before.before.assume.ensures
+returns : tie.Need-returns-then-a-end
+returns c = let s = c.args in rw (← next-some s.work.now s.net s.s s.end c.agree-a.ensures c.with_agreed.ensures c.with_order-u.ensures c.if-a-end.true) c.assume.ensures
 
-returns-2 : tie.Need-returns-2
-returns-2 c = let s = c.before.before.before.before.before.before.before.before.before.before.before.args in rw (← next-none s.work.now s.net s.s s.end c.before.before.before.before.before.before.before.agree.ensures c.before.before.before.before.before.before.with-agreed.ensures c.before.before.before.before.before.with-order.ensures c.before.before.before.before.if1.false) c.before.before.decide-active.ensures
+returns-2 : tie.Need-returns
+returns-2 c = let s = c.args in rw (← next-none s.work.now s.net s.s s.end c.agree-a.ensures c.with_agreed.ensures c.with_order-u.ensures c.if-a-end.false) c.decide_active.ensures
 
-pub decide-next-spec : {M : Type 1} → statement M
-decide-next-spec =
+pub decide_next_spec : {M : Type 1} → statement M
+decide_next_spec =
     tie.close
-    (tie.spec
-    (λ c κs. search rules) (λ c κs. search rules) (λ c κs. search rules) (λ c. search rules) (λ c κs. search rules) (λ c. search rules)
-    returns (λ c κs. search rules) (λ c. search rules) returns-2)
+    (tie.spec (λ c κs. search rules) (λ c κs. search rules) (λ c κs. search rules) (λ c. search rules) (λ c κs. search rules) (λ c. search rules) returns (λ c κs. search rules) (λ c. search rules) returns-2)

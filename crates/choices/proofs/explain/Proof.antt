@@ -5,21 +5,19 @@ use borrow.Author.Rules.{rules}
 use Rattle.choices.proofs.explain.Statement.{statement}
 use Rattle.choices.proofs.explain.Tie as tie
 
-returns : tie.Need-returns
+returns : tie.Need-returns-then-is_false
 unfolding Ch.explained
-returns c = rw (← c.before.before.before.before.before.before.opposite.ensures, ← c.before.before.before.before.before.is_false.ensures, c.before.before.before.before.if1.true) (c.before.before.start-literal.ensures)
+returns c = rw (← c.opposite.ensures, ← c.is_false.ensures, c.if-is_false.true) (c.start_literal.ensures)
 
-returns-2 : tie.Need-returns-2
+returns-2 : tie.Need-returns-then-l-net
 unfolding Ch.explained
-returns-2 c = rw (← c.before.before.before.before.before.before.before.before.opposite.ensures, ← c.before.before.before.before.before.before.before.is_false.ensures, c.before.before.before.before.before.before.if1.false, eq-eqb _ _ c.before.before.before.before.if2.true) (c.before.before.start.ensures)
+returns-2 c = rw (← c.opposite.ensures, ← c.is_false.ensures, c.if-is_false.false, eq-eqb _ _ c.if-l-net.true) (c.start.ensures)
 
-returns-3 : tie.Need-returns-3
+returns-3 : tie.Need-returns
 unfolding Ch.explained
-returns-3 c = rw (← c.before.before.before.before.before.before.before.before.before.before.opposite.ensures, ← c.before.before.before.before.before.before.before.before.before.is_false.ensures, ← c.before.before.before.before.field.ensures, c.before.before.before.before.before.before.before.before.if1.false, ne_eqb _ _ c.before.before.before.before.before.before.if2.false) (c.before.before.expand-all.ensures)
+returns-3 c = rw (← c.opposite.ensures, ← c.is_false.ensures, ← c.field-why.ensures, c.if-is_false.false, ne_eqb _ _ c.if-l-net.false) (c.expand_all.ensures)
 
-pub explain-spec : {M : Type 1} → statement M
-explain-spec =
+pub explain_spec : {M : Type 1} → statement M
+explain_spec =
     tie.close
-    (tie.spec
-    (λ c κs. search rules) (λ c κs. search rules) (λ c κs. search rules) (λ c. search rules) returns (λ c. search rules)
-    (λ c κs. search rules) (λ c. search rules) returns-2 (λ c κs. search rules) (λ c κs. search rules) (λ c. search rules) returns-3)
+    (tie.spec (λ c κs. search rules) (λ c κs. search rules) (λ c κs. search rules) (λ c. search rules) returns (λ c. search rules) (λ c κs. search rules) (λ c. search rules) returns-2 (λ c κs. search rules) (λ c κs. search rules) (λ c. search rules) returns-3)

@@ -6,5 +6,5 @@ use Rattle.choices.proofs.ordered.Tie as tie
 returns : tie.Need-returns
 returns c = rw c.sum.ensures
 
-pub ordered-spec : {M : Type 1} → statement M
-ordered-spec = tie.close (tie.spec (λ c κs. search rules) returns)
+pub ordered_spec : {M : Type 1} → statement M
+ordered_spec = tie.close (tie.spec (λ c κs. search rules) returns)

@@ -7,17 +7,15 @@ use borrow.Author.Rules.{rules}
 use Rattle.choices.proofs.release.Statement.{statement}
 use Rattle.choices.proofs.release.Tie as tie
 
-returns : tie.Need-returns
+returns : tie.Need-returns-then-field-eq0
 unfolding Ch.released
-returns c = rw (← c.before.before.before.before.before.before.before.before.field.ensures, ← c.before.before.before.before.before.field2.ensures, ← c.before.before.before.less.ensures, eq-eqb _ _ c.before.before.before.before.before.before.before.if1.true) (c.before.before.retreat.ensures)
+returns c = rw (← c.field.ensures, ← c.field-to.ensures, ← c.less.ensures, eq-eqb _ _ c.if-field-eq0.true) (c.retreat.ensures)
 
-returns-2 : tie.Need-returns-2
+returns-2 : tie.Need-returns
 unfolding Ch.released
-returns-2 c = rw (← c.before.before.before.before.before.field.ensures, ne_eqb _ _ c.before.before.before.before.if1.false) (record { words = refl; search = agreed-by c.before.before.before.before.before.before.before.before.before.args.s c.before.before.before.before.before.before.before.before.before.args.i c.before.before.before.less2.ensures c.before.before.smaller.ensures c.before.with-agreed.ensures c.with-order.ensures })
+returns-2 c = rw (← c.field.ensures, ne_eqb _ _ c.if-field-eq0.false) (record { words = refl; search = agreed-by c.args.s c.args.i c.less-2.ensures c.smaller.ensures c.with_agreed.ensures c.with_order.ensures })
 
 pub release_spec : {M : Type 1} → statement M
 release_spec =
     tie.close
-    (tie.spec
-    (λ c κs. search rules) (λ c κs. search rules) (λ c κs. search rules) (λ c κs. search rules) (λ c. search rules) returns
-    (λ c κs. search rules) (λ c κs. search rules) (λ c κs. search rules) (λ c κs. search rules) (λ c. search rules) returns-2)
+    (tie.spec (λ c κs. search rules) (λ c κs. search rules) (λ c κs. search rules) (λ c κs. search rules) (λ c. search rules) returns (λ c κs. search rules) (λ c κs. search rules) (λ c κs. search rules) (λ c κs. search rules) (λ c. search rules) returns-2)

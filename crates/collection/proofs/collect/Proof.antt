@@ -10,74 +10,72 @@ use Rattle.collection.proofs.Turns.{paid-inside, collected-no-node, collected-no
 use Rattle.collection.proofs.collect.Statement.{statement}
 use Rattle.collection.proofs.collect.Tie as tie
 
-returns : tie.Need-returns
+returns : tie.Need-returns-then-n-eq0
 returns c =
-    let w = c.before.before.before.before.before.args.w.now in
-    collected-no-node (state_of w) c.before.before.before.before.before.args.roots.now c.before.get.result
-    (c.before.get.ensures ∙ sym (count-is w)) c.if1.true
+    let w = c.args.w.now in
+    collected-no-node (state_of w) c.args.roots.now c.get-n.result
+    (c.get-n.ensures ∙ sym (count-is w)) c.if-n-eq0.true
 
-returns-2 : tie.Need-returns-2
+returns-2 : tie.Need-returns-then-room-n
 returns-2 c =
-    let w = c.before.before.before.before.before.before.before.args.w.now in
-    collected-no-room (state_of w) c.before.before.before.before.before.before.before.args.roots.now
-    c.before.before.before.get.result (c.before.before.before.get.ensures ∙ sym (count-is w)) c.before.before.if1.false
-    (omega (arith, c.before.room.ensures, room-is w, c.if2.true))
+    let w = c.args.w.now in
+    collected-no-room (state_of w) c.args.roots.now
+    c.get-n.result (c.get-n.ensures ∙ sym (count-is w)) c.if-n-eq0.false
+    (omega (arith, c.room.ensures, room-is w, c.if-room-n.true))
 
 gather-requires : tie.Need-gather-requires
 gather-requires c κs =
-    let w = c.before.before.before.before.before.before.before.before.before.before.before.before.before.before.args.w.now in
-    let n : (c.before.before.before.before.before.before.before.before.before.before.get.result ≡ 0
-    → ⊥) = c.before.before.before.before.before.before.before.before.before.if1.false in
-    paid-inside (state_of w) (state_of c.before.before.before.before.before.pay.new.0)
-    (c.before.before.before.before.before.before.before.before.before.before.get.result / 4)
-    c.before.before.before.before.before.pay.ensures.0
+    let w = c.args.w.now in
+    let n : (c.get-n.result ≡ 0
+    → ⊥) = c.if-n-eq0.false in
+    paid-inside (state_of w) (state_of c.pay.new.w)
+    (c.get-n.result / 4)
+    c.pay.ensures.0
     (omega (
       arith,
-      c.before.before.before.before.before.before.before.before.before.before.get.ensures,
+      c.get-n.ensures,
       count-is w,
-      c.before.before.before.before.before.before.before.before.room.ensures,
+      c.room.ensures,
       room-is w,
-      c.before.before.before.before.before.before.before.if2.false,
+      c.if-room-n.false,
     )) (omega
-    (arith, c.before.before.before.before.before.before.before.before.before.before.get.ensures, count-is w))
+    (arith, c.get-n.ensures, count-is w))
 
-returns-3 : tie.Need-returns-3
+returns-3 : tie.Need-returns-then-pay
 returns-3 c =
-    let w = c.before.before.before.before.before.before.before.before.before.before.before.before.before.before.before.before.before.before.before.args.w.now in
+    let w = c.args.w.now in
     collected-paid (state_of w)
-    c.before.before.before.before.before.before.before.before.before.before.before.before.before.before.before.before.before.before.before.args.roots.now
-    c.before.before.before.before.before.before.before.before.before.before.before.before.before.before.before.get.result (c.before.before.before.before.before.before.before.before.before.before.before.before.before.before.before.get.ensures ∙ sym (count-is w))
-    c.before.before.before.before.before.before.before.before.before.before.before.before.before.before.if1.false
+    c.args.roots.now
+    c.get-n.result (c.get-n.ensures ∙ sym (count-is w))
+    c.if-n-eq0.false
     (omega (
       arith,
-      c.before.before.before.before.before.before.before.before.before.before.before.before.before.room.ensures,
+      c.room.ensures,
       room-is w,
-      c.before.before.before.before.before.before.before.before.before.before.before.before.if2.false,
+      c.if-room-n.false,
     ))
-    (state_of c.before.before.before.before.before.before.before.before.before.before.pay.new.0)
-    c.before.before.before.before.before.before.before.before.before.before.pay.ensures.0 _
-    (sym c.before.before.before.before.before.before.before.before.before.before.pay.ensures.1
-    ∙ c.before.before.before.before.before.before.before.if3.true) c.before.before.before.before.gather.ensures
+    (state_of c.pay.new.w)
+    c.pay.ensures.0 _
+    (sym c.pay.ensures.1
+    ∙ c.if-pay.true) c.gather.ensures
 
-returns-4 : tie.Need-returns-4
+returns-4 : tie.Need-returns
 returns-4 c =
-    let w = c.before.before.before.before.before.before.before.before.before.before.before.before.args.w.now in
+    let w = c.args.w.now in
     collected-unpaid (state_of w)
-    c.before.before.before.before.before.before.before.before.before.before.before.before.args.roots.now
-    c.before.before.before.before.before.before.before.before.get.result
-    (c.before.before.before.before.before.before.before.before.get.ensures ∙ sym (count-is w))
-    c.before.before.before.before.before.before.before.if1.false
+    c.args.roots.now
+    c.get-n.result
+    (c.get-n.ensures ∙ sym (count-is w))
+    c.if-n-eq0.false
     (omega (
       arith,
-      c.before.before.before.before.before.before.room.ensures,
+      c.room.ensures,
       room-is w,
-      c.before.before.before.before.before.if2.false,
-    )) (state_of c.before.before.before.pay.new.0) c.before.before.before.pay.ensures.0
-    (sym c.before.before.before.pay.ensures.1 ∙ c.if3.false)
+      c.if-room-n.false,
+    )) (state_of c.pay.new.w) c.pay.ensures.0
+    (sym c.pay.ensures.1 ∙ c.if-pay.false)
 
-pub collect-spec : {M : Type 1} → statement M
-collect-spec =
+pub collect_spec : {M : Type 1} → statement M
+collect_spec =
     tie.close
-    (tie.spec
-    (λ c κs. search rules) (λ c. search rules) returns (λ c κs. search rules) (λ c. search rules) returns-2 (λ c κs. search rules)
-    gather-requires (λ c. search rules) (λ c. search rules) returns-3 (λ c. search rules) returns-4)
+    (tie.spec (λ c κs. search rules) (λ c. search rules) returns (λ c κs. search rules) (λ c. search rules) returns-2 (λ c κs. search rules) gather-requires (λ c. search rules) (λ c. search rules) returns-3 (λ c. search rules) returns-4)

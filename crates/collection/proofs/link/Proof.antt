@@ -11,19 +11,18 @@ use Rattle.collection.proofs.link.Statement.{statement}
 use Rattle.collection.proofs.link.Tie as tie
 
 store-requires : tie.Need-store-requires
-store-requires c κs = c.before.before.before.before.requires
+store-requires c κs = c.requires
 
 returns : tie.Need-returns
 unfolding linked_in
 returns c =
-    let a = c.before.before.before.before.before.before.before.args in
+    let a = c.args in
     let s = state_of a.w.now in
-    c.before.before.store.ensures
+    c.store.ensures
     ∙ ap (λ (n : Vertex). with_nodes s (set s.nodes a.k (record { lo = n.lo; hi = n.hi; var = n.var; next = a.x })))
-    c.before.before.before.before.read.ensures
+    c.read-n.ensures
 
-pub link-spec : {M : Type 1} → statement M
-link-spec =
+pub link_spec : {M : Type 1} → statement M
+link_spec =
     tie.close
-    (tie.spec
-    (λ c κs. search rules) store-requires (λ c. search rules) returns)
+    (tie.spec (λ c κs. search rules) store-requires (λ c. search rules) returns)

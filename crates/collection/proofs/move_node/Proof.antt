@@ -11,44 +11,42 @@ use Rattle.collection.proofs.move_node.Statement.{statement}
 use Rattle.collection.proofs.move_node.Tie as tie
 
 store-requires : tie.Need-store-requires
-store-requires c κs = c.before.before.before.before.before.before.before.before.before.before.requires
+store-requires c κs = c.requires
 
 link-requires : tie.Need-link-requires
 link-requires c κs =
-    let a = c.before.before.before.before.before.before.before.before.before.before.before.before.before.before.args in
+    let a = c.args in
     let s = state_of a.w.now in
-    let p = c.before.before.before.before.before.before.before.before.before.before.before.read.result in
+    let p = c.read-p.result in
     let n : Vertex = record {
-      lo = c.before.before.before.before.before.before.before.renamed.result;
-      hi = c.before.before.before.before.before.renamed2.result;
+      lo = c.renamed-lo.result;
+      hi = c.renamed-hi.result;
       var = p.var;
-      next = c.before.before.before.before.before.before.before.before.before.read2.result.next;
+      next = c.read-q.result.next;
     } in
-    inside-by s (state_of c.before.before.before.store.new.0) (set s.nodes a.k n)
-    c.before.before.before.store.ensures (length-set s.nodes a.k n)
-    c.before.before.before.before.before.before.before.before.before.before.before.before.before.before.requires
+    inside-by s (state_of c.store.new.w) (set s.nodes a.k n)
+    c.store.ensures (length-set s.nodes a.k n)
+    c.requires
 
-same_length : tie.Need-same-length
-same_length c = c.before.before.link.auto.0 ∙ c.before.before.before.before.before.before.store.auto.0
+same_length : tie.Need-shape_of-w
+same_length c = c.link.auto.w ∙ c.store.auto.w
 
 returns : tie.Need-returns
 returns c =
-    let a = c.before.before.before.before.before.before.before.before.before.before.before.before.before.before.before.before.before.args in
-    moved_by (state_of a.w.now) (state_of c.before.before.before.before.before.before.store.new.0)
-    (state_of c.before.before.link.new.0) a.n a.k
-    c.before.before.before.before.before.before.before.before.before.before.renamed.result
-    c.before.before.before.before.before.before.before.before.renamed2.result
-    c.before.before.before.before.before.before.before.before.before.before.before.before.before.before.read.result
-    c.before.before.before.before.before.before.before.before.before.before.before.before.read2.result
-    c.before.before.before.before.before.before.before.before.before.before.before.before.before.before.read.ensures
-    c.before.before.before.before.before.before.before.before.before.before.before.before.read2.ensures
-    c.before.before.before.before.before.before.before.before.before.before.renamed.ensures
-    c.before.before.before.before.before.before.before.before.renamed2.ensures
-    c.before.before.before.before.before.before.store.ensures c.before.before.link.ensures
+    let a = c.args in
+    moved_by (state_of a.w.now) (state_of c.store.new.w)
+    (state_of c.link.new.w) a.n a.k
+    c.renamed-lo.result
+    c.renamed-hi.result
+    c.read-p.result
+    c.read-q.result
+    c.read-p.ensures
+    c.read-q.ensures
+    c.renamed-lo.ensures
+    c.renamed-hi.ensures
+    c.store.ensures c.link.ensures
 
-pub move-node-spec : {M : Type 1} → statement M
-move-node-spec =
+pub move_node_spec : {M : Type 1} → statement M
+move_node_spec =
     tie.close
-    (tie.spec
-    (λ c κs. search rules) (λ c κs. search rules) (λ c κs. search rules) (λ c κs. search rules) store-requires link-requires
-    same_length returns)
+    (tie.spec (λ c κs. search rules) (λ c κs. search rules) (λ c κs. search rules) (λ c κs. search rules) store-requires link-requires same_length returns)

@@ -9,26 +9,25 @@ use Rattle.collection.proofs.Turns.{one_left, one-moved}
 use Rattle.collection.proofs.pack_one.Statement.{statement}
 use Rattle.collection.proofs.pack_one.Tie as tie
 
-returns : tie.Need-returns
+returns : tie.Need-returns-then-p-eq0
 returns c =
-    let a = c.before.before.before.before.before.args in
+    let a = c.args in
     let s = state_of a.w.now in
-    let e = one_left s.nodes a.n a.k c.before.before.read.result c.before.before.read.ensures c.if1.true in
+    let e = one_left s.nodes a.n a.k c.read-p.result c.read-p.ensures c.if-p-eq0.true in
     (ap (λ (p : Packed). with_nodes s p.nodes) e, ap (λ (p : Packed). p.count) e)
 
-move-node-requires : tie.Need-move-node-requires
-move-node-requires c κs = c.before.before.before.before.before.before.requires.0
+move-node-requires : tie.Need-move_node-requires
+move-node-requires c κs = c.requires.0
 
-returns-2 : tie.Need-returns-2
+returns-2 : tie.Need-returns
 returns-2 c =
-    let a = c.before.before.before.before.before.before.before.before.before.args in
+    let a = c.args in
     let s = state_of a.w.now in
-    let e = one-moved s.nodes a.n a.k c.before.before.before.before.before.before.read.result
-    c.before.before.before.before.before.before.read.ensures c.before.before.before.before.if1.false in
-    (c.before.before.move-node.ensures ∙ ap (λ (p : Packed). with_nodes s p.nodes) e, ap (λ (p : Packed). p.count) e)
+    let e = one-moved s.nodes a.n a.k c.read-p.result
+    c.read-p.ensures c.if-p-eq0.false in
+    (c.move_node.ensures ∙ ap (λ (p : Packed). with_nodes s p.nodes) e, ap (λ (p : Packed). p.count) e)
 
-pub pack-one-spec : {M : Type 1} → statement M
-pack-one-spec =
+pub pack_one_spec : {M : Type 1} → statement M
+pack_one_spec =
     tie.close
-    (tie.spec
-    (λ c κs. search rules) (λ c. search rules) returns move-node-requires (λ c. search rules) (λ c. search rules) returns-2)
+    (tie.spec (λ c κs. search rules) (λ c. search rules) returns move-node-requires (λ c. search rules) (λ c. search rules) returns-2)

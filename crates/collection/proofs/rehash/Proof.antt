@@ -10,46 +10,43 @@ use Rattle.collection.proofs.Turns.{inside-same, rehashed-more, rehashed-none, l
 use Rattle.collection.proofs.rehash.Statement.{statement}
 use Rattle.collection.proofs.rehash.Tie as tie
 
-abbrev invariant-loop : tie.invariant-loop
+abbrev invariant-loop : tie.invariant-loop-j
 invariant-loop w₀ last j₀ w j = (length w ≡ length w₀) × (state_of w ≡ rehashed j (state_of w₀)) × (j ≤ last)
 
-abbrev decreases-loop : tie.decreases-loop
+abbrev decreases-loop : tie.decreases-loop-j
 decreases-loop w₀ last j₀ w j = last - j
 
-loop-holds : tie.Need-loop-init invariant-loop decreases-loop
-loop-holds c = (refl, rehashed-none (state_of c.before.args.w.now), omega arith)
+loop-holds : tie.Need-loop-j-init invariant-loop decreases-loop
+loop-holds c = (refl, rehashed-none (state_of c.args.w.now), omega arith)
 
-add-hash : tie.Need-overflow-add-hash invariant-loop decreases-loop
-add-hash c = omega (arith, c.before.loop-test.true, c.before.before.before.before.requires.1)
+add-hash : tie.Need-overflow_add-j invariant-loop decreases-loop
+add-hash c = omega (arith, c.loop-j-test.true, c.requires.1)
 
 hash-requires : tie.Need-hash-requires invariant-loop decreases-loop
 hash-requires c κs =
-    let s = state_of c.before.before.before.before.args.w.now in
-    let l = c.before.before.loop in
-    let r = length-rehashed l.j s in
-    inside-same (rehashed l.j s) (state_of l.w) l.invariant.1 (omega (arith, r.0, r.1, c.before.before.before.before.requires.0))
+    let s = state_of c.args.w.now in
+    let r = length-rehashed c.loop-j.j s in
+    inside-same (rehashed c.loop-j.j s) (state_of c.loop-j.w) c.loop-j.invariant.1 (omega (arith, r.0, r.1, c.requires.0))
 
-loop-again : tie.Need-loop-preserved invariant-loop decreases-loop
+loop-again : tie.Need-loop-j-preserved invariant-loop decreases-loop
 loop-again c =
-    let s = state_of c.before.before.before.before.before.before.before.args.w.now in
-    let l = c.before.before.before.before.before.loop in (
-      c.before.before.hash.auto.0 ∙ l.invariant.0,
-      c.before.before.hash.ensures ∙ ap (λ (t : State). hashed t (l.j + 1)) l.invariant.1 ∙ rehashed-more l.j s,
-      omega (arith, c.before.before.before.before.loop-test.true),
+    let s = state_of c.args.w.now in
+    (
+      c.hash.auto.w ∙ c.loop-j.invariant.0,
+      c.hash.ensures ∙ ap (λ (t : State). hashed t (c.loop-j.j + 1)) c.loop-j.invariant.1 ∙ rehashed-more c.loop-j.j s,
+      omega (arith, c.loop-j-test.true),
     )
 
-same_length : tie.Need-same-length invariant-loop decreases-loop
-same_length c = c.before.loop.invariant.0
+same_length : tie.Need-shape_of-w invariant-loop decreases-loop
+same_length c = c.loop-j.invariant.0
 
 returns : tie.Need-returns invariant-loop decreases-loop
 returns c =
-    let s = state_of c.before.before.before.args.w.now in
-    let l = c.before.loop in
-    let e : l.j ≡ c.before.before.before.args.last = omega (arith, l.invariant.2, c.loop-test.false) in
-    l.invariant.1 ∙ ap (λ (i : ℕ). rehashed i s) e
+    let s = state_of c.args.w.now in
+    let e : c.loop-j.j ≡ c.args.last = omega (arith, c.loop-j.invariant.2, c.loop-j-test.false) in
+    c.loop-j.invariant.1 ∙ ap (λ (i : ℕ). rehashed i s) e
 
-pub rehash-spec : {M : Type 1} → statement M
-rehash-spec =
+pub rehash_spec : {M : Type 1} → statement M
+rehash_spec =
     tie.close
-    (tie.spec
-    invariant-loop decreases-loop loop-holds add-hash hash-requires (λ c. search rules) (λ c. search rules) loop-again same_length returns)
+    (tie.spec invariant-loop decreases-loop loop-holds add-hash hash-requires (λ c. search rules) (λ c. search rules) loop-again same_length returns)

@@ -10,34 +10,30 @@ use Rattle.collection.proofs.Turns.{Mapped, mapped-none, mapped-more, mapped-all
 use Rattle.collection.proofs.rename.Statement.{statement}
 use Rattle.collection.proofs.rename.Tie as tie
 
-abbrev invariant-loop : tie.invariant-loop
+abbrev invariant-loop : tie.invariant-loop-at
 invariant-loop w roots₀ at₀ roots at = Mapped (renamed_in (state_of w).nodes) roots₀ roots at
 
-abbrev decreases-loop : tie.decreases-loop
+abbrev decreases-loop : tie.decreases-loop-at
 decreases-loop w roots₀ at₀ roots at = length roots₀ - at
 
-loop-holds : tie.Need-loop-init invariant-loop decreases-loop
-loop-holds c = mapped-none (renamed_in (state_of c.before.before.args.w.now).nodes) c.before.before.args.roots.now
+loop-holds : tie.Need-loop-at-init invariant-loop decreases-loop
+loop-holds c = mapped-none (renamed_in (state_of c.args.w.now).nodes) c.args.roots.now
 
-loop-again : tie.Need-loop-preserved invariant-loop decreases-loop
+loop-again : tie.Need-loop-at-preserved invariant-loop decreases-loop
 loop-again c =
-    let l = c.before.before.before.loop in
-    mapped-more (renamed_in (state_of c.before.before.before.before.before.before.args.w.now).nodes)
-    c.before.before.before.before.before.before.args.roots.now l.roots l.at c.renamed.result (omega arith)
-    c.renamed.ensures l.invariant
+    mapped-more (renamed_in (state_of c.args.w.now).nodes)
+    c.args.roots.now c.loop-at.roots c.loop-at.at c.renamed.result (omega arith)
+    c.renamed.ensures c.loop-at.invariant
 
-same_length : tie.Need-same-length invariant-loop decreases-loop
-same_length c = c.before.loop.invariant.long
+same_length : tie.Need-shape_of-roots invariant-loop decreases-loop
+same_length c = c.loop-at.invariant.long
 
 returns : tie.Need-returns invariant-loop decreases-loop
 returns c =
-    let l = c.before.loop in
-    mapped-all (renamed_in (state_of c.before.before.before.before.args.w.now).nodes)
-    c.before.before.before.before.args.roots.now l.roots l.at (omega arith) l.invariant
+    mapped-all (renamed_in (state_of c.args.w.now).nodes)
+    c.args.roots.now c.loop-at.roots c.loop-at.at (omega arith) c.loop-at.invariant
 
-pub rename-spec : {M : Type 1} → statement M
-rename-spec =
+pub rename_spec : {M : Type 1} → statement M
+rename_spec =
     tie.close
-    (tie.spec
-    invariant-loop decreases-loop loop-holds (λ c. search rules) (λ c. search rules) (λ c κs. search rules) (λ c. search rules)
-    (λ c. search rules) (λ c. search rules) (λ c. search rules) loop-again same_length returns)
+    (tie.spec invariant-loop decreases-loop loop-holds (λ c. search rules) (λ c. search rules) (λ c κs. search rules) (λ c. search rules) (λ c. search rules) (λ c. search rules) (λ c. search rules) loop-again same_length returns)

@@ -10,12 +10,11 @@ use Rattle.collection.proofs.renamed.Tie as tie
 
 returns : tie.Need-returns
 returns c =
-    let a = c.before.before.before.before.args in
-    renamed_by (state_of a.w.now).nodes a.e c.before.before.read.result c.before.edge_to.result c.flip.result
-    c.before.before.read.ensures c.before.edge_to.ensures c.flip.ensures
+    let a = c.args in
+    renamed_by (state_of a.w.now).nodes a.e c.read-n.result c.edge_to.result c.flip.result
+    c.read-n.ensures c.edge_to.ensures c.flip.ensures
 
-pub renamed-spec : {M : Type 1} → statement M
-renamed-spec =
+pub renamed_spec : {M : Type 1} → statement M
+renamed_spec =
     tie.close
-    (tie.spec
-    (λ c κs. search rules) (λ c κs. search rules) (λ c κs. search rules) returns)
+    (tie.spec (λ c κs. search rules) (λ c κs. search rules) (λ c κs. search rules) returns)

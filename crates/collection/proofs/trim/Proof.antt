@@ -12,41 +12,39 @@ use Rattle.collection.proofs.trim.Tie as tie
 
 zero-requires : tie.Need-zero-requires
 zero-requires c κs =
-    let w = c.before.before.before.before.before.before.args.w.now in
+    let w = c.args.w.now in
     let f = room_fits (length w) 0 (omega (
       arith,
       room-is w,
-      c.before.before.before.before.before.before.requires.0,
-      c.before.before.before.before.before.before.requires.1,
-      c.before.before.before.before.before.before.requires.2,
+      c.requires.0,
+      c.requires.1,
+      c.requires.2,
     )) in
-    (omega arith, omega (arith, f, c.before.before.before.put.auto.0))
+    (omega arith, omega (arith, f, c.put.auto.w))
 
 zero-requires-2 : tie.Need-zero-requires-2
 zero-requires-2 c κs = (
   omega arith,
   omega
-      (arith, c.before.before.before.before.before.before.before.put.auto.0, c.before.before.before.zero.auto.0),
+      (arith, c.put.auto.w, c.zero.auto.w),
 )
 
-same_length : tie.Need-same-length
-same_length c = c.before.before.zero2.auto.0 ∙ c.before.before.before.before.before.before.zero.auto.0
-    ∙ c.before.before.before.before.before.before.before.before.before.before.put.auto.0
+same_length : tie.Need-shape_of-w
+same_length c = c.zero-2.auto.w ∙ c.zero.auto.w
+    ∙ c.put.auto.w
 
 returns : tie.Need-returns
 returns c =
-    let a = c.before.before.before.before.before.before.before.before.before.before.before.before.before.args in
-    trim-left a.w.now c.before.before.before.before.before.before.before.before.before.before.put.new.0
-    c.before.before.before.before.before.before.zero.new.0 c.before.before.zero2.new.0 a.k
-    c.before.before.before.before.before.before.before.before.before.before.before.before.before.requires.0
-    c.before.before.before.before.before.before.before.before.before.before.before.before.before.requires.1
-    c.before.before.before.before.before.before.before.before.before.before.before.before.before.requires.2
-    c.before.before.before.before.before.before.before.before.before.before.put.ensures
-    c.before.before.before.before.before.before.zero.ensures c.before.before.zero2.ensures
+    let a = c.args in
+    trim-left a.w.now c.put.new.w
+    c.zero.new.w c.zero-2.new.w a.k
+    c.requires.0
+    c.requires.1
+    c.requires.2
+    c.put.ensures
+    c.zero.ensures c.zero-2.ensures
 
-pub trim-spec : {M : Type 1} → statement M
-trim-spec =
+pub trim_spec : {M : Type 1} → statement M
+trim_spec =
     tie.close
-    (tie.spec
-    (λ c. search rules) (λ c. search rules) (λ c. search rules) (λ c κs. search rules) zero-requires zero-requires-2 same_length
-    returns)
+    (tie.spec (λ c. search rules) (λ c. search rules) (λ c. search rules) (λ c κs. search rules) zero-requires zero-requires-2 same_length returns)

@@ -13,51 +13,47 @@ use Rattle.collection.proofs.Turns.{inside-by, again, length-unmarked, unmarked-
 use Rattle.collection.proofs.unmark.Statement.{statement}
 use Rattle.collection.proofs.unmark.Tie as tie
 
-abbrev invariant-loop : tie.invariant-loop
+abbrev invariant-loop : tie.invariant-loop-i
 invariant-loop w₀ n i₀ w i =
     (length w ≡ length w₀) × (state_of w ≡ with_nodes (state_of w₀) (unmarked_in i (state_of w₀).nodes)) × (i ≤ n)
 
-abbrev decreases-loop : tie.decreases-loop
+abbrev decreases-loop : tie.decreases-loop-i
 decreases-loop w₀ n i₀ w i = n - i
 
-loop-holds : tie.Need-loop-init invariant-loop decreases-loop
+loop-holds : tie.Need-loop-i-init invariant-loop decreases-loop
 loop-holds c = (
   refl,
-  ap (with_nodes (state_of c.before.before.before.args.w.now))
-      (unmarked-none (state_of c.before.before.before.args.w.now).nodes),
+  ap (with_nodes (state_of c.args.w.now))
+      (unmarked-none (state_of c.args.w.now).nodes),
   omega arith,
 )
 
 link-requires : tie.Need-link-requires invariant-loop decreases-loop
 link-requires c κs =
-    let s = state_of c.before.before.before.before.before.before.args.w.now in
-    let l = c.before.before.loop in
-    inside-by s (state_of l.w) (unmarked_in l.i s.nodes) l.invariant.1 (length-unmarked l.i s.nodes)
-    c.before.before.before.before.before.before.requires
+    let s = state_of c.args.w.now in
+    inside-by s (state_of c.loop-i.w) (unmarked_in c.loop-i.i s.nodes) c.loop-i.invariant.1 (length-unmarked c.loop-i.i s.nodes)
+    c.requires
 
-loop-again : tie.Need-loop-preserved invariant-loop decreases-loop
+loop-again : tie.Need-loop-i-preserved invariant-loop decreases-loop
 loop-again c =
-    let s = state_of c.before.before.before.before.before.before.before.before.before.args.w.now in
-    let l = c.before.before.before.before.before.loop in (
-      c.before.before.link.auto.0 ∙ l.invariant.0,
-      c.before.before.link.ensures ∙ again s (state_of l.w) (λ ns. linked_in ns l.i 0) (unmarked_in l.i s.nodes) l.invariant.1
-          ∙ ap (with_nodes s) (unmarked-more l.i s.nodes),
-      omega (arith, c.before.before.before.before.loop-test.true),
+    let s = state_of c.args.w.now in
+    (
+      c.link.auto.w ∙ c.loop-i.invariant.0,
+      c.link.ensures ∙ again s (state_of c.loop-i.w) (λ ns. linked_in ns c.loop-i.i 0) (unmarked_in c.loop-i.i s.nodes) c.loop-i.invariant.1
+          ∙ ap (with_nodes s) (unmarked-more c.loop-i.i s.nodes),
+      omega (arith, c.loop-i-test.true),
     )
 
-same_length : tie.Need-same-length invariant-loop decreases-loop
-same_length c = c.before.loop.invariant.0
+same_length : tie.Need-shape_of-w invariant-loop decreases-loop
+same_length c = c.loop-i.invariant.0
 
 returns : tie.Need-returns invariant-loop decreases-loop
 returns c =
-    let w = c.before.before.before.before.before.args.w.now in
-    let l = c.before.loop in
-    let e : l.i ≡ length (state_of w).nodes = omega (arith, count-is w, c.before.before.get.ensures, l.invariant.2, c.loop-test.false) in
-    l.invariant.1 ∙ ap (λ (i : ℕ). with_nodes (state_of w) (unmarked_in i (state_of w).nodes)) e
+    let w = c.args.w.now in
+    let e : c.loop-i.i ≡ length (state_of w).nodes = omega (arith, count-is w, c.get-n.ensures, c.loop-i.invariant.2, c.loop-i-test.false) in
+    c.loop-i.invariant.1 ∙ ap (λ (i : ℕ). with_nodes (state_of w) (unmarked_in i (state_of w).nodes)) e
 
-pub unmark-spec : {M : Type 1} → statement M
-unmark-spec =
+pub unmark_spec : {M : Type 1} → statement M
+unmark_spec =
     tie.close
-    (tie.spec
-    invariant-loop decreases-loop (λ c κs. search rules) loop-holds link-requires (λ c. search rules) (λ c. search rules) loop-again same_length
-    returns)
+    (tie.spec invariant-loop decreases-loop (λ c κs. search rules) loop-holds link-requires (λ c. search rules) (λ c. search rules) loop-again same_length returns)

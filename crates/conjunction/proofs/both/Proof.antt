@@ -6,10 +6,9 @@ use Rattle.conjunction.proofs.both.Tie as tie
 
 returns : tie.Need-returns
 unfolding C.both
-returns c = c.before.before.both-within.ensures
+returns c = c.both_within.ensures
 
-pub both-spec : {M : Type 1} → statement M
-both-spec =
+pub both_spec : {M : Type 1} → statement M
+both_spec =
     tie.close
-    (tie.spec
-    (λ c κs. search rules) (λ c. search rules) returns)
+    (tie.spec (λ c κs. search rules) (λ c. search rules) returns)

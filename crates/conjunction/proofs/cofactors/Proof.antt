@@ -7,17 +7,15 @@ use Rattle.conjunction.proofs.cofactors.Tie as tie
 
 returns : tie.Need-returns
 returns c =
-    let a = c.before.before.before.before.before.before.before.before.args in
-    split_by (state_of a.w.now).nodes a.f a.g c.before.before.before.before.before.before.read.result
-    c.before.before.before.before.before.read2.result c.before.before.before.before.smaller.result
-    c.before.before.before.low.result c.before.before.low2.result c.before.high.result c.high2.result
-    c.before.before.before.before.before.before.read.ensures c.before.before.before.before.before.read2.ensures
-    c.before.before.before.before.smaller.ensures c.before.before.before.low.ensures c.before.before.low2.ensures
-    c.before.high.ensures c.high2.ensures
+    let a = c.args in
+    split_by (state_of a.w.now).nodes a.f a.g c.read-p.result
+    c.read-q.result c.smaller-var.result
+    c.low.result c.low-2.result c.high.result c.high-2.result
+    c.read-p.ensures c.read-q.ensures
+    c.smaller-var.ensures c.low.ensures c.low-2.ensures
+    c.high.ensures c.high-2.ensures
 
-pub cofactors-spec : {M : Type 1} → statement M
-cofactors-spec =
+pub cofactors_spec : {M : Type 1} → statement M
+cofactors_spec =
     tie.close
-    (tie.spec
-    (λ c κs. search rules) (λ c κs. search rules) (λ c κs. search rules) (λ c κs. search rules) (λ c κs. search rules)
-    (λ c κs. search rules) (λ c κs. search rules) returns)
+    (tie.spec (λ c κs. search rules) (λ c κs. search rules) (λ c κs. search rules) (λ c κs. search rules) (λ c κs. search rules) (λ c κs. search rules) (λ c κs. search rules) returns)

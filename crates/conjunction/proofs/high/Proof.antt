@@ -5,16 +5,15 @@ use Rattle.conjunction.specs.Conjunction.{high}
 use Rattle.conjunction.proofs.high.Statement.{statement}
 use Rattle.conjunction.proofs.high.Tie as tie
 
-returns : tie.Need-returns
+returns : tie.Need-returns-then-n-v
 unfolding high
-returns c = rw (eq-eqb _ _ c.before.if1.true) c.flip.ensures
+returns c = rw (eq-eqb _ _ c.if-n-v.true) c.flip.ensures
 
-returns-2 : tie.Need-returns-2
+returns-2 : tie.Need-returns
 unfolding high
-returns-2 c = rw (ne_eqb _ _ c.if1.false)
+returns-2 c = rw (ne_eqb _ _ c.if-n-v.false)
 
-pub high-spec : {M : Type 1} → statement M
-high-spec =
+pub high_spec : {M : Type 1} → statement M
+high_spec =
     tie.close
-    (tie.spec
-    (λ c κs. search rules) returns returns-2)
+    (tie.spec (λ c κs. search rules) returns returns-2)

@@ -5,16 +5,15 @@ use Rattle.conjunction.specs.Conjunction.{larger}
 use Rattle.conjunction.proofs.larger.Statement.{statement}
 use Rattle.conjunction.proofs.larger.Tie as tie
 
-returns : tie.Need-returns
+returns : tie.Need-returns-then-a-b
 unfolding larger
-returns c = rw (lt-ltb _ _ c.if1.true)
+returns c = rw (lt-ltb _ _ c.if-a-b.true)
 
-returns-2 : tie.Need-returns-2
+returns-2 : tie.Need-returns
 unfolding larger
-returns-2 c = rw (le-ltb _ _ c.if1.false)
+returns-2 c = rw (le-ltb _ _ c.if-a-b.false)
 
-pub larger-spec : {M : Type 1} → statement M
-larger-spec =
+pub larger_spec : {M : Type 1} → statement M
+larger_spec =
     tie.close
-    (tie.spec
-    returns returns-2)
+    (tie.spec returns returns-2)

@@ -5,16 +5,15 @@ use Rattle.conjunction.specs.Conjunction.{low}
 use Rattle.conjunction.proofs.low.Statement.{statement}
 use Rattle.conjunction.proofs.low.Tie as tie
 
-returns : tie.Need-returns
+returns : tie.Need-returns-then-n-v
 unfolding low
-returns c = rw (eq-eqb _ _ c.before.if1.true) c.flip.ensures
+returns c = rw (eq-eqb _ _ c.if-n-v.true) c.flip.ensures
 
-returns-2 : tie.Need-returns-2
+returns-2 : tie.Need-returns
 unfolding low
-returns-2 c = rw (ne_eqb _ _ c.if1.false)
+returns-2 c = rw (ne_eqb _ _ c.if-n-v.false)
 
-pub low-spec : {M : Type 1} → statement M
-low-spec =
+pub low_spec : {M : Type 1} → statement M
+low_spec =
     tie.close
-    (tie.spec
-    (λ c κs. search rules) returns returns-2)
+    (tie.spec (λ c κs. search rules) returns returns-2)

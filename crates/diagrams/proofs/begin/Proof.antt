@@ -12,18 +12,16 @@ returns : tie.Need-returns
 unfolding begun
 returns c =
     let n = 4 * (length
-    c.before.before.before.before.before.before.before.before.before.before.before.before.before.before.before.before.before.args.w.now / 16) + 6 in
-    c.before.before.put3.ensures
+    c.args.w.now / 16) + 6 in
+    c.put-3.ensures
     ∙ ap (λ (l : List ℕ). set l n 4294967295)
-    (c.before.before.before.before.before.before.put2.ensures ∙ ap
+    (c.put-2.ensures ∙ ap
     (λ (l : List ℕ). set l 1
-    c.before.before.before.before.before.before.before.before.before.before.before.before.before.before.before.before.before.args.looks) (c.before.before.before.before.before.before.before.before.before.before.put.ensures ∙ ap
+    c.args.looks) (c.put.ensures ∙ ap
     (λ (l : List ℕ). set l 0 1)
-    c.before.before.before.before.before.before.before.before.before.before.before.before.before.before.clear.ensures))
+    c.clear.ensures))
 
-pub begin-spec : {M : Type 1} → statement M
-begin-spec =
+pub begin_spec : {M : Type 1} → statement M
+begin_spec =
     tie.close
-    (tie.spec
-    (λ c. search rules) (λ c. search rules) (λ c κs. search rules) (λ c κs. search rules) (λ c κs. search rules)
-    (λ c κs. search rules) (λ c. search rules) returns)
+    (tie.spec (λ c. search rules) (λ c. search rules) (λ c κs. search rules) (λ c κs. search rules) (λ c κs. search rules) (λ c κs. search rules) (λ c. search rules) returns)

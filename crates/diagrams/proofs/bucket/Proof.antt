@@ -8,7 +8,7 @@ use Rattle.diagrams.specs.Words.{bucket_of}
 use Rattle.diagrams.proofs.bucket.Statement.{statement}
 use Rattle.diagrams.proofs.bucket.Tie as tie
 
-mul-result : tie.Need-overflow-mul-result
+mul-result : tie.Need-overflow_mul-result
 mul-result c =
     let a = c.args in
     let x = (a.a * 1327217885 + a.b * 889516853 + a.c * 1640531527) % 4294967296 in
@@ -23,8 +23,7 @@ returns c =
     let l : x * (a.size % 4294967296) ≤ x * 4294967295 = mul-le-mul_left x (omega arith) in
     (refl, omega (arith, l))
 
-pub bucket-spec : {M : Type 1} → statement M
-bucket-spec =
+pub bucket_spec : {M : Type 1} → statement M
+bucket_spec =
     tie.close
-    (tie.spec
-    (λ c. search rules) (λ c. search rules) (λ c. search rules) (λ c. search rules) (λ c. search rules) mul-result returns)
+    (tie.spec (λ c. search rules) (λ c. search rules) (λ c. search rules) (λ c. search rules) (λ c. search rules) mul-result returns)

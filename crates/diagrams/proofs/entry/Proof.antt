@@ -10,35 +10,29 @@ use Rattle.diagrams.proofs.Stores.{entry_in, entry-out}
 use Rattle.diagrams.proofs.entry.Statement.{statement}
 use Rattle.diagrams.proofs.entry.Tie as tie
 
-returns : tie.Need-returns
+returns : tie.Need-returns-then-w-at
 returns c =
-    let a = c.before.before.before.before.before.before.before.before.args in
-    let b = c.before.before.before.before.before.before.bucket in
+    let a = c.args in
     sym
-    (entry_in a.w.now a.f a.g a.h b.result (4 * b.result + 4) b.ensures.0 refl
-    c.before.before.before.before.before.if1.true
-    ∙ ap (λ (t : Bool). cond t (hint-variants.Edge (get_or a.w.now (4 * b.result + 4 + 3) 0)) hint-variants.Nothing)
-    c.before.if2.true)
+    (entry_in a.w.now a.f a.g a.h c.bucket-i.result (4 * c.bucket-i.result + 4) c.bucket-i.ensures.0 refl
+    c.if-i-w.true
+    ∙ ap (λ (t : Bool). cond t (hint-variants.Edge (get_or a.w.now (4 * c.bucket-i.result + 4 + 3) 0)) hint-variants.Nothing)
+    c.if-w-at.true)
 
-returns-2 : tie.Need-returns-2
+returns-2 : tie.Need-returns-else-w-at
 returns-2 c =
-    let a = c.before.before.before.before.before.before.before.args in
-    let b = c.before.before.before.before.before.bucket in
+    let a = c.args in
     sym
-    (entry_in a.w.now a.f a.g a.h b.result (4 * b.result + 4) b.ensures.0 refl
-    c.before.before.before.before.if1.true
-    ∙ ap (λ (t : Bool). cond t (hint-variants.Edge (get_or a.w.now (4 * b.result + 4 + 3) 0)) hint-variants.Nothing) c.if2.false)
+    (entry_in a.w.now a.f a.g a.h c.bucket-i.result (4 * c.bucket-i.result + 4) c.bucket-i.ensures.0 refl
+    c.if-i-w.true
+    ∙ ap (λ (t : Bool). cond t (hint-variants.Edge (get_or a.w.now (4 * c.bucket-i.result + 4 + 3) 0)) hint-variants.Nothing) c.if-w-at.false)
 
-returns-3 : tie.Need-returns-3
+returns-3 : tie.Need-returns-else-i-w
 returns-3 c =
-    let a = c.before.before.before.args in
-    let b = c.before.bucket in
-    sym (entry-out a.w.now a.f a.g a.h b.result (4 * b.result + 4) b.ensures.0 refl c.if1.false)
+    let a = c.args in
+    sym (entry-out a.w.now a.f a.g a.h c.bucket-i.result (4 * c.bucket-i.result + 4) c.bucket-i.ensures.0 refl c.if-i-w.false)
 
 pub entry_spec : {M : Type 1} → statement M
 entry_spec =
     tie.close
-    (tie.spec
-    (λ c κs. search rules) (λ c. search rules) (λ c. search rules) (λ c. search rules) (λ c. search rules) (λ c. search rules)
-    (λ c. search rules) (λ c. search rules) (λ c. search rules) (λ c. search rules) (λ c. search rules) (λ c. search rules)
-    (λ c. search rules) (λ c. search rules) returns returns-2 returns-3)
+    (tie.spec (λ c κs. search rules) (λ c. search rules) (λ c. search rules) (λ c. search rules) (λ c. search rules) (λ c. search rules) (λ c. search rules) (λ c. search rules) (λ c. search rules) (λ c. search rules) (λ c. search rules) (λ c. search rules) (λ c. search rules) (λ c. search rules) returns returns-2 returns-3)

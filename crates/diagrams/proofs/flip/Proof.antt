@@ -7,8 +7,7 @@ use Rattle.diagrams.proofs.flip.Tie as tie
 returns : tie.Need-returns
 returns c = xor-flip c.args.e c.args.c
 
-pub flip-spec : {M : Type 1} → statement M
-flip-spec =
+pub flip_spec : {M : Type 1} → statement M
+flip_spec =
     tie.close
-    (tie.spec
-    returns)
+    (tie.spec returns)

@@ -9,10 +9,9 @@ use Rattle.diagrams.proofs.is_above.Tie as tie
 
 returns : tie.Need-returns
 unfolding is_above
-returns c = ap (λ (n : Vertex). ltb c.before.before.before.args.v n.var) c.before.read.ensures
+returns c = ap (λ (n : Vertex). ltb c.args.v n.var) c.read-n.ensures
 
-pub is-above-spec : {M : Type 1} → statement M
-is-above-spec =
+pub is_above_spec : {M : Type 1} → statement M
+is_above_spec =
     tie.close
-    (tie.spec
-    (λ c κs. search rules) returns)
+    (tie.spec (λ c κs. search rules) returns)

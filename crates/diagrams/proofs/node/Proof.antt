@@ -6,35 +6,30 @@ use Rattle.diagrams.proofs.Follow.{made-same, made-edge, made-full}
 use Rattle.diagrams.proofs.node.Statement.{statement}
 use Rattle.diagrams.proofs.node.Tie as tie
 
-returns : tie.Need-returns
-returns c = let a = c.before.before.args in made-same (state_of a.w.now) a.v a.lo a.hi c.if1.true
+returns : tie.Need-returns-then-lo-hi
+returns c = let a = c.args in made-same (state_of a.w.now) a.v a.lo a.hi c.if-lo-hi.true
 
-returns-2 : tie.Need-returns-2
+returns-2 : tie.Need-returns-in-Edge
 returns-2 c =
-    let a = c.before.before.before.before.before.before.before.before.before.before.before.before.args in
-    let m = c.before.before.before.before.before.before.find-or-append in
-    let k = c.before.before.e.given in
+    let a = c.args in
     made-edge (state_of a.w.now) a.v a.lo a.hi
-    c.before.before.before.before.before.before.before.before.flip.result
-    c.before.before.before.before.before.before.before.flip2.result
-    c.before.before.before.before.before.before.before.before.before.before.if1.false
-    c.before.before.before.before.before.before.before.before.flip.ensures
-    c.before.before.before.before.before.before.before.flip2.ensures
-    (state_of m.new.0) k.0.0 c.flip3.result (ap (left m.new.0) (sym k.1) ∙ m.ensures) c.flip3.ensures
+    c.flip.result
+    c.flip-2.result
+    c.if-lo-hi.false
+    c.flip.ensures
+    c.flip-2.ensures
+    (state_of c.find_or_append.new.w) c.in-Edge.e c.flip-in-Edge.result (ap (left c.find_or_append.new.w) (sym c.in-Edge.is) ∙ c.find_or_append.ensures) c.flip-in-Edge.ensures
 
-returns-3 : tie.Need-returns-3
+returns-3 : tie.Need-returns-in-Full
 returns-3 c =
-    let a = c.before.before.before.before.before.before.before.before.before.before.args in
-    let m = c.before.before.before.before.find-or-append in
-    made-full (state_of a.w.now) a.v a.lo a.hi c.before.before.before.before.before.before.flip.result
-    c.before.before.before.before.before.flip2.result
-    c.before.before.before.before.before.before.before.before.if1.false
-    c.before.before.before.before.before.before.flip.ensures c.before.before.before.before.before.flip2.ensures
-    (state_of m.new.0) (ap (left m.new.0) (sym c.enum_told.given.1) ∙ m.ensures)
+    let a = c.args in
+    made-full (state_of a.w.now) a.v a.lo a.hi c.flip.result
+    c.flip-2.result
+    c.if-lo-hi.false
+    c.flip.ensures c.flip-2.ensures
+    (state_of c.find_or_append.new.w) (ap (left c.find_or_append.new.w) (sym c.in-Full.is) ∙ c.find_or_append.ensures)
 
-pub node-spec : {M : Type 1} → statement M
-node-spec =
+pub node_spec : {M : Type 1} → statement M
+node_spec =
     tie.close
-    (tie.spec
-    returns (λ c κs. search rules) (λ c κs. search rules) (λ c κs. search rules) (λ c. search rules) (λ c κs. search rules)
-    (λ c. search rules) (λ c. search rules) returns-2 (λ c. search rules) returns-3)
+    (tie.spec returns (λ c κs. search rules) (λ c κs. search rules) (λ c κs. search rules) (λ c. search rules) (λ c κs. search rules) (λ c. search rules) (λ c. search rules) returns-2 (λ c. search rules) returns-3)

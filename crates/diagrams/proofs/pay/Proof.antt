@@ -9,27 +9,26 @@ use Rattle.diagrams.proofs.Stores.{paid-none, paid-some, is-paid, not-paid}
 use Rattle.diagrams.proofs.pay.Statement.{statement}
 use Rattle.diagrams.proofs.pay.Tie as tie
 
-returns : tie.Need-returns
+returns : tie.Need-returns-then-looks-n
 returns c =
-    let a = c.before.before.before.before.args in (
-      paid-none a.w.now a.n (omega (arith, c.before.get.ensures, c.if1.true)),
+    let a = c.args in (
+      paid-none a.w.now a.n (omega (arith, c.get-looks.ensures, c.if-looks-n.true)),
       not-paid a.w.now a.n
-          (omega (arith, c.before.get.ensures, c.if1.true)),
+          (omega (arith, c.get-looks.ensures, c.if-looks-n.true)),
     )
 
-returns-2 : tie.Need-returns-2
+returns-2 : tie.Need-returns
 returns-2 c =
-    let a = c.before.before.before.before.before.before.before.before.args in (
-      ap state_of (c.before.before.put.ensures ∙ ap (λ (x : ℕ). set a.w.now 1 (x - a.n))
-          c.before.before.before.before.before.get.ensures)
+    let a = c.args in (
+      ap state_of (c.put.ensures ∙ ap (λ (x : ℕ). set a.w.now 1 (x - a.n))
+          c.get-looks.ensures)
           ∙ paid-some a.w.now a.n (omega
-          (arith, c.before.before.before.before.before.get.ensures, c.before.before.before.before.if1.false)),
+          (arith, c.get-looks.ensures, c.if-looks-n.false)),
       is-paid a.w.now a.n (omega
-          (arith, c.before.before.before.before.before.get.ensures, c.before.before.before.before.if1.false)),
+          (arith, c.get-looks.ensures, c.if-looks-n.false)),
     )
 
-pub pay-spec : {M : Type 1} → statement M
-pay-spec =
+pub pay_spec : {M : Type 1} → statement M
+pay_spec =
     tie.close
-    (tie.spec
-    (λ c κs. search rules) (λ c. search rules) returns (λ c κs. search rules) (λ c. search rules) returns-2)
+    (tie.spec (λ c κs. search rules) (λ c. search rules) returns (λ c κs. search rules) (λ c. search rules) returns-2)

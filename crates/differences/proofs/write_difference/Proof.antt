@@ -8,55 +8,52 @@ use Rattle.differences.proofs.write_difference.Tie as tie
 use Rattle.differences.proofs.write_difference.Reads as reads
 use Rattle.differences.proofs.write_difference.Lts as lts
 
-abbrev invariant-loop : tie.invariant-loop
+abbrev invariant-loop : tie.invariant-loop-rest
 invariant-loop out₀ at n end₀ rest₀ out end rest = Written out₀ at n out end rest × (length out ≡ length out₀)
 
-abbrev decreases-loop : tie.decreases-loop
+abbrev decreases-loop : tie.decreases-loop-rest
 decreases-loop out₀ at n end₀ rest₀ out end rest = rest
 
-loop-holds : tie.Need-loop-init invariant-loop decreases-loop
+loop-holds : tie.Need-loop-rest-init invariant-loop decreases-loop
 loop-holds c =
     let a = c.args in
     (write-start a.out.now a.at a.n (omega arith) (sym (take-append-drop a.at a.out.now)), refl)
 
-add-out : tie.Need-overflow-add-out invariant-loop decreases-loop
+add-out : tie.Need-overflow_add-out invariant-loop decreases-loop
 add-out c = omega arith
 
-cast-out : tie.Need-overflow-cast-out invariant-loop decreases-loop
+cast-out : tie.Need-overflow_cast-out invariant-loop decreases-loop
 cast-out c = omega arith
 
-slice-write-out : tie.Need-slice-write-out invariant-loop decreases-loop
-slice-write-out c = omega (arith, inside c.before.loop.invariant.0 c.before.before.requires, c.before.loop.invariant.1)
+slice-write-out : tie.Need-bounds-out-end invariant-loop decreases-loop
+slice-write-out c = omega (arith, inside c.loop-rest.invariant.0 c.requires, c.loop-rest.invariant.1)
 
-add-end : tie.Need-overflow-add-end invariant-loop decreases-loop
-add-end c = omega (arith, inside c.before.loop.invariant.0 c.before.before.requires, c.before.loop.invariant.1)
+add-end : tie.Need-overflow_add-end invariant-loop decreases-loop
+add-end c = omega (arith, inside c.loop-rest.invariant.0 c.requires, c.loop-rest.invariant.1)
 
-loop-less : tie.Need-loop-smaller invariant-loop decreases-loop
+loop-less : tie.Need-loop-rest-smaller invariant-loop decreases-loop
 loop-less c = omega arith
 
-loop-again : tie.Need-loop-preserved invariant-loop decreases-loop
+loop-again : tie.Need-loop-rest-preserved invariant-loop decreases-loop
 loop-again c =
-    let l = c.before in
-    (write-more l.loop.invariant.0 l.before.requires c.loop-test.true _ (omega arith), length-set l.loop.out l.loop.end _ ∙ l.loop.invariant.1)
+    (write-more c.loop-rest.invariant.0 c.requires c.loop-rest-test.true _ (omega arith), length-set c.loop-rest.out c.loop-rest.end _ ∙ c.loop-rest.invariant.1)
 
-cast-out-2 : tie.Need-overflow-cast-out-2 invariant-loop decreases-loop
+cast-out-2 : tie.Need-overflow_cast-out-2 invariant-loop decreases-loop
 cast-out-2 c = omega arith
 
-slice-write-out-2 : tie.Need-slice-write-out-2 invariant-loop decreases-loop
-slice-write-out-2 c = omega (arith, inside c.before.loop.invariant.0 c.before.before.requires, c.before.loop.invariant.1)
+slice-write-out-2 : tie.Need-bounds-out-end-2 invariant-loop decreases-loop
+slice-write-out-2 c = omega (arith, inside c.loop-rest.invariant.0 c.requires, c.loop-rest.invariant.1)
 
-add-result : tie.Need-overflow-add-result invariant-loop decreases-loop
-add-result c = omega (arith, inside c.before.loop.invariant.0 c.before.before.requires, c.before.loop.invariant.1)
+add-result : tie.Need-overflow_add-result invariant-loop decreases-loop
+add-result c = omega (arith, inside c.loop-rest.invariant.0 c.requires, c.loop-rest.invariant.1)
 
-same_length : tie.Need-same-length invariant-loop decreases-loop
-same_length c = length-set c.before.loop.out c.before.loop.end _ ∙ c.before.loop.invariant.1
+same_length : tie.Need-shape_of-out invariant-loop decreases-loop
+same_length c = length-set c.loop-rest.out c.loop-rest.end _ ∙ c.loop-rest.invariant.1
 
 returns : tie.Need-returns invariant-loop decreases-loop
-returns c = write_done c.before.loop.invariant.0 c.before.before.requires c.loop-test.false _ (omega arith)
+returns c = write_done c.loop-rest.invariant.0 c.requires c.loop-rest-test.false _ (omega arith)
 
-pub write-difference-spec : {M : Type 1} → statement M
-write-difference-spec =
+pub write_difference_spec : {M : Type 1} → statement M
+write_difference_spec =
     tie.close
-    (tie.spec
-    invariant-loop decreases-loop loop-holds add-out cast-out slice-write-out add-end loop-less loop-again cast-out-2 slice-write-out-2 add-result
-    same_length returns)
+    (tie.spec invariant-loop decreases-loop loop-holds add-out cast-out slice-write-out add-end loop-less loop-again cast-out-2 slice-write-out-2 add-result same_length returns)

@@ -8,5 +8,5 @@ returns : tie.Need-returns
 unfolding P.bit_of
 returns c = rw (← c.field.ensures)
 
-pub bit-spec : {M : Type 1} → statement M
-bit-spec = tie.close (tie.spec (λ c κs. search rules) returns)
+pub bit_spec : {M : Type 1} → statement M
+bit_spec = tie.close (tie.spec (λ c κs. search rules) returns)

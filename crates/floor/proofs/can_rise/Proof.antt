@@ -6,7 +6,7 @@ use Rattle.floor.proofs.can_rise.Tie as tie
 
 returns : tie.Need-returns
 unfolding P.can_rise
-returns c = rw (← c.bit.ensures)
+returns c = rw (← c.bit-b.ensures)
 
-pub can-rise-spec : {M : Type 1} → statement M
-can-rise-spec = tie.close (tie.spec (λ c κs. search rules) returns)
+pub can_rise_spec : {M : Type 1} → statement M
+can_rise_spec = tie.close (tie.spec (λ c κs. search rules) returns)

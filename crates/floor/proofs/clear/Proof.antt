@@ -6,22 +6,19 @@ use borrow.Author.Rules.{rules}
 use Rattle.floor.proofs.clear.Statement.{statement}
 use Rattle.floor.proofs.clear.Tie as tie
 
-returns : tie.Need-returns
+returns : tie.Need-returns-then-is_idle
 unfolding P.cleared
-returns c = rw (sym c.before.before.before.before.before.is-idle.ensures ∙ c.before.before.before.before.if1.true, ← c.before.before.before.before.before.before.before.field.ensures) c.before.before.set-field.ensures
+returns c = rw (sym c.is_idle.ensures ∙ c.if-is_idle.true, ← c.field-fact.ensures) c.set_field.ensures
 
-returns-2 : tie.Need-returns-2
+returns-2 : tie.Need-returns-then-fact-eq1
 unfolding P.cleared
-returns-2 c = rw (sym c.before.before.before.before.before.before.is-idle.ensures ∙ c.before.before.before.before.before.if1.false, ← c.before.before.before.before.before.before.before.before.field.ensures, eq-eqb _ _ c.before.before.before.before.if2.true) c.before.before.set-field2.ensures
+returns-2 c = rw (sym c.is_idle.ensures ∙ c.if-is_idle.false, ← c.field-fact.ensures, eq-eqb _ _ c.if-fact-eq1.true) c.set_field-then-fact-eq1.ensures
 
-returns-3 : tie.Need-returns-3
+returns-3 : tie.Need-returns-else-fact-eq1
 unfolding P.cleared
-returns-3 c = rw (sym c.before.before.is-idle.ensures ∙ c.before.if1.false, ← c.before.before.before.before.field.ensures, ne_eqb _ _ c.if2.false)
+returns-3 c = rw (sym c.is_idle.ensures ∙ c.if-is_idle.false, ← c.field-fact.ensures, ne_eqb _ _ c.if-fact-eq1.false)
 
 pub clear_spec : {M : Type 1} → statement M
 clear_spec =
     tie.close
-    (tie.spec
-    (λ c κs. search rules) (λ c κs. search rules) (λ c. search rules) (λ c. search rules) (λ c. search rules)
-    (λ c κs. search rules) (λ c. search rules) returns (λ c. search rules) (λ c κs. search rules) (λ c. search rules) returns-2
-    (λ c. search rules) returns-3)
+    (tie.spec (λ c κs. search rules) (λ c κs. search rules) (λ c. search rules) (λ c. search rules) (λ c. search rules) (λ c κs. search rules) (λ c. search rules) returns (λ c. search rules) (λ c κs. search rules) (λ c. search rules) returns-2 (λ c. search rules) returns-3)

@@ -6,10 +6,9 @@ use Rattle.floor.proofs.is_idle.Tie as tie
 
 returns : tie.Need-returns
 unfolding P.is_idle
-returns c = rw (c.before.field.ensures, c.field2.ensures)
+returns c = rw (c.field.ensures, c.field-2.ensures)
 
-pub is-idle-spec : {M : Type 1} → statement M
-is-idle-spec =
+pub is_idle_spec : {M : Type 1} → statement M
+is_idle_spec =
     tie.close
-    (tie.spec
-    (λ c κs. search rules) (λ c κs. search rules) returns)
+    (tie.spec (λ c κs. search rules) (λ c κs. search rules) returns)

@@ -5,17 +5,17 @@ use borrow.Author.Rules.{rules}
 use Rattle.floor.proofs.later.Statement.{statement}
 use Rattle.floor.proofs.later.Tie as tie
 
-returns : tie.Need-returns
+returns : tie.Need-returns-then-l-opposite
 unfolding P.later
-returns c = rw (← c.before.opposite.ensures, eq-eqb _ _ c.if1.true)
+returns c = rw (← c.opposite.ensures, eq-eqb _ _ c.if-l-opposite.true)
 
-returns-2 : tie.Need-returns-2
+returns-2 : tie.Need-returns-then-top-l
 unfolding P.later
-returns-2 c = rw (← c.before.before.opposite.ensures, ne_eqb _ _ c.before.if1.false, lt-ltb _ _ c.if2.true)
+returns-2 c = rw (← c.opposite.ensures, ne_eqb _ _ c.if-l-opposite.false, lt-ltb _ _ c.if-top-l.true)
 
-returns-3 : tie.Need-returns-3
+returns-3 : tie.Need-returns-else-top-l
 unfolding P.later
-returns-3 c = rw (← c.before.before.opposite.ensures, ne_eqb _ _ c.before.if1.false, le-ltb _ _ c.if2.false)
+returns-3 c = rw (← c.opposite.ensures, ne_eqb _ _ c.if-l-opposite.false, le-ltb _ _ c.if-top-l.false)
 
-pub later-spec : {M : Type 1} → statement M
-later-spec = tie.close (tie.spec (λ c κs. search rules) returns returns-2 returns-3)
+pub later_spec : {M : Type 1} → statement M
+later_spec = tie.close (tie.spec (λ c κs. search rules) returns returns-2 returns-3)

@@ -5,20 +5,19 @@ use borrow.Author.Rules.{rules}
 use Rattle.floor.proofs.lift.Statement.{statement}
 use Rattle.floor.proofs.lift.Tie as tie
 
-returns : tie.Need-returns
+returns : tie.Need-returns-then-fact-eq0
 unfolding P.lifted
 returns c =
     rw (
-      ← c.before.before.before.before.before.field.ensures,
-      eq-eqb _ _ c.before.before.before.before.if1.true,
-    ) c.before.before.set-field.ensures
+      ← c.field-fact.ensures,
+      eq-eqb _ _ c.if-fact-eq0.true,
+    ) c.set_field.ensures
 
-returns-2 : tie.Need-returns-2
+returns-2 : tie.Need-returns-else-fact-eq0
 unfolding P.lifted
-returns-2 c = rw (← c.before.field.ensures, ne_eqb _ _ c.if1.false)
+returns-2 c = rw (← c.field-fact.ensures, ne_eqb _ _ c.if-fact-eq0.false)
 
-pub lift-spec : {M : Type 1} → statement M
-lift-spec =
+pub lift_spec : {M : Type 1} → statement M
+lift_spec =
     tie.close
-    (tie.spec
-    (λ c κs. search rules) (λ c. search rules) (λ c κs. search rules) (λ c. search rules) returns (λ c. search rules) returns-2)
+    (tie.spec (λ c κs. search rules) (λ c. search rules) (λ c κs. search rules) (λ c. search rules) returns (λ c. search rules) returns-2)

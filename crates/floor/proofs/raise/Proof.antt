@@ -8,55 +8,53 @@ use borrow.Author.Rules.{rules}
 use Rattle.floor.proofs.raise.Statement.{statement}
 use Rattle.floor.proofs.raise.Tie as tie
 
-abbrev invariant-loop : tie.invariant-loop
+abbrev invariant-loop : tie.invariant-loop-v
 invariant-loop work₀ nodes m n v₀ work v =
     (N.length work ≡ N.length work₀) × (raised work nodes m v ≡ raised work₀ nodes m v₀)
 
-abbrev decreases-loop : tie.decreases-loop
+abbrev decreases-loop : tie.decreases-loop-v
 decreases-loop work₀ nodes m n v₀ work v = v
 
-loop-holds : tie.Need-loop-init invariant-loop decreases-loop
+loop-holds : tie.Need-loop-v-init invariant-loop decreases-loop
 loop-holds c = (refl, refl)
 
-same_length : tie.Need-same-length invariant-loop decreases-loop
+same_length : tie.Need-shape_of-work-then-can_rise invariant-loop decreases-loop
 same_length c =
     search rules
 
-returns : tie.Need-returns invariant-loop decreases-loop
+returns : tie.Need-returns-then-can_rise invariant-loop decreases-loop
 returns c =
-    let l = c.before.before.before.before.before.before.before.before.loop in
-    let s = c.before.before.before.before.before.before.before.before.before.before.args in
-    let all = sym (raised-here l.work s.nodes s.m l.v (omega arith) (sym c.before.before.before.before.before.can-rise.ensures ∙ c.before.before.before.before.if1.true)) ∙ l.invariant.1 in
-    record { words = c.before.before.lift.ensures ∙ ap (λ (t : Risen). t.words) all; says = ap (λ (t : Risen). t.says) all }
+    let l = c.loop-v in
+    let s = c.args in
+    let all = sym (raised-here l.work s.nodes s.m l.v (omega arith) (sym c.can_rise.ensures ∙ c.if-can_rise.true)) ∙ l.invariant.1 in
+    record { words = c.lift.ensures ∙ ap (λ (t : Risen). t.words) all; says = ap (λ (t : Risen). t.says) all }
 
-sub-v : tie.Need-overflow-sub-v invariant-loop decreases-loop
+sub-v : tie.Need-overflow_sub-v invariant-loop decreases-loop
 sub-v c = omega arith
 
-loop-less : tie.Need-loop-smaller invariant-loop decreases-loop
+loop-less : tie.Need-loop-v-smaller invariant-loop decreases-loop
 loop-less c = omega arith
 
-loop-again : tie.Need-loop-preserved invariant-loop decreases-loop
+loop-again : tie.Need-loop-v-preserved invariant-loop decreases-loop
 loop-again c =
-    let l = c.before.before.before.before.before.before.before.before.loop in
-    let s = c.before.before.before.before.before.before.before.before.before.before.args in
-    let more = raised-more l.work s.nodes s.m l.v (omega arith) (sym c.before.before.before.before.before.can-rise.ensures ∙ c.before.before.before.before.if1.false) in
-    let u = c.before.before.clear in
-    (u.auto.0 ∙ l.invariant.0, rw u.ensures (sym more ∙ l.invariant.1))
+    let l = c.loop-v in
+    let s = c.args in
+    let more = raised-more l.work s.nodes s.m l.v (omega arith) (sym c.can_rise.ensures ∙ c.if-can_rise.false) in
+    let u = c.clear in
+    (u.auto.work ∙ l.invariant.0, rw u.ensures (sym more ∙ l.invariant.1))
 
-same-length-2 : tie.Need-same-length-2 invariant-loop decreases-loop
+same-length-2 : tie.Need-shape_of-work invariant-loop decreases-loop
 same-length-2 c =
-    c.before.loop.invariant.0
+    c.loop-v.invariant.0
 
-returns-2 : tie.Need-returns-2 invariant-loop decreases-loop
+returns-2 : tie.Need-returns invariant-loop decreases-loop
 returns-2 c =
-    let l = c.before.loop in
-    let s = c.before.before.before.args in
+    let l = c.loop-v in
+    let s = c.args in
     let all = sym (raised-none l.work s.nodes s.m l.v (omega arith)) ∙ l.invariant.1 in
     record { words = ap (λ (t : Risen). t.words) all; says = ap (λ (t : Risen). t.says) all }
 
-pub raise-spec : {M : Type 1} → statement M
-raise-spec =
+pub raise_spec : {M : Type 1} → statement M
+raise_spec =
     tie.close
-    (tie.spec
-    invariant-loop decreases-loop loop-holds (λ c κs. search rules) (λ c κs. search rules) same_length returns (λ c κs. search rules) sub-v loop-less
-    loop-again same-length-2 returns-2)
+    (tie.spec invariant-loop decreases-loop loop-holds (λ c κs. search rules) (λ c κs. search rules) same_length returns (λ c κs. search rules) sub-v loop-less loop-again same-length-2 returns-2)

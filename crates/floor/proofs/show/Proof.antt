@@ -5,7 +5,7 @@ use Rattle.floor.proofs.show.Statement.{statement}
 use Rattle.floor.proofs.show.Tie as tie
 
 returns : tie.Need-returns
-returns c = record { words = c.before.before.before.before.evaluate.ensures; true = rw (← c.before.before.before.before.evaluate.ensures, ← c.edge.ensures) }
+returns c = record { words = c.evaluate.ensures; true = rw (← c.evaluate.ensures, ← c.edge.ensures) }
 
-pub show-spec : {M : Type 1} → statement M
-show-spec = tie.close (tie.spec (λ c κs. search rules) (λ c κs. search rules) (λ c. search rules) returns)
+pub show_spec : {M : Type 1} → statement M
+show_spec = tie.close (tie.spec (λ c κs. search rules) (λ c κs. search rules) (λ c. search rules) returns)

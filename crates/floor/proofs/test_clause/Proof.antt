@@ -7,45 +7,43 @@ use borrow.Author.Rules.{rules}
 use Rattle.floor.proofs.test_clause.Statement.{statement}
 use Rattle.floor.proofs.test_clause.Tie as tie
 
-abbrev invariant-loop : tie.invariant-loop
+abbrev invariant-loop : tie.invariant-loop-left
 invariant-loop work net arena n left₀ top₀ left top =
     judged work net arena left top ≡ judged work net arena left₀ top₀
 
-abbrev decreases-loop : tie.decreases-loop
+abbrev decreases-loop : tie.decreases-loop-left
 decreases-loop work net arena n left₀ top₀ left top = left
 
-loop-holds : tie.Need-loop-init invariant-loop decreases-loop
+loop-holds : tie.Need-loop-left-init invariant-loop decreases-loop
 loop-holds c =
     refl
 
-sub-left : tie.Need-overflow-sub-left invariant-loop decreases-loop
+sub-left : tie.Need-overflow_sub-left invariant-loop decreases-loop
 sub-left c = omega arith
 
-returns : tie.Need-returns invariant-loop decreases-loop
+returns : tie.Need-returns-then-is_wrong invariant-loop decreases-loop
 returns c =
-    let l = c.before.before.before.before.loop in
-    let s = c.before.before.before.before.before.before.args in
-    sym (judged-wrong s.work.now s.net s.arena l.left l.top (omega arith) (rw (← c.before.before.literal.ensures) (sym c.before.is-wrong.ensures ∙ c.if1.true))) ∙ l.invariant
+    let l = c.loop-left in
+    let s = c.args in
+    sym (judged-wrong s.work.now s.net s.arena l.left l.top (omega arith) (rw (← c.literal-l.ensures) (sym c.is_wrong.ensures ∙ c.if-is_wrong.true))) ∙ l.invariant
 
-loop-less : tie.Need-loop-smaller invariant-loop decreases-loop
+loop-less : tie.Need-loop-left-smaller invariant-loop decreases-loop
 loop-less c = omega arith
 
-loop-again : tie.Need-loop-preserved invariant-loop decreases-loop
+loop-again : tie.Need-loop-left-preserved invariant-loop decreases-loop
 loop-again c =
-    let l = c.before.before.before.before.before.loop in
-    let s = c.before.before.before.before.before.before.before.args in
-    let more = judged-more s.work.now s.net s.arena l.left l.top (omega arith) (rw (← c.before.before.before.literal.ensures) (sym c.before.before.is-wrong.ensures ∙ c.before.if1.false)) in
-    rw (c.later.ensures, c.before.before.before.literal.ensures) (sym more ∙ l.invariant)
+    let l = c.loop-left in
+    let s = c.args in
+    let more = judged-more s.work.now s.net s.arena l.left l.top (omega arith) (rw (← c.literal-l.ensures) (sym c.is_wrong.ensures ∙ c.if-is_wrong.false)) in
+    rw (c.later-top.ensures, c.literal-l.ensures) (sym more ∙ l.invariant)
 
-returns-2 : tie.Need-returns-2 invariant-loop decreases-loop
+returns-2 : tie.Need-returns invariant-loop decreases-loop
 returns-2 c =
-    let l = c.before.loop in
-    let s = c.before.before.before.args in
+    let l = c.loop-left in
+    let s = c.args in
     sym (judged-none s.work.now s.net s.arena l.left l.top (omega arith)) ∙ l.invariant
 
-pub test-clause-spec : {M : Type 1} → statement M
-test-clause-spec =
+pub test_clause_spec : {M : Type 1} → statement M
+test_clause_spec =
     tie.close
-    (tie.spec
-    invariant-loop decreases-loop loop-holds sub-left (λ c κs. search rules) (λ c κs. search rules) returns (λ c κs. search rules) loop-less
-    loop-again returns-2)
+    (tie.spec invariant-loop decreases-loop loop-holds sub-left (λ c κs. search rules) (λ c κs. search rules) returns (λ c κs. search rules) loop-less loop-again returns-2)

@@ -7,7 +7,7 @@ use Rattle.generator.proofs.step.Tie as tie
 
 returns : tie.Need-returns
 unfolding Signature.step
-returns c = c.wrapping-add-u64.ensures ∙ rw c.before.wrapping-mul.ensures (mod-add-mod _ (2 ^ 64) _)
+returns c = c.wrapping_add_u64.ensures ∙ rw c.wrapping_mul.ensures (mod-add-mod _ (2 ^ 64) _)
 
 pub step_spec : {M : Type 1} → statement M
 step_spec = tie.close (tie.spec (λ c κs. search rules) (λ c κs. search rules) returns)

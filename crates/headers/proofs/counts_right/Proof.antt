@@ -9,26 +9,25 @@ use borrow.Author.Rules.{rules}
 use Rattle.headers.proofs.counts_right.Statement.{statement}
 use Rattle.headers.proofs.counts_right.Tie as tie
 
-held : (t : tie.Then1) → counts_fit (counts_meant t.before.before.args.c) ≡ true
-held t = sym t.before.counts-fit.ensures ∙ t.if1.true
+held : (t : tie.Then-counts_fit) → counts_fit (counts_meant t.args.c) ≡ true
+held t = sym t.counts_fit.ensures ∙ t.if-counts_fit.true
 
-add-result : tie.Need-overflow-add-result
-add-result c = omega (arith, fit-bounded c.before.before.before.before.args.c (held c.before.before))
+add-result : tie.Need-overflow_add-result
+add-result c = omega (arith, fit-bounded c.args.c (held c.before.before))
 
-add-result-2 : tie.Need-overflow-add-result-2
-add-result-2 c = omega (arith, fit-bounded c.before.before.before.before.before.args.c (held c.before.before.before))
+add-result-2 : tie.Need-overflow_add-result-then-binary
+add-result-2 c = omega (arith, fit-bounded c.args.c (held c.before.before.before))
 
-returns : tie.Need-returns
+returns : tie.Need-returns-then-binary
 returns c =
-    let t = c.before.before.before.before in
-    rw c.before.before.before.if2.true (right-binary _ (held t))
+    rw c.if-binary.true (right-binary _ (held c.before.before.before.before))
 
-returns-2 : tie.Need-returns-2
-returns-2 c = rw c.if2.false (right-text _ (held c.before))
+returns-2 : tie.Need-returns-then-counts_fit
+returns-2 c = rw c.if-binary.false (right-text _ (held c.before))
 
-returns-3 : tie.Need-returns-3
-returns-3 c = right-not _ c.before.before.args.binary (sym c.before.counts-fit.ensures ∙ c.if1.false)
+returns-3 : tie.Need-returns
+returns-3 c = right-not _ c.args.binary (sym c.counts_fit.ensures ∙ c.if-counts_fit.false)
 
-pub counts-right-spec : {M : Type 1} → statement M
-counts-right-spec =
+pub counts_right_spec : {M : Type 1} → statement M
+counts_right_spec =
     tie.close (tie.spec (λ c κs. search rules) add-result add-result-2 returns returns-2 returns-3)

@@ -6,7 +6,7 @@ use Rattle.headers.proofs.is_binary.Statement.{statement}
 use Rattle.headers.proofs.is_binary.Tie as tie
 
 returns : tie.Need-returns
-returns c = c.is-named.ensures ∙ named-binary c.before.before.args.s.now
+returns c = c.is_named.ensures ∙ named-binary c.args.s.now
 
-pub is-binary-spec : {M : Type 1} → statement M
-is-binary-spec = tie.close (tie.spec (λ c κs. search rules) returns)
+pub is_binary_spec : {M : Type 1} → statement M
+is_binary_spec = tie.close (tie.spec (λ c κs. search rules) returns)

@@ -8,5 +8,5 @@ returns : tie.Need-returns
 unfolding Hp.node_at
 returns c = rw (← c.field.ensures)
 
-pub at-place-spec : {M : Type 1} → statement M
-at-place-spec = tie.close (tie.spec (λ c κs. search rules) returns)
+pub at_place_spec : {M : Type 1} → statement M
+at_place_spec = tie.close (tie.spec (λ c κs. search rules) returns)

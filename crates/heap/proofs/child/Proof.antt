@@ -5,13 +5,13 @@ use borrow.Author.Rules.{rules}
 use Rattle.heap.proofs.child.Statement.{statement}
 use Rattle.heap.proofs.child.Tie as tie
 
-returns : tie.Need-returns
+returns : tie.Need-returns-then-i-ge1073741824
 unfolding Hp.child
-returns c = rw (le-leb _ _ c.if1.true)
+returns c = rw (le-leb _ _ c.if-i-ge1073741824.true)
 
-returns-2 : tie.Need-returns-2
+returns-2 : tie.Need-returns-else-i-ge1073741824
 unfolding Hp.child
-returns-2 c = rw (lt-leb _ _ c.if1.false)
+returns-2 c = rw (lt-leb _ _ c.if-i-ge1073741824.false)
 
-pub child-spec : {M : Type 1} → statement M
-child-spec = tie.close (tie.spec (λ c. search rules) (λ c. search rules) returns returns-2)
+pub child_spec : {M : Type 1} → statement M
+child_spec = tie.close (tie.spec (λ c. search rules) (λ c. search rules) returns returns-2)

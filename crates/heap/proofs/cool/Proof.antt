@@ -6,18 +6,17 @@ use borrow.Author.Rules.{rules}
 use Rattle.heap.proofs.cool.Statement.{statement}
 use Rattle.heap.proofs.cool.Tie as tie
 
-returns : tie.Need-returns
+returns : tie.Need-returns-then-heap-lt268435456
 unfolding Hp.cooled
-returns c = rw (lt-ltb _ _ c.before.before.if1.true) (record { words = refl; heap = refl })
+returns c = rw (lt-ltb _ _ c.if-heap-lt268435456.true) (record { words = refl; heap = refl })
 
-returns-2 : tie.Need-returns-2
+returns-2 : tie.Need-returns
 unfolding Hp.cooled
 returns-2 c =
-    rw (le-ltb _ _ c.before.before.before.before.before.if1.false)
-    (record { words = c.before.before.before.scale.ensures; heap = refl })
+    rw (le-ltb _ _ c.if-heap-lt268435456.false)
+    (record { words = c.scale.ensures; heap = refl })
 
-pub cool-spec : {M : Type 1} → statement M
-cool-spec =
+pub cool_spec : {M : Type 1} → statement M
+cool_spec =
     tie.close
-    (tie.spec
-    (λ c. search rules) (λ c. search rules) returns (λ c κs. search rules) (λ c. search rules) (λ c. search rules) returns-2)
+    (tie.spec (λ c. search rules) (λ c. search rules) returns (λ c κs. search rules) (λ c. search rules) (λ c. search rules) returns-2)

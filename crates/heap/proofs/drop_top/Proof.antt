@@ -6,23 +6,21 @@ use borrow.Author.Rules.{rules}
 use Rattle.heap.proofs.drop_top.Statement.{statement}
 use Rattle.heap.proofs.drop_top.Tie as tie
 
-returns : tie.Need-returns
+returns : tie.Need-returns-then-heap-le1
 unfolding Hp.dropped
-returns c = rw (le-leb _ _ c.if1.true) (record { words = refl; heap = refl })
+returns c = rw (le-leb _ _ c.if-heap-le1.true) (record { words = refl; heap = refl })
 
-returns-2 : tie.Need-returns-2
+returns-2 : tie.Need-returns
 unfolding Hp.dropped
 returns-2 c =
-    rw (lt-leb _ _ c.before.before.before.before.before.before.before.before.before.if1.false)
+    rw (lt-leb _ _ c.if-heap-le1.false)
     (record {
-      words = rw (← c.before.before.before.before.before.before.at_place.ensures)
-          c.before.before.before.down.ensures;
+      words = rw (← c.at_place-x.ensures)
+          c.down.ensures;
       heap = refl;
     })
 
-pub drop-top-spec : {M : Type 1} → statement M
-drop-top-spec =
+pub drop_top_spec : {M : Type 1} → statement M
+drop_top_spec =
     tie.close
-    (tie.spec
-    returns (λ c. search rules) (λ c κs. search rules) (λ c. search rules) (λ c κs. search rules) (λ c. search rules)
-    (λ c. search rules) returns-2)
+    (tie.spec returns (λ c. search rules) (λ c κs. search rules) (λ c. search rules) (λ c κs. search rules) (λ c. search rules) (λ c. search rules) returns-2)

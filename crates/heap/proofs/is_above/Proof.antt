@@ -5,23 +5,22 @@ use borrow.Author.Rules.{rules}
 use Rattle.heap.proofs.is_above.Statement.{statement}
 use Rattle.heap.proofs.is_above.Tie as tie
 
-returns : tie.Need-returns
+returns : tie.Need-returns-then-i-eq0
 unfolding Hp.is_above
-returns c = rw (eq-eqb _ _ c.if1.true)
+returns c = rw (eq-eqb _ _ c.if-i-eq0.true)
 
-returns-2 : tie.Need-returns-2
+returns-2 : tie.Need-returns
 unfolding Hp.is_above
 returns-2 c =
     rw (
-      ne_eqb _ _ c.before.before.before.before.if1.false,
-      ← c.before.before.before.parent.ensures,
-      ← c.before.before.at_place.ensures,
-      ← c.before.field.ensures,
-      ← c.field2.ensures,
+      ne_eqb _ _ c.if-i-eq0.false,
+      ← c.parent.ensures,
+      ← c.at_place-x.ensures,
+      ← c.field.ensures,
+      ← c.field-2.ensures,
     )
 
-pub is-above-spec : {M : Type 1} → statement M
-is-above-spec =
+pub is_above_spec : {M : Type 1} → statement M
+is_above_spec =
     tie.close
-    (tie.spec
-    returns (λ c κs. search rules) (λ c κs. search rules) (λ c κs. search rules) (λ c κs. search rules) returns-2)
+    (tie.spec returns (λ c κs. search rules) (λ c κs. search rules) (λ c κs. search rules) (λ c κs. search rules) returns-2)

@@ -5,19 +5,19 @@ use borrow.Author.Rules.{rules}
 use Rattle.heap.proofs.is_below.Statement.{statement}
 use Rattle.heap.proofs.is_below.Tie as tie
 
-returns : tie.Need-returns
+returns : tie.Need-returns-then-size-i
 unfolding Hp.is_below
-returns c = rw (le-leb _ _ c.if1.true)
+returns c = rw (le-leb _ _ c.if-size-i.true)
 
-returns-2 : tie.Need-returns-2
+returns-2 : tie.Need-returns
 unfolding Hp.is_below
 returns-2 c =
     rw (
-      lt-leb _ _ c.before.before.before.if1.false,
-      ← c.before.before.at_place.ensures,
-      ← c.before.field.ensures,
-      ← c.field2.ensures,
+      lt-leb _ _ c.if-size-i.false,
+      ← c.at_place-x.ensures,
+      ← c.field.ensures,
+      ← c.field-2.ensures,
     )
 
-pub is-below-spec : {M : Type 1} → statement M
-is-below-spec = tie.close (tie.spec returns (λ c κs. search rules) (λ c κs. search rules) (λ c κs. search rules) returns-2)
+pub is_below_spec : {M : Type 1} → statement M
+is_below_spec = tie.close (tie.spec returns (λ c κs. search rules) (λ c κs. search rules) (λ c κs. search rules) returns-2)

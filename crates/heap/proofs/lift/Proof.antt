@@ -6,7 +6,7 @@ use Rattle.heap.proofs.lift.Tie as tie
 
 returns : tie.Need-returns
 unfolding Hp.lifted
-returns c = rw (← c.before.before.before.before.at_place.ensures) c.before.before.seat.ensures
+returns c = rw (← c.at_place-x.ensures) c.seat.ensures
 
-pub lift-spec : {M : Type 1} → statement M
-lift-spec = tie.close (tie.spec (λ c κs. search rules) (λ c κs. search rules) (λ c. search rules) returns)
+pub lift_spec : {M : Type 1} → statement M
+lift_spec = tie.close (tie.spec (λ c κs. search rules) (λ c κs. search rules) (λ c. search rules) returns)

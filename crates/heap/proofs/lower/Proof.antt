@@ -8,9 +8,9 @@ returns : tie.Need-returns
 unfolding Hp.lowered
 returns c =
     rw (
-      ← c.before.before.before.before.before.parent.ensures,
-      ← c.before.before.before.before.at_place.ensures,
-    ) c.before.before.seat.ensures
+      ← c.parent.ensures,
+      ← c.at_place-x.ensures,
+    ) c.seat.ensures
 
 pub lower_spec : {M : Type 1} → statement M
 lower_spec = tie.close (tie.spec (λ c κs. search rules) (λ c κs. search rules) (λ c κs. search rules) (λ c. search rules) returns)

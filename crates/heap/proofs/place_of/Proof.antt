@@ -8,5 +8,5 @@ returns : tie.Need-returns
 unfolding Hp.place_of
 returns c = rw (← c.field.ensures)
 
-pub place-of-spec : {M : Type 1} → statement M
-place-of-spec = tie.close (tie.spec (λ c κs. search rules) returns)
+pub place_of_spec : {M : Type 1} → statement M
+place_of_spec = tie.close (tie.spec (λ c κs. search rules) returns)

@@ -8,14 +8,12 @@ returns : tie.Need-returns
 unfolding Hp.seated
 returns c =
     rw (
-      ← c.before.before.before.before.before.before.before.before.before.before.field.ensures,
-      ← c.before.before.before.before.before.before.before.before.set-field.ensures,
-      ← c.before.before.before.before.field2.ensures,
-    ) c.before.before.set-field2.ensures
+      ← c.field-x.ensures,
+      ← c.set_field.ensures,
+      ← c.field-y.ensures,
+    ) c.set_field-2.ensures
 
-pub seat-spec : {M : Type 1} → statement M
-seat-spec =
+pub seat_spec : {M : Type 1} → statement M
+seat_spec =
     tie.close
-    (tie.spec
-    (λ c κs. search rules) (λ c. search rules) (λ c. search rules) (λ c κs. search rules) (λ c κs. search rules) (λ c. search rules)
-    (λ c. search rules) (λ c κs. search rules) (λ c. search rules) returns)
+    (tie.spec (λ c κs. search rules) (λ c. search rules) (λ c. search rules) (λ c κs. search rules) (λ c κs. search rules) (λ c. search rules) (λ c. search rules) (λ c κs. search rules) (λ c. search rules) returns)

@@ -10,46 +10,44 @@ use borrow.Author.Rules.{rules}
 use Rattle.heap.proofs.skim.Statement.{statement}
 use Rattle.heap.proofs.skim.Tie as tie
 
-abbrev invariant-loop : tie.invariant-loop
+abbrev invariant-loop : tie.invariant-loop-left
 invariant-loop work₀ nodes n h₀ left₀ work h left =
     (N.length work ≡ N.length work₀) × (skimmed work nodes h left ≡ skimmed work₀ nodes h₀ left₀)
 
-abbrev decreases-loop : tie.decreases-loop
+abbrev decreases-loop : tie.decreases-loop-left
 decreases-loop work₀ nodes n h₀ left₀ work h left = left
 
-same_length : tie.Need-same-length invariant-loop decreases-loop
-same_length c = c.before.before.before.before.before.before.loop.invariant.0
+same_length : tie.Need-shape_of-work-then-field-eq2 invariant-loop decreases-loop
+same_length c = c.loop-left.invariant.0
 
-returns : tie.Need-returns invariant-loop decreases-loop
+returns : tie.Need-returns-then-field-eq2 invariant-loop decreases-loop
 returns c =
-    let l = c.before.before.before.before.before.before.loop in
-    let s = c.before.before.before.before.before.before.before.before.args in
-    let e = c.before.field.ensures ∙ ap (λ (k : ℕ). field l.work s.nodes k 5) c.before.before.before.at_place.ensures in
-    left_by (sym (skimmed-stop l.work s.nodes l.h l.left (sym e ∙ c.if1.true)) ∙ l.invariant.1)
+    let l = c.loop-left in
+    let s = c.args in
+    let e = c.field.ensures ∙ ap (λ (k : ℕ). field l.work s.nodes k 5) c.at_place-x.ensures in
+    left_by (sym (skimmed-stop l.work s.nodes l.h l.left (sym e ∙ c.if-field-eq2.true)) ∙ l.invariant.1)
 
-loop-again : tie.Need-loop-preserved invariant-loop decreases-loop
+loop-again : tie.Need-loop-left-preserved invariant-loop decreases-loop
 loop-again c =
-    let l = c.before.before.before.before.before.before.before.before.before.before.loop in
-    let s = c.before.before.before.before.before.before.before.before.before.before.before.before.args in
-    let e = c.before.before.before.before.before.field.ensures
-    ∙ ap (λ (k : ℕ). field l.work s.nodes k 5) c.before.before.before.before.before.before.before.at_place.ensures in
+    let l = c.loop-left in
+    let s = c.args in
+    let e = c.field.ensures
+    ∙ ap (λ (k : ℕ). field l.work s.nodes k 5) c.at_place-x.ensures in
     let more = skimmed-more l.work s.nodes l.h l.left (omega arith)
-    (λ z. c.before.before.before.before.if1.false (e ∙ z)) in
-    let u = c.before.before.drop-top in
-    (u.auto.0 ∙ l.invariant.0, rw (u.ensures.words, u.ensures.heap) (sym more ∙ l.invariant.1))
+    (λ z. c.if-field-eq2.false (e ∙ z)) in
+    let u = c.drop_top-h in
+    (u.auto.work ∙ l.invariant.0, rw (u.ensures.words, u.ensures.heap) (sym more ∙ l.invariant.1))
 
-same-length-2 : tie.Need-same-length-2 invariant-loop decreases-loop
-same-length-2 c = c.before.loop.invariant.0
+same-length-2 : tie.Need-shape_of-work invariant-loop decreases-loop
+same-length-2 c = c.loop-left.invariant.0
 
-returns-2 : tie.Need-returns-2 invariant-loop decreases-loop
+returns-2 : tie.Need-returns invariant-loop decreases-loop
 returns-2 c =
-    let l = c.before.loop in
-    let s = c.before.before.before.args in
+    let l = c.loop-left in
+    let s = c.args in
     left_by (sym (skimmed-none l.work s.nodes l.h l.left (omega arith)) ∙ l.invariant.1)
 
-pub skim-spec : {M : Type 1} → statement M
-skim-spec =
+pub skim_spec : {M : Type 1} → statement M
+skim_spec =
     tie.close
-    (tie.spec
-    invariant-loop decreases-loop (λ c. (refl, refl)) (λ c κs. search rules) (λ c κs. search rules) same_length returns (λ c κs. search rules)
-    (λ c. omega arith) (λ c. omega arith) loop-again same-length-2 returns-2)
+    (tie.spec invariant-loop decreases-loop (λ c. (refl, refl)) (λ c κs. search rules) (λ c κs. search rules) same_length returns (λ c κs. search rules) (λ c. omega arith) (λ c. omega arith) loop-again same-length-2 returns-2)

@@ -8,47 +8,45 @@ use borrow.Author.Rules.{rules}
 use Rattle.heap.proofs.up.Statement.{statement}
 use Rattle.heap.proofs.up.Tie as tie
 
-abbrev invariant-loop : tie.invariant-loop
+abbrev invariant-loop : tie.invariant-loop-left
 invariant-loop work₀ nodes i v n at₀ left₀ work at left =
     (N.length work ≡ N.length work₀) × (upped work nodes v at left ≡ upped work₀ nodes v at₀ left₀)
 
-abbrev decreases-loop : tie.decreases-loop
+abbrev decreases-loop : tie.decreases-loop-left
 decreases-loop work₀ nodes i v n at₀ left₀ work at left = left
 
-loop-again : tie.Need-loop-preserved invariant-loop decreases-loop
+loop-again : tie.Need-loop-left-preserved invariant-loop decreases-loop
 loop-again c =
-    let l = c.before.before.before.before.before.before.before.before.before.loop in
-    let s = c.before.before.before.before.before.before.before.before.before.before.before.args in
+    let l = c.loop-left in
+    let s = c.args in
     let more = upped-more l.work s.nodes s.v l.at l.left (omega arith)
-    (sym c.before.before.before.before.before.before.is-above.ensures ∙ c.before.before.before.before.before.if1.true)
+    (sym c.is_above.ensures ∙ c.if-is_above.true)
     in
-    let u = c.before.before.before.lower in
-    (u.auto.0 ∙ l.invariant.0, rw (u.ensures, c.parent.ensures) (sym more ∙ l.invariant.1))
+    let u = c.lower in
+    (u.auto.work ∙ l.invariant.0, rw (u.ensures, c.parent-at.ensures) (sym more ∙ l.invariant.1))
 
-same_length : tie.Need-same-length invariant-loop decreases-loop
-same_length c = c.before.before.seat.auto.0 ∙ c.before.before.before.before.before.before.before.before.loop.invariant.0
+same_length : tie.Need-shape_of-work-else-is_above invariant-loop decreases-loop
+same_length c = c.seat.auto.work ∙ c.loop-left.invariant.0
 
-returns : tie.Need-returns invariant-loop decreases-loop
+returns : tie.Need-returns-else-is_above invariant-loop decreases-loop
 returns c =
-    let l = c.before.before.before.before.before.before.before.before.loop in
-    let s = c.before.before.before.before.before.before.before.before.before.before.args in
+    let l = c.loop-left in
+    let s = c.args in
     let stop = upped-stop l.work s.nodes s.v l.at l.left
-    (sym c.before.before.before.before.before.is-above.ensures ∙ c.before.before.before.before.if1.false) in
-    c.before.before.seat.ensures ∙ sym stop ∙ l.invariant.1
+    (sym c.is_above.ensures ∙ c.if-is_above.false) in
+    c.seat.ensures ∙ sym stop ∙ l.invariant.1
 
-same-length-2 : tie.Need-same-length-2 invariant-loop decreases-loop
-same-length-2 c = c.before.before.seat2.auto.0 ∙ c.before.before.before.before.before.loop.invariant.0
+same-length-2 : tie.Need-shape_of-work invariant-loop decreases-loop
+same-length-2 c = c.seat-2.auto.work ∙ c.loop-left.invariant.0
 
-returns-2 : tie.Need-returns-2 invariant-loop decreases-loop
+returns-2 : tie.Need-returns invariant-loop decreases-loop
 returns-2 c =
-    let l = c.before.before.before.before.before.loop in
-    let s = c.before.before.before.before.before.before.before.args in
+    let l = c.loop-left in
+    let s = c.args in
     let none = upped-none l.work s.nodes s.v l.at l.left (omega arith) in
-    c.before.before.seat2.ensures ∙ sym none ∙ l.invariant.1
+    c.seat-2.ensures ∙ sym none ∙ l.invariant.1
 
-pub up-spec : {M : Type 1} → statement M
-up-spec =
+pub up_spec : {M : Type 1} → statement M
+up_spec =
     tie.close
-    (tie.spec
-    invariant-loop decreases-loop (λ c. (refl, refl)) (λ c κs. search rules) (λ c κs. search rules) (λ c κs. search rules) (λ c. omega arith)
-    (λ c. omega arith) loop-again (λ c κs. search rules) same_length returns (λ c κs. search rules) same-length-2 returns-2)
+    (tie.spec invariant-loop decreases-loop (λ c. (refl, refl)) (λ c κs. search rules) (λ c κs. search rules) (λ c κs. search rules) (λ c. omega arith) (λ c. omega arith) loop-again (λ c κs. search rules) same_length returns (λ c κs. search rules) same-length-2 returns-2)

@@ -9,14 +9,12 @@ returns : tie.Need-returns
 unfolding K.attached M.stored
 returns c =
     rw (
-      ← c.before.before.before.before.before.before.before.before.before.before.before.before.field.ensures,
-      ← c.before.before.before.before.before.before.before.before.before.before.set-head.ensures,
-      ← c.before.before.before.before.before.before.set-head2.ensures,
-    ) c.before.before.set-field.ensures
+      ← c.field-next.ensures,
+      ← c.set_head.ensures,
+      ← c.set_head-2.ensures,
+    ) c.set_field.ensures
 
 pub attach_spec : {M : Type 1} → statement M
 attach_spec =
     tie.close
-    (tie.spec
-    (λ c. search rules) (λ c. search rules) (λ c κs. search rules) (λ c. search rules) (λ c κs. search rules) (λ c. search rules)
-    (λ c κs. search rules) (λ c κs. search rules) (λ c. search rules) returns)
+    (tie.spec (λ c. search rules) (λ c. search rules) (λ c κs. search rules) (λ c. search rules) (λ c κs. search rules) (λ c. search rules) (λ c κs. search rules) (λ c κs. search rules) (λ c. search rules) returns)

@@ -6,11 +6,9 @@ use Rattle.kept.proofs.fix.Tie as tie
 
 returns : tie.Need-returns
 unfolding K.fixed
-returns c = rw (← c.before.before.before.before.field.ensures) c.before.before.set-field.ensures
+returns c = rw (← c.field-fact.ensures) c.set_field.ensures
 
-pub fix-spec : {M : Type 1} → statement M
-fix-spec =
+pub fix_spec : {M : Type 1} → statement M
+fix_spec =
     tie.close
-    (tie.spec
-    (λ c κs. search rules) (λ c. search rules) (λ c. search rules) (λ c. search rules) (λ c κs. search rules) (λ c. search rules)
-    returns)
+    (tie.spec (λ c κs. search rules) (λ c. search rules) (λ c. search rules) (λ c. search rules) (λ c κs. search rules) (λ c. search rules) returns)

@@ -6,10 +6,9 @@ use Rattle.kept.proofs.write_head.Tie as tie
 
 returns : tie.Need-returns
 unfolding K.with_head
-returns c = rw (← c.before.before.before.before.before.before.set-head.ensures) c.before.before.set-head2.ensures
+returns c = rw (← c.set_head.ensures) c.set_head-2.ensures
 
-pub write-head-spec : {M : Type 1} → statement M
-write-head-spec =
+pub write_head_spec : {M : Type 1} → statement M
+write_head_spec =
     tie.close
-    (tie.spec
-    (λ c κs. search rules) (λ c. search rules) (λ c. search rules) (λ c κs. search rules) (λ c. search rules) returns)
+    (tie.spec (λ c κs. search rules) (λ c. search rules) (λ c. search rules) (λ c κs. search rules) (λ c. search rules) returns)

@@ -5,11 +5,11 @@ use borrow.Author.Rules.{rules}
 use Rattle.layout.proofs.count_at.Statement.{statement}
 use Rattle.layout.proofs.count_at.Tie as tie
 
-cast-result : tie.Need-overflow-cast-result
-cast-result c = omega (arith, c.shared-slice-known.given c.before.args.i)
+cast-result : tie.Need-overflow_cast-result
+cast-result c = omega (arith, c.shared_slice_known-1.given c.args.i)
 
 returns : tie.Need-returns
-returns c = (refl, omega (arith, c.shared-slice-known.given c.before.args.i))
+returns c = (refl, omega (arith, c.shared_slice_known-1.given c.args.i))
 
-pub count-at-spec : {M : Type 1} → statement M
-count-at-spec = tie.close (tie.spec (λ c. search rules) (λ c. search rules) cast-result returns)
+pub count_at_spec : {M : Type 1} → statement M
+count_at_spec = tie.close (tie.spec (λ c. search rules) (λ c. search rules) cast-result returns)

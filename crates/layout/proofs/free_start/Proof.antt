@@ -4,14 +4,13 @@ use borrow.Author.Rules.{rules}
 use Rattle.layout.proofs.free_start.Statement.{statement}
 use Rattle.layout.proofs.free_start.Tie as tie
 
-returns : tie.Need-returns
-returns c = rw (sym c.before.equals.ensures ∙ c.if1.true)
+returns : tie.Need-returns-then-equals
+returns c = rw (sym c.equals.ensures ∙ c.if-equals.true)
 
-returns-2 : tie.Need-returns-2
-returns-2 c = rw (sym c.before.equals.ensures ∙ c.if1.false)
+returns-2 : tie.Need-returns-else-equals
+returns-2 c = rw (sym c.equals.ensures ∙ c.if-equals.false)
 
-pub free-start-spec : {M : Type 1} → statement M
-free-start-spec =
+pub free_start_spec : {M : Type 1} → statement M
+free_start_spec =
     tie.close
-    (tie.spec
-    (λ c κs. search rules) returns returns-2)
+    (tie.spec (λ c κs. search rules) returns returns-2)

@@ -7,8 +7,8 @@ use Rattle.learning.proofs.assert.Tie as tie
 returns : tie.Need-returns
 unfolding Ln.asserted
 returns c =
-    let u = c.before.before.before.assign.ensures in
-    rw (← u.state) (record { words = u.words; search = c.with-trail.ensures })
+    let u = c.assign-u.ensures in
+    rw (← u.state) (record { words = u.words; search = c.with_trail.ensures })
 
-pub assert-spec : {M : Type 1} → statement M
-assert-spec = tie.close (tie.spec (λ c κs. search rules) (λ c κs. search rules) (λ c. search rules) returns)
+pub assert_spec : {M : Type 1} → statement M
+assert_spec = tie.close (tie.spec (λ c κs. search rules) (λ c κs. search rules) (λ c. search rules) returns)

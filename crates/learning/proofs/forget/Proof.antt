@@ -7,17 +7,16 @@ use Rattle.learning.proofs.forget.Tie as tie
 returns : tie.Need-returns
 unfolding Ln.forgotten
 returns c =
-    let r = c.before.before.before.before.before.before.before.before.before.before.before.retreat.ensures in
-    let v = c.before.before.before.before.before.before.before.settle-level.ensures in
+    let r = c.retreat-u.ensures in
+    let v = c.settle_level-v.ensures in
     rw (
       ← r.words,
       ← r.search,
       ← v.words,
       ← v.search,
-    ) (record { words = c.before.before.before.detach.ensures; search = c.with-arena.ensures })
+    ) (record { words = c.detach.ensures; search = c.with_arena.ensures })
 
-pub forget-spec : {M : Type 1} → statement M
-forget-spec =
+pub forget_spec : {M : Type 1} → statement M
+forget_spec =
     tie.close
-    (tie.spec
-    (λ c κs. search rules) (λ c κs. search rules) (λ c κs. search rules) (λ c κs. search rules) (λ c. search rules) returns)
+    (tie.spec (λ c κs. search rules) (λ c κs. search rules) (λ c κs. search rules) (λ c κs. search rules) (λ c. search rules) returns)

@@ -7,16 +7,15 @@ use Rattle.learning.proofs.keep_literal.Tie as tie
 returns : tie.Need-returns
 unfolding Ln.kept_literal
 returns c =
-    let r = c.before.before.before.before.before.before.retreat.ensures in
+    let r = c.retreat-u.ensures in
     rw (
-      ← c.before.before.before.before.before.before.before.before.before.before.before.before.literal.ensures,
-      ← c.before.before.before.before.before.before.before.before.before.before.settle.ensures,
+      ← c.literal-l.ensures,
+      ← c.settle.ensures,
       ← r.words,
       ← r.search,
-    ) c.before.before.assert.ensures
+    ) c.assert.ensures
 
-pub keep-literal-spec : {M : Type 1} → statement M
-keep-literal-spec =
+pub keep_literal_spec : {M : Type 1} → statement M
+keep_literal_spec =
     tie.close
-    (tie.spec
-    (λ c κs. search rules) (λ c κs. search rules) (λ c κs. search rules) (λ c κs. search rules) (λ c. search rules) returns)
+    (tie.spec (λ c κs. search rules) (λ c κs. search rules) (λ c κs. search rules) (λ c κs. search rules) (λ c. search rules) returns)

@@ -5,13 +5,13 @@ use borrow.Author.Rules.{rules}
 use Rattle.learning.proofs.rank_two.Statement.{statement}
 use Rattle.learning.proofs.rank_two.Tie as tie
 
-returns : tie.Need-returns
+returns : tie.Need-returns-then-field
 unfolding Ln.ranked_two
-returns c = rw (← c.before.before.field.ensures, ← c.before.field2.ensures, lt-ltb _ _ c.if1.true)
+returns c = rw (← c.field.ensures, ← c.field-2.ensures, lt-ltb _ _ c.if-field.true)
 
-returns-2 : tie.Need-returns-2
+returns-2 : tie.Need-returns
 unfolding Ln.ranked_two
-returns-2 c = rw (← c.before.before.field.ensures, ← c.before.field2.ensures, le-ltb _ _ c.if1.false)
+returns-2 c = rw (← c.field.ensures, ← c.field-2.ensures, le-ltb _ _ c.if-field.false)
 
-pub rank-two-spec : {M : Type 1} → statement M
-rank-two-spec = tie.close (tie.spec (λ c κs. search rules) (λ c κs. search rules) returns returns-2)
+pub rank_two_spec : {M : Type 1} → statement M
+rank_two_spec = tie.close (tie.spec (λ c κs. search rules) (λ c κs. search rules) returns returns-2)

@@ -7,11 +7,11 @@ use Rattle.learning.proofs.retreat.Tie as tie
 returns : tie.Need-returns
 unfolding Ln.retreated
 returns c =
-    let b = c.before.before.before.before.before.before.before.before.backtrack.ensures in
-    let g = c.before.before.before.before.restore.ensures in
-    rw (← b.words, ← b.state, ← g.heap) (record { words = g.words; search = rw c.none-agreed.ensures })
+    let b = c.backtrack-u.ensures in
+    let g = c.restore-g.ensures in
+    rw (← b.words, ← b.state, ← g.heap) (record { words = g.words; search = rw c.none_agreed-o.ensures })
 
-pub retreat-spec : {M : Type 1} → statement M
-retreat-spec =
+pub retreat_spec : {M : Type 1} → statement M
+retreat_spec =
     tie.close
     (tie.spec (λ c κs. search rules) (λ c κs. search rules) (λ c κs. search rules) (λ c. search rules) returns)

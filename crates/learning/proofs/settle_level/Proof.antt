@@ -6,18 +6,17 @@ use borrow.Author.Rules.{rules}
 use Rattle.learning.proofs.settle_level.Statement.{statement}
 use Rattle.learning.proofs.settle_level.Tie as tie
 
-returns : tie.Need-returns
+returns : tie.Need-returns-then-t-eq0
 unfolding Ln.settled_level
 returns c =
-    rw (eq-eqb _ _ c.before.before.before.before.before.before.if1.true)
-    (record { words = c.before.before.before.before.settle-all.ensures; search = rw (c.with-order.ensures, c.before.all_settled.ensures) })
+    rw (eq-eqb _ _ c.if-t-eq0.true)
+    (record { words = c.settle_all.ensures; search = rw (c.with_order.ensures, c.all_settled.ensures) })
 
-returns-2 : tie.Need-returns-2
+returns-2 : tie.Need-returns
 unfolding Ln.settled_level
-returns-2 c = rw (ne_eqb _ _ c.if1.false) (record { words = refl; search = refl })
+returns-2 c = rw (ne_eqb _ _ c.if-t-eq0.false) (record { words = refl; search = refl })
 
-pub settle-level-spec : {M : Type 1} → statement M
-settle-level-spec =
+pub settle_level_spec : {M : Type 1} → statement M
+settle_level_spec =
     tie.close
-    (tie.spec
-    (λ c κs. search rules) (λ c κs. search rules) (λ c κs. search rules) (λ c. search rules) returns returns-2)
+    (tie.spec (λ c κs. search rules) (λ c κs. search rules) (λ c κs. search rules) (λ c. search rules) returns returns-2)

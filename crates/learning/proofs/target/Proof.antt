@@ -5,17 +5,17 @@ use borrow.Author.Rules.{rules}
 use Rattle.learning.proofs.target.Statement.{statement}
 use Rattle.learning.proofs.target.Tie as tie
 
-returns : tie.Need-returns
+returns : tie.Need-returns-then-to-level
 unfolding Ln.target
-returns c = rw (← c.before.field.ensures, lt-ltb _ _ c.if1.true)
+returns c = rw (← c.field-to.ensures, lt-ltb _ _ c.if-to-level.true)
 
-returns-2 : tie.Need-returns-2
+returns-2 : tie.Need-returns-then-level-eq0
 unfolding Ln.target
-returns-2 c = rw (← c.before.before.field.ensures, le-ltb _ _ c.before.if1.false, eq-eqb _ _ c.if2.true)
+returns-2 c = rw (← c.field-to.ensures, le-ltb _ _ c.if-to-level.false, eq-eqb _ _ c.if-level-eq0.true)
 
-returns-3 : tie.Need-returns-3
+returns-3 : tie.Need-returns-else-level-eq0
 unfolding Ln.target
-returns-3 c = rw (← c.before.before.field.ensures, le-ltb _ _ c.before.if1.false, ne_eqb _ _ c.if2.false)
+returns-3 c = rw (← c.field-to.ensures, le-ltb _ _ c.if-to-level.false, ne_eqb _ _ c.if-level-eq0.false)
 
-pub target-spec : {M : Type 1} → statement M
-target-spec = tie.close (tie.spec (λ c κs. search rules) returns (λ c. search rules) returns-2 returns-3)
+pub target_spec : {M : Type 1} → statement M
+target_spec = tie.close (tie.spec (λ c κs. search rules) returns (λ c. search rules) returns-2 returns-3)

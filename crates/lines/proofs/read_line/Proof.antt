@@ -12,42 +12,36 @@ use borrow.Author.Rules.{rules}
 use Rattle.lines.proofs.read_line.Statement.{statement}
 use Rattle.lines.proofs.read_line.Tie as tie
 
-abbrev words : tie.After-read-row → List ℕ
-words n = n.read-row.new.1.1.1.0
+abbrev words : tie.After-read_row → List ℕ
+words n = n.read_row.new.buf
 
-room : (n : tie.After-read-row) → n.before.before.before.before.args.form.most ≤ length (words n)
-room n = omega (arith, n.before.before.before.before.requires.0, n.read-row.auto.1.1.1.0)
+room : (n : tie.After-read_row) → n.args.form.most ≤ length (words n)
+room n = omega (arith, n.requires.0, n.read_row.auto.buf)
 
 -- the answer of the call is the variant that the match found
-found : (n : tie.After-read-row) (r : Row) → n.read-row.result ≡ r
-    → let a = n.before.before.before.before.args in
+found : (n : tie.After-read_row) (r : Row) → n.read_row.result ≡ r
+    → let a = n.args in
     RowAt a.s.now a.at a.form.most (replicate 3 0) (words n) r
 found n r e =
-    let a = n.before.before.before.before.args in
-    subst (RowAt a.s.now a.at a.form.most (replicate 3 0) (words n)) e n.read-row.ensures.0
+    let a = n.args in
+    subst (RowAt a.s.now a.at a.form.most (replicate 3 0) (words n)) e n.read_row.ensures.0
 
-returns : tie.Need-returns
+returns : tie.Need-returns-then-count-form
 returns c =
-    let n = c.before.before.before.before.before.before in
-    (line-short _ _ _ _ _ (words n) _ _ (room n) (found n _ c.before.before.before.count.given.1) c.if1.true, refl)
+    (line-short _ _ _ _ _ (words c.before.before.before.before) _ _ (room c.before.before.before.before) (found c.before.before.before.before _ c.in-Read.is) c.if-count-form.true, refl)
 
-returns-2 : tie.Need-returns-2
+returns-2 : tie.Need-returns-else-count-form
 returns-2 c =
-    let e = c.before.before.before.before.before in
-    let n = e.before.before.before.before.before.before in
-    line_read _ _ _ _ _ (words n) _ _ _ (replicate 3 0) _ _ _ (room n) (zeros 3)
-    (found n _ e.before.before.before.count.given.1) e.if1.false
-    c.before.before.store_words_lem.ensures
+    line_read _ _ _ _ _ (words c.before.before.before.before.before.before.before.before.before) _ _ _ (replicate 3 0) _ _ _ (room c.before.before.before.before.before.before.before.before.before) (zeros 3)
+    (found c.before.before.before.before.before.before.before.before.before _ c.in-Read.is) c.if-count-form.false
+    c.store_words-fits.ensures
 
-returns-3 : tie.Need-returns-3
+returns-3 : tie.Need-returns-in-Malformed
 returns-3 c =
-    let n = c.before.before.before in
-    let a = n.before.before.before.before.args in
-    (line-malformed a.s.now a.at a.form.least a.form.most (found n _ c.enum_told.given.1), refl)
+    let a = c.args in
+    (line-malformed a.s.now a.at a.form.least a.form.most (found c.before.before _ c.in-Malformed.is), refl)
 
-pub read-line-spec : {M : Type 1} → statement M
-read-line-spec =
+pub read_line_spec : {M : Type 1} → statement M
+read_line_spec =
     tie.close
-    (tie.spec
-    (λ c. search rules) (λ c κs. search rules) (λ c. search rules) returns (λ c. search rules) (λ c κs. search rules)
-    (λ c. search rules) (λ c. search rules) returns-2 returns-3)
+    (tie.spec (λ c. search rules) (λ c κs. search rules) (λ c. search rules) returns (λ c. search rules) (λ c κs. search rules) (λ c. search rules) (λ c. search rules) returns-2 returns-3)

@@ -11,83 +11,74 @@ use borrow.Author.Rules.{rules}
 use Rattle.lines.proofs.read_row.Statement.{statement}
 use Rattle.lines.proofs.read_row.Tie as tie
 
-abbrev invariant-loop : tie.invariant-loop
+abbrev invariant-loop : tie.invariant-loop-count
 invariant-loop s at most buf₀ count₀ next₀ buf count next = Reading s at most buf₀ buf count next
 
-abbrev decreases-loop : tie.decreases-loop
+abbrev decreases-loop : tie.decreases-loop-count
 decreases-loop s at most buf₀ count₀ next₀ buf count next = most - count
 
-abbrev S : tie.At-loop invariant-loop decreases-loop → List ℕ
-S l = l.before.before.before.args.s.now
+abbrev S : tie.At-loop-count invariant-loop decreases-loop → List ℕ
+S l = l.args.s.now
 
 -- the answer of the call is the variant that the match found
-found : (n : tie.After-read-number invariant-loop decreases-loop) (r : Number) → n.read_number.result ≡ r
-    → NumberAt (S n.before.before) n.before.before.loop.next r
-found n r e = subst (NumberAt (S n.before.before) n.before.before.loop.next) e n.read_number.ensures
+found : (n : tie.After-read_number invariant-loop decreases-loop) (r : Number) → n.read_number.result ≡ r
+    → NumberAt (S n.before.before) n.loop-count.next r
+found n r e = subst (NumberAt (S n.before.before) n.loop-count.next) e n.read_number.ensures
 
-loop-holds : tie.Need-loop-init invariant-loop decreases-loop
-loop-holds c = start _ _ _ _ c.before.before.requires
+loop-holds : tie.Need-loop-count-init invariant-loop decreases-loop
+loop-holds c = start _ _ _ _ c.requires
 
-mul-buf : tie.Need-overflow-mul-buf invariant-loop decreases-loop
+mul-buf : tie.Need-offset_bounds-buf-count invariant-loop decreases-loop
 mul-buf c = omega arith
 
-slice-write-buf : tie.Need-slice-write-buf invariant-loop decreases-loop
+slice-write-buf : tie.Need-bounds-buf-count invariant-loop decreases-loop
 slice-write-buf c = omega arith
 
-add-count : tie.Need-overflow-add-count invariant-loop decreases-loop
+add-count : tie.Need-overflow_add-count invariant-loop decreases-loop
 add-count c = omega arith
 
-loop-less : tie.Need-loop-smaller invariant-loop decreases-loop
+loop-less : tie.Need-loop-count-smaller invariant-loop decreases-loop
 loop-less c = omega arith
 
-loop-again : tie.Need-loop-preserved invariant-loop decreases-loop
+loop-again : tie.Need-loop-count-preserved invariant-loop decreases-loop
 loop-again c =
-    let n = c.before.before.before in
-    let l = n.before.before in
-    more _ _ _ _ _ _ _ l.loop.invariant _ _ n.before.loop-test.true (found n _ c.before.v.given.1)
+    more _ _ _ _ _ _ _ c.loop-count.invariant _ _ c.loop-count-test.true (found c.before _ c.in-Spaced.is)
 
-mul-buf-2 : tie.Need-overflow-mul-buf-2 invariant-loop decreases-loop
+mul-buf-2 : tie.Need-offset_bounds-buf-count-in-Ended invariant-loop decreases-loop
 mul-buf-2 c = omega arith
 
-slice-write-buf-2 : tie.Need-slice-write-buf-2 invariant-loop decreases-loop
+slice-write-buf-2 : tie.Need-bounds-buf-count-in-Ended invariant-loop decreases-loop
 slice-write-buf-2 c = omega arith
 
-add-t15 : tie.Need-overflow-add-t15 invariant-loop decreases-loop
+add-t15 : tie.Need-overflow_add-result invariant-loop decreases-loop
 add-t15 c = omega arith
 
-same_length : tie.Need-same-length invariant-loop decreases-loop
-same_length c = rw (length-set _ _ _) c.before.before.before.before.before.loop.invariant.kept
+same_length : tie.Need-shape_of-buf-in-Ended invariant-loop decreases-loop
+same_length c = rw (length-set _ _ _) c.loop-count.invariant.kept
 
-returns : tie.Need-returns invariant-loop decreases-loop
+returns : tie.Need-returns-in-Ended invariant-loop decreases-loop
 returns c =
-    let n = c.before.before.before in
-    let l = n.before.before in
-    let t = n.before.loop-test.true in
-    let f = found n _ c.before.v2.given.1 in
-    (last _ _ _ _ _ _ _ l.loop.invariant _ _ t f, last-left _ _ _ _ _ _ _ l.loop.invariant _ _ t f)
+    let t = c.loop-count-test.true in
+    let f = found c.before _ c.in-Ended.is in
+    (last _ _ _ _ _ _ _ c.loop-count.invariant _ _ t f, last-left _ _ _ _ _ _ _ c.loop-count.invariant _ _ t f)
 
-same-length-2 : tie.Need-same-length-2 invariant-loop decreases-loop
-same-length-2 c = c.before.before.before.before.loop.invariant.kept
+same-length-2 : tie.Need-shape_of-buf-in-Malformed invariant-loop decreases-loop
+same-length-2 c = c.loop-count.invariant.kept
 
-returns-2 : tie.Need-returns-2 invariant-loop decreases-loop
+returns-2 : tie.Need-returns-in-Malformed invariant-loop decreases-loop
 returns-2 c =
-    let n = c.before.before in
-    let l = n.before.before in
-    let t = n.before.loop-test.true in
-    let f = found n _ c.enum_told.given.1 in
-    (bad _ _ _ _ _ _ _ l.loop.invariant t f, bad-left _ _ _ _ _ _ _ l.loop.invariant t f)
+    let t = c.loop-count-test.true in
+    let f = found c.before _ c.in-Malformed.is in
+    (bad _ _ _ _ _ _ _ c.loop-count.invariant t f, bad-left _ _ _ _ _ _ _ c.loop-count.invariant t f)
 
-same-length-3 : tie.Need-same-length-3 invariant-loop decreases-loop
-same-length-3 c = c.before.loop.invariant.kept
+same-length-3 : tie.Need-shape_of-buf invariant-loop decreases-loop
+same-length-3 c = c.loop-count.invariant.kept
 
-returns-3 : tie.Need-returns-3 invariant-loop decreases-loop
+returns-3 : tie.Need-returns invariant-loop decreases-loop
 returns-3 c =
-    (long _ _ _ _ _ _ _ c.before.loop.invariant c.loop-test.false, long-left _ _ _ _ _ _ _ c.before.loop.invariant c.loop-test.false)
+    (long _ _ _ _ _ _ _ c.loop-count.invariant c.loop-count-test.false, long-left _ _ _ _ _ _ _ c.loop-count.invariant c.loop-count-test.false)
 
-pub read-row-spec : {M : Type 1} → statement M
-read-row-spec =
+pub read_row_spec : {M : Type 1} → statement M
+read_row_spec =
     tie.close
-    (tie.spec
-    invariant-loop decreases-loop loop-holds (λ c κs. search rules) (λ c. search rules) mul-buf slice-write-buf add-count loop-less loop-again
-    (λ c. search rules) mul-buf-2 slice-write-buf-2 add-t15 same_length returns (λ c. search rules) same-length-2 returns-2
-    same-length-3 returns-3)
+    (tie.spec invariant-loop decreases-loop loop-holds (λ c κs. search rules) (λ c. search rules) mul-buf slice-write-buf add-count loop-less loop-again (λ c. search rules) mul-buf-2 slice-write-buf-2 add-t15 same_length returns (λ c. search rules) same-length-2 returns-2 same-length-3 returns-3)

@@ -10,79 +10,70 @@ use borrow.Author.Rules.{rules}
 use Rattle.lines.proofs.read_rows.Statement.{statement}
 use Rattle.lines.proofs.read_rows.Tie as tie
 
-abbrev invariant-loop : tie.invariant-loop
+abbrev invariant-loop : tie.invariant-loop-left
 invariant-loop s at n form out₀ from next₀ fits₀ to₀ left₀ out next fits to left =
     Run s at form.least form.most n form.limit out₀ from out next fits to left
 
-abbrev decreases-loop : tie.decreases-loop
+abbrev decreases-loop : tie.decreases-loop-left
 decreases-loop s at n form out₀ from next₀ fits₀ to₀ left₀ out next fits to left = left
 
 -- there is room for a line more
-here : (t : tie.In-loop invariant-loop decreases-loop)
-    → t.before.loop.to + t.before.before.before.before.args.form.most ≤ length t.before.loop.out
-here t = room-here _ _ _ _ _ _ _ _ _ _ _ _ _ t.before.loop.invariant t.loop-test.true
+here : (t : tie.In-loop-left invariant-loop decreases-loop)
+    → t.loop-left.to + t.args.form.most ≤ length t.loop-left.out
+here t = room-here _ _ _ _ _ _ _ _ _ _ _ _ _ t.loop-left.invariant t.loop-left-test.true
 
 -- the answer of the call is the variant that the match found
-found : (n : tie.After-read-line invariant-loop decreases-loop) (r : Rows) → n.read-line.result ≡ r
-    → let l = n.before.before.before in
-    let a = l.before.before.before.args in
+found : (n : tie.After-read_line invariant-loop decreases-loop) (r : Rows) → n.read_line.result ≡ r
+    → let a = n.args in
     let f = a.form in
-    LineAt a.s.now l.loop.next f.least f.most f.limit l.loop.out l.loop.to n.read-line.new.1.1.1.0 r
+    LineAt a.s.now n.loop-left.next f.least f.most f.limit n.loop-left.out n.loop-left.to n.read_line.new.out r
 found n r e =
-    let l = n.before.before.before in
-    let a = l.before.before.before.args in
+    let a = n.args in
     let f = a.form in
     subst
-    (LineAt a.s.now l.loop.next f.least f.most f.limit l.loop.out l.loop.to n.read-line.new.1.1.1.0) e
-    n.read-line.ensures
+    (LineAt a.s.now n.loop-left.next f.least f.most f.limit n.loop-left.out n.loop-left.to n.read_line.new.out) e
+    n.read_line.ensures
 
-loop-holds : tie.Need-loop-init invariant-loop decreases-loop
-loop-holds c = start _ _ _ _ _ _ _ _ c.before.before.requires.0 c.before.before.requires.1.1
+loop-holds : tie.Need-loop-left-init invariant-loop decreases-loop
+loop-holds c = start _ _ _ _ _ _ _ _ c.requires.0 c.requires.1.1
 
-read-line-requires : tie.Need-read-line-requires invariant-loop decreases-loop
+read-line-requires : tie.Need-read_line-requires invariant-loop decreases-loop
 read-line-requires c κs = (omega arith, here c.before)
 
-add-to : tie.Need-overflow-add-to invariant-loop decreases-loop
-add-to c = omega (arith, here c.before.before.before.before.before.before.before.before)
+add-to : tie.Need-overflow_add-to invariant-loop decreases-loop
+add-to c = omega (arith, here c.before.before.before.before.before.before)
 
-sub-left : tie.Need-overflow-sub-left invariant-loop decreases-loop
+sub-left : tie.Need-overflow_sub-left invariant-loop decreases-loop
 sub-left c = omega arith
 
-loop-less : tie.Need-loop-smaller invariant-loop decreases-loop
+loop-less : tie.Need-loop-left-smaller invariant-loop decreases-loop
 loop-less c = omega arith
 
-loop-again : tie.Need-loop-preserved invariant-loop decreases-loop
+loop-again : tie.Need-loop-left-preserved invariant-loop decreases-loop
 loop-again c =
-    let n = c.before.before.before.before.before.before in
-    let t = n.before.before in
-    more _ _ _ _ _ _ _ _ _ _ _ _ _ t.before.loop.invariant _ _ _ t.loop-test.true (found n _ c.before.before.after.given.1)
+    more _ _ _ _ _ _ _ _ _ _ _ _ _ c.loop-left.invariant _ _ _ c.loop-left-test.true (found c.before.before.before.before _ c.in-Read.is)
 
-same_length : tie.Need-same-length invariant-loop decreases-loop
+same_length : tie.Need-shape_of-out-in-Malformed invariant-loop decreases-loop
 same_length c =
-    let n = c.before.before.before.before in
-    n.read-line.auto.1.1.1.0 ∙ n.before.before.before.loop.invariant.kept
+    c.read_line.auto.out ∙ c.loop-left.invariant.kept
 
-returns : tie.Need-returns invariant-loop decreases-loop
+returns : tie.Need-returns-in-Malformed invariant-loop decreases-loop
 returns c =
-    let n = c.before.before.before.before in
-    let t = n.before.before in
-    let i = t.before.loop.invariant in
-    let f = found n _ c.enum_told.given.1 in (
-      bad _ _ _ _ _ _ _ _ _ _ _ _ _ i t.loop-test.true f.0,
-      bad-left _ _ _ _ _ _ _ _ _ _ _ _ _ i _ t.loop-test.true f.0 f.1,
+    let i = c.loop-left.invariant in
+    let f = found c.before.before.before _ c.in-Malformed.is in (
+      bad _ _ _ _ _ _ _ _ _ _ _ _ _ i c.loop-left-test.true f.0,
+      bad-left _ _ _ _ _ _ _ _ _ _ _ _ _ i _ c.loop-left-test.true f.0 f.1,
     )
 
-same-length-2 : tie.Need-same-length-2 invariant-loop decreases-loop
-same-length-2 c = c.before.loop.invariant.kept
+same-length-2 : tie.Need-shape_of-out invariant-loop decreases-loop
+same-length-2 c = c.loop-left.invariant.kept
 
-returns-2 : tie.Need-returns-2 invariant-loop decreases-loop
+returns-2 : tie.Need-returns invariant-loop decreases-loop
 returns-2 c =
-    let i = c.before.loop.invariant in
-    (end _ _ _ _ _ _ _ _ _ _ _ _ _ i c.loop-test.false, end-left _ _ _ _ _ _ _ _ _ _ _ _ _ i c.loop-test.false)
+    let i = c.loop-left.invariant in
+    (end _ _ _ _ _ _ _ _ _ _ _ _ _ i c.loop-left-test.false, end-left _ _ _ _ _ _ _ _ _ _ _ _ _ i c.loop-left-test.false)
 
-pub read-rows-spec : {M : Type 1} → statement M
-read-rows-spec =
+pub read_rows_spec : {M : Type 1} → statement M
+read_rows_spec =
     tie.close
-    (tie.spec
-    invariant-loop decreases-loop loop-holds read-line-requires (λ c. search rules) add-to sub-left loop-less loop-again (λ c. search rules)
-    same_length returns same-length-2 returns-2)
+    (tie.spec invariant-loop decreases-loop loop-holds read-line-requires (λ c. search rules) add-to sub-left loop-less loop-again (λ c. search rules) same_length returns same-length-2 returns-2)

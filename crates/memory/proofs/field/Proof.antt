@@ -5,13 +5,13 @@ use borrow.Author.Rules.{rules}
 use Rattle.memory.proofs.field.Statement.{statement}
 use Rattle.memory.proofs.field.Tie as tie
 
-returns : tie.Need-returns
+returns : tie.Need-returns-then-nodes-v
 unfolding R.field
-returns c = rw (le-leb _ _ c.if1.true)
+returns c = rw (le-leb _ _ c.if-nodes-v.true)
 
-returns-2 : tie.Need-returns-2
+returns-2 : tie.Need-returns
 unfolding R.field
-returns-2 c = rw (← c.before.place.ensures, lt-leb _ _ c.before.before.if1.false) c.get.ensures
+returns-2 c = rw (← c.place.ensures, lt-leb _ _ c.if-nodes-v.false) c.get.ensures
 
-pub field-spec : {M : Type 1} → statement M
-field-spec = tie.close (tie.spec returns (λ c κs. search rules) (λ c κs. search rules) returns-2)
+pub field_spec : {M : Type 1} → statement M
+field_spec = tie.close (tie.spec returns (λ c κs. search rules) (λ c κs. search rules) returns-2)

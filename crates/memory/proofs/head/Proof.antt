@@ -4,7 +4,7 @@ use Rattle.memory.proofs.head.Statement.{statement}
 use Rattle.memory.proofs.head.Tie as tie
 
 returns : tie.Need-returns
-returns c = rw (← c.before.head-place.ensures) c.get.ensures
+returns c = rw (← c.head_place.ensures) c.get.ensures
 
 pub head_spec : {M : Type 1} → statement M
 head_spec = tie.close (tie.spec (λ c κs. search rules) (λ c κs. search rules) returns)

@@ -5,13 +5,13 @@ use borrow.Author.Rules.{rules}
 use Rattle.memory.proofs.opposite.Statement.{statement}
 use Rattle.memory.proofs.opposite.Tie as tie
 
-returns : tie.Need-returns
+returns : tie.Need-returns-then-l-eq0
 unfolding W.opposite
-returns c = rw (eq-eqb _ _ c.if1.true)
+returns c = rw (eq-eqb _ _ c.if-l-eq0.true)
 
-returns-2 : tie.Need-returns-2
+returns-2 : tie.Need-returns-else-l-eq0
 unfolding W.opposite
-returns-2 c = rw (ne_eqb _ _ c.if1.false)
+returns-2 c = rw (ne_eqb _ _ c.if-l-eq0.false)
 
-pub opposite-spec : {M : Type 1} → statement M
-opposite-spec = tie.close (tie.spec (λ c. search rules) (λ c. search rules) returns returns-2)
+pub opposite_spec : {M : Type 1} → statement M
+opposite_spec = tie.close (tie.spec (λ c. search rules) (λ c. search rules) returns returns-2)

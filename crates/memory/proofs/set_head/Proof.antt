@@ -4,7 +4,7 @@ use Rattle.memory.proofs.set_head.Statement.{statement}
 use Rattle.memory.proofs.set_head.Tie as tie
 
 returns : tie.Need-returns
-returns c = rw (← c.before.before.before.head-place.ensures) c.before.before.put.ensures
+returns c = rw (← c.head_place.ensures) c.put.ensures
 
-pub set-head-spec : {M : Type 1} → statement M
-set-head-spec = tie.close (tie.spec (λ c κs. search rules) (λ c κs. search rules) (λ c. search rules) returns)
+pub set_head_spec : {M : Type 1} → statement M
+set_head_spec = tie.close (tie.spec (λ c κs. search rules) (λ c κs. search rules) (λ c. search rules) returns)

@@ -8,7 +8,7 @@ use Rattle.numbers.proofs.digit_count.Statement.{statement}
 use Rattle.numbers.proofs.digit_count.Tie as tie
 
 returns : tie.Need-returns
-returns c = c.long-digit-count.ensures ∙ ap length (long_same c.before.args.n (omega arith))
+returns c = c.long_digit_count.ensures ∙ ap length (long_same c.args.n (omega arith))
 
-pub digit-count-spec : {M : Type 1} → statement M
-digit-count-spec = tie.close (tie.spec (λ c κs. search rules) returns)
+pub digit_count_spec : {M : Type 1} → statement M
+digit_count_spec = tie.close (tie.spec (λ c κs. search rules) returns)

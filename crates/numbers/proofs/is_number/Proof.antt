@@ -16,20 +16,20 @@ run c = take c.args.count (drop c.args.at c.args.s.now)
 long : (c : tie.Start) → length (run c) ≡ c.args.count
 long c = length-take-le _ _ c.requires.held
 
-returns : tie.Need-returns
-returns c = sym (none (run c.before) (long c.before ∙ c.if1.true))
+returns : tie.Need-returns-then-count-eq0
+returns c = sym (none (run c.before) (long c.before ∙ c.if-count-eq0.true))
 
-returns-2 : tie.Need-returns-2
+returns-2 : tie.Need-returns-then-count-eq1
 returns-2 c =
     let s = c.before.before in
-    sym (single (run s) s.requires.all (long s ∙ c.if2.true))
+    sym (single (run s) s.requires.all (long s ∙ c.if-count-eq1.true))
 
-shared-slice-read-result : tie.Need-shared-slice-read-result
+shared-slice-read-result : tie.Need-bounds-s-at
 shared-slice-read-result c =
     let s = c.before.before.before in
     omega (arith, length-drop s.args.at s.args.s.now, s.requires.held)
 
-returns-3 : tie.Need-returns-3
+returns-3 : tie.Need-returns
 returns-3 c =
     let s = c.before.before.before in
     let l = long s in
@@ -39,5 +39,5 @@ returns-3 c =
     in
     sym (several (run s) s.requires.all (omega arith) (omega (arith, s.requires.few)) ∙ rw e)
 
-pub is-number-spec : {M : Type 1} → statement M
-is-number-spec = tie.close (tie.spec returns returns-2 shared-slice-read-result returns-3)
+pub is_number_spec : {M : Type 1} → statement M
+is_number_spec = tie.close (tie.spec returns returns-2 shared-slice-read-result returns-3)

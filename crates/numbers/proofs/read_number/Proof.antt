@@ -8,114 +8,112 @@ use Rattle.numbers.proofs.Gather.{Gathering, start, turn, held, low-total, low, 
 use Rattle.numbers.proofs.read_number.Statement.{statement}
 use Rattle.numbers.proofs.read_number.Tie as tie
 
-abbrev invariant-loop : tie.invariant-loop
+abbrev invariant-loop : tie.invariant-loop-i
 invariant-loop s at total₀ count₀ i₀ total count i = Gathering s at total count i
 
-abbrev decreases-loop : tie.decreases-loop
+abbrev decreases-loop : tie.decreases-loop-i
 decreases-loop s at total₀ count₀ i₀ total count i = length s - i
 
 -- the byte at i
-abbrev byte : tie.At-loop invariant-loop decreases-loop → ℕ
-byte l = get_or l.before.before.args.s.now l.loop.i 0
+abbrev byte : tie.At-loop-i invariant-loop decreases-loop → ℕ
+byte l = get_or l.args.s.now l.loop-i.i 0
 
-loop-holds : tie.Need-loop-init invariant-loop decreases-loop
+loop-holds : tie.Need-loop-i-init invariant-loop decreases-loop
 loop-holds c = start _ _
 
-shared-slice-read-b : tie.Need-shared-slice-read-b invariant-loop decreases-loop
+shared-slice-read-b : tie.Need-bounds-s-i invariant-loop decreases-loop
 shared-slice-read-b c = omega arith
 
-is-number-requires : tie.Need-is-number-requires invariant-loop decreases-loop
-is-number-requires c κs = held c.before.before.before.loop.invariant
+is-number-requires : tie.Need-is_number-requires invariant-loop decreases-loop
+is-number-requires c κs = held c.loop-i.invariant
 
-add-t12 : tie.Need-overflow-add-t12 invariant-loop decreases-loop
+add-t12 : tie.Need-overflow_add-result invariant-loop decreases-loop
 add-t12 c = omega arith
 
-returns : tie.Need-returns invariant-loop decreases-loop
+returns : tie.Need-returns-then-is_number invariant-loop decreases-loop
 returns c =
     let m = c.before.before in
     let l = m.before.before.before in
-    by-space l.loop.invariant m.before.before.loop-test.true m.match.keys1 (sym c.before.is_number.ensures ∙ c.if1.true)
+    by-space l.loop-i.invariant m.loop-i-test.true m.in-32.is (sym c.is_number.ensures ∙ c.if-is_number.true)
 
-returns-2 : tie.Need-returns-2 invariant-loop decreases-loop
+returns-2 : tie.Need-returns-in-32 invariant-loop decreases-loop
 returns-2 c =
     let m = c.before.before in
     let l = m.before.before.before in
-    no_number l.loop.invariant m.before.before.loop-test.true
-    (low (byte l) (omega (arith, m.match.keys1))) (sym c.before.is_number.ensures ∙ c.if1.false)
+    no_number l.loop-i.invariant m.loop-i-test.true
+    (low (byte l) (omega (arith, m.in-32.is))) (sym c.is_number.ensures ∙ c.if-is_number.false)
 
-is-number-requires-2 : tie.Need-is-number-requires-2 invariant-loop decreases-loop
-is-number-requires-2 c κs = held c.before.before.before.loop.invariant
+is-number-requires-2 : tie.Need-is_number-requires-in-10 invariant-loop decreases-loop
+is-number-requires-2 c κs = held c.loop-i.invariant
 
-add-t14 : tie.Need-overflow-add-t14 invariant-loop decreases-loop
+add-t14 : tie.Need-overflow_add-result-then-is_number-2 invariant-loop decreases-loop
 add-t14 c = omega arith
 
-returns-3 : tie.Need-returns-3 invariant-loop decreases-loop
+returns-3 : tie.Need-returns-then-is_number-2 invariant-loop decreases-loop
 returns-3 c =
     let m = c.before.before in
     let l = m.before.before.before in
-    by-line l.loop.invariant m.before.before.loop-test.true m.match.keys2 (sym c.before.is-number2.ensures ∙ c.if2.true)
+    by-line l.loop-i.invariant m.loop-i-test.true m.in-10.is (sym c.is_number-in-10.ensures ∙ c.if-is_number-2.true)
 
-returns-4 : tie.Need-returns-4 invariant-loop decreases-loop
+returns-4 : tie.Need-returns-in-10 invariant-loop decreases-loop
 returns-4 c =
     let m = c.before.before in
     let l = m.before.before.before in
-    no_number l.loop.invariant m.before.before.loop-test.true
-    (low (byte l) (omega (arith, m.match.keys2))) (sym c.before.is-number2.ensures ∙ c.if2.false)
+    no_number l.loop-i.invariant m.loop-i-test.true
+    (low (byte l) (omega (arith, m.in-10.is))) (sym c.is_number-in-10.ensures ∙ c.if-is_number-2.false)
 
-returns-5 : tie.Need-returns-5 invariant-loop decreases-loop
+returns-5 : tie.Need-returns-then-count-eq10 invariant-loop decreases-loop
 returns-5 c =
-    let l = c.before.before.before.before.before.before in
-    eleventh l.loop.invariant (omega arith) (omega arith) (omega arith) (omega arith)
+    let l = c.before.before.before.before in
+    eleventh l.loop-i.invariant (omega arith) (omega arith) (omega arith) (omega arith)
 
-mul-total : tie.Need-overflow-mul-total invariant-loop decreases-loop
+mul-total : tie.Need-overflow_mul-total invariant-loop decreases-loop
 mul-total c =
-    let l = c.before.before.before.before.before.before in
-    omega (arith, low-total l.loop.invariant (omega arith))
+    let l = c.before.before.before.before in
+    omega (arith, low-total l.loop-i.invariant (omega arith))
 
 wide-requires : tie.Need-wide-requires invariant-loop decreases-loop
 wide-requires c κs = tt
 
-add_total : tie.Need-overflow-add-total invariant-loop decreases-loop
+add_total : tie.Need-overflow_add-total invariant-loop decreases-loop
 add_total c =
-    let l = c.before.before.before.before.before.before.before in
-    omega (arith, low-total l.loop.invariant (omega arith), c.wide.ensures)
+    let l = c.before.before.before.before.before in
+    omega (arith, low-total l.loop-i.invariant (omega arith), c.wide.ensures)
 
-add-count : tie.Need-overflow-add-count invariant-loop decreases-loop
+add-count : tie.Need-overflow_add-count invariant-loop decreases-loop
 add-count c = omega arith
 
-add-i : tie.Need-overflow-add-i invariant-loop decreases-loop
+add-i : tie.Need-overflow_add-i invariant-loop decreases-loop
 add-i c = omega arith
 
-loop-less : tie.Need-loop-smaller invariant-loop decreases-loop
+loop-less : tie.Need-loop-i-smaller invariant-loop decreases-loop
 loop-less c = omega arith
 
-loop-again : tie.Need-loop-preserved invariant-loop decreases-loop
+loop-again : tie.Need-loop-i-preserved invariant-loop decreases-loop
 loop-again c =
-    let l = c.before.before.before.before.before.before.before in
-    turn l.loop.invariant (omega arith) (omega arith) (omega arith) (omega arith) c.wide.result c.wide.ensures
+    let l = c.before.before.before.before.before in
+    turn l.loop-i.invariant (omega arith) (omega arith) (omega arith) (omega arith) c.wide.result c.wide.ensures
 
-returns-6 : tie.Need-returns-6 invariant-loop decreases-loop
+returns-6 : tie.Need-returns-in_default invariant-loop decreases-loop
 returns-6 c =
-    let m = c.before in
+    let m = c in
     let l = m.before.before.before in
-    no_end l.loop.invariant m.before.before.loop-test.true
-    (low _ c.if3.true) m.match.rest.0.1 m.match.rest.1
+    no_end l.loop-i.invariant m.loop-i-test.true
+    (low _ c.in_default.if-b-lt48-own.true) m.in_default.in_default-own.rest.0.1 m.in_default.in_default-own.rest.1
 
-returns-7 : tie.Need-returns-7 invariant-loop decreases-loop
+returns-7 : tie.Need-returns-in_default-2 invariant-loop decreases-loop
 returns-7 c =
-    let m = c.before.before in
+    let m = c in
     let l = m.before.before.before in
-    no_end l.loop.invariant m.before.before.loop-test.true
-    (high _ c.if4.false) m.match.rest.0.1 m.match.rest.1
+    no_end l.loop-i.invariant m.loop-i-test.true
+    (high _ c.in_default.if-b-lt58-own.false) m.in_default.in_default-own.rest.0.1 m.in_default.in_default-own.rest.1
 
-returns-8 : tie.Need-returns-8 invariant-loop decreases-loop
+returns-8 : tie.Need-returns invariant-loop decreases-loop
 returns-8 c =
     let l = c.before in
-    text-end l.loop.invariant c.loop-test.false
+    text-end l.loop-i.invariant c.loop-i-test.false
 
-pub read-number-spec : {M : Type 1} → statement M
-read-number-spec =
+pub read_number_spec : {M : Type 1} → statement M
+read_number_spec =
     tie.close
-    (tie.spec
-    invariant-loop decreases-loop loop-holds shared-slice-read-b is-number-requires add-t12 returns returns-2 is-number-requires-2 add-t14 returns-3
-    returns-4 returns-5 mul-total wide-requires add_total add-count add-i loop-less loop-again returns-6 returns-7 returns-8)
+    (tie.spec invariant-loop decreases-loop loop-holds shared-slice-read-b is-number-requires add-t12 returns returns-2 is-number-requires-2 add-t14 returns-3 returns-4 returns-5 mul-total wide-requires add_total add-count add-i loop-less loop-again returns-6 returns-7 returns-8)

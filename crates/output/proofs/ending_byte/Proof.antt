@@ -3,11 +3,11 @@ use borrow.Author.Tests.{eq-eqb, ne_eqb}
 use Rattle.output.proofs.ending_byte.Statement.{statement}
 use Rattle.output.proofs.ending_byte.Tie as tie
 
-returns : tie.Need-returns
-returns c = rw (eq-eqb c.before.args.left 0 c.if1.true)
+returns : tie.Need-returns-then-left-eq0
+returns c = rw (eq-eqb c.args.left 0 c.if-left-eq0.true)
 
-returns-2 : tie.Need-returns-2
-returns-2 c = rw (ne_eqb c.before.args.left 0 c.if1.false)
+returns-2 : tie.Need-returns
+returns-2 c = rw (ne_eqb c.args.left 0 c.if-left-eq0.false)
 
-pub ending-byte-spec : {M : Type 1} → statement M
-ending-byte-spec = tie.close (tie.spec returns returns-2)
+pub ending_byte_spec : {M : Type 1} → statement M
+ending_byte_spec = tie.close (tie.spec returns returns-2)

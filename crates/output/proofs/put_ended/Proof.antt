@@ -11,34 +11,30 @@ use Rattle.output.proofs.put_ended.Statement.{statement}
 use Rattle.output.proofs.put_ended.Tie as tie
 
 -- there is room for the byte
-below : (w : tie.After-put-number) → w.put-number.result < length w.put-number.new.0
+below : (w : tie.After-put_number-end) → w.put_number-end.result < length w.put_number-end.new.out
 below w =
-    let s = w.before.before.before in
     omega (
       arith,
-      room-second s.args.out.now s.args.at (digits s.args.n) (ending s.args.left ∷ []) s.requires w.put-number.ensures,
+      room-second w.args.out.now w.args.at (digits w.args.n) (ending w.args.left ∷ []) w.requires w.put_number-end.ensures,
     )
 
-put-number-requires : tie.Need-put-number-requires
+put-number-requires : tie.Need-put_number-end-requires
 put-number-requires c κs =
-    let s = c.before.before in
-    room-first s.args.out.now s.args.at (digits s.args.n) (ending s.args.left ∷ []) s.requires
+    room-first c.args.out.now c.args.at (digits c.args.n) (ending c.args.left ∷ []) c.requires
 
-slice-write-out : tie.Need-slice-write-out
+slice-write-out : tie.Need-bounds-out-end
 slice-write-out c = below c.before.before.before
 
-add-result : tie.Need-overflow-add-result
+add-result : tie.Need-overflow_add-result
 add-result c = omega (arith, below c.before.before.before)
 
 returns : tie.Need-returns
 returns c =
-    let w = c.before.before.before in
-    let s = w.before.before.before in
-    rw c.ending-byte.ensures
-    (placed-two s.args.out.now s.args.at (digits s.args.n) (ending s.args.left ∷ []) s.requires w.put-number.ensures
-    (placed-byte w.put-number.new.0 w.put-number.result (ending s.args.left) (below w)))
+    rw c.ending_byte.ensures
+    (placed-two c.args.out.now c.args.at (digits c.args.n) (ending c.args.left ∷ []) c.requires c.put_number-end.ensures
+    (placed-byte c.put_number-end.new.out c.put_number-end.result (ending c.args.left) (below c.before.before.before)))
 
-pub put-ended-spec : {M : Type 1} → statement M
-put-ended-spec =
+pub put_ended_spec : {M : Type 1} → statement M
+put_ended_spec =
     tie.close
     (tie.spec put-number-requires (λ c κs. search rules) slice-write-out add-result (λ c. search rules) returns)

@@ -9,18 +9,15 @@ use Rattle.output.proofs.put_long.Tie as tie
 
 returns : tie.Need-returns
 returns c =
-    let f = c.before.before in
-    let d = f.before.before.long-digit-count in
-    let a = f.before.before.before.before.args in
+    let d = c.long_digit_count in
+    let a = c.args in
     record {
       past = ap (λ (k : ℕ). a.at + k) d.ensures;
       contents =
-          filled a.out.now f.fill.new.0 a.at a.n d.result (omega arith) d.ensures (omega arith) f.fill.ensures;
+          filled a.out.now c.fill.new.out a.at a.n d.result (omega arith) d.ensures (omega arith) c.fill.ensures;
     }
 
-pub put-long-spec : {M : Type 1} → statement M
-put-long-spec =
+pub put_long_spec : {M : Type 1} → statement M
+put_long_spec =
     tie.close
-    (tie.spec
-    (λ c κs. search rules) (λ c. search rules) (λ c. search rules) (λ c. search rules) (λ c. search rules) (λ c κs. search rules)
-    (λ c. search rules) returns)
+    (tie.spec (λ c κs. search rules) (λ c. search rules) (λ c. search rules) (λ c. search rules) (λ c. search rules) (λ c κs. search rules) (λ c. search rules) returns)

@@ -9,17 +9,15 @@ use borrow.Author.Rules.{rules}
 use Rattle.output.proofs.put_number.Statement.{statement}
 use Rattle.output.proofs.put_number.Tie as tie
 
-put-long-requires : tie.Need-put-long-requires
+put-long-requires : tie.Need-put_long-requires
 put-long-requires c κs =
-    let s = c.before.before in
-    subst (Room s.args.out.now s.args.at) (sym (long_same s.args.n (omega arith))) s.requires
+    subst (Room c.args.out.now c.args.at) (sym (long_same c.args.n (omega arith))) c.requires
 
 returns : tie.Need-returns
 returns c =
-    let w = c.before.before in
-    let a = w.before.before.before.args in
-    subst (λ (t : List ℕ). Placed a.out.now a.at t w.put-long.result w.put-long.new.0) (long_same a.n (omega arith))
-    w.put-long.ensures
+    let a = c.args in
+    subst (λ (t : List ℕ). Placed a.out.now a.at t c.put_long.result c.put_long.new.out) (long_same a.n (omega arith))
+    c.put_long.ensures
 
-pub put-number-spec : {M : Type 1} → statement M
-put-number-spec = tie.close (tie.spec put-long-requires (λ c. search rules) returns)
+pub put_number_spec : {M : Type 1} → statement M
+put_number_spec = tie.close (tie.spec put-long-requires (λ c. search rules) returns)

@@ -13,52 +13,44 @@ use Rattle.output.proofs.put_place.Statement.{statement}
 use Rattle.output.proofs.put_place.Tie as tie
 
 -- there is room for the place and the line feed behind the frame, and for the line feed behind the place
-behind : (w : tie.After-put-ended) → Room w.put_ended.new.0 w.put_ended.result (long_digits w.before.before.before.args.place ++ 10 ∷ [])
+behind : (w : tie.After-put_ended-start) → Room w.put_ended-start.new.out w.put_ended-start.result (long_digits w.args.place ++ 10 ∷ [])
 behind w =
-    let s = w.before.before.before in
-    room-second s.args.out.now s.args.at (number_text s.args.t 1) (long_digits s.args.place ++ 10 ∷ []) s.requires w.put_ended.ensures
+    room-second w.args.out.now w.args.at (number_text w.args.t 1) (long_digits w.args.place ++ 10 ∷ []) w.requires w.put_ended-start.ensures
 
-below : (w : tie.After-put-long) → w.put-long.result < length w.put-long.new.0
+below : (w : tie.After-put_long-end) → w.put_long-end.result < length w.put_long-end.new.out
 below w =
-    let v = w.before.before.before.before in
     omega (
       arith,
-      room-second v.put_ended.new.0 v.put_ended.result (long_digits v.before.before.before.args.place) (10 ∷ []) (behind v)
-          w.put-long.ensures,
+      room-second w.put_ended-start.new.out w.put_ended-start.result (long_digits w.args.place) (10 ∷ []) (behind w.before.before.before.before)
+          w.put_long-end.ensures,
     )
 
-put-ended-requires : tie.Need-put-ended-requires
+put-ended-requires : tie.Need-put_ended-start-requires
 put-ended-requires c κs =
-    let s = c.before.before in
-    room-first s.args.out.now s.args.at (number_text s.args.t 1) (long_digits s.args.place ++ 10 ∷ []) s.requires
+    room-first c.args.out.now c.args.at (number_text c.args.t 1) (long_digits c.args.place ++ 10 ∷ []) c.requires
 
-put-long-requires : tie.Need-put-long-requires
+put-long-requires : tie.Need-put_long-end-requires
 put-long-requires c κs =
-    let w = c.before.before.before in
-    room-first w.put_ended.new.0 w.put_ended.result (long_digits c.before.before.before.before.before.before.args.place) (10 ∷ []) (behind w)
+    room-first c.put_ended-start.new.out c.put_ended-start.result (long_digits c.args.place) (10 ∷ []) (behind c.before.before.before)
 
-slice-write-out : tie.Need-slice-write-out
+slice-write-out : tie.Need-bounds-out-end
 slice-write-out c = below c.before.before
 
-add-result : tie.Need-overflow-add-result
+add-result : tie.Need-overflow_add-result
 add-result c = omega (arith, below c.before.before)
 
-same_length : tie.Need-same-length
+same_length : tie.Need-shape_of-out
 same_length c =
-    length-set c.before.before.put-long.new.0 _ _ ∙ c.before.before.put-long.auto.0
-    ∙ c.before.before.before.before.before.before.put_ended.auto.0
+    length-set c.put_long-end.new.out _ _ ∙ c.put_long-end.auto.out
+    ∙ c.put_ended-start.auto.out
 
 returns : tie.Need-returns
 returns c =
-    let w = c.before.before in
-    let v = c.before.before.before.before.before.before in
-    let s = c.before.before.before.before.before.before.before.before.before in
-    placed-two s.args.out.now s.args.at (number_text s.args.t 1) (long_digits s.args.place ++ 10 ∷ []) s.requires v.put_ended.ensures
-    (placed-two v.put_ended.new.0 v.put_ended.result (long_digits s.args.place) (10 ∷ []) (behind v) w.put-long.ensures
-    (placed-byte w.put-long.new.0 w.put-long.result 10 (below w)))
+    placed-two c.args.out.now c.args.at (number_text c.args.t 1) (long_digits c.args.place ++ 10 ∷ []) c.requires c.put_ended-start.ensures
+    (placed-two c.put_ended-start.new.out c.put_ended-start.result (long_digits c.args.place) (10 ∷ []) (behind c.before.before.before.before.before.before) c.put_long-end.ensures
+    (placed-byte c.put_long-end.new.out c.put_long-end.result 10 (below c.before.before)))
 
-pub put-place-spec : {M : Type 1} → statement M
-put-place-spec =
+pub put_place_spec : {M : Type 1} → statement M
+put_place_spec =
     tie.close
-    (tie.spec
-    put-ended-requires put-long-requires slice-write-out add-result same_length returns)
+    (tie.spec put-ended-requires put-long-requires slice-write-out add-result same_length returns)

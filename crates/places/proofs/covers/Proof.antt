@@ -9,11 +9,11 @@ use borrow.Author.Rules.{rules}
 use Rattle.places.proofs.covers.Statement.{statement}
 use Rattle.places.proofs.covers.Tie as tie
 
-returns : tie.Need-returns
-returns c = sym (lt-leb (2 ^ c.before.args.n) c.before.args.d (omega (arith, pow_mono c.if1.true)))
+returns : tie.Need-returns-then-n-gt32
+returns c = sym (lt-leb (2 ^ c.args.n) c.args.d (omega (arith, pow_mono c.if-n-gt32.true)))
 
-returns-2 : tie.Need-returns-2
-returns-2 c = ap (λ (x : ℕ). leb x c.before.args.d) (omega (arith, pow_mono c.if1.false))
+returns-2 : tie.Need-returns
+returns-2 c = ap (λ (x : ℕ). leb x c.args.d) (omega (arith, pow_mono c.if-n-gt32.false))
 
-pub covers-spec : {M : Type 1} → statement M
-covers-spec = tie.close (tie.spec returns (λ c. search rules) returns-2)
+pub covers_spec : {M : Type 1} → statement M
+covers_spec = tie.close (tie.spec returns (λ c. search rules) returns-2)

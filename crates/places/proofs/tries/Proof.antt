@@ -5,14 +5,14 @@ use borrow.Author.Rules.{rules}
 use Rattle.places.proofs.tries.Statement.{statement}
 use Rattle.places.proofs.tries.Tie as tie
 
-returns : tie.Need-returns
-returns c = omega (arith, pow_mono c.if1.true)
+returns : tie.Need-returns-then-n-gt32
+returns c = omega (arith, pow_mono c.if-n-gt32.true)
 
-returns-2 : tie.Need-returns-2
-returns-2 c = omega (arith, pow_mono c.before.if1.false)
+returns-2 : tie.Need-returns-then-all-d
+returns-2 c = omega (arith, pow_mono c.if-n-gt32.false)
 
-returns-3 : tie.Need-returns-3
-returns-3 c = omega (arith, pow_mono c.before.if1.false)
+returns-3 : tie.Need-returns-else-all-d
+returns-3 c = omega (arith, pow_mono c.if-n-gt32.false)
 
-pub tries-spec : {M : Type 1} → statement M
-tries-spec = tie.close (tie.spec returns (λ c. search rules) returns-2 returns-3)
+pub tries_spec : {M : Type 1} → statement M
+tries_spec = tie.close (tie.spec returns (λ c. search rules) returns-2 returns-3)

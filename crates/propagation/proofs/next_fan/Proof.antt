@@ -5,13 +5,13 @@ use borrow.Author.Rules.{rules}
 use Rattle.propagation.proofs.next_fan.Statement.{statement}
 use Rattle.propagation.proofs.next_fan.Tie as tie
 
-returns : tie.Need-returns
+returns : tie.Need-returns-then-e-eq0
 unfolding G.next_fan
-returns c = rw (eq-eqb _ _ c.before.if1.true) c.field.ensures
+returns c = rw (eq-eqb _ _ c.if-e-eq0.true) c.field.ensures
 
-returns-2 : tie.Need-returns-2
+returns-2 : tie.Need-returns-else-e-eq0
 unfolding G.next_fan
-returns-2 c = rw (ne_eqb _ _ c.before.if1.false) c.field2.ensures
+returns-2 c = rw (ne_eqb _ _ c.if-e-eq0.false) c.field-else-e-eq0.ensures
 
-pub next-fan-spec : {M : Type 1} → statement M
-next-fan-spec = tie.close (tie.spec (λ c κs. search rules) (λ c κs. search rules) returns returns-2)
+pub next_fan_spec : {M : Type 1} → statement M
+next_fan_spec = tie.close (tie.spec (λ c κs. search rules) (λ c κs. search rules) returns returns-2)

@@ -10,33 +10,31 @@ use Rattle.propagation.proofs.reason.Statement.{statement}
 use Rattle.propagation.proofs.reason.Tie as tie
 
 -- the first three tests failed
-third : (c : tie.Else3)
-    → let a = c.before.before.before.args in
+third : (c : tie.Else-rule-eq5)
+    → let a = c.args in
     G.reason a.g a.rule ≡ cond (eqb a.rule 9) (4 * a.g + 1) (4 * a.g + 2)
 unfolding G.reason
-third c = rw (unequal c.before.before.if1.false, unequal c.before.if2.false, unequal c.if3.false)
+third c = rw (unequal c.if-rule-eq4.false, unequal c.if-rule-eq8.false, unequal c.if-rule-eq5.false)
 
-returns : tie.Need-returns
+returns : tie.Need-returns-then-rule-eq4
 unfolding G.reason
-returns c = rw (equal c.if1.true)
+returns c = rw (equal c.if-rule-eq4.true)
 
-returns-2 : tie.Need-returns-2
+returns-2 : tie.Need-returns-then-rule-eq8
 unfolding G.reason
-returns-2 c = rw (unequal c.before.if1.false, equal c.if2.true)
+returns-2 c = rw (unequal c.if-rule-eq4.false, equal c.if-rule-eq8.true)
 
-returns-3 : tie.Need-returns-3
+returns-3 : tie.Need-returns-then-rule-eq5
 unfolding G.reason
-returns-3 c = rw (unequal c.before.before.if1.false, unequal c.before.if2.false, equal c.if3.true)
+returns-3 c = rw (unequal c.if-rule-eq4.false, unequal c.if-rule-eq8.false, equal c.if-rule-eq5.true)
 
-returns-4 : tie.Need-returns-4
-returns-4 c = rw (third c.before, equal c.if4.true)
+returns-4 : tie.Need-returns-then-rule-eq9
+returns-4 c = rw (third c.before, equal c.if-rule-eq9.true)
 
-returns-5 : tie.Need-returns-5
-returns-5 c = rw (third c.before, unequal c.if4.false)
+returns-5 : tie.Need-returns-else-rule-eq9
+returns-5 c = rw (third c.before, unequal c.if-rule-eq9.false)
 
-pub reason-spec : {M : Type 1} → statement M
-reason-spec =
+pub reason_spec : {M : Type 1} → statement M
+reason_spec =
     tie.close
-    (tie.spec
-    (λ c. search rules) returns (λ c. search rules) returns-2 (λ c. search rules) (λ c. search rules) returns-3 (λ c. search rules)
-    (λ c. search rules) (λ c. search rules) (λ c. search rules) returns-4 returns-5)
+    (tie.spec (λ c. search rules) returns (λ c. search rules) returns-2 (λ c. search rules) (λ c. search rules) returns-3 (λ c. search rules) (λ c. search rules) (λ c. search rules) (λ c. search rules) returns-4 returns-5)

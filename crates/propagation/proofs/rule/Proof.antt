@@ -9,42 +9,39 @@ use Rattle.propagation.proofs.rule.Statement.{statement}
 use Rattle.propagation.proofs.rule.Tie as tie
 
 -- the first three tests failed
-third : (c : tie.Else3)
-    → let a = c.before.before.before.args in
+third : (c : tie.Else-x-eq0)
+    → let a = c.args in
     G.rule a.o a.x a.y ≡ cond (eqb a.y 0) 9 (cond (eqb a.x 1) (cond (eqb a.y 1) 10 0) 0)
 unfolding G.rule
-third c = rw (unequal c.before.before.if1.false, unequal c.before.if2.false, unequal c.if3.false)
+third c = rw (unequal c.if-o-eq1.false, unequal c.if-o-eq0.false, unequal c.if-x-eq0.false)
 
-returns : tie.Need-returns
+returns : tie.Need-returns-then-o-eq1
 unfolding G.rule
-returns c = rw (equal c.before.if1.true) c.rule-true.ensures
+returns c = rw (equal c.if-o-eq1.true) c.rule_true.ensures
 
-returns-2 : tie.Need-returns-2
+returns-2 : tie.Need-returns-then-o-eq0
 unfolding G.rule
-returns-2 c = rw (unequal c.before.before.if1.false, equal c.before.if2.true) c.rule-false.ensures
+returns-2 c = rw (unequal c.if-o-eq1.false, equal c.if-o-eq0.true) c.rule_false.ensures
 
-returns-3 : tie.Need-returns-3
+returns-3 : tie.Need-returns-then-x-eq0
 unfolding G.rule
-returns-3 c = rw (unequal c.before.before.if1.false, unequal c.before.if2.false, equal c.if3.true)
+returns-3 c = rw (unequal c.if-o-eq1.false, unequal c.if-o-eq0.false, equal c.if-x-eq0.true)
 
-returns-4 : tie.Need-returns-4
-returns-4 c = rw (third c.before, equal c.if4.true)
+returns-4 : tie.Need-returns-then-y-eq0
+returns-4 c = rw (third c.before, equal c.if-y-eq0.true)
 
-returns-5 : tie.Need-returns-5
+returns-5 : tie.Need-returns-then-y-eq1
 returns-5 c =
-    let i = c.before.before in
-    rw (third i.before, unequal i.if4.false, equal c.before.if5.true, equal c.if6.true)
+    rw (third c.before.before.before, unequal c.if-y-eq0.false, equal c.if-x-eq1.true, equal c.if-y-eq1.true)
 
-returns-6 : tie.Need-returns-6
+returns-6 : tie.Need-returns-else-y-eq1
 returns-6 c =
-    let i = c.before.before in
-    rw (third i.before, unequal i.if4.false, equal c.before.if5.true, unequal c.if6.false)
+    rw (third c.before.before.before, unequal c.if-y-eq0.false, equal c.if-x-eq1.true, unequal c.if-y-eq1.false)
 
-returns-7 : tie.Need-returns-7
-returns-7 c = rw (third c.before.before, unequal c.before.if4.false, unequal c.if5.false)
+returns-7 : tie.Need-returns
+returns-7 c = rw (third c.before.before, unequal c.if-y-eq0.false, unequal c.if-x-eq1.false)
 
-pub rule-spec : {M : Type 1} → statement M
-rule-spec =
+pub rule_spec : {M : Type 1} → statement M
+rule_spec =
     tie.close
-    (tie.spec
-    (λ c κs. search rules) returns (λ c κs. search rules) returns-2 returns-3 returns-4 returns-5 returns-6 returns-7)
+    (tie.spec (λ c κs. search rules) returns (λ c κs. search rules) returns-2 returns-3 returns-4 returns-5 returns-6 returns-7)

@@ -8,29 +8,29 @@ use Rattle.propagation.proofs.rule_true.Statement.{statement}
 use Rattle.propagation.proofs.rule_true.Tie as tie
 
 -- the first three tests failed
-third : (c : tie.Else3)
-    → let a = c.before.before.before.args in
+third : (c : tie.Else-x-eq2)
+    → let a = c.args in
     G.rule_true a.x a.y ≡ cond (eqb a.y 2) 5 0
 unfolding G.rule_true
-third c = rw (unequal c.before.before.if1.false, unequal c.before.if2.false, unequal c.if3.false)
+third c = rw (unequal c.if-x-eq0.false, unequal c.if-y-eq0.false, unequal c.if-x-eq2.false)
 
-returns : tie.Need-returns
+returns : tie.Need-returns-then-x-eq0
 unfolding G.rule_true
-returns c = rw (equal c.if1.true)
+returns c = rw (equal c.if-x-eq0.true)
 
-returns-2 : tie.Need-returns-2
+returns-2 : tie.Need-returns-then-y-eq0
 unfolding G.rule_true
-returns-2 c = rw (unequal c.before.if1.false, equal c.if2.true)
+returns-2 c = rw (unequal c.if-x-eq0.false, equal c.if-y-eq0.true)
 
-returns-3 : tie.Need-returns-3
+returns-3 : tie.Need-returns-then-x-eq2
 unfolding G.rule_true
-returns-3 c = rw (unequal c.before.before.if1.false, unequal c.before.if2.false, equal c.if3.true)
+returns-3 c = rw (unequal c.if-x-eq0.false, unequal c.if-y-eq0.false, equal c.if-x-eq2.true)
 
-returns-4 : tie.Need-returns-4
-returns-4 c = rw (third c.before, equal c.if4.true)
+returns-4 : tie.Need-returns-then-y-eq2
+returns-4 c = rw (third c.before, equal c.if-y-eq2.true)
 
-returns-5 : tie.Need-returns-5
-returns-5 c = rw (third c.before, unequal c.if4.false)
+returns-5 : tie.Need-returns-else-y-eq2
+returns-5 c = rw (third c.before, unequal c.if-y-eq2.false)
 
-pub rule-true-spec : {M : Type 1} → statement M
-rule-true-spec = tie.close (tie.spec returns returns-2 returns-3 returns-4 returns-5)
+pub rule_true_spec : {M : Type 1} → statement M
+rule_true_spec = tie.close (tie.spec returns returns-2 returns-3 returns-4 returns-5)

@@ -5,26 +5,24 @@ use Rattle.propagation.proofs.Rules.{rule-past, rule-of}
 use Rattle.propagation.proofs.tested_rule.Statement.{statement}
 use Rattle.propagation.proofs.tested_rule.Tie as tie
 
-returns : tie.Need-returns
+returns : tie.Need-returns-then-g-ge1073741823
 returns c =
-    let a = c.before.before.args in
-    sym (rule-past a.work.now a.nodes a.g c.if1.true)
+    let a = c.args in
+    sym (rule-past a.work.now a.nodes a.g c.if-g-ge1073741823.true)
 
-returns-2 : tie.Need-returns-2
+returns-2 : tie.Need-returns
 returns-2 c =
-    let a = c.before.before.before.before.before.before.before.before.args in
+    let a = c.args in
     rw (
-      rule-of a.work.now a.nodes a.g c.before.before.before.before.before.before.if1.false,
-      ← c.before.before.before.before.before.field.ensures,
-      ← c.before.before.before.before.field2.ensures,
-      ← c.before.before.before.value.ensures,
-      ← c.before.before.value2.ensures,
-      ← c.before.value3.ensures,
+      rule-of a.work.now a.nodes a.g c.if-g-ge1073741823.false,
+      ← c.field-a.ensures,
+      ← c.field-b.ensures,
+      ← c.value-o.ensures,
+      ← c.value-x.ensures,
+      ← c.value-y.ensures,
     ) c.rule.ensures
 
-pub tested-rule-spec : {M : Type 1} → statement M
-tested-rule-spec =
+pub tested_rule_spec : {M : Type 1} → statement M
+tested_rule_spec =
     tie.close
-    (tie.spec
-    returns (λ c κs. search rules) (λ c κs. search rules) (λ c. search rules) (λ c κs. search rules) (λ c κs. search rules)
-    (λ c κs. search rules) (λ c κs. search rules) returns-2)
+    (tie.spec returns (λ c κs. search rules) (λ c κs. search rules) (λ c. search rules) (λ c κs. search rules) (λ c κs. search rules) (λ c κs. search rules) (λ c κs. search rules) returns-2)

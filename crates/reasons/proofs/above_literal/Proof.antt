@@ -5,31 +5,29 @@ use borrow.Author.Rules.{rules}
 use Rattle.reasons.proofs.above_literal.Statement.{statement}
 use Rattle.reasons.proofs.above_literal.Tie as tie
 
-returns : tie.Need-returns
+returns : tie.Need-returns-then-i-eq0
 unfolding R.above_literal
-returns c = rw (eq-eqb _ _ c.if1.true)
+returns c = rw (eq-eqb _ _ c.if-i-eq0.true)
 
-returns-2 : tie.Need-returns-2
+returns-2 : tie.Need-returns-then-i-eq1
 unfolding R.above_literal
 returns-2 c =
     rw (
-      ne_eqb _ _ c.before.before.before.if1.false,
-      eq-eqb _ _ c.before.before.if2.true,
-      ← c.before.field.ensures,
+      ne_eqb _ _ c.if-i-eq0.false,
+      eq-eqb _ _ c.if-i-eq1.true,
+      ← c.field.ensures,
     ) c.opposite.ensures
 
-returns-3 : tie.Need-returns-3
+returns-3 : tie.Need-returns
 unfolding R.above_literal
 returns-3 c =
     rw (
-      ne_eqb _ _ c.before.before.before.if1.false,
-      ne_eqb _ _ c.before.before.if2.false,
-      ← c.before.field2.ensures,
-    ) c.opposite2.ensures
+      ne_eqb _ _ c.if-i-eq0.false,
+      ne_eqb _ _ c.if-i-eq1.false,
+      ← c.field-2.ensures,
+    ) c.opposite-2.ensures
 
-pub above-literal-spec : {M : Type 1} → statement M
-above-literal-spec =
+pub above_literal_spec : {M : Type 1} → statement M
+above_literal_spec =
     tie.close
-    (tie.spec
-    (λ c. search rules) returns (λ c κs. search rules) (λ c κs. search rules) returns-2 (λ c κs. search rules) (λ c κs. search rules)
-    returns-3)
+    (tie.spec (λ c. search rules) returns (λ c κs. search rules) (λ c κs. search rules) returns-2 (λ c κs. search rules) (λ c κs. search rules) returns-3)

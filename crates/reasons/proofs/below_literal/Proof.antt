@@ -5,13 +5,13 @@ use borrow.Author.Rules.{rules}
 use Rattle.reasons.proofs.below_literal.Statement.{statement}
 use Rattle.reasons.proofs.below_literal.Tie as tie
 
-returns : tie.Need-returns
+returns : tie.Need-returns-then-i-eq0
 unfolding R.below_literal
-returns c = rw (eq-eqb _ _ c.if1.true)
+returns c = rw (eq-eqb _ _ c.if-i-eq0.true)
 
-returns-2 : tie.Need-returns-2
+returns-2 : tie.Need-returns
 unfolding R.below_literal
-returns-2 c = rw (ne_eqb _ _ c.before.if1.false) c.field.ensures
+returns-2 c = rw (ne_eqb _ _ c.if-i-eq0.false) c.field.ensures
 
-pub below-literal-spec : {M : Type 1} → statement M
-below-literal-spec = tie.close (tie.spec (λ c. search rules) (λ c. search rules) returns (λ c κs. search rules) returns-2)
+pub below_literal_spec : {M : Type 1} → statement M
+below_literal_spec = tie.close (tie.spec (λ c. search rules) (λ c. search rules) returns (λ c κs. search rules) returns-2)

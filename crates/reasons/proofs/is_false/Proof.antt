@@ -20,7 +20,7 @@ summed a l = go (eqb a (2 - l % 2)) refl
 
 returns : tie.Need-returns
 unfolding R.is_false
-returns c = rw (← c.field.ensures) (summed (c.field.result % 4) c.before.before.args.l)
+returns c = rw (← c.field-fact.ensures) (summed (c.field-fact.result % 4) c.args.l)
 
-pub is-false-spec : {M : Type 1} → statement M
-is-false-spec = tie.close (tie.spec (λ c κs. search rules) (λ c. search rules) returns)
+pub is_false_spec : {M : Type 1} → statement M
+is_false_spec = tie.close (tie.spec (λ c κs. search rules) (λ c. search rules) returns)

@@ -5,17 +5,17 @@ use borrow.Author.Rules.{rules}
 use Rattle.reasons.proofs.length_of.Statement.{statement}
 use Rattle.reasons.proofs.length_of.Tie as tie
 
-returns : tie.Need-returns
+returns : tie.Need-returns-then-r-eq3
 unfolding R.length_of
-returns c = rw (eq-eqb _ _ c.before.if1.true, ← c.head.ensures)
+returns c = rw (eq-eqb _ _ c.if-r-eq3.true, ← c.head.ensures)
 
-returns-2 : tie.Need-returns-2
+returns-2 : tie.Need-returns-then-r-eq2
 unfolding R.length_of
-returns-2 c = rw (ne_eqb _ _ c.before.if1.false, eq-eqb _ _ c.if2.true)
+returns-2 c = rw (ne_eqb _ _ c.if-r-eq3.false, eq-eqb _ _ c.if-r-eq2.true)
 
-returns-3 : tie.Need-returns-3
+returns-3 : tie.Need-returns-else-r-eq2
 unfolding R.length_of
-returns-3 c = rw (ne_eqb _ _ c.before.if1.false, ne_eqb _ _ c.if2.false)
+returns-3 c = rw (ne_eqb _ _ c.if-r-eq3.false, ne_eqb _ _ c.if-r-eq2.false)
 
-pub length-of-spec : {M : Type 1} → statement M
-length-of-spec = tie.close (tie.spec (λ c κs. search rules) returns returns-2 returns-3)
+pub length_of_spec : {M : Type 1} → statement M
+length_of_spec = tie.close (tie.spec (λ c κs. search rules) returns returns-2 returns-3)

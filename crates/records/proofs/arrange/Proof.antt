@@ -15,18 +15,10 @@ use Rattle.records.proofs.set_gates.Reads as set-gates-reads
 
 returns : tie.Need-returns
 returns c =
-    let s = c.before.before.before.before.before.before.before.before.before.before.before.before.before.before.before.before.before.before.before.before.before.before.args in
-    let a = c.before.before.before.before.before.before.before.before.before.before.before.before.before.before.before.before.before.before.before.set-gates in
-    let b = c.before.before.before.before.before.before.before.before.before.before.before.before.before.before.before.move-to in
-    let d = c.before.before.before.before.before.before.before.before.before.before.before.move-nodes in
-    let p = c.before.before.before.before.before.before.before.before.place in
-    let e = c.before.before.before.before.before.before.clear in
-    let l = c.before.before.link-gates in
-    arranged_is s.work.now a.new.0 b.new.0 d.new.0 e.new.0 l.new.0 s.first s.n s.nodes p.result _ a.ensures b.ensures d.ensures p.ensures refl e.ensures l.ensures
+    let s = c.args in
+    arranged_is s.work.now c.set_gates.new.work c.move_to.new.work c.move_nodes.new.work c.clear.new.work c.link_gates.new.work s.first s.n s.nodes c.place-used.result _ c.set_gates.ensures c.move_to.ensures c.move_nodes.ensures c.place-used.ensures refl c.clear.ensures c.link_gates.ensures
 
-pub arrange-spec : {M : Type 1} → statement M
-arrange-spec =
+pub arrange_spec : {M : Type 1} → statement M
+arrange_spec =
     tie.close
-    (tie.spec
-    (λ c κs. search rules) (λ c κs. search rules) (λ c κs. search rules) (λ c κs. search rules) (λ c. search rules)
-    (λ c κs. search rules) (λ c κs. search rules) (λ c. search rules) returns)
+    (tie.spec (λ c κs. search rules) (λ c κs. search rules) (λ c κs. search rules) (λ c κs. search rules) (λ c. search rules) (λ c κs. search rules) (λ c κs. search rules) (λ c. search rules) returns)

@@ -12,45 +12,41 @@ use Rattle.records.proofs.clear.Reads as reads
 use Rattle.records.proofs.clear.Lts as lts
 use Rattle.memory.proofs.put.Reads as put_reads
 
-abbrev invariant-loop : tie.invariant-loop
+abbrev invariant-loop : tie.invariant-loop-left
 invariant-loop work₀ i n left₀ work left = (N.length work ≡ N.length work₀) × (left ≤ n) × (S.zeroed work i left ≡ S.zeroed work₀ i n)
 
-abbrev decreases-loop : tie.decreases-loop
+abbrev decreases-loop : tie.decreases-loop-left
 decreases-loop work₀ i n left₀ work left = left
 
-loop-holds : tie.Need-loop-init invariant-loop decreases-loop
+loop-holds : tie.Need-loop-left-init invariant-loop decreases-loop
 loop-holds c = (refl, omega arith, refl)
 
-sub-left : tie.Need-overflow-sub-left invariant-loop decreases-loop
+sub-left : tie.Need-overflow_sub-left invariant-loop decreases-loop
 sub-left c = omega arith
 
-add-put : tie.Need-overflow-add-put invariant-loop decreases-loop
+add-put : tie.Need-overflow_add-i invariant-loop decreases-loop
 add-put c = omega arith
 
 put-requires : tie.Need-put-requires invariant-loop decreases-loop
 put-requires c κs = tt
 
-loop-less : tie.Need-loop-smaller invariant-loop decreases-loop
+loop-less : tie.Need-loop-left-smaller invariant-loop decreases-loop
 loop-less c = omega arith
 
-loop-again : tie.Need-loop-preserved invariant-loop decreases-loop
+loop-again : tie.Need-loop-left-preserved invariant-loop decreases-loop
 loop-again c =
-    let l = c.before.before.before.before.before.loop in
-    let s = c.before.before.before.before.before.before.before.args in
-    let e = c.before.before.put in
-    (e.auto.0 ∙ l.invariant.0, omega arith, sym (down-at (λ u j. N.set u (s.i + j) 0) l.left (l.left - 1) l.work e.new.0 (omega arith) e.ensures) ∙ l.invariant.2)
+    let s = c.args in
+    (c.put.auto.work ∙ c.loop-left.invariant.0, omega arith, sym (down-at (λ u j. N.set u (s.i + j) 0) c.loop-left.left (c.loop-left.left - 1) c.loop-left.work c.put.new.work (omega arith) c.put.ensures) ∙ c.loop-left.invariant.2)
 
-same_length : tie.Need-same-length invariant-loop decreases-loop
-same_length c = c.before.loop.invariant.0
+same_length : tie.Need-shape_of-work invariant-loop decreases-loop
+same_length c = c.loop-left.invariant.0
 
 returns : tie.Need-returns invariant-loop decreases-loop
 returns c =
-    let l = c.before.loop in
-    let s = c.before.before.before.args in
-    sym (down-none (λ u j. N.set u (s.i + j) 0) l.left l.work (omega arith)) ∙ l.invariant.2
+    let s = c.args in
+    sym (down-none (λ u j. N.set u (s.i + j) 0) c.loop-left.left c.loop-left.work (omega arith)) ∙ c.loop-left.invariant.2
 
 pub clear_spec : {M : Type 1} → statement M
 clear_spec =
     tie.close
-    (tie.spec
-    invariant-loop decreases-loop loop-holds sub-left add-put put-requires loop-less loop-again same_length returns)
+    (tie.spec invariant-loop decreases-loop loop-holds sub-left add-put put-requires loop-less loop-again same_length returns)

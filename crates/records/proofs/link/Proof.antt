@@ -13,15 +13,13 @@ returns : tie.Need-returns
 unfolding S.linked_to
 returns c =
     rw (
-      ← c.before.before.before.before.before.before.before.before.before.before.before.field.ensures,
-      ← c.before.before.before.before.before.before.before.before.before.field2.ensures,
-      ← c.before.before.before.before.before.before.before.set-field.ensures,
-      ← c.before.before.before.before.edge_to.ensures,
-    ) c.before.before.set-field2.ensures
+      ← c.field-v.ensures,
+      ← c.field-fact.ensures,
+      ← c.set_field.ensures,
+      ← c.edge_to-fan.ensures,
+    ) c.set_field-2.ensures
 
-pub link-spec : {M : Type 1} → statement M
-link-spec =
+pub link_spec : {M : Type 1} → statement M
+link_spec =
     tie.close
-    (tie.spec
-    (λ c κs. search rules) (λ c κs. search rules) (λ c. search rules) (λ c κs. search rules) (λ c κs. search rules) (λ c. search rules)
-    (λ c. search rules) (λ c κs. search rules) (λ c. search rules) returns)
+    (tie.spec (λ c κs. search rules) (λ c κs. search rules) (λ c. search rules) (λ c κs. search rules) (λ c κs. search rules) (λ c. search rules) (λ c. search rules) (λ c κs. search rules) (λ c. search rules) returns)

@@ -9,18 +9,18 @@ use Rattle.records.proofs.move_node.Lts as lts
 use Rattle.records.proofs.move_to.Reads as move-to-reads
 use Rattle.records.proofs.word.Reads as word-reads
 
-returns : tie.Need-returns
+returns : tie.Need-returns-then-v-eq0
 unfolding S.moved
-returns c = rw (← c.before.word.ensures, eq-eqb _ _ c.if1.true)
+returns c = rw (← c.word-v.ensures, eq-eqb _ _ c.if-v-eq0.true)
 
-returns-2 : tie.Need-returns-2
+returns-2 : tie.Need-returns
 unfolding S.moved
 returns-2 c =
     rw (
-      ← c.before.before.before.before.before.word.ensures,
-      ne_eqb _ _ c.before.before.before.before.if1.false,
-    ) c.before.before.move-to.ensures
+      ← c.word-v.ensures,
+      ne_eqb _ _ c.if-v-eq0.false,
+    ) c.move_to.ensures
 
-pub move-node-spec : {M : Type 1} → statement M
-move-node-spec =
+pub move_node_spec : {M : Type 1} → statement M
+move_node_spec =
     tie.close (tie.spec (λ c κs. search rules) (λ c. search rules) returns (λ c κs. search rules) (λ c. search rules) returns-2)

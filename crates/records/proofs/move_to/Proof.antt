@@ -12,17 +12,10 @@ use Rattle.records.proofs.word.Reads as word-reads
 
 returns : tie.Need-returns
 returns c =
-    let s = c.before.before.before.before.before.before.before.before.before.before.before.before.before.before.before.before.args in
-    let x = c.before.before.before.before.before.before.before.before.before.before.before.before.before.word in
-    let y = c.before.before.before.before.before.before.before.before.before.before.before.word2 in
-    let z = c.before.before.before.before.before.before.before.before.before.word3 in
-    let e = c.before.before.before.before.before.before.clear in
-    let p = c.before.before.put_three in
-    moved-is s.work.now e.new.0 p.new.0 s.k s.v c.before.before.before.before.before.before.before.before.place.result x.result y.result z.result x.ensures y.ensures z.ensures c.before.before.before.before.before.before.before.before.place.ensures e.ensures p.ensures
+    let s = c.args in
+    moved-is s.work.now c.clear.new.work c.put_three.new.work s.k s.v c.place-at.result c.word-a.result c.word-b.result c.word-c.result c.word-a.ensures c.word-b.ensures c.word-c.ensures c.place-at.ensures c.clear.ensures c.put_three.ensures
 
 pub move_to_spec : {M : Type 1} → statement M
 move_to_spec =
     tie.close
-    (tie.spec
-    (λ c κs. search rules) (λ c κs. search rules) (λ c κs. search rules) (λ c κs. search rules) (λ c κs. search rules)
-    (λ c κs. search rules) (λ c. search rules) returns)
+    (tie.spec (λ c κs. search rules) (λ c κs. search rules) (λ c κs. search rules) (λ c κs. search rules) (λ c κs. search rules) (λ c κs. search rules) (λ c. search rules) returns)

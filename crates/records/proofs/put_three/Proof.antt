@@ -11,11 +11,11 @@ returns : tie.Need-returns
 unfolding S.three
 returns c =
     rw (
-      ← c.before.before.before.before.before.before.before.before.before.before.put.ensures,
-      ← c.before.before.before.before.before.before.put2.ensures,
-    ) c.before.before.put3.ensures
+      ← c.put.ensures,
+      ← c.put-2.ensures,
+    ) c.put-3.ensures
 
-pub put-three-spec : {M : Type 1} → statement M
-put-three-spec =
+pub put_three_spec : {M : Type 1} → statement M
+put_three_spec =
     tie.close
     (tie.spec (λ c κs. search rules) (λ c. search rules) (λ c κs. search rules) (λ c. search rules) (λ c κs. search rules) (λ c. search rules) returns)

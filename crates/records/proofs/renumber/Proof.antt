@@ -10,7 +10,7 @@ use Rattle.records.proofs.word.Reads as word-reads
 
 returns : tie.Need-returns
 unfolding S.renumber
-returns c = rw (← c.before.word.ensures) c.edge_to.ensures
+returns c = rw (← c.word.ensures) c.edge_to.ensures
 
-pub renumber-spec : {M : Type 1} → statement M
-renumber-spec = tie.close (tie.spec (λ c κs. search rules) (λ c κs. search rules) returns)
+pub renumber_spec : {M : Type 1} → statement M
+renumber_spec = tie.close (tie.spec (λ c κs. search rules) (λ c κs. search rules) returns)

@@ -13,15 +13,13 @@ returns : tie.Need-returns
 unfolding S.gate_set
 returns c =
     rw (
-      ← c.before.before.before.before.before.before.before.before.word.ensures,
-      ← c.before.before.before.before.before.before.before.renumber.ensures,
-      ← c.before.before.before.before.before.word2.ensures,
-      ← c.before.before.before.before.renumber2.ensures,
-    ) c.before.before.put_three.ensures
+      ← c.word.ensures,
+      ← c.renumber-a.ensures,
+      ← c.word-2.ensures,
+      ← c.renumber-b.ensures,
+    ) c.put_three.ensures
 
-pub set-gate-spec : {M : Type 1} → statement M
-set-gate-spec =
+pub set_gate_spec : {M : Type 1} → statement M
+set_gate_spec =
     tie.close
-    (tie.spec
-    (λ c κs. search rules) (λ c κs. search rules) (λ c κs. search rules) (λ c κs. search rules) (λ c. search rules)
-    (λ c κs. search rules) (λ c. search rules) returns)
+    (tie.spec (λ c κs. search rules) (λ c κs. search rules) (λ c κs. search rules) (λ c κs. search rules) (λ c. search rules) (λ c κs. search rules) (λ c. search rules) returns)

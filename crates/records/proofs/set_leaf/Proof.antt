@@ -14,14 +14,12 @@ returns : tie.Need-returns
 unfolding S.leaf_set
 returns c =
     rw (
-      ← c.before.before.before.before.before.before.before.edge_to.ensures,
-      ← c.before.before.before.before.before.word.ensures,
-      ← c.before.before.before.before.first-fact.ensures,
-    ) c.before.before.put_three.ensures
+      ← c.edge_to-e.ensures,
+      ← c.word.ensures,
+      ← c.first_fact-fact.ensures,
+    ) c.put_three.ensures
 
-pub set-leaf-spec : {M : Type 1} → statement M
-set-leaf-spec =
+pub set_leaf_spec : {M : Type 1} → statement M
+set_leaf_spec =
     tie.close
-    (tie.spec
-    (λ c κs. search rules) (λ c κs. search rules) (λ c κs. search rules) (λ c. search rules) (λ c κs. search rules) (λ c. search rules)
-    returns)
+    (tie.spec (λ c κs. search rules) (λ c κs. search rules) (λ c κs. search rules) (λ c. search rules) (λ c κs. search rules) (λ c. search rules) returns)

@@ -12,39 +12,35 @@ use Rattle.records.proofs.set_leaves.Reads as reads
 use Rattle.records.proofs.set_leaves.Lts as lts
 use Rattle.records.proofs.set_leaf.Reads as set-leaf-reads
 
-abbrev invariant-loop : tie.invariant-loop
+abbrev invariant-loop : tie.invariant-loop-k
 invariant-loop work₀ n k₀ work k = (N.length work ≡ N.length work₀) × (k ≤ n) × (S.leaves_set work k ≡ S.leaves_set work₀ n)
 
-abbrev decreases-loop : tie.decreases-loop
+abbrev decreases-loop : tie.decreases-loop-k
 decreases-loop work₀ n k₀ work k = k
 
-loop-holds : tie.Need-loop-init invariant-loop decreases-loop
+loop-holds : tie.Need-loop-k-init invariant-loop decreases-loop
 loop-holds c = (refl, omega arith, refl)
 
-sub-k : tie.Need-overflow-sub-k invariant-loop decreases-loop
+sub-k : tie.Need-overflow_sub-k invariant-loop decreases-loop
 sub-k c = omega arith
 
-loop-less : tie.Need-loop-smaller invariant-loop decreases-loop
+loop-less : tie.Need-loop-k-smaller invariant-loop decreases-loop
 loop-less c = omega arith
 
-loop-again : tie.Need-loop-preserved invariant-loop decreases-loop
+loop-again : tie.Need-loop-k-preserved invariant-loop decreases-loop
 loop-again c =
-    let l = c.before.before.before.before.before.loop in
-    let s = c.before.before.before.before.before.before.before.args in
-    let e = c.before.before.set-leaf in
-    (e.auto.0 ∙ l.invariant.0, omega arith, sym (down-at S.leaf_set l.k (l.k - 1) l.work e.new.0 (omega arith) e.ensures) ∙ l.invariant.2)
+    let s = c.args in
+    (c.set_leaf.auto.work ∙ c.loop-k.invariant.0, omega arith, sym (down-at S.leaf_set c.loop-k.k (c.loop-k.k - 1) c.loop-k.work c.set_leaf.new.work (omega arith) c.set_leaf.ensures) ∙ c.loop-k.invariant.2)
 
-same_length : tie.Need-same-length invariant-loop decreases-loop
-same_length c = c.before.loop.invariant.0
+same_length : tie.Need-shape_of-work invariant-loop decreases-loop
+same_length c = c.loop-k.invariant.0
 
 returns : tie.Need-returns invariant-loop decreases-loop
 returns c =
-    let l = c.before.loop in
-    let s = c.before.before.before.args in
-    sym (down-none S.leaf_set l.k l.work (omega arith)) ∙ l.invariant.2
+    let s = c.args in
+    sym (down-none S.leaf_set c.loop-k.k c.loop-k.work (omega arith)) ∙ c.loop-k.invariant.2
 
-pub set-leaves-spec : {M : Type 1} → statement M
-set-leaves-spec =
+pub set_leaves_spec : {M : Type 1} → statement M
+set_leaves_spec =
     tie.close
-    (tie.spec
-    invariant-loop decreases-loop loop-holds sub-k (λ c κs. search rules) loop-less loop-again same_length returns)
+    (tie.spec invariant-loop decreases-loop loop-holds sub-k (λ c κs. search rules) loop-less loop-again same_length returns)

@@ -5,7 +5,7 @@ use Rattle.replies.proofs.refuse.Statement.{statement}
 use Rattle.replies.proofs.refuse.Tie as tie
 
 returns : tie.Need-returns
-returns c = (c.before.before.write-refusal.ensures, refl)
+returns c = (c.write_refusal-length.ensures, refl)
 
-pub refuse-spec : {M : Type 1} → statement M
-refuse-spec = tie.close (tie.spec (λ c κs. search rules) (λ c. search rules) returns)
+pub refuse_spec : {M : Type 1} → statement M
+refuse_spec = tie.close (tie.spec (λ c κs. search rules) (λ c. search rules) returns)

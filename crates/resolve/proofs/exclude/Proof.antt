@@ -6,40 +6,38 @@ use borrow.Author.Rules.{rules}
 use Rattle.resolve.proofs.exclude.Statement.{statement}
 use Rattle.resolve.proofs.exclude.Tie as tie
 
-returns : tie.Need-returns
+returns : tie.Need-returns-then-d-p
 unfolding D.excluded D.removed
-returns c = rw (← c.before.before.field.ensures, le-leb _ _ c.if1.true) (record { words = refl; draft = refl })
+returns c = rw (← c.field-p.ensures, le-leb _ _ c.if-d-p.true) (record { words = refl; draft = refl })
 
-returns-2 : tie.Need-returns-2
+returns-2 : tie.Need-returns-then-literal-l
 unfolding D.excluded D.removed
 returns-2 c =
     rw (
-      ← c.before.before.before.before.before.field.ensures,
-      ← c.before.literal.ensures,
-      lt-leb _ _ c.before.before.before.if1.false,
-      ne_eqb _ _ c.if2.true,
+      ← c.field-p.ensures,
+      ← c.literal.ensures,
+      lt-leb _ _ c.if-d-p.false,
+      ne_eqb _ _ c.if-literal-l.true,
     ) (record { words = refl; draft = refl })
 
-returns-3 : tie.Need-returns-3
+returns-3 : tie.Need-returns
 unfolding D.excluded D.removed
 returns-3 c =
     rw (
-      ← c.before.before.before.before.before.before.before.before.before.before.before.before.before.before.before.before.before.field.ensures,
-      ← c.before.before.before.before.before.before.before.before.before.before.before.before.before.literal.ensures,
-      lt-leb _ _ c.before.before.before.before.before.before.before.before.before.before.before.before.before.before.before.if1.false,
-      eq-eqb _ _ c.before.before.before.before.before.before.before.before.before.before.before.before.if2.false,
+      ← c.field-p.ensures,
+      ← c.literal.ensures,
+      lt-leb _ _ c.if-d-p.false,
+      eq-eqb _ _ c.if-literal-l.false,
     )
     (record {
       words = rw (
-        ← c.before.before.before.before.before.before.before.before.before.literal2.ensures,
-        ← c.before.before.before.before.before.before.before.set-literal.ensures,
-      ) c.before.before.before.set-field.ensures;
+        ← c.literal-x.ensures,
+        ← c.set_literal.ensures,
+      ) c.set_field.ensures;
       draft = refl;
     })
 
-pub exclude-spec : {M : Type 1} → statement M
-exclude-spec =
+pub exclude_spec : {M : Type 1} → statement M
+exclude_spec =
     tie.close
-    (tie.spec
-    (λ c κs. search rules) (λ c. search rules) returns (λ c κs. search rules) (λ c. search rules) returns-2 (λ c. search rules)
-    (λ c κs. search rules) (λ c κs. search rules) (λ c κs. search rules) (λ c. search rules) (λ c. search rules) returns-3)
+    (tie.spec (λ c κs. search rules) (λ c. search rules) returns (λ c κs. search rules) (λ c. search rules) returns-2 (λ c. search rules) (λ c κs. search rules) (λ c κs. search rules) (λ c κs. search rules) (λ c. search rules) (λ c. search rules) returns-3)

@@ -8,37 +8,34 @@ use borrow.Author.Rules.{rules}
 use Rattle.resolve.proofs.gather.Statement.{statement}
 use Rattle.resolve.proofs.gather.Tie as tie
 
-abbrev invariant-loop : tie.invariant-loop
+abbrev invariant-loop : tie.invariant-loop-left
 invariant-loop work₀ net arena r x e₀ left₀ work e left =
     (length work ≡ length work₀) × (gathered work net arena e r x left ≡ gathered work₀ net arena e₀ r x left₀)
 
-abbrev decreases-loop : tie.decreases-loop
+abbrev decreases-loop : tie.decreases-loop-left
 decreases-loop work₀ net arena r x e₀ left₀ work e left = left
 
-loop-again : tie.Need-loop-preserved invariant-loop decreases-loop
+loop-again : tie.Need-loop-left-preserved invariant-loop decreases-loop
 loop-again c =
-    let a = c.before.before.before.before.before.before.before in
-    let l = a.loop in
-    let s = a.before.before.before.before.args in
+    let l = c.loop-left in
+    let s = c.args in
     let more = gathered-more l.work s.net s.arena l.e s.r s.x l.left (omega arith) in
-    let j = c.before.before.join in (
-      j.auto.0 ∙ l.invariant.0,
-      rw (j.ensures.words, j.ensures.draft, c.before.before.before.before.literal-of.ensures) (sym more ∙ l.invariant.1),
+    let j = c.join-e in (
+      j.auto.work ∙ l.invariant.0,
+      rw (j.ensures.words, j.ensures.draft, c.literal_of-l.ensures) (sym more ∙ l.invariant.1),
     )
 
-same_length : tie.Need-same-length invariant-loop decreases-loop
-same_length c = c.before.loop.invariant.0
+same_length : tie.Need-shape_of-work invariant-loop decreases-loop
+same_length c = c.loop-left.invariant.0
 
 returns : tie.Need-returns invariant-loop decreases-loop
 returns c =
-    let l = c.before.loop in
-    let s = c.before.before.before.before.before.args in
+    let l = c.loop-left in
+    let s = c.args in
     let none = gathered_none l.work s.net s.arena l.e s.r s.x l.left (omega arith) in
-    rw (← c.before.before.length-of.ensures) (left_by (sym none ∙ l.invariant.1))
+    rw (← c.length_of-left.ensures) (left_by (sym none ∙ l.invariant.1))
 
-pub gather-spec : {M : Type 1} → statement M
-gather-spec =
+pub gather_spec : {M : Type 1} → statement M
+gather_spec =
     tie.close
-    (tie.spec
-    invariant-loop decreases-loop (λ c κs. search rules) (λ c. (refl, refl)) (λ c. omega arith) (λ c κs. search rules) (λ c κs. search rules)
-    (λ c. omega arith) loop-again same_length returns)
+    (tie.spec invariant-loop decreases-loop (λ c κs. search rules) (λ c. (refl, refl)) (λ c. omega arith) (λ c κs. search rules) (λ c κs. search rules) (λ c. omega arith) loop-again same_length returns)

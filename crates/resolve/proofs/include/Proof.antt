@@ -5,33 +5,31 @@ use borrow.Author.Rules.{rules}
 use Rattle.resolve.proofs.include.Statement.{statement}
 use Rattle.resolve.proofs.include.Tie as tie
 
-returns : tie.Need-returns
+returns : tie.Need-returns-then-is_false
 unfolding D.included
-returns c = rw (← c.before.is_false.ensures, c.if1.true) (record { words = refl; draft = refl })
+returns c = rw (← c.is_false.ensures, c.if-is_false.true) (record { words = refl; draft = refl })
 
-returns-2 : tie.Need-returns-2
+returns-2 : tie.Need-returns-then-is_member
 unfolding D.included
 returns-2 c =
     rw (
-      ← c.before.before.before.before.is_false.ensures,
-      ← c.before.is_member.ensures,
-      c.before.before.before.if1.false,
-      c.if2.true,
+      ← c.is_false.ensures,
+      ← c.is_member.ensures,
+      c.if-is_false.false,
+      c.if-is_member.true,
     ) (record { words = refl; draft = refl })
 
-returns-3 : tie.Need-returns-3
+returns-3 : tie.Need-returns
 unfolding D.included
 returns-3 c =
     rw (
-      ← c.before.before.before.before.before.before.before.before.is_false.ensures,
-      ← c.before.before.before.before.before.is_member.ensures,
-      c.before.before.before.before.before.before.before.if1.false,
-      c.before.before.before.before.if2.false,
-    ) c.before.before.append.ensures
+      ← c.is_false.ensures,
+      ← c.is_member.ensures,
+      c.if-is_false.false,
+      c.if-is_member.false,
+    ) c.append.ensures
 
-pub include-spec : {M : Type 1} → statement M
-include-spec =
+pub include_spec : {M : Type 1} → statement M
+include_spec =
     tie.close
-    (tie.spec
-    (λ c κs. search rules) (λ c. search rules) returns (λ c κs. search rules) (λ c. search rules) returns-2 (λ c κs. search rules)
-    (λ c. search rules) returns-3)
+    (tie.spec (λ c κs. search rules) (λ c. search rules) returns (λ c κs. search rules) (λ c. search rules) returns-2 (λ c κs. search rules) (λ c. search rules) returns-3)

@@ -6,8 +6,8 @@ use Rattle.settling.proofs.follow.Tie as tie
 
 returns : tie.Need-returns
 unfolding S.followed
-returns c = rw (← c.before.before.before.before.before.field.ensures, ← c.before.before.before.before.successor.ensures) (c.before.before.through.ensures)
+returns c = rw (← c.field-l.ensures, ← c.successor.ensures) (c.through.ensures)
 
-pub follow-spec : {M : Type 1} → statement M
-follow-spec =
+pub follow_spec : {M : Type 1} → statement M
+follow_spec =
     tie.close (tie.spec (λ c κs. search rules) (λ c κs. search rules) (λ c κs. search rules) (λ c. search rules) returns)

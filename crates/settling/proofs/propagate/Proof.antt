@@ -9,53 +9,46 @@ use borrow.Author.Rules.{rules}
 use Rattle.settling.proofs.propagate.Statement.{statement}
 use Rattle.settling.proofs.propagate.Tie as tie
 
-abbrev invariant-loop : tie.invariant-loop
+abbrev invariant-loop : tie.invariant-loop-left
 invariant-loop work₀ net arena n t₀ left₀ work t left =
     (N.length work ≡ N.length work₀) × (propagated work net arena t left ≡ propagated work₀ net arena t₀ left₀)
 
-abbrev decreases-loop : tie.decreases-loop
+abbrev decreases-loop : tie.decreases-loop-left
 decreases-loop work₀ net arena n t₀ left₀ work t left = left
 
-same_length : tie.Need-same-length invariant-loop decreases-loop
-same_length c = c.before.before.before.loop.invariant.0
+same_length : tie.Need-shape_of-work-then-t invariant-loop decreases-loop
+same_length c = c.loop-left.invariant.0
 
-returns : tie.Need-returns invariant-loop decreases-loop
+returns : tie.Need-returns-then-t invariant-loop decreases-loop
 returns c =
-    let l = c.before.before.before.loop in
-    let s = c.before.before.before.before.before.args in
-    left_by (sym (propagated-end l.work s.net s.arena l.t l.left c.if1.true) ∙ l.invariant.1)
+    let s = c.args in
+    left_by (sym (propagated-end c.loop-left.work s.net s.arena c.loop-left.t c.loop-left.left c.if-t.true) ∙ c.loop-left.invariant.1)
 
-same-length-2 : tie.Need-same-length-2 invariant-loop decreases-loop
-same-length-2 c = c.before.before.before.before.before.loop.invariant.0
+same-length-2 : tie.Need-shape_of-work-then-t-2 invariant-loop decreases-loop
+same-length-2 c = c.loop-left.invariant.0
 
-returns-2 : tie.Need-returns-2 invariant-loop decreases-loop
+returns-2 : tie.Need-returns-then-t-2 invariant-loop decreases-loop
 returns-2 c =
-    let l = c.before.before.before.before.before.loop in
-    let s = c.before.before.before.before.before.before.before.args in
-    left_by (sym (propagated-stop l.work s.net s.arena l.t l.left c.before.before.if1.false c.if2.true)
-    ∙ l.invariant.1)
+    let s = c.args in
+    left_by (sym (propagated-stop c.loop-left.work s.net s.arena c.loop-left.t c.loop-left.left c.if-t.false c.if-t-2.true)
+    ∙ c.loop-left.invariant.1)
 
-loop-again : tie.Need-loop-preserved invariant-loop decreases-loop
+loop-again : tie.Need-loop-left-preserved invariant-loop decreases-loop
 loop-again c =
-    let l = c.before.before.before.before.before.before.before.before.before.loop in
-    let s = c.before.before.before.before.before.before.before.before.before.before.before.args in
-    let more = propagated-more l.work s.net s.arena l.t l.left (omega arith)
-    c.before.before.before.before.before.before.if1.false c.before.before.before.before.if2.false in
-    let u = c.before.before.follow in
-    (u.auto.0 ∙ l.invariant.0, rw (u.ensures.words, u.ensures.state) (sym more ∙ l.invariant.1))
+    let s = c.args in
+    let more = propagated-more c.loop-left.work s.net s.arena c.loop-left.t c.loop-left.left (omega arith)
+    c.if-t.false c.if-t-2.false in
+    (c.follow-t.auto.work ∙ c.loop-left.invariant.0, rw (c.follow-t.ensures.words, c.follow-t.ensures.state) (sym more ∙ c.loop-left.invariant.1))
 
-same-length-3 : tie.Need-same-length-3 invariant-loop decreases-loop
-same-length-3 c = c.before.loop.invariant.0
+same-length-3 : tie.Need-shape_of-work invariant-loop decreases-loop
+same-length-3 c = c.loop-left.invariant.0
 
-returns-3 : tie.Need-returns-3 invariant-loop decreases-loop
+returns-3 : tie.Need-returns invariant-loop decreases-loop
 returns-3 c =
-    let l = c.before.loop in
-    let s = c.before.before.before.args in
-    left_by (sym (propagated-none l.work s.net s.arena l.t l.left (omega arith)) ∙ l.invariant.1)
+    let s = c.args in
+    left_by (sym (propagated-none c.loop-left.work s.net s.arena c.loop-left.t c.loop-left.left (omega arith)) ∙ c.loop-left.invariant.1)
 
-pub propagate-spec : {M : Type 1} → statement M
-propagate-spec =
+pub propagate_spec : {M : Type 1} → statement M
+propagate_spec =
     tie.close
-    (tie.spec
-    invariant-loop decreases-loop (λ c. (refl, refl)) same_length returns same-length-2 returns-2 (λ c κs. search rules) (λ c. omega arith)
-    (λ c. omega arith) loop-again same-length-3 returns-3)
+    (tie.spec invariant-loop decreases-loop (λ c. (refl, refl)) same_length returns same-length-2 returns-2 (λ c κs. search rules) (λ c. omega arith) (λ c. omega arith) loop-again same-length-3 returns-3)

@@ -7,15 +7,15 @@ use Rattle.settling.proofs.settle_one.Tie as tie
 returns : tie.Need-returns
 unfolding S.settled_one
 returns c =
-    let d = c.before.before.before.before.before.before.start.ensures in
+    let d = c.start-d.ensures in
     rw (
-      ← c.before.before.before.before.before.before.before.before.before.before.field.ensures,
-      ← c.before.before.before.before.before.before.before.before.field2.ensures,
+      ← c.field-l.ensures,
+      ← c.field-why.ensures,
       ← d.words,
       ← d.draft,
-    ) c.before.before.settle.ensures
+    ) c.settle.ensures
 
-pub settle-one-spec : {M : Type 1} → statement M
-settle-one-spec =
+pub settle_one_spec : {M : Type 1} → statement M
+settle_one_spec =
     tie.close
     (tie.spec (λ c κs. search rules) (λ c κs. search rules) (λ c κs. search rules) (λ c κs. search rules) (λ c. search rules) returns)

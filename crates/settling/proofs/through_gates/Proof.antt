@@ -7,9 +7,9 @@ use Rattle.settling.proofs.through_gates.Tie as tie
 returns : tie.Need-returns
 unfolding S.through_gates
 returns c =
-    let t = c.before.before.before.before.before.before.before.before.look.ensures in
-    rw (← t.words, ← t.state, ← c.before.before.before.before.field.ensures) c.before.before.look_up.ensures
+    let t = c.look-t.ensures in
+    rw (← t.words, ← t.state, ← c.field-e.ensures) c.look_up.ensures
 
-pub through-gates-spec : {M : Type 1} → statement M
-through-gates-spec =
+pub through_gates_spec : {M : Type 1} → statement M
+through_gates_spec =
     tie.close (tie.spec (λ c κs. search rules) (λ c κs. search rules) (λ c κs. search rules) (λ c. search rules) returns)

@@ -6,16 +6,16 @@ use borrow.Author.Rules.{rules}
 use Rattle.trail.proofs.assign.Statement.{statement}
 use Rattle.trail.proofs.assign.Tie as tie
 
-returns : tie.Need-returns
+returns : tie.Need-returns-then-net-s
 unfolding S.assigned
-returns c = rw (le-leb _ _ c.if1.true) (record { words = refl; state = refl })
+returns c = rw (le-leb _ _ c.if-net-s.true) (record { words = refl; state = refl })
 
-returns-2 : tie.Need-returns-2
+returns-2 : tie.Need-returns
 unfolding S.assigned
 returns-2 c =
-    rw (lt-leb _ _ c.before.before.before.before.before.before.before.before.before.if1.false)
-    (record { words = rw (← c.before.before.before.before.before.before.before.set-node.ensures) c.before.before.before.set-field.ensures; state = refl })
+    rw (lt-leb _ _ c.if-net-s.false)
+    (record { words = rw (← c.set_node.ensures) c.set_field.ensures; state = refl })
 
-pub assign-spec : {M : Type 1} → statement M
-assign-spec =
+pub assign_spec : {M : Type 1} → statement M
+assign_spec =
     tie.close (tie.spec returns (λ c κs. search rules) (λ c κs. search rules) (λ c. search rules) (λ c. search rules) returns-2)

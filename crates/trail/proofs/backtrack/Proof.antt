@@ -8,9 +8,9 @@ use Rattle.trail.proofs.backtrack.Tie as tie
 returns : tie.Need-returns
 unfolding S.backtracked
 returns c =
-    let t = c.before.before.before.before.take_back.ensures in
-    rw (← t.count, ← c.before.smaller.ensures, ← c.smaller2.ensures) (record { words = t.words; state = refl })
+    let t = c.take_back-n.ensures in
+    rw (← t.count, ← c.smaller.ensures, ← c.smaller-2.ensures) (record { words = t.words; state = refl })
 
-pub backtrack-spec : {M : Type 1} → statement M
-backtrack-spec =
+pub backtrack_spec : {M : Type 1} → statement M
+backtrack_spec =
     tie.close (tie.spec (λ c κs. search rules) (λ c κs. search rules) (λ c κs. search rules) (λ c. search rules) returns)

@@ -8,12 +8,11 @@ returns : tie.Need-returns
 unfolding S.noted
 returns c =
     rw (
-      ← c.before.before.before.before.before.before.before.before.before.before.set-field.ensures,
-      ← c.before.before.before.before.before.before.set-field2.ensures,
-    ) c.before.before.set-field3.ensures
+      ← c.set_field.ensures,
+      ← c.set_field-2.ensures,
+    ) c.set_field-3.ensures
 
-pub set-node-spec : {M : Type 1} → statement M
-set-node-spec =
+pub set_node_spec : {M : Type 1} → statement M
+set_node_spec =
     tie.close
-    (tie.spec
-    (λ c. search rules) (λ c κs. search rules) (λ c κs. search rules) (λ c κs. search rules) (λ c. search rules) returns)
+    (tie.spec (λ c. search rules) (λ c κs. search rules) (λ c κs. search rules) (λ c κs. search rules) (λ c. search rules) returns)

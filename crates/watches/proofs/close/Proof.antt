@@ -6,21 +6,19 @@ use borrow.Author.Rules.{rules}
 use Rattle.watches.proofs.close.Statement.{statement}
 use Rattle.watches.proofs.close.Tie as tie
 
-returns : tie.Need-returns
+returns : tie.Need-returns-then-value-eq0
 unfolding W.closed
-returns c = rw (← c.before.before.value.ensures, eq-eqb _ _ c.before.if1.true) (record { words = refl; state = refl })
+returns c = rw (← c.value.ensures, eq-eqb _ _ c.if-value-eq0.true) (record { words = refl; state = refl })
 
-returns-2 : tie.Need-returns-2
+returns-2 : tie.Need-returns
 unfolding W.closed
 returns-2 c = rw (
-  ← c.before.before.before.before.before.before.before.before.value.ensures,
-  ← c.before.before.before.before.before.pass.ensures,
-  ne_eqb _ _ c.before.before.before.before.before.before.before.if1.false,
-) c.before.before.assign.ensures
+  ← c.value.ensures,
+  ← c.pass-u.ensures,
+  ne_eqb _ _ c.if-value-eq0.false,
+) c.assign.ensures
 
 pub close_spec : {M : Type 1} → statement M
 close_spec =
     tie.close
-    (tie.spec
-    (λ c κs. search rules) (λ c. search rules) (λ c. search rules) (λ c. search rules) returns (λ c κs. search rules)
-    (λ c. search rules) (λ c. search rules) (λ c κs. search rules) (λ c. search rules) returns-2)
+    (tie.spec (λ c κs. search rules) (λ c. search rules) (λ c. search rules) (λ c. search rules) returns (λ c κs. search rules) (λ c. search rules) (λ c. search rules) (λ c κs. search rules) (λ c. search rules) returns-2)

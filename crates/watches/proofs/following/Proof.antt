@@ -5,13 +5,13 @@ use borrow.Author.Rules.{rules}
 use Rattle.watches.proofs.following.Statement.{statement}
 use Rattle.watches.proofs.following.Tie as tie
 
-returns : tie.Need-returns
+returns : tie.Need-returns-then-s-eq0
 unfolding W.following
-returns c = rw (eq-eqb _ _ c.before.if1.true) c.head.ensures
+returns c = rw (eq-eqb _ _ c.if-s-eq0.true) c.head.ensures
 
-returns-2 : tie.Need-returns-2
+returns-2 : tie.Need-returns-else-s-eq0
 unfolding W.following
-returns-2 c = rw (ne_eqb _ _ c.before.if1.false) c.head2.ensures
+returns-2 c = rw (ne_eqb _ _ c.if-s-eq0.false) c.head-else-s-eq0.ensures
 
-pub following-spec : {M : Type 1} → statement M
-following-spec = tie.close (tie.spec (λ c κs. search rules) (λ c κs. search rules) returns returns-2)
+pub following_spec : {M : Type 1} → statement M
+following_spec = tie.close (tie.spec (λ c κs. search rules) (λ c κs. search rules) returns returns-2)

@@ -5,41 +5,39 @@ use borrow.Author.Rules.{rules}
 use Rattle.watches.proofs.link.Statement.{statement}
 use Rattle.watches.proofs.link.Tie as tie
 
-returns : tie.Need-returns
+returns : tie.Need-returns-then-from-eq0
 unfolding W.linked
 returns c =
     rw (
-      lt-ltb _ _ c.before.before.before.before.before.if1.true,
-      eq-eqb _ _ c.before.before.before.before.if2.true,
-    ) c.before.before.set-head.ensures
+      lt-ltb _ _ c.if-from-arena.true,
+      eq-eqb _ _ c.if-from-eq0.true,
+    ) c.set_head.ensures
 
-returns-2 : tie.Need-returns-2
+returns-2 : tie.Need-returns-else-from-eq0
 unfolding W.linked
 returns-2 c =
     rw (
-      lt-ltb _ _ c.before.before.before.before.before.if1.true,
-      ne_eqb _ _ c.before.before.before.before.if2.false,
-    ) c.before.before.set-head2.ensures
+      lt-ltb _ _ c.if-from-arena.true,
+      ne_eqb _ _ c.if-from-eq0.false,
+    ) c.set_head-else-from-eq0.ensures
 
-returns-3 : tie.Need-returns-3
+returns-3 : tie.Need-returns-then-f-eq0
 unfolding W.linked
 returns-3 c =
     rw (
-      le-ltb _ _ c.before.before.before.before.before.if1.false,
-      eq-eqb _ _ c.before.before.before.before.if3.true,
-    ) c.before.before.set-field.ensures
+      le-ltb _ _ c.if-from-arena.false,
+      eq-eqb _ _ c.if-f-eq0.true,
+    ) c.set_field.ensures
 
-returns-4 : tie.Need-returns-4
+returns-4 : tie.Need-returns-else-f-eq0
 unfolding W.linked
 returns-4 c =
     rw (
-      le-ltb _ _ c.before.before.before.before.before.if1.false,
-      ne_eqb _ _ c.before.before.before.before.if3.false,
-    ) c.before.before.set-field2.ensures
+      le-ltb _ _ c.if-from-arena.false,
+      ne_eqb _ _ c.if-f-eq0.false,
+    ) c.set_field-else-f-eq0.ensures
 
-pub link-spec : {M : Type 1} → statement M
-link-spec =
+pub link_spec : {M : Type 1} → statement M
+link_spec =
     tie.close
-    (tie.spec
-    (λ c κs. search rules) (λ c κs. search rules) (λ c. search rules) returns (λ c. search rules) returns-2 (λ c κs. search rules)
-    (λ c κs. search rules) (λ c. search rules) returns-3 (λ c. search rules) returns-4)
+    (tie.spec (λ c κs. search rules) (λ c κs. search rules) (λ c. search rules) returns (λ c. search rules) returns-2 (λ c κs. search rules) (λ c κs. search rules) (λ c. search rules) returns-3 (λ c. search rules) returns-4)

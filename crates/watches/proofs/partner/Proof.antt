@@ -5,13 +5,13 @@ use borrow.Author.Rules.{rules}
 use Rattle.watches.proofs.partner.Statement.{statement}
 use Rattle.watches.proofs.partner.Tie as tie
 
-returns : tie.Need-returns
+returns : tie.Need-returns-then-s-eq0
 unfolding W.partner
-returns c = rw (eq-eqb _ _ c.before.if1.true) c.head.ensures
+returns c = rw (eq-eqb _ _ c.if-s-eq0.true) c.head.ensures
 
-returns-2 : tie.Need-returns-2
+returns-2 : tie.Need-returns-else-s-eq0
 unfolding W.partner
-returns-2 c = rw (ne_eqb _ _ c.before.if1.false) c.head2.ensures
+returns-2 c = rw (ne_eqb _ _ c.if-s-eq0.false) c.head-else-s-eq0.ensures
 
-pub partner-spec : {M : Type 1} → statement M
-partner-spec = tie.close (tie.spec (λ c κs. search rules) (λ c κs. search rules) returns returns-2)
+pub partner_spec : {M : Type 1} → statement M
+partner_spec = tie.close (tie.spec (λ c κs. search rules) (λ c κs. search rules) returns returns-2)

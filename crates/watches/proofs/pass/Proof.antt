@@ -7,7 +7,7 @@ use Rattle.watches.proofs.pass.Tie as tie
 
 returns : tie.Need-returns
 unfolding W.passed
-returns c = rw (← c.before.following.ensures) refl
+returns c = rw (← c.following-next.ensures) refl
 
 pub pass_spec : {M : Type 1} → statement M
 pass_spec = tie.close (tie.spec (λ c κs. search rules) (λ c. search rules) (λ c. search rules) (λ c. search rules) returns)

@@ -9,9 +9,9 @@ returns : tie.Need-returns
 unfolding W.rewatched
 returns c =
     rw (
-      ← c.before.before.before.before.before.before.before.before.following.ensures,
-      ← c.before.before.before.before.before.before.link.ensures,
-    ) (record { words = c.before.before.attach.ensures; state = refl })
+      ← c.following-next.ensures,
+      ← c.link.ensures,
+    ) (record { words = c.attach.ensures; state = refl })
 
-pub rewatch-spec : {M : Type 1} → statement M
-rewatch-spec = tie.close (tie.spec (λ c κs. search rules) (λ c κs. search rules) (λ c κs. search rules) (λ c. search rules) returns)
+pub rewatch_spec : {M : Type 1} → statement M
+rewatch_spec = tie.close (tie.spec (λ c κs. search rules) (λ c κs. search rules) (λ c κs. search rules) (λ c. search rules) returns)

@@ -5,13 +5,13 @@ use borrow.Author.Rules.{rules}
 use Rattle.watches.proofs.side.Statement.{statement}
 use Rattle.watches.proofs.side.Tie as tie
 
-returns : tie.Need-returns
+returns : tie.Need-returns-then-head-f
 unfolding W.side
-returns c = rw (← c.before.head.ensures, eq-eqb _ _ c.if1.true)
+returns c = rw (← c.head.ensures, eq-eqb _ _ c.if-head-f.true)
 
-returns-2 : tie.Need-returns-2
+returns-2 : tie.Need-returns-else-head-f
 unfolding W.side
-returns-2 c = rw (← c.before.head.ensures, ne_eqb _ _ c.if1.false)
+returns-2 c = rw (← c.head.ensures, ne_eqb _ _ c.if-head-f.false)
 
-pub side-spec : {M : Type 1} → statement M
-side-spec = tie.close (tie.spec (λ c κs. search rules) returns returns-2)
+pub side_spec : {M : Type 1} → statement M
+side_spec = tie.close (tie.spec (λ c κs. search rules) returns returns-2)

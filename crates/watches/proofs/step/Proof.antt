@@ -8,37 +8,37 @@ use borrow.Author.Rules.{rules}
 use Rattle.watches.proofs.step.Statement.{statement}
 use Rattle.watches.proofs.step.Tie as tie
 
-returns : tie.Need-returns
+returns : tie.Need-returns-then-arena-t
 unfolding W.stepped
-returns c = rw (le-leb _ _ c.if1.true) (record { words = refl; state = refl })
+returns c = rw (le-leb _ _ c.if-arena-t.true) (record { words = refl; state = refl })
 
-returns-2 : tie.Need-returns-2
+returns-2 : tie.Need-returns-then-t-ge1073741823
 unfolding W.stepped
-returns-2 c = rw (lt-leb _ _ c.before.before.if1.false, le-leb _ _ c.if2.true) (record { words = refl; state = refl })
+returns-2 c = rw (lt-leb _ _ c.if-arena-t.false, le-leb _ _ c.if-t-ge1073741823.true) (record { words = refl; state = refl })
 
-returns-3 : tie.Need-returns-3
+returns-3 : tie.Need-returns-then-t-ne-UNDEF
 unfolding W.stepped
 returns-3 c = rw (
-  lt-leb _ _ c.before.before.before.before.if1.false,
-  lt-leb _ _ c.before.before.if2.false,
-  ne_eqb _ _ c.if3.true,
+  lt-leb _ _ c.if-arena-t.false,
+  lt-leb _ _ c.if-t-ge1073741823.false,
+  ne_eqb _ _ c.if-t-ne-UNDEF.true,
 ) (record { words = refl; state = refl })
 
 turn-requires : tie.Need-turn-requires
 turn-requires c κs =
-    let s = c.before.before.before.before.before.before.before.before.before.before.before.args in (
-      c.before.before.before.before.before.if2.false,
-      subst (λ (k : ℕ). k < 2) (sym c.before.side.ensures) (side-two s.work.now s.net.words s.t.clause s.f),
+    let s = c.args in (
+      c.if-t-ge1073741823.false,
+      subst (λ (k : ℕ). k < 2) (sym c.side-s.ensures) (side-two s.work.now s.net.words s.t.clause s.f),
     )
 
-returns-4 : tie.Need-returns-4
+returns-4 : tie.Need-returns
 unfolding W.stepped
 returns-4 c = rw (
-  ← c.before.before.before.before.side.ensures,
-  lt-leb _ _ c.before.before.before.before.before.before.before.before.before.before.if1.false,
-  lt-leb _ _ c.before.before.before.before.before.before.before.before.if2.false,
-  eq-eqb _ _ c.before.before.before.before.before.before.if3.false,
-) c.before.before.turn.ensures
+  ← c.side-s.ensures,
+  lt-leb _ _ c.if-arena-t.false,
+  lt-leb _ _ c.if-t-ge1073741823.false,
+  eq-eqb _ _ c.if-t-ne-UNDEF.false,
+) c.turn.ensures
 
 pub step_spec : {M : Type 1} → statement M
 step_spec = tie.close (tie.spec returns returns-2 returns-3 (λ c κs. search rules) turn-requires (λ c. search rules) returns-4)

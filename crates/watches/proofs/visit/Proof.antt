@@ -8,20 +8,19 @@ use borrow.Author.Rules.{rules}
 use Rattle.watches.proofs.visit.Statement.{statement}
 use Rattle.watches.proofs.visit.Tie as tie
 
-returns : tie.Need-returns
+returns : tie.Need-returns-then-arena-c
 unfolding W.visited
 returns c =
-    let a = c.before.before.before.before.before.args in
-    rw (← c.before.before.first.ensures)
+    let a = c.args in
+    rw (← c.first-c.ensures)
     (left_by
-    (sym (walked_end a.work.now a.net a.arena (W.at a.t c.before.before.first.result undef) a.f a.arena.count c.if1.true)))
+    (sym (walked_end a.work.now a.net a.arena (W.at a.t c.first-c.result undef) a.f a.arena.count c.if-arena-c.true)))
 
-returns-2 : tie.Need-returns-2
+returns-2 : tie.Need-returns
 unfolding W.visited
-returns-2 c = rw (← c.before.before.before.before.before.before.first.ensures) c.before.before.walk.ensures
+returns-2 c = rw (← c.first-c.ensures) c.walk.ensures
 
-pub visit-spec : {M : Type 1} → statement M
-visit-spec =
+pub visit_spec : {M : Type 1} → statement M
+visit_spec =
     tie.close
-    (tie.spec
-    (λ c κs. search rules) (λ c. search rules) returns (λ c κs. search rules) (λ c. search rules) returns-2)
+    (tie.spec (λ c κs. search rules) (λ c. search rules) returns (λ c κs. search rules) (λ c. search rules) returns-2)

@@ -9,43 +9,37 @@ use borrow.Author.Rules.{rules}
 use Rattle.watches.proofs.walk.Statement.{statement}
 use Rattle.watches.proofs.walk.Tie as tie
 
-abbrev invariant-loop : tie.invariant-loop
+abbrev invariant-loop : tie.invariant-loop-left
 invariant-loop work₀ net arena f n u₀ left₀ work u left =
     (N.length work ≡ N.length work₀) × (walked work net arena u f left ≡ walked work₀ net arena u₀ f left₀)
 
-abbrev decreases-loop : tie.decreases-loop
+abbrev decreases-loop : tie.decreases-loop-left
 decreases-loop work₀ net arena f n u₀ left₀ work u left = left
 
-same_length : tie.Need-same-length invariant-loop decreases-loop
-same_length c = c.before.before.before.before.loop.invariant.0
+same_length : tie.Need-shape_of-work-then-arena-u invariant-loop decreases-loop
+same_length c = c.loop-left.invariant.0
 
-returns : tie.Need-returns invariant-loop decreases-loop
+returns : tie.Need-returns-then-arena-u invariant-loop decreases-loop
 returns c =
-    let l = c.before.before.before.before.loop in
-    let s = c.before.before.before.before.before.before.args in
-    left_by (sym (walked_end l.work s.net s.arena l.u s.f l.left c.if1.true) ∙ l.invariant.1)
+    let s = c.args in
+    left_by (sym (walked_end c.loop-left.work s.net s.arena c.loop-left.u s.f c.loop-left.left c.if-arena-u.true) ∙ c.loop-left.invariant.1)
 
-loop-again : tie.Need-loop-preserved invariant-loop decreases-loop
+loop-again : tie.Need-loop-left-preserved invariant-loop decreases-loop
 loop-again c =
-    let l = c.before.before.before.before.before.before.before.before.loop in
-    let s = c.before.before.before.before.before.before.before.before.before.before.args in
-    let more = walked_more l.work s.net s.arena l.u s.f l.left (omega arith)
-    c.before.before.before.before.if1.false in
-    let u = c.before.before.step in
-    (u.auto.0 ∙ l.invariant.0, rw (u.ensures.words, u.ensures.state) (sym more ∙ l.invariant.1))
+    let s = c.args in
+    let more = walked_more c.loop-left.work s.net s.arena c.loop-left.u s.f c.loop-left.left (omega arith)
+    c.if-arena-u.false in
+    (c.step-u.auto.work ∙ c.loop-left.invariant.0, rw (c.step-u.ensures.words, c.step-u.ensures.state) (sym more ∙ c.loop-left.invariant.1))
 
-same-length-2 : tie.Need-same-length-2 invariant-loop decreases-loop
-same-length-2 c = c.before.loop.invariant.0
+same-length-2 : tie.Need-shape_of-work invariant-loop decreases-loop
+same-length-2 c = c.loop-left.invariant.0
 
-returns-2 : tie.Need-returns-2 invariant-loop decreases-loop
+returns-2 : tie.Need-returns invariant-loop decreases-loop
 returns-2 c =
-    let l = c.before.loop in
-    let s = c.before.before.before.args in
-    left_by (sym (walked_none l.work s.net s.arena l.u s.f l.left (omega arith)) ∙ l.invariant.1)
+    let s = c.args in
+    left_by (sym (walked_none c.loop-left.work s.net s.arena c.loop-left.u s.f c.loop-left.left (omega arith)) ∙ c.loop-left.invariant.1)
 
-pub walk-spec : {M : Type 1} → statement M
-walk-spec =
+pub walk_spec : {M : Type 1} → statement M
+walk_spec =
     tie.close
-    (tie.spec
-    invariant-loop decreases-loop (λ c. (refl, refl)) same_length returns (λ c κs. search rules) (λ c. omega arith) (λ c. omega arith) loop-again
-    same-length-2 returns-2)
+    (tie.spec invariant-loop decreases-loop (λ c. (refl, refl)) same_length returns (λ c κs. search rules) (λ c. omega arith) (λ c. omega arith) loop-again same-length-2 returns-2)

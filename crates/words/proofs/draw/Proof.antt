@@ -14,27 +14,27 @@ next : (k : ℕ) → Signature.step (Signature.draw k) ≡ Signature.draw (k + 1
 unfolding Signature.draw
 next k = ap Signature.draw (sym (add-one k))
 
-abbrev invariant-loop : tie.invariant-loop
+abbrev invariant-loop : tie.invariant-loop-k
 invariant-loop i value₀ generator₀ k₀ value generator k =
     (k ≤ i) × (value ≡ Signature.draw k) × (generator.state ≡ Signature.draw k)
 
-abbrev decreases-loop : tie.decreases-loop
+abbrev decreases-loop : tie.decreases-loop-k
 decreases-loop i value₀ generator₀ k₀ value generator k = i - k
 
-loop-holds : tie.Need-loop-init invariant-loop decreases-loop
+loop-holds : tie.Need-loop-k-init invariant-loop decreases-loop
 unfolding Signature.draw
-loop-holds c = (omega arith, refl, ap (λ (g : Generator). g.state) c.seeded.ensures)
+loop-holds c = (omega arith, refl, ap (λ (g : Generator). g.state) c.seeded-generator.ensures)
 
-add-k : tie.Need-overflow-add-k invariant-loop decreases-loop
+add-k : tie.Need-overflow_add-k invariant-loop decreases-loop
 add-k c = omega arith
 
-loop-less : tie.Need-loop-smaller invariant-loop decreases-loop
+loop-less : tie.Need-loop-k-smaller invariant-loop decreases-loop
 loop-less c = omega arith
 
-loop-again : tie.Need-loop-preserved invariant-loop decreases-loop
+loop-again : tie.Need-loop-k-preserved invariant-loop decreases-loop
 loop-again c =
-    let at = c.before.before.before.loop in
-    let d = c.before.draw.ensures in
+    let at = c.loop-k in
+    let d = c.draw-drawn.ensures in
     let e : Signature.step at.generator.state ≡ Signature.draw (at.k + 1) = ap Signature.step at.invariant.2 ∙ next at.k in (
       omega arith,
       ap (λ (x : Draw). x.value) d ∙ e,
@@ -43,12 +43,11 @@ loop-again c =
 
 returns : tie.Need-returns invariant-loop decreases-loop
 returns c =
-    let at = c.before.loop in
-    let e : at.k ≡ c.before.before.before.args.i = omega arith in
+    let at = c.loop-k in
+    let e : at.k ≡ c.args.i = omega arith in
     at.invariant.1 ∙ ap Signature.draw e
 
-pub draw-spec : {M : Type 1} → statement M
-draw-spec =
+pub draw_spec : {M : Type 1} → statement M
+draw_spec =
     tie.close
-    (tie.spec
-    invariant-loop decreases-loop (λ c κs. search rules) loop-holds (λ c κs. search rules) add-k loop-less loop-again returns)
+    (tie.spec invariant-loop decreases-loop (λ c κs. search rules) loop-holds (λ c κs. search rules) add-k loop-less loop-again returns)

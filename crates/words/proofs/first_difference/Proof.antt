@@ -6,5 +6,5 @@ use Rattle.words.proofs.first_difference.Tie as tie
 returns : tie.Need-returns
 returns c = first-difference 64 c.args.a c.args.b c.ranges.a.fits c.ranges.b.fits
 
-pub first-difference-spec : {M : Type 1} → statement M
-first-difference-spec = tie.close (tie.spec returns)
+pub first_difference_spec : {M : Type 1} → statement M
+first_difference_spec = tie.close (tie.spec returns)

@@ -6,15 +6,15 @@ use Rattle.words.proofs.Bits.{bit_not, xor-false, xor-true}
 use Rattle.words.proofs.literal_word.Statement.{statement}
 use Rattle.words.proofs.literal_word.Tie as tie
 
-returns : tie.Need-returns
+returns : tie.Need-returns-then-complemented
 returns c =
-    λ p h. let a = c.before.args.a in
-    bit_not 64 a p c.before.ranges.a.fits h ∙ sym (ap (λ (n : Bool). xor n (bit a p)) c.if1.true ∙ xor-true (bit a p))
+    λ p h. let a = c.args.a in
+    bit_not 64 a p c.ranges.a.fits h ∙ sym (ap (λ (n : Bool). xor n (bit a p)) c.if-complemented.true ∙ xor-true (bit a p))
 
-returns-2 : tie.Need-returns-2
+returns-2 : tie.Need-returns-else-complemented
 returns-2 c =
-    λ p h. let b = bit c.before.args.a p in
-    sym (ap (λ (n : Bool). xor n b) c.if1.false ∙ xor-false b)
+    λ p h. let b = bit c.args.a p in
+    sym (ap (λ (n : Bool). xor n b) c.if-complemented.false ∙ xor-false b)
 
-pub literal-word-spec : {M : Type 1} → statement M
-literal-word-spec = tie.close (tie.spec returns returns-2)
+pub literal_word_spec : {M : Type 1} → statement M
+literal_word_spec = tie.close (tie.spec returns returns-2)

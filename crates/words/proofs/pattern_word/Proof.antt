@@ -18,12 +18,12 @@ drawn : (j p : ℕ) → 6 ≤ j → Signature.pattern_bit j p ≡ bit (Signature
 unfolding Signature.pattern_bit
 drawn j p h = ap (λ (t : Bool). cond t (bit p j) (bit (Signature.draw (j - 5)) p)) (le-ltb j 6 h)
 
-returns : tie.Need-returns
+returns : tie.Need-returns-then-j-gt5
 returns c =
-    λ p h. ap (λ (x : ℕ). bit x p) c.draw.ensures ∙ sym (drawn c.before.before.args.j p (omega arith))
+    λ p h. ap (λ (x : ℕ). bit x p) c.draw.ensures ∙ sym (drawn c.args.j p (omega arith))
 
-returns-2 : tie.Need-returns-2
-returns-2 c = λ p h. c.pattern.ensures p h ∙ sym (counts c.before.before.args.j p (omega arith))
+returns-2 : tie.Need-returns
+returns-2 c = λ p h. c.pattern.ensures p h ∙ sym (counts c.args.j p (omega arith))
 
-pub pattern-word-spec : {M : Type 1} → statement M
-pattern-word-spec = tie.close (tie.spec (λ c. search rules) (λ c κs. search rules) returns (λ c κs. search rules) returns-2)
+pub pattern_word_spec : {M : Type 1} → statement M
+pattern_word_spec = tie.close (tie.spec (λ c. search rules) (λ c κs. search rules) returns (λ c κs. search rules) returns-2)

@@ -10,7 +10,7 @@ abbrev both : ℕ → Draw
 both s = record { value = s; generator = started_at s }
 
 returns : tie.Need-returns
-returns c = ap both c.step.ensures
+returns c = ap both c.step-value.ensures
 
-pub draw-spec : {M : Type 1} → statement M
-draw-spec = tie.close (tie.spec (λ c κs. search rules) returns)
+pub draw_spec : {M : Type 1} → statement M
+draw_spec = tie.close (tie.spec (λ c κs. search rules) returns)

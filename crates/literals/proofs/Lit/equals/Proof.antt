@@ -9,7 +9,7 @@ word-requires-2 : tie.Need-word-requires-2
 word-requires-2 c κs = tt
 
 returns : tie.Need-returns
-returns c = rw (c.before.word.ensures, c.word2.ensures)
+returns c = rw (c.word.ensures, c.word-2.ensures)
 
-pub equals-spec : {M : Type 1} → statement M
-equals-spec = tie.close (tie.spec word-requires word-requires-2 returns)
+pub equals_spec : {M : Type 1} → statement M
+equals_spec = tie.close (tie.spec word-requires word-requires-2 returns)

@@ -6,5 +6,5 @@ use Rattle.literals.proofs.Lit.is_constant.Tie as tie
 returns : tie.Need-returns
 returns c = constant-word c.args.self
 
-pub is-constant-spec : {M : Type 1} → statement M
-is-constant-spec = tie.close (tie.spec returns)
+pub is_constant_spec : {M : Type 1} → statement M
+is_constant_spec = tie.close (tie.spec returns)

@@ -8,5 +8,5 @@ word-requires c κs = tt
 returns : tie.Need-returns
 returns c = rw c.word.ensures
 
-pub is-true-spec : {M : Type 1} → statement M
-is-true-spec = tie.close (tie.spec word-requires returns)
+pub is_true_spec : {M : Type 1} → statement M
+is_true_spec = tie.close (tie.spec word-requires returns)
