@@ -1,5 +1,5 @@
 /* Yunverok: load, join, search, fold, replay, widen, write and generate AIGER circuits, and show the run of a witness as a waveform, for
-   two users of one circuit. The functions are proved: crates/interface/src/lib.rt has their contracts, which this page tells in words. They
+   two users of one circuit. The functions are proved: crates/interface_c/src/lib.rt has their contracts, which this page tells in words. They
    are in the archive libyunverok.a, which library/build makes.
 
    What is lent. A slice is a pointer and a length in elements. The memory must exist; a pointer must be aligned for its element; a
@@ -62,7 +62,7 @@
 
    Stack. At most 240 kilobytes are used by search and 195 by fold where a pin of the user holds an input, 140 by either where none does;
    190 by write, 165 by replay, and 105 by the others, whatever the circuit; docs/MEMORY.md has the greatest depth measured for
-   each function. */
+   each function. These were measured with an older Rattle kit and were not measured again. */
 #ifndef YUNVEROK_H
 #define YUNVEROK_H
 #include <stdint.h>

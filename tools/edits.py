@@ -1,10 +1,10 @@
 #!/usr/bin/env python3
 """The must-fail edits: counts them, says which cannot be applied, and brings them over after a change of spelling.
 
-usage: tools/edits.py            counts the edits; lists each whose 'old:' text does not stand once in its file, and each name of a 'new:' text
-                                 that its file does not have
+usage: tools/edits.py            counts the edits, and lists each whose 'old:' text does not stand once in its file
+       tools/edits.py --names    lists each word of a 'new:' text that its file does not have as well: is it in scope there?
        tools/edits.py COMMIT     writes each edit anew from how it stood at COMMIT, beside the files of that commit and of today, and prints
-                                 each pair that changed, old and new
+                                 each pair that changed, old and new. An edit that was written since then, and can be applied, stays
 
 An edit is turned as its line was: the line that 'old:' named and the one that 'new:' made of it are put into today's spelling, and the first
 must be the line that stands there today. What the pair names is kept as short as it was where that stands once, else it is the whole line.
@@ -70,7 +70,7 @@ def turned(text, path):
 
 
 def pairs(text):
-    """The edit's lines as lists: a comment as it is, a pair as [line of old, line of new, path, old, new]."""
+    """The edit's lines: a pair as (path, old, new), any other line as it is."""
     path, old, out = "", "", []
     for line in text.split("\n"):
         if line.startswith("file: "):
@@ -93,6 +93,11 @@ def at_commit(commit, path):
     return subprocess.run(["git", "show", f"{commit}:{path}"], cwd=ROOT, capture_output=True, check=True).stdout.decode()
 
 
+def read(path):
+    with open(os.path.join(ROOT, path), encoding="utf-8") as f:
+        return f.read()
+
+
 def line_of(text, piece):
     """The number of the line on which the piece begins."""
     return text[: text.index(piece)].count("\n")
@@ -106,12 +111,14 @@ def places(then, now, path):
 
 
 def imported(old, new, now):
-    """A pair that brings names into scope: today they stand in the line of the library's words."""
-    more = [it for it in words(new[new.index("{") + 1: new.index("}")]).split(", ") if it not in words(old[old.index("{") + 1: old.index("}")]).split(", ")]
-    lines = [it for it in now.split("\n") if it.startswith("use Rattle.std.specs.Prelude.{")]
-    if len(lines) != 1 or any(re.search(r"[{ ]" + re.escape(it) + r"[,}]", lines[0]) for it in more):
+    """A pair that brings names into scope: today they stand in the line of the library's words, and the pair names its front."""
+    before, after = ([words(it) for it in text[text.index("{") + 1: text.index("}")].split(", ")] for text in (old, new))
+    line = re.search(r"^use Rattle\.std\.specs\.Prelude\.\{([^,}]+,)[^}]*\}$", now, re.M)
+    if not line:
         return None
-    return lines[0], lines[0][:-1] + "".join(", " + it for it in more) + "}"
+    front = line.group()[: line.end(1) - line.start()]
+    more = [it for it in after if it not in before]
+    return (front, front.replace("{", "{" + ", ".join(more) + ", ")) if now.count(front) == 1 else None
 
 
 def one(path, old, new, then, now):
@@ -135,42 +142,59 @@ def one(path, old, new, then, now):
     return None, "no text of the line stands once: " + today.strip()
 
 
+def applied(crate, parts):
+    """Yields each pair with its file's text before it, as the earlier pairs left that text; ends after a pair that cannot be applied."""
+    now = {}
+    for path, old, new in (it for it in parts if not isinstance(it, str)):
+        if path not in now:
+            now[path] = read(f"crates/{crate}/{path}")
+        yield path, old, new, now[path]
+        if now[path].count(old) != 1:
+            return
+        now[path] = now[path].replace(old, new)
+
+
+def can_be_applied(crate, parts):
+    return all(text.count(old) == 1 for path, old, new, text in applied(crate, parts))
+
+
+def turn_edit(commit, file):
+    """The edit's text of today and its pairs that changed, or why it cannot be turned."""
+    crate = file.split("/")[1]
+    parts, then, now, told = pairs(at_commit(commit, file)), {}, {}, ""
+    for i, it in enumerate(parts):
+        if isinstance(it, str):
+            continue
+        path, old, new = it
+        if path not in then:
+            then[path], now[path] = at_commit(commit, f"crates/{crate}/{path}"), read(f"crates/{crate}/{path}")
+        pair, why = one(path, old, new, then[path], now[path])
+        if not pair:
+            return None, why
+        then[path], now[path] = then[path].replace(old, new), now[path].replace(*pair)
+        parts[i] = (path, *pair)
+        if pair != (old, new):
+            told += f"{file}, {path}\n  was: {old}\n    →  {new}\n  now: {pair[0]}\n    →  {pair[1]}\n"
+    return written(parts), told
+
+
 def bring(commit):
-    total = changed = 0
-    left = []
+    changed, kept, left = 0, [], []
     for file in edits():
-        crate = file.split("/")[1]
-        parts = pairs(at_commit(commit, file))
-        then, now = {}, {}
-        for i, it in enumerate(parts):
-            if isinstance(it, str):
-                continue
-            path, old, new = it
-            if path not in then:
-                then[path] = at_commit(commit, f"crates/{crate}/{path}")
-                with open(os.path.join(ROOT, "crates", crate, path), encoding="utf-8") as f:
-                    now[path] = f.read()
-            pair, why = one(path, old, new, then[path], now[path])
-            then[path] = then[path].replace(old, new)
-            if not pair:
-                left.append(f"{file}: {why}")
-                break
-            now[path] = now[path].replace(*pair)
-            parts[i] = (path, *pair)
-            if pair != (old, new):
-                print(f"{file}\n  {path}\n  was: {old}\n    →  {new}\n  now: {pair[0]}\n    →  {pair[1]}")
-        else:
-            total += 1
-            text = written(parts)
-            target = os.path.join(ROOT, file)
-            with open(target, encoding="utf-8") as f:
-                had = f.read()
-            changed += text != at_commit(commit, file)
-            if had != text:
-                with open(target, "w", encoding="utf-8") as f:
-                    f.write(text)
+        was, has = at_commit(commit, file), read(file)
+        if has != was and can_be_applied(file.split("/")[1], pairs(has)):
+            kept.append(file)
+            continue
+        text, told = turn_edit(commit, file)
+        if text is None:
+            left.append(f"left: {file}: {told}")
+        elif text != has:
+            changed += 1
+            print(told, end="")
+            with open(os.path.join(ROOT, file), "w", encoding="utf-8") as f:
+                f.write(text)
     print("\n".join(left))
-    print(f"edits: {total} turned or as they were, {changed} of them changed, {len(left)} left")
+    print(f"edits: {len(edits())}, {changed} written anew, {len(kept)} stay as they were written since, {len(left)} left")
     return 1 if left else 0
 
 
@@ -178,38 +202,29 @@ def edits():
     return sorted(os.path.relpath(it, ROOT) for it in glob.glob(os.path.join(ROOT, "crates", "*", "must-fail", "*.edit")))
 
 
-NAMES = re.compile(r"[A-Za-z_][\w']*|[^\w\s(){}\[\],.;:=\"'|]+")
+def names(text, path):
+    """The words of a text, of definitions the operators too."""
+    text = re.sub(r"\"(?:[^\"\\]|\\.)*\"|b'\\?.'|◌", "", text)
+    return re.findall(r"(?<!\w)[^\W\d][\w']*" + (r"|[^\w\s(){}\[\],.;:=\"'|]+" if path.endswith(".antt") else ""), text)
 
 
-def count():
-    good = bad = 0
+def count(with_names):
+    bad = 0
     for file in edits():
         crate = file.split("/")[1]
-        with open(os.path.join(ROOT, file), encoding="utf-8") as f:
-            parts = pairs(f.read())
-        now, said = {}, []
-        for path, old, new in (it for it in parts if not isinstance(it, str)):
-            if path not in now:
-                with open(os.path.join(ROOT, "crates", crate, path), encoding="utf-8") as f:
-                    now[path] = f.read()
-            times = now[path].count(old)
-            if times != 1:
-                said.append(f"{times} times: {old}")
-                break
-            there = set(NAMES.findall(re.sub(r"◌([^\s◌]+)◌", r"\1", now[path])))
-            strange = [it for it in NAMES.findall(re.sub(r"\"[^\"]*\"|◌", "", new)) if it not in there]
+        for path, old, new, text in applied(crate, pairs(read(file))):
+            if text.count(old) != 1:
+                bad += 1
+                print(f"{file}: stands {text.count(old)} times in {path}: {old}")
+            strange = [it for it in names(new, path) if it not in set(names(text, path))] if with_names else []
             if strange:
-                said.append("not in the file: " + " ".join(strange))
-            now[path] = now[path].replace(old, new)
-        bad += any("times: " in it for it in said)
-        good += not any("times: " in it for it in said)
-        for it in said:
-            print(f"{file}: {it}")
-    print(f"edits: {good + bad}, {bad} cannot be applied")
+                print(f"{file}: not in {path}: {' '.join(strange)}")
+    print(f"edits: {len(edits())}, {bad} cannot be applied")
     return 1 if bad else 0
 
 
 if __name__ == "__main__":
-    if len(sys.argv) > 2 or sys.argv[1:2] in (["-h"], ["--help"]):
+    given = sys.argv[1:]
+    if len(given) > 1 or given in (["-h"], ["--help"]):
         sys.exit(__doc__)
-    sys.exit(bring(sys.argv[1]) if len(sys.argv) == 2 else count())
+    sys.exit(bring(given[0]) if given and given != ["--names"] else count(bool(given)))

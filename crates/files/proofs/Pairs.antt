@@ -4,7 +4,7 @@ use mathlib.Core.Bool.{Bool, true, false, cond, ◌||◌}
 use mathlib.Core.List.{List}
 use Prim.Native.Nat.{ℕ, zero-le}
 use native.Mathlib.Omega.{arith}
-use Rattle.io.specs.Counts.{IsPrefixLen}
+use Rattle.input.specs.Reading.{IsPrefixLen}
 use Rattle.input.specs.Contents.{nothing}
 use Rattle.files.specs.Reading.{Read, OtherRead, BothRead}
 use Rattle.files.specs.declared.Fetched.{Fetched}

@@ -1,7 +1,6 @@
 -- What was read of a file and of two. Assumes nothing.
 use Rattle.std.specs.Prelude.{◌≡◌, true, false, ◌||◌, List, ℕ, length, take}
-use Rattle.io.specs.Counts.{IsPrefixLen}
-use Rattle.input.specs.Reading.{is_failure}
+use Rattle.input.specs.Reading.{IsPrefixLen, is_failure}
 use Rattle.input.specs.Contents.{nothing, text_of, Whole}
 use Rattle.files.specs.declared.Word.{Word}
 use Rattle.files.specs.declared.NamedFile.{NamedFile}

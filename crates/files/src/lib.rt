@@ -2,60 +2,64 @@
 #![tactic(auto)]
 
 ghost use Rattle.std.specs.Prelude.{◌≡◌, true, ◌||◌, ◌≤◌, length, take};
-ghost use Rattle.io.specs.Counts.{IsPrefixLen};
+ghost use Rattle.input.specs.Reading.{IsPrefixLen};
 ghost use Rattle.input.specs.Contents.{Whole, nothing};
 ghost use Rattle.arguments.specs.Arguments.{number_of, seed_of, place_of, meant};
 ghost use Rattle.files.specs.Reading.{name_of, FiledAs, Names, Read, BothRead};
 
 use arguments::Argument;
 use input::Content;
-use libc::{STDERR_FILENO, STDOUT_FILENO};
+use std::env::{Env, FillError};
+use std::fs::File;
+use std::str;
+
+// Numbers of the system's errors: no such argument, one that is too long, and a name that is no text.
+const INVALID: i32 = 22;
+
+const TOO_LONG: i32 = 36;
+
+const NO_TEXT: i32 = 84;
 
 // Writes a text to standard output.
-pub fn say(text: &[u8]) {
-    if !io::write_all(STDOUT_FILENO, text) {
-        os::fail(b"standard output");
+pub fn say(rt: HostRuntime, text: &[u8]) {
+    if let Err(code) = input::write_all(&rt, text) {
+        input::fail(rt, b"standard output", code);
     }
 }
 
 // Writes the first n bytes of a text, or all of it where it has fewer.
-pub fn say_front(text: &[u8], n: usize) {
+pub fn say_front(rt: HostRuntime, text: &[u8], n: usize) {
     if n < text.len() {
-        say(&text[..n]);
+        say(rt, &text[..n]);
     } else {
-        say(text);
+        say(rt, text);
     }
 }
 
-// Writes a text to standard error.
-fn note(text: &[u8]) {
-    io::write_all(STDERR_FILENO, text);
-}
-
 // Writes the first n bytes of a text, or all of it where it has fewer, to standard error.
-pub fn note_front(text: &[u8], n: usize) {
+pub fn note_front(rt: HostRuntime, text: &[u8], n: usize) {
     if n < text.len() {
-        note(&text[..n]);
+        input::note(rt, &text[..n]);
     } else {
-        note(text);
+        input::note(rt, text);
     }
 }
 
 // Writes a number to standard output.
-pub fn say_number(n: u64) {
-    io::print_decimal(STDOUT_FILENO, n);
+pub fn say_number(rt: HostRuntime, n: u64) {
+    let _ = rt.print(n);
 }
 
 // Writes the line `refused n`.
-pub fn say_refused(n: u32) {
-    say(b"refused ");
-    say_number(n as u64);
-    say(b"\n");
+pub fn say_refused(rt: HostRuntime, n: u32) {
+    say(rt, b"refused ");
+    say_number(rt, n as u64);
+    say(rt, b"\n");
 }
 
 // A file that was read by its name: the first bytes of the name, as many as have room, how many these are, and what was read. The fields
 // are this crate's own, so that a value of this type is one that `read_file` or `no_file` made.
-#[derive(Drop)]
+#[derive(Clone, Copy)]
 pub struct NamedFile {
     name: [u8; 4096],
     length: usize,
@@ -67,35 +71,54 @@ fn keep_name(name: &[u8], kept: &mut [u8]) -> usize
     ensures { (result ≤ length kept.new) × (take result kept.new ≡ take (length kept.old) name.now) }
 {
     let room = kept.len();
-    if name.len() <= room {
-        return bytes::copy(name, kept);
+    let n = name.len();
+    if n <= room {
+        kept[..n].copy_from_slice(name);
+        return n;
     }
-    bytes::copy(&name[..room], kept)
+    kept.copy_from_slice(&name[..room]);
+    room
+}
+
+// Opens the file with a name, or tells the number of the error. A name that is no text is that of no file.
+fn open(rt: HostRuntime, name: &[u8]) -> Result<File, i32> {
+    if name.len() >= 4096 {
+        return Err(TOO_LONG);
+    }
+    let Ok(path) = str::from_utf8(name) else {
+        return Err(NO_TEXT);
+    };
+    match File::open(&rt, path) {
+        Ok(file) => Ok(file),
+        Err(error) => Err(error.raw_os_error().unwrap_or(INVALID)),
+    }
 }
 
 // Reads the file with a name. That it is the file of this name is for the system to say.
-fn read_named_content(name: &[u8]) -> Content
+fn read_named_content(rt: HostRuntime, name: &[u8]) -> Content
     ensures { Whole result }
 {
-    let fd = os::open_read(name);
-    if fd < 0 {
-        os::fail(name);
-        return input::unread();
+    match open(rt, name) {
+        Ok(mut file) => {
+            let content = input::read_content(&mut file);
+            if input::is_failed(content) {
+                input::fail(rt, name, input::error_of(content));
+            }
+            content
+        }
+        Err(code) => {
+            input::fail(rt, name, code);
+            input::unread()
+        }
     }
-    let content = input::read_content(fd);
-    if input::is_failed(content) {
-        os::fail(name);
-    }
-    libc::close(fd);
-    content
 }
 
 // Reads the file with a name, and keeps the name. One of 4,096 bytes or more is the name of no file.
-pub fn read_file(name: &[u8]) -> NamedFile
+pub fn read_file(rt: HostRuntime, name: &[u8]) -> NamedFile
     ensures { (name_of result ≡ take 4096 name.now) × Whole result.content }
 {
-    let content = read_named_content(name);
-    let mut kept = io::buffer();
+    let content = read_named_content(rt, name);
+    let mut kept = [0u8; 4096];
     let length = keep_name(name, &mut kept);
     NamedFile {
         name: kept,
@@ -109,7 +132,7 @@ pub fn no_file() -> NamedFile
     ensures { (result.content ≡ nothing) × (result.length ≡ 0) }
 {
     NamedFile {
-        name: io::buffer(),
+        name: [0u8; 4096],
         length: 0,
         content: input::unread(),
     }
@@ -130,10 +153,10 @@ pub struct Filed {
 }
 
 // Reads the file with a name into the front of buf, as much as has room.
-pub fn read_named(name: &[u8], buf: &mut [u8]) -> Filed
+pub fn read_named(rt: HostRuntime, name: &[u8], buf: &mut [u8]) -> Filed
     ensures { FiledAs (take 4096 name.now) buf.new result }
 {
-    let file = read_file(name);
+    let file = read_file(rt, name);
     let content = file.content;
     let count = input::deliver(content, buf);
     let failed = input::is_failed(content);
@@ -144,29 +167,74 @@ pub fn read_named(name: &[u8], buf: &mut [u8]) -> Filed
     }
 }
 
-// An argument of the program: which it is, its bytes at the front, how many they are, and whether it is all there. The fields are this
-// crate's own, so that a value of this type is one that `argument` made.
-#[derive(Drop)]
+// An argument of the program: which it is, its bytes at the front, how many they are, and whether it is all there; where it is not, the
+// number of the error. The fields are this crate's own, so that a value of this type is one that `argument` made.
+#[derive(Clone, Copy)]
 pub struct Word {
     index: usize,
     bytes: [u8; 4096],
     count: usize,
     whole: bool,
+    error: i32,
+}
+
+// What the system gave for an argument: how many bytes, and the number of the error, 0 where the argument is all there.
+#[derive(Clone, Copy)]
+struct Filled {
+    count: usize,
+    error: i32,
+}
+
+// Copies argument i to the front of buf. One that is missing or has no room counts no byte.
+fn given(rt: HostRuntime, i: usize, buf: &mut [u8]) -> Filled
+    ensures { IsPrefixLen result.count buf.new }
+{
+    match rt.arg(i, buf) {
+        Ok(count) => Filled { count, error: 0 },
+        Err(FillError::NotPresent) => Filled {
+            count: 0,
+            error: INVALID,
+        },
+        Err(FillError::TooLong) => Filled {
+            count: 0,
+            error: TOO_LONG,
+        },
+    }
 }
 
 // Argument i. Which text it is, is said by the system.
-pub fn argument(i: usize) -> Word
+pub fn argument(rt: HostRuntime, i: usize) -> Word
     ensures { (result.index ≡ i) × IsPrefixLen result.count result.bytes }
 {
-    let mut bytes = io::buffer();
-    let count = os::arg(i, &mut bytes);
-    let whole = os::errno() == 0;
+    let mut bytes = [0u8; 4096];
+    let got = given(rt, i, &mut bytes);
+    let error = got.error;
     Word {
         index: i,
         bytes,
-        count,
-        whole,
+        count: got.count,
+        whole: error == 0,
+        error,
     }
+}
+
+// Copies argument i to the front of buf. The answer is how many bytes these are, 0 where there is no such argument or it has no room.
+pub fn argument_text(rt: HostRuntime, i: usize, buf: &mut [u8]) -> usize
+    ensures { IsPrefixLen result buf.new }
+{
+    let got = given(rt, i, buf);
+    got.count
+}
+
+// How many arguments the program was started with, its own name among them.
+pub fn argument_count(rt: HostRuntime) -> usize {
+    let mut front = [0u8; 1];
+    for i in 0..usize::MAX {
+        if let Err(FillError::NotPresent) = rt.arg(i, &mut front) {
+            return i;
+        }
+    }
+    usize::MAX
 }
 
 // How many bytes stand in a buffer, whether a read failed, the argument that names the file, and the file. The last two fields are this
@@ -180,25 +248,25 @@ pub struct Fetched {
 }
 
 // The file that a word names, or none where the word is not all there.
-fn named_file(word: Word) -> NamedFile
+fn named_file(rt: HostRuntime, word: Word) -> NamedFile
     requires { IsPrefixLen word.count word.bytes }
     ensures { Names word result }
 {
     if word.whole {
         let name = word.bytes;
         let count = word.count;
-        return read_file(&name[..count]);
+        return read_file(rt, &name[..count]);
     }
-    os::fail(b"argument");
+    input::fail(rt, b"argument", word.error);
     no_file()
 }
 
 // Reads the file that argument i names.
-pub fn read_argument(i: usize, buf: &mut [u8]) -> Fetched
+pub fn read_argument(rt: HostRuntime, i: usize, buf: &mut [u8]) -> Fetched
     ensures { Read i buf.new result }
 {
-    let word = argument(i);
-    let file = named_file(word);
+    let word = argument(rt, i);
+    let file = named_file(rt, word);
     let content = file.content;
     let count = input::deliver(content, buf);
     let failed = input::is_failed(content);
@@ -211,13 +279,13 @@ pub fn read_argument(i: usize, buf: &mut [u8]) -> Fetched
 }
 
 // The file that argument i names is not read.
-fn skip_argument(i: usize) -> Fetched
+fn skip_argument(rt: HostRuntime, i: usize) -> Fetched
     ensures { (result.word.index ≡ i) × (result.file.content ≡ nothing) × (result.count ≡ 0) × (result.failed ≡ true) }
 {
     Fetched {
         count: 0,
         failed: true,
-        word: argument(i),
+        word: argument(rt, i),
         file: no_file(),
     }
 }
@@ -277,21 +345,21 @@ fn both(one: Fetched, other: Fetched) -> Two
 }
 
 // Reads the files that arguments i and j name. Where the first cannot be read the second is not, as one that could not be opened.
-pub fn read_two(i: usize, j: usize, first: &mut [u8], second: &mut [u8]) -> Two
+pub fn read_two(rt: HostRuntime, i: usize, j: usize, first: &mut [u8], second: &mut [u8]) -> Two
     ensures { BothRead i j first.new second.new result }
 {
-    let one = read_argument(i, first);
+    let one = read_argument(rt, i, first);
     if one.failed {
-        return both(one, skip_argument(j));
+        return both(one, skip_argument(rt, j));
     }
-    both(one, read_argument(j, second))
+    both(one, read_argument(rt, j, second))
 }
 
 // Prints argument i and what is to stand after it.
-pub fn say_argument(i: usize, after: &[u8]) {
-    let word = argument(i);
+pub fn say_argument(rt: HostRuntime, i: usize, after: &[u8]) {
+    let word = argument(rt, i);
     let bytes = word.bytes;
     let count = word.count;
-    say(&bytes[..count]);
-    say(after);
+    say(rt, &bytes[..count]);
+    say(rt, after);
 }

@@ -237,16 +237,14 @@ fn tell_replayed(said: ReplayAnswer, answer: &mut [u64]) -> u64
 }
 
 // The number of this interface.
-#[unsafe(no_mangle)]
-pub extern "C" fn yunverok_version() -> u64
+pub fn yunverok_version() -> u64
     ensures { result ≡ version }
 {
     2
 }
 
 // Loads a file, which user 0 alone may do: circuit memory then holds its circuit, and all pins are free.
-#[unsafe(no_mangle)]
-pub extern "C" fn yunverok_load(
+pub fn yunverok_load(
     user: u64,
     shared: &mut [u8],
     circuit: &mut [u32],
@@ -261,8 +259,7 @@ pub extern "C" fn yunverok_load(
 }
 
 // Joins the circuits in first and second into circuit memory, which user 0 alone may do; all pins are then free.
-#[unsafe(no_mangle)]
-pub extern "C" fn yunverok_join(
+pub fn yunverok_join(
     user: u64,
     shared: &mut [u8],
     circuit: &mut [u32],
@@ -278,8 +275,7 @@ pub extern "C" fn yunverok_join(
 }
 
 // Tells what user 0's load of a file would answer for this circuit memory, and how many words the circuit needs.
-#[unsafe(no_mangle)]
-pub extern "C" fn yunverok_preview(
+pub fn yunverok_preview(
     user: u64,
     circuit: &[u32],
     file: &[u8],
@@ -293,8 +289,7 @@ pub extern "C" fn yunverok_preview(
 }
 
 // Sets the user's pin of an input: 0 or 1 holds the input at that value, 2 leaves it free.
-#[unsafe(no_mangle)]
-pub extern "C" fn yunverok_pin(
+pub fn yunverok_pin(
     user: u64,
     shared: &mut [u8],
     circuit: &[u32],
@@ -310,8 +305,7 @@ pub extern "C" fn yunverok_pin(
 }
 
 // Searches frames 0 to k for a hit of bad line b under the user's pins, with a budget of d sequences for each frame.
-#[unsafe(no_mangle)]
-pub extern "C" fn yunverok_search(
+pub fn yunverok_search(
     user: u64,
     shared: &[u8],
     circuit: &[u32],
@@ -335,8 +329,7 @@ pub extern "C" fn yunverok_search(
 }
 
 // Searches frame t for a hit of bad line b at or after a place, under the user's pins, with a budget of d sequences.
-#[unsafe(no_mangle)]
-pub extern "C" fn yunverok_search_from(
+pub fn yunverok_search_from(
     user: u64,
     shared: &[u8],
     circuit: &[u32],
@@ -369,8 +362,7 @@ pub extern "C" fn yunverok_search_from(
 }
 
 // Writes the hit of bad line b at frame t, under the user's pins, as a circuit without latches.
-#[unsafe(no_mangle)]
-pub extern "C" fn yunverok_fold(
+pub fn yunverok_fold(
     user: u64,
     shared: &[u8],
     circuit: &[u32],
@@ -393,8 +385,7 @@ pub extern "C" fn yunverok_fold(
 }
 
 // Replays a witness under the user's pins.
-#[unsafe(no_mangle)]
-pub extern "C" fn yunverok_replay(
+pub fn yunverok_replay(
     user: u64,
     shared: &[u8],
     circuit: &[u32],
@@ -409,8 +400,7 @@ pub extern "C" fn yunverok_replay(
 }
 
 // Widens a witness under the user's pins.
-#[unsafe(no_mangle)]
-pub extern "C" fn yunverok_widen(
+pub fn yunverok_widen(
     user: u64,
     shared: &[u8],
     circuit: &[u32],
@@ -428,8 +418,7 @@ pub extern "C" fn yunverok_widen(
 }
 
 // Shows the run of a witness as a value change dump: all wires or, where inputs is not 0, the inputs alone.
-#[unsafe(no_mangle)]
-pub extern "C" fn yunverok_waveform(
+pub fn yunverok_waveform(
     user: u64,
     circuit: &[u32],
     text: &[u8],
@@ -451,8 +440,7 @@ pub extern "C" fn yunverok_waveform(
 }
 
 // Writes the circuit as an AIGER file: form 0 is the ASCII form, form 1 the binary form.
-#[unsafe(no_mangle)]
-pub extern "C" fn yunverok_write(
+pub fn yunverok_write(
     user: u64,
     circuit: &[u32],
     form: u64,
@@ -469,8 +457,7 @@ pub extern "C" fn yunverok_write(
 
 // Writes the circuit of a seed and counts as an AIGER file in ASCII. It needs no memory but the output, so it takes no user: the call is
 // that of user 0, and either user gets the same.
-#[unsafe(no_mangle)]
-pub extern "C" fn yunverok_generate(
+pub fn yunverok_generate(
     seed: u64,
     inputs: u64,
     latches: u64,

@@ -41,7 +41,7 @@ fn is_search(input: &[u8]) -> bool
     if input.len() < 7 {
         return false;
     }
-    check::same(&input[..7], b"search ")
+    &input[..7] == b"search ".as_slice()
 }
 
 fn query_of(list: &[u64; 3], file: usize) -> Query

@@ -22,13 +22,13 @@ pub struct Fetched {
 }
 
 // Reads the file whose name is a part of a request.
-fn read_part(request: &[u8], name: Part) -> NamedFile
+fn read_part(rt: HostRuntime, request: &[u8], name: Part) -> NamedFile
     requires { Inside request.now name }
     ensures { (name_of result ≡ take 4096 (bytes_of request.now name)) × Whole result.content }
 {
     let from = name.from;
     let to = name.to;
-    files::read_file(&request[from..to])
+    files::read_file(rt, &request[from..to])
 }
 
 // No file was read.
@@ -68,15 +68,15 @@ fn two(old: NamedFile, new: NamedFile) -> Fetched
 }
 
 // Reads the files that a request names.
-pub fn fetch(request: &[u8]) -> Fetched
+pub fn fetch(rt: HostRuntime, request: &[u8]) -> Fetched
     ensures { Fetches request.now result }
 {
     match panel_names::files_of(request) {
         Names::Zero => none(),
-        Names::One(name) => one(read_part(request, name)),
+        Names::One(name) => one(read_part(rt, request, name)),
         Names::Two(old, new) => {
-            let from = read_part(request, old);
-            two(from, read_part(request, new))
+            let from = read_part(rt, request, old);
+            two(from, read_part(rt, request, new))
         }
     }
 }

@@ -322,7 +322,7 @@ fn is_word(request: &[u8], part: Part, word: &[u8]) -> bool
 {
     let from = part.from;
     let to = part.to;
-    check::same(&request[from..to], word)
+    &request[from..to] == word
 }
 
 // The arguments `OLD NEW` of join.

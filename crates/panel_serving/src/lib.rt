@@ -16,15 +16,15 @@ ghost use Rattle.panel_serving.specs.Serving.{Over, state_of, totals_of};
 pub use turning::Turned;
 
 // Answers requests until nothing more is to be had of the input. The answer is the last turn, with what stays.
-pub fn session(work: &mut [u32], out: &mut [u8]) -> Turned
+pub fn session(rt: HostRuntime, work: &mut [u32], out: &mut [u8]) -> Turned
     requires { 32 ≤ length out.old }
     ensures session_of { SessionOf (length out.old) (record { memory = start.memory; work = work.old; pins = start.pins })
         (totals_of result.after.tally) (state_of result.after work.new) }
     ensures over { Over result }
 {
-    let mut t = turning::turn(turning::begun(), work, out);
+    let mut t = turning::turn(rt, turning::begun(), work, out);
     while turning::goes_on(t) {
-        t = turning::turn(turning::after_of(t), work, out);
+        t = turning::turn(rt, turning::after_of(t), work, out);
     }
     t
 }

@@ -15,6 +15,7 @@ pub struct Served {
 
 // Answers a request that was read: reads the files that it names and prints the reply.
 pub fn serve(
+    rt: HostRuntime,
     request: &[u8],
     m: &mut [u32],
     work: &mut [u32],
@@ -26,9 +27,9 @@ pub fn serve(
         (record { memory = m.old; work = work.old; pins = pins.old }) out.old result
         (record { memory = m.new; work = work.new; pins = pins.new }) out.new }
 {
-    let fetched = panel_fetching::fetch(request);
+    let fetched = panel_fetching::fetch(rt, request);
     if panel_fetching::has_failed(fetched) {
-        let told = telling::answer_unreadable(request, out);
+        let told = telling::answer_unreadable(rt, request, out);
         return Served { fetched, told };
     }
     let old = files::content_of(panel_fetching::first_of(fetched));
@@ -37,6 +38,6 @@ pub fn serve(
     let second = input::bytes_of(new);
     let n = input::size_of(old);
     let k = input::size_of(new);
-    let told = telling::answer(request, &first[..n], &second[..k], m, work, pins, out);
+    let told = telling::answer(rt, request, &first[..n], &second[..k], m, work, pins, out);
     Served { fetched, told }
 }

@@ -17,32 +17,33 @@ pub struct Told {
 
 // Prints the front of a line and a text after it, in the bytes that `printed` of specs/Telling defines. That they are printed is for the
 // system to say.
-fn print(line: [u8; 128], count: usize, text: &[u8]) -> Told
+fn print(rt: HostRuntime, line: [u8; 128], count: usize, text: &[u8]) -> Told
     requires { count ≤ length line }
     ensures { result.response ≡ record { line = line; count = count; out = length text.now } }
 {
     let out = text.len();
-    files::say_number(std::num::wrapping_add_usize(count, out) as u64);
-    say(b"\n");
-    say(&line[..count]);
-    say(text);
+    files::say_number(rt, std::num::wrapping_add_usize(count, out) as u64);
+    say(rt, b"\n");
+    say(rt, &line[..count]);
+    say(rt, text);
     let response = Response { line, count, out };
     Told { response }
 }
 
 // Prints the response to a request.
-fn tell(response: Response, out: &[u8]) -> Told
+fn tell(rt: HostRuntime, response: Response, out: &[u8]) -> Told
     requires { (response.count ≤ length response.line) × (response.out ≤ length out.now) }
     ensures { result.response ≡ response }
 {
     let line = response.line;
     let count = response.count;
     let written = response.out;
-    print(line, count, &out[..written])
+    print(rt, line, count, &out[..written])
 }
 
 // Answers a request that names no file, or whose files were read.
 pub fn answer(
+    rt: HostRuntime,
     request: &[u8],
     first: &[u8],
     second: &[u8],
@@ -57,22 +58,22 @@ pub fn answer(
         (record { memory = m.new; work = work.new; pins = pins.new }) out.new }
 {
     let response = panel_session::respond(request, first, second, m, work, pins, out);
-    tell(response, out)
+    tell(rt, response, out)
 }
 
 // Answers a request of whose files one cannot be read.
-pub fn answer_unreadable(request: &[u8], out: &[u8]) -> Told
+pub fn answer_unreadable(rt: HostRuntime, request: &[u8], out: &[u8]) -> Told
     requires { 1 ≤ length (named_by (parse request.now)) }
     ensures { (s : State) (out : List ℕ) → Answered request.now Files.missing s out result.response s out }
 {
-    tell(panel_session::unreadable(request), out)
+    tell(rt, panel_session::unreadable(request), out)
 }
 
 // Answers a request whose own line was not read.
-pub fn answer_unread(out: &[u8]) -> Told
+pub fn answer_unread(rt: HostRuntime, out: &[u8]) -> Told
     ensures { (request : List ℕ) (s : State) (out : List ℕ) → Answered request Files.unread s out result.response s out }
 {
-    tell(panel_session::unread(), out)
+    tell(rt, panel_session::unread(), out)
 }
 
 // How many bytes the answer has that was printed.

@@ -19,7 +19,7 @@ pub struct Tally {
 
 // What stays from request to request: the circuit memory of the greatest M, 4,096, the pins of both users, and the totals. No other module
 // can change it, so that a pin is set by a turn alone.
-#[derive(Drop)]
+#[derive(Clone, Copy)]
 pub struct Resident {
     memory: [u32; 33032],
     pins: [u8; 512],
@@ -64,7 +64,13 @@ fn counted(before: Tally, request: RequestLine, told: Told) -> Tally
 }
 
 // Answers a request that was read.
-fn served(before: Resident, request: RequestLine, work: &mut [u32], out: &mut [u8]) -> Turned
+fn served(
+    rt: HostRuntime,
+    before: Resident,
+    request: RequestLine,
+    work: &mut [u32],
+    out: &mut [u8],
+) -> Turned
     requires { Sized before × Received request × (32 ≤ length out.old) × (before.tally.requests < 18446744073709551615) }
     ensures serves { Serves (take request.count request.line) (state_of before work.old) out.old result.served
         (state_of result.after work.new) out.new }
@@ -76,7 +82,7 @@ fn served(before: Resident, request: RequestLine, work: &mut [u32], out: &mut [u
     let n = panel_input::count_of(request);
     let mut memory = before.memory;
     let mut held = before.pins;
-    let served = serving::serve(&line[..n], &mut memory, work, &mut held, out);
+    let served = serving::serve(rt, &line[..n], &mut memory, work, &mut held, out);
     let told = served.told;
     let tally = counted(before.tally, request, told);
     Turned {
@@ -91,15 +97,15 @@ fn served(before: Resident, request: RequestLine, work: &mut [u32], out: &mut [u
 }
 
 // Reads a request and answers it, where there is one.
-pub fn turn(before: Resident, work: &mut [u32], out: &mut [u8]) -> Turned
+pub fn turn(rt: HostRuntime, before: Resident, work: &mut [u32], out: &mut [u8]) -> Turned
     requires { Sized before × (32 ≤ length out.old) × (before.tally.requests < 18446744073709551615) }
     ensures turns { Turns (state_of before work.old) out.old result (state_of result.after work.new) out.new }
     ensures tally_value { (totals_of result.after.tally ≡ tallied (totals_of before.tally) result.request result.served.told.response) × Received result.request
         × Sized result.after }
 {
-    let request = panel_input::receive();
+    let request = panel_input::receive(rt);
     if panel_input::has_failed(request) {
-        let told = telling::answer_unread(out);
+        let told = telling::answer_unread(rt, out);
         let fetched = panel_fetching::none();
         let tally = counted(before.tally, request, told);
         let memory = before.memory;
@@ -123,7 +129,7 @@ pub fn turn(before: Resident, work: &mut [u32], out: &mut [u8]) -> Turned
             after: before,
         };
     }
-    served(before, request, work, out)
+    served(rt, before, request, work, out)
 }
 
 pub fn after_of(t: Turned) -> Resident

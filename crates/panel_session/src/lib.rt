@@ -14,7 +14,7 @@ use panel_lines::Task;
 use replies::Report;
 
 // A line that is to be printed, its length, and how many bytes of the output follow it.
-#[derive(Drop)]
+#[derive(Clone, Copy)]
 pub struct Response {
     pub line: [u8; 128],
     pub count: usize,

@@ -5,39 +5,39 @@ use files::{say, say_refused};
 use load::LoadAnswer;
 use replay::ReplayAnswer;
 
-fn say_replay(circuit: &[u8], text: &[u8]) {
+fn say_replay(rt: HostRuntime, circuit: &[u8], text: &[u8]) {
     let mut m = [0u32; 8192];
     if let LoadAnswer::Refused(n) = load::load(circuit, &mut m) {
-        say_refused(n);
+        say_refused(rt, n);
     }
     match replay::replay(&m, text) {
-        ReplayAnswer::All => say(b"all\n"),
-        ReplayAnswer::No => say(b"no\n"),
-        ReplayAnswer::Mixed => say(b"mixed\n"),
-        ReplayAnswer::Refused(n) => say_refused(n),
+        ReplayAnswer::All => say(rt, b"all\n"),
+        ReplayAnswer::No => say(rt, b"no\n"),
+        ReplayAnswer::Mixed => say(rt, b"mixed\n"),
+        ReplayAnswer::Refused(n) => say_refused(rt, n),
     }
 }
 
 // Each buffer has one byte more than the longest file or witness that is accepted, so that none is cut to one that is.
-fn say_pair(i: usize, j: usize) {
+fn say_pair(rt: HostRuntime, i: usize, j: usize) {
     let mut circuit = [0u8; 65537];
     let mut text = [0u8; 66826];
-    files::say_argument(i, b" ");
-    files::say_argument(j, b" ");
-    let got = files::read_two(i, j, &mut circuit, &mut text);
+    files::say_argument(rt, i, b" ");
+    files::say_argument(rt, j, b" ");
+    let got = files::read_two(rt, i, j, &mut circuit, &mut text);
     if got.failed {
         return;
     }
     let n = got.first;
     let k = got.second;
-    say_replay(&circuit[..n], &text[..k]);
+    say_replay(rt, &circuit[..n], &text[..k]);
 }
 
-fn main() {
-    let count = os::arg_count();
+fn main(rt: HostRuntime) {
+    let count = files::argument_count(rt);
     let mut k: usize = 0;
     while k < count / 2 {
-        say_pair(2 * k + 1, 2 * k + 2);
+        say_pair(rt, 2 * k + 1, 2 * k + 2);
         k += 1;
     }
 }

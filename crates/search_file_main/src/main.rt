@@ -7,28 +7,35 @@ use arguments::Argument;
 use files::{note_front, say, say_front};
 use search::Terms;
 
-fn say_help() {
-    say(b"search FILE b k D\n\n");
+fn say_help(rt: HostRuntime) {
+    say(rt, b"search FILE b k D\n\n");
     say(
+        rt,
         b"Loads the AIGER 1.9 file FILE and searches frames 0 to k for a hit of bad line b, with a budget of D sequences\n",
     );
-    say(b"for each frame. Prints one of\n");
+    say(rt, b"for each frame. Prints one of\n");
     say(
+        rt,
         b"    found t   the first frame with a hit, and after that line the witness of its first hit\n",
     );
     say(
+        rt,
         b"    none k    no frame from 0 to k has a hit; `no frame at all` on standard error says that none has one, however late\n",
     );
     say(
+        rt,
         b"    spent t R frames before t have none; frame t has more than D sequences, and none of the first R, D or more, hits\n\n",
     );
-    help::say_file_refusals();
-    help::say_refusals(10, 12);
-    say(b"\nExample: ./yunverok search examples/uart.aag 0 60 1048576\n");
+    help::say_file_refusals(rt);
+    help::say_refusals(rt, 10, 12);
+    say(
+        rt,
+        b"\nExample: ./yunverok search examples/uart.aag 0 60 1048576\n",
+    );
 }
 
 // Searches the circuit of the file that argument 1 names. No witness is longer than the output.
-fn search_with(q: Terms, work: &mut [u32])
+fn search_with(rt: HostRuntime, q: Terms, work: &mut [u32])
     requires { length work.old ≡ 1048576 }
 {
     let mut file = [0u8; 65537];
@@ -36,39 +43,39 @@ fn search_with(q: Terms, work: &mut [u32])
     let mut out = [0u8; 66825];
     let mut line = [0u8; 128];
     let mut note = [0u8; 16];
-    let got = files::read_argument(1, &mut file);
+    let got = files::read_argument(rt, 1, &mut file);
     if got.failed {
         return;
     }
     let n = got.count;
     let said = search_command::search(&file[..n], q, &mut m, work, &mut out, &mut line, &mut note);
-    say_front(&line, said.line);
-    say_front(&out, said.out);
-    note_front(&note, said.note);
+    say_front(rt, &line, said.line);
+    say_front(rt, &out, said.out);
+    note_front(rt, &note, said.note);
 }
 
 // Lends the working memory of the greatest size, 65,536.
-fn search_file(q: Terms) {
+fn search_file(rt: HostRuntime, q: Terms) {
     let mut work = [0u32; 1048576];
-    search_with(q, &mut work);
+    search_with(rt, q, &mut work);
 }
 
-fn main() {
-    if os::arg_count() != 5 {
-        say_help();
+fn main(rt: HostRuntime) {
+    if files::argument_count(rt) != 5 {
+        say_help(rt);
         return;
     }
-    let Argument::Number(b) = files::number_of(files::argument(2)) else {
-        say_help();
+    let Argument::Number(b) = files::number_of(files::argument(rt, 2)) else {
+        say_help(rt);
         return;
     };
-    let Argument::Number(k) = files::number_of(files::argument(3)) else {
-        say_help();
+    let Argument::Number(k) = files::number_of(files::argument(rt, 3)) else {
+        say_help(rt);
         return;
     };
-    let Argument::Number(d) = files::number_of(files::argument(4)) else {
-        say_help();
+    let Argument::Number(d) = files::number_of(files::argument(rt, 4)) else {
+        say_help(rt);
         return;
     };
-    search_file(Terms { b, k, d });
+    search_file(rt, Terms { b, k, d });
 }

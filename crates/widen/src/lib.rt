@@ -163,7 +163,7 @@ fn widen_copy(
         out.old }
 {
     let end = text.len();
-    bytes::copy(text, out);
+    out[..end].copy_from_slice(text);
     widen_hits(m, order, w, own, &mut out[start..end]);
 }
 

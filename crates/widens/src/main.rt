@@ -2,49 +2,48 @@
 // refusal.
 #![tactic(auto)]
 
-use files::{say, say_refused};
+use files::{say, say_front, say_refused};
 use load::LoadAnswer;
 use widen::WidenAnswer;
 
-fn say_text(out: &[u8], n: usize) {
-    say(b"\n");
+fn say_text(rt: HostRuntime, out: &[u8], n: usize) {
+    say(rt, b"\n");
     if n <= 4096 {
-        let k = io::count(n as isize, out);
-        say(&out[..k]);
+        say_front(rt, out, n);
     }
 }
 
-fn say_widened(circuit: &[u8], text: &[u8]) {
+fn say_widened(rt: HostRuntime, circuit: &[u8], text: &[u8]) {
     let mut m = [0u32; 8192];
     let mut out = [0u8; 4096];
     if let LoadAnswer::Refused(n) = load::load(circuit, &mut m) {
-        say_refused(n);
+        say_refused(rt, n);
     }
     match widen::widen(&m, text, &mut out) {
-        WidenAnswer::Length(n) => say_text(&out, n),
-        WidenAnswer::Refused(n) => say_refused(n),
+        WidenAnswer::Length(n) => say_text(rt, &out, n),
+        WidenAnswer::Refused(n) => say_refused(rt, n),
     }
 }
 
-fn say_pair(i: usize, j: usize) {
+fn say_pair(rt: HostRuntime, i: usize, j: usize) {
     let mut circuit = [0u8; 4096];
     let mut text = [0u8; 4096];
-    files::say_argument(i, b" ");
-    files::say_argument(j, b" ");
-    let got = files::read_two(i, j, &mut circuit, &mut text);
+    files::say_argument(rt, i, b" ");
+    files::say_argument(rt, j, b" ");
+    let got = files::read_two(rt, i, j, &mut circuit, &mut text);
     if got.failed {
         return;
     }
     let n = got.first;
     let k = got.second;
-    say_widened(&circuit[..n], &text[..k]);
+    say_widened(rt, &circuit[..n], &text[..k]);
 }
 
-fn main() {
-    let count = os::arg_count();
+fn main(rt: HostRuntime) {
+    let count = files::argument_count(rt);
     let mut k: usize = 0;
     while k < count / 2 {
-        say_pair(2 * k + 1, 2 * k + 2);
+        say_pair(rt, 2 * k + 1, 2 * k + 2);
         k += 1;
     }
 }

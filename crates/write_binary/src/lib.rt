@@ -70,6 +70,6 @@ pub fn write_binary(m: &[u32], out: &mut [u8]) -> WriteAnswer
     if out.len() < length {
         return WriteAnswer::Refused(13);
     }
-    bytes::copy(&text[..length], out);
+    out[..length].copy_from_slice(&text[..length]);
     WriteAnswer::Length(length)
 }

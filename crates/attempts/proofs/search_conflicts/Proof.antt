@@ -4,27 +4,22 @@ use Rattle.attempts.proofs.Graphs.{search-hit, search-clear, search-out}
 use Rattle.attempts.proofs.search_conflicts.Statement.{statement}
 use Rattle.attempts.proofs.search_conflicts.Tie as tie
 
-first-hit-requires : tie.Need-first-hit-requires
-first-hit-requires c κs = c.before.before.before.before.requires
+first-hit-requires : tie.Need-first_hit-requires
+first-hit-requires c κs = c.requires
 
-returns : tie.Need-returns
+returns : tie.Need-returns-in-Found
 returns c =
-    let f = c.before.before.before.before.first-hit in
-    λ C b t u. search-hit u c.before.before.before.before.before.before.before.before.before.args.e f.new.0 f.result f.ensures c.enum_told.given.1
+    λ C b t u. search-hit u c.args.e c.first_hit.new.work c.first_hit.result c.first_hit.ensures c.in-Found.is
 
-returns-2 : tie.Need-returns-2
+returns-2 : tie.Need-returns-in-Clear
 returns-2 c =
-    let f = c.before.before.before.before.before.first-hit in
-    λ C b t u. search-clear u c.before.before.before.before.before.before.before.before.before.before.args.e f.new.0 f.result f.ensures c.before.used.given.0.0 c.before.used.given.1
+    λ C b t u. search-clear u c.args.e c.first_hit.new.work c.first_hit.result c.first_hit.ensures c.in-Clear.used c.in-Clear.is
 
-returns-3 : tie.Need-returns-3
+returns-3 : tie.Need-returns-in-Out
 returns-3 c =
-    let f = c.before.before.before.before.first-hit in
-    λ C b t u. search-out u c.before.before.before.before.before.before.before.before.before.args.e f.new.0 f.result f.ensures c.enum-told2.given.1
+    λ C b t u. search-out u c.args.e c.first_hit.new.work c.first_hit.result c.first_hit.ensures c.in-Out.is
 
-pub search-conflicts-spec : {M : Type 1} → statement M
-search-conflicts-spec =
+pub search_conflicts_spec : {M : Type 1} → statement M
+search_conflicts_spec =
     tie.close
-    (tie.spec
-    first-hit-requires (λ c. search rules) (λ c. search rules) (λ c. search rules) (λ c. search rules) returns (λ c. search rules)
-    returns-2 (λ c. search rules) returns-3)
+    (tie.spec first-hit-requires (λ c. search rules) (λ c. search rules) (λ c. search rules) (λ c. search rules) returns (λ c. search rules) returns-2 (λ c. search rules) returns-3)

@@ -7,29 +7,25 @@ use Rattle.binary_text.proofs.Steps.{placed-in}
 use Rattle.binary_text.proofs.write_differences.Statement.{statement}
 use Rattle.binary_text.proofs.write_differences.Tie as tie
 
-write-difference-requires : tie.Need-write-difference-requires
+write-difference-requires : tie.Need-write_difference-end-requires
 write-difference-requires c κs =
-    let start = c.before.before in
-    let a = start.args in
-    room-first a.out.now a.at (difference_text (a.lit - a.left)) (difference_text (a.left - a.right)) start.requires.2
+    let a = c.args in
+    room-first a.out.now a.at (difference_text (a.lit - a.left)) (difference_text (a.left - a.right)) c.requires.2
 
-write-difference-requires-2 : tie.Need-write-difference-requires-2
+write-difference-requires-2 : tie.Need-write_difference-requires
 write-difference-requires-2 c κs =
-    let start = c.before.before.before.before.before.before in
-    let a = start.args in
-    room-second a.out.now a.at (difference_text (a.lit - a.left)) (difference_text (a.left - a.right)) start.requires.2
-    (placed-in c.before.before.before.write-difference.ensures)
+    let a = c.args in
+    room-second a.out.now a.at (difference_text (a.lit - a.left)) (difference_text (a.left - a.right)) c.requires.2
+    (placed-in c.write_difference-end.ensures)
 
 returns : tie.Need-returns
 returns c =
-    let start = c.before.before.before.before.before.before.before.before.before in
-    let a = start.args in
-    placed-two a.out.now a.at (difference_text (a.lit - a.left)) (difference_text (a.left - a.right)) start.requires.2
-    (placed-in c.before.before.before.before.before.before.write-difference.ensures)
-    (placed-in c.before.before.write-difference2.ensures)
+    let a = c.args in
+    placed-two a.out.now a.at (difference_text (a.lit - a.left)) (difference_text (a.left - a.right)) c.requires.2
+    (placed-in c.write_difference-end.ensures)
+    (placed-in c.write_difference.ensures)
 
-pub write-differences-spec : {M : Type 1} → statement M
-write-differences-spec =
+pub write_differences_spec : {M : Type 1} → statement M
+write_differences_spec =
     tie.close
-    (tie.spec
-    (λ c. search rules) write-difference-requires (λ c. search rules) write-difference-requires-2 (λ c. search rules) returns)
+    (tie.spec (λ c. search rules) write-difference-requires (λ c. search rules) write-difference-requires-2 (λ c. search rules) returns)

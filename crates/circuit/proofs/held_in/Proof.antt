@@ -12,65 +12,54 @@ use Rattle.circuit.proofs.held_in.Statement.{statement}
 use Rattle.circuit.proofs.held_in.Tie as tie
 
 -- the memory is shaped where the test said so
-well : (t : tie.Else2) → Shaped t.before.before.before.before.before.before.args.m.now
+well : (t : tie.Else-not-is_shaped) → Shaped t.args.m.now
 well t =
-    let m = t.before.before.before.before.before.before.args.m.now in
-    subst (λ b. Says b (Shaped m)) (not-false t.before.is-shaped.result t.if2.false) t.before.is-shaped.ensures
+    let m = t.args.m.now in
+    subst (λ b. Says b (Shaped m)) t.if-not-is_shaped.false t.is_shaped.ensures
 
 -- the answer of the check is the variant that the match found
 found : (n : tie.After-check) (r : Checked) → n.check.result ≡ r
-    → Checks (circuit_in n.before.before.before.before.before.before.before.before.args.m.now) n.check.new.1.0 r
+    → Checks (circuit_in n.args.m.now) n.check.new.order r
 found n r e =
-    let S = n.before.before.before.before.before.before.before.before in
-    subst (Checks (circuit_in S.args.m.now) n.check.new.1.0) e n.check.ensures.0
+    subst (Checks (circuit_in n.args.m.now) n.check.new.order) e n.check.ensures.0
 
 -- what it left of the order
 left : (n : tie.After-check) (r : Checked) → n.check.result ≡ r
-    → OrderLeft (circuit_in n.before.before.before.before.before.before.before.before.args.m.now)
-    n.before.before.before.before.before.before.before.before.args.order.now n.check.new.1.0 r
+    → OrderLeft (circuit_in n.args.m.now)
+    n.args.order.now n.check.new.order r
 left n r e =
-    let S = n.before.before.before.before.before.before.before.before in
-    subst (OrderLeft (circuit_in S.args.m.now) S.args.order.now n.check.new.1.0) e n.check.ensures.1
+    subst (OrderLeft (circuit_in n.args.m.now) n.args.order.now n.check.new.order) e n.check.ensures.1
 
-returns : tie.Need-returns
+returns : tie.Need-returns-then-m-lt264
 returns c =
-    let D = c.before.before in
-    (none-short D.before.before.if1.true, D.clear.ensures)
+    (none-short c.if-m-lt264.true, c.clear.ensures)
 
-returns-2 : tie.Need-returns-2
+returns-2 : tie.Need-returns-then-not-is_shaped
 returns-2 c =
-    let D = c.before.before in
-    let t = D.before.before in
-    let m = t.before.before.before.before.before.before.args.m.now in (
+    let m = c.args.m.now in (
       none-unshaped
-          (subst (λ b. Says b (Shaped m)) (not-true t.before.is-shaped.result t.if2.true) t.before.is-shaped.ensures),
-      D.clear2.ensures,
+          (subst (λ b. Says b (Shaped m)) c.if-not-is_shaped.true c.is_shaped.ensures),
+      c.clear-then-not-is_shaped.ensures,
     )
 
 check-requires : tie.Need-check-requires
-check-requires c κs = (shaped-counted (well c.before), c.before.before.before.before.before.before.before.requires)
+check-requires c κs = (shaped-counted (well c.before), c.requires)
 
-with-starts-requires : tie.Need-with-starts-requires
+with-starts-requires : tie.Need-with_starts-requires
 with-starts-requires c κs =
-    let n = c.before.before.before.before in
-    (n.before.before.before.before.layout_of.ensures.0, shaped-counted (well n.before.before))
+    (c.layout_of-p.ensures.0, shaped-counted (well c.before.before.before.before.before))
 
-returns-3 : tie.Need-returns-3
+returns-3 : tie.Need-returns-in-Right
 returns-3 c =
-    let n = c.before.before.before.before.before in
-    let r = found n _ c.before.enum_told.given.1 in
-    let w = well n.before.before in
-    ((c.with-starts.ensures, sound-holds (sound w r.0), r.1), left n _ c.before.enum_told.given.1)
+    let r = found c.before.before.before.before _ c.in-Right.is in
+    let w = well c.before.before.before.before.before.before in
+    ((c.with_starts.ensures, sound-holds (sound w r.0), r.1), left c.before.before.before.before _ c.in-Right.is)
 
-returns-4 : tie.Need-returns-4
+returns-4 : tie.Need-returns-in-Refused
 returns-4 c =
-    let n = c.before.before.before.before in
-    (none-refused (found n _ c.enum-told2.given.1), left n _ c.enum-told2.given.1)
+    (none-refused (found c.before.before.before _ c.in-Refused.is), left c.before.before.before _ c.in-Refused.is)
 
-pub held-in-spec : {M : Type 1} → statement M
-held-in-spec =
+pub held_in_spec : {M : Type 1} → statement M
+held_in_spec =
     tie.close
-    (tie.spec
-    (λ c κs. search rules) (λ c. search rules) returns (λ c κs. search rules) (λ c κs. search rules) (λ c κs. search rules)
-    (λ c. search rules) returns-2 check-requires (λ c. search rules) with-starts-requires (λ c. search rules) (λ c. search rules)
-    returns-3 (λ c. search rules) returns-4)
+    (tie.spec (λ c κs. search rules) (λ c. search rules) returns (λ c κs. search rules) (λ c κs. search rules) (λ c κs. search rules) (λ c. search rules) returns-2 check-requires (λ c. search rules) with-starts-requires (λ c. search rules) (λ c. search rules) returns-3 (λ c. search rules) returns-4)

@@ -14,44 +14,38 @@ use Rattle.circuit.proofs.is_shaped.Statement.{statement}
 use Rattle.circuit.proofs.is_shaped.Tie as tie
 
 -- what the test of the counts says
-said : (t : tie.After-counts-fit) → counts_fit (counts_meant (counts_in t.before.before.before.args.p)) ≡ t.counts-fit.result
-said t = ap (λ (k : Counts). counts_fit (counts_meant k)) (sym t.before.counts_of.ensures) ∙ sym t.counts-fit.ensures
+said : (t : tie.After-counts_fit) → counts_fit (counts_meant (counts_in t.args.p)) ≡ t.counts_fit.result
+said t = ap (λ (k : Counts). counts_fit (counts_meant k)) (sym t.counts_of.ensures) ∙ sym t.counts_fit.ensures
 
-fit : (t : tie.Else1) → counts_fit (counts_meant (counts_in t.before.before.before.before.args.p)) ≡ true
-fit t = said t.before ∙ not-false _ t.if1.false
+fit : (t : tie.Else-not-counts_fit) → counts_fit (counts_meant (counts_in t.args.p)) ≡ true
+fit t = said t.before ∙ t.if-not-counts_fit.false
 
-returns : tie.Need-returns
+returns : tie.Need-returns-then-not-counts_fit
 returns c =
-    let s = c.before.before.before.before in
-    not-fit _ s.args.p s.requires (said c.before ∙ not-true _ c.if1.true)
+    not-fit _ c.args.p c.requires (said c.before ∙ c.if-not-counts_fit.true)
 
-low : (t : tie.After-struct-known) → t.before.before.before.before.before.args.p.m ≤ 4096
+low : (t : tie.After-struct_known-1) → t.args.p.m ≤ 4096
 low t =
-    let s = t.before.before.before.before.before in
-    small _ s.args.p s.requires (fit t.before)
+    small _ t.args.p t.requires (fit t.before)
 
-add-needed : tie.Need-overflow-add-needed
+add-needed : tie.Need-overflow_add-needed
 add-needed c = omega (arith, low c)
 
-mul-needed : tie.Need-overflow-mul-needed
+mul-needed : tie.Need-overflow_mul-needed
 mul-needed c = omega (arith, low c)
 
-add-needed-2 : tie.Need-overflow-add-needed-2
+add-needed-2 : tie.Need-overflow_add-needed-2
 add-needed-2 c = omega (arith, low c)
 
-returns-2 : tie.Need-returns-2
+returns-2 : tie.Need-returns-then-m-needed
 returns-2 c =
-    let s = c.before.before.before.before.before.before in
-    too_short _ s.args.p s.requires c.if2.true
+    too_short _ c.args.p c.requires c.if-m-needed.true
 
-returns-3 : tie.Need-returns-3
+returns-3 : tie.Need-returns
 returns-3 c =
-    let t = c.before.before in
-    let s = t.before.before.before.before.before in
-    shaped s.args.m.now s.args.p s.requires (fit t.before) c.before.if2.false c.are-zeros.result c.are-zeros.ensures
+    shaped c.args.m.now c.args.p c.requires (fit c.before.before.before) c.if-m-needed.false c.are_zeros.result c.are_zeros.ensures
 
-pub is-shaped-spec : {M : Type 1} → statement M
-is-shaped-spec =
+pub is_shaped_spec : {M : Type 1} → statement M
+is_shaped_spec =
     tie.close
-    (tie.spec
-    (λ c κs. search rules) (λ c κs. search rules) returns add-needed mul-needed add-needed-2 returns-2 (λ c κs. search rules) returns-3)
+    (tie.spec (λ c κs. search rules) (λ c κs. search rules) returns add-needed mul-needed add-needed-2 returns-2 (λ c κs. search rules) returns-3)

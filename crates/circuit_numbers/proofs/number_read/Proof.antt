@@ -14,27 +14,24 @@ use Rattle.circuit_numbers.proofs.number_read.Tie as tie
 part_length : (n : ℕ) → n ≤ 3072 → length (take n (replicate {A = ℕ} 3072 0)) ≡ n
 part_length n h = length-take-le n (replicate 3072 0) (omega (arith, length-replicate {A = ℕ} 3072 0))
 
-slice-aggregate-number-gates-2 : tie.Need-slice-aggregate-number-gates-2
-slice-aggregate-number-gates-2 c = let s = c.before.before.before.before.before.before.before.before in sym
-    (part_length (length s.args.vars.now) s.requires.0.0.few)
+slice-aggregate-number-gates-2 : tie.Need-slice_bounds-number_gates-end-2
+slice-aggregate-number-gates-2 c = sym
+    (part_length (length c.args.vars.now) c.requires.0.0.few)
 
-number-gates-requires : tie.Need-number-gates-requires
+number-gates-requires : tie.Need-number_gates-requires
 number-gates-requires c κs =
-    let s = c.before.before.before.before.before.before.before.before in
-    let g = s.requires.0.0 in (
-      s.requires.0,
+    let g = c.requires.0.0 in (
+      c.requires.0,
       (
-        s.requires.1,
+        c.requires.1,
         (
           (omega (arith, g.pairs, g.few, length-replicate {A = ℕ} 10241 0), get_d-zeros 10241),
-          part_length (length s.args.vars.now) g.few,
+          part_length (length c.args.vars.now) g.few,
         ),
       ),
     )
 
-pub number-read-spec : {M : Type 1} → statement M
-number-read-spec =
+pub number_read_spec : {M : Type 1} → statement M
+number_read_spec =
     tie.close
-    (tie.spec
-    (λ c. search rules) (λ c. search rules) slice-aggregate-number-gates-2 number-gates-requires (λ c. search rules)
-    (λ c. search rules) (λ c. search rules))
+    (tie.spec (λ c. search rules) (λ c. search rules) slice-aggregate-number-gates-2 number-gates-requires (λ c. search rules) (λ c. search rules) (λ c. search rules))

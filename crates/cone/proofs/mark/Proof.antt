@@ -11,69 +11,59 @@ use Rattle.cone.proofs.Marking.{MarkedFrom, marked-none, marked_more, passable, 
 use Rattle.cone.proofs.mark.Statement.{statement}
 use Rattle.cone.proofs.mark.Tie as tie
 
-abbrev invariant-loop : tie.invariant-loop
+abbrev invariant-loop : tie.invariant-loop-k
 invariant-loop work₀ g k₀ work k =
     (g.free + 1 ≤ k) × (k ≤ g.nodes) × (length work ≡ length work₀) × Others work₀ work g.nodes
     × ((root : ℕ) → MarkedFrom work₀ work₀ g root g.nodes → MarkedFrom work₀ work g root k)
 
-abbrev decreases-loop : tie.decreases-loop
+abbrev decreases-loop : tie.decreases-loop-k
 decreases-loop work₀ g k₀ work k = k
 
-start-marks-requires : tie.Need-start-marks-requires invariant-loop decreases-loop
+start-marks-requires : tie.Need-start_marks-requires invariant-loop decreases-loop
 start-marks-requires c κs =
-    let s = c.before.before.before in
-    (s.requires.sized, omega (arith, s.requires.inside, word-node s.args.root))
+    (c.requires.sized, omega (arith, c.requires.inside, word-node c.args.root))
 
-loop-holds : tie.Need-loop-init invariant-loop decreases-loop
+loop-holds : tie.Need-loop-k-init invariant-loop decreases-loop
 loop-holds c = (omega arith, omega arith, refl, λ i n. refl, λ root m. m)
 
-add-if1 : tie.Need-overflow-add-if1 invariant-loop decreases-loop
+add-if1 : tie.Need-overflow_add-g invariant-loop decreases-loop
 add-if1 c = omega arith
 
-sub-k : tie.Need-overflow-sub-k invariant-loop decreases-loop
+sub-k : tie.Need-overflow_sub-k invariant-loop decreases-loop
 sub-k c = omega arith
 
-mark-gate-requires : tie.Need-mark-gate-requires invariant-loop decreases-loop
+mark-gate-requires : tie.Need-mark_gate-requires invariant-loop decreases-loop
 mark-gate-requires c κs =
-    let s = c.before.before.before.before.before.before.before.before.before.before in
-    let m = c.before.before.before.before.before.before.start-marks in
-    let l = c.before.before.before.loop in
-    passable s.args.work.now m.new.0 l.work s.args.g (edge_word s.args.root) (l.k - 1) s.requires m.auto.0 l.invariant.2
-    m.ensures.others l.invariant.3 (omega arith) (omega arith)
+    passable c.args.work.now c.start_marks.new.work c.loop-k.work c.args.g (edge_word c.args.root) (c.loop-k.k - 1) c.requires c.start_marks.auto.work c.loop-k.invariant.2
+    c.start_marks.ensures.others c.loop-k.invariant.3 (omega arith) (omega arith)
 
-loop-less : tie.Need-loop-smaller invariant-loop decreases-loop
+loop-less : tie.Need-loop-k-smaller invariant-loop decreases-loop
 loop-less c = omega arith
 
-loop-again : tie.Need-loop-preserved invariant-loop decreases-loop
+loop-again : tie.Need-loop-k-preserved invariant-loop decreases-loop
 loop-again c =
-    let g = c.before.before.before.before.before.before.before.before.before.before.before.before.before.args.g in
-    let m = c.before.before.before.before.before.before.before.before.before.start-marks in
-    let l = c.before.before.before.before.before.before.loop in
-    let e = c.before.before.mark-gate in (
+    let g = c.args.g in
+    (
       omega arith,
       omega arith,
-      e.auto.0 ∙ l.invariant.2,
-      others-trans m.new.0 l.work e.new.0 g.nodes g.nodes (l.k - 1) (omega arith) (omega arith) l.invariant.3 e.ensures.others,
-      λ root u. marked_more m.new.0 l.work e.new.0 g root l.k (omega arith) (omega arith) (l.invariant.4 root u) e.auto.0 e.ensures,
+      c.mark_gate.auto.work ∙ c.loop-k.invariant.2,
+      others-trans c.start_marks.new.work c.loop-k.work c.mark_gate.new.work g.nodes g.nodes (c.loop-k.k - 1) (omega arith) (omega arith) c.loop-k.invariant.3 c.mark_gate.ensures.others,
+      λ root u. marked_more c.start_marks.new.work c.loop-k.work c.mark_gate.new.work g root c.loop-k.k (omega arith) (omega arith) (c.loop-k.invariant.4 root u) c.mark_gate.auto.work c.mark_gate.ensures,
     )
 
-same_length : tie.Need-same-length invariant-loop decreases-loop
-same_length c = c.before.before.loop.invariant.2 ∙ c.before.before.before.before.before.start-marks.auto.0
+same_length : tie.Need-shape_of-work invariant-loop decreases-loop
+same_length c = c.loop-k.invariant.2 ∙ c.start_marks.auto.work
 
 returns : tie.Need-returns invariant-loop decreases-loop
 returns c =
-    let s = c.before.before.before.before.before.before.before.before.before in
-    let a = s.args in
-    let m = c.before.before.before.before.before.start-marks in
-    let l = c.before.before.loop in
+    let a = c.args in
     let w = a.work.now in
     let root = edge_word a.root in
     let top = a.root.0.0 in
-    cone-marked w m.new.0 l.work a.g root top l.k (omega arith) (omega arith) m.ensures
-    (l.invariant.4 root (marked-none w m.new.0 a.g root top (word-node a.root) m.ensures))
+    cone-marked w c.start_marks.new.work c.loop-k.work a.g root top c.loop-k.k (omega arith) (omega arith) c.start_marks.ensures
+    (c.loop-k.invariant.4 root (marked-none w c.start_marks.new.work a.g root top (word-node a.root) c.start_marks.ensures))
 
 pub mark_spec : {M : Type 1} → statement M
 mark_spec =
     tie.close
-    (tie.spec
-    invariant-loop decreases-loop start-marks-requires loop-holds add-if1 sub-k mark-gate-requires loop-less loop-again same_length returns)
+    (tie.spec invariant-loop decreases-loop start-marks-requires loop-holds add-if1 sub-k mark-gate-requires loop-less loop-again same_length returns)

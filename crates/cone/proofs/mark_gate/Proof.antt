@@ -20,66 +20,61 @@ left-node m k q = ap (λ (e : Edge). e.0.0) q ∙ ap node_of (first_word m k)
 right-node : (m : List ℕ) (k : ℕ) {e : Edge} → e ≡ word_edge (get_or m (16 * k + 1) 0) → e.0.0 ≡ node_of (field m k 1)
 right-node m k q = ap (λ (e : Edge). e.0.0) q
 
-returns : tie.Need-returns
-returns c = let a = c.before.before.before.args in passed_none a.work.now a.k (omega arith)
+returns : tie.Need-returns-then-work-k-eq0
+returns c = let a = c.args in passed_none a.work.now a.k (omega arith)
 
-left-read : (c : tie.After-struct-known2)
-    → (let a = c.before.before.before.before.before.before.before.before.before.args in
-    c.before.before.before.before.from-word.result.0.0 ≡ node_of (field a.work.now a.k 0))
+left-read : (c : tie.After-struct_known-2-1)
+    → (let a = c.args in
+    c.from_word-a.result.0.0 ≡ node_of (field a.work.now a.k 0))
 left-read c =
-    let a = c.before.before.before.before.before.before.before.before.before.args in
-    left-node a.work.now a.k c.before.before.before.before.from-word.ensures
+    let a = c.args in
+    left-node a.work.now a.k c.from_word-a.ensures
 
-right-read : (c : tie.After-struct-known2)
-    → (let a = c.before.before.before.before.before.before.before.before.before.args in
-    c.before.before.from-word2.result.0.0 ≡ node_of (field a.work.now a.k 1))
+right-read : (c : tie.After-struct_known-2-1)
+    → (let a = c.args in
+    c.from_word-b.result.0.0 ≡ node_of (field a.work.now a.k 1))
 right-read c =
-    let a = c.before.before.before.before.before.before.before.before.before.args in
-    right-node a.work.now a.k c.before.before.from-word2.ensures
+    let a = c.args in
+    right-node a.work.now a.k c.from_word-b.ensures
 
 -- the records of both nodes are before that of the gate
-inside : (c : tie.After-struct-known2)
-    → (let a = c.before.before.before.before.before.before.before.before.before.args in
-    (16 * c.before.before.before.before.from-word.result.0.0 + 16 ≤ length a.work.now)
-    × (16 * c.before.before.from-word2.result.0.0 + 16 ≤ length a.work.now))
+inside : (c : tie.After-struct_known-2-1)
+    → (let a = c.args in
+    (16 * c.from_word-a.result.0.0 + 16 ≤ length a.work.now)
+    × (16 * c.from_word-b.result.0.0 + 16 ≤ length a.work.now))
 inside c =
-    let p = c.before.before.before.before.before.before.before.before.before.requires in
+    let p = c.requires in
     (omega (arith, left-read c, p.held, p.left), omega (arith, right-read c, p.held, p.right))
 
-mul-work : tie.Need-overflow-mul-work
+mul-work : tie.Need-overflow_mul-work
 mul-work c = omega (arith, (inside c).0)
 
-add-work : tie.Need-overflow-add-work
+add-work : tie.Need-overflow_add-work
 add-work c = omega (arith, (inside c).0)
 
-mul-work-2 : tie.Need-overflow-mul-work-2
+mul-work-2 : tie.Need-offset_bounds-work-left
 mul-work-2 c = omega (arith, (inside c).0)
 
-slice-write-work : tie.Need-slice-write-work
+slice-write-work : tie.Need-bounds-work-left
 slice-write-work c = omega (arith, (inside c).0)
 
-mul-work-3 : tie.Need-overflow-mul-work-3
+mul-work-3 : tie.Need-overflow_mul-work-2
 mul-work-3 c = omega (arith, (inside c).1)
 
-add-work-2 : tie.Need-overflow-add-work-2
+add-work-2 : tie.Need-overflow_add-work-2
 add-work-2 c = omega (arith, (inside c).1)
 
-mul-work-4 : tie.Need-overflow-mul-work-4
+mul-work-4 : tie.Need-offset_bounds-work-right
 mul-work-4 c = omega (arith, (inside c).1)
 
-slice-write-work-2 : tie.Need-slice-write-work-2
+slice-write-work-2 : tie.Need-bounds-work-right
 slice-write-work-2 c = simp length-set (omega (arith, (inside c).1))
 
-returns-2 : tie.Need-returns-2
+returns-2 : tie.Need-returns
 returns-2 c =
-    let s = c.before.before.before.before.before.before.before.before.before in
-    passed-both s.args.work.now s.args.k _ _ s.requires (λ z. omega arith) (left-read c) (right-read c)
+    passed-both c.args.work.now c.args.k _ _ c.requires (λ z. omega arith) (left-read c) (right-read c)
 
-pub mark-gate-spec : {M : Type 1} → statement M
-mark-gate-spec =
+pub mark_gate_spec : {M : Type 1} → statement M
+mark_gate_spec =
     tie.close
-    (tie.spec
-    (λ c. search rules) (λ c. search rules) (λ c. search rules) (λ c. search rules) returns (λ c. search rules) (λ c. search rules)
-    (λ c. search rules) (λ c κs. search rules) (λ c. search rules) (λ c. search rules) (λ c. search rules) (λ c. search rules)
-    (λ c κs. search rules) (λ c. search rules) (λ c. search rules) mul-work add-work mul-work-2 slice-write-work mul-work-3 add-work-2
-    mul-work-4 slice-write-work-2 (λ c. search rules) returns-2)
+    (tie.spec (λ c. search rules) (λ c. search rules) (λ c. search rules) (λ c. search rules) returns (λ c. search rules) (λ c. search rules) (λ c. search rules) (λ c κs. search rules) (λ c. search rules) (λ c. search rules) (λ c. search rules) (λ c. search rules) (λ c κs. search rules) (λ c. search rules) (λ c. search rules) mul-work add-work mul-work-2 slice-write-work mul-work-3 add-work-2 mul-work-4 slice-write-work-2 (λ c. search rules) returns-2)

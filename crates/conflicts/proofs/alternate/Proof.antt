@@ -7,28 +7,26 @@ use borrow.Author.Rules.{rules}
 use Rattle.conflicts.proofs.alternate.Statement.{statement}
 use Rattle.conflicts.proofs.alternate.Tie as tie
 
-returns : tie.Need-returns
+returns : tie.Need-returns-then-o
 unfolding Cf.alternated
-returns c = rw (le-leb _ _ c.if1.true) (record { words = refl; search = refl })
+returns c = rw (le-leb _ _ c.if-o.true) (record { words = refl; search = refl })
 
-returns-2 : tie.Need-returns-2
+returns-2 : tie.Need-returns-then-o-2
 returns-2 c =
-    let s = c.before.before.before.before.before.before.before.before.before.before.before.args in
-    rw (alternated-free s.work.now s.net s.s c.before.before.before.before.before.before.before.if1.false
-    c.before.before.before.before.before.before.if2.true c.before.before.before.before.before.doubled.ensures
-    c.before.before.before.with-order.ensures) c.before.before.change.ensures
+    let s = c.args in
+    rw (alternated-free s.work.now s.net s.s c.if-o.false
+    c.if-o-2.true c.doubled-d.ensures
+    c.with_order.ensures) c.change.ensures
 
-returns-3 : tie.Need-returns-3
+returns-3 : tie.Need-returns
 returns-3 c =
-    let s = c.before.before.before.before.before.before.before.before.before.before.before.before.args in
-    rw (alternated-sweep s.work.now s.net s.s c.before.before.before.before.before.before.before.before.if1.false
-    c.before.before.before.before.before.before.before.if2.false
-    c.before.before.before.before.before.before.sum.ensures c.before.before.before.before.before.sum2.ensures
-    c.before.before.before.before.sum3.ensures) c.before.before.change2.ensures
+    let s = c.args in
+    rw (alternated-sweep s.work.now s.net s.s c.if-o.false
+    c.if-o-2.false
+    c.sum.ensures c.sum-2.ensures
+    c.sum-more.ensures) c.change-2.ensures
 
-pub alternate-spec : {M : Type 1} → statement M
-alternate-spec =
+pub alternate_spec : {M : Type 1} → statement M
+alternate_spec =
     tie.close
-    (tie.spec
-    returns (λ c κs. search rules) (λ c κs. search rules) (λ c κs. search rules) (λ c. search rules) returns-2 (λ c κs. search rules)
-    (λ c κs. search rules) (λ c κs. search rules) (λ c κs. search rules) (λ c. search rules) returns-3)
+    (tie.spec returns (λ c κs. search rules) (λ c κs. search rules) (λ c κs. search rules) (λ c. search rules) returns-2 (λ c κs. search rules) (λ c κs. search rules) (λ c κs. search rules) (λ c κs. search rules) (λ c. search rules) returns-3)

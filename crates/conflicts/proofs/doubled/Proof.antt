@@ -6,5 +6,5 @@ use Rattle.conflicts.proofs.doubled.Tie as tie
 returns : tie.Need-returns
 returns c = rw c.sum.ensures
 
-pub doubled-spec : {M : Type 1} → statement M
-doubled-spec = tie.close (tie.spec (λ c κs. search rules) returns)
+pub doubled_spec : {M : Type 1} → statement M
+doubled_spec = tie.close (tie.spec (λ c κs. search rules) returns)

@@ -6,10 +6,9 @@ use Rattle.conflicts.proofs.extend.Tie as tie
 
 returns : tie.Need-returns
 returns c =
-    let at-settle-level = c.before.before.before.before.before.before in
-    let s = c.before.before.before.before.before.before.before.before.before.args in rw
-    (← extended-by s.work.now s.net s.s at-settle-level.settle-level.ensures.words
-    at-settle-level.settle-level.ensures.search) c.before.before.choose.ensures
+    let s = c.args in rw
+    (← extended-by s.work.now s.net s.s c.settle_level-u.ensures.words
+    c.settle_level-u.ensures.search) c.choose.ensures
 
-pub extend-spec : {M : Type 1} → statement M
-extend-spec = tie.close (tie.spec (λ c κs. search rules) (λ c κs. search rules) (λ c. search rules) returns)
+pub extend_spec : {M : Type 1} → statement M
+extend_spec = tie.close (tie.spec (λ c κs. search rules) (λ c κs. search rules) (λ c. search rules) returns)

@@ -3,5 +3,5 @@ use mathlib.Core.Path.{refl}
 use Rattle.conflicts.proofs.initial.Statement.{statement}
 use Rattle.conflicts.proofs.initial.Tie as tie
 
-pub initial-spec : {M : Type 1} → statement M
-initial-spec = tie.close (tie.spec (λ c. refl))
+pub initial_spec : {M : Type 1} → statement M
+initial_spec = tie.close (tie.spec (λ c. refl))

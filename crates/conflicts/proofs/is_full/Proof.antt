@@ -9,9 +9,7 @@ returns : tie.Need-returns
 unfolding Cf.is_full
 returns c = refl
 
-pub is-full-spec : {M : Type 1} → statement M
-is-full-spec =
+pub is_full_spec : {M : Type 1} → statement M
+is_full_spec =
     tie.close
-    (tie.spec
-    (λ c. search rules) (λ c. search rules) (λ c. search rules) (λ c. search rules) (λ c. search rules) (λ c. search rules)
-    (λ c. search rules) (λ c. search rules) (λ c. search rules) (λ c. search rules) (λ c. search rules) returns)
+    (tie.spec (λ c. search rules) (λ c. search rules) (λ c. search rules) (λ c. search rules) (λ c. search rules) (λ c. search rules) (λ c. search rules) (λ c. search rules) (λ c. search rules) (λ c. search rules) (λ c. search rules) returns)

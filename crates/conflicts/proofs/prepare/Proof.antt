@@ -8,13 +8,11 @@ returns : tie.Need-returns
 unfolding Cf.prepared
 returns c =
     rw (
-      ← c.before.before.before.before.before.before.before.before.before.before.before.before.reset-all.ensures,
-      ← c.before.before.before.before.before.before.before.before.set-field.ensures,
-    ) c.before.before.wipe.ensures
+      ← c.reset_all.ensures,
+      ← c.set_field.ensures,
+    ) c.wipe.ensures
 
-pub prepare-spec : {M : Type 1} → statement M
-prepare-spec =
+pub prepare_spec : {M : Type 1} → statement M
+prepare_spec =
     tie.close
-    (tie.spec
-    (λ c κs. search rules) (λ c κs. search rules) (λ c. search rules) (λ c. search rules) (λ c. search rules) (λ c κs. search rules)
-    (λ c. search rules) returns)
+    (tie.spec (λ c κs. search rules) (λ c κs. search rules) (λ c. search rules) (λ c. search rules) (λ c. search rules) (λ c κs. search rules) (λ c. search rules) returns)

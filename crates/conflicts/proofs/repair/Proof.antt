@@ -6,22 +6,18 @@ use borrow.Author.Rules.{rules}
 use Rattle.conflicts.proofs.repair.Statement.{statement}
 use Rattle.conflicts.proofs.repair.Tie as tie
 
-returns : tie.Need-returns
+returns : tie.Need-returns-then-t-eq0
 unfolding Cf.repaired
-returns c = rw (eq-eqb _ _ c.before.before.before.before.if1.true) c.before.before.conflict-at-zero.ensures
+returns c = rw (eq-eqb _ _ c.if-t-eq0.true) c.conflict_at_zero.ensures
 
-returns-2 : tie.Need-returns-2
+returns-2 : tie.Need-returns
 returns-2 c =
-    let at-relieve = c.before.before.before.before.before.before in
-    let at-learn = at-relieve.before.before.before.before in
-    let s = c.before.before.before.before.before.before.before.before.before.before.before.before.before.before.before.before.args in rw (← repaired-by s.work.now s.net s.s
-    c.before.before.before.before.before.before.before.before.before.before.before.before.if1.false
-    at-learn.learn.ensures.words at-learn.learn.ensures.search at-relieve.relieve.ensures.words
-    at-relieve.relieve.ensures.search) c.before.before.alternate.ensures
+    let s = c.args in rw (← repaired-by s.work.now s.net s.s
+    c.if-t-eq0.false
+    c.learn-u.ensures.words c.learn-u.ensures.search c.relieve-v.ensures.words
+    c.relieve-v.ensures.search) c.alternate.ensures
 
-pub repair-spec : {M : Type 1} → statement M
-repair-spec =
+pub repair_spec : {M : Type 1} → statement M
+repair_spec =
     tie.close
-    (tie.spec
-    (λ c κs. search rules) (λ c. search rules) returns (λ c κs. search rules) (λ c κs. search rules) (λ c κs. search rules)
-    (λ c. search rules) returns-2)
+    (tie.spec (λ c κs. search rules) (λ c. search rules) returns (λ c κs. search rules) (λ c κs. search rules) (λ c κs. search rules) (λ c. search rules) returns-2)

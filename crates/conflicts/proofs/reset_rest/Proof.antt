@@ -8,13 +8,12 @@ returns : tie.Need-returns
 unfolding Cf.reset_rest
 returns c =
     rw (
-      ← c.before.before.before.before.before.before.before.before.before.before.before.before.before.before.set-field.ensures,
-      ← c.before.before.before.before.before.before.before.before.before.before.set-field2.ensures,
-      ← c.before.before.before.before.before.before.set-field3.ensures,
-    ) c.before.before.set-field4.ensures
+      ← c.set_field.ensures,
+      ← c.set_field-2.ensures,
+      ← c.set_field-3.ensures,
+    ) c.set_field-4.ensures
 
-pub reset-rest-spec : {M : Type 1} → statement M
-reset-rest-spec =
+pub reset_rest_spec : {M : Type 1} → statement M
+reset_rest_spec =
     tie.close
-    (tie.spec
-    (λ c κs. search rules) (λ c κs. search rules) (λ c κs. search rules) (λ c κs. search rules) (λ c. search rules) returns)
+    (tie.spec (λ c κs. search rules) (λ c κs. search rules) (λ c κs. search rules) (λ c κs. search rules) (λ c. search rules) returns)

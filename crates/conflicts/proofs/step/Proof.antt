@@ -5,28 +5,25 @@ use borrow.Author.Rules.{rules}
 use Rattle.conflicts.proofs.step.Statement.{statement}
 use Rattle.conflicts.proofs.step.Tie as tie
 
-returns : tie.Need-returns
+returns : tie.Need-returns-then-c
 unfolding Cf.stepped
 returns c =
-    let at-follow = c.before.before.before.before.before.before.before in
     rw (
-      ← at-follow.follow.ensures.words,
-      ← at-follow.follow.ensures.search,
-      eq-eqb _ _ c.before.before.before.before.if1.true,
-    ) (c.before.before.extend.ensures)
+      ← c.follow-u.ensures.words,
+      ← c.follow-u.ensures.search,
+      eq-eqb _ _ c.if-c.true,
+    ) (c.extend.ensures)
 
-returns-2 : tie.Need-returns-2
+returns-2 : tie.Need-returns
 unfolding Cf.stepped
 returns-2 c =
-    let at-follow = c.before.before.before.before.before.before.before in
     rw (
-      ← at-follow.follow.ensures.words,
-      ← at-follow.follow.ensures.search,
-      ne_eqb _ _ c.before.before.before.before.if1.false,
-    ) (c.before.before.repair.ensures)
+      ← c.follow-u.ensures.words,
+      ← c.follow-u.ensures.search,
+      ne_eqb _ _ c.if-c.false,
+    ) (c.repair.ensures)
 
 pub step_spec : {M : Type 1} → statement M
 step_spec =
     tie.close
-    (tie.spec
-    (λ c κs. search rules) (λ c κs. search rules) (λ c. search rules) returns (λ c κs. search rules) (λ c. search rules) returns-2)
+    (tie.spec (λ c κs. search rules) (λ c κs. search rules) (λ c. search rules) returns (λ c κs. search rules) (λ c. search rules) returns-2)

@@ -12,29 +12,27 @@ use Rattle.decision.proofs.decide.Statement.{statement}
 use Rattle.decision.proofs.decide.Tie as tie
 
 -- what the first sequences have is the variant that the match found
-framed : (n : tie.After-first-hit) (r : Frame) → n.first-hit.result ≡ r
-    → let a = n.before.before.before.before.before.before.args in FrameIs (circuit_in a.m.now) a.b a.t n.before.before.first-places.result n.first-hit.new.1.1.1.1.1.1.0 r
+framed : (n : tie.After-first_hit) (r : Frame) → n.first_hit.result ≡ r
+    → let a = n.args in FrameIs (circuit_in a.m.now) a.b a.t n.first_places-first.result n.first_hit.new.work r
 framed n r e =
-    let a = n.before.before.before.before.before.before.args in
-    subst (FrameIs (circuit_in a.m.now) a.b a.t n.before.before.first-places.result n.first-hit.new.1.1.1.1.1.1.0) e n.first-hit.ensures
+    let a = n.args in
+    subst (FrameIs (circuit_in a.m.now) a.b a.t n.first_places-first.result n.first_hit.new.work) e n.first_hit.ensures
 
-first-places-requires : tie.Need-first-places-requires
+first-places-requires : tie.Need-first_places-first-requires
 first-places-requires c κs =
-    let s = c.before.before.before in
-    let f = limited s.requires.ready.held s.requires.ready.layout_of in
-    (f.inputs, omega (arith, f.starts, f.latches), s.requires.last)
+    let f = limited c.requires.ready.held c.requires.ready.layout_of in
+    (f.inputs, omega (arith, f.starts, f.latches), c.requires.last)
 
-first-hit-requires : tie.Need-first-hit-requires
+first-hit-requires : tie.Need-first_hit-requires
 first-hit-requires c κs =
-    let s = c.before.before.before.before.before in
-    let p = s.requires in
-    let e = c.before.first-places.ensures in
-    let w = bits-within (circuit_in s.args.m.now) s.args.t s.args.t (omega arith) in
+    let p = c.requires in
+    let e = c.first_places-first.ensures in
+    let w = bits-within (circuit_in c.args.m.now) c.args.t c.args.t (omega arith) in
     (p.ready, ((p.bad, p.last, omega (arith, e.0), omega (arith, e.1)), omega (arith, w, p.held)))
 
-decide-aim-requires : tie.Need-decide-aim-requires
+decide-aim-requires : tie.Need-decide_aim-requires
 decide-aim-requires c κs =
-    let p = c.before.before.before.before.before.before.before.before.before.before.before.requires in
+    let p = c.requires in
     record {
       ready = p.ready;
       bad = p.bad;
@@ -42,32 +40,26 @@ decide-aim-requires c κs =
       some = p.some;
       budget = p.budget;
       units = p.units;
-      held = omega (arith, p.held, c.before.before.before.before.before.first-hit.auto.1.1.1.1.1.1.0);
+      held = omega (arith, p.held, c.first_hit.auto.work);
     }
 
-returns : tie.Need-returns
+returns : tie.Need-returns-in-Hit
 returns c =
-    let s = c.before.before.before.before.before.before.before.before.before.before in
-    let f = framed c.before.before.before.before _ c.enum_told.given.1 in
-    let e = c.before.before.before.before.before.before.first-places in
-    (f.0, tried-hit false (circuit_in s.args.m.now) s.args.b s.args.t s.args.d e.result e.ensures.1 f.1, f.2)
+    let f = framed c.before.before.before _ c.in-Hit.is in
+    (f.0, tried-hit false (circuit_in c.args.m.now) c.args.b c.args.t c.args.d c.first_places-first.result c.first_places-first.ensures.1 f.1, f.2)
 
-returns-2 : tie.Need-returns-2
+returns-2 : tie.Need-returns-in-Clear
 returns-2 c =
-    let s = c.before.before.before.before.before.before.before.before.before.before in
-    let e = c.before.before.before.before.before.before.first-places in
-    tried-clear false (circuit_in s.args.m.now) s.args.b s.args.t s.args.d e.result e.ensures.1
-    (framed c.before.before.before.before _ c.enum-told2.given.1)
+    tried-clear false (circuit_in c.args.m.now) c.args.b c.args.t c.args.d c.first_places-first.result c.first_places-first.ensures.1
+    (framed c.before.before.before _ c.in-Clear.is)
 
-same-length-3 : tie.Need-same-length-3
-same-length-3 c = c.before.before.decide-aim.auto.1.1.1.1.1.0 ∙ c.before.before.before.before.before.before.before.before.first-hit.auto.1.1.1.1.1.1.0
+same-length-3 : tie.Need-shape_of-work-in-Spent
+same-length-3 c = c.decide_aim.auto.work ∙ c.first_hit.auto.work
 
-returns-3 : tie.Need-returns-3
-returns-3 c = c.before.before.decide-aim.ensures
+returns-3 : tie.Need-returns-in-Spent
+returns-3 c = c.decide_aim.ensures
 
-pub decide-spec : {M : Type 1} → statement M
-decide-spec =
+pub decide_spec : {M : Type 1} → statement M
+decide_spec =
     tie.close
-    (tie.spec
-    first-places-requires first-hit-requires (λ c. search rules) (λ c. search rules) (λ c. search rules) decide-aim-requires
-    (λ c. search rules) returns (λ c. search rules) returns-2 same-length-3 returns-3)
+    (tie.spec first-places-requires first-hit-requires (λ c. search rules) (λ c. search rules) (λ c. search rules) decide-aim-requires (λ c. search rules) returns (λ c. search rules) returns-2 same-length-3 returns-3)

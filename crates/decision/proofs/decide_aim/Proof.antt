@@ -9,53 +9,44 @@ use borrow.Author.Rules.{rules}
 use Rattle.decision.proofs.decide_aim.Statement.{statement}
 use Rattle.decision.proofs.decide_aim.Tie as tie
 
-size-requires : tie.Need-size-requires
+size-requires : tie.Need-size-words-requires
 size-requires c κs =
-    let s = c.before.before.before in
-    (limited s.requires.ready.held s.requires.ready.layout_of, s.requires.last)
+    (limited c.requires.ready.held c.requires.ready.layout_of, c.requires.last)
 
-mul_words : tie.Need-overflow-mul-words
+mul_words : tie.Need-overflow_mul-words
 mul_words c =
-    let s = c.before.before.before.before in
-    let r = s.requires.ready in
-    omega (arith, c.size.ensures ∙ size_is (counts_of r.held r.layout_of) s.args.aim.t, s.requires.units)
+    let r = c.requires.ready in
+    omega (arith, c.size-words.ensures ∙ size_is (counts_of r.held r.layout_of) c.args.aim.t, c.requires.units)
 
-slice-relend-prefix-search-graph : tie.Need-slice-relend-prefix-search-graph
+slice-relend-prefix-search-graph : tie.Need-slice_bounds-search_graph-end
 slice-relend-prefix-search-graph c =
-    let s = c.before.before.before.before in
-    let r = s.requires.ready in
-    omega (arith, c.size.ensures ∙ size_is (counts_of r.held r.layout_of) s.args.aim.t, s.requires.held)
+    let r = c.requires.ready in
+    omega (arith, c.size-words.ensures ∙ size_is (counts_of r.held r.layout_of) c.args.aim.t, c.requires.held)
 
-slice-aggregate-search-graph : tie.Need-slice-aggregate-search-graph
+slice-aggregate-search-graph : tie.Need-slice_bounds-search_graph-end-2
 slice-aggregate-search-graph c =
-    let s = c.before.before.before.before.before in
-    let r = s.requires.ready in
-    let z = c.before.size.ensures ∙ size_is (counts_of r.held r.layout_of) s.args.aim.t in
-    sym (part-long (16 * c.before.size.result) s.args.work.now (omega (arith, z, s.requires.held)))
+    let r = c.requires.ready in
+    let z = c.size-words.ensures ∙ size_is (counts_of r.held r.layout_of) c.args.aim.t in
+    sym (part-long (16 * c.size-words.result) c.args.work.now (omega (arith, z, c.requires.held)))
 
-search-graph-requires : tie.Need-search-graph-requires
+search-graph-requires : tie.Need-search_graph-requires
 search-graph-requires c κs =
-    let s = c.before.before.before.before.before in
-    let p = s.requires in
-    let z = c.before.size.ensures ∙ size_is (counts_of p.ready.held p.ready.layout_of) s.args.aim.t in
-    let l = part-long (16 * c.before.size.result) s.args.work.now (omega (arith, z, p.held)) in
+    let p = c.requires in
+    let z = c.size-words.ensures ∙ size_is (counts_of p.ready.held p.ready.layout_of) c.args.aim.t in
+    let l = part-long (16 * c.size-words.result) c.args.work.now (omega (arith, z, p.held)) in
     (record { ready = p.ready; bad = p.bad; last = p.last; some = p.some; budget = p.budget; units = p.units; held = omega (arith, l, z) }, omega (arith, l, z))
 
 returns : tie.Need-returns
 returns c =
-    let s = c.before.before.before.before.before.before.before.before in
-    let a = s.args in
-    let p = s.requires in
-    let g = c.before.before.search-graph in
-    let z = c.before.before.before.before.size.ensures ∙ size_is (counts_of p.ready.held p.ready.layout_of) a.aim.t in
-    let l = part-long (16 * c.before.before.before.before.size.result) a.work.now (omega (arith, z, p.held)) in
+    let a = c.args in
+    let p = c.requires in
+    let z = c.size-words.ensures ∙ size_is (counts_of p.ready.held p.ready.layout_of) a.aim.t in
+    let l = part-long (16 * c.size-words.result) a.work.now (omega (arith, z, p.held)) in
     let w = bits-within (circuit_in a.m.now) a.aim.t a.aim.t (omega arith) in
-    part-decided a.aim.alone (circuit_in a.m.now) a.aim.b a.aim.t a.d g.new.1.1.1.1.1.0 _ g.result
-    (omega (arith, w, g.auto.1.1.1.1.1.0, l, z)) g.ensures
+    part-decided a.aim.alone (circuit_in a.m.now) a.aim.b a.aim.t a.d c.search_graph.new.work _ c.search_graph.result
+    (omega (arith, w, c.search_graph.auto.work, l, z)) c.search_graph.ensures
 
-pub decide-aim-spec : {M : Type 1} → statement M
-decide-aim-spec =
+pub decide_aim_spec : {M : Type 1} → statement M
+decide_aim_spec =
     tie.close
-    (tie.spec
-    size-requires mul_words slice-relend-prefix-search-graph slice-aggregate-search-graph search-graph-requires (λ c. search rules)
-    returns)
+    (tie.spec size-requires mul_words slice-relend-prefix-search-graph slice-aggregate-search-graph search-graph-requires (λ c. search rules) returns)

@@ -12,6 +12,6 @@ returns : tie.Need-returns
 unfolding R.effort
 returns c = omega (arith, c.share.ensures)
 
-pub effort-spec : {M : Type 1} → statement M
-effort-spec =
+pub effort_spec : {M : Type 1} → statement M
+effort_spec =
     tie.close (tie.spec (λ c. search rules) (λ c. search rules) (λ c κs. search rules) (λ c. search rules) (λ c. search rules) returns)

@@ -11,19 +11,19 @@ use Rattle.decision.proofs.first_places.Tie as tie
 use Rattle.decision.proofs.first_places.Reads as reads
 use Rattle.decision.proofs.first_places.Lts as lts
 
-mul-if1 : tie.Need-overflow-mul-if1
-mul-if1 c = omega (arith, product_small c.before.args.t c.before.args.layout.i (omega arith) (omega arith), mul_comm c.before.args.layout.i (c.before.args.t + 1))
+mul-if1 : tie.Need-overflow_mul-layout
+mul-if1 c = omega (arith, product_small c.args.t c.args.layout.i (omega arith) (omega arith), mul_comm c.args.layout.i (c.args.t + 1))
 
-add-if1-2 : tie.Need-overflow-add-if1-2
-add-if1-2 c = omega (arith, product_small c.before.before.args.t c.before.before.args.layout.i (omega arith) (omega arith), mul_comm c.before.before.args.layout.i (c.before.before.args.t + 1))
+add-if1-2 : tie.Need-overflow_add-layout
+add-if1-2 c = omega (arith, product_small c.args.t c.args.layout.i (omega arith) (omega arith), mul_comm c.args.layout.i (c.args.t + 1))
 
-returns : tie.Need-returns
+returns : tie.Need-returns-then-layout-t-le12
 unfolding R.first_places
-returns c = (omega arith, omega arith, rw (le-leb _ 12 c.if1.true))
+returns c = (omega arith, omega arith, rw (le-leb _ 12 c.if-layout-t-le12.true))
 
-returns-2 : tie.Need-returns-2
+returns-2 : tie.Need-returns-else-layout-t-le12
 unfolding R.first_places
-returns-2 c = (omega arith, omega arith, rw (lt-leb _ 12 c.if1.false))
+returns-2 c = (omega arith, omega arith, rw (lt-leb _ 12 c.if-layout-t-le12.false))
 
-pub first-places-spec : {M : Type 1} → statement M
-first-places-spec = tie.close (tie.spec (λ c. search rules) mul-if1 add-if1-2 returns returns-2)
+pub first_places_spec : {M : Type 1} → statement M
+first_places_spec = tie.close (tie.spec (λ c. search rules) mul-if1 add-if1-2 returns returns-2)

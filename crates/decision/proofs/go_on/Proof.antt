@@ -26,58 +26,47 @@ use Rattle.resume.proofs.spread_bits.Reads as spread-bits-reads
 
 -- what the scan says is the variant that the match found
 told : (n : tie.After-scan) (r : Frame) → n.scan.result ≡ r
-    → let a = n.before.before.before.before.before.before.before.before.before.before.before.before.before.before.args in Scanned a.g.free (pairs_of a.work.now a.g) (edge_word a.root) (max a.d 16384) n.scan.new.0 r
+    → let a = n.args in Scanned a.g.free (pairs_of a.work.now a.g) (edge_word a.root) (max a.d 16384) n.scan.new.work r
 told n r e =
-    let a = n.before.before.before.before.before.before.before.before.before.before.before.before.before.before.args in
-    subst (Scanned a.g.free (pairs_of a.work.now a.g) (edge_word a.root) (max a.d 16384) n.scan.new.0) e n.scan.ensures
+    let a = n.args in
+    subst (Scanned a.g.free (pairs_of a.work.now a.g) (edge_word a.root) (max a.d 16384) n.scan.new.work) e n.scan.ensures
 
-returns : tie.Need-returns
+returns : tie.Need-returns-then-y-from
 returns c = λ x left.
-    let s = c.before.before.before.before.before.before.before.before.before.before.before.before in
-    let a = s.args in
+    let a = c.args in
     let gs = pairs_of a.work.now a.g in
     let root = edge_word a.root in
-    let p = place_is s.requires.net x a.bits.now left.bits in
+    let p = place_is c.requires.net x a.bits.now left.bits in
     let h : max a.d 16384 ≤ before (in_cone a.g.free gs root) (free_bit a.g.free x) a.g.free =
-    omega (arith, p, c.before.before.before.before.before.before.place_of.ensures, c.before.before.before.before.before.before.before.before.before.places.ensures, c.before.before.before.before.before.if1.true) in
-    let k = c.before.before.copy-bits in
-    stop-floor a.g.free gs root (max a.d 16384) x h left k.new.1.1.0
-    (bits-copied a.g.free x a.bits.now k.new.1.1.0 left.bits k.ensures.new)
+    omega (arith, p, c.place_of-from.ensures, c.places-y.ensures, c.if-y-from.true) in
+    stop-floor a.g.free gs root (max a.d 16384) x h left c.copy_bits.new.to
+    (bits-copied a.g.free x a.bits.now c.copy_bits.new.to left.bits c.copy_bits.ensures.new)
 
 scan-requires : tie.Need-scan-requires
 scan-requires c κs =
-    let s = c.before.before.before.before.before.before.before.before.before.before.before.before.before in
-    scannable-from s.requires.net s.args.d s.requires.from s.args.bits.now c.before.before.before.before.before.before.before.place_of.result s.requires.budget s.requires.left c.before.before.before.before.before.before.before.place_of.ensures
+    scannable-from c.requires.net c.args.d c.requires.from c.args.bits.now c.place_of-from.result c.requires.budget c.requires.left c.place_of-from.ensures
 
-returns-2 : tie.Need-returns-2
-returns-2 c = λ x left. told c.before.before.before.before _ c.enum_told.given.1
+returns-2 : tie.Need-returns-in-Hit
+returns-2 c = λ x left. told c.before.before.before _ c.in-Hit.is
 
-returns-3 : tie.Need-returns-3
-returns-3 c = λ x left. told c.before.before.before.before _ c.enum-told2.given.1
+returns-3 : tie.Need-returns-in-Clear
+returns-3 c = λ x left. told c.before.before.before _ c.in-Clear.is
 
-returns-4 : tie.Need-returns-4
+returns-4 : tie.Need-returns-in-Spent
 returns-4 c = λ x left.
-    let s = c.before.before.before.before.before.before.before.before.before.before.before.before.before.before.before.before.before.before.before.before.before.before.before in
-    let a = s.args in
+    let a = c.args in
     let n = a.g.free in
     let gs = pairs_of a.work.now a.g in
     let root = edge_word a.root in
-    let y = c.before.before.before.before.before.before.before.before.before.before.before.before.before.before.before.before.before.before.before.before.places in
-    let t = told c.before.before.before.before.before.before.before.before.before _ c.before.before.before.before.before.enum-told3.given.1 in
-    let p = place_is s.requires.net x a.bits.now left.bits in
+    let t = told c.before.before.before.before.before.before.before _ c.in-Spent.is in
+    let p = place_is c.requires.net x a.bits.now left.bits in
     let h : before (in_cone n gs root) (free_bit n x) n < max a.d 16384 =
-    omega (arith, p, c.before.before.before.before.before.before.before.before.before.before.before.before.before.before.before.before.before.place_of.ensures, y.ensures, c.before.before.before.before.before.before.before.before.before.before.before.before.before.before.before.before.if1.false, s.requires.budget) in
-    let b = c.before.before.before.before.before.before.before.before.before.before.before.before.before.spread-bits in
-    let k = c.before.before.copy-bits2 in
-    let f = subst (λ (z : ℕ). FreeBits n (spread (support n gs root) n z) b.new.1.1.1.0) y.ensures (spread-is s.requires.net y.result b.new.1.1.1.0 b.ensures) in
-    stop-tried n gs root (max a.d 16384) x h t.0 t.1 k.new.1.1.0
-    (bits-copied n (spread (support n gs root) n (max a.d 16384)) b.new.1.1.1.0 k.new.1.1.0 f k.ensures.new)
+    omega (arith, p, c.place_of-from.ensures, c.places-y.ensures, c.if-y-from.false, c.requires.budget) in
+    let f = subst (λ (z : ℕ). FreeBits n (spread (support n gs root) n z) c.spread_bits.new.bits) c.places-y.ensures (spread-is c.requires.net c.places-y.result c.spread_bits.new.bits c.spread_bits.ensures) in
+    stop-tried n gs root (max a.d 16384) x h t.0 t.1 c.copy_bits-in-Spent.new.to
+    (bits-copied n (spread (support n gs root) n (max a.d 16384)) c.spread_bits.new.bits c.copy_bits-in-Spent.new.to f c.copy_bits-in-Spent.ensures.new)
 
-pub go-on-spec : {M : Type 1} → statement M
-go-on-spec =
+pub go_on_spec : {M : Type 1} → statement M
+go_on_spec =
     tie.close
-    (tie.spec
-    (λ c κs. search rules) (λ c κs. search rules) (λ c κs. search rules) (λ c. search rules) (λ c. search rules) returns
-    (λ c κs. search rules) scan-requires (λ c. search rules) (λ c. search rules) (λ c. search rules) (λ c κs. search rules)
-    (λ c. search rules) (λ c. search rules) returns-2 (λ c. search rules) (λ c. search rules) returns-3 (λ c. search rules)
-    (λ c. search rules) returns-4)
+    (tie.spec (λ c κs. search rules) (λ c κs. search rules) (λ c κs. search rules) (λ c. search rules) (λ c. search rules) returns (λ c κs. search rules) scan-requires (λ c. search rules) (λ c. search rules) (λ c. search rules) (λ c κs. search rules) (λ c. search rules) (λ c. search rules) returns-2 (λ c. search rules) (λ c. search rules) returns-3 (λ c. search rules) (λ c. search rules) returns-4)

@@ -6,12 +6,12 @@ use Rattle.decision.proofs.mark_of.Tie as tie
 use Rattle.decision.proofs.mark_of.Reads as reads
 use Rattle.decision.proofs.mark_of.Lts as lts
 
-returns : tie.Need-returns
-returns c = mark-none _ c.if1.true
+returns : tie.Need-returns-then-work-k-eq0
+returns c = mark-none _ c.if-work-k-eq0.true
 
-returns-2 : tie.Need-returns-2
-returns-2 c = mark-one _ c.if1.false
+returns-2 : tie.Need-returns-else-work-k-eq0
+returns-2 c = mark-one _ c.if-work-k-eq0.false
 
-pub mark-of-spec : {M : Type 1} → statement M
-mark-of-spec =
+pub mark_of_spec : {M : Type 1} → statement M
+mark_of_spec =
     tie.close (tie.spec (λ c. search rules) (λ c. search rules) (λ c. search rules) (λ c. search rules) returns returns-2)

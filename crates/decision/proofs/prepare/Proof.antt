@@ -3,17 +3,16 @@ use borrow.Author.Rules.{rules}
 use Rattle.decision.proofs.prepare.Statement.{statement}
 use Rattle.decision.proofs.prepare.Tie as tie
 
-prepare-aim-requires : tie.Need-prepare-aim-requires
-prepare-aim-requires c κs = c.before.before.before.before.requires
+prepare-aim-requires : tie.Need-prepare_aim-requires
+prepare-aim-requires c κs = c.requires
 
-same_length : tie.Need-same-length
-same_length c = c.before.before.prepare-aim.auto.1.1.1.1.0
+same_length : tie.Need-shape_of-work
+same_length c = c.prepare_aim.auto.work
 
 returns : tie.Need-returns
-returns c = c.before.before.prepare-aim.ensures
+returns c = c.prepare_aim.ensures
 
-pub prepare-spec : {M : Type 1} → statement M
-prepare-spec =
+pub prepare_spec : {M : Type 1} → statement M
+prepare_spec =
     tie.close
-    (tie.spec
-    prepare-aim-requires same_length returns)
+    (tie.spec prepare-aim-requires same_length returns)

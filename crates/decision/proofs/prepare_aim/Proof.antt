@@ -11,36 +11,32 @@ use Rattle.decision.proofs.prepare_aim.Lts as lts
 use Rattle.cone.proofs.mark.Reads as mark-reads
 use Rattle.unroll.proofs.unroll_aim.Reads as unroll-aim-reads
 
-size-requires : tie.Need-size-requires
+size-requires : tie.Need-size-room-requires
 size-requires c κs =
-    let s = c.before.before.before in
-    (limited s.requires.ready.held s.requires.ready.layout_of, s.requires.last)
+    (limited c.requires.ready.held c.requires.ready.layout_of, c.requires.last)
 
-unroll-aim-requires : tie.Need-unroll-aim-requires
+unroll-aim-requires : tie.Need-unroll_aim-made-requires
 unroll-aim-requires c κs =
-    let s = c.before.before.before.before.before in
-    let r = s.requires.ready in
-    let z = c.before.size.ensures ∙ size_is (counts_of r.held r.layout_of) s.args.aim.t in
+    let r = c.requires.ready in
+    let z = c.size-room.ensures ∙ size_is (counts_of r.held r.layout_of) c.args.aim.t in
     record {
       ready = r;
-      bad = s.requires.bad;
-      last = s.requires.last;
+      bad = c.requires.bad;
+      last = c.requires.last;
       room-is = z;
-      most = omega (arith, z, s.requires.units);
-      held = omega (arith, z, s.requires.held);
+      most = omega (arith, z, c.requires.units);
+      held = omega (arith, z, c.requires.held);
     }
 
 mark-requires : tie.Need-mark-requires
-mark-requires c κs = markable c.before.before.before.before.before.unroll-aim.ensures
+mark-requires c κs = markable c.unroll_aim-made.ensures
 
 returns : tie.Need-returns
 returns c =
-    let s = c.before.before.before.before.before.before.before.before.before.before.before.before.before.before in
-    let r = s.requires.ready in
-    let z = c.before.before.before.before.before.before.before.before.before.before.size.ensures ∙ size_is (counts_of r.held r.layout_of) s.args.aim.t in
-    let k = c.before.before.mark in
-    prepared c.before.before.before.before.before.before.before.before.unroll-aim.ensures k.new.0 k.ensures k.auto.0 z
+    let r = c.requires.ready in
+    let z = c.size-room.ensures ∙ size_is (counts_of r.held r.layout_of) c.args.aim.t in
+    prepared c.unroll_aim-made.ensures c.mark.new.work c.mark.ensures c.mark.auto.work z
 
-pub prepare-aim-spec : {M : Type 1} → statement M
-prepare-aim-spec =
+pub prepare_aim_spec : {M : Type 1} → statement M
+prepare_aim_spec =
     tie.close (tie.spec size-requires unroll-aim-requires mark-requires (λ c. search rules) returns)

@@ -11,14 +11,11 @@ use Rattle.decision.proofs.scan.Reads as scan-reads
 
 scan-requires : tie.Need-scan-requires
 scan-requires c κs =
-    let s = c.before.before.before.before.before.before.before.before.before.before in
-    scannable-all c.before.before.before.before.before.prepare-aim.ensures.net s.args.d s.requires.0.budget
+    scannable-all c.prepare_aim-made.ensures.net c.args.d c.requires.0.budget
 
 returns : tie.Need-returns
 returns c =
-    let s = c.before.before.before.before.before.before.before.before.before.before.before.before.before in
-    let u = c.before.before.scan in
-    scanned-all c.before.before.before.before.before.before.before.before.prepare-aim.ensures s.args.d u.new.0 u.result s.requires.1.0 s.requires.1.1 u.ensures
+    scanned-all c.prepare_aim-made.ensures c.args.d c.scan.new.work c.scan.result c.requires.1.0 c.requires.1.1 c.scan.ensures
 
-pub search-all-spec : {M : Type 1} → statement M
-search-all-spec = tie.close (tie.spec (λ c κs. search rules) scan-requires (λ c. search rules) returns)
+pub search_all_spec : {M : Type 1} → statement M
+search_all_spec = tie.close (tie.spec (λ c κs. search rules) scan-requires (λ c. search rules) returns)

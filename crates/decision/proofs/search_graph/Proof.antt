@@ -32,89 +32,71 @@ true_of : {b : Bool} → b ≡ true → T b
 true_of e = subst T (sym e) tt
 
 -- what the conflict search says is the variant that the match found
-told : (n : tie.After-first-hit) (r : Verdict) → n.first-hit.result ≡ r
-    → let p = n.before.before.before.before.before.before.before.before.before.before.before.prepare-aim in
-    SolvedIs p.result.graph.free (pairs_of p.new.1.1.1.1.0 p.result.graph) (edge_word p.result.edge) p.new.1.1.1.1.0 n.before.before.effort.result n.first-hit.new.0 r
+told : (n : tie.After-first_hit) (r : Verdict) → n.first_hit.result ≡ r
+    → SolvedIs n.prepare_aim-made.result.graph.free (pairs_of n.prepare_aim-made.new.work n.prepare_aim-made.result.graph) (edge_word n.prepare_aim-made.result.edge) n.prepare_aim-made.new.work n.effort-e.result n.first_hit.new.work r
 told n r e =
-    let p = n.before.before.before.before.before.before.before.before.before.before.before.prepare-aim in
-    subst (SolvedIs p.result.graph.free (pairs_of p.new.1.1.1.1.0 p.result.graph) (edge_word p.result.edge) p.new.1.1.1.1.0 n.before.before.effort.result n.first-hit.new.0) e n.first-hit.ensures
+    subst (SolvedIs n.prepare_aim-made.result.graph.free (pairs_of n.prepare_aim-made.new.work n.prepare_aim-made.result.graph) (edge_word n.prepare_aim-made.result.edge) n.prepare_aim-made.new.work n.effort-e.result n.first_hit.new.work) e n.first_hit.ensures
 
 -- the effort is that of the frame
-enough : (n : tie.After-first-hit) → let s = n.before.before.before.before.before.before.before.before.before.before.before.before.before.before.before.before.args in n.before.before.effort.result ≡ effort (size (circuit_in s.m.now) s.aim.t) s.d
+enough : (n : tie.After-first_hit) → let s = n.args in n.effort-e.result ≡ effort (size (circuit_in s.m.now) s.aim.t) s.d
 enough n =
-    let s = n.before.before.before.before.before.before.before.before.before.before.before.before.before.before.before.before.args in
-    n.before.before.effort.ensures ∙ ap (λ (x : ℕ). effort x s.d) n.before.before.before.before.before.before.before.before.before.before.before.prepare-aim.ensures.room
+    let s = n.args in
+    n.effort-e.ensures ∙ ap (λ (x : ℕ). effort x s.d) n.prepare_aim-made.ensures.room
 
-is-small-requires : tie.Need-is-small-requires
-is-small-requires c κs = omega (arith, c.before.before.before.before.before.before.prepare-aim.ensures.net.sized.nodes, c.before.before.before.before.before.before.prepare-aim.ensures.net.sized.room)
+is-small-requires : tie.Need-is_small-requires
+is-small-requires c κs = omega (arith, c.prepare_aim-made.ensures.net.sized.nodes, c.prepare_aim-made.ensures.net.sized.room)
 
 scan-requires : tie.Need-scan-requires
 scan-requires c κs =
-    let s = c.before.before.before.before.before.before.before.before.before.before.before.before.before.before in
-    scannable-all c.before.before.before.before.before.before.before.before.before.prepare-aim.ensures.net s.args.d s.requires.0.budget
+    scannable-all c.prepare_aim-made.ensures.net c.args.d c.requires.0.budget
 
-returns : tie.Need-returns
+returns : tie.Need-returns-then-is_small
 returns c =
-    let s = c.before.before.before.before.before.before.before.before.before.before.before.before.before.before.before.before.before in
-    let p = c.before.before.before.before.before.before.before.before.before.before.before.before.prepare-aim in
-    let u = c.before.before.scan in
-    let k = c.before.before.before.before.before.before.support-size.ensures (edge_word p.result.edge) p.ensures.net.marks in
-    let few = c.before.before.before.before.before.is-small.ensures (true_of c.before.before.before.before.if1.true) in
-    scanned p.ensures s.args.d u.new.0 u.result (subst (λ (x : ℕ). 2 ^ x ≤ max s.args.d 16384) k few) u.ensures
+    let k = c.support_size-s.ensures (edge_word c.prepare_aim-made.result.edge) c.prepare_aim-made.ensures.net.marks in
+    let few = c.is_small.ensures (true_of c.if-is_small.true) in
+    scanned c.prepare_aim-made.ensures c.args.d c.scan.new.work c.scan.result (subst (λ (x : ℕ). 2 ^ x ≤ max c.args.d 16384) k few) c.scan.ensures
 
-first-hit-requires : tie.Need-first-hit-requires
-first-hit-requires c κs = marked c.before.before.before.before.before.before.before.before.before.before.prepare-aim.ensures c.before.before.before.before.before.before.before.before.before.before.before.before.before.before.before.args.d (c.before.before.before.before.before.before.before.before.before.before.prepare-aim.auto.1.1.1.1.0 ∙ c.before.before.before.before.before.before.before.before.before.before.before.before.before.before.before.requires.1)
+first-hit-requires : tie.Need-first_hit-requires
+first-hit-requires c κs = marked c.prepare_aim-made.ensures c.args.d (c.prepare_aim-made.auto.work ∙ c.requires.1)
 
 -- what the conflict search leaves undecided, with its floor
-left_out : (n : tie.After-first-hit) → n.first-hit.result ≡ Out
-    → let s = n.before.before.before.before.before.before.before.before.before.before.before.before.before.before.before.before in let C = circuit_in s.args.m.now in (searched_by s.args.aim.alone C s.args.aim.b s.args.aim.t s.args.d ≡ Out) × Floored s.args.aim.alone C s.args.aim.b s.args.aim.t s.args.d n.first-hit.new.0
+left_out : (n : tie.After-first_hit) → n.first_hit.result ≡ Out
+    → let C = circuit_in n.args.m.now in (searched_by n.args.aim.alone C n.args.aim.b n.args.aim.t n.args.d ≡ Out) × Floored n.args.aim.alone C n.args.aim.b n.args.aim.t n.args.d n.first_hit.new.work
 left_out n e =
-    let s = n.before.before.before.before.before.before.before.before.before.before.before.before.before.before.before.before in
-    let p = n.before.before.before.before.before.before.before.before.before.before.before.prepare-aim in
-    solved-out p.ensures s.args.d (p.auto.1.1.1.1.0 ∙ s.requires.1) n.before.before.effort.result (enough n) n.first-hit.new.0 (told n Out e)
+    solved-out n.prepare_aim-made.ensures n.args.d (n.prepare_aim-made.auto.work ∙ n.requires.1) n.effort-e.result (enough n) n.first_hit.new.work (told n Out e)
 
 -- the words are those of the frame
-fits : (n : tie.After-first-hit) → let s = n.before.before.before.before.before.before.before.before.before.before.before.before.before.before.before.before in FrameFits n.first-hit.new.0 s.args.m.now s.args.layout s.args.order.now s.args.aim.b s.args.aim.t s.args.d
+fits : (n : tie.After-first_hit) → FrameFits n.first_hit.new.work n.args.m.now n.args.layout n.args.order.now n.args.aim.b n.args.aim.t n.args.d
 fits n =
-    let s = n.before.before.before.before.before.before.before.before.before.before.before.before.before.before.before.before in
-    let f = s.requires.0 in
-    let e = n.first-hit.auto.0 ∙ n.before.before.before.before.before.before.before.before.before.before.before.prepare-aim.auto.1.1.1.1.0 in
+    let f = n.requires.0 in
+    let e = n.first_hit.auto.work ∙ n.prepare_aim-made.auto.work in
     record { ready = f.ready; bad = f.bad; last = f.last; some = f.some; budget = f.budget; units = f.units; held = omega (arith, f.held, e) }
 
-search-support-requires : tie.Need-search-support-requires
+search-support-requires : tie.Need-search_support-requires
 search-support-requires c κs =
-    let n = c.before.before.before.before.before.before.before in
-    let o = left_out n c.before.before.before.enum-told3.given.1 in
-    (fits n, (o.0, (o.1, omega (arith, n.before.before.before.before.before.before.before.before.before.before.before.prepare-aim.ensures.free, c.before.if2.true))))
+    let o = left_out c.before.before.before.before.before.before c.in-Out.is in
+    (fits c.before.before.before.before.before.before, (o.0, (o.1, omega (arith, c.prepare_aim-made.ensures.free, c.if-graph-le-HELD.true))))
 
-returns-2 : tie.Need-returns-2
-returns-2 c = c.before.before.search-support.ensures
+returns-2 : tie.Need-returns-then-graph-le-HELD
+returns-2 c = c.search_support.ensures
 
-search-all-requires : tie.Need-search-all-requires
+search-all-requires : tie.Need-search_all-requires
 search-all-requires c κs =
-    let n = c.before.before.before.before.before.before.before in
-    let o = left_out n c.before.before.before.enum-told3.given.1 in
-    (fits n, (o.0, omega (arith, n.before.before.before.before.before.before.before.before.before.before.before.prepare-aim.ensures.free, c.before.if2.false)))
+    let o = left_out c.before.before.before.before.before.before c.in-Out.is in
+    (fits c.before.before.before.before.before.before, (o.0, omega (arith, c.prepare_aim-made.ensures.free, c.if-graph-le-HELD.false)))
 
-returns-3 : tie.Need-returns-3
+returns-3 : tie.Need-returns-in-Found
 returns-3 c =
-    let n = c.before.before.before.before in
-    let s = c.before.before.before.before.before.before.before.before.before.before.before.before.before.before.before.before.before.before.before.before in
-    solved-hit n.before.before.before.before.before.before.before.before.before.before.before.prepare-aim.ensures s.args.d (n.before.before.before.before.before.before.before.before.before.before.before.prepare-aim.auto.1.1.1.1.0 ∙ s.requires.1) n.before.before.effort.result (enough n) n.first-hit.new.0 (told n _ c.enum_told.given.1)
+    solved-hit c.prepare_aim-made.ensures c.args.d (c.prepare_aim-made.auto.work ∙ c.requires.1) c.effort-e.result (enough c.before.before.before) c.first_hit.new.work (told c.before.before.before _ c.in-Found.is)
 
-returns-4 : tie.Need-returns-4
+returns-4 : tie.Need-returns-in-Clear
 returns-4 c =
-    let n = c.before.before.before.before in
-    let s = c.before.before.before.before.before.before.before.before.before.before.before.before.before.before.before.before.before.before.before.before in
-    solved-clear n.before.before.before.before.before.before.before.before.before.before.before.prepare-aim.ensures s.args.d (n.before.before.before.before.before.before.before.before.before.before.before.prepare-aim.auto.1.1.1.1.0 ∙ s.requires.1) n.before.before.effort.result (enough n) n.first-hit.new.0 (told n _ c.enum-told2.given.1)
+    solved-clear c.prepare_aim-made.ensures c.args.d (c.prepare_aim-made.auto.work ∙ c.requires.1) c.effort-e.result (enough c.before.before.before) c.first_hit.new.work (told c.before.before.before _ c.in-Clear.is)
 
-returns-5 : tie.Need-returns-5
-returns-5 c = c.before.before.search-all.ensures
+returns-5 : tie.Need-returns-else-graph-le-HELD
+returns-5 c = c.search_all.ensures
 
-pub search-graph-spec : {M : Type 1} → statement M
-search-graph-spec =
+pub search_graph_spec : {M : Type 1} → statement M
+search_graph_spec =
     tie.close
-    (tie.spec
-    (λ c κs. search rules) (λ c κs. search rules) is-small-requires scan-requires (λ c. search rules) returns (λ c κs. search rules)
-    first-hit-requires (λ c. search rules) (λ c. search rules) (λ c. search rules) search-support-requires (λ c. search rules)
-    returns-2 search-all-requires (λ c. search rules) returns-3 (λ c. search rules) returns-4 (λ c. search rules) returns-5)
+    (tie.spec (λ c κs. search rules) (λ c κs. search rules) is-small-requires scan-requires (λ c. search rules) returns (λ c κs. search rules) first-hit-requires (λ c. search rules) (λ c. search rules) (λ c. search rules) search-support-requires (λ c. search rules) returns-2 search-all-requires (λ c. search rules) returns-3 (λ c. search rules) returns-4 (λ c. search rules) returns-5)

@@ -21,70 +21,60 @@ use Rattle.limits.proofs.size.Reads as size-reads
 use Rattle.resume.proofs.copy_bits.Reads as copy-bits-reads
 
 -- how many words are copied
-copied : (n : tie.After-copy-bits) → n.before.before.before.held.result ≡ min (size (circuit_in n.before.before.before.before.before.before.before.before.args.m.now) n.before.before.before.before.before.before.before.before.args.aim.t) 1024
+copied : (n : tie.After-copy_bits) → n.held-n.result ≡ min (size (circuit_in n.args.m.now) n.args.aim.t) 1024
 copied n =
-    let s = n.before.before.before.before.before.before.before.before in
-    let r = s.requires.0.ready in
-    n.before.before.before.held.ensures ∙ ap (λ (k : ℕ). min k 1024) (n.before.before.before.before.size.ensures ∙ size_is (counts_of r.held r.layout_of) s.args.aim.t)
+    let r = n.requires.0.ready in
+    n.held-n.ensures ∙ ap (λ (k : ℕ). min k 1024) (n.size.ensures ∙ size_is (counts_of r.held r.layout_of) n.args.aim.t)
 
 -- the floor's free bits, in the local words
-floor-in : (n : tie.After-copy-bits) → let a = n.before.before.before.before.before.before.before.before.args in Floored a.aim.alone (circuit_in a.m.now) a.aim.b a.aim.t a.d n.copy-bits.new.1.1.0
+floor-in : (n : tie.After-copy_bits) → let a = n.args in Floored a.aim.alone (circuit_in a.m.now) a.aim.b a.aim.t a.d n.copy_bits.new.to
 floor-in n =
-    let s = n.before.before.before.before.before.before.before.before in
-    let a = s.args in
+    let a = n.args in
     let C = circuit_in a.m.now in
-    floor-copied a.aim.alone C a.aim.b a.aim.t a.d n.before.before.before.held.result a.work.now n.copy-bits.new.1.1.0
-    (omega (arith, copied n, bits-within C a.aim.t a.aim.t (omega arith), s.requires.1.1.1)) n.copy-bits.ensures.new s.requires.1.1.0
+    floor-copied a.aim.alone C a.aim.b a.aim.t a.d n.held-n.result a.work.now n.copy_bits.new.to
+    (omega (arith, copied n, bits-within C a.aim.t a.aim.t (omega arith), n.requires.1.1.1)) n.copy_bits.ensures.new n.requires.1.1.0
 
 size-requires : tie.Need-size-requires
 size-requires c κs =
-    let p = c.before.before.before.requires.0 in
+    let p = c.requires.0 in
     (limited p.ready.held p.ready.layout_of, p.last)
 
-held-requires : tie.Need-held-requires
+held-requires : tie.Need-held-n-requires
 held-requires c κs = tt
 
-slice-aggregate-copy-bits : tie.Need-slice-aggregate-copy-bits
+slice-aggregate-copy-bits : tie.Need-slice_bounds-copy_bits-end
 slice-aggregate-copy-bits c = sym (length-replicate {A = ℕ} 1024 0)
 
-copy-bits-requires : tie.Need-copy-bits-requires
+copy-bits-requires : tie.Need-copy_bits-requires
 copy-bits-requires c κs =
-    let s = c.before.before.before.before.before.before.before in
-    let p = s.requires.0 in
-    let z = c.before.before.before.size.ensures ∙ size_is (counts_of p.ready.held p.ready.layout_of) s.args.aim.t in
-    let h = c.before.before.held.ensures in
+    let p = c.requires.0 in
+    let z = c.size.ensures ∙ size_is (counts_of p.ready.held p.ready.layout_of) c.args.aim.t in
+    let h = c.held-n.ensures in
     (omega (arith, z, h, p.held), omega (arith, h, length-replicate {A = ℕ} 1024 0))
 
-slice-aggregate-go-on : tie.Need-slice-aggregate-go-on
-slice-aggregate-go-on c = sym (c.before.before.before.before.before.before.before.before.before.copy-bits.auto.1.1.0 ∙ length-replicate {A = ℕ} 1024 0)
+slice-aggregate-go-on : tie.Need-slice_bounds-go_on-end
+slice-aggregate-go-on c = sym (c.copy_bits.auto.to ∙ length-replicate {A = ℕ} 1024 0)
 
-go-on-requires : tie.Need-go-on-requires
+go-on-requires : tie.Need-go_on-requires
 go-on-requires c κs =
-    let s = c.before.before.before.before.before.before.before.before.before.before.before.before.before.before.before.before.before in
-    let a = s.args in
-    let n = c.before.before.before.before.before.before.before.before.before in
-    let u = c.before.before.before.before.before.before.prepare-aim.ensures in
+    let a = c.args in
+    let u = c.prepare_aim-made.ensures in
     record {
       net = u.net;
-      budget = s.requires.0.budget;
-      long = omega (arith, u.free, s.requires.1.1.1, n.copy-bits.auto.1.1.0 ∙ length-replicate {A = ℕ} 1024 0);
+      budget = c.requires.0.budget;
+      long = omega (arith, u.free, c.requires.1.1.1, c.copy_bits.auto.to ∙ length-replicate {A = ℕ} 1024 0);
       from = floor_by a.aim.alone (circuit_in a.m.now) a.aim.b a.aim.t a.d;
-      left = floored u a.d n.copy-bits.new.1.1.0 (floor-in n);
+      left = floored u a.d c.copy_bits.new.to (floor-in c.before.before.before.before.before.before.before.before.before);
     }
 
 returns : tie.Need-returns
 returns c =
-    let s = c.before.before.before.before.before.before.before.before.before.before.before.before.before.before.before.before.before.before.before.before.before in
-    let a = s.args in
-    let n = c.before.before.before.before.before.before.before.before.before.before.before.before.before in
-    let u = c.before.before.before.before.before.before.before.before.before.before.prepare-aim.ensures in
-    let g = c.before.before.before.go_on in
+    let a = c.args in
+    let u = c.prepare_aim-made.ensures in
     let x = floor_by a.aim.alone (circuit_in a.m.now) a.aim.b a.aim.t a.d in
-    resumed u a.d g.new.0 g.result s.requires.1.0 s.requires.1.1.1 (g.ensures x (floored u a.d n.copy-bits.new.1.1.0 (floor-in n)))
+    resumed u a.d c.go_on.new.work c.go_on.result c.requires.1.0 c.requires.1.1.1 (c.go_on.ensures x (floored u a.d c.copy_bits.new.to (floor-in c.before.before.before.before.before.before.before.before.before.before.before.before.before)))
 
-pub search-support-spec : {M : Type 1} → statement M
-search-support-spec =
+pub search_support_spec : {M : Type 1} → statement M
+search_support_spec =
     tie.close
-    (tie.spec
-    size-requires held-requires slice-aggregate-copy-bits copy-bits-requires (λ c κs. search rules) slice-aggregate-go-on
-    go-on-requires (λ c. search rules) returns)
+    (tie.spec size-requires held-requires slice-aggregate-copy-bits copy-bits-requires (λ c κs. search rules) slice-aggregate-go-on go-on-requires (λ c. search rules) returns)

@@ -14,68 +14,57 @@ use Rattle.diagram_rows.proofs.Follow.{lines-done, lines-full, lines_more}
 use Rattle.diagram_rows.proofs.constrain.Statement.{statement}
 use Rattle.diagram_rows.proofs.constrain.Tie as tie
 
-abbrev invariant-loop : tie.invariant-loop
+abbrev invariant-loop : tie.invariant-loop-k
 invariant-loop w₀ m edges count constraints con₀ k₀ w con k =
     (k ≤ count) × (length w ≡ length w₀)
     × (with_literals edges (drop k (circuit_in m).constraints) (state_of w) con ≡ with_literals edges (circuit_in m).constraints (state_of w₀) 1)
 
-abbrev decreases-loop : tie.decreases-loop
+abbrev decreases-loop : tie.decreases-loop-k
 decreases-loop w₀ m edges count constraints con₀ k₀ w con k = count - k
 
-loop-holds : tie.Need-loop-init invariant-loop decreases-loop
+loop-holds : tie.Need-loop-k-init invariant-loop decreases-loop
 loop-holds c = (omega arith, refl, refl)
 
-add-from-word : tie.Need-overflow-add-from-word invariant-loop decreases-loop
-add-from-word c = omega (arith, constraint-fits c.before.before.before.before.before.before.requires c.before.before.loop.k (omega arith))
+add-from-word : tie.Need-overflow_add-constraints invariant-loop decreases-loop
+add-from-word c = omega (arith, constraint-fits c.requires c.loop-k.k (omega arith))
 
-mul-from-word : tie.Need-overflow-mul-from-word invariant-loop decreases-loop
-mul-from-word c = omega (arith, constraint-fits c.before.before.before.before.before.before.requires c.before.before.loop.k (omega arith))
+mul-from-word : tie.Need-offset_bounds-m-constraints invariant-loop decreases-loop
+mul-from-word c = omega (arith, constraint-fits c.requires c.loop-k.k (omega arith))
 
-shared-slice-read-from-word : tie.Need-shared-slice-read-from-word invariant-loop decreases-loop
-shared-slice-read-from-word c = omega (arith, constraint-fits c.before.before.before.before.before.before.before.requires c.before.before.before.loop.k (omega arith))
+shared-slice-read-from-word : tie.Need-bounds-m-constraints invariant-loop decreases-loop
+shared-slice-read-from-word c = omega (arith, constraint-fits c.requires c.loop-k.k (omega arith))
 
-same_length : tie.Need-same-length invariant-loop decreases-loop
-same_length c = c.before.before.before.before.with-literal.auto.0 ∙ c.before.before.before.before.before.before.before.before.before.loop.invariant.1
+same_length : tie.Need-shape_of-w-in_default invariant-loop decreases-loop
+same_length c = c.with_literal-made.auto.w ∙ c.loop-k.invariant.1
 
-returns : tie.Need-returns invariant-loop decreases-loop
+returns : tie.Need-returns-in_default invariant-loop decreases-loop
 returns c =
-    let s = c.before.before.before.before.before.before.before.before.before.before.before.before.before in
-    let a = s.args in
-    let l = c.before.before.before.before.before.before.before.before.before.loop in
-    let p = c.before.before.before.before.with-literal in
-    let h : l.k < length (circuit_in a.m.now).constraints = omega (arith, constraint-number s.requires) in
-    lines-full a.edges.now (circuit_in a.m.now).constraints l.k (state_of l.w) l.con h c.before.before.before.before.before.from-word.result
-    (c.before.before.before.before.before.from-word.ensures ∙ ap literal (constraint-read s.requires l.k (omega arith))) (state_of p.new.0)
-    (ap (left p.new.0) (sym c.enum_told.given.1) ∙ p.ensures) ∙ l.invariant.2
+    let a = c.args in
+    let h : c.loop-k.k < length (circuit_in a.m.now).constraints = omega (arith, constraint-number c.requires) in
+    lines-full a.edges.now (circuit_in a.m.now).constraints c.loop-k.k (state_of c.loop-k.w) c.loop-k.con h c.from_word.result
+    (c.from_word.ensures ∙ ap literal (constraint-read c.requires c.loop-k.k (omega arith))) (state_of c.with_literal-made.new.w)
+    (ap (left c.with_literal-made.new.w) (sym c.in_default.is) ∙ c.with_literal-made.ensures) ∙ c.loop-k.invariant.2
 
-loop-again : tie.Need-loop-preserved invariant-loop decreases-loop
+loop-again : tie.Need-loop-k-preserved invariant-loop decreases-loop
 loop-again c =
-    let s = c.before.before.before.before.before.before.before.before.before.before.before.before.before.before in
-    let a = s.args in
-    let l = c.before.before.before.before.before.before.before.before.before.before.loop in
-    let p = c.before.before.before.before.before.with-literal in
-    let h : l.k < length (circuit_in a.m.now).constraints = omega (arith, constraint-number s.requires) in (
+    let a = c.args in
+    let h : c.loop-k.k < length (circuit_in a.m.now).constraints = omega (arith, constraint-number c.requires) in (
       omega arith,
-      p.auto.0 ∙ l.invariant.1,
-      lines_more a.edges.now (circuit_in a.m.now).constraints l.k (state_of l.w) l.con h c.before.before.before.before.before.before.from-word.result
-          (c.before.before.before.before.before.before.from-word.ensures ∙ ap literal (constraint-read s.requires l.k (omega arith))) (state_of p.new.0) c.before.made.given.0.0
-          (ap (left p.new.0) (sym c.before.made.given.1) ∙ p.ensures) ∙ l.invariant.2,
+      c.with_literal-made.auto.w ∙ c.loop-k.invariant.1,
+      lines_more a.edges.now (circuit_in a.m.now).constraints c.loop-k.k (state_of c.loop-k.w) c.loop-k.con h c.from_word.result
+          (c.from_word.ensures ∙ ap literal (constraint-read c.requires c.loop-k.k (omega arith))) (state_of c.with_literal-made.new.w) c.in-Edge.e
+          (ap (left c.with_literal-made.new.w) (sym c.in-Edge.is) ∙ c.with_literal-made.ensures) ∙ c.loop-k.invariant.2,
     )
 
-same-length-2 : tie.Need-same-length-2 invariant-loop decreases-loop
-same-length-2 c = c.before.loop.invariant.1
+same-length-2 : tie.Need-shape_of-w invariant-loop decreases-loop
+same-length-2 c = c.loop-k.invariant.1
 
-returns-2 : tie.Need-returns-2 invariant-loop decreases-loop
+returns-2 : tie.Need-returns invariant-loop decreases-loop
 returns-2 c =
-    let s = c.before.before.before.before.before in
-    let a = s.args in
-    let l = c.before.loop in
-    lines-done a.edges.now (circuit_in a.m.now).constraints l.k (state_of l.w) l.con (omega (arith, constraint-number s.requires)) ∙ l.invariant.2
+    let a = c.args in
+    lines-done a.edges.now (circuit_in a.m.now).constraints c.loop-k.k (state_of c.loop-k.w) c.loop-k.con (omega (arith, constraint-number c.requires)) ∙ c.loop-k.invariant.2
 
-pub constrain-spec : {M : Type 1} → statement M
-constrain-spec =
+pub constrain_spec : {M : Type 1} → statement M
+constrain_spec =
     tie.close
-    (tie.spec
-    invariant-loop decreases-loop loop-holds add-from-word mul-from-word shared-slice-read-from-word (λ c κs. search rules)
-    (λ c κs. search rules) (λ c. search rules) (λ c. search rules) same_length returns (λ c. search rules) (λ c. search rules)
-    loop-again same-length-2 returns-2)
+    (tie.spec invariant-loop decreases-loop loop-holds add-from-word mul-from-word shared-slice-read-from-word (λ c κs. search rules) (λ c κs. search rules) (λ c. search rules) (λ c. search rules) same_length returns (λ c. search rules) (λ c. search rules) loop-again same-length-2 returns-2)

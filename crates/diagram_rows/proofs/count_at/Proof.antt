@@ -8,20 +8,19 @@ use lib.ListN.{get_or-eq_default}
 use Rattle.diagram_rows.proofs.count_at.Statement.{statement}
 use Rattle.diagram_rows.proofs.count_at.Tie as tie
 
-shared-slice-read-result : tie.Need-shared-slice-read-result
-shared-slice-read-result c = omega (arith, c.before.if1.true)
+shared-slice-read-result : tie.Need-bounds-plan-i
+shared-slice-read-result c = omega (arith, c.if-i-plan.true)
 
-cast-result : tie.Need-overflow-cast-result
-cast-result c = omega (arith, c.shared-slice-known.given c.before.before.args.i)
+cast-result : tie.Need-overflow_cast-result
+cast-result c = omega (arith, c.shared_slice_known-1.given c.args.i)
 
-returns : tie.Need-returns
-returns c = (refl, omega (arith, c.shared-slice-known.given c.before.before.args.i))
+returns : tie.Need-returns-then-i-plan
+returns c = (refl, omega (arith, c.shared_slice_known-1.given c.args.i))
 
-returns-2 : tie.Need-returns-2
-returns-2 c = let a = c.before.args in (sym (get_or-eq_default a.plan.now 0 (omega (arith, c.if1.false))), omega arith)
+returns-2 : tie.Need-returns
+returns-2 c = let a = c.args in (sym (get_or-eq_default a.plan.now 0 (omega (arith, c.if-i-plan.false))), omega arith)
 
-pub count-at-spec : {M : Type 1} → statement M
-count-at-spec =
+pub count_at_spec : {M : Type 1} → statement M
+count_at_spec =
     tie.close
-    (tie.spec
-    (λ c. search rules) shared-slice-read-result cast-result returns returns-2)
+    (tie.spec (λ c. search rules) shared-slice-read-result cast-result returns returns-2)

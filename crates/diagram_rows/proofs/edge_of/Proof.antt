@@ -10,23 +10,22 @@ use Rattle.diagram_rows.specs.Rows.{absent}
 use Rattle.diagram_rows.proofs.edge_of.Statement.{statement}
 use Rattle.diagram_rows.proofs.edge_of.Tie as tie
 
-returns : tie.Need-returns
+returns : tie.Need-returns-then-is_complement
 returns c =
-    let a = c.before.before.before.before.before.before.args in
-    let e = c.before.before.before.entry.ensures ∙ ap (λ (v : Var). get_or a.edges.now v.0 absent) c.before.before.before.before.var.ensures in
+    let a = c.args in
+    let e = c.entry-e.ensures ∙ ap (λ (v : Var). get_or a.edges.now v.0 absent) c.var.ensures in
     c.flip.ensures ∙ ap (λ (x : ℕ). flip x 1) e
     ∙ ap (λ (b : Bool). cond b (flip (get_or a.edges.now a.l.0.0 absent) 1) (get_or a.edges.now a.l.0.0 absent))
-    (sym c.before.if1.true ∙ c.before.before.is-complement.ensures)
+    (sym c.if-is_complement.true ∙ c.is_complement.ensures)
 
-returns-2 : tie.Need-returns-2
+returns-2 : tie.Need-returns
 returns-2 c =
-    let a = c.before.before.before.before.before.args in
-    c.before.before.entry.ensures ∙ ap (λ (v : Var). get_or a.edges.now v.0 absent) c.before.before.before.var.ensures
+    let a = c.args in
+    c.entry-e.ensures ∙ ap (λ (v : Var). get_or a.edges.now v.0 absent) c.var.ensures
     ∙ ap (λ (b : Bool). cond b (flip (get_or a.edges.now a.l.0.0 absent) 1) (get_or a.edges.now a.l.0.0 absent))
-    (sym c.if1.false ∙ c.before.is-complement.ensures)
+    (sym c.if-is_complement.false ∙ c.is_complement.ensures)
 
-pub edge-of-spec : {M : Type 1} → statement M
-edge-of-spec =
+pub edge_of_spec : {M : Type 1} → statement M
+edge_of_spec =
     tie.close
-    (tie.spec
-    (λ c κs. search rules) (λ c κs. search rules) (λ c κs. search rules) (λ c κs. search rules) returns returns-2)
+    (tie.spec (λ c κs. search rules) (λ c κs. search rules) (λ c κs. search rules) (λ c κs. search rules) returns returns-2)

@@ -12,11 +12,10 @@ use Rattle.diagram_rows.proofs.is_present.Tie as tie
 
 returns : tie.Need-returns
 returns c =
-    let a = c.before.before.before.args in
-    ap (λ (x : ℕ). not (eqb x absent)) (c.entry.ensures ∙ ap (λ (v : Var). get_or a.edges.now v.0 absent) c.before.var.ensures)
+    let a = c.args in
+    ap (λ (x : ℕ). not (eqb x absent)) (c.entry.ensures ∙ ap (λ (v : Var). get_or a.edges.now v.0 absent) c.var.ensures)
 
-pub is-present-spec : {M : Type 1} → statement M
-is-present-spec =
+pub is_present_spec : {M : Type 1} → statement M
+is_present_spec =
     tie.close
-    (tie.spec
-    (λ c κs. search rules) (λ c κs. search rules) returns)
+    (tie.spec (λ c κs. search rules) (λ c κs. search rules) returns)

@@ -9,21 +9,20 @@ use Rattle.diagram_rows.specs.Rows.{noted}
 use Rattle.diagram_rows.proofs.note.Statement.{statement}
 use Rattle.diagram_rows.proofs.note.Tie as tie
 
-same_length : tie.Need-same-length
-same_length c = c.before.before.put.auto.0
+same_length : tie.Need-shape_of-edges
+same_length c = c.put.auto.work
 
-returns : tie.Need-returns
+returns : tie.Need-returns-in-Edge
 returns c =
-    let a = c.before.before.before.before.before.before.before.before.before.args in
-    ap some c.before.before.put.ensures ∙ ap (λ (x : Made). noted (edge_of x) a.v.0 a.edges.now) (sym c.before.before.before.before.before.before.made.given.1)
+    let a = c.args in
+    ap some c.put.ensures ∙ ap (λ (x : Made). noted (edge_of x) a.v.0 a.edges.now) (sym c.in-Edge.is)
 
-returns-2 : tie.Need-returns-2
+returns-2 : tie.Need-returns-in-Full
 returns-2 c =
-    let a = c.before.before.before.args in
-    ap (λ (x : Made). noted (edge_of x) a.v.0 a.edges.now) (sym c.enum_told.given.1)
+    let a = c.args in
+    ap (λ (x : Made). noted (edge_of x) a.v.0 a.edges.now) (sym c.in-Full.is)
 
-pub note-spec : {M : Type 1} → statement M
-note-spec =
+pub note_spec : {M : Type 1} → statement M
+note_spec =
     tie.close
-    (tie.spec
-    (λ c. search rules) (λ c. search rules) (λ c κs. search rules) (λ c. search rules) same_length returns returns-2)
+    (tie.spec (λ c. search rules) (λ c. search rules) (λ c κs. search rules) (λ c. search rules) same_length returns returns-2)

@@ -10,39 +10,36 @@ use Rattle.diagram_rows.proofs.Follow.{gate-left, gate-right, gate-made}
 use Rattle.diagram_rows.proofs.put_gate.Statement.{statement}
 use Rattle.diagram_rows.proofs.put_gate.Tie as tie
 
-returns : tie.Need-returns
+returns : tie.Need-returns-then-not-is_present
 returns c =
-    let a = c.before.before.before.before.before.args in
+    let a = c.args in
     gate-left a.v.0 a.x a.y (state_of a.w.now) a.edges.now
-    (sym (not-true c.before.is-present.result c.if1.true) ∙ c.before.is-present.ensures)
+    (sym c.if-not-is_present.true ∙ c.is_present.ensures)
 
-returns-2 : tie.Need-returns-2
+returns-2 : tie.Need-returns-then-not-is_present-2
 returns-2 c =
-    let a = c.before.before.before.before.before.before.before.before.args in
+    let a = c.args in
     gate-right a.v.0 a.x a.y (state_of a.w.now) a.edges.now
-    (sym (not-false c.before.before.before.before.is-present.result c.before.before.before.if1.false) ∙ c.before.before.before.before.is-present.ensures)
-    (sym (not-true c.before.is-present2.result c.if2.true) ∙ c.before.is-present2.ensures)
+    (sym c.if-not-is_present.false ∙ c.is_present.ensures)
+    (sym c.if-not-is_present-2.true ∙ c.is_present-2.ensures)
 
-same-length-3 : tie.Need-same-length-3
-same-length-3 c = c.before.before.before.before.before.before.both.auto.0
+same-length-3 : tie.Need-shape_of-w
+same-length-3 c = c.both-made.auto.w
 
-same-length-4 : tie.Need-same-length-4
-same-length-4 c = c.before.before.note.auto.1.1.0
+same-length-4 : tie.Need-shape_of-edges
+same-length-4 c = c.note.auto.edges
 
-returns-3 : tie.Need-returns-3
+returns-3 : tie.Need-returns
 returns-3 c =
-    let a = c.before.before.before.before.before.before.before.before.before.before.before.before.before.before.before.before.before.before.before.before.args in
-    let n = c.before.before.before.before.before.before.both in
-    ap (filled (left n.new.0 n.result).state) c.before.before.note.ensures
+    let a = c.args in
+    ap (filled (left c.both-made.new.w c.both-made.result).state) c.note.ensures
     ∙ ap (λ (o : Outcome). noted_in o a.v.0 a.edges.now)
-    (n.ensures ∙ ap₂ (both (state_of a.w.now)) c.before.before.before.before.before.before.before.before.before.before.edge_of.ensures c.before.before.before.before.before.before.before.before.edge-of2.ensures)
+    (c.both-made.ensures ∙ ap₂ (both (state_of a.w.now)) c.edge_of-e.ensures c.edge_of-f.ensures)
     ∙ gate-made a.v.0 a.x a.y (state_of a.w.now) a.edges.now
-    (sym (not-false c.before.before.before.before.before.before.before.before.before.before.before.before.before.before.before.before.is-present.result c.before.before.before.before.before.before.before.before.before.before.before.before.before.before.before.if1.false) ∙ c.before.before.before.before.before.before.before.before.before.before.before.before.before.before.before.before.is-present.ensures)
-    (sym (not-false c.before.before.before.before.before.before.before.before.before.before.before.before.before.is-present2.result c.before.before.before.before.before.before.before.before.before.before.before.before.if2.false) ∙ c.before.before.before.before.before.before.before.before.before.before.before.before.before.is-present2.ensures)
+    (sym c.if-not-is_present.false ∙ c.is_present.ensures)
+    (sym c.if-not-is_present-2.false ∙ c.is_present-2.ensures)
 
-pub put-gate-spec : {M : Type 1} → statement M
-put-gate-spec =
+pub put_gate_spec : {M : Type 1} → statement M
+put_gate_spec =
     tie.close
-    (tie.spec
-    (λ c κs. search rules) (λ c. search rules) returns (λ c κs. search rules) (λ c. search rules) returns-2 (λ c κs. search rules)
-    (λ c κs. search rules) (λ c κs. search rules) (λ c κs. search rules) same-length-3 same-length-4 returns-3)
+    (tie.spec (λ c κs. search rules) (λ c. search rules) returns (λ c κs. search rules) (λ c. search rules) returns-2 (λ c κs. search rules) (λ c κs. search rules) (λ c κs. search rules) (λ c κs. search rules) same-length-3 same-length-4 returns-3)

@@ -8,23 +8,21 @@ use Rattle.diagram_rows.specs.Rows.{filled, noted, noted_in}
 use Rattle.diagram_rows.proofs.put_latch.Statement.{statement}
 use Rattle.diagram_rows.proofs.put_latch.Tie as tie
 
-same_length : tie.Need-same-length
-same_length c = c.before.before.before.before.before.before.before.node.auto.0
+same_length : tie.Need-shape_of-w
+same_length c = c.node-e.auto.w
 
-same-length-2 : tie.Need-same-length-2
-same-length-2 c = c.before.before.note.auto.1.1.0
+same-length-2 : tie.Need-shape_of-edges
+same-length-2 c = c.note.auto.edges
 
 returns : tie.Need-returns
 returns c =
-    let a = c.before.before.before.before.before.before.before.before.before.before.before.args in
-    let n = c.before.before.before.before.before.before.before.node in
-    let e = c.before.before.note.ensures in
-    ap (filled (left n.new.0 n.result).state)
-    (e ∙ ap (λ (v : Var). noted (edge_of n.result) v.0 a.edges.now) c.before.before.before.before.var.ensures)
-    ∙ ap (λ (o : Outcome). noted_in o a.l.0.0 a.edges.now) n.ensures
+    let a = c.args in
+    let e = c.note.ensures in
+    ap (filled (left c.node-e.new.w c.node-e.result).state)
+    (e ∙ ap (λ (v : Var). noted (edge_of c.node-e.result) v.0 a.edges.now) c.var.ensures)
+    ∙ ap (λ (o : Outcome). noted_in o a.l.0.0 a.edges.now) c.node-e.ensures
 
-pub put-latch-spec : {M : Type 1} → statement M
-put-latch-spec =
+pub put_latch_spec : {M : Type 1} → statement M
+put_latch_spec =
     tie.close
-    (tie.spec
-    (λ c κs. search rules) (λ c κs. search rules) (λ c κs. search rules) same_length same-length-2 returns)
+    (tie.spec (λ c κs. search rules) (λ c κs. search rules) (λ c κs. search rules) same_length same-length-2 returns)

@@ -9,27 +9,26 @@ use Rattle.diagram_rows.proofs.Read.{word_in, word_out}
 use Rattle.diagram_rows.proofs.single_at.Statement.{statement}
 use Rattle.diagram_rows.proofs.single_at.Tie as tie
 
-add-from-word : tie.Need-overflow-add-from-word
-add-from-word c = omega (arith, c.if1.true, c.before.before.requires)
+add-from-word : tie.Need-overflow_add-at
+add-from-word c = omega (arith, c.if-j-rows.true, c.requires)
 
-mul-from-word : tie.Need-overflow-mul-from-word
-mul-from-word c = omega (arith, c.if1.true, c.before.before.requires)
+mul-from-word : tie.Need-offset_bounds-m-at
+mul-from-word c = omega (arith, c.if-j-rows.true, c.requires)
 
-shared-slice-read-from-word : tie.Need-shared-slice-read-from-word
-shared-slice-read-from-word c = omega (arith, c.before.if1.true, c.before.before.before.requires)
+shared-slice-read-from-word : tie.Need-bounds-m-at
+shared-slice-read-from-word c = omega (arith, c.if-j-rows.true, c.requires)
 
-returns : tie.Need-returns
+returns : tie.Need-returns-then-j-rows
 returns c =
-    let a = c.before.before.before.before.args in
-    c.from-word.ensures ∙ ap literal (sym (word_in a.j a.rows (word a.m.now (a.at + a.j)) _ c.before.before.if1.true refl))
+    let a = c.args in
+    c.from_word.ensures ∙ ap literal (sym (word_in a.j a.rows (word a.m.now (a.at + a.j)) _ c.if-j-rows.true refl))
 
-returns-2 : tie.Need-returns-2
+returns-2 : tie.Need-returns
 returns-2 c =
-    let a = c.before.before.before.args in
-    c.from-word2.ensures ∙ ap literal (sym (word_out a.j a.rows (word a.m.now (a.at + a.j)) c.before.if1.false))
+    let a = c.args in
+    c.from_word-2.ensures ∙ ap literal (sym (word_out a.j a.rows (word a.m.now (a.at + a.j)) c.if-j-rows.false))
 
-pub single-at-spec : {M : Type 1} → statement M
-single-at-spec =
+pub single_at_spec : {M : Type 1} → statement M
+single_at_spec =
     tie.close
-    (tie.spec
-    add-from-word mul-from-word shared-slice-read-from-word (λ c κs. search rules) returns (λ c κs. search rules) returns-2)
+    (tie.spec add-from-word mul-from-word shared-slice-read-from-word (λ c κs. search rules) returns (λ c κs. search rules) returns-2)

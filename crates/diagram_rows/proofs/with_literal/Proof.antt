@@ -8,24 +8,23 @@ use Rattle.diagram_rows.proofs.Follow.{literal-absent, literal-made}
 use Rattle.diagram_rows.proofs.with_literal.Statement.{statement}
 use Rattle.diagram_rows.proofs.with_literal.Tie as tie
 
-returns : tie.Need-returns
+returns : tie.Need-returns-then-not-is_present
 returns c =
-    let a = c.before.before.before.before.args in
+    let a = c.args in
     literal-absent a.edges.now a.l (state_of a.w.now) a.e
-    (sym (not-true c.before.is-present.result c.if1.true) ∙ c.before.is-present.ensures)
+    (sym c.if-not-is_present.true ∙ c.is_present.ensures)
 
-same_length : tie.Need-same-length
-same_length c = c.before.before.both.auto.0
+same_length : tie.Need-shape_of-w
+same_length c = c.both.auto.w
 
-returns-2 : tie.Need-returns-2
+returns-2 : tie.Need-returns
 returns-2 c =
-    let a = c.before.before.before.before.before.before.before.before.before.args in
-    c.before.before.both.ensures
-    ∙ literal-made a.edges.now a.l (state_of a.w.now) a.e c.before.before.before.before.edge_of.result c.before.before.before.before.edge_of.ensures
-    (sym (not-false c.before.before.before.before.before.before.is-present.result c.before.before.before.before.before.if1.false) ∙ c.before.before.before.before.before.before.is-present.ensures)
+    let a = c.args in
+    c.both.ensures
+    ∙ literal-made a.edges.now a.l (state_of a.w.now) a.e c.edge_of-f.result c.edge_of-f.ensures
+    (sym c.if-not-is_present.false ∙ c.is_present.ensures)
 
-pub with-literal-spec : {M : Type 1} → statement M
-with-literal-spec =
+pub with_literal_spec : {M : Type 1} → statement M
+with_literal_spec =
     tie.close
-    (tie.spec
-    (λ c κs. search rules) returns (λ c κs. search rules) (λ c κs. search rules) same_length returns-2)
+    (tie.spec (λ c κs. search rules) returns (λ c κs. search rules) (λ c κs. search rules) same_length returns-2)

@@ -22,143 +22,134 @@ use borrow.Author.Rules.{rules}
 use Rattle.enumeration.proofs.put_starts.Statement.{statement}
 use Rattle.enumeration.proofs.put_starts.Tie as tie
 
-abbrev invariant-loop : tie.invariant-loop
+abbrev invariant-loop : tie.invariant-loop-j
 invariant-loop m n block values₀ count latches left₀ j₀ values left j =
     (j ≤ count) × (length values ≡ length values₀) × (left + free_before (circuit_in m) j ≡ n)
     × Given (λ i. var (latch_at (circuit_in m) i).lit) (λ i p. start_bit (circuit_in m) n (block * 64 + p) i) j values₀ values
 
-abbrev decreases-loop : tie.decreases-loop
+abbrev decreases-loop : tie.decreases-loop-j
 decreases-loop m n block values₀ count latches left₀ j₀ values left j = count - j
 
 -- the latch's words, as the calls had them
-lit-read : (c : tie.After-from-word invariant-loop decreases-loop)
-    → (let S = c.before.before.before.before.before.before in word_of c.from-word.result ≡ word S.args.m.now (S.args.layout.latches + 3 * c.before.before.before.loop.j))
-lit-read c = let S = c.before.before.before.before.before.before in word_read (word S.args.m.now (S.args.layout.latches + 3 * c.before.before.before.loop.j)) c.from-word.ensures
+lit-read : (c : tie.After-from_word-lit invariant-loop decreases-loop)
+    → (word_of c.from_word-lit.result ≡ word c.args.m.now (c.args.layout.latches + 3 * c.loop-j.j))
+lit-read c = word_read (word c.args.m.now (c.args.layout.latches + 3 * c.loop-j.j)) c.from_word-lit.ensures
 
-reset-read : (c : tie.After-from-word2 invariant-loop decreases-loop)
-    → (let S = c.before.before.before.before.before.before.before.before in word_of c.from-word2.result ≡ word S.args.m.now (S.args.layout.latches + 3 * c.before.before.before.before.before.loop.j + 2))
-reset-read c = let S = c.before.before.before.before.before.before.before.before in word_read (word S.args.m.now (S.args.layout.latches + 3 * c.before.before.before.before.before.loop.j + 2)) c.from-word2.ensures
+reset-read : (c : tie.After-from_word-reset invariant-loop decreases-loop)
+    → (word_of c.from_word-reset.result ≡ word c.args.m.now (c.args.layout.latches + 3 * c.loop-j.j + 2))
+reset-read c = word_read (word c.args.m.now (c.args.layout.latches + 3 * c.loop-j.j + 2)) c.from_word-reset.ensures
 
-counted : (c : tie.After-free-start invariant-loop decreases-loop)
-    → (let S = c.before.before.before.before.before.before.before.before.before in let at = S.args.layout.latches + 3 * c.before.before.before.before.before.before.loop.j in
-    c.free-start.result ≡ cond (eqb (word S.args.m.now (at + 2)) (word S.args.m.now at)) 1 0)
+counted : (c : tie.After-free_start-left invariant-loop decreases-loop)
+    → (let at = c.args.layout.latches + 3 * c.loop-j.j in
+    c.free_start-left.result ≡ cond (eqb (word c.args.m.now (at + 2)) (word c.args.m.now at)) 1 0)
 counted c =
-    c.free-start.ensures ∙ ap₂ (λ (r l : ℕ). cond (eqb r l) 1 0) (reset-read c.before) (lit-read c.before.before.before)
+    c.free_start-left.ensures ∙ ap₂ (λ (r l : ℕ). cond (eqb r l) 1 0) (reset-read c.before) (lit-read c.before.before.before)
 
-read : (c : tie.After-var invariant-loop decreases-loop)
-    → (let S = c.before.before.before.before.before.before.before.before.before.before in c.var.result.0 ≡ var (word S.args.m.now (S.args.layout.latches + 3 * c.before.before.before.before.before.before.before.loop.j)))
-read c = ap (λ (v : Var). v.0) c.var.ensures ∙ ap (λ (l : Lit). l.0.0) c.before.before.before.before.from-word.ensures
+read : (c : tie.After-var-v invariant-loop decreases-loop)
+    → (c.var-v.result.0 ≡ var (word c.args.m.now (c.args.layout.latches + 3 * c.loop-j.j)))
+read c = ap (λ (v : Var). v.0) c.var-v.ensures ∙ ap (λ (l : Lit). l.0.0) c.from_word-lit.ensures
 
-started : (c : tie.After-start-word invariant-loop decreases-loop)
-    → (let S = c.before.before.before.before.before.before.before.before.before.before.before.before in let at = S.args.layout.latches + 3 * c.before.before.before.before.before.before.before.before.before.loop.j in
+started : (c : tie.After-start_word invariant-loop decreases-loop)
+    → (let at = c.args.layout.latches + 3 * c.loop-j.j in
     (p : ℕ) → p < 64 → bit c.start_word.result p
-    ≡ cond (eqb (word S.args.m.now (at + 2)) (word S.args.m.now at))
-    (bit (S.args.block * 64 + p) (c.before.before.before.before.before.before.before.before.before.loop.left - c.before.before.before.free-start.result)) (eqb (word S.args.m.now (at + 2)) 1))
+    ≡ cond (eqb (word c.args.m.now (at + 2)) (word c.args.m.now at))
+    (bit (c.args.block * 64 + p) (c.loop-j.left - c.free_start-left.result)) (eqb (word c.args.m.now (at + 2)) 1))
 started c = λ p h.
     c.start_word.ensures p h
-    ∙ ap₂ (λ (r l : ℕ). cond (eqb r l) (bit (c.before.before.before.before.before.before.before.before.before.before.before.before.args.block * 64 + p) (c.before.before.before.before.before.before.before.before.before.loop.left - c.before.before.before.free-start.result)) (eqb r 1))
+    ∙ ap₂ (λ (r l : ℕ). cond (eqb r l) (bit (c.args.block * 64 + p) (c.loop-j.left - c.free_start-left.result)) (eqb r 1))
     (reset-read c.before.before.before.before) (lit-read c.before.before.before.before.before.before)
 
-loop-holds : tie.Need-loop-init invariant-loop decreases-loop
-loop-holds c = (omega arith, refl, omega (arith, free-none (circuit_in c.before.before.args.m.now)), given-start _ _ _)
+loop-holds : tie.Need-loop-j-init invariant-loop decreases-loop
+loop-holds c = (omega arith, refl, omega (arith, free-none (circuit_in c.args.m.now)), given-start _ _ _)
 
-mul-from-word : tie.Need-overflow-mul-from-word invariant-loop decreases-loop
-mul-from-word c = let S = c.before.before.before.before in omega (arith, latches-inside S.requires.0 S.requires.1.0)
+mul-from-word : tie.Need-overflow_mul-j invariant-loop decreases-loop
+mul-from-word c = omega (arith, latches-inside c.requires.0 c.requires.1.0)
 
-add-from-word : tie.Need-overflow-add-from-word invariant-loop decreases-loop
-add-from-word c = let S = c.before.before.before.before in omega (arith, latches-inside S.requires.0 S.requires.1.0)
+add-from-word : tie.Need-overflow_add-latches invariant-loop decreases-loop
+add-from-word c = omega (arith, latches-inside c.requires.0 c.requires.1.0)
 
-mul-from-word-2 : tie.Need-overflow-mul-from-word-2 invariant-loop decreases-loop
-mul-from-word-2 c = let S = c.before.before.before.before in omega (arith, latches-inside S.requires.0 S.requires.1.0)
+mul-from-word-2 : tie.Need-offset_bounds-m-latches invariant-loop decreases-loop
+mul-from-word-2 c = omega (arith, latches-inside c.requires.0 c.requires.1.0)
 
-shared-slice-read-from-word : tie.Need-shared-slice-read-from-word invariant-loop decreases-loop
-shared-slice-read-from-word c = let S = c.before.before.before.before.before in omega (arith, latches-inside S.requires.0 S.requires.1.0)
+shared-slice-read-from-word : tie.Need-bounds-m-latches invariant-loop decreases-loop
+shared-slice-read-from-word c = omega (arith, latches-inside c.requires.0 c.requires.1.0)
 
-from-word-requires : tie.Need-from-word-requires invariant-loop decreases-loop
+from-word-requires : tie.Need-from_word-lit-requires invariant-loop decreases-loop
 from-word-requires c κs = tt
 
-mul-from-word-3 : tie.Need-overflow-mul-from-word-3 invariant-loop decreases-loop
-mul-from-word-3 c = let S = c.before.before.before.before.before.before in omega (arith, latches-inside S.requires.0 S.requires.1.0)
+mul-from-word-3 : tie.Need-overflow_mul-j-in-loop-j invariant-loop decreases-loop
+mul-from-word-3 c = omega (arith, latches-inside c.requires.0 c.requires.1.0)
 
-add-from-word-2 : tie.Need-overflow-add-from-word-2 invariant-loop decreases-loop
-add-from-word-2 c = let S = c.before.before.before.before.before.before in omega (arith, latches-inside S.requires.0 S.requires.1.0)
+add-from-word-2 : tie.Need-overflow_add-latches-in-loop-j invariant-loop decreases-loop
+add-from-word-2 c = omega (arith, latches-inside c.requires.0 c.requires.1.0)
 
-add-from-word-3 : tie.Need-overflow-add-from-word-3 invariant-loop decreases-loop
-add-from-word-3 c = let S = c.before.before.before.before.before.before in omega (arith, latches-inside S.requires.0 S.requires.1.0)
+add-from-word-3 : tie.Need-overflow_add-latches-in-loop-j-2 invariant-loop decreases-loop
+add-from-word-3 c = omega (arith, latches-inside c.requires.0 c.requires.1.0)
 
-mul-from-word-4 : tie.Need-overflow-mul-from-word-4 invariant-loop decreases-loop
-mul-from-word-4 c = let S = c.before.before.before.before.before.before in omega (arith, latches-inside S.requires.0 S.requires.1.0)
+mul-from-word-4 : tie.Need-offset_bounds-m-latches-in-loop-j invariant-loop decreases-loop
+mul-from-word-4 c = omega (arith, latches-inside c.requires.0 c.requires.1.0)
 
-shared-slice-read-from-word-2 : tie.Need-shared-slice-read-from-word-2 invariant-loop decreases-loop
-shared-slice-read-from-word-2 c = let S = c.before.before.before.before.before.before.before in omega (arith, latches-inside S.requires.0 S.requires.1.0)
+shared-slice-read-from-word-2 : tie.Need-bounds-m-latches-in-loop-j invariant-loop decreases-loop
+shared-slice-read-from-word-2 c = omega (arith, latches-inside c.requires.0 c.requires.1.0)
 
-from-word-requires-2 : tie.Need-from-word-requires-2 invariant-loop decreases-loop
+from-word-requires-2 : tie.Need-from_word-reset-requires invariant-loop decreases-loop
 from-word-requires-2 c κs = tt
 
-free-start-requires : tie.Need-free-start-requires invariant-loop decreases-loop
+free-start-requires : tie.Need-free_start-left-requires invariant-loop decreases-loop
 free-start-requires c κs = tt
 
-sub-left : tie.Need-overflow-sub-left invariant-loop decreases-loop
-sub-left c = let S = c.before.before.before.before.before.before.before.before.before in omega (arith, counted c, count-part S.requires.0 S.requires.1.0 c.before.before.before.before.before.before.loop.j (omega arith))
+sub-left : tie.Need-overflow_sub-left invariant-loop decreases-loop
+sub-left c = omega (arith, counted c, count-part c.requires.0 c.requires.1.0 c.loop-j.j (omega arith))
 
-var-requires : tie.Need-var-requires invariant-loop decreases-loop
+var-requires : tie.Need-var-v-requires invariant-loop decreases-loop
 var-requires c κs = tt
 
-cast-place : tie.Need-overflow-cast-place invariant-loop decreases-loop
-cast-place c = let S = c.before.before.before.before.before.before.before.before.before.before.before in omega (arith, read c.before, latch-small S.requires.0 S.requires.1.0 c.before.before.before.before.before.before.before.before.loop.j (omega arith))
+cast-place : tie.Need-overflow_cast-place invariant-loop decreases-loop
+cast-place c = omega (arith, read c.before, latch-small c.requires.0 c.requires.1.0 c.loop-j.j (omega arith))
 
-start-word-requires : tie.Need-start-word-requires invariant-loop decreases-loop
+start-word-requires : tie.Need-start_word-requires invariant-loop decreases-loop
 start-word-requires c κs = tt
 
-mul-values : tie.Need-overflow-mul-values invariant-loop decreases-loop
-mul-values c = let S = c.before.before.before.before.before.before.before.before.before.before.before.before in omega (arith, read c.before.before, latch-small S.requires.0 S.requires.1.0 c.before.before.before.before.before.before.before.before.before.loop.j (omega arith))
+mul-values : tie.Need-offset_bounds-values-place invariant-loop decreases-loop
+mul-values c = omega (arith, read c.before.before, latch-small c.requires.0 c.requires.1.0 c.loop-j.j (omega arith))
 
-slice-write-values : tie.Need-slice-write-values invariant-loop decreases-loop
-slice-write-values c = let S = c.before.before.before.before.before.before.before.before.before.before.before.before in omega (arith, read c.before.before, latch-small S.requires.0 S.requires.1.0 c.before.before.before.before.before.before.before.before.before.loop.j (omega arith))
+slice-write-values : tie.Need-bounds-values-place invariant-loop decreases-loop
+slice-write-values c = omega (arith, read c.before.before, latch-small c.requires.0 c.requires.1.0 c.loop-j.j (omega arith))
 
-add-j : tie.Need-overflow-add-j invariant-loop decreases-loop
-add-j c = let S = c.before.before.before.before.before.before.before.before.before.before.before.before in omega (arith, latches-inside S.requires.0 S.requires.1.0)
+add-j : tie.Need-overflow_add-j invariant-loop decreases-loop
+add-j c = omega (arith, latches-inside c.requires.0 c.requires.1.0)
 
-loop-less : tie.Need-loop-smaller invariant-loop decreases-loop
+loop-less : tie.Need-loop-j-smaller invariant-loop decreases-loop
 loop-less c = omega arith
 
-loop-again : tie.Need-loop-preserved invariant-loop decreases-loop
+loop-again : tie.Need-loop-j-preserved invariant-loop decreases-loop
 loop-again c =
-    let S = c.before.before.before.before.before.before.before.before.before.before.before.before in
-    let L = c.before.before.before.before.before.before.before.before.before.loop in
-    let H = S.requires.0 in
-    let A = S.requires.1.0 in
-    let m = S.args.m.now in
-    let F = c.before.before.before.free-start in
-    let e : L.left - F.result + free_before (circuit_in m) (L.j + 1) ≡ S.args.n = omega (arith, counted c.before.before.before, count-more H A L.j (omega arith), count-part H A L.j (omega arith)) in (
+    let H = c.requires.0 in
+    let A = c.requires.1.0 in
+    let m = c.args.m.now in
+    let e : c.loop-j.left - c.free_start-left.result + free_before (circuit_in m) (c.loop-j.j + 1) ≡ c.args.n = omega (arith, counted c.before.before.before, count-more H A c.loop-j.j (omega arith), count-part H A c.loop-j.j (omega arith)) in (
       omega arith,
-      length-set L.values _ _ ∙ L.invariant.1,
+      length-set c.loop-j.values _ _ ∙ c.loop-j.invariant.1,
       e,
-      rw (read c.before.before) (given-more (λ i. var (latch_at (circuit_in m) i).lit) (λ i p. start_bit (circuit_in m) S.args.n (S.args.block * 64 + p) i) L.j
-          S.args.values.now L.values (var (word m (S.args.layout.latches + 3 * L.j))) c.start_word.result (latch-var H A L.j (omega arith))
-          (omega (arith, latch-small H A L.j (omega arith))) (λ i l q. latches-differ H A i L.j l (omega arith) q)
-          (λ p l. started c p l ∙ start-in H A S.args.n (S.args.block * 64 + p) (L.left - F.result) L.j (omega arith) e) L.invariant.3),
+      rw (read c.before.before) (given-more (λ i. var (latch_at (circuit_in m) i).lit) (λ i p. start_bit (circuit_in m) c.args.n (c.args.block * 64 + p) i) c.loop-j.j
+          c.args.values.now c.loop-j.values (var (word m (c.args.layout.latches + 3 * c.loop-j.j))) c.start_word.result (latch-var H A c.loop-j.j (omega arith))
+          (omega (arith, latch-small H A c.loop-j.j (omega arith))) (λ i l q. latches-differ H A i c.loop-j.j l (omega arith) q)
+          (λ p l. started c p l ∙ start-in H A c.args.n (c.args.block * 64 + p) (c.loop-j.left - c.free_start-left.result) c.loop-j.j (omega arith) e) c.loop-j.invariant.3),
     )
 
-same_length : tie.Need-same-length invariant-loop decreases-loop
-same_length c = c.before.loop.invariant.1
+same_length : tie.Need-shape_of-values invariant-loop decreases-loop
+same_length c = c.loop-j.invariant.1
 
 returns : tie.Need-returns invariant-loop decreases-loop
 returns c =
-    let S = c.before.before.before.before in
-    let L = c.before.loop in
-    let e : L.j ≡ length (circuit_in S.args.m.now).latches = omega (arith, latches-are S.requires.0 S.requires.1.0) in
+    let e : c.loop-j.j ≡ length (circuit_in c.args.m.now).latches = omega (arith, latches-are c.requires.0 c.requires.1.0) in
     subst
     (λ (k : ℕ).
-    Given (λ i. var (latch_at (circuit_in S.args.m.now) i).lit) (λ i p. start_bit (circuit_in S.args.m.now) S.args.n (S.args.block * 64 + p) i) k
-    S.args.values.now L.values)
-    e L.invariant.3
+    Given (λ i. var (latch_at (circuit_in c.args.m.now) i).lit) (λ i p. start_bit (circuit_in c.args.m.now) c.args.n (c.args.block * 64 + p) i) k
+    c.args.values.now c.loop-j.values)
+    e c.loop-j.invariant.3
 
-pub put-starts-spec : {M : Type 1} → statement M
-put-starts-spec =
+pub put_starts_spec : {M : Type 1} → statement M
+put_starts_spec =
     tie.close
-    (tie.spec
-    invariant-loop decreases-loop loop-holds mul-from-word add-from-word mul-from-word-2 shared-slice-read-from-word from-word-requires
-    mul-from-word-3 add-from-word-2 add-from-word-3 mul-from-word-4 shared-slice-read-from-word-2 from-word-requires-2
-    free-start-requires sub-left var-requires cast-place start-word-requires mul-values slice-write-values add-j loop-less loop-again
-    same_length returns)
+    (tie.spec invariant-loop decreases-loop loop-holds mul-from-word add-from-word mul-from-word-2 shared-slice-read-from-word from-word-requires mul-from-word-3 add-from-word-2 add-from-word-3 mul-from-word-4 shared-slice-read-from-word-2 from-word-requires-2 free-start-requires sub-left var-requires cast-place start-word-requires mul-values slice-write-values add-j loop-less loop-again same_length returns)

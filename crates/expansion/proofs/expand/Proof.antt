@@ -7,21 +7,19 @@ use borrow.Author.Rules.{rules}
 use Rattle.expansion.proofs.expand.Statement.{statement}
 use Rattle.expansion.proofs.expand.Tie as tie
 
-free-inputs-requires : tie.Need-free-inputs-requires
-free-inputs-requires c κs = (c.before.before.requires.0, c.before.before.requires.1)
+free-inputs-requires : tie.Need-free_inputs-n-requires
+free-inputs-requires c κs = (c.requires.0, c.requires.1)
 
-expand-rows-requires : tie.Need-expand-rows-requires
-expand-rows-requires c κs = let s = c.before.before.before.before in (s.requires.0, s.requires.1, s.requires.2, s.requires.3, c.before.free-inputs.ensures)
+expand-rows-requires : tie.Need-expand_rows-requires
+expand-rows-requires c κs = (c.requires.0, c.requires.1, c.requires.2, c.requires.3, c.free_inputs-n.ensures)
 
 returns : tie.Need-returns
 returns c =
-    let s = c.before.before.before.before.before.before.before in
-    let a = s.args in
-    expand-all (pins_of a.pins.now a.user) a.inputs a.start (a.t + 1) a.out.now c.before.before.expand-rows.new.0
-    (omega (arith, s.requires.3)) c.before.before.expand-rows.ensures
+    let a = c.args in
+    expand-all (pins_of a.pins.now a.user) a.inputs a.start (a.t + 1) a.out.now c.expand_rows.new.out
+    (omega (arith, c.requires.3)) c.expand_rows.ensures
 
-pub expand-spec : {M : Type 1} → statement M
-expand-spec =
+pub expand_spec : {M : Type 1} → statement M
+expand_spec =
     tie.close
-    (tie.spec
-    free-inputs-requires expand-rows-requires (λ c. search rules) returns)
+    (tie.spec free-inputs-requires expand-rows-requires (λ c. search rules) returns)

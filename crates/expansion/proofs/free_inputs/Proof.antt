@@ -9,51 +9,47 @@ use borrow.Author.Rules.{rules}
 use Rattle.expansion.proofs.free_inputs.Statement.{statement}
 use Rattle.expansion.proofs.free_inputs.Tie as tie
 
-abbrev invariant-loop : tie.invariant-loop
+abbrev invariant-loop : tie.invariant-loop-i
 invariant-loop pins user n count₀ i₀ count i = (i ≤ n) × (count ≡ free_inputs (pins_of pins user) i)
 
-abbrev decreases-loop : tie.decreases-loop
+abbrev decreases-loop : tie.decreases-loop-i
 decreases-loop pins user n count₀ i₀ count i = n - i
 
-loop-holds : tie.Need-loop-init invariant-loop decreases-loop
-loop-holds c = let a = c.before.args in (omega arith, sym (free-none (pins_of a.pins.now a.user)))
+loop-holds : tie.Need-loop-i-init invariant-loop decreases-loop
+loop-holds c = let a = c.args in (omega arith, sym (free-none (pins_of a.pins.now a.user)))
 
-pin-at-requires : tie.Need-pin-at-requires invariant-loop decreases-loop
+pin-at-requires : tie.Need-pin_at-requires invariant-loop decreases-loop
 pin-at-requires c κs = (omega arith, omega arith)
 
-add-count : tie.Need-overflow-add-count invariant-loop decreases-loop
+add-count : tie.Need-overflow_add-count invariant-loop decreases-loop
 add-count c =
-    let a = c.before.before.before.before.before.args in
+    let a = c.args in
     let q = pins_of a.pins.now a.user in
-    let l = c.before.before.before.loop in
-    let e : c.bits_of.result ≡ cond (is_held (q l.i)) 0 1 =
-    c.bits_of.ensures ∙ ap (λ (p : ℕ). cond (is_held p) 0 1) c.before.pin_at.ensures in
-    omega (arith, e, l.invariant.1, free_one q l.i, free-most q (l.i + 1), c.before.before.before.before.before.requires.1)
+    let e : c.bits_of-count.result ≡ cond (is_held (q c.loop-i.i)) 0 1 =
+    c.bits_of-count.ensures ∙ ap (λ (p : ℕ). cond (is_held p) 0 1) c.pin_at.ensures in
+    omega (arith, e, c.loop-i.invariant.1, free_one q c.loop-i.i, free-most q (c.loop-i.i + 1), c.requires.1)
 
-add-i : tie.Need-overflow-add-i invariant-loop decreases-loop
+add-i : tie.Need-overflow_add-i invariant-loop decreases-loop
 add-i c = omega arith
 
-loop-less : tie.Need-loop-smaller invariant-loop decreases-loop
+loop-less : tie.Need-loop-i-smaller invariant-loop decreases-loop
 loop-less c = omega arith
 
-loop-again : tie.Need-loop-preserved invariant-loop decreases-loop
+loop-again : tie.Need-loop-i-preserved invariant-loop decreases-loop
 loop-again c =
-    let a = c.before.before.before.before.before.args in
+    let a = c.args in
     let q = pins_of a.pins.now a.user in
-    let l = c.before.before.before.loop in
-    let e : c.bits_of.result ≡ cond (is_held (q l.i)) 0 1 =
-    c.bits_of.ensures ∙ ap (λ (p : ℕ). cond (is_held p) 0 1) c.before.pin_at.ensures in
-    (omega arith, omega (arith, e, l.invariant.1, free_one q l.i))
+    let e : c.bits_of-count.result ≡ cond (is_held (q c.loop-i.i)) 0 1 =
+    c.bits_of-count.ensures ∙ ap (λ (p : ℕ). cond (is_held p) 0 1) c.pin_at.ensures in
+    (omega arith, omega (arith, e, c.loop-i.invariant.1, free_one q c.loop-i.i))
 
 returns : tie.Need-returns invariant-loop decreases-loop
 returns c =
-    let a = c.before.before.before.args in
-    let l = c.before.loop in
-    let e : l.i ≡ a.n = omega (arith, l.invariant.0) in
-    l.invariant.1 ∙ ap (free_inputs (pins_of a.pins.now a.user)) e
+    let a = c.args in
+    let e : c.loop-i.i ≡ a.n = omega (arith, c.loop-i.invariant.0) in
+    c.loop-i.invariant.1 ∙ ap (free_inputs (pins_of a.pins.now a.user)) e
 
-pub free-inputs-spec : {M : Type 1} → statement M
-free-inputs-spec =
+pub free_inputs_spec : {M : Type 1} → statement M
+free_inputs_spec =
     tie.close
-    (tie.spec
-    invariant-loop decreases-loop loop-holds pin-at-requires (λ c κs. search rules) add-count add-i loop-less loop-again returns)
+    (tie.spec invariant-loop decreases-loop loop-holds pin-at-requires (λ c κs. search rules) add-count add-i loop-less loop-again returns)

@@ -17,70 +17,55 @@ use Rattle.fold.proofs.fold_frame.Statement.{statement}
 use Rattle.fold.proofs.fold_frame.Tie as tie
 
 -- the room is the size
-room-is : (c : tie.After-size) → c.size.result ≡ size (circuit_in c.before.before.before.before.before.args.m.now) c.before.before.before.before.before.args.t
+room-is : (c : tie.After-size-room) → c.size-room.result ≡ size (circuit_in c.args.m.now) c.args.t
 room-is c =
-    let s = c.before.before.before.before.before in
-    c.size.ensures ∙ size_is (counts_of s.requires.ready.held s.requires.ready.layout_of) s.args.t
+    c.size-room.ensures ∙ size_is (counts_of c.requires.ready.held c.requires.ready.layout_of) c.args.t
 
 -- where the cone is numbered, its circuit can be written
-writes : (c : tie.After-assign)
-    → Writable c.assign.new.0 c.before.before.before.before.before.before.before.before.before.before.unroll.result.graph (edge_word c.before.before.before.before.before.before.before.before.before.before.unroll.result.edge) c.assign.result
+writes : (c : tie.After-assign-kept)
+    → Writable c.assign-kept.new.work c.unroll-made.result.graph (edge_word c.unroll-made.result.edge) c.assign-kept.result
 writes c =
-    let k = c.before.before.before.before in
-    let u = k.before.before.before.before.before.before in
-    writable u.unroll.ensures k.mark.ensures c.assign.ensures (omega (arith, c.assign.auto.0, k.mark.auto.0))
+    writable c.unroll-made.ensures c.mark.ensures c.assign-kept.ensures (omega (arith, c.assign-kept.auto.work, c.mark.auto.work))
 
-size-requires : tie.Need-size-requires
+size-requires : tie.Need-size-room-requires
 size-requires c κs =
-    let s = c.before.before.before.before in
-    let h = s.requires.ready.held in
-    let a = s.requires.ready.layout_of in
-    (limited h a, s.requires.last)
+    let h = c.requires.ready.held in
+    let a = c.requires.ready.layout_of in
+    (limited h a, c.requires.last)
 
-unroll-requires : tie.Need-unroll-requires
+unroll-requires : tie.Need-unroll-made-requires
 unroll-requires c κs =
-    let s = c.before.before.before.before.before.before in
     let e = room-is c.before in
     record {
-      ready = s.requires.ready;
-      bad = s.requires.bad;
-      last = s.requires.last;
+      ready = c.requires.ready;
+      bad = c.requires.bad;
+      last = c.requires.last;
       room-is = e;
-      most = omega (arith, e, s.requires.small);
-      held = omega (arith, e, s.requires.words);
+      most = omega (arith, e, c.requires.small);
+      held = omega (arith, e, c.requires.words);
     }
 
 mark-requires : tie.Need-mark-requires
-mark-requires c κs = markable c.before.before.before.before.before.unroll.ensures
+mark-requires c κs = markable c.unroll-made.ensures
 
-write-folded-requires : tie.Need-write-folded-requires
+write-folded-requires : tie.Need-write_folded-requires
 write-folded-requires c κs =
-    let a = c.before.before.before.before in
-    let u = a.before.before.before.before.before.before.before.before.before.before in
-    let s = u.before.before.before.before.before.before.before in
-    let w = writes a in
-    (w, omega (arith, text-short w, w.sized.nodes, u.unroll.ensures.room-is, room-is u.before.before, s.requires.output))
+    let w = writes c.before.before.before in
+    (w, omega (arith, text-short w, w.sized.nodes, c.unroll-made.ensures.room-is, room-is c.before.before.before.before.before.before.before.before.before.before.before.before.before.before.before, c.requires.output))
 
 returns : tie.Need-returns
 returns c =
-    let f = c.before.before in
-    let a = f.before.before.before.before.before in
-    let k = a.before.before.before.before in
-    let u = k.before.before.before.before.before.before in
-    let s = u.before.before.before.before.before.before.before in
-    let w = writes a in
-    let e = is-chosen u.unroll.ensures k.mark.ensures a.assign.ensures in
+    let w = writes c.before.before.before.before.before.before in
+    let e = is-chosen c.unroll-made.ensures c.mark.ensures c.assign-kept.ensures in
     record {
-      permitted = permitted u.unroll.ensures k.mark.ensures a.assign.ensures;
+      permitted = permitted c.unroll-made.ensures c.mark.ensures c.assign-kept.ensures;
       short =
-          subst (λ (d : Circuit). length (write d) ≤ 24 * size (circuit_in s.args.m.now) s.args.t + 64) e
-          (omega (arith, text-short w, w.sized.nodes, u.unroll.ensures.room-is, room-is u.before.before));
-      shown = shown-as e f.write-folded.ensures;
+          subst (λ (d : Circuit). length (write d) ≤ 24 * size (circuit_in c.args.m.now) c.args.t + 64) e
+          (omega (arith, text-short w, w.sized.nodes, c.unroll-made.ensures.room-is, room-is c.before.before.before.before.before.before.before.before.before.before.before.before.before.before.before.before.before.before));
+      shown = shown-as e c.write_folded.ensures;
     }
 
-pub fold-frame-spec : {M : Type 1} → statement M
-fold-frame-spec =
+pub fold_frame_spec : {M : Type 1} → statement M
+fold_frame_spec =
     tie.close
-    (tie.spec
-    size-requires unroll-requires mark-requires (λ c κs. search rules) write-folded-requires (λ c. search rules) (λ c. search rules)
-    returns)
+    (tie.spec size-requires unroll-requires mark-requires (λ c κs. search rules) write-folded-requires (λ c. search rules) (λ c. search rules) returns)

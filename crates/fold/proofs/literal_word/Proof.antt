@@ -8,24 +8,21 @@ use borrow.Author.Rules.{rules}
 use Rattle.fold.proofs.literal_word.Statement.{statement}
 use Rattle.fold.proofs.literal_word.Tie as tie
 
-told : (c : tie.After-word) → (let s = c.before.before.before.before in c.word.result ≡ literal_word s.args.work.now s.args.w)
+told : (c : tie.After-word) → (c.word.result ≡ literal_word c.args.work.now c.args.w)
 told c =
-    let s = c.before.before.before.before in
-    literal-told s.args.work.now s.args.w c.before.before.from-word.ensures c.before.literal.ensures c.word.ensures
+    literal-told c.args.work.now c.args.w c.from_word.ensures c.literal.ensures c.word.ensures
 
 literal-requires : tie.Need-literal-requires
 literal-requires c κs =
-    let s = c.before.before in
-    subst (λ (e : Edge). NodeFits s.args.work.now e.0.0) (sym c.from-word.ensures) s.requires
+    subst (λ (e : Edge). NodeFits c.args.work.now e.0.0) (sym c.from_word.ensures) c.requires
 
-cast-result : tie.Need-overflow-cast-result
+cast-result : tie.Need-overflow_cast-result
 cast-result c =
-    let s = c.before.before.before.before in
-    omega (arith, told c, literal-small s.args.work.now s.args.w s.requires.small)
+    omega (arith, told c, literal-small c.args.work.now c.args.w c.requires.small)
 
 returns : tie.Need-returns
 returns c = told c
 
-pub literal-word-spec : {M : Type 1} → statement M
-literal-word-spec =
+pub literal_word_spec : {M : Type 1} → statement M
+literal_word_spec =
     tie.close (tie.spec (λ c κs. search rules) literal-requires (λ c κs. search rules) cast-result returns)

@@ -43,75 +43,65 @@ room s = omega (arith, s.requires.1)
 left-0 : (s : tie.Start) → Leaves s s.args.out.now 0 (head s ++ (inputs s ++ (output s ++ gates s)))
 left-0 s = left-all s.requires.0 s.args.out.now
 
-abbrev entry-1 : tie.After-write-head → tie.Start
+abbrev entry-1 : tie.After-write_head-inputs → tie.Start
 entry-1 c = c.before.before.before.before.before.before
 
-abbrev entry-2 : tie.After-write-inputs → tie.Start
+abbrev entry-2 : tie.After-write_inputs-line → tie.Start
 entry-2 c = entry-1 c.before.before.before.before
 
-abbrev entry-3 : tie.After-put-ended → tie.Start
+abbrev entry-3 : tie.After-put_ended-gates → tie.Start
 entry-3 c = entry-2 c.before.before.before.before
 
-left-1 : (c : tie.After-write-head) → Leaves (entry-1 c) c.write-head.new.0 c.write-head.result (inputs (entry-1 c) ++ (output (entry-1 c) ++ gates (entry-1 c)))
-left-1 c = let s = entry-1 c in rest_more (head s) (inputs s ++ (output s ++ gates s)) (room s) (left-0 s) c.write-head.ensures
+left-1 : (c : tie.After-write_head-inputs) → Leaves (entry-1 c) c.write_head-inputs.new.out c.write_head-inputs.result (inputs (entry-1 c) ++ (output (entry-1 c) ++ gates (entry-1 c)))
+left-1 c = let s = entry-1 c in rest_more (head s) (inputs s ++ (output s ++ gates s)) (room s) (left-0 s) c.write_head-inputs.ensures
 
-left-2 : (c : tie.After-write-inputs) → Leaves (entry-2 c) c.write-inputs.new.0 c.write-inputs.result (output (entry-2 c) ++ gates (entry-2 c))
-left-2 c = let s = entry-2 c in rest_more (inputs s) (output s ++ gates s) (room s) (left-1 c.before.before.before.before) c.write-inputs.ensures
+left-2 : (c : tie.After-write_inputs-line) → Leaves (entry-2 c) c.write_inputs-line.new.out c.write_inputs-line.result (output (entry-2 c) ++ gates (entry-2 c))
+left-2 c = let s = entry-2 c in rest_more (inputs s) (output s ++ gates s) (room s) (left-1 c.before.before.before.before) c.write_inputs-line.ensures
 
 -- the number that is written is the literal of the root
-told : (c : tie.After-word) → (let s = c.before.before.before.before in c.word.result ≡ literal_word s.args.work.now (edge_word s.args.root))
+told : (c : tie.After-word-output) → (c.word-output.result ≡ literal_word c.args.work.now (edge_word c.args.root))
 told c =
-    let s = c.before.before.before.before in
-    literal-told s.args.work.now (edge_word s.args.root) (sym (word-edge s.args.root)) c.before.literal.ensures c.word.ensures
+    literal-told c.args.work.now (edge_word c.args.root) (sym (word-edge c.args.root)) c.literal.ensures c.word-output.ensures
 
-left-3 : (c : tie.After-put-ended) → Leaves (entry-3 c) c.put_ended.new.0 c.put_ended.result (gates (entry-3 c))
+left-3 : (c : tie.After-put_ended-gates) → Leaves (entry-3 c) c.put_ended-gates.new.out c.put_ended-gates.result (gates (entry-3 c))
 left-3 c =
     let s = entry-3 c in
-    rest_more (output s) (gates s) (room s) (left-2 c.before.before.before.before) (rw (told c.before.before.before.before.before.before.before.before.before.before) at c.put_ended.ensures)
+    rest_more (output s) (gates s) (room s) (left-2 c.before.before.before.before) (rw (told c.before.before.before.before.before.before.before.before.before.before) at c.put_ended-gates.ensures)
 
 literal-requires : tie.Need-literal-requires
 literal-requires c κs =
-    let s = c.before.before in
-    node-fits s.requires.0 s.args.root.0.0 (omega (arith, word-node s.args.root, s.requires.0.inside))
+    node-fits c.requires.0 c.args.root.0.0 (omega (arith, word-node c.args.root, c.requires.0.inside))
 
-cast-output : tie.Need-overflow-cast-output
+cast-output : tie.Need-overflow_cast-output
 cast-output c =
-    let s = c.before.before.before.before in
-    let root = edge_word s.args.root in
-    omega (arith, told c, literal-small s.args.work.now root (node-fits s.requires.0 (var root) s.requires.0.inside).small)
+    let root = edge_word c.args.root in
+    omega (arith, told c, literal-small c.args.work.now root (node-fits c.requires.0 (var root) c.requires.0.inside).small)
 
-write-head-requires : tie.Need-write-head-requires
+write-head-requires : tie.Need-write_head-inputs-requires
 write-head-requires c κs =
-    let s = c.before.before.before.before.before in
-    (omega (arith, kept-few s.requires.0, s.requires.0.sized), rest-room (head s) (inputs s ++ (output s ++ gates s)) (room s) (left-0 s))
+    (omega (arith, kept-few c.requires.0, c.requires.0.sized), rest-room (head c.before.before.before.before.before) (inputs c.before.before.before.before.before ++ (output c.before.before.before.before.before ++ gates c.before.before.before.before.before)) (room c.before.before.before.before.before) (left-0 c.before.before.before.before.before))
 
-write-inputs-requires : tie.Need-write-inputs-requires
+write-inputs-requires : tie.Need-write_inputs-line-requires
 write-inputs-requires c κs =
-    let w = c.before.before.before in
-    let s = entry-1 w in
-    (omega (arith, s.pre.0.sized), rest-room (inputs s) (output s ++ gates s) (room s) (left-1 w))
+    let s = entry-1 c.before.before.before in
+    (omega (arith, s.requires.0.sized), rest-room (inputs s) (output s ++ gates s) (room s) (left-1 c.before.before.before))
 
-put-ended-requires : tie.Need-put-ended-requires
+put-ended-requires : tie.Need-put_ended-gates-requires
 put-ended-requires c κs =
-    let w = c.before.before.before in
-    let s = entry-2 w in
-    rw (told w.before.before.before.before.before.before) (rest-room (output s) (gates s) (room s) (left-2 w))
+    let s = entry-2 c.before.before.before in
+    rw (told c.before.before.before.before.before.before.before.before.before) (rest-room (output s) (gates s) (room s) (left-2 c.before.before.before))
 
-write-gates-requires : tie.Need-write-gates-requires
+write-gates-requires : tie.Need-write_gates-requires
 write-gates-requires c κs =
-    let w = c.before.before.before in
-    let s = entry-3 w in
-    (gates-fit s.pre.0, last-room (gates s) (room s) (left-3 w))
+    let s = entry-3 c.before.before.before in
+    (gates-fit s.requires.0, last-room (gates s) (room s) (left-3 c.before.before.before))
 
 returns : tie.Need-returns
 returns c =
-    let w = c.before.before in
-    let s = entry-3 w.before.before.before.before in
-    shown (room s) (left-3 w.before.before.before.before) w.write-gates.ensures
+    let s = entry-3 c.before.before.before.before.before.before in
+    shown (room s) (left-3 c.before.before.before.before.before.before) c.write_gates.ensures
 
-pub write-folded-spec : {M : Type 1} → statement M
-write-folded-spec =
+pub write_folded_spec : {M : Type 1} → statement M
+write_folded_spec =
     tie.close
-    (tie.spec
-    literal-requires (λ c κs. search rules) cast-output write-head-requires write-inputs-requires put-ended-requires
-    write-gates-requires (λ c. search rules) returns)
+    (tie.spec literal-requires (λ c κs. search rules) cast-output write-head-requires write-inputs-requires put-ended-requires write-gates-requires (λ c. search rules) returns)

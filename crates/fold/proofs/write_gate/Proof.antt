@@ -11,42 +11,28 @@ use Rattle.fold.proofs.write_gate.Statement.{statement}
 use Rattle.fold.proofs.write_gate.Tie as tie
 
 -- the row that is written is the gate's line
-line : (c : tie.After-put-row-arg) → (
-    let two = c.before.before in
-    let one = two.before.before in
-    let own = one.before.before in
-    let s = own.before.before.before.before.before in
-    row_text (own.word.result ∷ one.literal-word.result ∷ two.literal-word2.result ∷ []) 0 3 ≡ gate_text s.args.work.now s.args.k)
+line : (c : tie.After-put_row-arg-1) → (
+    row_text (c.word-own.result ∷ c.literal_word-left.result ∷ c.literal_word-right.result ∷ []) 0 3 ≡ gate_text c.args.work.now c.args.k)
 line c =
-    let two = c.before.before in
-    let one = two.before.before in
-    let own = one.before.before in
-    let s = own.before.before.before.before.before in
-    gate-line s.args.work.now s.args.k own.word.result one.literal-word.result two.literal-word2.result own.before.if1.false
-    (omega (arith, own.word.ensures)) one.literal-word.ensures two.literal-word2.ensures
+    gate-line c.args.work.now c.args.k c.word-own.result c.literal_word-left.result c.literal_word-right.result c.if-number-eq0.false
+    (omega (arith, c.word-own.ensures)) c.literal_word-left.ensures c.literal_word-right.ensures
 
-returns : tie.Need-returns
+returns : tie.Need-returns-then-number-eq0
 returns c =
-    let s = c.before.before.before.before in
-    rw (gate-none s.args.work.now s.args.k (omega arith)) (placed-none s.args.out.now s.args.at)
+    rw (gate-none c.args.work.now c.args.k (omega arith)) (placed-none c.args.out.now c.args.at)
 
-literal-word-requires : tie.Need-literal-word-requires
-literal-word-requires c κs = let s = c.before.before.before.before.before.before in gate-left s.args.work.now s.args.k s.requires.0
+literal-word-requires : tie.Need-literal_word-left-requires
+literal-word-requires c κs = gate-left c.args.work.now c.args.k c.requires.0
 
-put-row-requires : tie.Need-put-row-requires
+put-row-requires : tie.Need-put_row-requires
 put-row-requires c κs =
-    let s = c.before.before.before.before.before.before.before.before.before.before.before in
-    (omega arith, rw (line c) s.requires.1)
+    (omega arith, rw (line c) c.requires.1)
 
-returns-2 : tie.Need-returns-2
+returns-2 : tie.Need-returns
 returns-2 c =
-    let w = c.before.before in
-    rw (line w.before) at w.put-row.ensures
+    rw (line c.before.before.before) at c.put_row.ensures
 
-pub write-gate-spec : {M : Type 1} → statement M
-write-gate-spec =
+pub write_gate_spec : {M : Type 1} → statement M
+write_gate_spec =
     tie.close
-    (tie.spec
-    (λ c. search rules) (λ c. search rules) (λ c. search rules) (λ c. search rules) returns (λ c κs. search rules) (λ c. search rules)
-    (λ c. search rules) (λ c. search rules) (λ c. search rules) literal-word-requires (λ c. search rules) (λ c. search rules)
-    (λ c. search rules) (λ c. search rules) (λ c κs. search rules) (λ c. search rules) put-row-requires (λ c. search rules) returns-2)
+    (tie.spec (λ c. search rules) (λ c. search rules) (λ c. search rules) (λ c. search rules) returns (λ c κs. search rules) (λ c. search rules) (λ c. search rules) (λ c. search rules) (λ c. search rules) literal-word-requires (λ c. search rules) (λ c. search rules) (λ c. search rules) (λ c. search rules) (λ c κs. search rules) (λ c. search rules) put-row-requires (λ c. search rules) returns-2)

@@ -7,35 +7,28 @@ use borrow.Author.Rules.{rules}
 use Rattle.fold.proofs.write_head.Statement.{statement}
 use Rattle.fold.proofs.write_head.Tie as tie
 
-slice-write-out-2 : tie.Need-slice-write-out-2
+slice-write-out-2 : tie.Need-bounds-out-1
 slice-write-out-2 c = simp length-set (omega arith)
 
-slice-write-out-3 : tie.Need-slice-write-out-3
+slice-write-out-3 : tie.Need-bounds-out-2
 slice-write-out-3 c = simp length-set (omega arith)
 
-slice-write-out-4 : tie.Need-slice-write-out-4
+slice-write-out-4 : tie.Need-bounds-out-3
 slice-write-out-4 c = simp length-set (omega arith)
 
-put-row-requires : tie.Need-put-row-requires
+put-row-requires : tie.Need-put_row-requires
 put-row-requires c κs =
-    let s = c.before.before.before in
-    (omega arith, head-room s.args.out.now s.args.free s.args.kept s.requires.1)
+    (omega arith, head-room c.args.out.now c.args.free c.args.kept c.requires.1)
 
-same_length : tie.Need-same-length
+same_length : tie.Need-shape_of-out
 same_length c =
-    let w = c.before.before in
-    let s = w.before.before.before.before in
-    placed-length s.requires.1 (head-placed s.args.out.now s.args.free s.args.kept s.requires.1 w.put-row.ensures)
+    placed-length c.requires.1 (head-placed c.args.out.now c.args.free c.args.kept c.requires.1 c.put_row.ensures)
 
 returns : tie.Need-returns
 returns c =
-    let w = c.before.before in
-    let s = w.before.before.before.before in
-    head-placed s.args.out.now s.args.free s.args.kept s.requires.1 w.put-row.ensures
+    head-placed c.args.out.now c.args.free c.args.kept c.requires.1 c.put_row.ensures
 
-pub write-head-spec : {M : Type 1} → statement M
-write-head-spec =
+pub write_head_spec : {M : Type 1} → statement M
+write_head_spec =
     tie.close
-    (tie.spec
-    (λ c. search rules) (λ c. search rules) (λ c. search rules) (λ c. search rules) (λ c. search rules) slice-write-out-2
-    slice-write-out-3 slice-write-out-4 (λ c. search rules) put-row-requires same_length returns)
+    (tie.spec (λ c. search rules) (λ c. search rules) (λ c. search rules) (λ c. search rules) (λ c. search rules) slice-write-out-2 slice-write-out-3 slice-write-out-4 (λ c. search rules) put-row-requires same_length returns)

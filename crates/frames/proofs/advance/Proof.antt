@@ -6,23 +6,18 @@ use borrow.Author.Rules.{rules}
 use Rattle.frames.proofs.advance.Statement.{statement}
 use Rattle.frames.proofs.advance.Tie as tie
 
-next-state-requires : tie.Need-next-state-requires
+next-state-requires : tie.Need-next_state-requires
 next-state-requires c κs =
-    let S = c.before.before.before.before.before.before in
-    ((latches-inside S.requires.0, omega (arith, latches-few S.requires.0, S.requires.1)), next-below S.requires.0)
+    ((latches-inside c.requires.0, omega (arith, latches-few c.requires.0, c.requires.1)), next-below c.requires.0)
 
-put-state-requires : tie.Need-put-state-requires
+put-state-requires : tie.Need-put_state-requires
 put-state-requires c κs =
-    let S = c.before.before.before.before.before.before.before.before.before.before.before in
-    ((latches-inside S.requires.0, omega (arith, latches-few S.requires.0, S.requires.1, c.before.before.before.before.next-state.auto.1.1.1.0)), latches-apart S.requires.0)
+    ((latches-inside c.requires.0, omega (arith, latches-few c.requires.0, c.requires.1, c.next_state.auto.state)), latches-apart c.requires.0)
 
 returns : tie.Need-returns
 returns c =
-    let N = c.before.before.before.before.before.before.before.next-state in
-    let P = c.before.before.put-state in
-    let S = c.before.before.before.before.before.before.before.before.before.before.before.before.before.before in
-    advanced S.requires.0 N.new.1.1.1.0 S.args.values.now P.new.1.1.1.0 N.ensures P.ensures P.auto.1.1.1.0
+    advanced c.requires.0 c.next_state.new.state c.args.values.now c.put_state.new.values c.next_state.ensures c.put_state.ensures c.put_state.auto.values
 
-pub advance-spec : {M : Type 1} → statement M
-advance-spec =
+pub advance_spec : {M : Type 1} → statement M
+advance_spec =
     tie.close (tie.spec next-state-requires put-state-requires (λ c. search rules) (λ c. search rules) returns)

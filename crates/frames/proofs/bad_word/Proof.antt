@@ -13,26 +13,24 @@ use Rattle.frames.proofs.Hits.{bad-end}
 use Rattle.frames.proofs.bad_word.Statement.{statement}
 use Rattle.frames.proofs.bad_word.Tie as tie
 
-mul-from-word : tie.Need-overflow-mul-from-word
-mul-from-word c = let S = c.before.before.before in omega (arith, bad-inside S.requires.0 S.args.b S.requires.1)
+mul-from-word : tie.Need-offset_bounds-m-bads
+mul-from-word c = omega (arith, bad-inside c.requires.0 c.args.b c.requires.1)
 
-shared-slice-read-from-word : tie.Need-shared-slice-read-from-word
-shared-slice-read-from-word c = let S = c.before.before.before.before in omega (arith, bad-inside S.requires.0 S.args.b S.requires.1)
+shared-slice-read-from-word : tie.Need-bounds-m-bads
+shared-slice-read-from-word c = omega (arith, bad-inside c.requires.0 c.args.b c.requires.1)
 
-literal-value-requires : tie.Need-literal-value-requires
+literal-value-requires : tie.Need-literal_value-requires
 literal-value-requires c κs =
-    let S = c.before.before.before.before.before in rw (ap (λ (l : Lit). l.0.0) c.from-word.ensures) (bad-below S.requires.0 S.args.b S.requires.1)
+    rw (ap (λ (l : Lit). l.0.0) c.from_word.ensures) (bad-below c.requires.0 c.args.b c.requires.1)
 
 returns : tie.Need-returns
 returns c =
-    let S = c.before.before.before.before.before.before in
     λ p l.
-    c.literal-value.ensures p l
-    ∙ ap (value (lane S.args.values.now p)) (word_read (word S.args.m.now (S.args.layout.bads + S.args.b)) c.before.from-word.ensures)
-    ∙ bad-end S.requires.0 S.args.b S.requires.1 (lane S.args.values.now p)
+    c.literal_value.ensures p l
+    ∙ ap (value (lane c.args.values.now p)) (word_read (word c.args.m.now (c.args.layout.bads + c.args.b)) c.from_word.ensures)
+    ∙ bad-end c.requires.0 c.args.b c.requires.1 (lane c.args.values.now p)
 
-pub bad-word-spec : {M : Type 1} → statement M
-bad-word-spec =
+pub bad_word_spec : {M : Type 1} → statement M
+bad_word_spec =
     tie.close
-    (tie.spec
-    (λ c. search rules) mul-from-word shared-slice-read-from-word (λ c κs. search rules) literal-value-requires returns)
+    (tie.spec (λ c. search rules) mul-from-word shared-slice-read-from-word (λ c κs. search rules) literal-value-requires returns)

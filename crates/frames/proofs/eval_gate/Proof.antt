@@ -12,32 +12,27 @@ use borrow.Author.Rules.{rules}
 use Rattle.frames.proofs.eval_gate.Statement.{statement}
 use Rattle.frames.proofs.eval_gate.Tie as tie
 
-literal-value-requires : tie.Need-literal-value-requires
-literal-value-requires c κs = rw (ap (λ (l : Lit). l.0.0) c.from-word.ensures) c.before.before.before.before.before.requires.left
+literal-value-requires : tie.Need-literal_value-x-requires
+literal-value-requires c κs = rw (ap (λ (l : Lit). l.0.0) c.from_word.ensures) c.requires.left
 
-literal-value-requires-2 : tie.Need-literal-value-requires-2
-literal-value-requires-2 c κs = rw (ap (λ (l : Lit). l.0.0) c.from-word2.ensures) c.before.before.before.before.before.before.before.before.before.requires.right
+literal-value-requires-2 : tie.Need-literal_value-y-requires
+literal-value-requires-2 c κs = rw (ap (λ (l : Lit). l.0.0) c.from_word-2.ensures) c.requires.right
 
-slice-write-values : tie.Need-slice-write-values
+slice-write-values : tie.Need-bounds-values-place
 slice-write-values c =
-    rw (ap (λ (v : Var). v.0) c.before.var.ensures ∙ ap (λ (l : Lit). l.0.0) c.before.before.from-word3.ensures) c.before.before.before.before.before.before.before.before.before.before.before.before.before.before.requires.lit
+    rw (ap (λ (v : Var). v.0) c.var-v.ensures ∙ ap (λ (l : Lit). l.0.0) c.from_word-3.ensures) c.requires.lit
 
 returns : tie.Need-returns
 returns c =
-    let S = c.before.before.before.before.before.before.before.before.before.before.before.before.before.before in
-    let m = S.args.m.now in
-    let at = S.args.at in
-    let values = S.args.values.now in
-    rw (ap (λ (v : Var). v.0) c.before.var.ensures ∙ ap (λ (l : Lit). l.0.0) c.before.before.from-word3.ensures)
-    (gated (gate_in m at) values c.before.before.before.before.before.before.before.before.literal-value.result c.before.before.before.before.literal-value2.result S.requires.lit
-    (λ p h. c.before.before.before.before.before.before.before.before.literal-value.ensures p h ∙ ap (value (lane values p)) (word_read (word m (at + 1)) c.before.before.before.before.before.before.before.before.before.from-word.ensures))
-    (λ p h. c.before.before.before.before.literal-value2.ensures p h ∙ ap (value (lane values p)) (word_read (word m (at + 2)) c.before.before.before.before.before.from-word2.ensures)))
+    let m = c.args.m.now in
+    let at = c.args.at in
+    let values = c.args.values.now in
+    rw (ap (λ (v : Var). v.0) c.var-v.ensures ∙ ap (λ (l : Lit). l.0.0) c.from_word-3.ensures)
+    (gated (gate_in m at) values c.literal_value-x.result c.literal_value-y.result c.requires.lit
+    (λ p h. c.literal_value-x.ensures p h ∙ ap (value (lane values p)) (word_read (word m (at + 1)) c.from_word.ensures))
+    (λ p h. c.literal_value-y.ensures p h ∙ ap (value (lane values p)) (word_read (word m (at + 2)) c.from_word-2.ensures)))
 
-pub eval-gate-spec : {M : Type 1} → statement M
-eval-gate-spec =
+pub eval_gate_spec : {M : Type 1} → statement M
+eval_gate_spec =
     tie.close
-    (tie.spec
-    (λ c. search rules) (λ c. search rules) (λ c. search rules) (λ c κs. search rules) literal-value-requires (λ c. search rules)
-    (λ c. search rules) (λ c. search rules) (λ c κs. search rules) literal-value-requires-2 (λ c. search rules) (λ c. search rules)
-    (λ c κs. search rules) (λ c κs. search rules) (λ c. search rules) (λ c. search rules) slice-write-values (λ c. search rules)
-    returns)
+    (tie.spec (λ c. search rules) (λ c. search rules) (λ c. search rules) (λ c κs. search rules) literal-value-requires (λ c. search rules) (λ c. search rules) (λ c. search rules) (λ c κs. search rules) literal-value-requires-2 (λ c. search rules) (λ c. search rules) (λ c κs. search rules) (λ c κs. search rules) (λ c. search rules) (λ c. search rules) slice-write-values (λ c. search rules) returns)

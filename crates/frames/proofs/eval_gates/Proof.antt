@@ -16,18 +16,18 @@ use Rattle.frames.proofs.eval_gates.Statement.{statement}
 use Rattle.frames.proofs.eval_gates.Tie as tie
 
 -- the table is the part of the memory that begins with the gates
-abbrev invariant-loop : tie.invariant-loop
+abbrev invariant-loop : tie.invariant-loop-k
 invariant-loop m order values₀ count gates table k₀ values k = (k ≤ count) × Upto (circuit_in m) order k values₀ values × (table ≡ drop gates m)
 
-abbrev decreases-loop : tie.decreases-loop
+abbrev decreases-loop : tie.decreases-loop-k
 decreases-loop m order values₀ count gates table k₀ values k = count - k
 
 -- the entry, before a turn
-abbrev first : tie.At-loop invariant-loop decreases-loop → tie.Start invariant-loop decreases-loop
+abbrev first : tie.At-loop-k invariant-loop decreases-loop → tie.Start invariant-loop decreases-loop
 first c = c.before.before.before.before.before
 
 -- the gate at place k of the order: it can be evaluated, and then one gate more is
-module _ (c : tie.At-loop invariant-loop decreases-loop) (k : ℕ) (l : k < (first c).args.layout.a) where
+module _ (c : tie.At-loop-k invariant-loop decreases-loop) (k : ℕ) (l : k < (first c).args.layout.a) where
   abbrev m : List ℕ
   m = (first c).args.m.now
 
@@ -57,30 +57,30 @@ module _ (c : tie.At-loop invariant-loop decreases-loop) (k : ℕ) (l : k < (fir
       upto-more (right (first c).requires.held) (first c).requires.ordered k (omega (arith, gates-are (first c).requires)) _ mid after size u
       (subst (λ (y : Gate). Gated y mid after) place e)
 
-mul-table : tie.Need-overflow-mul-table invariant-loop decreases-loop
+mul-table : tie.Need-offset_bounds-m-gates invariant-loop decreases-loop
 mul-table c =
-    let w = c.before.before.shared-slice-known.given in
-    omega (arith, c.before.before.before.requires.layout_of.gates-is, w 1, w 2, w 3, w 5, w 6)
+    let w = c.shared_slice_known-1.given in
+    omega (arith, c.requires.layout_of.gates-is, w 1, w 2, w 3, w 5, w 6)
 
-sub-table : tie.Need-overflow-sub-table invariant-loop decreases-loop
-sub-table c = omega (arith, gates-inside c.before.before.before.requires)
+sub-table : tie.Need-slice_bounds-table-count invariant-loop decreases-loop
+sub-table c = omega (arith, gates-inside c.requires)
 
-part-table-start : tie.Need-slice-bounds-table-start invariant-loop decreases-loop
-part-table-start c = omega (arith, gates-inside c.before.before.before.requires)
+part-table-start : tie.Need-slice_bounds-table-start invariant-loop decreases-loop
+part-table-start c = omega (arith, gates-inside c.requires)
 
-loop-holds : tie.Need-loop-init invariant-loop decreases-loop
+loop-holds : tie.Need-loop-k-init invariant-loop decreases-loop
 loop-holds c =
-    let S = c.before.before.before.before in (
+    (
       omega arith,
-      upto-start (circuit_in S.args.m.now) S.args.order.now S.args.values.now,
-      take_rest S.args.m.now S.args.layout.gates,
+      upto-start (circuit_in c.args.m.now) c.args.order.now c.args.values.now,
+      take_rest c.args.m.now c.args.layout.gates,
     )
 
-add-loop : tie.Need-overflow-add-loop invariant-loop decreases-loop
-add-loop c = omega (arith, gates-few (first c).requires, c.loop.invariant.0)
+add-loop : tie.Need-overflow_add-k invariant-loop decreases-loop
+add-loop c = omega (arith, gates-few (first c).requires, c.loop-k.invariant.0)
 
 -- what the gate at place k needs, where the table is as it was and the values are so many
-asks : (c : tie.At-loop invariant-loop decreases-loop) (k : ℕ) → k < (first c).args.layout.a → (values : List ℕ)
+asks : (c : tie.At-loop-k invariant-loop decreases-loop) (k : ℕ) → k < (first c).args.layout.a → (values : List ℕ)
     → length values ≡ length (first c).args.values.now → (t : List ℕ) → t ≡ drop (first c).args.layout.gates (first c).args.m.now
     → ((k < length (first c).args.order.now) × (get_or (first c).args.order.now k 0 < 3072))
     × GateRoom t (3 * get_or (first c).args.order.now k 0) (length values)
@@ -89,54 +89,49 @@ asks c k l values e t z = (
   subst (λ (u : List ℕ). GateRoom u (3 * get_or (first c).args.order.now k 0) (length values)) (sym z) (room c k l values e),
 )
 
-eval-place-requires : tie.Need-eval-place-requires invariant-loop decreases-loop
+eval-place-requires : tie.Need-eval_place-requires invariant-loop decreases-loop
 eval-place-requires c κs =
-    let a = c.before.before in
-    asks a a.loop.k (omega (arith, c.before.loop-test.true)) a.loop.values a.loop.invariant.1.size _ a.loop.invariant.2
+    asks c.before.before c.loop-k.k (omega (arith, c.loop-k-test.true)) c.loop-k.values c.loop-k.invariant.1.size _ c.loop-k.invariant.2
 
 -- after the first gate of a turn
-module _ (e : tie.After-eval-place invariant-loop decreases-loop) where
-  abbrev A : tie.At-loop invariant-loop decreases-loop
+module _ (e : tie.After-eval_place invariant-loop decreases-loop) where
+  abbrev A : tie.At-loop-k invariant-loop decreases-loop
   A = e.before.before.before
 
   abbrev now : List ℕ
-  now = e.eval-place.last.1.1.1.0
+  now = e.eval_place.new.values
 
-  low : A.loop.k + 1 < (first A).args.layout.a
-  low = e.before.before.loop-test.taken
+  low : A.loop-k.k + 1 < (first A).args.layout.a
+  low = e.loop-k-test.true
 
-  one : Upto (circuit_in (first A).args.m.now) (first A).args.order.now (A.loop.k + 1) (first A).args.values.now now
+  one : Upto (circuit_in (first A).args.m.now) (first A).args.order.now (A.loop-k.k + 1) (first A).args.values.now now
   one =
-      more A A.loop.k (omega (arith, low)) A.loop.values now e.eval-place.kept.1.1.1.0 A.loop.inv.1
-      (subst (λ (t : List ℕ). Gated (gate_in t (3 * get_or (first A).args.order.now A.loop.k 0)) A.loop.values now) A.loop.inv.2 e.eval-place.ensures)
+      more A A.loop-k.k (omega (arith, low)) A.loop-k.values now e.eval_place.auto.values A.loop-k.invariant.1
+      (subst (λ (t : List ℕ). Gated (gate_in t (3 * get_or (first A).args.order.now A.loop-k.k 0)) A.loop-k.values now) A.loop-k.invariant.2 e.eval_place.ensures)
 
-eval-place-requires-2 : tie.Need-eval-place-requires-2 invariant-loop decreases-loop
+eval-place-requires-2 : tie.Need-eval_place-requires-in-loop-k invariant-loop decreases-loop
 eval-place-requires-2 c κs =
-    let e = c.before.before.before in
-    asks (A e) ((A e).loop.k + 1) (low e) (now e) (one e).size _ (A e).loop.invariant.2
+    asks (A c.before.before.before) ((A c.before.before.before).loop-k.k + 1) (low c.before.before.before) (now c.before.before.before) (one c.before.before.before).size _ (A c.before.before.before).loop-k.invariant.2
 
-loop-again : tie.Need-loop-preserved invariant-loop decreases-loop
+loop-again : tie.Need-loop-k-preserved invariant-loop decreases-loop
 loop-again c =
-    let f = c.before.before in
-    let e = f.before.before.before.before in
-    let a = A e in
-    let after = f.eval-place2.new.1.1.1.0 in
-    let l : a.loop.k + 1 + 1 ≡ a.loop.k + 2 = omega arith in (
-      omega (arith, low e),
+    let a = A c.before.before.before.before.before.before in
+    let after = c.eval_place-in-loop-k.new.values in
+    let l : a.loop-k.k + 1 + 1 ≡ a.loop-k.k + 2 = omega arith in (
+      omega (arith, low c.before.before.before.before.before.before),
       subst (λ (k : ℕ). Upto (circuit_in (first a).args.m.now) (first a).args.order.now k (first a).args.values.now after) l
-          (more a (a.loop.k + 1) (low e) (now e) after f.eval-place2.auto.1.1.1.0 (one e)
-          (subst (λ (t : List ℕ). Gated (gate_in t (3 * get_or (first a).args.order.now (a.loop.k + 1) 0)) (now e) after) a.loop.inv.2
-          f.eval-place2.ensures)),
-      a.loop.inv.2,
+          (more a (a.loop-k.k + 1) (low c.before.before.before.before.before.before) (now c.before.before.before.before.before.before) after c.eval_place-in-loop-k.auto.values (one c.before.before.before.before.before.before)
+          (subst (λ (t : List ℕ). Gated (gate_in t (3 * get_or (first a).args.order.now (a.loop-k.k + 1) 0)) (now c.before.before.before.before.before.before) after) a.loop-k.invariant.2
+          c.eval_place-in-loop-k.ensures)),
+      a.loop-k.invariant.2,
     )
 
-eval-place-requires-3 : tie.Need-eval-place-requires-3 invariant-loop decreases-loop
+eval-place-requires-3 : tie.Need-eval_place-requires-then-k-count invariant-loop decreases-loop
 eval-place-requires-3 c κs =
-    let a = c.before.before.before in
-    asks a a.loop.k c.before.if1.true a.loop.values a.loop.invariant.1.size _ a.loop.invariant.2
+    asks c.before.before.before c.loop-k.k c.if-k-count.true c.loop-k.values c.loop-k.invariant.1.size _ c.loop-k.invariant.2
 
 -- all gates, where so many are evaluated
-ended : (c : tie.At-loop invariant-loop decreases-loop) (k : ℕ) (after : List ℕ) → k ≡ (first c).args.layout.a
+ended : (c : tie.At-loop-k invariant-loop decreases-loop) (k : ℕ) (after : List ℕ) → k ≡ (first c).args.layout.a
     → Upto (circuit_in (first c).args.m.now) (first c).args.order.now k (first c).args.values.now after
     → Upto (circuit_in (first c).args.m.now) (first c).args.order.now (length (circuit_in (first c).args.m.now).gates) (first c).args.values.now after
 ended c k after e u =
@@ -144,37 +139,33 @@ ended c k after e u =
     (e ∙ gates-are (first c).requires) u
 
 -- after the gate that is left over
-module _ (f : tie.After-eval-place3 invariant-loop decreases-loop) where
-  abbrev B : tie.At-loop invariant-loop decreases-loop
+module _ (f : tie.After-eval_place-then-k-count invariant-loop decreases-loop) where
+  abbrev B : tie.At-loop-k invariant-loop decreases-loop
   B = f.before.before.before.before
 
-  last_one : Upto (circuit_in (first B).args.m.now) (first B).args.order.now (B.loop.k + 1) (first B).args.values.now f.eval-place3.last.1.1.1.0
+  last_one : Upto (circuit_in (first B).args.m.now) (first B).args.order.now (B.loop-k.k + 1) (first B).args.values.now f.eval_place-then-k-count.new.values
   last_one =
-      more B B.loop.k f.before.before.if1.taken B.loop.values _ f.eval-place3.kept.1.1.1.0 B.loop.inv.1
-      (subst (λ (t : List ℕ). Gated (gate_in t (3 * get_or (first B).args.order.now B.loop.k 0)) B.loop.values f.eval-place3.last.1.1.1.0) B.loop.inv.2 f.eval-place3.ensures)
+      more B B.loop-k.k f.if-k-count.true B.loop-k.values _ f.eval_place-then-k-count.auto.values B.loop-k.invariant.1
+      (subst (λ (t : List ℕ). Gated (gate_in t (3 * get_or (first B).args.order.now B.loop-k.k 0)) B.loop-k.values f.eval_place-then-k-count.new.values) B.loop-k.invariant.2 f.eval_place-then-k-count.ensures)
 
-same_length : tie.Need-same-length invariant-loop decreases-loop
+same_length : tie.Need-shape_of-values-then-k-count invariant-loop decreases-loop
 same_length c = (last_one c.before.before).size
 
-returns : tie.Need-returns invariant-loop decreases-loop
+returns : tie.Need-returns-then-k-count invariant-loop decreases-loop
 returns c =
-    let f = c.before.before in
-    let a = B f in
-    let e : a.loop.k + 1 ≡ (first a).args.layout.a = omega arith in
-    upto-end (right (first a).pre.held) (first a).pre.ordered (ended a _ _ e (last_one f))
+    let a = B c.before.before in
+    let e : a.loop-k.k + 1 ≡ (first a).args.layout.a = omega arith in
+    upto-end (right (first a).requires.held) (first a).requires.ordered (ended a _ _ e (last_one c.before.before))
 
-same-length-2 : tie.Need-same-length-2 invariant-loop decreases-loop
-same-length-2 c = c.before.before.loop.invariant.1.size
+same-length-2 : tie.Need-shape_of-values-else-k-count invariant-loop decreases-loop
+same-length-2 c = c.loop-k.invariant.1.size
 
-returns-2 : tie.Need-returns-2 invariant-loop decreases-loop
+returns-2 : tie.Need-returns-else-k-count invariant-loop decreases-loop
 returns-2 c =
-    let a = c.before.before in
-    let e : a.loop.k ≡ (first a).args.layout.a = omega arith in
-    upto-end (right (first a).requires.held) (first a).requires.ordered (ended a _ _ e a.loop.invariant.1)
+    let e : c.loop-k.k ≡ (first c.before.before).args.layout.a = omega arith in
+    upto-end (right (first c.before.before).requires.held) (first c.before.before).requires.ordered (ended c.before.before _ _ e c.loop-k.invariant.1)
 
-pub eval-gates-spec : {M : Type 1} → statement M
-eval-gates-spec =
+pub eval_gates_spec : {M : Type 1} → statement M
+eval_gates_spec =
     tie.close
-    (tie.spec
-    invariant-loop decreases-loop mul-table sub-table part-table-start (λ c. search rules) loop-holds add-loop eval-place-requires (λ c. search rules)
-    eval-place-requires-2 (λ c. search rules) (λ c. search rules) loop-again eval-place-requires-3 same_length returns same-length-2 returns-2)
+    (tie.spec invariant-loop decreases-loop mul-table sub-table part-table-start (λ c. search rules) loop-holds add-loop eval-place-requires (λ c. search rules) eval-place-requires-2 (λ c. search rules) (λ c. search rules) loop-again eval-place-requires-3 same_length returns same-length-2 returns-2)

@@ -13,81 +13,75 @@ use borrow.Author.Rules.{rules}
 use Rattle.frames.proofs.put_state.Statement.{statement}
 use Rattle.frames.proofs.put_state.Tie as tie
 
-abbrev invariant-loop : tie.invariant-loop
+abbrev invariant-loop : tie.invariant-loop-j
 invariant-loop m state values₀ count latches j₀ values j =
     (j ≤ count) × (length values ≡ length values₀) × Stored (λ i. var (word m (latches + 3 * i))) (λ i. get_or state i 0) j values₀ values
 
-abbrev decreases-loop : tie.decreases-loop
+abbrev decreases-loop : tie.decreases-loop-j
 decreases-loop m state values₀ count latches j₀ values j = count - j
 
 -- the variable that was read
-read : (c : tie.After-var invariant-loop decreases-loop)
-    → (let S = c.before.before.before.before.before.before.before.before in c.var.result.0 ≡ var (word S.args.m.now (S.args.layout.latches + 3 * c.before.before.before.before.loop.j)))
-read c = ap (λ (v : Var). v.0) c.var.ensures ∙ ap (λ (l : Lit). l.0.0) c.before.from-word.ensures
+read : (c : tie.After-var-v invariant-loop decreases-loop)
+    → (c.var-v.result.0 ≡ var (word c.args.m.now (c.args.layout.latches + 3 * c.loop-j.j)))
+read c = ap (λ (v : Var). v.0) c.var-v.ensures ∙ ap (λ (l : Lit). l.0.0) c.from_word.ensures
 
-loop-holds : tie.Need-loop-init invariant-loop decreases-loop
+loop-holds : tie.Need-loop-j-init invariant-loop decreases-loop
 loop-holds c = (omega arith, refl, stored-start _ _ _)
 
-mul-from-word : tie.Need-overflow-mul-from-word invariant-loop decreases-loop
+mul-from-word : tie.Need-overflow_mul-j invariant-loop decreases-loop
 mul-from-word c = omega arith
 
-add-from-word : tie.Need-overflow-add-from-word invariant-loop decreases-loop
+add-from-word : tie.Need-overflow_add-latches invariant-loop decreases-loop
 add-from-word c = omega arith
 
-mul-from-word-2 : tie.Need-overflow-mul-from-word-2 invariant-loop decreases-loop
+mul-from-word-2 : tie.Need-offset_bounds-m-latches invariant-loop decreases-loop
 mul-from-word-2 c = omega arith
 
-shared-slice-read-from-word : tie.Need-shared-slice-read-from-word invariant-loop decreases-loop
+shared-slice-read-from-word : tie.Need-bounds-m-latches invariant-loop decreases-loop
 shared-slice-read-from-word c = omega arith
 
-cast-place : tie.Need-overflow-cast-place invariant-loop decreases-loop
-cast-place c = omega (arith, read c.before, c.before.before.before.before.before.before.before.before.before.requires.1.below c.before.before.before.before.before.loop.j (omega arith))
+cast-place : tie.Need-overflow_cast-place invariant-loop decreases-loop
+cast-place c = omega (arith, read c.before, c.requires.1.below c.loop-j.j (omega arith))
 
-mul-values : tie.Need-overflow-mul-values invariant-loop decreases-loop
+mul-values : tie.Need-offset_bounds-state-j invariant-loop decreases-loop
 mul-values c = omega arith
 
-shared-slice-read-values : tie.Need-shared-slice-read-values invariant-loop decreases-loop
+shared-slice-read-values : tie.Need-bounds-state-j invariant-loop decreases-loop
 shared-slice-read-values c = omega arith
 
-mul-values-2 : tie.Need-overflow-mul-values-2 invariant-loop decreases-loop
-mul-values-2 c = omega (arith, read c.before.before, c.before.before.before.before.before.before.before.before.before.before.requires.1.below c.before.before.before.before.before.before.loop.j (omega arith))
+mul-values-2 : tie.Need-offset_bounds-values-place invariant-loop decreases-loop
+mul-values-2 c = omega (arith, read c.before.before, c.requires.1.below c.loop-j.j (omega arith))
 
-slice-write-values : tie.Need-slice-write-values invariant-loop decreases-loop
-slice-write-values c = omega (arith, read c.before.before, c.before.before.before.before.before.before.before.before.before.before.requires.1.below c.before.before.before.before.before.before.loop.j (omega arith))
+slice-write-values : tie.Need-bounds-values-place invariant-loop decreases-loop
+slice-write-values c = omega (arith, read c.before.before, c.requires.1.below c.loop-j.j (omega arith))
 
-add-j : tie.Need-overflow-add-j invariant-loop decreases-loop
+add-j : tie.Need-overflow_add-j invariant-loop decreases-loop
 add-j c = omega arith
 
-loop-less : tie.Need-loop-smaller invariant-loop decreases-loop
+loop-less : tie.Need-loop-j-smaller invariant-loop decreases-loop
 loop-less c = omega arith
 
-loop-again : tie.Need-loop-preserved invariant-loop decreases-loop
+loop-again : tie.Need-loop-j-preserved invariant-loop decreases-loop
 loop-again c =
-    let L = c.before.before.before.before.before.before.loop in
-    let S = c.before.before.before.before.before.before.before.before.before.before in (
+    (
       omega arith,
-      length-set L.values _ _ ∙ L.invariant.1,
-      rw (read c.before.before) (stored_more (λ i. var (word S.args.m.now (S.args.layout.latches + 3 * i))) (λ i. get_or S.args.state.now i 0) L.j
-          S.args.values.now L.values S.requires.1 L.invariant.1 (omega arith) L.invariant.2),
+      length-set c.loop-j.values _ _ ∙ c.loop-j.invariant.1,
+      rw (read c.before.before) (stored_more (λ i. var (word c.args.m.now (c.args.layout.latches + 3 * i))) (λ i. get_or c.args.state.now i 0) c.loop-j.j
+          c.args.values.now c.loop-j.values c.requires.1 c.loop-j.invariant.1 (omega arith) c.loop-j.invariant.2),
     )
 
-same_length : tie.Need-same-length invariant-loop decreases-loop
-same_length c = c.before.loop.invariant.1
+same_length : tie.Need-shape_of-values invariant-loop decreases-loop
+same_length c = c.loop-j.invariant.1
 
 returns : tie.Need-returns invariant-loop decreases-loop
 returns c =
-    let L = c.before.loop in
-    let S = c.before.before.before.before.before in
-    let e : L.j ≡ S.args.layout.l = omega arith in
+    let e : c.loop-j.j ≡ c.args.layout.l = omega arith in
     subst
     (λ (n : ℕ).
-    Stored (λ i. var (word S.args.m.now (S.args.layout.latches + 3 * i))) (λ i. get_or S.args.state.now i 0) n S.args.values.now L.values)
-    e L.invariant.2
+    Stored (λ i. var (word c.args.m.now (c.args.layout.latches + 3 * i))) (λ i. get_or c.args.state.now i 0) n c.args.values.now c.loop-j.values)
+    e c.loop-j.invariant.2
 
-pub put-state-spec : {M : Type 1} → statement M
-put-state-spec =
+pub put_state_spec : {M : Type 1} → statement M
+put_state_spec =
     tie.close
-    (tie.spec
-    invariant-loop decreases-loop loop-holds mul-from-word add-from-word mul-from-word-2 shared-slice-read-from-word (λ c κs. search rules)
-    (λ c κs. search rules) cast-place mul-values shared-slice-read-values mul-values-2 slice-write-values add-j loop-less loop-again
-    same_length returns)
+    (tie.spec invariant-loop decreases-loop loop-holds mul-from-word add-from-word mul-from-word-2 shared-slice-read-from-word (λ c κs. search rules) (λ c κs. search rules) cast-place mul-values shared-slice-read-values mul-values-2 slice-write-values add-j loop-less loop-again same_length returns)

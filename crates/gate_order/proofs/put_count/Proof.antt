@@ -5,12 +5,10 @@ use Rattle.gate_order.proofs.Counts.{put-zero, put-more}
 use Rattle.gate_order.proofs.put_count.Statement.{statement}
 use Rattle.gate_order.proofs.put_count.Tie as tie
 
-returns : tie.Need-returns
-returns c = put-zero c.before.args.waiting.now c.before.args.marks.now c.before.args.i c.before.args.w c.if1.true c.before.requires.1
+returns : tie.Need-returns-then-w-eq0
+returns c = put-zero c.args.waiting.now c.args.marks.now c.args.i c.args.w c.if-w-eq0.true c.requires.1
 
-pub put-count-spec : {M : Type 1} → statement M
-put-count-spec =
+pub put_count_spec : {M : Type 1} → statement M
+put_count_spec =
     tie.close
-    (tie.spec
-    (λ c. search rules) (λ c. search rules) (λ c. search rules) (λ c. search rules) (λ c. search rules) (λ c. search rules) returns
-    (λ c. search rules) (λ c. search rules))
+    (tie.spec (λ c. search rules) (λ c. search rules) (λ c. search rules) (λ c. search rules) (λ c. search rules) (λ c. search rules) returns (λ c. search rules) (λ c. search rules))

@@ -7,22 +7,19 @@ use borrow.Author.Rules.{rules}
 use Rattle.graph.proofs.append_plain.Statement.{statement}
 use Rattle.graph.proofs.append_plain.Tie as tie
 
-cast-k : tie.Need-overflow-cast-k
+cast-k : tie.Need-overflow_cast-k
 cast-k c =
-    let start = c.before.before in
-    omega (arith, start.requires.0.proper.room, start.requires.0.proper.stored.sized.room)
+    omega (arith, c.requires.0.proper.room, c.requires.0.proper.stored.sized.room)
 
-append-pair-requires : tie.Need-append-pair-requires
+append-pair-requires : tie.Need-append_pair-graph-requires
 append-pair-requires c κs =
-    let w = c.before.before.before.requires.0.proper in
+    let w = c.requires.0.proper in
     (record { sized = w.stored.sized; store = w.stored.pairs; room = w.room }, word_bound w)
 
 returns : tie.Need-returns
 returns c =
-    let s = c.before.before.before.before.before.before in
-    let p = c.before.before.append-pair in
-    added-made s.args.work.now p.new.0 s.args.g (edge_word s.args.left) (edge_word s.args.right) s.requires.0 p.auto.0 p.ensures.1.pairs p.ensures.1.store
-    (λ l. absurd (omega (arith, s.requires.1))) (λ l. absurd (omega (arith, s.requires.1))) p.result p.ensures.0
+    added-made c.args.work.now c.append_pair-graph.new.work c.args.g (edge_word c.args.left) (edge_word c.args.right) c.requires.0 c.append_pair-graph.auto.work c.append_pair-graph.ensures.1.pairs c.append_pair-graph.ensures.1.store
+    (λ l. absurd (omega (arith, c.requires.1))) (λ l. absurd (omega (arith, c.requires.1))) c.append_pair-graph.result c.append_pair-graph.ensures.0
 
-pub append-plain-spec : {M : Type 1} → statement M
-append-plain-spec = tie.close (tie.spec cast-k append-pair-requires (λ c. search rules) returns)
+pub append_plain_spec : {M : Type 1} → statement M
+append_plain_spec = tie.close (tie.spec cast-k append-pair-requires (λ c. search rules) returns)

@@ -8,51 +8,43 @@ use borrow.Author.Rules.{rules}
 use Rattle.graph.proofs.append_signed.Statement.{statement}
 use Rattle.graph.proofs.append_signed.Tie as tie
 
-cast-k : tie.Need-overflow-cast-k
+cast-k : tie.Need-overflow_cast-k
 cast-k c =
-    let start = c.before.before in
-    omega (arith, start.requires.0.proper.room, start.requires.0.proper.stored.sized.room)
+    omega (arith, c.requires.0.proper.room, c.requires.0.proper.stored.sized.room)
 
 signature-requires : tie.Need-signature-requires
 signature-requires c κs =
-    let w = c.before.before.before.requires.0.proper in
+    let w = c.requires.0.proper in
     omega (arith, w.earlier, w.stored.sized.nodes, w.stored.sized.held)
 
 signature-requires-2 : tie.Need-signature-requires-2
 signature-requires-2 c κs =
-    let w = c.before.before.before.before.before.requires.0.proper in
+    let w = c.requires.0.proper in
     omega (arith, w.earlier, w.larger, w.stored.sized.nodes, w.stored.sized.held)
 
-append-pair-requires : tie.Need-append-pair-requires
+append-pair-requires : tie.Need-append_pair-graph-requires
 append-pair-requires c κs =
-    let w = c.before.before.before.before.before.before.before.requires.0.proper in
+    let w = c.requires.0.proper in
     (record { sized = w.stored.sized; store = w.stored.pairs; room = w.room }, word_bound w)
 
-append-signature-requires : tie.Need-append-signature-requires
+append-signature-requires : tie.Need-append_signature-requires
 append-signature-requires c κs =
-    let s = c.before.before.before.before.before.before.before.before.before.before.before in
-    let a = s.args in
-    let w = s.requires.0.proper in
-    let p = c.before.before.before.append-pair in
-    let m = c.before.before.before.before.before.before.before.signature in
-    let n = c.before.before.before.before.before.signature2 in (
-      larger-size a.work.now p.new.0 a.g (edge_word a.left) (edge_word a.right) s.requires.0 s.requires.1.0 p.auto.0 p.ensures.1 p.result p.ensures.0,
-      signature-appended a.work.now p.new.0 a.g (edge_word a.left) (edge_word a.right) s.requires.0 s.requires.1.0 p.auto.0 p.ensures.1 m.result n.result
-          (m.ensures a.g (w.stored.signatures s.requires.1.0) w.earlier)
-          (n.ensures a.g (w.stored.signatures s.requires.1.0) (omega (arith, w.earlier, w.larger))) p.result p.ensures.0,
+    let a = c.args in
+    let w = c.requires.0.proper in
+    (
+      larger-size a.work.now c.append_pair-graph.new.work a.g (edge_word a.left) (edge_word a.right) c.requires.0 c.requires.1.0 c.append_pair-graph.auto.work c.append_pair-graph.ensures.1 c.append_pair-graph.result c.append_pair-graph.ensures.0,
+      signature-appended a.work.now c.append_pair-graph.new.work a.g (edge_word a.left) (edge_word a.right) c.requires.0 c.requires.1.0 c.append_pair-graph.auto.work c.append_pair-graph.ensures.1 c.signature.result c.signature-2.result
+          (c.signature.ensures a.g (w.stored.signatures c.requires.1.0) w.earlier)
+          (c.signature-2.ensures a.g (w.stored.signatures c.requires.1.0) (omega (arith, w.earlier, w.larger))) c.append_pair-graph.result c.append_pair-graph.ensures.0,
     )
 
 returns : tie.Need-returns
 returns c =
-    let s = c.before.before.before.before.before.before.before.before.before.before.before.before.before.before in
-    let a = s.args in
-    let p = c.before.before.before.before.before.before.append-pair in
-    let q = c.before.before.append-signature in
-    signed-made a.work.now p.new.0 a.g (edge_word a.left) (edge_word a.right) s.requires.0 s.requires.1.0 p.auto.0 p.ensures.1 q.new.0 _
-    (q.auto.0 ∙ p.auto.0) s.requires.1.1 p.result p.ensures.0 q.ensures
+    let a = c.args in
+    signed-made a.work.now c.append_pair-graph.new.work a.g (edge_word a.left) (edge_word a.right) c.requires.0 c.requires.1.0 c.append_pair-graph.auto.work c.append_pair-graph.ensures.1 c.append_signature.new.work _
+    (c.append_signature.auto.work ∙ c.append_pair-graph.auto.work) c.requires.1.1 c.append_pair-graph.result c.append_pair-graph.ensures.0 c.append_signature.ensures
 
-pub append-signed-spec : {M : Type 1} → statement M
-append-signed-spec =
+pub append_signed_spec : {M : Type 1} → statement M
+append_signed_spec =
     tie.close
-    (tie.spec
-    cast-k signature-requires signature-requires-2 append-pair-requires append-signature-requires (λ c. search rules) returns)
+    (tie.spec cast-k signature-requires signature-requires-2 append-pair-requires append-signature-requires (λ c. search rules) returns)

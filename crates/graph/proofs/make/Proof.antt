@@ -6,48 +6,35 @@ use borrow.Author.Rules.{rules}
 use Rattle.graph.proofs.make.Statement.{statement}
 use Rattle.graph.proofs.make.Tie as tie
 
-cast-p : tie.Need-overflow-cast-p
+cast-p : tie.Need-overflow_cast-p
 cast-p c =
-    let s = c.before.before in
-    omega (arith, (operands-bound s.requires).0, c.word.ensures)
+    omega (arith, (operands-bound c.requires).0, c.word-p.ensures)
 
-cast-q : tie.Need-overflow-cast-q
+cast-q : tie.Need-overflow_cast-q
 cast-q c =
-    let s = c.before.before.before in
-    omega (arith, (operands-bound s.requires).1, c.word2.ensures)
+    omega (arith, (operands-bound c.requires).1, c.word-q.ensures)
 
-make-packed-requires : tie.Need-make-packed-requires
+make-packed-requires : tie.Need-make_packed-requires
 make-packed-requires c κs =
-    let at-word2 = c.before.before in
-    let at-word = at-word2.before in
-    let s = c.before.before.before.before.before in
-    rw (at-word.word.ensures, at-word2.word2.ensures)
-    (operands-swapped s.requires, omega (arith, c.before.if1.true, at-word.word.ensures, at-word2.word2.ensures))
+    rw (c.word-p.ensures, c.word-q.ensures)
+    (operands-swapped c.requires, omega (arith, c.if-p-q.true, c.word-p.ensures, c.word-q.ensures))
 
-returns : tie.Need-returns
+returns : tie.Need-returns-then-p-q
 returns c =
-    let s = c.before.before.before.before.before.before.before.before in
-    let m = c.before.before.make-packed in
-    let p = c.before.before.before.before.before.before.word.ensures in
-    let q = c.before.before.before.before.before.word2.ensures in
-    made-swapped s.args.work.now m.new.0 s.args.g m.result (edge_word s.args.a) (edge_word s.args.b) (rw (p, q) at m.ensures)
+    let p = c.word-p.ensures in
+    let q = c.word-q.ensures in
+    made-swapped c.args.work.now c.make_packed.new.work c.args.g c.make_packed.result (edge_word c.args.a) (edge_word c.args.b) (rw (p, q) at c.make_packed.ensures)
 
-make-packed-requires-2 : tie.Need-make-packed-requires-2
+make-packed-requires-2 : tie.Need-make_packed-requires-2
 make-packed-requires-2 c κs =
-    let at-word2 = c.before.before in
-    let at-word = at-word2.before in
-    let s = c.before.before.before.before.before in
-    rw (at-word.word.ensures, at-word2.word2.ensures)
-    (s.requires, omega (arith, c.before.if1.false, at-word.word.ensures, at-word2.word2.ensures))
+    rw (c.word-p.ensures, c.word-q.ensures)
+    (c.requires, omega (arith, c.if-p-q.false, c.word-p.ensures, c.word-q.ensures))
 
-returns-2 : tie.Need-returns-2
+returns-2 : tie.Need-returns
 returns-2 c =
-    let m = c.before.before.make-packed2 in
-    rw (c.before.before.before.before.before.before.word.ensures, c.before.before.before.before.before.word2.ensures) at m.ensures
+    rw (c.word-p.ensures, c.word-q.ensures) at c.make_packed-2.ensures
 
 pub make_spec : {M : Type 1} → statement M
 make_spec =
     tie.close
-    (tie.spec
-    (λ c κs. search rules) cast-p (λ c κs. search rules) cast-q make-packed-requires (λ c. search rules) returns make-packed-requires-2
-    (λ c. search rules) returns-2)
+    (tie.spec (λ c κs. search rules) cast-p (λ c κs. search rules) cast-q make-packed-requires (λ c. search rules) returns make-packed-requires-2 (λ c. search rules) returns-2)

@@ -10,45 +10,39 @@ use borrow.Author.Rules.{rules}
 use Rattle.graph.proofs.make_gate.Statement.{statement}
 use Rattle.graph.proofs.make_gate.Tie as tie
 
-find-pair-requires : tie.Need-find-pair-requires
+find-pair-requires : tie.Need-find_pair-requires
 find-pair-requires c κs =
-    let w = c.before.before.requires in
+    let w = c.requires in
     (record { sized = w.stored.sized; store = w.stored.pairs }, word_bound w)
 
-append-plain-requires : tie.Need-append-plain-requires
+append-plain-requires : tie.Need-append_plain-requires
 append-plain-requires c κs =
-    let s = c.before.before.before.before.before.before.before.before in
-    let f = c.before.before.before.before.before.find-pair in (
-      found-new s.args.work.now s.args.g (edge_word s.args.left) (edge_word s.args.right) s.requires (place_of f.result) f.ensures
-          (ap place_of c.before.before.before.enum_told.given.1),
-      omega (arith, c.before.if1.true),
+    (
+      found-new c.args.work.now c.args.g (edge_word c.args.left) (edge_word c.args.right) c.requires (place_of c.find_pair.result) c.find_pair.ensures
+          (ap place_of c.in-Nothing.is),
+      omega (arith, c.if-g-gt12.true),
     )
 
-returns : tie.Need-returns
-returns c = c.before.before.append-plain.ensures
+returns : tie.Need-returns-then-g-gt12
+returns c = c.append_plain.ensures
 
 merge-requires : tie.Need-merge-requires
 merge-requires c κs =
-    let s = c.before.before.before.before.before.before.before.before in
-    let f = c.before.before.before.before.before.find-pair in (
-      found-new s.args.work.now s.args.g (edge_word s.args.left) (edge_word s.args.right) s.requires (place_of f.result) f.ensures
-          (ap place_of c.before.before.before.enum_told.given.1),
-      omega (arith, c.before.if1.false),
+    (
+      found-new c.args.work.now c.args.g (edge_word c.args.left) (edge_word c.args.right) c.requires (place_of c.find_pair.result) c.find_pair.ensures
+          (ap place_of c.in-Nothing.is),
+      omega (arith, c.if-g-gt12.false),
     )
 
-returns-2 : tie.Need-returns-2
+returns-2 : tie.Need-returns-in-Gate
 returns-2 c =
-    let s = c.before.before.before.before.before.before in
-    let f = c.before.before.before.find-pair in
-    found-made s.args.work.now s.args.g (edge_word s.args.left) (edge_word s.args.right) s.requires (place_of f.result) f.ensures _
-    (sym (ap place_of c.before.k.given.1))
+    found-made c.args.work.now c.args.g (edge_word c.args.left) (edge_word c.args.right) c.requires (place_of c.find_pair.result) c.find_pair.ensures _
+    (sym (ap place_of c.in-Gate.is))
 
-returns-3 : tie.Need-returns-3
-returns-3 c = c.before.before.merge.ensures
+returns-3 : tie.Need-returns-else-g-gt12
+returns-3 c = c.merge.ensures
 
-pub make-gate-spec : {M : Type 1} → statement M
-make-gate-spec =
+pub make_gate_spec : {M : Type 1} → statement M
+make_gate_spec =
     tie.close
-    (tie.spec
-    find-pair-requires (λ c. search rules) (λ c. search rules) append-plain-requires (λ c. search rules) returns merge-requires
-    (λ c. search rules) returns-2 (λ c. search rules) returns-3)
+    (tie.spec find-pair-requires (λ c. search rules) (λ c. search rules) append-plain-requires (λ c. search rules) returns merge-requires (λ c. search rules) returns-2 (λ c. search rules) returns-3)

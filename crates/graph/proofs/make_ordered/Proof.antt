@@ -9,27 +9,23 @@ use Rattle.graph.proofs.make_ordered.Tie as tie
 
 simplify-requires : tie.Need-simplify-requires
 simplify-requires c κs =
-    let o = c.before.before.requires.0 in
+    let o = c.requires.0 in
     record { sized = o.stored.sized; inside = o.left }
 
-make-gate-requires : tie.Need-make-gate-requires
+make-gate-requires : tie.Need-make_gate-requires
 make-gate-requires c κs =
-    let s = c.before.before.before.before.before.before in
-    gate-proper s.args.work.now s.args.g (edge_word s.args.left) (edge_word s.args.right) s.requires.0 s.requires.1
-    (sym c.before.before.before.simplify.ensures ∙ ap known c.before.enum_told.given.1)
+    gate-proper c.args.work.now c.args.g (edge_word c.args.left) (edge_word c.args.right) c.requires.0 c.requires.1
+    (sym c.simplify.ensures ∙ ap known c.in-Gate.is)
 
-returns : tie.Need-returns
+returns : tie.Need-returns-in-Known
 returns c =
-    let s = c.before.before.before.before.before.before in
-    known-made s.args.work.now s.args.g (edge_word s.args.left) (edge_word s.args.right) s.requires.0 s.requires.1 _
-    (sym c.before.before.before.simplify.ensures ∙ ap known c.before.e.given.1)
+    known-made c.args.work.now c.args.g (edge_word c.args.left) (edge_word c.args.right) c.requires.0 c.requires.1 _
+    (sym c.simplify.ensures ∙ ap known c.in-Known.is)
 
-returns-2 : tie.Need-returns-2
-returns-2 c = c.before.before.make-gate.ensures
+returns-2 : tie.Need-returns-in-Gate
+returns-2 c = c.make_gate.ensures
 
-pub make-ordered-spec : {M : Type 1} → statement M
-make-ordered-spec =
+pub make_ordered_spec : {M : Type 1} → statement M
+make_ordered_spec =
     tie.close
-    (tie.spec
-    simplify-requires (λ c. search rules) (λ c. search rules) make-gate-requires (λ c. search rules) returns (λ c. search rules)
-    returns-2)
+    (tie.spec simplify-requires (λ c. search rules) (λ c. search rules) make-gate-requires (λ c. search rules) returns (λ c. search rules) returns-2)

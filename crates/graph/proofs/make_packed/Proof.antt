@@ -7,20 +7,17 @@ use borrow.Author.Rules.{rules}
 use Rattle.graph.proofs.make_packed.Statement.{statement}
 use Rattle.graph.proofs.make_packed.Tie as tie
 
-make-ordered-requires : tie.Need-make-ordered-requires
+make-ordered-requires : tie.Need-make_ordered-requires
 make-ordered-requires c κs =
-    let s = c.before.before.before.before in
-    let e = ap (λ (x : Edge). edge_word x) c.before.from-word.ensures ∙ edge-word s.args.left.0 in
-    let f = ap (λ (x : Edge). edge_word x) c.from-word2.ensures ∙ edge-word s.args.right.0 in
-    rw (e, f) s.requires
+    let e = ap (λ (x : Edge). edge_word x) c.from_word.ensures ∙ edge-word c.args.left.0 in
+    let f = ap (λ (x : Edge). edge_word x) c.from_word-2.ensures ∙ edge-word c.args.right.0 in
+    rw (e, f) c.requires
 
 returns : tie.Need-returns
 returns c =
-    let m = c.before.before.make-ordered in
-    let s = c.before.before.before.before.before.before.before in
-    let e = ap (λ (x : Edge). edge_word x) c.before.before.before.before.from-word.ensures ∙ edge-word s.args.left.0 in
-    let f = ap (λ (x : Edge). edge_word x) c.before.before.before.from-word2.ensures ∙ edge-word s.args.right.0 in
-    rw (e, f) at m.ensures
+    let e = ap (λ (x : Edge). edge_word x) c.from_word.ensures ∙ edge-word c.args.left.0 in
+    let f = ap (λ (x : Edge). edge_word x) c.from_word-2.ensures ∙ edge-word c.args.right.0 in
+    rw (e, f) at c.make_ordered.ensures
 
-pub make-packed-spec : {M : Type 1} → statement M
-make-packed-spec = tie.close (tie.spec (λ c κs. search rules) (λ c κs. search rules) make-ordered-requires (λ c. search rules) returns)
+pub make_packed_spec : {M : Type 1} → statement M
+make_packed_spec = tie.close (tie.spec (λ c κs. search rules) (λ c κs. search rules) make-ordered-requires (λ c. search rules) returns)

@@ -9,47 +9,37 @@ use borrow.Author.Rules.{rules}
 use Rattle.graph.proofs.merge.Statement.{statement}
 use Rattle.graph.proofs.merge.Tie as tie
 
-find-twin-requires : tie.Need-find-twin-requires
+find-twin-requires : tie.Need-find_twin-requires
 find-twin-requires c κs =
-    let s = c.before.before in
-    twin-ready s.args.work.now s.args.g (edge_word s.args.left) (edge_word s.args.right) s.requires.1 s.requires.0
+    twin-ready c.args.work.now c.args.g (edge_word c.args.left) (edge_word c.args.right) c.requires.1 c.requires.0
 
-append-signed-requires : tie.Need-append-signed-requires
+append-signed-requires : tie.Need-append_signed-requires
 append-signed-requires c κs =
-    let s = c.before.before.before.before.before.before.before.before in
-    let a = s.args in
-    let t = c.before.before.before.before.before.find-twin in
-    let r = place_of t.result in (
-      new-same a.work.now t.new.0 a.g (edge_word a.left) (edge_word a.right)
-          (twin-stored a.work.now t.new.0 a.g (edge_word a.left) (edge_word a.right) r s.requires.0 t.auto.0 t.ensures)
-          (twin-pairs a.work.now t.new.0 a.g (edge_word a.left) (edge_word a.right) r s.requires.0 t.auto.0 t.ensures) s.requires.0,
+    let a = c.args in
+    let r = place_of c.find_twin.result in (
+      new-same a.work.now c.find_twin.new.work a.g (edge_word a.left) (edge_word a.right)
+          (twin-stored a.work.now c.find_twin.new.work a.g (edge_word a.left) (edge_word a.right) r c.requires.0 c.find_twin.auto.work c.find_twin.ensures)
+          (twin-pairs a.work.now c.find_twin.new.work a.g (edge_word a.left) (edge_word a.right) r c.requires.0 c.find_twin.auto.work c.find_twin.ensures) c.requires.0,
       (
-        s.requires.1,
-        twin-none a.work.now t.new.0 a.g (edge_word a.left) (edge_word a.right) r s.requires.0 t.auto.0 t.ensures
-            (ap place_of c.before.enum_told.given.1),
+        c.requires.1,
+        twin-none a.work.now c.find_twin.new.work a.g (edge_word a.left) (edge_word a.right) r c.requires.0 c.find_twin.auto.work c.find_twin.ensures
+            (ap place_of c.in-Nothing.is),
       ),
     )
 
-returns : tie.Need-returns
+returns : tie.Need-returns-in-Edge
 returns c =
-    let s = c.before.before.before.before.before.before.before.before in
-    let a = s.args in
-    let t = c.before.before.before.before.before.find-twin in
-    twin-made a.work.now t.new.0 a.g (edge_word a.left) (edge_word a.right) (place_of t.result) s.requires.0 t.auto.0 t.ensures s.requires.1
-    c.before.e.given.0.0 (ap place_of c.before.e.given.1)
+    let a = c.args in
+    twin-made a.work.now c.find_twin.new.work a.g (edge_word a.left) (edge_word a.right) (place_of c.find_twin.result) c.requires.0 c.find_twin.auto.work c.find_twin.ensures c.requires.1
+    c.in-Edge.e (ap place_of c.in-Edge.is)
 
-returns-2 : tie.Need-returns-2
+returns-2 : tie.Need-returns-in-Nothing
 returns-2 c =
-    let s = c.before.before.before.before.before.before.before.before.before.before.before in
-    let a = s.args in
-    let t = c.before.before.before.before.before.before.before.before.find-twin in
-    let p = c.before.before.append-signed in
-    conjoined-same a.work.now t.new.0 p.new.0 a.g (edge_word a.left) (edge_word a.right) p.result
-    (twin-pairs a.work.now t.new.0 a.g (edge_word a.left) (edge_word a.right) (place_of t.result) s.requires.0 t.auto.0 t.ensures) p.ensures
+    let a = c.args in
+    conjoined-same a.work.now c.find_twin.new.work c.append_signed.new.work a.g (edge_word a.left) (edge_word a.right) c.append_signed.result
+    (twin-pairs a.work.now c.find_twin.new.work a.g (edge_word a.left) (edge_word a.right) (place_of c.find_twin.result) c.requires.0 c.find_twin.auto.work c.find_twin.ensures) c.append_signed.ensures
 
-pub merge-spec : {M : Type 1} → statement M
-merge-spec =
+pub merge_spec : {M : Type 1} → statement M
+merge_spec =
     tie.close
-    (tie.spec
-    find-twin-requires (λ c. search rules) (λ c. search rules) append-signed-requires (λ c. search rules) returns (λ c. search rules)
-    returns-2)
+    (tie.spec find-twin-requires (λ c. search rules) (λ c. search rules) append-signed-requires (λ c. search rules) returns (λ c. search rules) returns-2)

@@ -9,27 +9,23 @@ use Rattle.graph.proofs.Empty.{start-stored, start-signed}
 use Rattle.graph.proofs.start.Statement.{statement}
 use Rattle.graph.proofs.start.Tie as tie
 
-returns : tie.Need-returns
+returns : tie.Need-returns-then-free-gt12
 returns c =
-    let s = c.before.before.before.before.before.before in
-    let p = c.before.before.before.start-pairs in (
+    (
       refl,
-      start-stored p.new.0 s.args.free s.args.room (length s.args.work.now) p.auto.0 s.requires p.ensures.store
-          (λ l. absurd (omega (arith, c.if1.true))),
+      start-stored c.start_pairs.new.work c.args.free c.args.room (length c.args.work.now) c.start_pairs.auto.work c.requires c.start_pairs.ensures.store
+          (λ l. absurd (omega (arith, c.if-free-gt12.true))),
     )
 
-returns-2 : tie.Need-returns-2
+returns-2 : tie.Need-returns
 returns-2 c =
-    let s = c.before.before.before.before.before.before.before.before.before.before in
-    let p = c.before.before.before.before.before.before.before.start-pairs in
-    let q = c.before.before.start-signatures in (
+    (
       refl,
-      start-stored q.new.0 s.args.free s.args.room (length s.args.work.now) (q.auto.0 ∙ p.auto.0) s.requires
-          (start-signed p.new.0 q.new.0 (empty_graph s.args.free s.args.room) p.ensures.store q.ensures) (λ l. q.ensures.store),
+      start-stored c.start_signatures.new.work c.args.free c.args.room (length c.args.work.now) (c.start_signatures.auto.work ∙ c.start_pairs.auto.work) c.requires
+          (start-signed c.start_pairs.new.work c.start_signatures.new.work (empty_graph c.args.free c.args.room) c.start_pairs.ensures.store c.start_signatures.ensures) (λ l. c.start_signatures.ensures.store),
     )
 
 pub start_spec : {M : Type 1} → statement M
 start_spec =
     tie.close
-    (tie.spec
-    (λ c. search rules) (λ c κs. search rules) (λ c. search rules) returns (λ c κs. search rules) (λ c. search rules) returns-2)
+    (tie.spec (λ c. search rules) (λ c κs. search rules) (λ c. search rules) returns (λ c κs. search rules) (λ c. search rules) returns-2)

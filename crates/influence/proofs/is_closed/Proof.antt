@@ -12,89 +12,70 @@ use borrow.Author.Rules.{rules}
 use Rattle.influence.proofs.is_closed.Statement.{statement}
 use Rattle.influence.proofs.is_closed.Tie as tie
 
-var-at-requires : tie.Need-var-at-requires
-var-at-requires c κs = let s = c.before.before in omega (arith, s.requires.inside)
+var-at-requires : tie.Need-var_at-v-requires
+var-at-requires c κs = omega (arith, c.requires.inside)
 
-add-var-at : tie.Need-overflow-add-var-at
-add-var-at c = let s = c.before.before.before in omega (arith, s.requires.inside)
+add-var-at : tie.Need-overflow_add-at
+add-var-at c = omega (arith, c.requires.inside)
 
-var-at-requires-2 : tie.Need-var-at-requires-2
-var-at-requires-2 c κs = let s = c.before.before.before in omega (arith, s.requires.inside)
+var-at-requires-2 : tie.Need-var_at-x-requires
+var-at-requires-2 c κs = omega (arith, c.requires.inside)
 
-add-var-at-2 : tie.Need-overflow-add-var-at-2
-add-var-at-2 c = let s = c.before.before.before.before in omega (arith, s.requires.inside, s.requires.short)
+add-var-at-2 : tie.Need-overflow_add-at-2
+add-var-at-2 c = omega (arith, c.requires.inside, c.requires.short)
 
-var-at-requires-3 : tie.Need-var-at-requires-3
-var-at-requires-3 c κs = let s = c.before.before.before.before in omega (arith, s.requires.inside, s.requires.short)
+var-at-requires-3 : tie.Need-var_at-y-requires
+var-at-requires-3 c κs = omega (arith, c.requires.inside, c.requires.short)
 
-is-marked-requires : tie.Need-is-marked-requires
+is-marked-requires : tie.Need-is_marked-requires
 is-marked-requires c κs =
-    let s = c.before.before.before.before.before in
-    var-below (word s.args.m.now s.args.at) (length s.args.marks.now) c.before.before.var-at.ensures s.requires.lit
+    var-below (word c.args.m.now c.args.at) (length c.args.marks.now) c.var_at-v.ensures c.requires.lit
 
-is-marked-requires-2 : tie.Need-is-marked-requires-2
+is-marked-requires-2 : tie.Need-is_marked-requires-2
 is-marked-requires-2 c κs =
-    let at-var-at2 = c.before.before.before in
-    let s = at-var-at2.before.before.before.before in
-    var-below (word s.args.m.now (s.args.at + 1)) (length s.args.marks.now) at-var-at2.var-at2.ensures s.requires.left
+    var-below (word c.args.m.now (c.args.at + 1)) (length c.args.marks.now) c.var_at-x.ensures c.requires.left
 
-is-marked-requires-3 : tie.Need-is-marked-requires-3
+is-marked-requires-3 : tie.Need-is_marked-requires-3
 is-marked-requires-3 c κs =
-    let at-var-at3 = c.before.before.before.before in
-    let s = at-var-at3.before.before.before.before.before in
-    var-below (word s.args.m.now (s.args.at + s.args.last)) (length s.args.marks.now) at-var-at3.var-at3.ensures
-    s.requires.right
+    var-below (word c.args.m.now (c.args.at + c.args.last)) (length c.args.marks.now) c.var_at-y.ensures
+    c.requires.right
 
 -- the marks of the gate and of its left operand
-gate-mark : (c : tie.After-is-marked)
-    → (let a = c.before.before.before.before.before.before.args in
-    c.is-marked.result ≡ marked a.marks.now (word a.m.now a.at))
+gate-mark : (c : tie.After-is_marked)
+    → (let a = c.args in
+    c.is_marked.result ≡ marked a.marks.now (word a.m.now a.at))
 gate-mark c =
-    let a = c.before.before.before.before.before.before.args in
-    var-marked a.marks.now (word a.m.now a.at) c.before.before.before.var-at.ensures c.is-marked.ensures
+    let a = c.args in
+    var-marked a.marks.now (word a.m.now a.at) c.var_at-v.ensures c.is_marked.ensures
 
-left-mark : (c : tie.After-is-marked2)
-    → (let a = c.before.before.before.before.before.before.before.before.args in
-    c.is-marked2.result ≡ marked a.marks.now (word a.m.now (a.at + 1)))
+left-mark : (c : tie.After-is_marked-2)
+    → (let a = c.args in
+    c.is_marked-2.result ≡ marked a.marks.now (word a.m.now (a.at + 1)))
 left-mark c =
-    let at-var-at2 = c.before.before.before.before in
-    let at-start = at-var-at2.before.before.before.before in
-    let a = at-start.args in
-    var-marked a.marks.now (word a.m.now (a.at + 1)) at-var-at2.var-at2.ensures c.is-marked2.ensures
+    let a = c.args in
+    var-marked a.marks.now (word a.m.now (a.at + 1)) c.var_at-x.ensures c.is_marked-2.ensures
 
-returns : tie.Need-returns
+returns : tie.Need-returns-then-not-is_marked
 returns c =
-    let k = c.before in
-    let at-start = k.before.before.before.before.before.before in
-    let a = at-start.args in
-    closed-not a.marks.now (gate_by a.m.now a.at a.last) (sym (gate-mark k) ∙ not-true k.is-marked.result c.if1.true)
+    let a = c.args in
+    closed-not a.marks.now (gate_by a.m.now a.at a.last) (sym (gate-mark c.before) ∙ c.if-not-is_marked.true)
 
-returns-2 : tie.Need-returns-2
+returns-2 : tie.Need-returns-then-not-is_marked-2
 returns-2 c =
-    let a = c.before.before.before.before.before.before.before.before.before.args in
-    let k = c.before.before.before in
-    let l = c.before in
+    let a = c.args in
     closed-left a.marks.now (gate_by a.m.now a.at a.last)
-    (sym (gate-mark k) ∙ not-false k.is-marked.result c.before.before.if1.false)
-    (sym (left-mark l) ∙ not-true l.is-marked2.result c.if2.true)
+    (sym (gate-mark c.before.before.before) ∙ c.if-not-is_marked.false)
+    (sym (left-mark c.before) ∙ c.if-not-is_marked-2.true)
 
-returns-3 : tie.Need-returns-3
+returns-3 : tie.Need-returns
 returns-3 c =
-    let at-if2 = c.before in
-    let l = at-if2.before in
-    let at-if1 = l.before in
-    let k = at-if1.before in
-    let at-var-at3 = k.before in
-    let at-start = at-var-at3.before.before.before.before.before in
-    let a = at-start.args in
-    var-marked a.marks.now (word a.m.now (a.at + a.last)) at-var-at3.var-at3.ensures c.is-marked3.ensures
+    let a = c.args in
+    var-marked a.marks.now (word a.m.now (a.at + a.last)) c.var_at-y.ensures c.is_marked-3.ensures
     ∙ closed-right a.marks.now (gate_by a.m.now a.at a.last) true
-    (sym (gate-mark k) ∙ not-false k.is-marked.result at-if1.if1.false)
-    (sym (left-mark l) ∙ not-false l.is-marked2.result at-if2.if2.false)
+    (sym (gate-mark c.before.before.before.before) ∙ c.if-not-is_marked.false)
+    (sym (left-mark c.before.before) ∙ c.if-not-is_marked-2.false)
 
-pub is-closed-spec : {M : Type 1} → statement M
-is-closed-spec =
+pub is_closed_spec : {M : Type 1} → statement M
+is_closed_spec =
     tie.close
-    (tie.spec
-    var-at-requires add-var-at var-at-requires-2 add-var-at-2 var-at-requires-3 is-marked-requires returns is-marked-requires-2
-    returns-2 is-marked-requires-3 returns-3)
+    (tie.spec var-at-requires add-var-at var-at-requires-2 add-var-at-2 var-at-requires-3 is-marked-requires returns is-marked-requires-2 returns-2 is-marked-requires-3 returns-3)

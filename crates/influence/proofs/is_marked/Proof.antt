@@ -6,10 +6,9 @@ use Rattle.influence.proofs.is_marked.Statement.{statement}
 use Rattle.influence.proofs.is_marked.Tie as tie
 
 returns : tie.Need-returns
-returns c = let a = c.before.before.args in mark-test (get_or a.marks.now a.v.0 0)
+returns c = let a = c.args in mark-test (get_or a.marks.now a.v.0 0)
 
-pub is-marked-spec : {M : Type 1} → statement M
-is-marked-spec =
+pub is_marked_spec : {M : Type 1} → statement M
+is_marked_spec =
     tie.close
-    (tie.spec
-    (λ c. search rules) (λ c. search rules) (λ c. search rules) returns)
+    (tie.spec (λ c. search rules) (λ c. search rules) (λ c. search rules) returns)

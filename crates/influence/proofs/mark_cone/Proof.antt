@@ -9,38 +9,31 @@ use Rattle.influence.proofs.Rooms.{bad-literals, constraint-literals, marks-are}
 use Rattle.influence.proofs.mark_cone.Statement.{statement}
 use Rattle.influence.proofs.mark_cone.Tie as tie
 
-add-mark-words : tie.Need-overflow-add-mark-words
-add-mark-words c = let s = c.before.before.before.before in omega (arith, bad-inside s.requires.0 s.args.b s.requires.1)
+add-mark-words : tie.Need-overflow_add-layout
+add-mark-words c = omega (arith, bad-inside c.requires.0 c.args.b c.requires.1)
 
-mark-words-requires : tie.Need-mark-words-requires
-mark-words-requires c κs = let s = c.before.before.before.before.before in bad-literals s.requires.0 s.args.b s.requires.1
+mark-words-requires : tie.Need-mark_words-requires
+mark-words-requires c κs = bad-literals c.requires.0 c.args.b c.requires.1
 
-mark-words-requires-2 : tie.Need-mark-words-requires-2
+mark-words-requires-2 : tie.Need-mark_words-requires-2
 mark-words-requires-2 c κs =
-    let s = c.before.before.before.before.before.before.before.before.before in
-    constraint-literals (ready_with s.requires.0 (omega (arith, c.before.before.before.mark-words.auto.1.1.1.0, s.requires.0.room)))
+    constraint-literals (ready_with c.requires.0 (omega (arith, c.mark_words.auto.marks, c.requires.0.room)))
 
 settle-requires : tie.Need-settle-requires
 settle-requires c κs =
-    let s = c.before.before.before.before.before.before.before.before.before.before.before.before.before in
-    let one = c.before.before.before.before.before.before.before.mark-words.auto.1.1.1.0 in
-    let two = c.before.before.before.mark-words2.auto.1.1.1.0 in
-    (ready_with s.requires.0 (omega (arith, two, one, s.requires.0.room)), s.requires.1)
+    let one = c.mark_words.auto.marks in
+    let two = c.mark_words-2.auto.marks in
+    (ready_with c.requires.0 (omega (arith, two, one, c.requires.0.room)), c.requires.1)
 
-same_length : tie.Need-same-length
-same_length c = c.before.before.settle.auto.1.1.1.1.0 ∙ c.before.before.before.before.before.before.mark-words2.auto.1.1.1.0 ∙ c.before.before.before.before.before.before.before.before.before.before.mark-words.auto.1.1.1.0
+same_length : tie.Need-shape_of-marks
+same_length c = c.settle.auto.marks ∙ c.mark_words-2.auto.marks ∙ c.mark_words.auto.marks
 
 returns : tie.Need-returns
 returns c =
-    let s = c.before.before.before.before.before.before.before.before.before.before.before.before.before.before.before.before in
-    let one = c.before.before.before.before.before.before.before.before.before.before.mark-words in
-    let two = c.before.before.before.before.before.before.mark-words2 in
-    let three = c.before.before.settle in
-    marks-are s.requires.0 s.args.b s.requires.1 s.args.marks.now one.new.1.1.1.0 two.new.1.1.1.0 three.new.1.1.1.1.0
-    one.ensures two.ensures three.ensures
+    marks-are c.requires.0 c.args.b c.requires.1 c.args.marks.now c.mark_words.new.marks c.mark_words-2.new.marks c.settle.new.marks
+    c.mark_words.ensures c.mark_words-2.ensures c.settle.ensures
 
-pub mark-cone-spec : {M : Type 1} → statement M
-mark-cone-spec =
+pub mark_cone_spec : {M : Type 1} → statement M
+mark_cone_spec =
     tie.close
-    (tie.spec
-    add-mark-words mark-words-requires mark-words-requires-2 settle-requires same_length returns)
+    (tie.spec add-mark-words mark-words-requires mark-words-requires-2 settle-requires same_length returns)

@@ -10,17 +10,17 @@ use borrow.Author.Rules.{rules}
 use Rattle.influence.proofs.spread.Statement.{statement}
 use Rattle.influence.proofs.spread.Tie as tie
 
-reach-down-requires : tie.Need-reach-down-requires
-reach-down-requires c κs = gate-rooms c.before.before.before.before.requires
+reach-down-requires : tie.Need-reach_down-requires
+reach-down-requires c κs = gate-rooms c.requires
 
-reach-down-requires-2 : tie.Need-reach-down-requires-2
-reach-down-requires-2 c κs = subst (λ (n : ℕ). Rooms c.before.before.before.before.before.before.before.before.args.m.now c.before.before.before.before.before.before.before.before.args.layout.latches c.before.before.before.before.before.before.before.before.args.layout.l 1 n) (sym c.before.before.before.reach-down.auto.1.1.1.1.0) (latch-rooms c.before.before.before.before.before.before.before.before.requires)
+reach-down-requires-2 : tie.Need-reach_down-requires-2
+reach-down-requires-2 c κs = subst (λ (n : ℕ). Rooms c.args.m.now c.args.layout.latches c.args.layout.l 1 n) (sym c.reach_down.auto.marks) (latch-rooms c.requires)
 
-same_length : tie.Need-same-length
-same_length c = c.before.before.reach-down2.auto.1.1.1.1.0 ∙ c.before.before.before.before.before.before.reach-down.auto.1.1.1.1.0
+same_length : tie.Need-shape_of-marks
+same_length c = c.reach_down-2.auto.marks ∙ c.reach_down.auto.marks
 
 returns : tie.Need-returns
-returns c = c.before.before.reach-down2.ensures ∙ ap (reach_down (λ j. gate_by c.before.before.before.before.before.before.before.before.before.before.before.args.m.now (c.before.before.before.before.before.before.before.before.before.before.before.args.layout.latches + 3 * j) 1) c.before.before.before.before.before.before.before.before.before.before.before.args.layout.l) c.before.before.before.before.before.before.reach-down.ensures ∙ spread-is c.before.before.before.before.before.before.before.before.before.before.before.requires c.before.before.before.before.before.before.before.before.before.before.before.args.marks.now
+returns c = c.reach_down-2.ensures ∙ ap (reach_down (λ j. gate_by c.args.m.now (c.args.layout.latches + 3 * j) 1) c.args.layout.l) c.reach_down.ensures ∙ spread-is c.requires c.args.marks.now
 
-pub spread-spec : {M : Type 1} → statement M
-spread-spec = tie.close (tie.spec reach-down-requires reach-down-requires-2 same_length returns)
+pub spread_spec : {M : Type 1} → statement M
+spread_spec = tie.close (tie.spec reach-down-requires reach-down-requires-2 same_length returns)

@@ -38,13 +38,12 @@ own m b e = e ∙ go (eqb m 0) refl
 returns : tie.Need-returns
 unfolding bit
 returns c =
-    let m = c.before.args.x / 2 ^ c.before.args.p % 2 in (
-      λ q l t. kept m (bit c.before.args.x q) (bit c.literal-word.result q) (c.literal-word.ensures q l) t,
-      own m (bit c.literal-word.result c.before.args.p) (c.literal-word.ensures c.before.args.p c.before.requires),
+    let m = c.args.x / 2 ^ c.args.p % 2 in (
+      λ q l t. kept m (bit c.args.x q) (bit c.literal_word.result q) (c.literal_word.ensures q l) t,
+      own m (bit c.literal_word.result c.args.p) (c.literal_word.ensures c.args.p c.requires),
     )
 
 pub alike_spec : {M : Type 1} → statement M
 alike_spec =
     tie.close
-    (tie.spec
-    (λ c. search rules) (λ c κs. search rules) returns)
+    (tie.spec (λ c. search rules) (λ c κs. search rules) returns)

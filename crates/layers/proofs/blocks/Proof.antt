@@ -7,11 +7,11 @@ use borrow.Author.Rules.{rules}
 use Rattle.layers.proofs.blocks.Statement.{statement}
 use Rattle.layers.proofs.blocks.Tie as tie
 
-returns : tie.Need-returns
-returns c = let e : c.before.args.inputs - 6 ≡ 0 = omega arith in sym (ap (λ (n : ℕ). 2 ^ n) e)
+returns : tie.Need-returns-then-inputs-lt6
+returns c = let e : c.args.inputs - 6 ≡ 0 = omega arith in sym (ap (λ (n : ℕ). 2 ^ n) e)
 
-returns-2 : tie.Need-returns-2
-returns-2 c = omega (arith, pow_mono {i = c.before.args.inputs - 6} {j = 10} (omega arith))
+returns-2 : tie.Need-returns
+returns-2 c = omega (arith, pow_mono {i = c.args.inputs - 6} {j = 10} (omega arith))
 
-pub blocks-spec : {M : Type 1} → statement M
-blocks-spec = tie.close (tie.spec returns (λ c. search rules) returns-2)
+pub blocks_spec : {M : Type 1} → statement M
+blocks_spec = tie.close (tie.spec returns (λ c. search rules) returns-2)

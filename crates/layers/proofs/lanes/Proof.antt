@@ -6,11 +6,11 @@ use borrow.Author.Rules.{rules}
 use Rattle.layers.proofs.lanes.Statement.{statement}
 use Rattle.layers.proofs.lanes.Tie as tie
 
-returns : tie.Need-returns
-returns c = omega (arith, pow_mono {i = 6} {j = c.before.args.inputs} (omega arith))
+returns : tie.Need-returns-then-inputs-gt5
+returns c = omega (arith, pow_mono {i = 6} {j = c.args.inputs} (omega arith))
 
-returns-2 : tie.Need-returns-2
-returns-2 c = omega (arith, pow_mono {i = c.before.args.inputs} {j = 5} (omega arith))
+returns-2 : tie.Need-returns
+returns-2 c = omega (arith, pow_mono {i = c.args.inputs} {j = 5} (omega arith))
 
-pub lanes-spec : {M : Type 1} → statement M
-lanes-spec = tie.close (tie.spec returns (λ c. search rules) (λ c. search rules) returns-2)
+pub lanes_spec : {M : Type 1} → statement M
+lanes_spec = tie.close (tie.spec returns (λ c. search rules) (λ c. search rules) returns-2)

@@ -49,66 +49,62 @@ no_more : (a b : Bool) → b ≡ false → (a && b) ≡ false
 no_more true b e = e
 no_more false b e = refl
 
-pack-words-requires : tie.Need-pack-words-requires
+pack-words-requires : tie.Need-pack_words-requires
 pack-words-requires c κs = (
-  c.before.before.before.before.before.requires.1.0,
-  c.before.before.before.before.before.requires.1.4,
-  c.before.before.before.before.before.requires.1.5,
+  c.requires.1.0,
+  c.requires.1.4,
+  c.requires.1.5,
 )
 
-same-rows-requires : tie.Need-same-rows-requires
-same-rows-requires c κs = c.before.before.before.before.before.before.before.before.requires.1.0
+same-rows-requires : tie.Need-same_rows-requires
+same-rows-requires c κs = c.requires.1.0
 
-literal-word-requires : tie.Need-literal-word-requires
+literal-word-requires : tie.Need-literal_word-others-requires
 literal-word-requires c κs = tt
 
-add-meet : tie.Need-overflow-add-meet
+add-meet : tie.Need-overflow_add-span
 add-meet c = omega (
   arith,
-  c.before.before.before.before.before.before.before.before.before.before.before.before.before.requires.1.0,
-  c.before.before.before.before.before.before.before.before.before.before.before.before.before.requires.1.1,
+  c.requires.1.0,
+  c.requires.1.1,
 )
 
-meet-requires : tie.Need-meet-requires
+meet-requires : tie.Need-meet-met-requires
 meet-requires c κs = (
-  c.before.before.before.before.before.before.before.before.before.before.before.before.before.requires.0,
-  c.before.before.before.before.before.before.before.before.before.before.before.before.before.requires.1.2,
-  c.before.before.before.before.before.before.before.pack-words.auto.1.1.0 ∙ c.before.before.before.before.before.before.before.before.before.before.before.before.before.requires.1.3,
+  c.requires.0,
+  c.requires.1.2,
+  c.pack_words.auto.s ∙ c.requires.1.3,
 )
 
-same_length : tie.Need-same-length
-same_length c = c.before.before.before.meet.auto.0
+same_length : tie.Need-shape_of-records
+same_length c = c.meet-met.auto.records
 
-same-length-2 : tie.Need-same-length-2
-same-length-2 c = c.before.before.before.before.before.before.before.before.before.before.before.pack-words.auto.1.1.0
+same-length-2 : tie.Need-shape_of-s
+same-length-2 c = c.pack_words.auto.s
 
 returns : tie.Need-returns
 returns c =
-    let a = c.before.before.before.before.before.before.before.before.before.before.before.before.before.before.before.before.before.args in
-    let E = c.before.before.before.meet in
-    let s = c.before.before.before.before.before.before.before.before.before.before.before.pack-words.new.1.1.0 in
-    let same = c.before.before.before.before.before.before.before.before.same_rows in
-    let others = c.before.before.before.before.before.before.before.literal-word in
+    let a = c.args in
+    let s = c.pack_words.new.s in
     let state : number_at s 0 (length s) ≡ number_of (map (λ w. bit w a.p) a.state.now) =
-    ap (number_at s 0) c.before.before.before.before.before.before.before.before.before.before.before.pack-words.auto.1.1.0 ∙ c.before.before.before.before.before.before.before.before.before.before.before.pack-words.ensures in (
+    ap (number_at s 0) c.pack_words.auto.s ∙ c.pack_words.ensures in (
       record {
         meets = subst
             (λ (n : ℕ).
             Meets a.span.table a.span.quota (count_of a.span.quota a.pending.met) n a.span.e (a.span.first + a.p)
-            a.records.now (count_of a.span.quota E.result) E.new.0) state E.ensures.0;
+            a.records.now (count_of a.span.quota c.meet-met.result) c.meet-met.new.records) state c.meet-met.ensures.0;
         dropped = λ q l g. ⊎_elim (λ h. inl h)
-            (λ h. inr (ap number_of (map-eq (λ w. bit w q) (λ w. bit w a.p) a.state.now (same.ensures.0 q l h))))
-            (out a.pending.left same.result others.result others.ensures q l g);
-        within = λ q g. left_in a.pending.left others.result q g;
-        gone = bit-and a.pending.left others.result a.p
-            ∙ no_more (bit a.pending.left a.p) (bit others.result a.p)
-            (others.ensures a.p c.before.before.before.before.before.before.before.before.before.before.before.before.before.before.before.before.before.requires.1.0 ∙ ap (xor true) same.ensures.1 ∙ xor-true true);
+            (λ h. inr (ap number_of (map-eq (λ w. bit w q) (λ w. bit w a.p) a.state.now (c.same_rows.ensures.0 q l h))))
+            (out a.pending.left c.same_rows.result c.literal_word-others.result c.literal_word-others.ensures q l g);
+        within = λ q g. left_in a.pending.left c.literal_word-others.result q g;
+        gone = bit-and a.pending.left c.literal_word-others.result a.p
+            ∙ no_more (bit a.pending.left a.p) (bit c.literal_word-others.result a.p)
+            (c.literal_word-others.ensures a.p c.requires.1.0 ∙ ap (xor true) c.same_rows.ensures.1 ∙ xor-true true);
       },
-      E.ensures.1,
+      c.meet-met.ensures.1,
     )
 
-pub meet-row-spec : {M : Type 1} → statement M
-meet-row-spec =
+pub meet_row_spec : {M : Type 1} → statement M
+meet_row_spec =
     tie.close
-    (tie.spec
-    pack-words-requires same-rows-requires literal-word-requires add-meet meet-requires same_length same-length-2 returns)
+    (tie.spec pack-words-requires same-rows-requires literal-word-requires add-meet meet-requires same_length same-length-2 returns)

@@ -16,32 +16,32 @@ use Rattle.layers.proofs.pack_words.Tie as tie
 abbrev row : ℕ → ℕ → Bool
 row p w = bit w p
 
-abbrev invariant-loop : tie.invariant-loop
+abbrev invariant-loop : tie.invariant-loop-j
 invariant-loop state p s₀ n count j₀ s j = (j ≤ n) × (length s ≡ length s₀) × ((i : ℕ) → i < j → Packed (row p) state i (get_or s i 0))
 
-abbrev decreases-loop : tie.decreases-loop
+abbrev decreases-loop : tie.decreases-loop-j
 decreases-loop state p s₀ n count j₀ s j = n - j
 
-loop-holds : tie.Need-loop-init invariant-loop decreases-loop
+loop-holds : tie.Need-loop-j-init invariant-loop decreases-loop
 loop-holds c = (omega arith, refl, λ i l. absurd (omega arith))
 
-mul-from : tie.Need-overflow-mul-from invariant-loop decreases-loop
-mul-from c = omega (arith, c.before.before.before.before.requires.2)
+mul-from : tie.Need-overflow_mul-from invariant-loop decreases-loop
+mul-from c = omega (arith, c.requires.2)
 
-word-end-requires : tie.Need-word-end-requires invariant-loop decreases-loop
-word-end-requires c κs = omega (arith, c.before.before.before.before.requires.2)
+word-end-requires : tie.Need-word_end-end-requires invariant-loop decreases-loop
+word-end-requires c κs = omega (arith, c.requires.2)
 
-mul-pack : tie.Need-overflow-mul-pack invariant-loop decreases-loop
-mul-pack c = omega (arith, c.before.before.before.before.before.requires.2, c.word-end.ensures)
+mul-pack : tie.Need-offset_bounds-state-from invariant-loop decreases-loop
+mul-pack c = omega (arith, c.requires.2, c.word_end-end.ensures)
 
-sub-pack : tie.Need-overflow-sub-pack invariant-loop decreases-loop
-sub-pack c = omega (arith, c.before.before.before.before.before.requires.2, c.word-end.ensures)
+sub-pack : tie.Need-slice_bounds-pack-count invariant-loop decreases-loop
+sub-pack c = omega (arith, c.requires.2, c.word_end-end.ensures)
 
-part-pack-start : tie.Need-slice-bounds-pack-start invariant-loop decreases-loop
-part-pack-start c = omega (arith, c.before.before.before.before.before.requires.2, c.word-end.ensures)
+part-pack-start : tie.Need-slice_bounds-pack-start invariant-loop decreases-loop
+part-pack-start c = omega (arith, c.requires.2, c.word_end-end.ensures)
 
-part-pack-end : tie.Need-slice-bounds-pack-end invariant-loop decreases-loop
-part-pack-end c = omega (arith, c.before.before.before.before.before.requires.2, c.word-end.ensures)
+part-pack-end : tie.Need-slice_bounds-pack-end invariant-loop decreases-loop
+part-pack-end c = omega (arith, c.requires.2, c.word_end-end.ensures)
 
 -- how long a part of a list is
 part_length : (n at : ℕ) (ks : List ℕ) → n ≤ 32 → length (take n (drop at ks)) ≤ 32
@@ -49,45 +49,41 @@ part_length n at ks l = omega (arith, length-take n (drop at ks))
 
 pack-requires : tie.Need-pack-requires invariant-loop decreases-loop
 pack-requires c κs =
-    let from = 32 * c.before.before.before.loop.j in
-    let e = c.before.word-end.ensures in (
-      part_length (c.before.word-end.result - from) from c.before.before.before.before.before.before.args.state.now (omega
+    let from = 32 * c.loop-j.j in
+    let e = c.word_end-end.ensures in (
+      part_length (c.word_end-end.result - from) from c.args.state.now (omega
           arith),
-      c.before.before.before.before.before.before.requires.0,
+      c.requires.0,
     )
 
-slice-write-s : tie.Need-slice-write-s invariant-loop decreases-loop
-slice-write-s c = omega (arith, c.before.before.before.before.loop.invariant.1)
+slice-write-s : tie.Need-bounds-s-j invariant-loop decreases-loop
+slice-write-s c = omega (arith, c.loop-j.invariant.1)
 
-loop-again : tie.Need-loop-preserved invariant-loop decreases-loop
+loop-again : tie.Need-loop-j-preserved invariant-loop decreases-loop
 loop-again c =
-    let a = c.before.before.before.before.before.before.before.args in
-    let L = c.before.before.before.before.loop in
+    let a = c.args in
     let v = c.pack.result in (
       omega arith,
-      length-set L.s _ _ ∙ L.invariant.1,
-      below_more (λ i. Packed (row a.p) a.state.now i (get_or (set L.s L.j v) i 0)) L.j
-          (λ i l. get_or-set_other L.s L.j i v 0 (λ e. omega arith) ∙ L.invariant.2 i l)
-          (get_or-set_same L.s L.j v 0 (omega (arith, L.invariant.1))
-          ∙ packed-part (row a.p) a.state.now L.j c.before.before.word-end.result v c.before.before.word-end.ensures
+      length-set c.loop-j.s _ _ ∙ c.loop-j.invariant.1,
+      below_more (λ i. Packed (row a.p) a.state.now i (get_or (set c.loop-j.s c.loop-j.j v) i 0)) c.loop-j.j
+          (λ i l. get_or-set_other c.loop-j.s c.loop-j.j i v 0 (λ e. omega arith) ∙ c.loop-j.invariant.2 i l)
+          (get_or-set_same c.loop-j.s c.loop-j.j v 0 (omega (arith, c.loop-j.invariant.1))
+          ∙ packed-part (row a.p) a.state.now c.loop-j.j c.word_end-end.result v c.word_end-end.ensures
           c.pack.ensures),
     )
 
-same_length : tie.Need-same-length invariant-loop decreases-loop
-same_length c = c.before.loop.invariant.1
+same_length : tie.Need-shape_of-s invariant-loop decreases-loop
+same_length c = c.loop-j.invariant.1
 
 returns : tie.Need-returns invariant-loop decreases-loop
 returns c =
-    let a = c.before.before.before.before.args in
-    let L = c.before.loop in
+    let a = c.args in
     let f = row a.p in
-    let all : (i : ℕ) → i < length a.s.now → Packed f a.state.now i (get_or L.s i 0) = λ i l. L.invariant.2 i (omega arith) in
-    packed_all f a.state.now L.s (packed-words f a.state.now L.s (length a.s.now) L.invariant.1 all) (length a.s.now)
-    c.before.before.before.before.requires.1 c.before.before.before.before.requires.2 all
+    let all : (i : ℕ) → i < length a.s.now → Packed f a.state.now i (get_or c.loop-j.s i 0) = λ i l. c.loop-j.invariant.2 i (omega arith) in
+    packed_all f a.state.now c.loop-j.s (packed-words f a.state.now c.loop-j.s (length a.s.now) c.loop-j.invariant.1 all) (length a.s.now)
+    c.requires.1 c.requires.2 all
 
-pub pack-words-spec : {M : Type 1} → statement M
-pack-words-spec =
+pub pack_words_spec : {M : Type 1} → statement M
+pack_words_spec =
     tie.close
-    (tie.spec
-    invariant-loop decreases-loop loop-holds mul-from word-end-requires mul-pack sub-pack part-pack-start part-pack-end pack-requires
-    (λ c. search rules) slice-write-s (λ c. search rules) (λ c. search rules) loop-again same_length returns)
+    (tie.spec invariant-loop decreases-loop loop-holds mul-from word-end-requires mul-pack sub-pack part-pack-start part-pack-end pack-requires (λ c. search rules) slice-write-s (λ c. search rules) (λ c. search rules) loop-again same_length returns)

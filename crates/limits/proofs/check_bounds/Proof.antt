@@ -8,36 +8,33 @@ use Rattle.limits.proofs.Refusals.{not-accepted, judge-refused, judge-rest}
 use Rattle.limits.proofs.check_bounds.Statement.{statement}
 use Rattle.limits.proofs.check_bounds.Tie as tie
 
-returns : tie.Need-returns
+returns : tie.Need-returns-in-Refused
 returns c =
-    let l = c.before.before.before in
-    let a = c.before.before.before.before.args in
+    let a = c.args in
     record {
       tests = λ x e.
           judge-refused (line_tests x a.b a.k a.budget) (size_test x a.k a.room ∷ []) _
-          (rw c.before.n.given.1 at (l.check-line.ensures.tests x e));
+          (rw c.in-Refused.is at (c.check_line.ensures.tests x e));
       within = λ z. absurd (not-accepted _ z);
     }
 
-check-size-requires : tie.Need-check-size-requires
-check-size-requires c κs = (c.before.before.before.requires, (c.before.before.check-line.ensures.within c.enum_told.given.1).bound)
+check-size-requires : tie.Need-check_size-requires
+check-size-requires c κs = (c.requires, (c.check_line.ensures.within c.in_default.is).bound)
 
-returns-2 : tie.Need-returns-2
+returns-2 : tie.Need-returns
 returns-2 c =
-    let s = c.check-size.ensures in
-    let l = c.before.before.before in
-    let a = c.before.before.before.before.args in
-    let h = c.before.enum_told.given.1 in
-    let w = l.check-line.ensures.within h in
+    let s = c.check_size.ensures in
+    let a = c.args in
+    let h = c.in_default.is in
+    let w = c.check_line.ensures.within h in
     record {
       tests = λ x e.
-          judge-rest (line_tests x a.b a.k a.budget) (size_test x a.k a.room ∷ []) (rw h at (l.check-line.ensures.tests x e))
+          judge-rest (line_tests x a.b a.k a.budget) (size_test x a.k a.room ∷ []) (rw h at (c.check_line.ensures.tests x e))
           ∙ s.tests x e;
       within = λ z. record { bad = w.bad; bound = w.bound; right = w.right; small = (s.within z).small; words = (s.within z).words };
     }
 
-pub check-bounds-spec : {M : Type 1} → statement M
-check-bounds-spec =
+pub check_bounds_spec : {M : Type 1} → statement M
+check_bounds_spec =
     tie.close
-    (tie.spec
-    (λ c κs. search rules) (λ c. search rules) returns (λ c. search rules) check-size-requires returns-2)
+    (tie.spec (λ c κs. search rules) (λ c. search rules) returns (λ c. search rules) check-size-requires returns-2)

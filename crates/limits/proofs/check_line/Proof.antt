@@ -1,4 +1,6 @@
 -- `limits::check_line` meets its contract: each number by the first test that fails. Assumes nothing.
+use Rattle.std.proofs.lemmas.Bool.{not_from_true}
+use Rattle.std.proofs.lemmas.Bool.{not_from_false}
 use native.Mathlib.Omega.{arith}
 use borrow.Author.Rules.{rules}
 use borrow.Author.Tests.{not-true, not-false}
@@ -7,38 +9,38 @@ use Rattle.limits.proofs.Refusals.{not-accepted, bad-refused, bound-refused, bud
 use Rattle.limits.proofs.check_line.Statement.{statement}
 use Rattle.limits.proofs.check_line.Tie as tie
 
-returns : tie.Need-returns
+returns : tie.Need-returns-then-layout-b
 returns c =
-    let a = c.before.args in
+    let a = c.args in
     record {
       tests = λ x e. bad-refused x a.b a.k a.budget (omega (arith, e.bads));
       within = λ z. absurd (not-accepted 10 z);
     }
 
-returns-2 : tie.Need-returns-2
+returns-2 : tie.Need-returns-then-k-gt255
 returns-2 c =
-    let a = c.before.before.args in
+    let a = c.args in
     record {
       tests = λ x e. bound-refused x a.b a.k a.budget (omega (arith, e.bads)) (omega arith);
       within = λ z. absurd (not-accepted 11 z);
     }
 
-returns-3 : tie.Need-returns-3
+returns-3 : tie.Need-returns-then-not-budget
 returns-3 c =
-    let a = c.before.before.before.args in
+    let a = c.args in
     record {
-      tests = λ x e. budget-refused x a.b a.k a.budget (omega (arith, e.bads)) (omega arith) (not-true a.budget c.if3.true);
+      tests = λ x e. budget-refused x a.b a.k a.budget (omega (arith, e.bads)) (omega arith) (not-true a.budget (not_from_false _ c.if-not-budget.true));
       within = λ z. absurd (not-accepted 11 z);
     }
 
-returns-4 : tie.Need-returns-4
+returns-4 : tie.Need-returns
 returns-4 c =
-    let a = c.before.before.before.args in
-    let right = not-false a.budget c.if3.false in
+    let a = c.args in
+    let right = not-false a.budget (not_from_true _ c.if-not-budget.false) in
     record {
       tests = λ x e. line-passes x a.b a.k a.budget (omega (arith, e.bads)) (omega arith) right;
       within = λ z. record { bad = omega arith; bound = omega arith; right = T_true right };
     }
 
-pub check-line-spec : {M : Type 1} → statement M
-check-line-spec = tie.close (tie.spec returns returns-2 returns-3 returns-4)
+pub check_line_spec : {M : Type 1} → statement M
+check_line_spec = tie.close (tie.spec returns returns-2 returns-3 returns-4)

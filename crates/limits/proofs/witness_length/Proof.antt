@@ -10,33 +10,31 @@ use Rattle.limits.proofs.witness_length.Tie as tie
 small : (s : tie.Start) → (s.args.k + 1) * (s.args.layout.i + 1) ≤ 856320
 small s = product_small s.args.k (s.args.layout.i + 1) (omega (arith, s.requires.1)) (omega (arith, s.requires.0))
 
-ten : (n : tie.After-digit-count) → n.digit-count.result ≤ 10
-ten n = omega (arith, n.digit-count.ensures, digits-most 9 n.before.args.b)
+ten : (n : tie.After-digit_count-number) → n.digit_count-number.result ≤ 10
+ten n = omega (arith, n.digit_count-number.ensures, digits-most 9 n.args.b)
 
-add-result : tie.Need-overflow-add-result
+add-result : tie.Need-overflow_add-result
 add-result c = omega (arith, ten c)
 
-add-result-2 : tie.Need-overflow-add-result-2
+add-result-2 : tie.Need-overflow_add-result-2
 add-result-2 c = omega (arith, ten c)
 
-add-result-4 : tie.Need-overflow-add-result-4
-add-result-4 c = omega (arith, ten c.before, c.before.before.requires.0)
+add-result-4 : tie.Need-overflow_add-result-4
+add-result-4 c = omega (arith, ten c.before, c.requires.0)
 
-mul-result : tie.Need-overflow-mul-result
+mul-result : tie.Need-overflow_mul-result
 mul-result c = omega (arith, small c.before.before.before)
 
-add-result-7 : tie.Need-overflow-add-result-7
-add-result-7 c = omega (arith, ten c.before.before, small c.before.before.before, c.before.before.before.requires.0)
+add-result-7 : tie.Need-overflow_add-result-7
+add-result-7 c = omega (arith, ten c.before.before, small c.before.before.before, c.requires.0)
 
-add-result-8 : tie.Need-overflow-add-result-8
-add-result-8 c = omega (arith, ten c.before.before, small c.before.before.before, c.before.before.before.requires.0)
+add-result-8 : tie.Need-overflow_add-result-8
+add-result-8 c = omega (arith, ten c.before.before, small c.before.before.before, c.requires.0)
 
 returns : tie.Need-returns
-returns c = omega (arith, c.before.before.digit-count.ensures)
+returns c = omega (arith, c.digit_count-number.ensures)
 
-pub witness-length-spec : {M : Type 1} → statement M
-witness-length-spec =
+pub witness_length_spec : {M : Type 1} → statement M
+witness_length_spec =
     tie.close
-    (tie.spec
-    (λ c κs. search rules) add-result add-result-2 (λ c. search rules) add-result-4 (λ c. search rules) (λ c. search rules) mul-result
-    add-result-7 add-result-8 returns)
+    (tie.spec (λ c κs. search rules) add-result add-result-2 (λ c. search rules) add-result-4 (λ c. search rules) (λ c. search rules) mul-result add-result-7 add-result-8 returns)

@@ -13,17 +13,17 @@ use Rattle.validity.proofs.check.Reads as check-reads
 
 -- the answer of the check is the variant that the match found
 found : (n : tie.After-check) (r : Checked) → n.check.result ≡ r
-    → Checks (circuit_in n.before.before.before.before.args.words.now) n.check.new.1.0 r
+    → Checks (circuit_in n.args.words.now) n.check.new.order r
 found n r e =
-    subst (Checks (circuit_in n.before.before.before.before.args.words.now) n.check.new.1.0) e n.check.ensures.0
+    subst (Checks (circuit_in n.args.words.now) n.check.new.order) e n.check.ensures.0
 
-returns : tie.Need-returns
-returns c = accepts-refused _ (found c.before.before.before.before.before _ c.before.n.given.1)
+returns : tie.Need-returns-in-Refused
+returns c = accepts-refused _ (found c.before.before.before _ c.in-Refused.is)
 
-returns-2 : tie.Need-returns-2
-returns-2 c = (refl, accepts-right _ (found c.before.before.before.before _ c.enum_told.given.1).0)
+returns-2 : tie.Need-returns-in-Right
+returns-2 c = (refl, accepts-right _ (found c.before.before.before _ c.in-Right.is).0)
 
-pub judge-circuit-spec : {M : Type 1} → statement M
-judge-circuit-spec =
+pub judge_circuit_spec : {M : Type 1} → statement M
+judge_circuit_spec =
     tie.close
     (tie.spec (λ c κs. search rules) (λ c. search rules) (λ c. search rules) (λ c. search rules) returns (λ c. search rules) returns-2)

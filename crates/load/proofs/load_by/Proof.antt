@@ -11,27 +11,18 @@ use Rattle.load.proofs.store.Reads as store-reads
 
 store-requires : tie.Need-store-requires
 store-requires c κs =
-    let g = c.before.before.before in
-    let A = g.before.before.before.before.before.before in
-    let s = A.before.before.before.before.before.before.before in
-    let z = rw g.answer2.given.1 at A.judge-file.ensures.answer in
-    (judged-counted s.args.m.now s.args.file.now _ _ z, judged-room s.args.m.now s.args.file.now _ _ z)
+    let z = rw c.in-Loaded.is at c.judge_file-judgement.ensures.answer in
+    (judged-counted c.args.m.now c.args.file.now _ _ z, judged-room c.args.m.now c.args.file.now _ _ z)
 
-returns : tie.Need-returns
-returns c = Loaded.refuses (rw c.before.answer.given.1 at c.before.before.before.before.before.before.before.judge-file.ensures.answer)
+returns : tie.Need-returns-in-Refused
+returns c = Loaded.refuses (rw c.in-Refused.is at c.judge_file-judgement.ensures.answer)
 
-returns-2 : tie.Need-returns-2
+returns-2 : tie.Need-returns-in-Loaded
 returns-2 c =
-    let y = c.before.before in
-    let g = y.before.before.before.before in
-    let A = g.before.before.before.before.before.before in
-    let s = A.before.before.before.before.before.before.before in
-    let z = rw g.answer2.given.1 at A.judge-file.ensures.answer in
-    judged-stored s.args.m.now s.args.file.now _ _ z _ y.store.ensures
+    let z = rw c.in-Loaded.is at c.judge_file-judgement.ensures.answer in
+    judged-stored c.args.m.now c.args.file.now _ _ z _ c.store.ensures
 
-pub load-by-spec : {M : Type 1} → statement M
-load-by-spec =
+pub load_by_spec : {M : Type 1} → statement M
+load_by_spec =
     tie.close
-    (tie.spec
-    (λ c κs. search rules) (λ c. search rules) (λ c. search rules) store-requires (λ c. search rules) (λ c. search rules) returns
-    (λ c. search rules) (λ c. search rules) (λ c. search rules) returns-2)
+    (tie.spec (λ c κs. search rules) (λ c. search rules) (λ c. search rules) store-requires (λ c. search rules) (λ c. search rules) returns (λ c. search rules) (λ c. search rules) (λ c. search rules) returns-2)

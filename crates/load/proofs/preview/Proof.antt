@@ -8,8 +8,8 @@ use Rattle.load.proofs.preview.Lts as lts
 use Rattle.load.proofs.judge_file.Reads as judge-file-reads
 
 returns : tie.Need-returns
-returns c = previewed c.before.before.judge-file.ensures
+returns c = previewed c.judge_file.ensures
 
-pub preview-spec : {M : Type 1} → statement M
-preview-spec =
+pub preview_spec : {M : Type 1} → statement M
+preview_spec =
     tie.close (tie.spec (λ c. search rules) (λ c. search rules) (λ c κs. search rules) returns)

@@ -9,17 +9,12 @@ use Rattle.load.proofs.store.Tie as tie
 
 returns : tie.Need-returns
 returns c =
-    let t = c.before.before in
-    let y = t.before.before.before.before.before in
-    let q = y.before.before.layout_of.ensures.0 in
-    let p = y.before.before.layout_of.result in
-    let s = y.before.before.before.before.before in
-    stored s.args.words.now s.args.m.now p.end (needed p.m) s.requires.0 q.end_is (ap needed q.m-is)
-    (omega (arith, q.m-is, s.requires.1)) y.copy.ensures t.clear.ensures
+    let q = c.layout_of-p.ensures.0 in
+    let p = c.layout_of-p.result in
+    stored c.args.words.now c.args.m.now p.end (needed p.m) c.requires.0 q.end_is (ap needed q.m-is)
+    (omega (arith, q.m-is, c.requires.1)) c.copy.ensures c.clear.ensures
 
 pub store_spec : {M : Type 1} → statement M
 store_spec =
     tie.close
-    (tie.spec
-    (λ c κs. search rules) (λ c κs. search rules) (λ c. search rules) (λ c. search rules) (λ c. search rules) (λ c κs. search rules)
-    (λ c. search rules) returns)
+    (tie.spec (λ c κs. search rules) (λ c κs. search rules) (λ c. search rules) (λ c. search rules) (λ c. search rules) (λ c κs. search rules) (λ c. search rules) returns)

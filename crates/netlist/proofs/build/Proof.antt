@@ -14,31 +14,24 @@ use Rattle.records.proofs.arrange.Reads as arrange-reads
 use Rattle.records.proofs.renumber.Reads as renumber-reads
 use Rattle.records.proofs.set_leaves.Reads as set-leaves-reads
 
-cast-kept : tie.Need-overflow-cast-kept
-cast-kept c = omega (arith, kept-few c.before.before.before.before.before.before.before.before.before.before.args.work.now c.before.before.before.before.before.before.set-leaves.new.0 c.before.before.assign.new.0 c.before.before.before.before.before.before.before.before.before.before.args.g (edge_word c.before.before.before.before.before.before.before.before.before.before.args.root) c.before.before.assign.result c.before.before.before.before.before.before.before.before.before.before.requires c.before.before.before.before.before.before.set-leaves.ensures c.before.before.assign.auto.0 c.before.before.assign.ensures, c.before.before.before.before.before.before.before.before.before.before.requires.sized.nodes, c.before.before.before.before.before.before.before.before.before.before.requires.sized.room)
+cast-kept : tie.Need-overflow_cast-kept
+cast-kept c = omega (arith, kept-few c.args.work.now c.set_leaves.new.work c.assign-kept.new.work c.args.g (edge_word c.args.root) c.assign-kept.result c.requires c.set_leaves.ensures c.assign-kept.auto.work c.assign-kept.ensures, c.requires.sized.nodes, c.requires.sized.room)
 
-add-arrange : tie.Need-overflow-add-arrange
-add-arrange c = omega (arith, kept-few c.before.before.before.before.before.before.before.before.before.before.before.before.before.before.before.args.work.now c.before.before.before.before.before.before.before.before.before.before.before.set-leaves.new.0 c.before.before.before.before.before.before.before.assign.new.0 c.before.before.before.before.before.before.before.before.before.before.before.before.before.before.before.args.g (edge_word c.before.before.before.before.before.before.before.before.before.before.before.before.before.before.before.args.root) c.before.before.before.before.before.before.before.assign.result c.before.before.before.before.before.before.before.before.before.before.before.before.before.before.before.requires c.before.before.before.before.before.before.before.before.before.before.before.set-leaves.ensures c.before.before.before.before.before.before.before.assign.auto.0 c.before.before.before.before.before.before.before.assign.ensures, c.before.before.before.before.before.before.before.before.before.before.before.before.before.before.before.requires.sized.nodes, c.before.before.before.before.before.before.before.before.before.before.before.before.before.before.before.requires.sized.room)
+add-arrange : tie.Need-overflow_add-first-2
+add-arrange c = omega (arith, kept-few c.args.work.now c.set_leaves.new.work c.assign-kept.new.work c.args.g (edge_word c.args.root) c.assign-kept.result c.requires c.set_leaves.ensures c.assign-kept.auto.work c.assign-kept.ensures, c.requires.sized.nodes, c.requires.sized.room)
 
 arrange-requires : tie.Need-arrange-requires
-arrange-requires c κs = omega (arith, kept-few c.before.before.before.before.before.before.before.before.before.before.before.before.before.before.before.args.work.now c.before.before.before.before.before.before.before.before.before.before.before.set-leaves.new.0 c.before.before.before.before.before.before.before.assign.new.0 c.before.before.before.before.before.before.before.before.before.before.before.before.before.before.before.args.g (edge_word c.before.before.before.before.before.before.before.before.before.before.before.before.before.before.before.args.root) c.before.before.before.before.before.before.before.assign.result c.before.before.before.before.before.before.before.before.before.before.before.before.before.before.before.requires c.before.before.before.before.before.before.before.before.before.before.before.set-leaves.ensures c.before.before.before.before.before.before.before.assign.auto.0 c.before.before.before.before.before.before.before.assign.ensures, c.before.before.before.before.before.before.before.before.before.before.before.before.before.before.before.requires.sized.nodes, c.before.before.before.before.before.before.before.before.before.before.before.before.before.before.before.requires.sized.room, c.before.before.before.before.before.before.before.before.before.before.before.before.before.before.before.requires.exact, c.before.before.before.before.before.before.before.assign.auto.0, c.before.before.before.before.before.before.before.before.before.before.before.set-leaves.auto.0)
+arrange-requires c κs = omega (arith, kept-few c.args.work.now c.set_leaves.new.work c.assign-kept.new.work c.args.g (edge_word c.args.root) c.assign-kept.result c.requires c.set_leaves.ensures c.assign-kept.auto.work c.assign-kept.ensures, c.requires.sized.nodes, c.requires.sized.room, c.requires.exact, c.assign-kept.auto.work, c.set_leaves.auto.work)
 
-add-t18 : tie.Need-overflow-add-t18
-add-t18 c = omega (arith, kept-few c.before.before.before.before.before.before.before.before.before.before.before.before.before.before.before.before.before.before.args.work.now c.before.before.before.before.before.before.before.before.before.before.before.before.before.before.set-leaves.new.0 c.before.before.before.before.before.before.before.before.before.before.assign.new.0 c.before.before.before.before.before.before.before.before.before.before.before.before.before.before.before.before.before.before.args.g (edge_word c.before.before.before.before.before.before.before.before.before.before.before.before.before.before.before.before.before.before.args.root) c.before.before.before.before.before.before.before.before.before.before.assign.result c.before.before.before.before.before.before.before.before.before.before.before.before.before.before.before.before.before.before.requires c.before.before.before.before.before.before.before.before.before.before.before.before.before.before.set-leaves.ensures c.before.before.before.before.before.before.before.before.before.before.assign.auto.0 c.before.before.before.before.before.before.before.before.before.before.assign.ensures, c.before.before.before.before.before.before.before.before.before.before.before.before.before.before.before.before.before.before.requires.sized.nodes, c.before.before.before.before.before.before.before.before.before.before.before.before.before.before.before.before.before.before.requires.sized.room)
+add-t18 : tie.Need-overflow_add-result
+add-t18 c = omega (arith, kept-few c.args.work.now c.set_leaves.new.work c.assign-kept.new.work c.args.g (edge_word c.args.root) c.assign-kept.result c.requires c.set_leaves.ensures c.assign-kept.auto.work c.assign-kept.ensures, c.requires.sized.nodes, c.requires.sized.room)
 
 returns : tie.Need-returns
 returns c =
-    let s = c.before.before.before.before.before.before.before.before.before.before.before.before.before.before.before.before.before.before in
-    let a = s.args in
-    let v = c.before.before.before.before.before.before.before.before.before.before.before.before.before.before.set-leaves in
-    let e = c.before.before.before.before.before.before.before.before.before.before.assign in
-    let p = c.before.before.arrange in
-    netlist-is a.work.now v.new.0 e.new.0 a.g (edge_word a.root) e.result s.requires v.ensures e.auto.0 e.ensures p.new.0 c.before.before.before.before.before.before.word.result c.before.before.before.before.before.renumber.result _ c.before.before.before.before.before.before.word.ensures c.before.before.before.before.before.renumber.ensures p.ensures (p.auto.0 ∙ e.auto.0 ∙ v.auto.0)
+    let a = c.args in
+    netlist-is a.work.now c.set_leaves.new.work c.assign-kept.new.work a.g (edge_word a.root) c.assign-kept.result c.requires c.set_leaves.ensures c.assign-kept.auto.work c.assign-kept.ensures c.arrange.new.work c.word.result c.renumber-top.result _ c.word.ensures c.renumber-top.ensures c.arrange.ensures (c.arrange.auto.work ∙ c.assign-kept.auto.work ∙ c.set_leaves.auto.work)
 
-pub build-spec : {M : Type 1} → statement M
-build-spec =
+pub build_spec : {M : Type 1} → statement M
+build_spec =
     tie.close
-    (tie.spec
-    (λ c. search rules) (λ c. search rules) (λ c κs. search rules) (λ c κs. search rules) cast-kept (λ c κs. search rules)
-    (λ c. search rules) (λ c κs. search rules) (λ c. search rules) add-arrange arrange-requires add-t18 (λ c. search rules)
-    (λ c. search rules) returns)
+    (tie.spec (λ c. search rules) (λ c. search rules) (λ c κs. search rules) (λ c κs. search rules) cast-kept (λ c κs. search rules) (λ c. search rules) (λ c κs. search rules) (λ c. search rules) add-arrange arrange-requires add-t18 (λ c. search rules) (λ c. search rules) returns)

@@ -11,17 +11,14 @@ use Rattle.pairing.proofs.put_gate.Tie as tie
 
 returns : tie.Need-returns
 returns c =
-    let s = c.before.before.before.before.before.before.before.before.before.args in
-    let w = c.before.before in
-    let lit = c.before.before.before.before.before.before.before.word.ensures in
-    let left = c.before.before.before.before.before.before.word2.ensures in
-    let right = c.before.before.before.before.before.word3.ensures in
-    subst (λ (r : List ℕ). Put s.to (word r) 3 s.m.now w.copy-words.new.1.1.0) (λ i. lit i ∷ left i ∷ right i ∷ [])
-    w.copy-words.ensures
+    let s = c.args in
+    let lit = c.word.ensures in
+    let left = c.word-2.ensures in
+    let right = c.word-3.ensures in
+    subst (λ (r : List ℕ). Put s.to (word r) 3 s.m.now c.copy_words.new.m) (λ i. lit i ∷ left i ∷ right i ∷ [])
+    c.copy_words.ensures
 
-pub put-gate-spec : {M : Type 1} → statement M
-put-gate-spec =
+pub put_gate_spec : {M : Type 1} → statement M
+put_gate_spec =
     tie.close
-    (tie.spec
-    (λ c κs. search rules) (λ c. search rules) (λ c κs. search rules) (λ c. search rules) (λ c κs. search rules) (λ c. search rules)
-    (λ c. search rules) (λ c κs. search rules) (λ c. search rules) returns)
+    (tie.spec (λ c κs. search rules) (λ c. search rules) (λ c κs. search rules) (λ c. search rules) (λ c κs. search rules) (λ c. search rules) (λ c. search rules) (λ c κs. search rules) (λ c. search rules) returns)

@@ -17,164 +17,116 @@ use borrow.Author.Rules.{rules}
 use Rattle.pairing.proofs.put_pairs.Statement.{statement}
 use Rattle.pairing.proofs.put_pairs.Tie as tie
 
-abbrev invariant-loop : tie.invariant-loop
+abbrev invariant-loop : tie.invariant-loop-j
 invariant-loop a first b second m₀ to v n at from j₀ m j =
     (j ≤ n) × (length m ≡ length m₀)
     × Stored (λ i. to + i) (pairs_word v.0 (λ i. under first (word a (at + i))) (λ i. under second (word b (from + i)))) (9 * j) m₀ m
 
-abbrev decreases-loop : tie.decreases-loop
+abbrev decreases-loop : tie.decreases-loop-j
 decreases-loop a first b second m₀ to v n at from j₀ m j = n - j
 
-pairs-from-requires : tie.Need-pairs-from-requires invariant-loop decreases-loop
-pairs-from-requires c κs = let s = c.before.before.before.before.before in (s.requires.0.2, s.requires.0.3)
+pairs-from-requires : tie.Need-pairs_from-to-requires invariant-loop decreases-loop
+pairs-from-requires c κs = (c.requires.0.2, c.requires.0.3)
 
-pairs-var-requires : tie.Need-pairs-var-requires invariant-loop decreases-loop
-pairs-var-requires c κs = let s = c.before.before.before.before.before.before in (s.requires.0.2, s.requires.0.3)
+pairs-var-requires : tie.Need-pairs_var-v-requires invariant-loop decreases-loop
+pairs-var-requires c κs = (c.requires.0.2, c.requires.0.3)
 
-loop-holds : tie.Need-loop-init invariant-loop decreases-loop
+loop-holds : tie.Need-loop-j-init invariant-loop decreases-loop
 loop-holds c = (omega arith, refl, stored-start _ _ _)
 
-add-from-word : tie.Need-overflow-add-from-word invariant-loop decreases-loop
+add-from-word : tie.Need-overflow_add-at invariant-loop decreases-loop
 add-from-word c =
-    let s = c.before.before.before.before.before.before.before.before.before in
-    omega (arith, s.requires.0.0.outputs-inside)
+    omega (arith, c.requires.0.0.outputs-inside)
 
-mul-from-word : tie.Need-overflow-mul-from-word invariant-loop decreases-loop
+mul-from-word : tie.Need-offset_bounds-a-at invariant-loop decreases-loop
 mul-from-word c = omega arith
 
-shared-slice-read-from-word : tie.Need-shared-slice-read-from-word invariant-loop decreases-loop
+shared-slice-read-from-word : tie.Need-bounds-a-at invariant-loop decreases-loop
 shared-slice-read-from-word c =
-    let s = c.before.before.before.before.before.before.before.before.before.before in
-    omega (arith, s.requires.0.0.outputs-inside)
+    omega (arith, c.requires.0.0.outputs-inside)
 
-rename-requires : tie.Need-rename-requires invariant-loop decreases-loop
+rename-requires : tie.Need-rename-x-requires invariant-loop decreases-loop
 rename-requires c κs =
-    let s = c.before.before.before.before.before.before.before.before.before.before.before in
-    let l = c.before.before.before.loop in
-    rw (ap (λ (x : Lit). x.0.0) c.from-word.ensures) (s.requires.0.0.outputs l.j (omega arith))
+    rw (ap (λ (x : Lit). x.0.0) c.from_word.ensures) (c.requires.0.0.outputs c.loop-j.j (omega arith))
 
-add-from-word-2 : tie.Need-overflow-add-from-word-2 invariant-loop decreases-loop
+add-from-word-2 : tie.Need-overflow_add-from invariant-loop decreases-loop
 add-from-word-2 c =
-    let s = c.before.before.before.before.before.before.before.before.before.before.before.before in
-    omega (arith, s.requires.0.1.outputs-inside, s.requires.0.5)
+    omega (arith, c.requires.0.1.outputs-inside, c.requires.0.5)
 
-mul-from-word-2 : tie.Need-overflow-mul-from-word-2 invariant-loop decreases-loop
+mul-from-word-2 : tie.Need-offset_bounds-b-from invariant-loop decreases-loop
 mul-from-word-2 c = omega arith
 
-shared-slice-read-from-word-2 : tie.Need-shared-slice-read-from-word-2 invariant-loop decreases-loop
+shared-slice-read-from-word-2 : tie.Need-bounds-b-from invariant-loop decreases-loop
 shared-slice-read-from-word-2 c =
-    let s = c.before.before.before.before.before.before.before.before.before.before.before.before.before in
-    omega (arith, s.requires.0.1.outputs-inside, s.requires.0.5)
+    omega (arith, c.requires.0.1.outputs-inside, c.requires.0.5)
 
-rename-requires-2 : tie.Need-rename-requires-2 invariant-loop decreases-loop
+rename-requires-2 : tie.Need-rename-y-requires invariant-loop decreases-loop
 rename-requires-2 c κs =
-    let s = c.before.before.before.before.before.before.before.before.before.before.before.before.before.before in
-    let l = c.before.before.before.before.before.before.loop in
-    rw (ap (λ (x : Lit). x.0.0) c.from-word2.ensures) (s.requires.0.1.outputs l.j (omega (arith, s.requires.0.5)))
+    rw (ap (λ (x : Lit). x.0.0) c.from_word-in-loop-j.ensures) (c.requires.0.1.outputs c.loop-j.j (omega (arith, c.requires.0.5)))
 
-mul-put-pair : tie.Need-overflow-mul-put-pair invariant-loop decreases-loop
+mul-put-pair : tie.Need-overflow_mul-j invariant-loop decreases-loop
 mul-put-pair c =
-    let at-loop-test = c.before.before.before.before.before.before.before in
-    let s = at-loop-test.before.before.before.before.before.before.before.before.before in
-    omega (arith, at-loop-test.loop-test.true, s.requires.0.4)
+    omega (arith, c.loop-j-test.true, c.requires.0.4)
 
-add-put-pair : tie.Need-overflow-add-put-pair invariant-loop decreases-loop
+add-put-pair : tie.Need-overflow_add-to invariant-loop decreases-loop
 add-put-pair c =
-    let at-loop-test = c.before.before.before.before.before.before.before in
-    let at-pairs-from = at-loop-test.before.before.before in
-    let s = at-pairs-from.before.before.before.before.before.before in
-    omega (arith, at-loop-test.loop-test.true, s.requires.0.4, s.requires.1, at-pairs-from.pairs-from.ensures)
+    omega (arith, c.loop-j-test.true, c.requires.0.4, c.requires.1, c.pairs_from-to.ensures)
 
-cast-t21 : tie.Need-overflow-cast-t21 invariant-loop decreases-loop
+cast-t21 : tie.Need-overflow_cast-j invariant-loop decreases-loop
 cast-t21 c =
-    let at-loop-test = c.before.before.before.before.before.before.before in
-    let s = at-loop-test.before.before.before.before.before.before.before.before.before in
-    omega (arith, at-loop-test.loop-test.true, s.requires.0.4)
+    omega (arith, c.loop-j-test.true, c.requires.0.4)
 
-mul-t26 : tie.Need-overflow-mul-t26 invariant-loop decreases-loop
+mul-t26 : tie.Need-overflow_mul-j-in-loop-j invariant-loop decreases-loop
 mul-t26 c =
-    let at-loop-test = c.before.before.before.before.before.before.before in
-    let s = at-loop-test.before.before.before.before.before.before.before.before.before in
-    omega (arith, at-loop-test.loop-test.true, s.requires.0.4)
+    omega (arith, c.loop-j-test.true, c.requires.0.4)
 
-add-t27 : tie.Need-overflow-add-t27 invariant-loop decreases-loop
+add-t27 : tie.Need-overflow_add-v invariant-loop decreases-loop
 add-t27 c =
-    let at-loop-test = c.before.before.before.before.before.before.before.before in
-    let at-pairs-var = at-loop-test.before.before in
-    let s = at-pairs-var.before.before.before.before.before.before.before in
-    omega (arith, at-loop-test.loop-test.true, s.requires.0.4, s.requires.1, at-pairs-var.pairs-var.ensures)
+    omega (arith, c.loop-j-test.true, c.requires.0.4, c.requires.1, c.pairs_var-v.ensures)
 
-put-pair-requires : tie.Need-put-pair-requires invariant-loop decreases-loop
+put-pair-requires : tie.Need-put_pair-requires invariant-loop decreases-loop
 put-pair-requires c κs =
-    let at-rename2 = c.before.before in
-    let at-rename = at-rename2.before.before.before in
-    let at-loop-test = at-rename.before.before.before in
-    let at-loop = at-loop-test.before in
-    let at-pairs-var = at-loop.before in
-    let at-pairs-from = at-pairs-var.before in
-    let s = at-pairs-from.before.before.before.before.before.before in
-    let l = at-loop.loop in (
-      omega (arith, s.requires.0.4, s.requires.1, at-pairs-var.pairs-var.ensures),
-      at-rename.rename.ensures.1,
-      at-rename2.rename2.ensures.1,
-      omega (arith, at-loop-test.loop-test.true, l.invariant.1, s.requires.1, at-pairs-from.pairs-from.ensures),
+    (
+      omega (arith, c.requires.0.4, c.requires.1, c.pairs_var-v.ensures),
+      c.rename-x.ensures.1,
+      c.rename-y.ensures.1,
+      omega (arith, c.loop-j-test.true, c.loop-j.invariant.1, c.requires.1, c.pairs_from-to.ensures),
     )
 
-add-j : tie.Need-overflow-add-j invariant-loop decreases-loop
+add-j : tie.Need-overflow_add-j invariant-loop decreases-loop
 add-j c = omega arith
 
-loop-less : tie.Need-loop-smaller invariant-loop decreases-loop
+loop-less : tie.Need-loop-j-smaller invariant-loop decreases-loop
 loop-less c = omega arith
 
-loop-again : tie.Need-loop-preserved invariant-loop decreases-loop
+loop-again : tie.Need-loop-j-preserved invariant-loop decreases-loop
 loop-again c =
-    let at-put-pair = c.before.before in
-    let at-rename2 = at-put-pair.before.before.before in
-    let at-from-word2 = at-rename2.before in
-    let at-rename = at-from-word2.before.before in
-    let at-from-word = at-rename.before in
-    let at-loop-test = at-from-word.before.before in
-    let at-loop = at-loop-test.before in
-    let at-pairs-var = at-loop.before in
-    let at-pairs-from = at-pairs-var.before in
-    let at-start = at-pairs-from.before.before.before.before.before.before in
-    let a = at-start.args in
-    let l = at-loop.loop in
-    let j = l.j in
-    let x = at-rename.rename in
-    let y = at-rename2.rename2 in
-    let v = at-pairs-var.pairs-var.result.0 in
-    let to = at-pairs-from.pairs-from.result in
-    let put = at-put-pair.put-pair in
+    let a = c.args in
+    let j = c.loop-j.j in
+    let v = c.pairs_var-v.result.0 in
+    let to = c.pairs_from-to.result in
     let P : ℕ → ℕ = λ i. under a.first.now (word a.a.now (a.p.outputs + i)) in
     let Q : ℕ → ℕ = λ i. under a.second.now (word a.b.now (a.q.outputs + i)) in
-    let p = named-word a.first.now (word a.a.now (a.p.outputs + j)) at-from-word.from-word.ensures x.ensures.0 in
-    let q = named-word a.second.now (word a.b.now (a.q.outputs + j)) at-from-word2.from-word2.ensures y.ensures.0 in (
-      omega (arith, at-loop-test.loop-test.true),
-      put.auto.0 ∙ l.invariant.1,
-      block_more to 9 (pairs_word v P Q) (pair_word (v + 3 * j) (word_of x.result) (word_of y.result)) j a.m.now l.m put.new.0
-          (λ r h. pair-words v P Q j r h ∙ ap₂ (λ (s t : ℕ). pair_word (v + 3 * j) s t r) (sym p) (sym q)) l.invariant.2 put.ensures,
+    let p = named-word a.first.now (word a.a.now (a.p.outputs + j)) c.from_word.ensures c.rename-x.ensures.0 in
+    let q = named-word a.second.now (word a.b.now (a.q.outputs + j)) c.from_word-in-loop-j.ensures c.rename-y.ensures.0 in (
+      omega (arith, c.loop-j-test.true),
+      c.put_pair.auto.m ∙ c.loop-j.invariant.1,
+      block_more to 9 (pairs_word v P Q) (pair_word (v + 3 * j) (word_of c.rename-x.result) (word_of c.rename-y.result)) j a.m.now c.loop-j.m c.put_pair.new.m
+          (λ r h. pair-words v P Q j r h ∙ ap₂ (λ (s t : ℕ). pair_word (v + 3 * j) s t r) (sym p) (sym q)) c.loop-j.invariant.2 c.put_pair.ensures,
     )
 
-same_length : tie.Need-same-length invariant-loop decreases-loop
-same_length c = c.before.loop.invariant.1
+same_length : tie.Need-shape_of-m invariant-loop decreases-loop
+same_length c = c.loop-j.invariant.1
 
 returns : tie.Need-returns invariant-loop decreases-loop
 returns c =
-    let a = c.before.before.before.before.before.before.before.before.before.args in
-    let L = c.before.loop in
-    let from = c.before.before.before.pairs-from in
-    let var = c.before.before.pairs-var in
+    let a = c.args in
     let P : ℕ → ℕ = λ i. under a.first.now (word a.a.now (a.p.outputs + i)) in
     let Q : ℕ → ℕ = λ i. under a.second.now (word a.b.now (a.q.outputs + i)) in
-    subst₂ (λ (to v : ℕ). Put to (pairs_word v P Q) (9 * a.p.o) a.m.now L.m) from.ensures var.ensures
-    (stored-all (λ i. from.result + i) (pairs_word var.result.0 P Q) a.m.now L.m (omega arith) L.invariant.2)
+    subst₂ (λ (to v : ℕ). Put to (pairs_word v P Q) (9 * a.p.o) a.m.now c.loop-j.m) c.pairs_from-to.ensures c.pairs_var-v.ensures
+    (stored-all (λ i. c.pairs_from-to.result + i) (pairs_word c.pairs_var-v.result.0 P Q) a.m.now c.loop-j.m (omega arith) c.loop-j.invariant.2)
 
-pub put-pairs-spec : {M : Type 1} → statement M
-put-pairs-spec =
+pub put_pairs_spec : {M : Type 1} → statement M
+put_pairs_spec =
     tie.close
-    (tie.spec
-    invariant-loop decreases-loop pairs-from-requires pairs-var-requires loop-holds add-from-word mul-from-word shared-slice-read-from-word
-    (λ c κs. search rules) rename-requires add-from-word-2 mul-from-word-2 shared-slice-read-from-word-2 (λ c κs. search rules)
-    rename-requires-2 mul-put-pair add-put-pair cast-t21 mul-t26 add-t27 put-pair-requires add-j loop-less loop-again same_length
-    returns)
+    (tie.spec invariant-loop decreases-loop pairs-from-requires pairs-var-requires loop-holds add-from-word mul-from-word shared-slice-read-from-word (λ c κs. search rules) rename-requires add-from-word-2 mul-from-word-2 shared-slice-read-from-word-2 (λ c κs. search rules) rename-requires-2 mul-put-pair add-put-pair cast-t21 mul-t26 add-t27 put-pair-requires add-j loop-less loop-again same_length returns)

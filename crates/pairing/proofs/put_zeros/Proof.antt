@@ -12,28 +12,25 @@ use Rattle.pairing.proofs.put_zeros.Tie as tie
 use Rattle.pairing.proofs.put_zeros.Reads as reads
 use Rattle.pairing.proofs.put_zeros.Lts as lts
 
-abbrev invariant-loop : tie.invariant-loop
+abbrev invariant-loop : tie.invariant-loop-j
 invariant-loop m₀ to n j₀ m j = (j ≤ n) × (length m ≡ length m₀) × Put to (λ _. 0) j m₀ m
 
-abbrev decreases-loop : tie.decreases-loop
+abbrev decreases-loop : tie.decreases-loop-j
 decreases-loop m₀ to n j₀ m j = n - j
 
-loop-holds : tie.Need-loop-init invariant-loop decreases-loop
+loop-holds : tie.Need-loop-j-init invariant-loop decreases-loop
 loop-holds c = (omega arith, refl, stored-start _ _ _)
 
-loop-again : tie.Need-loop-preserved invariant-loop decreases-loop
-loop-again c = let L = c.before.loop in let S = c.before.before in
-    (omega arith, length-set L.m _ _ ∙ L.invariant.1, put-more S.args.to (λ _. 0) S.args.n L.j S.args.m.now L.m L.invariant.1 (omega arith) (omega arith) L.invariant.2 _ refl)
+loop-again : tie.Need-loop-j-preserved invariant-loop decreases-loop
+loop-again c = (omega arith, length-set c.loop-j.m _ _ ∙ c.loop-j.invariant.1, put-more c.args.to (λ _. 0) c.args.n c.loop-j.j c.args.m.now c.loop-j.m c.loop-j.invariant.1 (omega arith) (omega arith) c.loop-j.invariant.2 _ refl)
 
-same_length : tie.Need-same-length invariant-loop decreases-loop
-same_length c = c.before.loop.invariant.1
+same_length : tie.Need-shape_of-m invariant-loop decreases-loop
+same_length c = c.loop-j.invariant.1
 
 returns : tie.Need-returns invariant-loop decreases-loop
-returns c = let L = c.before.loop in let S = c.before.before in stored-all (λ i. S.args.to + i) (λ _. 0) S.args.m.now L.m (omega arith) L.invariant.2
+returns c = stored-all (λ i. c.args.to + i) (λ _. 0) c.args.m.now c.loop-j.m (omega arith) c.loop-j.invariant.2
 
-pub put-zeros-spec : {M : Type 1} → statement M
-put-zeros-spec =
+pub put_zeros_spec : {M : Type 1} → statement M
+put_zeros_spec =
     tie.close
-    (tie.spec
-    invariant-loop decreases-loop loop-holds (λ c. omega arith) (λ c. omega arith) (λ c. omega arith) (λ c. omega arith) (λ c. omega arith) loop-again
-    same_length returns)
+    (tie.spec invariant-loop decreases-loop loop-holds (λ c. omega arith) (λ c. omega arith) (λ c. omega arith) (λ c. omega arith) (λ c. omega arith) loop-again same_length returns)

@@ -10,22 +10,22 @@ use Rattle.pairs.proofs.Buckets.{bucket_of-lt}
 use Rattle.pairs.proofs.bucket.Statement.{statement}
 use Rattle.pairs.proofs.bucket.Tie as tie
 
-mul-result : tie.Need-overflow-mul-result
+mul-result : tie.Need-overflow_mul-result
 mul-result c =
-    let room = c.before.before.args.room in
-    let x = (c.before.word.result * 1327217885 + c.word2.result * 889516853) % 4294967296 in
-    let l : x * room ≤ x * 65536 = mul-le-mul_left x c.before.before.requires.0.1 in
+    let room = c.args.room in
+    let x = (c.word.result * 1327217885 + c.word-2.result * 889516853) % 4294967296 in
+    let l : x * room ≤ x * 65536 = mul-le-mul_left x c.requires.0.1 in
     omega (arith, l)
 
 returns : tie.Need-returns
 unfolding bucket_of
 returns c =
-    let s = c.before.before in (
-      ap₂ (bucket_of s.args.room) c.before.word.ensures c.word2.ensures,
-      bucket_of-lt s.args.room c.before.word.result c.word2.result s.requires.0.0,
+    (
+      ap₂ (bucket_of c.args.room) c.word.ensures c.word-2.ensures,
+      bucket_of-lt c.args.room c.word.result c.word-2.result c.requires.0.0,
     )
 
-pub bucket-spec : {M : Type 1} → statement M
-bucket-spec =
+pub bucket_spec : {M : Type 1} → statement M
+bucket_spec =
     tie.close
     (tie.spec (λ c κs. search rules) (λ c. search rules) (λ c κs. search rules) (λ c. search rules) (λ c. search rules) mul-result returns)

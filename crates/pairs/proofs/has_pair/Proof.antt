@@ -11,24 +11,22 @@ use Rattle.pairs.specs.Store.{has_pair}
 use Rattle.pairs.proofs.has_pair.Statement.{statement}
 use Rattle.pairs.proofs.has_pair.Tie as tie
 
-cast-result : tie.Need-overflow-cast-result
-cast-result c = omega (arith, c.shared-slice-known2.given (16 * c.before.before.args.k))
+cast-result : tie.Need-overflow_cast-result
+cast-result c = omega (arith, c.shared_slice_known-2-1.given (16 * c.args.k))
 
-cast-result-2 : tie.Need-overflow-cast-result-2
-cast-result-2 c = omega (arith, c.shared-slice-known3.given (16 * c.before.before.before.before.args.k + 1))
+cast-result-2 : tie.Need-overflow_cast-result-2
+cast-result-2 c = omega (arith, c.shared_slice_known-3-1.given (16 * c.args.k + 1))
 
 returns : tie.Need-returns
 unfolding has_pair
 returns c =
-    let a = c.before.before.before.before.before.args in
+    let a = c.args in
     let w = a.work.now in
     let e : 16 * a.k ≡ 16 * a.k + 0 = omega arith in
-    ap₂ (λ (l r : ℕ). eqb (get_or w (16 * a.k) 0) l && eqb (get_or w (16 * a.k + 1) 0) r) c.before.before.word.ensures c.word2.ensures
+    ap₂ (λ (l r : ℕ). eqb (get_or w (16 * a.k) 0) l && eqb (get_or w (16 * a.k + 1) 0) r) c.word.ensures c.word-2.ensures
     ∙ ap (λ (i : ℕ). eqb (get_or w i 0) (edge_word a.left) && eqb (get_or w (16 * a.k + 1) 0) (edge_word a.right)) e
 
-pub has-pair-spec : {M : Type 1} → statement M
-has-pair-spec =
+pub has_pair_spec : {M : Type 1} → statement M
+has_pair_spec =
     tie.close
-    (tie.spec
-    (λ c. search rules) (λ c. search rules) (λ c. search rules) cast-result (λ c κs. search rules) (λ c. search rules)
-    (λ c. search rules) (λ c. search rules) (λ c. search rules) cast-result-2 (λ c κs. search rules) returns)
+    (tie.spec (λ c. search rules) (λ c. search rules) (λ c. search rules) cast-result (λ c κs. search rules) (λ c. search rules) (λ c. search rules) (λ c. search rules) (λ c. search rules) cast-result-2 (λ c κs. search rules) returns)

@@ -5,10 +5,10 @@ use borrow.Author.Rules.{rules}
 use Rattle.pairs.proofs.word.Statement.{statement}
 use Rattle.pairs.proofs.word.Tie as tie
 
-cast-result : tie.Need-overflow-cast-result
-cast-result c = omega (arith, c.shared-slice-known.given (16 * c.before.args.k + c.before.args.f))
+cast-result : tie.Need-overflow_cast-result
+cast-result c = omega (arith, c.shared_slice_known-1.given (16 * c.args.k + c.args.f))
 
-pub word-spec : {M : Type 1} → statement M
-word-spec =
+pub word_spec : {M : Type 1} → statement M
+word_spec =
     tie.close
     (tie.spec (λ c. search rules) (λ c. search rules) (λ c. search rules) (λ c. search rules) cast-result (λ c. search rules))

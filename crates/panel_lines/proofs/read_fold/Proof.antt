@@ -4,18 +4,13 @@ use borrow.Author.Rules.{rules}
 use Rattle.panel_lines.proofs.read_fold.Statement.{statement}
 use Rattle.panel_lines.proofs.read_fold.Tie as tie
 
-returns : tie.Need-returns
+returns : tie.Need-returns-in_default
 returns c =
-    let at-two-numbers = c.before.before in
-    let start = at-two-numbers.before.before in
-    fold-none start.args.request.now start.args.at (rw c.enum_told.given.1 at at-two-numbers.two-numbers.ensures)
+    fold-none c.args.request.now c.args.at (rw c.in_default.is at c.two_numbers.ensures)
 
-returns-2 : tie.Need-returns-2
+returns-2 : tie.Need-returns
 returns-2 c =
-    let at_b = c.before in
-    let at-two-numbers = at_b.before.before in
-    let start = at-two-numbers.before.before in
-    fold-all start.args.request.now start.args.at _ _ (rw at_b.b.given.1 at at-two-numbers.two-numbers.ensures)
+    fold-all c.args.request.now c.args.at _ _ (rw c.in-Both.is at c.two_numbers.ensures)
 
-pub read-fold-spec : {M : Type 1} → statement M
-read-fold-spec = tie.close (tie.spec (λ c κs. search rules) (λ c. search rules) (λ c. search rules) returns returns-2)
+pub read_fold_spec : {M : Type 1} → statement M
+read_fold_spec = tie.close (tie.spec (λ c κs. search rules) (λ c. search rules) (λ c. search rules) returns returns-2)

@@ -7,28 +7,26 @@ use borrow.Author.Rules.{rules}
 use Rattle.panel_lines.proofs.read_form.Statement.{statement}
 use Rattle.panel_lines.proofs.read_form.Tie as tie
 
-returns : tie.Need-returns
+returns : tie.Need-returns-then-is_word
 returns c =
-    let a = c.before.before.before.before.args in
-    form-binary (bytes_of a.request.now a.part) (sym c.if1.true ∙ c.before.is_IsWord.ensures)
+    let a = c.args in
+    form-binary (bytes_of a.request.now a.part) (sym c.if-is_word.true ∙ c.is_word.ensures)
 
-sub-read-argument : tie.Need-overflow-sub-read-argument
-sub-read-argument c = c.before.before.before.before.requires.forward
+sub-read-argument : tie.Need-slice_bounds-read_argument-count
+sub-read-argument c = c.requires.forward
 
-part-read-argument-start : tie.Need-slice-bounds-read-argument-start
-part-read-argument-start c = omega (arith, c.before.before.before.before.requires.forward, c.before.before.before.before.requires.within)
+part-read-argument-start : tie.Need-slice_bounds-read_argument-start
+part-read-argument-start c = omega (arith, c.requires.forward, c.requires.within)
 
-part-read-argument-end : tie.Need-slice-bounds-read-argument-end
-part-read-argument-end c = c.before.before.before.before.requires.within
+part-read-argument-end : tie.Need-slice_bounds-read_argument-end
+part-read-argument-end c = c.requires.within
 
-returns-2 : tie.Need-returns-2
+returns-2 : tie.Need-returns
 returns-2 c =
-    let a = c.before.before.before.before.before.before.args in
-    form-number (bytes_of a.request.now a.part) (sym c.before.before.if1.false ∙ c.before.before.before.is_IsWord.ensures) c.read-argument.ensures
+    let a = c.args in
+    form-number (bytes_of a.request.now a.part) (sym c.if-is_word.false ∙ c.is_word.ensures) c.read_argument.ensures
 
-pub read-form-spec : {M : Type 1} → statement M
-read-form-spec =
+pub read_form_spec : {M : Type 1} → statement M
+read_form_spec =
     tie.close
-    (tie.spec
-    (λ c. search rules) (λ c κs. search rules) returns sub-read-argument part-read-argument-start part-read-argument-end
-    (λ c κs. search rules) returns-2)
+    (tie.spec (λ c. search rules) returns sub-read-argument part-read-argument-start part-read-argument-end (λ c κs. search rules) returns-2)

@@ -4,40 +4,25 @@ use borrow.Author.Rules.{rules}
 use Rattle.panel_lines.proofs.read_join.Statement.{statement}
 use Rattle.panel_lines.proofs.read_join.Tie as tie
 
-returns : tie.Need-returns
+returns : tie.Need-returns-in_default
 returns c =
-    let at-word-after = c.before.before in
-    let start = at-word-after.before.before in
-    join-none start.args.request.now start.args.at (rw c.enum_told.given.1 at at-word-after.word_after.ensures)
+    join-none c.args.request.now c.args.at (rw c.in_default.is at c.word_after.ensures)
 
-one-name-requires : tie.Need-one-name-requires
+one-name-requires : tie.Need-one_name-requires
 one-name-requires c κs =
-    let at_old = c.before in
-    let at-word-after = at_old.before.before in
-    (rw at_old.old.given.1 at at-word-after.word_after.ensures).inside.within
+    (rw c.in-At.is at c.word_after.ensures).inside.within
 
-returns-2 : tie.Need-returns-2
+returns-2 : tie.Need-returns-in_default-one_name
 returns-2 c =
-    let at-one-name = c.before.before in
-    let at_old = at-one-name.before.before in
-    let at-word-after = at_old.before.before in
-    let start = at-word-after.before.before in
-    join-half start.args.request.now start.args.at (rw at_old.old.given.1 at at-word-after.word_after.ensures)
-    (rw c.enum-told2.given.1 at at-one-name.one_name.ensures)
+    join-half c.args.request.now c.args.at (rw c.in-At.is at c.word_after.ensures)
+    (rw c.in_default-one_name.is at c.one_name.ensures)
 
-returns-3 : tie.Need-returns-3
+returns-3 : tie.Need-returns
 returns-3 c =
-    let at_new = c.before in
-    let at-one-name = at_new.before.before in
-    let at_old = at-one-name.before.before in
-    let at-word-after = at_old.before.before in
-    let start = at-word-after.before.before in
-    join-all start.args.request.now start.args.at (rw at_old.old.given.1 at at-word-after.word_after.ensures)
-    (rw at_new.new.given.1 at at-one-name.one_name.ensures)
+    join-all c.args.request.now c.args.at (rw c.in-At.is at c.word_after.ensures)
+    (rw c.in-At-one_name.is at c.one_name.ensures)
 
-pub read-join-spec : {M : Type 1} → statement M
-read-join-spec =
+pub read_join_spec : {M : Type 1} → statement M
+read_join_spec =
     tie.close
-    (tie.spec
-    (λ c κs. search rules) (λ c. search rules) (λ c. search rules) returns one-name-requires (λ c. search rules) (λ c. search rules)
-    returns-2 returns-3)
+    (tie.spec (λ c κs. search rules) (λ c. search rules) (λ c. search rules) returns one-name-requires (λ c. search rules) (λ c. search rules) returns-2 returns-3)

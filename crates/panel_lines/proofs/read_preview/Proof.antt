@@ -4,19 +4,14 @@ use borrow.Author.Rules.{rules}
 use Rattle.panel_lines.proofs.read_preview.Statement.{statement}
 use Rattle.panel_lines.proofs.read_preview.Tie as tie
 
-returns : tie.Need-returns
+returns : tie.Need-returns-in_default
 returns c =
-    let at-one-name = c.before.before in
-    let start = at-one-name.before.before in
-    preview-none start.args.request.now start.args.at (rw c.enum_told.given.1 at at-one-name.one_name.ensures)
+    preview-none c.args.request.now c.args.at (rw c.in_default.is at c.one_name.ensures)
 
-returns-2 : tie.Need-returns-2
+returns-2 : tie.Need-returns
 returns-2 c =
-    let at-file = c.before in
-    let at-one-name = at-file.before.before in
-    let start = at-one-name.before.before in
-    preview-all start.args.request.now start.args.at (rw at-file.file.given.1 at at-one-name.one_name.ensures)
+    preview-all c.args.request.now c.args.at (rw c.in-At.is at c.one_name.ensures)
 
-pub read-preview-spec : {M : Type 1} → statement M
-read-preview-spec =
+pub read_preview_spec : {M : Type 1} → statement M
+read_preview_spec =
     tie.close (tie.spec (λ c κs. search rules) (λ c. search rules) (λ c. search rules) returns returns-2)

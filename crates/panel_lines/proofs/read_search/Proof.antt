@@ -4,40 +4,25 @@ use borrow.Author.Rules.{rules}
 use Rattle.panel_lines.proofs.read_search.Statement.{statement}
 use Rattle.panel_lines.proofs.read_search.Tie as tie
 
-returns : tie.Need-returns
+returns : tie.Need-returns-in_default
 returns c =
-    let at-number-after = c.before.before in
-    let start = at-number-after.before.before in
-    search-none start.args.request.now start.args.at (rw c.enum_told.given.1 at at-number-after.number-after.ensures)
+    search-none c.args.request.now c.args.at (rw c.in_default.is at c.number_after.ensures)
 
-two-numbers-requires : tie.Need-two-numbers-requires
+two-numbers-requires : tie.Need-two_numbers-requires
 two-numbers-requires c κs =
-    let at_b = c.before in
-    let at-number-after = at_b.before.before in
-    (rw at_b.b.given.1 at at-number-after.number-after.ensures).within
+    (rw c.in-Value.is at c.number_after.ensures).within
 
-returns-2 : tie.Need-returns-2
+returns-2 : tie.Need-returns-in_default-two_numbers
 returns-2 c =
-    let at-two-numbers = c.before.before in
-    let at_b = at-two-numbers.before.before in
-    let at-number-after = at_b.before.before in
-    let start = at-number-after.before.before in
-    search-half start.args.request.now start.args.at (rw at_b.b.given.1 at at-number-after.number-after.ensures)
-    (rw c.enum-told2.given.1 at at-two-numbers.two-numbers.ensures)
+    search-half c.args.request.now c.args.at (rw c.in-Value.is at c.number_after.ensures)
+    (rw c.in_default-two_numbers.is at c.two_numbers.ensures)
 
-returns-3 : tie.Need-returns-3
+returns-3 : tie.Need-returns
 returns-3 c =
-    let at-k = c.before in
-    let at-two-numbers = at-k.before.before in
-    let at_b = at-two-numbers.before.before in
-    let at-number-after = at_b.before.before in
-    let start = at-number-after.before.before in
-    search-all start.args.request.now start.args.at (rw at_b.b.given.1 at at-number-after.number-after.ensures) _ _
-    (rw at-k.k.given.1 at at-two-numbers.two-numbers.ensures)
+    search-all c.args.request.now c.args.at (rw c.in-Value.is at c.number_after.ensures) _ _
+    (rw c.in-Both.is at c.two_numbers.ensures)
 
-pub read-search-spec : {M : Type 1} → statement M
-read-search-spec =
+pub read_search_spec : {M : Type 1} → statement M
+read_search_spec =
     tie.close
-    (tie.spec
-    (λ c κs. search rules) (λ c. search rules) (λ c. search rules) returns two-numbers-requires (λ c. search rules) (λ c. search rules)
-    returns-2 returns-3)
+    (tie.spec (λ c κs. search rules) (λ c. search rules) (λ c. search rules) returns two-numbers-requires (λ c. search rules) (λ c. search rules) returns-2 returns-3)

@@ -4,41 +4,34 @@ use borrow.Author.Rules.{rules}
 use Rattle.panel_lines.proofs.read_search_from.Statement.{statement}
 use Rattle.panel_lines.proofs.read_search_from.Tie as tie
 
-returns : tie.Need-returns
+returns : tie.Need-returns-in_default
 returns c =
-    let first = c.before.before in
-    let start = c.before.before.before.before in
-    from-none start.args.request.now start.args.at (rw c.enum_told.given.1 at first.number-after.ensures)
+    from-none c.args.request.now c.args.at (rw c.in_default.is at c.number_after.ensures)
 
-number-after-requires-2 : tie.Need-number-after-requires-2
-number-after-requires-2 c κs = (rw c.before.b.given.1 at c.before.before.before.number-after.ensures).within
+number-after-requires-2 : tie.Need-number_after-requires-2
+number-after-requires-2 c κs = (rw c.in-Value.is at c.number_after.ensures).within
 
-returns-2 : tie.Need-returns-2
+returns-2 : tie.Need-returns-in_default-number_after
 returns-2 c =
-    let start = c.before.before.before.before.before.before.before.before in
-    from-line start.args.request.now start.args.at (rw c.before.before.before.before.b.given.1 at c.before.before.before.before.before.before.number-after.ensures)
-    (rw c.enum-told2.given.1 at c.before.before.number-after2.ensures)
+    from-line c.args.request.now c.args.at (rw c.in-Value.is at c.number_after.ensures)
+    (rw c.in_default-number_after.is at c.number_after-2.ensures)
 
-place-number-requires : tie.Need-place-number-requires
-place-number-requires c κs = (rw c.before.t.given.1 at c.before.before.before.number-after2.ensures).within
+place-number-requires : tie.Need-place_number-requires
+place-number-requires c κs = (rw c.in-Value-number_after.is at c.number_after-2.ensures).within
 
-returns-3 : tie.Need-returns-3
+returns-3 : tie.Need-returns-in_default-place_number
 returns-3 c =
-    let start = c.before.before.before.before.before.before.before.before.before.before.before.before in
-    from-half start.args.request.now start.args.at (rw c.before.before.before.before.before.before.before.before.b.given.1 at c.before.before.before.before.before.before.before.before.before.before.number-after.ensures)
-    (rw c.before.before.before.before.t.given.1 at c.before.before.before.before.before.before.number-after2.ensures)
-    (rw c.enum-told3.given.1 at c.before.before.place-number.ensures)
+    from-half c.args.request.now c.args.at (rw c.in-Value.is at c.number_after.ensures)
+    (rw c.in-Value-number_after.is at c.number_after-2.ensures)
+    (rw c.in_default-place_number.is at c.place_number.ensures)
 
-returns-4 : tie.Need-returns-4
+returns-4 : tie.Need-returns
 returns-4 c =
-    let start = c.before.before.before.before.before.before.before.before.before.before.before.before.before in
-    from_all start.args.request.now start.args.at (rw c.before.before.before.before.before.before.before.before.before.b.given.1 at c.before.before.before.before.before.before.before.before.before.before.before.number-after.ensures)
-    (rw c.before.before.before.before.before.t.given.1 at c.before.before.before.before.before.before.before.number-after2.ensures) _ _
-    (rw c.before.place.given.1 at c.before.before.before.place-number.ensures)
+    from_all c.args.request.now c.args.at (rw c.in-Value.is at c.number_after.ensures)
+    (rw c.in-Value-number_after.is at c.number_after-2.ensures) _ _
+    (rw c.in-Both.is at c.place_number.ensures)
 
-pub read-search-from-spec : {M : Type 1} → statement M
-read-search-from-spec =
+pub read_search_from_spec : {M : Type 1} → statement M
+read_search_from_spec =
     tie.close
-    (tie.spec
-    (λ c κs. search rules) (λ c. search rules) (λ c. search rules) returns number-after-requires-2 (λ c. search rules)
-    (λ c. search rules) returns-2 place-number-requires (λ c. search rules) (λ c. search rules) returns-3 returns-4)
+    (tie.spec (λ c κs. search rules) (λ c. search rules) (λ c. search rules) returns number-after-requires-2 (λ c. search rules) (λ c. search rules) returns-2 place-number-requires (λ c. search rules) (λ c. search rules) returns-3 returns-4)

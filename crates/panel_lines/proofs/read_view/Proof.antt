@@ -4,23 +4,17 @@ use borrow.Author.Rules.{rules}
 use Rattle.panel_lines.proofs.read_view.Statement.{statement}
 use Rattle.panel_lines.proofs.read_view.Tie as tie
 
-returns : tie.Need-returns
+returns : tie.Need-returns-in_default
 returns c =
-    let at-one-name = c.before.before in
-    let start = at-one-name.before.before in
-    view-none start.args.request.now start.args.at start.args.view
-    (rw c.enum_told.given.1 at at-one-name.one_name.ensures)
+    view-none c.args.request.now c.args.at c.args.view
+    (rw c.in_default.is at c.one_name.ensures)
 
-returns-2 : tie.Need-returns-2
+returns-2 : tie.Need-returns
 returns-2 c =
-    let at-witness = c.before in
-    let at-one-name = at-witness.before.before in
-    let start = at-one-name.before.before in
-    view-all start.args.request.now start.args.at start.args.view
-    (rw at-witness.witness.given.1 at at-one-name.one_name.ensures)
+    view-all c.args.request.now c.args.at c.args.view
+    (rw c.in-At.is at c.one_name.ensures)
 
-pub read-view-spec : {M : Type 1} → statement M
-read-view-spec =
+pub read_view_spec : {M : Type 1} → statement M
+read_view_spec =
     tie.close
-    (tie.spec
-    (λ c κs. search rules) (λ c. search rules) (λ c. search rules) returns returns-2)
+    (tie.spec (λ c κs. search rules) (λ c. search rules) (λ c. search rules) returns returns-2)

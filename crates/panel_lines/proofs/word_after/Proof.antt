@@ -5,22 +5,18 @@ use borrow.Author.Rules.{rules}
 use Rattle.panel_lines.proofs.word_after.Statement.{statement}
 use Rattle.panel_lines.proofs.word_after.Tie as tie
 
-returns : tie.Need-returns
-returns c = let start = c.before.before in no_word start.args.request.now start.args.at (omega arith)
+returns : tie.Need-returns-then-at-request
+returns c = no_word c.args.request.now c.args.at (omega arith)
 
-returns-2 : tie.Need-returns-2
+returns-2 : tie.Need-returns-then-to-from
 returns-2 c =
-    let at-word-end = c.before in
-    let start = at-word-end.before.before.before in
-    empty-word start.args.request.now start.args.at at-word-end.word-end.result (omega arith) at-word-end.word-end.ensures
+    empty-word c.args.request.now c.args.at c.word_end-to.result (omega arith) c.word_end-to.ensures
     (omega arith)
 
-returns-3 : tie.Need-returns-3
+returns-3 : tie.Need-returns
 returns-3 c =
-    let at-word-end = c.before in
-    let start = at-word-end.before.before.before in
-    a_word start.args.request.now start.args.at at-word-end.word-end.result (omega arith) at-word-end.word-end.ensures
-    (omega (arith, at-word-end.word-end.ensures.forward))
+    a_word c.args.request.now c.args.at c.word_end-to.result (omega arith) c.word_end-to.ensures
+    (omega (arith, c.word_end-to.ensures.forward))
 
-pub word-after-spec : {M : Type 1} → statement M
-word-after-spec = tie.close (tie.spec returns (λ c. search rules) (λ c κs. search rules) returns-2 returns-3)
+pub word_after_spec : {M : Type 1} → statement M
+word_after_spec = tie.close (tie.spec returns (λ c. search rules) (λ c κs. search rules) returns-2 returns-3)

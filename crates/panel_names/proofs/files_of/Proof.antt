@@ -7,55 +7,43 @@ use borrow.Author.Rules.{rules}
 use Rattle.panel_names.proofs.files_of.Statement.{statement}
 use Rattle.panel_names.proofs.files_of.Tie as tie
 
-returns : tie.Need-returns
+returns : tie.Need-returns-in-Ask
 returns c =
-    let at_read = c.before.before in
-    (sym (ap named_by (requested at_read.read-request.ensures c.enum_told.given.1 refl)), tt)
+    (sym (ap named_by (requested c.read_request-asked.ensures c.in-Ask.is refl)), tt)
 
-returns-2 : tie.Need-returns-2
+returns-2 : tie.Need-returns-in-Load
 returns-2 c =
-    let at-task = c.before in
-    let at_read = at-task.before.before in
-    let start = at_read.before.before in (
-      sym (ap named_by (requested at_read.read-request.ensures at-task.task.given.1 refl)),
-      subst (PartsInside start.args.request.now) at-task.task.given.1 at_read.read-request.ensures.parts,
+    (
+      sym (ap named_by (requested c.read_request-asked.ensures c.in-Load.is refl)),
+      subst (PartsInside c.args.request.now) c.in-Load.is c.read_request-asked.ensures.parts,
     )
 
-returns-3 : tie.Need-returns-3
+returns-3 : tie.Need-returns-in-Preview
 returns-3 c =
-    let at-task = c.before in
-    let at_read = at-task.before.before in
-    let start = at_read.before.before in (
-      sym (ap named_by (requested at_read.read-request.ensures at-task.task2.given.1 refl)),
-      subst (PartsInside start.args.request.now) at-task.task2.given.1 at_read.read-request.ensures.parts,
+    (
+      sym (ap named_by (requested c.read_request-asked.ensures c.in-Preview.is refl)),
+      subst (PartsInside c.args.request.now) c.in-Preview.is c.read_request-asked.ensures.parts,
     )
 
-returns-4 : tie.Need-returns-4
+returns-4 : tie.Need-returns-in-Join
 returns-4 c =
-    let at-task = c.before in
-    let at_read = at-task.before.before in
-    let start = at_read.before.before in (
-      sym (ap named_by (requested at_read.read-request.ensures at-task.task3.given.1 refl)),
-      subst (PartsInside start.args.request.now) at-task.task3.given.1 at_read.read-request.ensures.parts,
+    (
+      sym (ap named_by (requested c.read_request-asked.ensures c.in-Join.is refl)),
+      subst (PartsInside c.args.request.now) c.in-Join.is c.read_request-asked.ensures.parts,
     )
 
-returns-5 : tie.Need-returns-5
+returns-5 : tie.Need-returns-in-Witness
 returns-5 c =
-    let at-task = c.before in
-    let at_read = at-task.before.before in
-    let start = at_read.before.before in (
-      sym (ap named_by (requested at_read.read-request.ensures at-task.task4.given.1 refl)),
-      subst (PartsInside start.args.request.now) at-task.task4.given.1 at_read.read-request.ensures.parts,
+    (
+      sym (ap named_by (requested c.read_request-asked.ensures c.in-Witness.is refl)),
+      subst (PartsInside c.args.request.now) c.in-Witness.is c.read_request-asked.ensures.parts,
     )
 
-returns-6 : tie.Need-returns-6
+returns-6 : tie.Need-returns-in-Malformed
 returns-6 c =
-    let at_read = c.before.before in
-    (sym (ap named_by (unrequested at_read.read-request.ensures c.enum-told2.given.1)), tt)
+    (sym (ap named_by (unrequested c.read_request-asked.ensures c.in-Malformed.is)), tt)
 
-pub files-of-spec : {M : Type 1} → statement M
-files-of-spec =
+pub files_of_spec : {M : Type 1} → statement M
+files_of_spec =
     tie.close
-    (tie.spec
-    (λ c κs. search rules) (λ c. search rules) (λ c. search rules) (λ c. search rules) (λ c. search rules) (λ c. search rules)
-    (λ c. search rules) returns returns-2 returns-3 returns-4 returns-5 returns-6)
+    (tie.spec (λ c κs. search rules) (λ c. search rules) (λ c. search rules) (λ c. search rules) (λ c. search rules) (λ c. search rules) (λ c. search rules) returns returns-2 returns-3 returns-4 returns-5 returns-6)

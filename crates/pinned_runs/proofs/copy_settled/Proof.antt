@@ -15,21 +15,21 @@ use Rattle.pinned_runs.proofs.copy_settled.Tie as tie
 abbrev pins_on : Rows → List ℕ → ℕ → ℕ
 pins_on rows own = place_pin (λ i. get_or own i 2) rows.first rows.inputs rows.end
 
-abbrev invariant-loop : tie.invariant-loop
+abbrev invariant-loop : tie.invariant-loop-k
 invariant-loop rows own body copy₀ k₀ copy k = (k ≤ length body) × Begun (pins_on rows own) body copy₀ copy k
 
-abbrev decreases-loop : tie.decreases-loop
+abbrev decreases-loop : tie.decreases-loop-k
 decreases-loop rows own body copy₀ k₀ copy k = length body - k
 
-loop-holds : tie.Need-loop-init invariant-loop decreases-loop
+loop-holds : tie.Need-loop-k-init invariant-loop decreases-loop
 loop-holds c =
-    let a = c.before.before.before.args in
+    let a = c.args in
     (omega arith, begun-none (pins_on a.rows a.own.now) a.body.now a.copy.now)
 
-pin-of-requires : tie.Need-pin-of-requires invariant-loop decreases-loop
-pin-of-requires c κs = c.before.before.before.before.before.requires.0
+pin-of-requires : tie.Need-pin_of-pin-requires invariant-loop decreases-loop
+pin-of-requires c κs = c.requires.0
 
-shared-slice-read-settle : tie.Need-shared-slice-read-settle invariant-loop decreases-loop
+shared-slice-read-settle : tie.Need-bounds-body-k invariant-loop decreases-loop
 shared-slice-read-settle c = omega arith
 
 settle-requires : tie.Need-settle-requires invariant-loop decreases-loop
@@ -37,47 +37,43 @@ settle-requires c κs = tt
 
 -- at a byte
 module _ (e : tie.After-settle invariant-loop decreases-loop) where
-  abbrev L : tie.At-loop invariant-loop decreases-loop
+  abbrev L : tie.At-loop-k invariant-loop decreases-loop
   L = e.before.before.before.before
 
   abbrev S : tie.Start invariant-loop decreases-loop
   S = L.before.before.before.before
 
-slice-write-copy : tie.Need-slice-write-copy invariant-loop decreases-loop
-slice-write-copy c = omega (arith, (L c).loop.invariant.1.size, (S c).requires.1)
+slice-write-copy : tie.Need-bounds-copy-k invariant-loop decreases-loop
+slice-write-copy c = omega (arith, (L c).loop-k.invariant.1.size, (S c).requires.1)
 
-add-k : tie.Need-overflow-add-k invariant-loop decreases-loop
+add-k : tie.Need-overflow_add-k invariant-loop decreases-loop
 add-k c = omega arith
 
-loop-less : tie.Need-loop-smaller invariant-loop decreases-loop
+loop-less : tie.Need-loop-k-smaller invariant-loop decreases-loop
 loop-less c = omega arith
 
-loop-again : tie.Need-loop-preserved invariant-loop decreases-loop
+loop-again : tie.Need-loop-k-preserved invariant-loop decreases-loop
 loop-again c =
     let l = L c in
     let a = (S c).args in
     let P = pins_on a.rows a.own.now in (
       omega arith,
-      begun_more P a.body.now a.copy.now l.loop.copy l.loop.k c.settle.result l.loop.inv.1 (omega (arith, (S c).requires.1))
-          (c.settle.ensures ∙ ap (λ (p : ℕ). settled_byte p (get_or a.body.now l.loop.k 0)) c.before.before.pin_of.ensures),
+      begun_more P a.body.now a.copy.now l.loop-k.copy l.loop-k.k c.settle.result l.loop-k.invariant.1 (omega (arith, (S c).requires.1))
+          (c.settle.ensures ∙ ap (λ (p : ℕ). settled_byte p (get_or a.body.now l.loop-k.k 0)) c.pin_of-pin.ensures),
     )
 
-same_length : tie.Need-same-length invariant-loop decreases-loop
-same_length c = c.before.loop.invariant.1.size
+same_length : tie.Need-shape_of-copy invariant-loop decreases-loop
+same_length c = c.loop-k.invariant.1.size
 
 returns : tie.Need-returns invariant-loop decreases-loop
 returns c =
-    let l = c.before in
-    let s = l.before.before.before.before in
-    let a = s.args in (
-      begun_all (pins_on a.rows a.own.now) a.body.now a.copy.now l.loop.copy l.loop.k
-          l.loop.invariant.1 (omega arith) s.requires.1,
-      l.loop.invariant.1.rest (length a.body.now) l.loop.invariant.0,
+    let a = c.args in (
+      begun_all (pins_on a.rows a.own.now) a.body.now a.copy.now c.loop-k.copy c.loop-k.k
+          c.loop-k.invariant.1 (omega arith) c.requires.1,
+      c.loop-k.invariant.1.rest (length a.body.now) c.loop-k.invariant.0,
     )
 
-pub copy-settled-spec : {M : Type 1} → statement M
-copy-settled-spec =
+pub copy_settled_spec : {M : Type 1} → statement M
+copy_settled_spec =
     tie.close
-    (tie.spec
-    invariant-loop decreases-loop loop-holds pin-of-requires shared-slice-read-settle settle-requires slice-write-copy add-k loop-less loop-again
-    same_length returns)
+    (tie.spec invariant-loop decreases-loop loop-holds pin-of-requires shared-slice-read-settle settle-requires slice-write-copy add-k loop-less loop-again same_length returns)

@@ -15,40 +15,34 @@ pins_in s i = get_or s.args.own.now i 2
 abbrev column : tie.Start → ℕ
 column s = (s.args.k - s.args.rows.first) % (s.args.rows.inputs + 1)
 
-returns : tie.Need-returns
+returns : tie.Need-returns-then-k-rows
 returns c =
-    let s = c.before.before in
-    let r = s.args.rows in
-    place-before (pins_in s) r.first r.inputs r.end s.args.k (omega arith)
+    let r = c.args.rows in
+    place-before (pins_in c.before.before) r.first r.inputs r.end c.args.k (omega arith)
 
-returns-2 : tie.Need-returns-2
+returns-2 : tie.Need-returns-then-rows-k
 returns-2 c =
-    let s = c.before.before.before.before in
-    let r = s.args.rows in
-    place_after (pins_in s) r.first r.inputs r.end s.args.k (omega arith)
+    let r = c.args.rows in
+    place_after (pins_in c.before.before.before.before) r.first r.inputs r.end c.args.k (omega arith)
 
-returns-3 : tie.Need-returns-3
+returns-3 : tie.Need-returns-then-rows-column
 returns-3 c =
-    let s = c.before.before.before.before.before.before.before.before in
-    let r = s.args.rows in
-    place_end (pins_in s) r.first r.inputs r.end s.args.k c.if3.true
+    let r = c.args.rows in
+    place_end (pins_in c.before.before.before.before.before.before.before.before) r.first r.inputs r.end c.args.k c.if-rows-column.true
 
-returns-4 : tie.Need-returns-4
+returns-4 : tie.Need-returns-then-own-column
 returns-4 c =
-    let s = c.before.before.before.before.before.before.before.before.before in
-    let r = s.args.rows in
-    sym (place_in (pins_in s) r.first r.inputs r.end s.args.k (omega arith) (omega arith) c.before.if3.false
-    ∙ get_d_past s.args.own.now (column s) 2 c.if4.true)
+    let r = c.args.rows in
+    sym (place_in (pins_in c.before.before.before.before.before.before.before.before.before) r.first r.inputs r.end c.args.k (omega arith) (omega arith) c.if-rows-column.false
+    ∙ get_d_past c.args.own.now (column c.before.before.before.before.before.before.before.before.before) 2 c.if-own-column.true)
 
-returns-5 : tie.Need-returns-5
+returns-5 : tie.Need-returns
 returns-5 c =
-    let s = c.before.before.before.before.before.before.before.before.before.before in
-    let r = s.args.rows in
-    get_d_any s.args.own.now (column s) 0 2 c.before.if4.false
-    ∙ sym (place_in (pins_in s) r.first r.inputs r.end s.args.k (omega arith) (omega arith) c.before.before.if3.false)
+    let r = c.args.rows in
+    get_d_any c.args.own.now (column c.before.before.before.before.before.before.before.before.before.before) 0 2 c.if-own-column.false
+    ∙ sym (place_in (pins_in c.before.before.before.before.before.before.before.before.before.before) r.first r.inputs r.end c.args.k (omega arith) (omega arith) c.if-rows-column.false)
 
-pub pin-of-spec : {M : Type 1} → statement M
-pin-of-spec =
+pub pin_of_spec : {M : Type 1} → statement M
+pin_of_spec =
     tie.close
-    (tie.spec
-    returns returns-2 (λ c. search rules) (λ c. search rules) returns-3 returns-4 (λ c. search rules) returns-5)
+    (tie.spec returns returns-2 (λ c. search rules) (λ c. search rules) returns-3 returns-4 (λ c. search rules) returns-5)

@@ -5,14 +5,14 @@ use Rattle.pinned_runs.proofs.Bytes.{settle-free, settle-either, settle_other}
 use Rattle.pinned_runs.proofs.settle.Statement.{statement}
 use Rattle.pinned_runs.proofs.settle.Tie as tie
 
-returns : tie.Need-returns
-returns c = let a = c.before.args in settle-free a.pin a.byte (omega arith)
+returns : tie.Need-returns-then-pin-gt1
+returns c = let a = c.args in settle-free a.pin a.byte (omega arith)
 
-returns-2 : tie.Need-returns-2
-returns-2 c = let a = c.before.before.args in settle-either a.pin a.byte (omega arith) (omega arith)
+returns-2 : tie.Need-returns-then-byte-eq120
+returns-2 c = let a = c.args in settle-either a.pin a.byte (omega arith) (omega arith)
 
-returns-3 : tie.Need-returns-3
-returns-3 c = let a = c.before.before.args in settle_other a.pin a.byte (λ e. omega arith)
+returns-3 : tie.Need-returns
+returns-3 c = let a = c.args in settle_other a.pin a.byte (λ e. omega arith)
 
-pub settle-spec : {M : Type 1} → statement M
-settle-spec = tie.close (tie.spec returns (λ c. search rules) returns-2 returns-3)
+pub settle_spec : {M : Type 1} → statement M
+settle_spec = tie.close (tie.spec returns (λ c. search rules) returns-2 returns-3)

@@ -9,23 +9,21 @@ use Rattle.pinning.proofs.keep_one.Tie as tie
 use Rattle.pinning.proofs.keep_one.Reads as reads
 use Rattle.pinning.proofs.keep_one.Lts as lts
 
-returns : tie.Need-returns
-returns c = (rw (lt-ltb _ 2 c.if1.true), rw (lt-ltb _ 2 c.if1.true))
+returns : tie.Need-returns-then-pin-lt2
+returns c = (rw (lt-ltb _ 2 c.if-pin-lt2.true), rw (lt-ltb _ 2 c.if-pin-lt2.true))
 
-cast-words : tie.Need-overflow-cast-words
-cast-words c = omega (arith, c.word.ensures, c.before.before.before.requires.1)
+cast-words : tie.Need-overflow_cast-words
+cast-words c = omega (arith, c.word.ensures, c.requires.1)
 
-returns-2 : tie.Need-returns-2
+returns-2 : tie.Need-returns
 returns-2 c =
-    let a = c.before.before.before.args in
+    let a = c.args in
     let free = le-ltb a.pin 2 (omega arith) in (
       rw free (ap (set a.words.now a.at) c.word.ensures),
       rw free,
     )
 
-pub keep-one-spec : {M : Type 1} → statement M
-keep-one-spec =
+pub keep_one_spec : {M : Type 1} → statement M
+keep_one_spec =
     tie.close
-    (tie.spec
-    returns (λ c κs. search rules) cast-words (λ c. search rules) (λ c. search rules) (λ c. search rules) (λ c. search rules)
-    returns-2)
+    (tie.spec returns (λ c κs. search rules) cast-words (λ c. search rules) (λ c. search rules) (λ c. search rules) (λ c. search rules) returns-2)

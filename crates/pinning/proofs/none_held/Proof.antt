@@ -8,16 +8,15 @@ use borrow.Author.Rules.{rules}
 use Rattle.pinning.proofs.none_held.Statement.{statement}
 use Rattle.pinning.proofs.none_held.Tie as tie
 
-first-free-requires : tie.Need-first-free-requires
-first-free-requires c κs = let a = c.before.before.before.args in (c.before.before.before.requires, omega (arith, c.inputs-said.ensures, said-few a.m.now))
+first-free-requires : tie.Need-first_free-requires
+first-free-requires c κs = let a = c.args in (c.requires, omega (arith, c.inputs_said.ensures, said-few a.m.now))
 
 returns : tie.Need-returns
 returns c =
-    let a = c.before.before.before.before.args in
-    c.first-free.ensures ∙ ap (none_held (pins_of a.pins.now a.user)) c.before.inputs-said.ensures
+    let a = c.args in
+    c.first_free.ensures ∙ ap (none_held (pins_of a.pins.now a.user)) c.inputs_said.ensures
 
-pub none-held-spec : {M : Type 1} → statement M
-none-held-spec =
+pub none_held_spec : {M : Type 1} → statement M
+none_held_spec =
     tie.close
-    (tie.spec
-    (λ c κs. search rules) first-free-requires returns)
+    (tie.spec (λ c κs. search rules) first-free-requires returns)

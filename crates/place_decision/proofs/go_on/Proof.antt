@@ -11,46 +11,43 @@ use borrow.Author.Rules.{rules}
 use Rattle.place_decision.proofs.go_on.Statement.{statement}
 use Rattle.place_decision.proofs.go_on.Tie as tie
 
-add-end : tie.Need-overflow-add-end
-add-end c = omega (arith, c.before.before.before.before.requires.0.start, c.before.before.before.before.requires.0.budget)
+add-end : tie.Need-overflow_add-end
+add-end c = omega (arith, c.requires.0.start, c.requires.0.budget)
 
-returns : tie.Need-returns
-returns c = inl (c.before.if1.true, ap P.Spent c.capped.ensures)
+returns : tie.Need-returns-then-end-floor
+returns c = inl (c.if-end-floor.true, ap P.Spent c.capped.ensures)
 
-sub-d : tie.Need-overflow-sub-d
-sub-d c = omega (arith, c.larger.ensures, c.before.if1.false)
+sub-d : tie.Need-overflow_sub-d
+sub-d c = omega (arith, c.larger-place.ensures, c.if-end-floor.false)
 
-first-hit-from-requires : tie.Need-first-hit-from-requires
+first-hit-from-requires : tie.Need-first_hit_from-f-requires
 unfolding greatest
 first-hit-from-requires c κs =
-    let p = c.before.before.before.before.before.before.before.requires.0 in
-    let q = c.before.before.before.before.before.before.before.args.q in
-    let e = c.before.larger.ensures in
+    let p = c.requires.0 in
+    let q = c.args.q in
+    let e = c.larger-place.ensures in
     record {
       ready = p.ready;
       bad = p.bad;
       last = p.last;
-      budget = omega (arith, e, p.budget, c.before.before.if1.false);
-      start = omega (arith, e, p.budget, c.before.before.before.before.before.before.before.requires.1, c.before.before.if1.false);
+      budget = omega (arith, e, p.budget, c.if-end-floor.false);
+      start = omega (arith, e, p.budget, c.requires.1, c.if-end-floor.false);
       free = p.free;
     }
 
-returns-2 : tie.Need-returns-2
+returns-2 : tie.Need-returns
 returns-2 c =
-    let a = c.before.before.before.before.before.before.before.before.before.before.before.args in
-    let f = c.before.before.before.first-hit-from in
+    let a = c.args in
     inr (
-      c.before.before.before.before.before.before.if1.false,
+      c.if-end-floor.false,
       (
-        f.result,
-        subst (λ (k : ℕ). FrameFrom (circuit_in a.m.now) a.q.b a.q.t k (a.q.place + a.q.d - k) f.new.1.1.1.1.0 f.result) c.before.before.before.before.before.larger.ensures f.ensures,
+        c.first_hit_from-f.result,
+        subst (λ (k : ℕ). FrameFrom (circuit_in a.m.now) a.q.b a.q.t k (a.q.place + a.q.d - k) c.first_hit_from-f.new.work c.first_hit_from-f.result) c.larger-place.ensures c.first_hit_from-f.ensures,
         c.tell.ensures,
       ),
     )
 
-pub go-on-spec : {M : Type 1} → statement M
-go-on-spec =
+pub go_on_spec : {M : Type 1} → statement M
+go_on_spec =
     tie.close
-    (tie.spec
-    add-end (λ c κs. search rules) returns (λ c κs. search rules) sub-d first-hit-from-requires (λ c κs. search rules)
-    (λ c. search rules) returns-2)
+    (tie.spec add-end (λ c κs. search rules) returns (λ c κs. search rules) sub-d first-hit-from-requires (λ c κs. search rules) (λ c. search rules) returns-2)

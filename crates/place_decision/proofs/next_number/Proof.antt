@@ -5,17 +5,16 @@ use borrow.Author.Rules.{rules}
 use Rattle.place_decision.proofs.next_number.Statement.{statement}
 use Rattle.place_decision.proofs.next_number.Tie as tie
 
-returns : tie.Need-returns
-returns c = omega (arith, c.if1.true)
+returns : tie.Need-returns-then-x-ge4611686018427387904
+returns c = omega (arith, c.if-x-ge4611686018427387904.true)
 
-returns-2 : tie.Need-returns-2
-returns-2 c = next-zero c.before.before.args.x c.before.before.args.digit c.if2.true (omega (arith, c.before.if1.false))
+returns-2 : tie.Need-returns-then-digit-eq0
+returns-2 c = next-zero c.args.x c.args.digit c.if-digit-eq0.true (omega (arith, c.if-x-ge4611686018427387904.false))
 
-returns-3 : tie.Need-returns-3
-returns-3 c = next_one c.before.before.args.x c.before.before.args.digit c.if2.false (omega (arith, c.before.if1.false))
+returns-3 : tie.Need-returns-else-digit-eq0
+returns-3 c = next_one c.args.x c.args.digit c.if-digit-eq0.false (omega (arith, c.if-x-ge4611686018427387904.false))
 
-pub next-number-spec : {M : Type 1} → statement M
-next-number-spec =
+pub next_number_spec : {M : Type 1} → statement M
+next_number_spec =
     tie.close
-    (tie.spec
-    returns (λ c. search rules) (λ c. search rules) (λ c. search rules) returns-2 returns-3)
+    (tie.spec returns (λ c. search rules) (λ c. search rules) (λ c. search rules) returns-2 returns-3)

@@ -9,12 +9,10 @@ use borrow.Author.Rules.{rules}
 use Rattle.place_decision.proofs.tell.Statement.{statement}
 use Rattle.place_decision.proofs.tell.Tie as tie
 
-returns-3 : tie.Need-returns-3
-returns-3 c = ap P.Spent c.capped.ensures ∙ ap (λ (f : Frame). told_of f (min greatest c.before.before.before.args.end)) (sym c.before.enum-told3.given.1)
+returns-3 : tie.Need-returns-in-Spent
+returns-3 c = ap P.Spent c.capped.ensures ∙ ap (λ (f : Frame). told_of f (min greatest c.args.end)) (sym c.in-Spent.is)
 
-pub tell-spec : {M : Type 1} → statement M
-tell-spec =
+pub tell_spec : {M : Type 1} → statement M
+tell_spec =
     tie.close
-    (tie.spec
-    (λ c. search rules) (λ c. search rules) (λ c. search rules) (λ c κs. search rules) (λ c. search rules) (λ c. search rules)
-    returns-3)
+    (tie.spec (λ c. search rules) (λ c. search rules) (λ c. search rules) (λ c κs. search rules) (λ c. search rules) (λ c. search rules) returns-3)

@@ -5,17 +5,16 @@ use borrow.Author.Rules.{rules}
 use Rattle.place_enumeration.proofs.end_of.Statement.{statement}
 use Rattle.place_enumeration.proofs.end_of.Tie as tie
 
-returns : tie.Need-returns
-returns c = omega (arith, pow_mono c.if1.true)
+returns : tie.Need-returns-then-n-gt63
+returns c = omega (arith, pow_mono c.if-n-gt63.true)
 
-returns-2 : tie.Need-returns-2
-returns-2 c = omega (arith, pow_mono c.before.if1.false)
+returns-2 : tie.Need-returns-then-all-x
+returns-2 c = omega (arith, pow_mono c.if-n-gt63.false)
 
-returns-3 : tie.Need-returns-3
-returns-3 c = omega (arith, pow_mono c.before.if1.false)
+returns-3 : tie.Need-returns-else-all-x
+returns-3 c = omega (arith, pow_mono c.if-n-gt63.false)
 
-pub end-of-spec : {M : Type 1} → statement M
-end-of-spec =
+pub end_of_spec : {M : Type 1} → statement M
+end_of_spec =
     tie.close
-    (tie.spec
-    returns (λ c. search rules) returns-2 returns-3)
+    (tie.spec returns (λ c. search rules) returns-2 returns-3)

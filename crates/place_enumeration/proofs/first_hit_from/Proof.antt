@@ -12,65 +12,51 @@ use borrow.Author.Rules.{rules}
 use Rattle.place_enumeration.proofs.first_hit_from.Statement.{statement}
 use Rattle.place_enumeration.proofs.first_hit_from.Tie as tie
 
-add-n : tie.Need-overflow-add-n
-add-n c = omega (arith, c.before.before.before.requires.last)
+add-n : tie.Need-overflow_add-n
+add-n c = omega (arith, c.requires.last)
 
-mul-n : tie.Need-overflow-mul-n
+mul-n : tie.Need-overflow_mul-n
 mul-n c =
-    let S = c.before.before.before.before in
-    let R = S.requires.ready in
-    omega (arith, bits-few S.args.layout.i S.args.q.t (inputs-few R.held R.layout_of) S.requires.last)
+    let R = c.requires.ready in
+    omega (arith, bits-few c.args.layout.i c.args.q.t (inputs-few R.held R.layout_of) c.requires.last)
 
-add-n-2 : tie.Need-overflow-add-n-2
+add-n-2 : tie.Need-overflow_add-n-2
 add-n-2 c =
-    let S = c.before.before.before.before in
-    let R = S.requires.ready in
-    omega (arith, bits-few S.args.layout.i S.args.q.t (inputs-few R.held R.layout_of) S.requires.last, R.layout_of.u-is, starts-few R.held R.layout_of)
+    let R = c.requires.ready in
+    omega (arith, bits-few c.args.layout.i c.args.q.t (inputs-few R.held R.layout_of) c.requires.last, R.layout_of.u-is, starts-few R.held R.layout_of)
 
-add-end : tie.Need-overflow-add-end
-add-end c = omega (arith, c.before.before.before.before.before.requires.start, c.before.before.before.before.before.requires.budget)
+add-end : tie.Need-overflow_add-end
+add-end c = omega (arith, c.requires.start, c.requires.budget)
 
-first-in-requires : tie.Need-first-in-requires
+first-in-requires : tie.Need-first_in-x-requires
 first-in-requires c κs =
-    let S = c.before.before.before.before.before.before in
-    let N = c.end_of in
-    let R = S.requires.ready in
-    (R, ((S.requires.bad, omega (arith, N.ensures, S.requires.start, S.requires.budget), omega (arith, S.requires.start)), ((bits_are (circuit_in S.args.m.now) S.args.q.t R.layout_of.u-is (inputs_are R.held R.layout_of)), R.layout_of.u-is)))
+    let R = c.requires.ready in
+    (R, ((c.requires.bad, omega (arith, c.end_of-to.ensures, c.requires.start, c.requires.budget), omega (arith, c.requires.start)), ((bits_are (circuit_in c.args.m.now) c.args.q.t R.layout_of.u-is (inputs_are R.held R.layout_of)), R.layout_of.u-is)))
 
-put-free-requires : tie.Need-put-free-requires
+put-free-requires : tie.Need-put_free-requires
 put-free-requires c κs =
-    let S = c.before.before.before.before.before.before.before.before.before in
-    let R = S.requires.ready in
-    omega (arith, (bits_are (circuit_in S.args.m.now) S.args.q.t R.layout_of.u-is (inputs_are R.held R.layout_of)), S.requires.free)
+    let R = c.requires.ready in
+    omega (arith, (bits_are (circuit_in c.args.m.now) c.args.q.t R.layout_of.u-is (inputs_are R.held R.layout_of)), c.requires.free)
 
-returns : tie.Need-returns
+returns : tie.Need-returns-then-x-to
 returns c =
-    let S = c.before.before.before.before.before.before.before.before.before.before.before.before in
-    let F = c.before.before.before.before.before.first-in in
-    let W = c.before.before.put-free in
-    let R = S.requires.ready in
-    let n = bits_are (circuit_in S.args.m.now) S.args.q.t R.layout_of.u-is (inputs_are R.held R.layout_of) in
-    (F.result, from-hit (circuit_in S.args.m.now) S.args.q.b S.args.q.t S.args.q.place S.args.q.d n c.before.before.before.before.before.before.end_of.ensures F.ensures c.before.before.before.before.if1.true, subst (λ (k : ℕ). FreeBits k F.result W.new.1.1.0) n W.ensures)
+    let R = c.requires.ready in
+    let n = bits_are (circuit_in c.args.m.now) c.args.q.t R.layout_of.u-is (inputs_are R.held R.layout_of) in
+    (c.first_in-x.result, from-hit (circuit_in c.args.m.now) c.args.q.b c.args.q.t c.args.q.place c.args.q.d n c.end_of-to.ensures c.first_in-x.ensures c.if-x-to.true, subst (λ (k : ℕ). FreeBits k c.first_in-x.result c.put_free.new.free) n c.put_free.ensures)
 
-returns-2 : tie.Need-returns-2
+returns-2 : tie.Need-returns-then-passes_all
 returns-2 c =
-    let S = c.before.before.before.before.before.before.before.before.before.before in
-    let F = c.before.before.before.first-in in
-    let R = S.requires.ready in
-    let n = bits_are (circuit_in S.args.m.now) S.args.q.t R.layout_of.u-is (inputs_are R.held R.layout_of) in
-    from-clear (circuit_in S.args.m.now) S.args.q.b S.args.q.t S.args.q.place S.args.q.d n c.before.before.before.before.end_of.ensures F.ensures c.before.before.if1.false (sym c.before.passes-all.ensures ∙ c.if2.true)
+    let R = c.requires.ready in
+    let n = bits_are (circuit_in c.args.m.now) c.args.q.t R.layout_of.u-is (inputs_are R.held R.layout_of) in
+    from-clear (circuit_in c.args.m.now) c.args.q.b c.args.q.t c.args.q.place c.args.q.d n c.end_of-to.ensures c.first_in-x.ensures c.if-x-to.false (sym c.passes_all.ensures ∙ c.if-passes_all.true)
 
-returns-3 : tie.Need-returns-3
+returns-3 : tie.Need-returns-else-passes_all
 returns-3 c =
-    let S = c.before.before.before.before.before.before.before.before.before.before in
-    let F = c.before.before.before.first-in in
-    let R = S.requires.ready in
-    let n = bits_are (circuit_in S.args.m.now) S.args.q.t R.layout_of.u-is (inputs_are R.held R.layout_of) in
-    from-spent (circuit_in S.args.m.now) S.args.q.b S.args.q.t S.args.q.place S.args.q.d n c.before.before.before.before.end_of.ensures F.ensures c.before.before.if1.false (sym c.before.passes-all.ensures ∙ c.if2.false)
+    let R = c.requires.ready in
+    let n = bits_are (circuit_in c.args.m.now) c.args.q.t R.layout_of.u-is (inputs_are R.held R.layout_of) in
+    from-spent (circuit_in c.args.m.now) c.args.q.b c.args.q.t c.args.q.place c.args.q.d n c.end_of-to.ensures c.first_in-x.ensures c.if-x-to.false (sym c.passes_all.ensures ∙ c.if-passes_all.false)
 
-pub first-hit-from-spec : {M : Type 1} → statement M
-first-hit-from-spec =
+pub first_hit_from_spec : {M : Type 1} → statement M
+first_hit_from_spec =
     tie.close
-    (tie.spec
-    add-n mul-n add-n-2 add-end (λ c κs. search rules) first-in-requires put-free-requires (λ c. search rules) returns
-    (λ c κs. search rules) returns-2 returns-3)
+    (tie.spec add-n mul-n add-n-2 add-end (λ c κs. search rules) first-in-requires put-free-requires (λ c. search rules) returns (λ c κs. search rules) returns-2 returns-3)

@@ -4,13 +4,11 @@ use borrow.Author.Rules.{rules}
 use Rattle.place_enumeration.proofs.first_in.Statement.{statement}
 use Rattle.place_enumeration.proofs.first_in.Tie as tie
 
-scan-span-requires : tie.Need-scan-span-requires
+scan-span-requires : tie.Need-scan_span-requires
 scan-span-requires c κs =
-    let S = c.before.before.before.before in
-    (S.requires.0, ((S.requires.1.0.0, omega arith, S.requires.1.0.1, S.requires.1.0.2), S.requires.1.1))
+    (c.requires.0, ((c.requires.1.0.0, omega arith, c.requires.1.0.1, c.requires.1.0.2), c.requires.1.1))
 
-pub first-in-spec : {M : Type 1} → statement M
-first-in-spec =
+pub first_in_spec : {M : Type 1} → statement M
+first_in_spec =
     tie.close
-    (tie.spec
-    (λ c. search rules) (λ c. search rules) scan-span-requires (λ c. search rules))
+    (tie.spec (λ c. search rules) (λ c. search rules) scan-span-requires (λ c. search rules))

@@ -26,98 +26,93 @@ bits-few n t l k =
     omega arith
 
 -- the tests 10 and 11 of a circuit with these counts
-line : (n : tie.After-check-line) (x : Circuit)
-    → (let a = n.before.before.args in
-    CountsOf x a.layout → judge (line_tests x a.q.b a.q.t (budget_right a.q.d)) ≡ told n.check-line.result)
+line : (n : tie.After-check_line) (x : Circuit)
+    → (let a = n.args in
+    CountsOf x a.layout → judge (line_tests x a.q.b a.q.t (budget_right a.q.d)) ≡ told n.check_line.result)
 line n x e =
-    let a = n.before.before.args in
-    subst (λ (p : Bool). judge (line_tests x a.q.b a.q.t p) ≡ told n.check-line.result) n.before.is-budget.ensures
-    (n.check-line.ensures.tests x e)
+    let a = n.args in
+    subst (λ (p : Bool). judge (line_tests x a.q.b a.q.t p) ≡ told n.check_line.result) n.is_budget-budget.ensures
+    (n.check_line.ensures.tests x e)
 
 -- the test of the place, of the circuit that is asked
-place : (n : tie.After-is-place) (asked x : Circuit) {r : Bool} → n.is-place.result ≡ r
-    → (let a = n.before.before.before.before.before.before.args in
+place : (n : tie.After-is_place) (asked x : Circuit) {r : Bool} → n.is_place.result ≡ r
+    → (let a = n.args in
     CountsOf x a.layout → length asked.inputs ≡ a.inputs → free_starts asked ≡ free_starts x
     → place_right (free_bits asked a.q.t) a.q.place ≡ r)
 place n asked x g e i u =
-    let a = n.before.before.before.before.before.before.args in
+    let a = n.args in
     sym (ap (λ (k : ℕ). place_right k a.q.place) (bits-counted asked a.q.t _ _ (e.starts ∙ sym u) (sym i)))
-    ∙ sym n.is-place.ensures ∙ g
+    ∙ sym n.is_place.ensures ∙ g
 
-returns : tie.Need-returns
+returns : tie.Need-returns-in-Refused
 returns c =
-    let a = c.before.before.before.before.before.args in
+    let a = c.args in
     λ asked x e i u.
     line_refused asked x a.q.b a.q.t a.q.place a.q.d a.room a.len _
-    (rw c.before.n.given.1 at (line c.before.before.before x e))
+    (rw c.in-Refused.is at (line c.before x e))
 
-add-is-place : tie.Need-overflow-add-is-place
-add-is-place c = omega (arith, (c.before.before.check-line.ensures.within c.enum_told.given.1).bound)
+add-is-place : tie.Need-overflow_add-t
+add-is-place c = omega (arith, (c.check_line.ensures.within c.in_default.is).bound)
 
-mul-is-place : tie.Need-overflow-mul-is-place
+mul-is-place : tie.Need-overflow_mul-inputs
 mul-is-place c =
-    let w = (c.before.before.check-line.ensures.within c.enum_told.given.1).bound in
-    let s = c.before.before.before.before in
-    omega (arith, bits-few s.args.inputs s.args.q.t (omega (arith, s.requires.0.inputs, s.requires.1)) w)
+    let w = (c.check_line.ensures.within c.in_default.is).bound in
+    omega (arith, bits-few c.args.inputs c.args.q.t (omega (arith, c.requires.0.inputs, c.requires.1)) w)
 
-add-is-place-2 : tie.Need-overflow-add-is-place-2
+add-is-place-2 : tie.Need-overflow_add-layout
 add-is-place-2 c =
-    let w = (c.before.before.before.check-line.ensures.within c.before.enum_told.given.1).bound in
-    let s = c.before.before.before.before.before in
-    omega (arith, bits-few s.args.inputs s.args.q.t (omega (arith, s.requires.0.inputs, s.requires.1)) w, s.requires.0.starts, s.requires.0.latches)
+    let w = (c.check_line.ensures.within c.in_default.is).bound in
+    omega (arith, bits-few c.args.inputs c.args.q.t (omega (arith, c.requires.0.inputs, c.requires.1)) w, c.requires.0.starts, c.requires.0.latches)
 
-returns-2 : tie.Need-returns-2
+returns-2 : tie.Need-returns-then-not-is_place
 returns-2 c =
-    let a = c.before.before.before.before.before.before.before.args in
+    let a = c.args in
     λ asked x e i u.
     place-refused asked x a.q.b a.q.t a.q.place a.q.d a.room a.len
-    (rw c.before.before.before.enum_told.given.1 at (line c.before.before.before.before.before x e))
-    (place c.before asked x (not-true c.before.is-place.result c.if1.true) e i u)
+    (rw c.in_default.is at (line c.before.before.before.before x e))
+    (place c.before asked x c.if-not-is_place.true e i u)
 
-check-size-requires : tie.Need-check-size-requires
-check-size-requires c κs = (c.before.before.before.before.before.before.before.requires.0, (c.before.before.before.before.before.check-line.ensures.within c.before.before.before.enum_told.given.1).bound)
+check-size-requires : tie.Need-check_size-requires
+check-size-requires c κs = (c.requires.0, (c.check_line.ensures.within c.in_default.is).bound)
 
-returns-3 : tie.Need-returns-3
+returns-3 : tie.Need-returns-in-Refused-check_size
 returns-3 c =
-    let a = c.before.before.before.before.before.before.before.before.before.before.before.args in
+    let a = c.args in
     λ asked x e i u.
     size-refused asked x a.q.b a.q.t a.q.place a.q.d a.room a.len
-    (rw c.before.before.before.before.before.before.before.enum_told.given.1 at (line c.before.before.before.before.before.before.before.before.before x e))
-    (place c.before.before.before.before.before asked x (not-false c.before.before.before.before.before.is-place.result c.before.before.before.before.if1.false) e i u) _
-    (rw c.before.n2.given.1 at (c.before.before.before.check-size.ensures.tests x e))
+    (rw c.in_default.is at (line c.before.before.before.before.before.before x e))
+    (place c.before.before.before asked x c.if-not-is_place.false e i u) _
+    (rw c.in-Refused-check_size.is at (c.check_size.ensures.tests x e))
 
-cast-witness-length : tie.Need-overflow-cast-witness-length
-cast-witness-length c = omega (arith, (c.before.before.before.before.before.before.before.before.before.check-line.ensures.within c.before.before.before.before.before.before.before.enum_told.given.1).bad, c.before.before.before.before.before.before.before.before.before.before.before.requires.0.bads)
+cast-witness-length : tie.Need-overflow_cast-q
+cast-witness-length c = omega (arith, (c.check_line.ensures.within c.in_default.is).bad, c.requires.0.bads)
 
-witness-length-requires : tie.Need-witness-length-requires
-witness-length-requires c κs = (c.before.before.before.before.before.before.before.before.before.before.before.requires.0, (c.before.before.before.before.before.before.before.before.before.check-line.ensures.within c.before.before.before.before.before.before.before.enum_told.given.1).bound)
+witness-length-requires : tie.Need-witness_length-requires
+witness-length-requires c κs = (c.requires.0, (c.check_line.ensures.within c.in_default.is).bound)
 
-returns-4 : tie.Need-returns-4
+returns-4 : tie.Need-returns-then-len-witness_length
 returns-4 c =
-    let a = c.before.before.before.before.before.before.before.before.before.before.before.before.before.args in
+    let a = c.args in
     λ asked x e i u.
-    let l = c.before.witness-length.ensures ∙ length-is e a.q.b a.q.t in
+    let l = c.witness_length.ensures ∙ length-is e a.q.b a.q.t in
     output-refused asked x a.q.b a.q.t a.q.place a.q.d a.room a.len
-    (rw c.before.before.before.before.before.before.before.before.before.enum_told.given.1 at (line c.before.before.before.before.before.before.before.before.before.before.before x e))
-    (place c.before.before.before.before.before.before.before asked x (not-false c.before.before.before.before.before.before.before.is-place.result c.before.before.before.before.before.before.if1.false) e i u)
-    (rw c.before.before.before.enum-told2.given.1 at (c.before.before.before.before.before.check-size.ensures.tests x e))
-    (omega (arith, c.if2.true))
+    (rw c.in_default.is at (line c.before.before.before.before.before.before.before.before.before x e))
+    (place c.before.before.before.before.before.before asked x c.if-not-is_place.false e i u)
+    (rw c.in_default-check_size.is at (c.check_size.ensures.tests x e))
+    (omega (arith, c.if-len-witness_length.true))
 
-returns-5 : tie.Need-returns-5
+returns-5 : tie.Need-returns
 returns-5 c =
-    let a = c.before.before.before.before.before.before.before.before.before.before.before.before.before.args in
+    let a = c.args in
     λ asked x e i u.
-    let l = c.before.witness-length.ensures ∙ length-is e a.q.b a.q.t in
+    let l = c.witness_length.ensures ∙ length-is e a.q.b a.q.t in
     all_pass asked x a.q.b a.q.t a.q.place a.q.d a.room a.len
-    (rw c.before.before.before.before.before.before.before.before.before.enum_told.given.1 at (line c.before.before.before.before.before.before.before.before.before.before.before x e))
-    (place c.before.before.before.before.before.before.before asked x (not-false c.before.before.before.before.before.before.before.is-place.result c.before.before.before.before.before.before.if1.false) e i u)
-    (rw c.before.before.before.enum-told2.given.1 at (c.before.before.before.before.before.check-size.ensures.tests x e))
-    (omega (arith, c.if2.false))
+    (rw c.in_default.is at (line c.before.before.before.before.before.before.before.before.before x e))
+    (place c.before.before.before.before.before.before asked x c.if-not-is_place.false e i u)
+    (rw c.in_default-check_size.is at (c.check_size.ensures.tests x e))
+    (omega (arith, c.if-len-witness_length.false))
 
-pub check-from-spec : {M : Type 1} → statement M
-check-from-spec =
+pub check_from_spec : {M : Type 1} → statement M
+check_from_spec =
     tie.close
-    (tie.spec
-    (λ c κs. search rules) (λ c κs. search rules) (λ c. search rules) returns (λ c. search rules) add-is-place mul-is-place
-    add-is-place-2 (λ c κs. search rules) returns-2 check-size-requires (λ c. search rules) returns-3 (λ c. search rules)
-    cast-witness-length witness-length-requires returns-4 returns-5)
+    (tie.spec (λ c κs. search rules) (λ c κs. search rules) (λ c. search rules) returns (λ c. search rules) add-is-place mul-is-place add-is-place-2 (λ c κs. search rules) returns-2 check-size-requires (λ c. search rules) returns-3 (λ c. search rules) cast-witness-length witness-length-requires returns-4 returns-5)

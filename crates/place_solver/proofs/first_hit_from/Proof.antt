@@ -6,32 +6,25 @@ use borrow.Author.Rules.{rules}
 use Rattle.place_solver.proofs.first_hit_from.Statement.{statement}
 use Rattle.place_solver.proofs.first_hit_from.Tie as tie
 
-build-requires : tie.Need-build-requires
-build-requires c κs = c.before.before.requires.0
+build-requires : tie.Need-build-net-requires
+build-requires c κs = c.requires.0
 
-start-bits-requires : tie.Need-start-bits-requires
+start-bits-requires : tie.Need-start_bits-requires
 start-bits-requires c κs =
-    let a = c.before.before.before.before.before.before.args in
-    let b = c.before.before.before.build in
-    free-few a.work.now b.new.0 a.g (edge_word a.root) c.before.before.before.before.before.before.requires.0 b.result b.ensures
+    let a = c.args in
+    free-few a.work.now c.build-net.new.work a.g (edge_word a.root) c.requires.0 c.build-net.result c.build-net.ensures
 
-put-bits-requires : tie.Need-put-bits-requires
+put-bits-requires : tie.Need-put_bits-requires
 put-bits-requires c κs =
-    let a = c.before.before.before.before.before.before.before.before.before.before.before.before.before.before.args in
-    let b = c.before.before.before.before.before.before.before.before.before.before.before.build in
-    free-few a.work.now b.new.0 a.g (edge_word a.root) c.before.before.before.before.before.before.before.before.before.before.before.before.before.before.requires.0 b.result b.ensures
+    let a = c.args in
+    free-few a.work.now c.build-net.new.work a.g (edge_word a.root) c.requires.0 c.build-net.result c.build-net.ensures
 
 returns : tie.Need-returns
 returns c =
-    let s = c.before.before.before.before.before.before.before.before.before.before.before.before.before.before.before.before.before in
-    let a = s.args in
-    let b = c.before.before.before.before.before.before.before.before.before.before.before.before.before.before.build in
-    let p = c.before.before.before.before.before.before.before.before.before.before.start-bits in
-    let u = c.before.before.before.before.before.before.run in
-    solved-from a.work.now b.new.0 p.new.0 u.new.0 a.g (edge_word a.root) a.place a.effort s.requires.0 s.requires.1 b.result u.result b.ensures p.ensures u.ensures _ u.result refl (u.auto.0 ∙ p.auto.0 ∙ b.auto.0) c.before.before.put-bits.ensures
+    let a = c.args in
+    solved-from a.work.now c.build-net.new.work c.start_bits.new.work c.run-said.new.work a.g (edge_word a.root) a.place a.effort c.requires.0 c.requires.1 c.build-net.result c.run-said.result c.build-net.ensures c.start_bits.ensures c.run-said.ensures _ c.run-said.result refl (c.run-said.auto.work ∙ c.start_bits.auto.work ∙ c.build-net.auto.work) c.put_bits.ensures
 
-pub first-hit-from-spec : {M : Type 1} → statement M
-first-hit-from-spec =
+pub first_hit_from_spec : {M : Type 1} → statement M
+first_hit_from_spec =
     tie.close
-    (tie.spec
-    build-requires start-bits-requires (λ c κs. search rules) put-bits-requires (λ c. search rules) returns)
+    (tie.spec build-requires start-bits-requires (λ c κs. search rules) put-bits-requires (λ c. search rules) returns)

@@ -8,17 +8,15 @@ use borrow.Author.Rules.{rules}
 use Rattle.place_solver.proofs.start_bit.Statement.{statement}
 use Rattle.place_solver.proofs.start_bit.Tie as tie
 
-returns : tie.Need-returns
+returns : tie.Need-returns-then-fact-eq2
 unfolding S.started_bit
-returns c = rw (← c.before.before.before.before.before.before.before.before.before.before.field.ensures, ← c.before.before.before.before.before.before.before.before.before.with-digit.ensures, eq-eqb _ _ c.before.before.before.before.if1.true, ← c.before.before.before.before.before.before.before.set-field.ensures) c.before.before.set-field2.ensures
+returns c = rw (← c.field-fact.ensures, ← c.with_digit-new.ensures, eq-eqb _ _ c.if-fact-eq2.true, ← c.set_field.ensures) c.set_field-then-fact-eq2.ensures
 
-returns-2 : tie.Need-returns-2
+returns-2 : tie.Need-returns-else-fact-eq2
 unfolding S.started_bit
-returns-2 c = rw (← c.before.before.before.before.before.before.field.ensures, ← c.before.before.before.before.before.with-digit.ensures, ne_eqb _ _ c.if1.false) c.before.before.before.set-field.ensures
+returns-2 c = rw (← c.field-fact.ensures, ← c.with_digit-new.ensures, ne_eqb _ _ c.if-fact-eq2.false) c.set_field.ensures
 
-pub start-bit-spec : {M : Type 1} → statement M
-start-bit-spec =
+pub start_bit_spec : {M : Type 1} → statement M
+start_bit_spec =
     tie.close
-    (tie.spec
-    (λ c κs. search rules) (λ c κs. search rules) (λ c κs. search rules) (λ c κs. search rules) (λ c. search rules) returns
-    (λ c. search rules) returns-2)
+    (tie.spec (λ c κs. search rules) (λ c κs. search rules) (λ c κs. search rules) (λ c κs. search rules) (λ c. search rules) returns (λ c. search rules) returns-2)

@@ -4,15 +4,14 @@ use Rattle.quantification.specs.Quantification.{exists}
 use Rattle.quantification.proofs.exists.Statement.{statement}
 use Rattle.quantification.proofs.exists.Tie as tie
 
-same_length : tie.Need-same-length
-same_length c = c.before.before.exists-within.auto.0
+same_length : tie.Need-shape_of-w
+same_length c = c.exists_within.auto.w
 
 returns : tie.Need-returns
 unfolding exists
-returns c = c.before.before.exists-within.ensures
+returns c = c.exists_within.ensures
 
-pub exists-spec : {M : Type 1} → statement M
-exists-spec =
+pub exists_spec : {M : Type 1} → statement M
+exists_spec =
     tie.close
-    (tie.spec
-    (λ c κs. search rules) same_length returns)
+    (tie.spec (λ c κs. search rules) same_length returns)

@@ -19,60 +19,53 @@ first_small a l w i x y z e =
 second-small : (l r : ℕ) → l ≤ 1024 → r ≤ 65536 → (l + 8) * r ≤ 67633152
 second-small l r y z = mul-le-mul {n₁ = l + 8} {m₁ = r} {n₂ = 1032} {m₂ = 65536} (omega arith) z
 
-blocks-requires : tie.Need-blocks-requires
-blocks-requires c κs = c.before.before.requires.1.1.0
+blocks-requires : tie.Need-blocks-words-requires
+blocks-requires c κs = c.requires.1.1.0
 
-power-requires : tie.Need-power-requires
-power-requires c κs = c.before.before.before.requires.1.1.0
+power-requires : tie.Need-power-rows-requires
+power-requires c κs = c.requires.1.1.0
 
-add-result : tie.Need-overflow-add-result
+add-result : tie.Need-overflow_add-result
 add-result c =
-    let start = c.before.before.before.before in
-    omega (arith, gates-small start.args.kept.now start.requires.0 start.requires.1.0, latches-few start.requires.0 start.requires.1.0)
+    omega (arith, gates-small c.args.kept.now c.requires.0 c.requires.1.0, latches-few c.requires.0 c.requires.1.0)
 
-add-result-2 : tie.Need-overflow-add-result-2
+add-result-2 : tie.Need-overflow_add-result-2
 add-result-2 c =
-    let start = c.before.before.before.before in
-    omega (arith, gates-small start.args.kept.now start.requires.0 start.requires.1.0, latches-few start.requires.0 start.requires.1.0)
+    omega (arith, gates-small c.args.kept.now c.requires.0 c.requires.1.0, latches-few c.requires.0 c.requires.1.0)
 
-mul-result : tie.Need-overflow-mul-result
+mul-result : tie.Need-overflow_mul-result
 mul-result c =
-    let start = c.before.before.before.before in
     omega (
       arith,
-      first_small start.args.layout.a start.args.layout.l c.before.blocks2.result start.args.layout.i
-          (gates-small start.args.kept.now start.requires.0 start.requires.1.0) (latches-few start.requires.0 start.requires.1.0)
-          start.requires.1.1.0 c.before.blocks2.ensures,
+      first_small c.args.layout.a c.args.layout.l c.blocks-words.result c.args.layout.i
+          (gates-small c.args.kept.now c.requires.0 c.requires.1.0) (latches-few c.requires.0 c.requires.1.0)
+          c.requires.1.1.0 c.blocks-words.ensures,
     )
 
-add-result-3 : tie.Need-overflow-add-result-3
-add-result-3 c = omega (arith, c.before.before.before.before.requires.1.1.1)
+add-result-3 : tie.Need-overflow_add-result-3
+add-result-3 c = omega (arith, c.requires.1.1.1)
 
-mul-result-2 : tie.Need-overflow-mul-result-2
+mul-result-2 : tie.Need-overflow_mul-result-2
 mul-result-2 c =
-    let start = c.before.before.before.before in
-    omega (arith, second-small (length start.args.kept.now) c.power.result start.requires.1.1.1 c.power.ensures.1)
+    omega (arith, second-small (length c.args.kept.now) c.power-rows.result c.requires.1.1.1 c.power-rows.ensures.1)
 
-add-result-4 : tie.Need-overflow-add-result-4
+add-result-4 : tie.Need-overflow_add-result-4
 add-result-4 c =
-    let start = c.before.before.before.before in
     omega (
       arith,
-      first_small start.args.layout.a start.args.layout.l c.before.blocks2.result start.args.layout.i
-          (gates-small start.args.kept.now start.requires.0 start.requires.1.0) (latches-few start.requires.0 start.requires.1.0)
-          start.requires.1.1.0 c.before.blocks2.ensures,
-      second-small (length start.args.kept.now) c.power.result
-          start.requires.1.1.1 c.power.ensures.1,
+      first_small c.args.layout.a c.args.layout.l c.blocks-words.result c.args.layout.i
+          (gates-small c.args.kept.now c.requires.0 c.requires.1.0) (latches-few c.requires.0 c.requires.1.0)
+          c.requires.1.1.0 c.blocks-words.ensures,
+      second-small (length c.args.kept.now) c.power-rows.result
+          c.requires.1.1.1 c.power-rows.ensures.1,
     )
 
 returns : tie.Need-returns
 returns c =
-    let start = c.before.before.before.before in
-    effort-is start.args.kept.now start.requires.0 start.requires.1.0 c.before.blocks2.result c.power.result
-    c.before.blocks2.ensures c.power.ensures.0
+    effort-is c.args.kept.now c.requires.0 c.requires.1.0 c.blocks-words.result c.power-rows.result
+    c.blocks-words.ensures c.power-rows.ensures.0
 
-pub effort-spec : {M : Type 1} → statement M
-effort-spec =
+pub effort_spec : {M : Type 1} → statement M
+effort_spec =
     tie.close
-    (tie.spec
-    blocks-requires power-requires add-result add-result-2 mul-result add-result-3 mul-result-2 add-result-4 returns)
+    (tie.spec blocks-requires power-requires add-result add-result-2 mul-result add-result-3 mul-result-2 add-result-4 returns)

@@ -4,23 +4,22 @@ use borrow.Author.Rules.{rules}
 use Rattle.reachable.proofs.find_first.Statement.{statement}
 use Rattle.reachable.proofs.find_first.Tie as tie
 
-ask-frames-requires : tie.Need-ask-frames-requires
+ask-frames-requires : tie.Need-ask_frames-requires
 ask-frames-requires c κs = (
-  c.before.before.before.before.before.before.before.requires.0,
+  c.requires.0,
   (
-    c.before.before.before.before.before.before.before.requires.1,
+    c.requires.1,
     omega arith,
   ),
 )
 
-same_length : tie.Need-same-length
-same_length c = c.before.before.before.before.ask-frames.auto.1.1.1.0
+same_length : tie.Need-shape_of-records
+same_length c = c.ask_frames.auto.records
 
 returns : tie.Need-returns
-returns c = c.before.before.before.before.ask-frames.ensures
+returns c = c.ask_frames.ensures
 
-pub find-first-spec : {M : Type 1} → statement M
-find-first-spec =
+pub find_first_spec : {M : Type 1} → statement M
+find_first_spec =
     tie.close
-    (tie.spec
-    (λ c. search rules) (λ c. search rules) ask-frames-requires same_length returns)
+    (tie.spec (λ c. search rules) (λ c. search rules) ask-frames-requires same_length returns)

@@ -15,34 +15,34 @@ use borrow.Author.Rules.{rules}
 use Rattle.reachable.proofs.meet_starts.Statement.{statement}
 use Rattle.reachable.proofs.meet_starts.Tie as tie
 
-power-requires : tie.Need-power-requires
-power-requires c κs = c.before.before.before.before.requires.1.1.0
+power-requires : tie.Need-power-count-requires
+power-requires c κs = c.requires.1.1.0
 
 -- a state has 32 words at most
 narrow : (c : tie.Start) → c.args.table.width ≤ 32
 narrow c =
     omega (arith, c.requires.1.1.5, width_few (part_in c.args.m.now c.args.kept.now) c.requires.1.1.3)
 
-array-borrow-prefix-s : tie.Need-array-borrow-prefix-s
+array-borrow-prefix-s : tie.Need-slice_bounds-s-end
 array-borrow-prefix-s c = omega (arith, narrow c.before.before.before.before.before.before.before)
 
 -- the words of a state
 scratch : (w : ℕ) → w ≤ 32 → length (take w (replicate {A = ℕ} 32 0)) ≡ w
 scratch w l = length-take-le w (replicate {A = ℕ} 32 0) (omega (arith, length-replicate {A = ℕ} 32 0))
 
-slice-aggregate-meet-starts : tie.Need-slice-aggregate-meet-starts
-slice-aggregate-meet-starts c = sym (scratch c.before.before.before.before.before.before.before.before.args.table.width
+slice-aggregate-meet-starts : tie.Need-slice_bounds-meet_starts-end
+slice-aggregate-meet-starts c = sym (scratch c.args.table.width
     (narrow c.before.before.before.before.before.before.before.before))
 
-meet-starts-requires : tie.Need-meet-starts-requires
+meet-starts-requires : tie.Need-meet_starts-requires
 meet-starts-requires c κs =
-    let P = c.before.before.before.before.before.before.before.before.requires.1.1 in (
-      c.before.before.before.before.before.before.before.before.requires.0,
+    let P = c.requires.1.1 in (
+      c.requires.0,
       (
-        c.before.before.before.before.before.before.before.before.requires.1.0,
+        c.requires.1.0,
         (
           P.0,
-          c.before.before.before.power.ensures.1,
+          c.power-count.ensures.1,
           P.1,
           P.4,
           P.2,
@@ -52,30 +52,29 @@ meet-starts-requires c κs =
             most = narrow c.before.before.before.before.before.before.before.before;
             each = omega (arith, P.3, P.4);
           },
-          scratch c.before.before.before.before.before.before.before.before.args.table.width (narrow c.before.before.before.before.before.before.before.before),
+          scratch c.args.table.width (narrow c.before.before.before.before.before.before.before.before),
         ),
       ),
     )
 
-same_length : tie.Need-same-length
-same_length c = c.before.before.before.before.before.meet-starts.auto.1.1.1.0
+same_length : tie.Need-shape_of-records
+same_length c = c.meet_starts.auto.records
 
-same-length-2 : tie.Need-same-length-2
-same-length-2 c = c.before.before.before.before.before.meet-starts.auto.1.1.1.1.1.0
+same-length-2 : tie.Need-shape_of-state
+same-length-2 c = c.meet_starts.auto.state
 
 returns : tie.Need-returns
 returns c =
-    let a = c.before.before.before.before.before.before.before.before.before.before.before.before.before.before.args in
-    let E = c.before.before.before.before.before.meet-starts in (
+    let a = c.args in
+    (
       λ rows b h.
           subst
-          (λ (n : ℕ). Holds rows 0 0 a.table a.quota (count_of a.quota E.result) E.new.1.1.1.0
-          (started (machine_of (part_in a.m.now a.kept.now) b) n)) c.before.before.before.before.before.before.before.before.before.power.ensures.0 (E.ensures.0 rows b h),
-      E.ensures.1,
+          (λ (n : ℕ). Holds rows 0 0 a.table a.quota (count_of a.quota c.meet_starts.result) c.meet_starts.new.records
+          (started (machine_of (part_in a.m.now a.kept.now) b) n)) c.power-count.ensures.0 (c.meet_starts.ensures.0 rows b h),
+      c.meet_starts.ensures.1,
     )
 
-pub meet-starts-spec : {M : Type 1} → statement M
-meet-starts-spec =
+pub meet_starts_spec : {M : Type 1} → statement M
+meet_starts_spec =
     tie.close
-    (tie.spec
-    power-requires array-borrow-prefix-s slice-aggregate-meet-starts meet-starts-requires same_length same-length-2 returns)
+    (tie.spec power-requires array-borrow-prefix-s slice-aggregate-meet-starts meet-starts-requires same_length same-length-2 returns)

@@ -8,5 +8,5 @@ use Rattle.reachable.proofs.power.Tie as tie
 returns : tie.Need-returns
 returns c = let a = pow_mono {i = c.args.n} {j = 16} c.requires in (omega arith, omega arith)
 
-pub power-spec : {M : Type 1} → statement M
-power-spec = tie.close (tie.spec (λ c. search rules) returns)
+pub power_spec : {M : Type 1} → statement M
+power_spec = tie.close (tie.spec (λ c. search rules) returns)

@@ -13,123 +13,121 @@ use borrow.Author.Rules.{rules}
 use Rattle.reachable.proofs.quota.Statement.{statement}
 use Rattle.reachable.proofs.quota.Tie as tie
 
-returns : tie.Need-returns
+returns : tie.Need-returns-then-layout-gt16
 returns c =
-    sym (quota-many (part_in c.before.before.before.before.args.m.now c.before.before.before.before.args.kept.now) c.before.before.before.before.args.stage.first c.before.before.before.before.args.stage.limit
-    c.before.before.before.before.args.t (omega (
+    sym (quota-many (part_in c.args.m.now c.args.kept.now) c.args.stage.first c.args.stage.limit
+    c.args.t (omega (
       arith,
-      c.if1.true,
-      inputs_are c.before.before.before.before.requires.0 c.before.before.before.before.requires.1.0,
+      c.if-layout-gt16.true,
+      inputs_are c.requires.0 c.requires.1.0,
     )))
 
-returns-2 : tie.Need-returns-2
+returns-2 : tie.Need-returns-then-layout-gt16-2
 returns-2 c =
-    sym (quota-free (part_in c.before.before.before.before.before.before.args.m.now c.before.before.before.before.before.before.args.kept.now) c.before.before.before.before.before.before.args.stage.first c.before.before.before.before.before.before.args.stage.limit
-    c.before.before.before.before.before.before.args.t (omega (
+    sym (quota-free (part_in c.args.m.now c.args.kept.now) c.args.stage.first c.args.stage.limit
+    c.args.t (omega (
       arith,
-      c.before.before.if1.false,
-      inputs_are c.before.before.before.before.before.before.requires.0 c.before.before.before.before.before.before.requires.1.0,
+      c.if-layout-gt16.false,
+      inputs_are c.requires.0 c.requires.1.0,
     ))
-    (omega (arith, c.if2.true, c.before.before.before.before.before.before.requires.1.0.u-is)))
+    (omega (arith, c.if-layout-gt16-2.true, c.requires.1.0.u-is)))
 
 -- the later frame is one of 255
-last-few : (c : tie.After-later) → c.later.result ≤ 255
+last-few : (c : tie.After-later-last) → c.later-last.result ≤ 255
 last-few c = omega (
   arith,
-  c.later.ensures,
-  c.before.before.before.before.before.before.before.before.requires.1.1.0,
-  c.before.before.before.before.before.before.before.before.requires.1.1.1,
+  c.later-last.ensures,
+  c.requires.1.1.0,
+  c.requires.1.1.1,
 )
 
-size-requires : tie.Need-size-requires
+size-requires : tie.Need-size-size-requires
 size-requires c κs = (
-  limited c.before.before.before.before.before.before.before.before.requires.0 c.before.before.before.before.before.before.before.before.requires.1.0,
+  limited c.requires.0 c.requires.1.0,
   last-few (c),
 )
 
-effort-requires : tie.Need-effort-requires
+effort-requires : tie.Need-effort-each-requires
 effort-requires c κs = (
-  c.before.before.before.before.before.before.before.before.before.requires.0,
+  c.requires.0,
   (
-    c.before.before.before.before.before.before.before.before.before.requires.1.0,
+    c.requires.1.0,
     (
       omega (
         arith,
-        c.before.before.before.before.before.if1.false,
+        c.if-layout-gt16.false,
       ),
-      c.before.before.before.before.before.before.before.before.before.requires.1.1.3,
+      c.requires.1.1.3,
     ),
   ),
 )
 
 width-requires : tie.Need-width-requires
-width-requires c κs = c.before.before.before.before.before.before.before.before.before.before.requires.1.1.3
+width-requires c κs = c.requires.1.1.3
 
 -- the size fits the products
-few : (c : tie.After-size) → c.size.result ≤ 1048576
+few : (c : tie.After-size-size) → c.size-size.result ≤ 1048576
 few c =
     omega (
       arith,
-      c.size.ensures,
-      size_few c.before.before.before.before.before.before.before.before.before.args.kept.now c.before.before.before.before.before.before.before.before.before.requires.0 c.before.before.before.before.before.before.before.before.before.requires.1.0 c.before.later.result (last-few c.before),
+      c.size-size.ensures,
+      size_few c.args.kept.now c.requires.0 c.requires.1.0 c.later-last.result (last-few c.before),
     )
 
-add-stride : tie.Need-overflow-add-stride
+add-stride : tie.Need-overflow_add-stride
 add-stride c = omega (
   arith,
   c.width.ensures,
-  c.before.before.before.before.before.before.before.before.before.before.before.requires.1.1.3,
+  c.requires.1.1.3,
 )
 
-mul-lesser : tie.Need-overflow-mul-lesser
+mul-lesser : tie.Need-overflow_mul-size
 mul-lesser c = omega (arith, few c.before.before)
 
-div-lesser : tie.Need-nonzero-div-lesser
+div-lesser : tie.Need-nonzero_div-size
 div-lesser c = omega arith
 
-mul-lesser-2 : tie.Need-overflow-mul-lesser-2
+mul-lesser-2 : tie.Need-overflow_mul-limit
 mul-lesser-2 c =
     omega (
       arith,
-      work-few c.before.before.before.before.before.before.before.before.before.before.before.before.args.kept.now c.before.before.before.before.before.before.before.before.before.before.before.before.requires.0 c.before.before.before.before.before.before.before.before.before.before.before.before.requires.1.0 c.before.before.before.before.before.before.before.before.before.before.before.before.args.stage.limit c.before.before.before.size.result
-          c.before.before.before.before.before.before.before.before.before.before.before.before.requires.1.1.2 (few c.before.before.before),
+      work-few c.args.kept.now c.requires.0 c.requires.1.0 c.args.stage.limit c.size-size.result
+          c.requires.1.1.2 (few c.before.before.before),
     )
 
-add-lesser : tie.Need-overflow-add-lesser
+add-lesser : tie.Need-overflow_add-limit
 add-lesser c =
     omega (
       arith,
-      work-few c.before.before.before.before.before.before.before.before.before.before.before.before.before.args.kept.now c.before.before.before.before.before.before.before.before.before.before.before.before.before.requires.0 c.before.before.before.before.before.before.before.before.before.before.before.before.before.requires.1.0 c.before.before.before.before.before.before.before.before.before.before.before.before.before.args.stage.limit c.before.before.before.before.size.result
-          c.before.before.before.before.before.before.before.before.before.before.before.before.before.requires.1.1.2 (few
+      work-few c.args.kept.now c.requires.0 c.requires.1.0 c.args.stage.limit c.size-size.result
+          c.requires.1.1.2 (few
           c.before.before.before.before),
-      c.before.before.before.before.before.before.before.before.before.before.before.before.before.requires.1.1.2.base-small,
+      c.requires.1.1.2.base-small,
     )
 
-div-lesser-2 : tie.Need-nonzero-div-lesser-2
+div-lesser-2 : tie.Need-nonzero_div-limit
 div-lesser-2 c = omega (
   arith,
-  c.before.before.before.effort.ensures,
-  effort-some (part_in c.before.before.before.before.before.before.before.before.before.before.before.before.before.args.m.now c.before.before.before.before.before.before.before.before.before.before.before.before.before.args.kept.now),
+  c.effort-each.ensures,
+  effort-some (part_in c.args.m.now c.args.kept.now),
 )
 
-returns-3 : tie.Need-returns-3
+returns-3 : tie.Need-returns
 returns-3 c =
     c.lesser.ensures
-    ∙ quota-from c.before.before.before.before.before.before.before.before.before.before.before.before.before.before.args.kept.now c.before.before.before.before.before.before.before.before.before.before.before.before.before.before.requires.0 c.before.before.before.before.before.before.before.before.before.before.before.before.before.before.requires.1.0 c.before.before.before.before.before.before.before.before.before.before.before.before.before.before.args.stage.first
-    c.before.before.before.before.before.before.before.before.before.before.before.before.before.before.args.stage.limit c.before.before.before.before.before.before.before.before.before.before.before.before.before.before.args.t
-    c.before.before.before.before.before.size.result c.before.before.before.before.effort.result (c.before.before.before.width.result + 4)
-    (c.before.before.before.before.before.size.ensures ∙ ap (size_of c.before.before.before.before.before.before.before.before.before.before.before.before.before.before.args.layout) c.before.before.before.before.before.before.later.ensures) c.before.before.before.before.effort.ensures
-    (ap (λ (x : ℕ). x + 4) c.before.before.before.width.ensures) (omega (
+    ∙ quota-from c.args.kept.now c.requires.0 c.requires.1.0 c.args.stage.first
+    c.args.stage.limit c.args.t
+    c.size-size.result c.effort-each.result (c.width.result + 4)
+    (c.size-size.ensures ∙ ap (size_of c.args.layout) c.later-last.ensures) c.effort-each.ensures
+    (ap (λ (x : ℕ). x + 4) c.width.ensures) (omega (
       arith,
-      c.before.before.before.before.before.before.before.before.before.before.if1.false,
+      c.if-layout-gt16.false,
     )) (omega (
       arith,
-      c.before.before.before.before.before.before.before.before.if2.false,
+      c.if-layout-gt16-2.false,
     ))
 
-pub quota-spec : {M : Type 1} → statement M
-quota-spec =
+pub quota_spec : {M : Type 1} → statement M
+quota_spec =
     tie.close
-    (tie.spec
-    returns returns-2 (λ c κs. search rules) size-requires effort-requires width-requires add-stride mul-lesser div-lesser
-    mul-lesser-2 add-lesser div-lesser-2 (λ c κs. search rules) returns-3)
+    (tie.spec returns returns-2 (λ c κs. search rules) size-requires effort-requires width-requires add-stride mul-lesser div-lesser mul-lesser-2 add-lesser div-lesser-2 (λ c κs. search rules) returns-3)

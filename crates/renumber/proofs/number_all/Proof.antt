@@ -9,34 +9,24 @@ use Rattle.renumber.proofs.number_all.Lts as lts
 use Rattle.renumber.proofs.number_inputs.Reads as number-inputs-reads
 use Rattle.renumber.proofs.number_triples.Reads as number-triples-reads
 
-number-inputs-requires : tie.Need-number-inputs-requires
-number-inputs-requires c κs = let S = c.before.before.before in inputs-ready S.requires.0 S.args.p S.requires.1.0 S.args.names.now S.requires.1.1.0
+number-inputs-requires : tie.Need-number_inputs-requires
+number-inputs-requires c κs = inputs-ready c.requires.0 c.args.p c.requires.1.0 c.args.names.now c.requires.1.1.0
 
-number-triples-requires : tie.Need-number-triples-requires
+number-triples-requires : tie.Need-number_triples-requires
 number-triples-requires c κs =
-    let S = c.before.before.before.before.before.before.before in
-    let i = c.before.before.before.number-inputs in
-    latches-ready S.requires.0 S.args.p S.requires.1.0 i.new.1.1.0 (omega (arith, i.auto.1.1.0, S.requires.1.1.0)) S.args.latch S.requires.1.1.1
+    latches-ready c.requires.0 c.args.p c.requires.1.0 c.number_inputs.new.names (omega (arith, c.number_inputs.auto.names, c.requires.1.1.0)) c.args.latch c.requires.1.1.1
 
-number-triples-requires-2 : tie.Need-number-triples-requires-2
+number-triples-requires-2 : tie.Need-number_triples-requires-2
 number-triples-requires-2 c κs =
-    let S = c.before.before.before.before.before.before.before.before.before.before.before in
-    let i = c.before.before.before.before.before.before.before.number-inputs in
-    let l = c.before.before.before.number-triples in
-    gates-ready S.requires.0 S.args.p S.requires.1.0 l.new.1.1.1.1.0 (omega (arith, i.auto.1.1.0, l.auto.1.1.1.1.0, S.requires.1.1.0)) S.args.gate
-    S.requires.1.1.2
+    gates-ready c.requires.0 c.args.p c.requires.1.0 c.number_triples.new.names (omega (arith, c.number_inputs.auto.names, c.number_triples.auto.names, c.requires.1.1.0)) c.args.gate
+    c.requires.1.1.2
 
 returns : tie.Need-returns
 returns c =
-    let S = c.before.before.before.before.before.before.before.before.before.before.before.before.before.before in
-    let i = c.before.before.before.before.before.before.before.before.before.before.number-inputs in
-    let l = c.before.before.before.before.before.before.number-triples in
-    let g = c.before.before.number-triples2 in
-    numbered S.requires.0 S.args.p S.requires.1.0 S.args.latch S.args.gate S.args.names.now i.new.1.1.0 l.new.1.1.1.1.0
-    g.new.1.1.1.1.0 S.requires.1.1.3 i.ensures l.ensures g.ensures
+    numbered c.requires.0 c.args.p c.requires.1.0 c.args.latch c.args.gate c.args.names.now c.number_inputs.new.names c.number_triples.new.names
+    c.number_triples-2.new.names c.requires.1.1.3 c.number_inputs.ensures c.number_triples.ensures c.number_triples-2.ensures
 
-pub number-all-spec : {M : Type 1} → statement M
-number-all-spec =
+pub number_all_spec : {M : Type 1} → statement M
+number_all_spec =
     tie.close
-    (tie.spec
-    number-inputs-requires number-triples-requires number-triples-requires-2 (λ c. search rules) returns)
+    (tie.spec number-inputs-requires number-triples-requires number-triples-requires-2 (λ c. search rules) returns)

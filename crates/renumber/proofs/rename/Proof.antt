@@ -7,11 +7,9 @@ use Rattle.renumber.proofs.rename.Tie as tie
 
 returns : tie.Need-returns
 returns c =
-    let s = c.before.before in
-    (refl, named_small s.args.names.now s.args.l s.requires.1)
+    (refl, named_small c.args.names.now c.args.l c.requires.1)
 
-pub rename-spec : {M : Type 1} → statement M
-rename-spec =
+pub rename_spec : {M : Type 1} → statement M
+rename_spec =
     tie.close
-    (tie.spec
-    (λ c. search rules) (λ c. search rules) (λ c. search rules) returns)
+    (tie.spec (λ c. search rules) (λ c. search rules) (λ c. search rules) returns)

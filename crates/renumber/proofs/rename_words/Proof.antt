@@ -13,66 +13,62 @@ use Rattle.renumber.proofs.Runs.{put-more, stored-all}
 use Rattle.renumber.proofs.rename_words.Statement.{statement}
 use Rattle.renumber.proofs.rename_words.Tie as tie
 
-abbrev invariant-loop : tie.invariant-loop
+abbrev invariant-loop : tie.invariant-loop-j
 invariant-loop from at n names m₀ to j₀ m j =
     (j ≤ n) × (length m ≡ length m₀) × Stored (λ i. to + i) (λ i. under names (word from (at + i))) j
     m₀ m
 
-abbrev decreases-loop : tie.decreases-loop
+abbrev decreases-loop : tie.decreases-loop-j
 decreases-loop from at n names m₀ to j₀ m j = n - j
 
-loop-holds : tie.Need-loop-init invariant-loop decreases-loop
+loop-holds : tie.Need-loop-j-init invariant-loop decreases-loop
 loop-holds c = (omega arith, refl, stored-start _ _ _)
 
-add-rename-word : tie.Need-overflow-add-rename-word invariant-loop decreases-loop
+add-rename-word : tie.Need-overflow_add-at invariant-loop decreases-loop
 add-rename-word c = omega arith
 
-mul-rename-word : tie.Need-overflow-mul-rename-word invariant-loop decreases-loop
+mul-rename-word : tie.Need-offset_bounds-from-at invariant-loop decreases-loop
 mul-rename-word c = omega arith
 
-shared-slice-read-rename-word : tie.Need-shared-slice-read-rename-word invariant-loop decreases-loop
+shared-slice-read-rename-word : tie.Need-bounds-from-at invariant-loop decreases-loop
 shared-slice-read-rename-word c = omega arith
 
-rename-word-requires : tie.Need-rename-word-requires invariant-loop decreases-loop
-rename-word-requires c κs = c.before.before.before.before.before.before.requires.1 c.before.before.loop.j (omega arith)
+rename-word-requires : tie.Need-rename_word-requires invariant-loop decreases-loop
+rename-word-requires c κs = c.requires.1 c.loop-j.j (omega arith)
 
-add-m : tie.Need-overflow-add-m invariant-loop decreases-loop
+add-m : tie.Need-overflow_add-m invariant-loop decreases-loop
 add-m c = omega arith
 
-mul-m : tie.Need-overflow-mul-m invariant-loop decreases-loop
+mul-m : tie.Need-offset_bounds-m-to invariant-loop decreases-loop
 mul-m c = omega arith
 
-slice-write-m : tie.Need-slice-write-m invariant-loop decreases-loop
+slice-write-m : tie.Need-bounds-m-to invariant-loop decreases-loop
 slice-write-m c = omega arith
 
-add-j : tie.Need-overflow-add-j invariant-loop decreases-loop
+add-j : tie.Need-overflow_add-j invariant-loop decreases-loop
 add-j c = omega arith
 
-loop-less : tie.Need-loop-smaller invariant-loop decreases-loop
+loop-less : tie.Need-loop-j-smaller invariant-loop decreases-loop
 loop-less c = omega arith
 
-loop-again : tie.Need-loop-preserved invariant-loop decreases-loop
-loop-again c = let L = c.before.before.before.loop in let S = c.before.before.before.before.before.before.before in (
+loop-again : tie.Need-loop-j-preserved invariant-loop decreases-loop
+loop-again c = (
   omega arith,
-  length-set L.m _ _ ∙ L.invariant.1,
-  put-more S.args.to
-      (λ i. under S.args.names.now (word S.args.from.now (S.args.at + i))) S.args.n L.j S.args.m.now L.m
-      L.invariant.1 (omega arith) (omega arith) L.invariant.2 _ c.rename-word.ensures.0,
+  length-set c.loop-j.m _ _ ∙ c.loop-j.invariant.1,
+  put-more c.args.to
+      (λ i. under c.args.names.now (word c.args.from.now (c.args.at + i))) c.args.n c.loop-j.j c.args.m.now c.loop-j.m
+      c.loop-j.invariant.1 (omega arith) (omega arith) c.loop-j.invariant.2 _ c.rename_word.ensures.0,
 )
 
-same_length : tie.Need-same-length invariant-loop decreases-loop
-same_length c = c.before.loop.invariant.1
+same_length : tie.Need-shape_of-m invariant-loop decreases-loop
+same_length c = c.loop-j.invariant.1
 
 returns : tie.Need-returns invariant-loop decreases-loop
 returns c =
-    let L = c.before.loop in let S = c.before.before.before.before.before in
-    stored-all (λ i. S.args.to + i) (λ i. under S.args.names.now (word S.args.from.now (S.args.at + i))) S.args.m.now
-    L.m (omega arith) L.invariant.2
+    stored-all (λ i. c.args.to + i) (λ i. under c.args.names.now (word c.args.from.now (c.args.at + i))) c.args.m.now
+    c.loop-j.m (omega arith) c.loop-j.invariant.2
 
-pub rename-words-spec : {M : Type 1} → statement M
-rename-words-spec =
+pub rename_words_spec : {M : Type 1} → statement M
+rename_words_spec =
     tie.close
-    (tie.spec
-    invariant-loop decreases-loop loop-holds add-rename-word mul-rename-word shared-slice-read-rename-word rename-word-requires add-m mul-m
-    slice-write-m add-j loop-less
-    loop-again same_length returns)
+    (tie.spec invariant-loop decreases-loop loop-holds add-rename-word mul-rename-word shared-slice-read-rename-word rename-word-requires add-m mul-m slice-write-m add-j loop-less loop-again same_length returns)

@@ -7,25 +7,24 @@ use Rattle.blocks.specs.Runs.{Fits}
 use Rattle.replay.proofs.judge_counted.Statement.{statement}
 use Rattle.replay.proofs.judge_counted.Tie as tie
 
-count-eithers-requires : tie.Need-count-eithers-requires
+count-eithers-requires : tie.Need-count_eithers-eithers-requires
 count-eithers-requires c κs = tt
 
-judge-alone-requires : tie.Need-judge-alone-requires
+judge-alone-requires : tie.Need-judge_alone-requires
 judge-alone-requires c κs =
-    let S = c.before.before.before.before.before.before in
-    let a = S.args in
-    let P = S.requires in
+    let a = c.args in
+    let P = c.requires in
     record {
       ready = P.ready;
       bad = P.bad;
       fits =
           subst (λ (n : ℕ). Fits (circuit_in a.m.now) a.w.q.bad a.w.q.frames n a.body.now)
-          (sym c.count-eithers.ensures)
+          (sym c.count_eithers-eithers.ensures)
           P.fits;
     }
 
 returns : tie.Need-returns
-returns c = c.judge-alone.ensures
+returns c = c.judge_alone.ensures
 
-pub judge-counted-spec : {M : Type 1} → statement M
-judge-counted-spec = tie.close (tie.spec count-eithers-requires judge-alone-requires returns)
+pub judge_counted_spec : {M : Type 1} → statement M
+judge_counted_spec = tie.close (tie.spec count-eithers-requires judge-alone-requires returns)

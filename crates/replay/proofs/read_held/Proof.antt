@@ -10,35 +10,30 @@ use Rattle.replay.proofs.Answers.{counts_of}
 use Rattle.replay.proofs.read_held.Statement.{statement}
 use Rattle.replay.proofs.read_held.Tie as tie
 
-returns : tie.Need-returns
+returns : tie.Need-returns-in_default
 returns c =
-    let a = c.before.before.before.before.before.before.before.before.before.args in
-    let H = c.before.before.before.before.held_in in
+    let a = c.args in
     record {
-      held = H.result;
-      held-is = H.ensures.0;
-      leaves = H.ensures.1;
-      read = subst (λ (h : Held). ReadIn a.m.now a.text.now h (reading.Refused 9)) (sym c.enum_told.given.1) refl;
+      held = c.held_in.result;
+      held-is = c.held_in.ensures.0;
+      leaves = c.held_in.ensures.1;
+      read = subst (λ (h : Held). ReadIn a.m.now a.text.now h (reading.Refused 9)) (sym c.in_default.is) refl;
     }
 
-returns-2 : tie.Need-returns-2
+returns-2 : tie.Need-returns
 returns-2 c =
-    let a = c.before.before.before.before.before.before.before.before.before.before.before.args in
-    let H = c.before.before.before.before.before.before.held_in in
-    let k = c.before.before.layout.given in
-    let t = subst (HeldIs a.m.now H.new.1.0) k.1 H.ensures.0 in
+    let a = c.args in
+    let t = subst (HeldIs a.m.now c.held_in.new.order) c.in-Circuit.is c.held_in.ensures.0 in
     record {
-      held = H.result;
-      held-is = H.ensures.0;
-      leaves = H.ensures.1;
+      held = c.held_in.result;
+      held-is = c.held_in.ensures.0;
+      leaves = c.held_in.ensures.1;
       read =
-          subst (λ (h : Held). ReadIn a.m.now a.text.now h c.read-witness.result) (sym k.1)
-          (c.read-witness.ensures (circuit_in a.m.now) (counts_of t.1 t.0));
+          subst (λ (h : Held). ReadIn a.m.now a.text.now h c.read_witness.result) (sym c.in-Circuit.is)
+          (c.read_witness.ensures (circuit_in a.m.now) (counts_of t.1 t.0));
     }
 
-pub read-held-spec : {M : Type 1} → statement M
-read-held-spec =
+pub read_held_spec : {M : Type 1} → statement M
+read_held_spec =
     tie.close
-    (tie.spec
-    (λ c κs. search rules) (λ c. search rules) (λ c. search rules) (λ c. search rules) returns (λ c κs. search rules)
-    (λ c. search rules) returns-2)
+    (tie.spec (λ c κs. search rules) (λ c. search rules) (λ c. search rules) (λ c. search rules) returns (λ c κs. search rules) (λ c. search rules) returns-2)

@@ -11,55 +11,51 @@ use Rattle.resume.proofs.copy_bits.Tie as tie
 use Rattle.resume.proofs.copy_bits.Reads as reads
 use Rattle.resume.proofs.copy_bits.Lts as lts
 
-abbrev invariant-loop : tie.invariant-loop
+abbrev invariant-loop : tie.invariant-loop-i
 invariant-loop from n to₀ i₀ to i = (i ≤ n) × (length to ≡ length to₀) × Copied from i to₀ to
 
-abbrev decreases-loop : tie.decreases-loop
+abbrev decreases-loop : tie.decreases-loop-i
 decreases-loop from n to₀ i₀ to i = n - i
 
-loop-holds : tie.Need-loop-init invariant-loop decreases-loop
+loop-holds : tie.Need-loop-i-init invariant-loop decreases-loop
 loop-holds c = (omega arith, refl, copied_none c.args.from.now c.args.to.now)
 
-mul-to : tie.Need-overflow-mul-to invariant-loop decreases-loop
+mul-to : tie.Need-offset_bounds-from-i invariant-loop decreases-loop
 mul-to c = omega arith
 
-shared-slice-read-to : tie.Need-shared-slice-read-to invariant-loop decreases-loop
-shared-slice-read-to c = omega (arith, c.before.before.before.requires)
+shared-slice-read-to : tie.Need-bounds-from-i invariant-loop decreases-loop
+shared-slice-read-to c = omega (arith, c.requires)
 
-mul-to-2 : tie.Need-overflow-mul-to-2 invariant-loop decreases-loop
+mul-to-2 : tie.Need-offset_bounds-to-i invariant-loop decreases-loop
 mul-to-2 c = omega arith
 
-slice-write-to : tie.Need-slice-write-to invariant-loop decreases-loop
-slice-write-to c = omega (arith, c.before.before.before.requires, c.before.before.loop.invariant.1)
+slice-write-to : tie.Need-bounds-to-i invariant-loop decreases-loop
+slice-write-to c = omega (arith, c.requires, c.loop-i.invariant.1)
 
-add-i : tie.Need-overflow-add-i invariant-loop decreases-loop
+add-i : tie.Need-overflow_add-i invariant-loop decreases-loop
 add-i c = omega arith
 
-loop-less : tie.Need-loop-smaller invariant-loop decreases-loop
+loop-less : tie.Need-loop-i-smaller invariant-loop decreases-loop
 loop-less c = omega arith
 
-loop-again : tie.Need-loop-preserved invariant-loop decreases-loop
+loop-again : tie.Need-loop-i-preserved invariant-loop decreases-loop
 loop-again c =
-    let l = c.before.before.loop in
-    let s = c.before.before.before in (
+    (
       omega arith,
-      length-set l.to l.i (get_or s.args.from.now l.i 0) ∙ l.invariant.1,
-      copied_more s.args.from.now
-          s.args.to.now l.to l.i (omega (arith, s.requires, l.invariant.1)) l.invariant.2,
+      length-set c.loop-i.to c.loop-i.i (get_or c.args.from.now c.loop-i.i 0) ∙ c.loop-i.invariant.1,
+      copied_more c.args.from.now
+          c.args.to.now c.loop-i.to c.loop-i.i (omega (arith, c.requires, c.loop-i.invariant.1)) c.loop-i.invariant.2,
     )
 
-same_length : tie.Need-same-length invariant-loop decreases-loop
-same_length c = c.before.loop.invariant.1
+same_length : tie.Need-shape_of-to invariant-loop decreases-loop
+same_length c = c.loop-i.invariant.1
 
 returns : tie.Need-returns invariant-loop decreases-loop
 returns c =
-    let l = c.before.loop in
-    let s = c.before.before in
-    let e : l.i ≡ s.args.n = omega (arith, l.invariant.0) in
-    subst (λ (k : ℕ). Copied s.args.from.now k s.args.to.now l.to) e l.invariant.2
+    let e : c.loop-i.i ≡ c.args.n = omega (arith, c.loop-i.invariant.0) in
+    subst (λ (k : ℕ). Copied c.args.from.now k c.args.to.now c.loop-i.to) e c.loop-i.invariant.2
 
 pub copy_bits_spec : {M : Type 1} → statement M
 copy_bits_spec =
     tie.close
-    (tie.spec
-    invariant-loop decreases-loop loop-holds mul-to shared-slice-read-to mul-to-2 slice-write-to add-i loop-less loop-again same_length returns)
+    (tie.spec invariant-loop decreases-loop loop-holds mul-to shared-slice-read-to mul-to-2 slice-write-to add-i loop-less loop-again same_length returns)

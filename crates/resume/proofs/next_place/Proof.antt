@@ -7,15 +7,15 @@ use Rattle.resume.proofs.next_place.Tie as tie
 use Rattle.resume.proofs.next_place.Reads as reads
 use Rattle.resume.proofs.next_place.Lts as lts
 
-returns-2 : tie.Need-returns-2
-returns-2 c = rw (is_some c.before.before.args.mark c.before.if1.false) (omega arith)
+returns-2 : tie.Need-returns-then-y-ge2147483648
+returns-2 c = rw (is_some c.args.mark c.if-mark-eq0.false) (omega arith)
 
-returns-3 : tie.Need-returns-3
-returns-3 c = rw (is_some c.before.before.before.args.mark c.before.before.if1.false, is_none c.before.before.before.args.digit c.if3.true) (omega arith)
+returns-3 : tie.Need-returns-then-digit-eq0
+returns-3 c = rw (is_some c.args.mark c.if-mark-eq0.false, is_none c.args.digit c.if-digit-eq0.true) (omega arith)
 
-returns-4 : tie.Need-returns-4
-returns-4 c = rw (is_some c.before.before.before.args.mark c.before.before.if1.false, is_some c.before.before.before.args.digit c.if3.false) (omega arith)
+returns-4 : tie.Need-returns-else-digit-eq0
+returns-4 c = rw (is_some c.args.mark c.if-mark-eq0.false, is_some c.args.digit c.if-digit-eq0.false) (omega arith)
 
-pub next-place-spec : {M : Type 1} → statement M
-next-place-spec =
+pub next_place_spec : {M : Type 1} → statement M
+next_place_spec =
     tie.close (tie.spec (λ c. search rules) returns-2 (λ c. search rules) (λ c. search rules) (λ c. search rules) returns-3 returns-4)

@@ -7,11 +7,11 @@ use Rattle.resume.proofs.next_rank.Tie as tie
 use Rattle.resume.proofs.next_rank.Reads as reads
 use Rattle.resume.proofs.next_rank.Lts as lts
 
-returns : tie.Need-returns
-returns c = rw (is_none c.before.args.mark c.if1.true) (omega arith)
+returns : tie.Need-returns-then-mark-eq0
+returns c = rw (is_none c.args.mark c.if-mark-eq0.true) (omega arith)
 
-returns-2 : tie.Need-returns-2
-returns-2 c = rw (is_some c.before.args.mark c.if1.false) (omega arith)
+returns-2 : tie.Need-returns-else-mark-eq0
+returns-2 c = rw (is_some c.args.mark c.if-mark-eq0.false) (omega arith)
 
-pub next-rank-spec : {M : Type 1} → statement M
-next-rank-spec = tie.close (tie.spec (λ c. search rules) returns returns-2)
+pub next_rank_spec : {M : Type 1} → statement M
+next_rank_spec = tie.close (tie.spec (λ c. search rules) returns returns-2)

@@ -8,10 +8,9 @@ use Rattle.row_plans.proofs.is_marked.Statement.{statement}
 use Rattle.row_plans.proofs.is_marked.Tie as tie
 
 returns : tie.Need-returns
-returns c = let m = c.mark_of in mark-test m.result ∙ ap nonzero m.ensures
+returns c = mark-test c.mark_of.result ∙ ap nonzero c.mark_of.ensures
 
-pub is-marked-spec : {M : Type 1} → statement M
-is-marked-spec =
+pub is_marked_spec : {M : Type 1} → statement M
+is_marked_spec =
     tie.close
-    (tie.spec
-    (λ c κs. search rules) returns)
+    (tie.spec (λ c κs. search rules) returns)

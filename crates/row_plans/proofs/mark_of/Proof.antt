@@ -8,10 +8,9 @@ use Rattle.row_plans.proofs.mark_of.Statement.{statement}
 use Rattle.row_plans.proofs.mark_of.Tie as tie
 
 returns : tie.Need-returns
-returns c = let a = c.before.before.before.before.args in c.get.ensures ∙ ap (λ (v : Var). get_or a.marks.now v.0 0) c.before.before.var.ensures
+returns c = let a = c.args in c.get.ensures ∙ ap (λ (v : Var). get_or a.marks.now v.0 0) c.var-v.ensures
 
-pub mark-of-spec : {M : Type 1} → statement M
-mark-of-spec =
+pub mark_of_spec : {M : Type 1} → statement M
+mark_of_spec =
     tie.close
-    (tie.spec
-    (λ c κs. search rules) (λ c. search rules) (λ c κs. search rules) returns)
+    (tie.spec (λ c κs. search rules) (λ c. search rules) (λ c κs. search rules) returns)

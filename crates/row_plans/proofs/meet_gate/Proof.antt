@@ -16,47 +16,39 @@ use Rattle.row_plans.proofs.Steps.{gate-not, gate-met}
 use Rattle.row_plans.proofs.meet_gate.Statement.{statement}
 use Rattle.row_plans.proofs.meet_gate.Tie as tie
 
-triple-at-requires : tie.Need-triple-at-requires
-triple-at-requires c κs = (gates-fit c.before.before.before.requires, omega arith)
+triple-at-requires : tie.Need-triple_at-l-requires
+triple-at-requires c κs = (gates-fit c.requires, omega arith)
 
-triple-at-requires-2 : tie.Need-triple-at-requires-2
-triple-at-requires-2 c κs = (gates-fit c.before.before.before.before.requires, omega arith)
+triple-at-requires-2 : tie.Need-triple_at-x-requires
+triple-at-requires-2 c κs = (gates-fit c.requires, omega arith)
 
-triple-at-requires-3 : tie.Need-triple-at-requires-3
-triple-at-requires-3 c κs = (gates-fit c.before.before.before.before.before.requires, omega arith)
+triple-at-requires-3 : tie.Need-triple_at-y-requires
+triple-at-requires-3 c κs = (gates-fit c.requires, omega arith)
 
-returns : tie.Need-returns
+returns : tie.Need-returns-then-not-is_marked
 returns c =
-    let s = c.before.before.before.before.before.before.before.before.before in
-    let a = s.args in
-    let q = c.before.is-marked in
-    gate-not (gate_at (circuit_in a.m.now) a.g) (meeting_of a.marks.now a.list.now a.n) q.result
-    (q.ensures ∙ ap (λ (l : Lit). nonzero (get_or a.marks.now l.0.0 0)) (c.before.before.before.before.before.triple-at.ensures ∙ ap literal (gate-read s.requires a.g)))
-    (not-true q.result c.if1.true)
+    let a = c.args in
+    gate-not (gate_at (circuit_in a.m.now) a.g) (meeting_of a.marks.now a.list.now a.n) c.is_marked.result
+    (c.is_marked.ensures ∙ ap (λ (l : Lit). nonzero (get_or a.marks.now l.0.0 0)) (c.triple_at-l.ensures ∙ ap literal (gate-read c.requires a.g)))
+    c.if-not-is_marked.true
 
-same-length-2 : tie.Need-same-length-2
-same-length-2 c = c.before.before.before.before.meet2.auto.0 ∙ c.before.before.before.before.before.before.before.before.before.before.before.meet.auto.0
+same-length-2 : tie.Need-shape_of-marks
+same-length-2 c = c.meet.auto.marks ∙ c.meet-some.auto.marks
 
-same-length-3 : tie.Need-same-length-3
-same-length-3 c = c.before.before.before.before.meet2.auto.1.0 ∙ c.before.before.before.before.before.before.before.before.before.before.before.meet.auto.1.0
+same-length-3 : tie.Need-shape_of-list
+same-length-3 c = c.meet.auto.list ∙ c.meet-some.auto.list
 
-returns-2 : tie.Need-returns-2
+returns-2 : tie.Need-returns
 returns-2 c =
-    let s = c.before.before.before.before.before.before.before.before.before.before.before.before.before.before.before.before.before.before.before.before.before.before.before in
-    let a = s.args in
-    let q = c.before.before.before.before.before.before.before.before.before.before.before.before.before.before.before.is-marked in
-    let k = c.before.before.before.before.before.before.before.before.before.before.before.meet in
-    let n = c.before.before.before.before.meet2 in
-    let x = ap (λ (l : Lit). l.0.0) (c.before.before.before.before.before.before.before.before.before.before.before.before.before.before.before.before.before.before.triple-at2.ensures ∙ ap literal (left-read s.requires a.g)) in
-    let y = ap (λ (l : Lit). l.0.0) (c.before.before.before.before.before.before.before.before.before.before.before.before.before.before.before.before.before.triple-at3.ensures ∙ ap literal (right-read s.requires a.g)) in
-    gate-met (gate_at (circuit_in a.m.now) a.g) (meeting_of a.marks.now a.list.now a.n) (meeting_of k.new.0 k.new.1.0 k.result)
-    (meeting_of n.new.0 n.new.1.0 n.result) q.result c.before.before.before.before.before.before.before.before.before.before.before.before.before.before.before.before.before.before.triple-at2.result.0.0 c.before.before.before.before.before.before.before.before.before.before.before.before.before.before.before.before.before.triple-at3.result.0.0
-    (q.ensures ∙ ap (λ (l : Lit). nonzero (get_or a.marks.now l.0.0 0)) (c.before.before.before.before.before.before.before.before.before.before.before.before.before.before.before.before.before.before.before.triple-at.ensures ∙ ap literal (gate-read s.requires a.g)))
-    (not-false q.result c.before.before.before.before.before.before.before.before.before.before.before.before.before.before.if1.false) x y k.ensures n.ensures
+    let a = c.args in
+    let x = ap (λ (l : Lit). l.0.0) (c.triple_at-x.ensures ∙ ap literal (left-read c.requires a.g)) in
+    let y = ap (λ (l : Lit). l.0.0) (c.triple_at-y.ensures ∙ ap literal (right-read c.requires a.g)) in
+    gate-met (gate_at (circuit_in a.m.now) a.g) (meeting_of a.marks.now a.list.now a.n) (meeting_of c.meet-some.new.marks c.meet-some.new.list c.meet-some.result)
+    (meeting_of c.meet.new.marks c.meet.new.list c.meet.result) c.is_marked.result c.triple_at-x.result.0.0 c.triple_at-y.result.0.0
+    (c.is_marked.ensures ∙ ap (λ (l : Lit). nonzero (get_or a.marks.now l.0.0 0)) (c.triple_at-l.ensures ∙ ap literal (gate-read c.requires a.g)))
+    c.if-not-is_marked.false x y c.meet-some.ensures c.meet.ensures
 
-pub meet-gate-spec : {M : Type 1} → statement M
-meet-gate-spec =
+pub meet_gate_spec : {M : Type 1} → statement M
+meet_gate_spec =
     tie.close
-    (tie.spec
-    triple-at-requires triple-at-requires-2 triple-at-requires-3 (λ c κs. search rules) (λ c. search rules) returns
-    (λ c κs. search rules) (λ c κs. search rules) same-length-2 same-length-3 returns-2)
+    (tie.spec triple-at-requires triple-at-requires-2 triple-at-requires-3 (λ c κs. search rules) (λ c. search rules) returns (λ c κs. search rules) (λ c κs. search rules) same-length-2 same-length-3 returns-2)

@@ -14,53 +14,46 @@ use Rattle.row_plans.proofs.Steps.{latches-done, latches-more}
 use Rattle.row_plans.proofs.meet_latches.Statement.{statement}
 use Rattle.row_plans.proofs.meet_latches.Tie as tie
 
-abbrev invariant-loop : tie.invariant-loop
+abbrev invariant-loop : tie.invariant-loop-k
 invariant-loop m layout latches marks₀ list₀ from count n₀ k₀ marks list n k =
     (k ≤ count) × (length marks ≡ length marks₀) × (length list ≡ length list₀)
     × (met_latches (circuit_in m) (drop k latches) (meeting_of marks list n) ≡ met_latches (circuit_in m) latches (meeting_of marks₀ list₀ from))
 
-abbrev decreases-loop : tie.decreases-loop
+abbrev decreases-loop : tie.decreases-loop-k
 decreases-loop m layout latches marks₀ list₀ from count n₀ k₀ marks list n k = count - k
 
-loop-holds : tie.Need-loop-init invariant-loop decreases-loop
+loop-holds : tie.Need-loop-k-init invariant-loop decreases-loop
 loop-holds c = (omega arith, refl, refl, refl)
 
-cast-triple-at : tie.Need-overflow-cast-triple-at invariant-loop decreases-loop
-cast-triple-at c = omega (arith, c.shared-slice-known3.given c.before.before.loop.k)
+cast-triple-at : tie.Need-overflow_cast-latches invariant-loop decreases-loop
+cast-triple-at c = omega (arith, c.shared_slice_known-in-loop-k-1.given c.loop-k.k)
 
-triple-at-requires : tie.Need-triple-at-requires invariant-loop decreases-loop
-triple-at-requires c κs = (latches-fit c.before.before.before.before.before.before.before.requires, omega arith)
+triple-at-requires : tie.Need-triple_at-l-requires invariant-loop decreases-loop
+triple-at-requires c κs = (latches-fit c.requires, omega arith)
 
-loop-again : tie.Need-loop-preserved invariant-loop decreases-loop
+loop-again : tie.Need-loop-k-preserved invariant-loop decreases-loop
 loop-again c =
-    let s = c.before.before.before.before.before.before.before.before.before.before.before.before.before.before.before in
-    let a = s.args in
-    let l = c.before.before.before.before.before.before.before.before.before.before.loop in
-    let p = c.before.before.before.before.meet in
-    let t = c.before.before.before.before.before.before.before.triple-at in
-    let v = ap (λ (x : Lit). x.0.0) (t.ensures ∙ ap literal (latch-read s.requires (get_or a.latches.now l.k 0))) in (
-      omega (arith, c.before.before.before.before.before.before.before.before.before.loop-test.true),
-      p.auto.0 ∙ l.invariant.1,
-      p.auto.1.0 ∙ l.invariant.2,
-      latches-more (circuit_in a.m.now) a.latches.now l.k (meeting_of l.marks l.list l.n) (meeting_of p.new.0 p.new.1.0 p.result)
-          t.result.0.0 (omega (arith, c.before.before.before.before.before.before.before.before.before.loop-test.true)) v p.ensures ∙ l.invariant.3,
+    let a = c.args in
+    let v = ap (λ (x : Lit). x.0.0) (c.triple_at-l.ensures ∙ ap literal (latch-read c.requires (get_or a.latches.now c.loop-k.k 0))) in (
+      omega (arith, c.loop-k-test.true),
+      c.meet-n.auto.marks ∙ c.loop-k.invariant.1,
+      c.meet-n.auto.list ∙ c.loop-k.invariant.2,
+      latches-more (circuit_in a.m.now) a.latches.now c.loop-k.k (meeting_of c.loop-k.marks c.loop-k.list c.loop-k.n) (meeting_of c.meet-n.new.marks c.meet-n.new.list c.meet-n.result)
+          c.triple_at-l.result.0.0 (omega (arith, c.loop-k-test.true)) v c.meet-n.ensures ∙ c.loop-k.invariant.3,
     )
 
-same_length : tie.Need-same-length invariant-loop decreases-loop
-same_length c = c.before.loop.invariant.1
+same_length : tie.Need-shape_of-marks invariant-loop decreases-loop
+same_length c = c.loop-k.invariant.1
 
-same-length-2 : tie.Need-same-length-2 invariant-loop decreases-loop
-same-length-2 c = c.before.loop.invariant.2
+same-length-2 : tie.Need-shape_of-list invariant-loop decreases-loop
+same-length-2 c = c.loop-k.invariant.2
 
 returns : tie.Need-returns invariant-loop decreases-loop
 returns c =
-    let a = c.before.before.before.before.before.before.args in
-    let l = c.before.loop in
-    latches-done (circuit_in a.m.now) a.latches.now l.k (meeting_of l.marks l.list l.n) (omega arith) ∙ l.invariant.3
+    let a = c.args in
+    latches-done (circuit_in a.m.now) a.latches.now c.loop-k.k (meeting_of c.loop-k.marks c.loop-k.list c.loop-k.n) (omega arith) ∙ c.loop-k.invariant.3
 
-pub meet-latches-spec : {M : Type 1} → statement M
-meet-latches-spec =
+pub meet_latches_spec : {M : Type 1} → statement M
+meet_latches_spec =
     tie.close
-    (tie.spec
-    invariant-loop decreases-loop loop-holds (λ c. search rules) (λ c. search rules) cast-triple-at triple-at-requires (λ c κs. search rules)
-    (λ c. search rules) (λ c. search rules) loop-again same_length same-length-2 returns)
+    (tie.spec invariant-loop decreases-loop loop-holds (λ c. search rules) (λ c. search rules) cast-triple-at triple-at-requires (λ c κs. search rules) (λ c. search rules) (λ c. search rules) loop-again same_length same-length-2 returns)

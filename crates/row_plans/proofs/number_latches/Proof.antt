@@ -15,54 +15,46 @@ use Rattle.row_plans.proofs.Steps.{numbered-done, numbered_more}
 use Rattle.row_plans.proofs.number_latches.Statement.{statement}
 use Rattle.row_plans.proofs.number_latches.Tie as tie
 
-abbrev invariant-loop : tie.invariant-loop
+abbrev invariant-loop : tie.invariant-loop-k
 invariant-loop m layout latches marks₀ count k₀ marks k =
     (k ≤ count) × (length marks ≡ length marks₀) × (numbered (circuit_in m) (drop k latches) marks ≡ numbered (circuit_in m) latches marks₀)
 
-abbrev decreases-loop : tie.decreases-loop
+abbrev decreases-loop : tie.decreases-loop-k
 decreases-loop m layout latches marks₀ count k₀ marks k = count - k
 
-loop-holds : tie.Need-loop-init invariant-loop decreases-loop
+loop-holds : tie.Need-loop-k-init invariant-loop decreases-loop
 loop-holds c = (omega arith, refl, refl)
 
-cast-triple-at : tie.Need-overflow-cast-triple-at invariant-loop decreases-loop
-cast-triple-at c = omega (arith, c.shared-slice-known3.given c.before.before.loop.k)
+cast-triple-at : tie.Need-overflow_cast-j invariant-loop decreases-loop
+cast-triple-at c = omega (arith, c.shared_slice_known-in-loop-k-1.given c.loop-k.k)
 
-triple-at-requires : tie.Need-triple-at-requires invariant-loop decreases-loop
-triple-at-requires c κs = (latches-fit c.before.before.before.before.before.before.requires, omega arith)
+triple-at-requires : tie.Need-triple_at-l-requires invariant-loop decreases-loop
+triple-at-requires c κs = (latches-fit c.requires, omega arith)
 
-cast-put-2 : tie.Need-overflow-cast-put-2 invariant-loop decreases-loop
-cast-put-2 c = omega (arith, c.before.before.before.before.shared-slice-known3.given c.before.before.before.before.before.before.loop.k)
+cast-put-2 : tie.Need-overflow_cast-j-in-loop-k invariant-loop decreases-loop
+cast-put-2 c = omega (arith, c.shared_slice_known-in-loop-k-1.given c.loop-k.k)
 
-add-put : tie.Need-overflow-add-put invariant-loop decreases-loop
-add-put c = omega (arith, c.before.before.before.before.shared-slice-known3.given c.before.before.before.before.before.before.loop.k)
+add-put : tie.Need-overflow_add-j invariant-loop decreases-loop
+add-put c = omega (arith, c.shared_slice_known-in-loop-k-1.given c.loop-k.k)
 
-loop-again : tie.Need-loop-preserved invariant-loop decreases-loop
+loop-again : tie.Need-loop-k-preserved invariant-loop decreases-loop
 loop-again c =
-    let s = c.before.before.before.before.before.before.before.before.before.before.before.before.before in
-    let a = s.args in
-    let l = c.before.before.before.before.before.before.before.before.before.loop in
-    let p = c.before.before.put in
-    let t = c.before.before.before.before.before.before.triple-at in
-    let v = ap (λ (x : Var). x.0) c.before.before.before.before.before.var.ensures ∙ ap (λ (x : Lit). x.0.0) (t.ensures ∙ ap literal (latch-read s.requires (get_or a.latches.now l.k 0))) in (
-      omega (arith, c.before.before.before.before.before.before.before.before.loop-test.true),
-      p.auto.0 ∙ l.invariant.1,
-      numbered_more (circuit_in a.m.now) a.latches.now l.k l.marks p.new.0 c.before.before.before.before.before.var.result.0 (omega (arith, c.before.before.before.before.before.before.before.before.loop-test.true)) v p.ensures ∙ l.invariant.2,
+    let a = c.args in
+    let v = ap (λ (x : Var). x.0) c.var-v.ensures ∙ ap (λ (x : Lit). x.0.0) (c.triple_at-l.ensures ∙ ap literal (latch-read c.requires (get_or a.latches.now c.loop-k.k 0))) in (
+      omega (arith, c.loop-k-test.true),
+      c.put.auto.work ∙ c.loop-k.invariant.1,
+      numbered_more (circuit_in a.m.now) a.latches.now c.loop-k.k c.loop-k.marks c.put.new.work c.var-v.result.0 (omega (arith, c.loop-k-test.true)) v c.put.ensures ∙ c.loop-k.invariant.2,
     )
 
-same_length : tie.Need-same-length invariant-loop decreases-loop
-same_length c = c.before.loop.invariant.1
+same_length : tie.Need-shape_of-marks invariant-loop decreases-loop
+same_length c = c.loop-k.invariant.1
 
 returns : tie.Need-returns invariant-loop decreases-loop
 returns c =
-    let a = c.before.before.before.before.before.args in
-    let l = c.before.loop in
-    numbered-done (circuit_in a.m.now) a.latches.now l.k l.marks (omega arith) ∙ l.invariant.2
+    let a = c.args in
+    numbered-done (circuit_in a.m.now) a.latches.now c.loop-k.k c.loop-k.marks (omega arith) ∙ c.loop-k.invariant.2
 
-pub number-latches-spec : {M : Type 1} → statement M
-number-latches-spec =
+pub number_latches_spec : {M : Type 1} → statement M
+number_latches_spec =
     tie.close
-    (tie.spec
-    invariant-loop decreases-loop loop-holds (λ c. search rules) (λ c. search rules) cast-triple-at triple-at-requires (λ c κs. search rules)
-    (λ c. search rules) cast-put-2 add-put (λ c. search rules) (λ c κs. search rules) (λ c. search rules) (λ c. search rules)
-    loop-again same_length returns)
+    (tie.spec invariant-loop decreases-loop loop-holds (λ c. search rules) (λ c. search rules) cast-triple-at triple-at-requires (λ c κs. search rules) (λ c. search rules) cast-put-2 add-put (λ c. search rules) (λ c κs. search rules) (λ c. search rules) (λ c. search rules) loop-again same_length returns)

@@ -17,44 +17,42 @@ looked-for first second right other b q e =
     e ∙ ap (λ (x : Edge). among (edge_word first) (edge_word second) (edge_word x)) q
     ∙ sym (ap (among (edge_word first) (edge_word second)) (word-opposite right))
 
-returns : tie.Need-returns
+returns : tie.Need-returns-then-is_complement
 returns c =
-    let a = c.before.before.before.before.before.args in
+    let a = c.args in
     lower-absorbed (edge_word a.first) (edge_word a.second) (edge_word a.left) (edge_word a.right)
-    (looked-for a.first a.second a.right _ _ c.before.before.before.before.complement.ensures c.before.before.before.is_among.ensures) c.before.before.if1.true
-    (word-sign a.left ∙ sym c.before.is-complement.ensures ∙ c.if2.true)
+    (looked-for a.first a.second a.right _ _ c.complement.ensures c.is_among.ensures) c.if-is_among.true
+    (word-sign a.left ∙ sym c.is_complement.ensures ∙ c.if-is_complement.true)
 
-returns-2 : tie.Need-returns-2
+returns-2 : tie.Need-returns-then-is_among
 returns-2 c =
-    let a = c.before.before.before.before.before.args in
+    let a = c.args in
     lower-contradicted (edge_word a.first) (edge_word a.second) (edge_word a.left) (edge_word a.right)
-    (looked-for a.first a.second a.right _ _ c.before.before.before.before.complement.ensures c.before.before.before.is_among.ensures) c.before.before.if1.true
-    (word-sign a.left ∙ sym c.before.is-complement.ensures ∙ c.if2.false)
+    (looked-for a.first a.second a.right _ _ c.complement.ensures c.is_among.ensures) c.if-is_among.true
+    (word-sign a.left ∙ sym c.is_complement.ensures ∙ c.if-is_complement.false)
 
-returns-3 : tie.Need-returns-3
+returns-3 : tie.Need-returns-then-is_complement-2
 returns-3 c =
-    let a = c.before.before.before.before.before.args in
+    let a = c.args in
     lower-complement (edge_word a.first) (edge_word a.second) (edge_word a.left) (edge_word a.right)
-    (looked-for a.first a.second a.right _ _ c.before.before.before.before.complement.ensures c.before.before.before.is_among.ensures) c.before.before.if1.false
-    (word-sign a.left ∙ sym c.before.is-complement2.ensures ∙ c.if3.true)
+    (looked-for a.first a.second a.right _ _ c.complement.ensures c.is_among.ensures) c.if-is_among.false
+    (word-sign a.left ∙ sym c.is_complement-2.ensures ∙ c.if-is_complement-2.true)
 
-returns-4 : tie.Need-returns-4
+returns-4 : tie.Need-returns-then-is_among-2
 returns-4 c =
-    let a = c.before.before.before.before.before.before.before.args in
+    let a = c.args in
     lower-implied (edge_word a.first) (edge_word a.second) (edge_word a.left) (edge_word a.right)
-    (looked-for a.first a.second a.right _ _ c.before.before.before.before.before.before.complement.ensures c.before.before.before.before.before.is_among.ensures) c.before.before.before.before.if1.false
-    (word-sign a.left ∙ sym c.before.before.before.is-complement2.ensures ∙ c.before.before.if3.false) c.before.is-among2.ensures c.if4.true
+    (looked-for a.first a.second a.right _ _ c.complement.ensures c.is_among.ensures) c.if-is_among.false
+    (word-sign a.left ∙ sym c.is_complement-2.ensures ∙ c.if-is_complement-2.false) c.is_among-2.ensures c.if-is_among-2.true
 
-returns-5 : tie.Need-returns-5
+returns-5 : tie.Need-returns
 returns-5 c =
-    let a = c.before.before.before.before.before.before.before.args in
+    let a = c.args in
     lower-new (edge_word a.first) (edge_word a.second) (edge_word a.left) (edge_word a.right)
-    (looked-for a.first a.second a.right _ _ c.before.before.before.before.before.before.complement.ensures c.before.before.before.before.before.is_among.ensures) c.before.before.before.before.if1.false
-    (word-sign a.left ∙ sym c.before.before.before.is-complement2.ensures ∙ c.before.before.if3.false) c.before.is-among2.ensures c.if4.false
+    (looked-for a.first a.second a.right _ _ c.complement.ensures c.is_among.ensures) c.if-is_among.false
+    (word-sign a.left ∙ sym c.is_complement-2.ensures ∙ c.if-is_complement-2.false) c.is_among-2.ensures c.if-is_among-2.false
 
-pub lower-rule-spec : {M : Type 1} → statement M
-lower-rule-spec =
+pub lower_rule_spec : {M : Type 1} → statement M
+lower_rule_spec =
     tie.close
-    (tie.spec
-    (λ c κs. search rules) (λ c κs. search rules) (λ c κs. search rules) returns returns-2 (λ c κs. search rules) returns-3
-    (λ c κs. search rules) returns-4 returns-5)
+    (tie.spec (λ c κs. search rules) (λ c κs. search rules) (λ c κs. search rules) returns returns-2 (λ c κs. search rules) returns-3 (λ c κs. search rules) returns-4 returns-5)

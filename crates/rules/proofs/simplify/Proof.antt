@@ -10,44 +10,35 @@ use borrow.Author.Rules.{rules}
 use Rattle.rules.proofs.simplify.Statement.{statement}
 use Rattle.rules.proofs.simplify.Tie as tie
 
-returns : tie.Need-returns
+returns : tie.Need-returns-then-k-g
 returns c =
-    let b = c.before.before.before.before.before in
-    let a = b.before.before.args in
+    let a = c.args in
     sym
     (simplified-leaf a.g.free (pairs_of a.work.now a.g) (edge_word a.left) (edge_word a.right)
-    (sym b.basic-rule.ensures ∙ ap known c.before.before.before.enum_told.given.1) (omega (arith, c.if1.true, word-node a.left)))
+    (sym c.basic_rule.ensures ∙ ap known c.in-Gate.is) (omega (arith, c.if-k-g.true, word-node a.left)))
 
-shared-slice-read-from-word : tie.Need-shared-slice-read-from-word
+shared-slice-read-from-word : tie.Need-bounds-work-k
 shared-slice-read-from-word c =
-    let s = c.before.before.before.before.before.before.before.before in
-    omega (arith, s.requires.sized.nodes, s.requires.sized.held, s.requires.inside, word-node s.args.left)
+    omega (arith, c.requires.sized.nodes, c.requires.sized.held, c.requires.inside, word-node c.args.left)
 
-shared-slice-read-from-word-2 : tie.Need-shared-slice-read-from-word-2
+shared-slice-read-from-word-2 : tie.Need-bounds-work-k-in-Gate
 shared-slice-read-from-word-2 c =
-    let s = c.before.before.before.before.before.before.before.before.before.before in
-    omega (arith, s.requires.sized.nodes, s.requires.sized.held, s.requires.inside, word-node s.args.left)
+    omega (arith, c.requires.sized.nodes, c.requires.sized.held, c.requires.inside, word-node c.args.left)
 
-returns-2 : tie.Need-returns-2
+returns-2 : tie.Need-returns-in-Known
 returns-2 c =
-    let b = c.before.before.before in
-    let a = b.before.before.args in
+    let a = c.args in
     sym
     (simplified-known a.g.free (pairs_of a.work.now a.g) (edge_word a.left) (edge_word a.right) _
-    (sym b.basic-rule.ensures ∙ ap known c.before.e.given.1))
+    (sym c.basic_rule.ensures ∙ ap known c.in-Known.is))
 
-returns-3 : tie.Need-returns-3
+returns-3 : tie.Need-returns-else-k-g
 returns-3 c =
-    let b = c.before.before.before.before.before.before.before.before.before.before in
-    let s = b.before.before in
-    lower_of s.args.work.now s.args.g s.args.left (edge_word s.args.right) s.requires
-    (sym b.basic-rule.ensures ∙ ap known c.before.before.before.before.before.before.before.before.enum_told.given.1) (omega (arith, c.before.before.before.before.before.if1.false)) c.before.before.before.from-word.ensures
-    c.before.from-word2.ensures c.lower-rule.ensures
+    lower_of c.args.work.now c.args.g c.args.left (edge_word c.args.right) c.requires
+    (sym c.basic_rule.ensures ∙ ap known c.in-Gate.is) (omega (arith, c.if-k-g.false)) c.from_word-first.ensures
+    c.from_word-second.ensures c.lower_rule.ensures
 
-pub simplify-spec : {M : Type 1} → statement M
-simplify-spec =
+pub simplify_spec : {M : Type 1} → statement M
+simplify_spec =
     tie.close
-    (tie.spec
-    (λ c κs. search rules) (λ c. search rules) (λ c. search rules) (λ c. search rules) returns (λ c. search rules) (λ c. search rules)
-    shared-slice-read-from-word (λ c κs. search rules) (λ c. search rules) (λ c. search rules) (λ c. search rules)
-    shared-slice-read-from-word-2 (λ c κs. search rules) (λ c κs. search rules) returns-2 returns-3)
+    (tie.spec (λ c κs. search rules) (λ c. search rules) (λ c. search rules) (λ c. search rules) returns (λ c. search rules) (λ c. search rules) shared-slice-read-from-word (λ c κs. search rules) (λ c. search rules) (λ c. search rules) (λ c. search rules) shared-slice-read-from-word-2 (λ c κs. search rules) (λ c κs. search rules) returns-2 returns-3)

@@ -42,29 +42,23 @@ module _ (out : List ℕ) (at n t : ℕ) (h : Room out at (sample low n t)) wher
               (w.placed old (λ b. stands-next (time_mark t) (value_lines old 0 n) (s b) (time_mark t) mark-room refl p));
         }
 
-write-time-requires : tie.Need-write-time-requires
+write-time-requires : tie.Need-write_time-next-requires
 write-time-requires c κs =
-    let S = c.before.before.before.before.before in
-    let a = S.args in
-    mark-room a.out.now a.at a.pass.wires a.t S.requires.1
+    let a = c.args in
+    mark-room a.out.now a.at a.pass.wires a.t c.requires.1
 
-write-values-requires : tie.Need-write-values-requires
+write-values-requires : tie.Need-write_values-requires
 write-values-requires c κs =
-    let w = c.before.before.before in
-    let S = w.before.before.before.before.before.before in
-    let a = S.args in
-    (S.requires.0, values-room a.out.now a.at a.pass.wires a.t S.requires.1 w.write-time.ensures w.write-time.auto.0)
+    let a = c.args in
+    (c.requires.0, values-room a.out.now a.at a.pass.wires a.t c.requires.1 c.write_time-next.ensures c.write_time-next.auto.out)
 
 returns : tie.Need-returns
 returns c =
-    let v = c.before.before in
-    let w = v.before.before.before.before in
-    let S = w.before.before.before.before.before.before in
-    let a = S.args in
-    both a.out.now a.at a.pass.wires a.t S.requires.1 w.write-time.ensures a.pass.block
+    let a = c.args in
+    both a.out.now a.at a.pass.wires a.t c.requires.1 c.write_time-next.ensures a.pass.block
     (level_in a.m.now a.values.now)
-    v.write-values.ensures
+    c.write_values.ensures
 
-pub write-sample-spec : {M : Type 1} → statement M
-write-sample-spec =
+pub write_sample_spec : {M : Type 1} → statement M
+write_sample_spec =
     tie.close (tie.spec write-time-requires write-values-requires (λ c. search rules) returns)

@@ -15,61 +15,49 @@ use Rattle.sections.proofs.read_text.Statement.{statement}
 use Rattle.sections.proofs.read_text.Tie as tie
 
 -- the answer of the call is the variant that the match found
-found : (n : tie.After-read-span) (r : Rows) → n.read-span.result ≡ r
-    → let a = n.before.before.before.before.args in
-    SpanAt a.s.now a.at (table a.p) a.limit a.words.now n.read-span.new.1.1.1.1.1.1.0 r
+found : (n : tie.After-read_span) (r : Rows) → n.read_span.result ≡ r
+    → let a = n.args in
+    SpanAt a.s.now a.at (table a.p) a.limit a.words.now n.read_span.new.words r
 found n r e =
-    let a = n.before.before.before.before.args in
-    subst (SpanAt a.s.now a.at (table a.p) a.limit a.words.now n.read-span.new.1.1.1.1.1.1.0) e
-    n.read-span.ensures
+    let a = n.args in
+    subst (SpanAt a.s.now a.at (table a.p) a.limit a.words.now n.read_span.new.words) e
+    n.read_span.ensures
 
 -- the tail is right
-tail : (c : tie.Else1)
-    → let n = c.before.before.before in
-    is_tail (drop n.end.given.0.0 n.before.before.before.before.before.before.before.before.args.s.now) ≡ true
-tail c = sym c.before.is-tail.ensures ∙ not-false _ c.if1.false
+tail : (c : tie.Else-not-is_tail)
+    → is_tail (drop c.in-Read.end c.args.s.now) ≡ true
+tail c = sym c.is_tail.ensures ∙ c.if-not-is_tail.false
 
-read-span-requires : tie.Need-read-span-requires
+read-span-requires : tie.Need-read_span-requires
 read-span-requires c κs =
-    let s = c.before.before.before in
-    (s.requires.0, ((omega arith, omega arith), (chained s.args.p s.requires.1.0, omega (arith, s.requires.1.0, s.requires.1.1.0))))
+    (c.requires.0, ((omega arith, omega arith), (chained c.args.p c.requires.1.0, omega (arith, c.requires.1.0, c.requires.1.1.0))))
 
-returns : tie.Need-returns
+returns : tie.Need-returns-in_default
 returns c =
-    let n = c.before.before.before.before in
-    let s = n.before.before.before.before in
-    let a = s.args in
-    (no_lines a.s.now a.at a.p a.limit a.words.now s.requires.1.0 (found n _ c.enum_told.given.1), tt)
+    let a = c.args in
+    (no_lines a.s.now a.at a.p a.limit a.words.now c.requires.1.0 (found c.before.before.before _ c.in_default.is), tt)
 
-returns-2 : tie.Need-returns-2
+returns-2 : tie.Need-returns-then-not-is_tail
 returns-2 c =
-    let n = c.before.before.before.before.before.before.before in
-    let s = n.before.before.before.before in
-    let a = s.args in
-    let e = sym c.before.is-tail.ensures ∙ not-true _ c.if1.true in
-    let r = found n _ c.before.before.before.end.given.1 in
-    (no-tail a.s.now a.at a.p a.limit a.words.now s.requires.1.0 r e, tt)
+    let a = c.args in
+    let e = sym c.is_tail.ensures ∙ c.if-not-is_tail.true in
+    let r = found c.before.before.before.before.before _ c.in-Read.is in
+    (no-tail a.s.now a.at a.p a.limit a.words.now c.requires.1.0 r e, tt)
 
-returns-3 : tie.Need-returns-3
+returns-3 : tie.Need-returns-then-fit
 returns-3 c =
-    let n = c.before.before.before.before.before.before.before.before in
-    let s = n.before.before.before.before in
-    let a = s.args in
-    all_read a.s.now a.at a.p a.limit a.words.now s.requires.1.0
-    (found n _ c.before.before.before.before.end.given.1) s.requires.1.1.0 s.requires.1.1.1
-    (tail c.before) c.if2.true
+    let a = c.args in
+    all_read a.s.now a.at a.p a.limit a.words.now c.requires.1.0
+    (found c.before.before.before.before.before.before _ c.in-Read.is) c.requires.1.1.0 c.requires.1.1.1
+    (tail c.before) c.if-fit.true
 
-returns-4 : tie.Need-returns-4
+returns-4 : tie.Need-returns
 returns-4 c =
-    let n = c.before.before.before.before.before.before.before.before in
-    let s = n.before.before.before.before in
-    let a = s.args in
-    one-large a.s.now a.at a.p a.limit a.words.now s.requires.1.0
-    (found n _ c.before.before.before.before.end.given.1) s.requires.1.1.1 (tail c.before) c.if2.false
+    let a = c.args in
+    one-large a.s.now a.at a.p a.limit a.words.now c.requires.1.0
+    (found c.before.before.before.before.before.before _ c.in-Read.is) c.requires.1.1.1 (tail c.before) c.if-fit.false
 
-pub read-text-spec : {M : Type 1} → statement M
-read-text-spec =
+pub read_text_spec : {M : Type 1} → statement M
+read_text_spec =
     tie.close
-    (tie.spec
-    read-span-requires (λ c. search rules) (λ c. search rules) (λ c. search rules) returns (λ c κs. search rules)
-    (λ c. search rules) returns-2 (λ c. search rules) returns-3 (λ c. search rules) returns-4)
+    (tie.spec read-span-requires (λ c. search rules) (λ c. search rules) (λ c. search rules) returns (λ c κs. search rules) (λ c. search rules) returns-2 (λ c. search rules) returns-3 (λ c. search rules) returns-4)

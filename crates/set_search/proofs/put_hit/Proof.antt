@@ -13,33 +13,31 @@ use Rattle.set_search.proofs.Plans.{inputs-counted}
 use Rattle.set_search.proofs.put_hit.Statement.{statement}
 use Rattle.set_search.proofs.put_hit.Tie as tie
 
-slice-aggregate-walk : tie.Need-slice-aggregate-walk
-slice-aggregate-walk c = let s = c.before.before.before.before.before.before.before.before.before.before.before.before.before.before in sym (length-take-le s.args.p.words s.args.work.now s.requires.words)
+slice-aggregate-walk : tie.Need-slice_bounds-walk-end-2
+slice-aggregate-walk c = sym (length-take-le c.args.p.words c.args.work.now c.requires.words)
 
-slice-aggregate-walk-2 : tie.Need-slice-aggregate-walk-2
-slice-aggregate-walk-2 c = let s = c.before.before.before.before.before.before.before.before.before.before.before.before.before.before.before.before in sym (length-take-le s.args.p.s.vars (replicate 112 0) (omega (arith, s.requires.few, length-replicate {A = ℕ} 112 0)))
+slice-aggregate-walk-2 : tie.Need-slice_bounds-walk-end-3
+slice-aggregate-walk-2 c = sym (length-take-le c.args.p.s.vars (replicate 112 0) (omega (arith, c.requires.few, length-replicate {A = ℕ} 112 0)))
 
 walk-requires : tie.Need-walk-requires
 walk-requires c κs =
-    let s = c.before.before.before.before.before.before.before.before.before.before.before.before.before.before.before.before.before in
-    let p = s.requires in (
+    let p = c.requires in (
       p.legible,
       (
         p.fits,
         (
-          ap length c.before.before.before.before.before.before.copy.ensures ∙ p.bits-room,
-          length-take-le s.args.p.s.vars (replicate 112 0) (omega (arith, p.few, length-replicate {A = ℕ} 112 0)),
+          ap length c.copy.ensures ∙ p.bits-room,
+          length-take-le c.args.p.s.vars (replicate 112 0) (omega (arith, p.few, length-replicate {A = ℕ} 112 0)),
           p.frame,
           omega arith,
         ),
       ),
     )
 
-put-bits-requires : tie.Need-put-bits-requires
+put-bits-requires : tie.Need-put_bits-requires
 put-bits-requires c κs =
-    let s = c.before.before.before.before.before.before.before.before.before.before.before.before.before.before.before.before.before.before.before.before.before.before.before.before.before in
-    let p = s.requires in
-    let plan = s.args.plan.now in (
+    let p = c.requires in
+    let plan = c.args.plan.now in (
       omega (arith, ap length (inputs-part plan), inputs-counted plan p.whole, p.inputs),
       p.width,
       p.some,
@@ -48,17 +46,12 @@ put-bits-requires c κs =
 
 returns : tie.Need-returns
 returns c =
-    let a = c.before.before.before.before.before.before.before.before.before.before.before.before.before.before.before.before.before.before.before.before.before.before.before.before.before.before.before.before.args in
-    let f = c.before.before.before.before.before.before.before.before.before.before.walk in
-    hit-put a.p a.plan.now a.table.now a.frees.now a.bits.now c.before.before.before.before.before.before.before.before.before.before.before.before.before.before.before.before.before.copy.new.1.0 a.work.now c.before.before.put-bits.new.1.1.1.1.1.1.0
-    f.new.1.1.1.1.1.1.0 (take (3 + word a.plan.now 0 + word a.plan.now 1 - (3 + word a.plan.now 0)) (drop (3 + word a.plan.now 0) a.plan.now))
-    f.result c.before.before.before.before.before.before.before.before.before.before.before.before.before.before.before.before.before.copy.ensures f.ensures (inputs-part a.plan.now) c.before.before.put-bits.ensures
+    let a = c.args in
+    hit-put a.p a.plan.now a.table.now a.frees.now a.bits.now c.copy.new.to a.work.now c.put_bits.new.work
+    c.walk.new.trace (take (3 + word a.plan.now 0 + word a.plan.now 1 - (3 + word a.plan.now 0)) (drop (3 + word a.plan.now 0) a.plan.now))
+    c.walk.result c.copy.ensures c.walk.ensures (inputs-part a.plan.now) c.put_bits.ensures
 
-pub put-hit-spec : {M : Type 1} → statement M
-put-hit-spec =
+pub put_hit_spec : {M : Type 1} → statement M
+put_hit_spec =
     tie.close
-    (tie.spec
-    (λ c. search rules) (λ c. search rules) (λ c. search rules) (λ c. search rules) (λ c. search rules) (λ c. search rules)
-    (λ c κs. search rules) (λ c. search rules) slice-aggregate-walk (λ c. search rules) slice-aggregate-walk-2 (λ c. search rules)
-    walk-requires (λ c. search rules) (λ c. search rules) (λ c. search rules) (λ c. search rules) (λ c. search rules)
-    put-bits-requires (λ c. search rules) (λ c. search rules) returns)
+    (tie.spec (λ c. search rules) (λ c. search rules) (λ c. search rules) (λ c. search rules) (λ c. search rules) (λ c. search rules) (λ c κs. search rules) (λ c. search rules) slice-aggregate-walk (λ c. search rules) slice-aggregate-walk-2 (λ c. search rules) walk-requires (λ c. search rules) (λ c. search rules) (λ c. search rules) (λ c. search rules) (λ c. search rules) put-bits-requires (λ c. search rules) (λ c. search rules) returns)

@@ -7,10 +7,9 @@ use Rattle.set_search.proofs.rows_of.Statement.{statement}
 use Rattle.set_search.proofs.rows_of.Tie as tie
 
 returns : tie.Need-returns
-returns c = let h = pow_mono {i = word c.before.args.plan.now 1} {j = 4} c.before.requires.1 in (omega arith, omega arith)
+returns c = let h = pow_mono {i = word c.args.plan.now 1} {j = 4} c.requires.1 in (omega arith, omega arith)
 
-pub rows-of-spec : {M : Type 1} → statement M
-rows-of-spec =
+pub rows_of_spec : {M : Type 1} → statement M
+rows_of_spec =
     tie.close
-    (tie.spec
-    (λ c. search rules) (λ c. search rules) (λ c. search rules) returns)
+    (tie.spec (λ c. search rules) (λ c. search rules) (λ c. search rules) returns)

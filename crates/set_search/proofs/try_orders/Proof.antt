@@ -12,126 +12,105 @@ use Rattle.set_search.proofs.Turns.{From, turns-start, hit-arm, never-arm, clear
 use Rattle.set_search.proofs.try_orders.Statement.{statement}
 use Rattle.set_search.proofs.try_orders.Tie as tie
 
-abbrev invariant-loop : tie.invariant-loop
+abbrev invariant-loop : tie.invariant-loop-i
 invariant-loop m layout order stage work₀ first i₀ work i =
     (length work ≡ length work₀) × (i ≤ 4) × (first ≡ stage.first)
     × From (part_of (circuit_in m) stage.b) stage.b stage.share stage.first stage.k i
 
-abbrev decreases-loop : tie.decreases-loop
+abbrev decreases-loop : tie.decreases-loop-i
 decreases-loop m layout order stage work₀ first i₀ work i = 4 - i
 
-loop-holds : tie.Need-loop-init invariant-loop decreases-loop
+loop-holds : tie.Need-loop-i-init invariant-loop decreases-loop
 loop-holds c =
-    let s = c.before.before.before in
-    let a = s.args in
-    let p = s.requires.1.0 in (
+    let a = c.args in
+    let p = c.requires.1.0 in (
       refl,
       omega arith,
       refl,
       turns-start (part_of (circuit_in a.m.now) a.stage.b) a.stage.b a.stage.share a.stage.first a.stage.k p.within p.bound
-          s.requires.1.1,
+          c.requires.1.1,
     )
 
 attempt-requires : tie.Need-attempt-requires invariant-loop decreases-loop
 attempt-requires c κs =
-    let s = c.before.before.before.before.before.before.before in
-    let p = s.requires.1.0 in (
-      s.requires.0,
+    let p = c.requires.1.0 in (
+      c.requires.0,
       (
-        record { bad = p.bad; bound = p.bound; within = p.within; units = p.units; room = omega (arith, p.room, c.before.before.before.loop.invariant.0); none = p.none },
-        s.requires.1.1,
+        record { bad = p.bad; bound = p.bound; within = p.within; units = p.units; room = omega (arith, p.room, c.loop-i.invariant.0); none = p.none },
+        c.requires.1.1,
       ),
     )
 
-same_length : tie.Need-same-length invariant-loop decreases-loop
-same_length c = c.before.before.before.before.before.attempt.auto.1.1.1.1.1.0 ∙ c.before.before.before.before.before.before.before.before.before.loop.invariant.0
+same_length : tie.Need-shape_of-work-in-Hit invariant-loop decreases-loop
+same_length c = c.attempt.auto.work ∙ c.loop-i.invariant.0
 
-returns : tie.Need-returns invariant-loop decreases-loop
+returns : tie.Need-returns-in-Hit invariant-loop decreases-loop
 returns c =
-    let s = c.before.before.before.before.before.before.before.before.before.before.before.before.before in
-    let a = s.args in
-    let p = s.requires.1.0 in
-    let l = c.before.before.before.before.before.before.before.before.before.loop in
-    let f = c.before.before.before.before.before.attempt in
-    hit-arm (circuit_in a.m.now) a.stage.b a.stage.share a.stage.first a.stage.k p.within p.bound l.i c.before.before.before.before.before.before.before.before.loop-test.true
-    l.invariant.3 c.before.before.before.before.before.before.before.order-of.result c.before.before.before.before.before.before.before.order-of.ensures f.new.1.1.1.1.1.0 f.result f.ensures c.before.t.given.1
+    let a = c.args in
+    let p = c.requires.1.0 in
+    hit-arm (circuit_in a.m.now) a.stage.b a.stage.share a.stage.first a.stage.k p.within p.bound c.loop-i.i c.loop-i-test.true
+    c.loop-i.invariant.3 c.order_of.result c.order_of.ensures c.attempt.new.work c.attempt.result c.attempt.ensures c.in-Hit.is
 
-same-length-2 : tie.Need-same-length-2 invariant-loop decreases-loop
-same-length-2 c = c.before.before.before.before.attempt.auto.1.1.1.1.1.0 ∙ c.before.before.before.before.before.before.before.before.loop.invariant.0
+same-length-2 : tie.Need-shape_of-work-in-Never invariant-loop decreases-loop
+same-length-2 c = c.attempt.auto.work ∙ c.loop-i.invariant.0
 
-returns-2 : tie.Need-returns-2 invariant-loop decreases-loop
+returns-2 : tie.Need-returns-in-Never invariant-loop decreases-loop
 returns-2 c =
-    let s = c.before.before.before.before.before.before.before.before.before.before.before.before in
-    let a = s.args in
-    let p = s.requires.1.0 in
-    let l = c.before.before.before.before.before.before.before.before.loop in
-    let f = c.before.before.before.before.attempt in
-    never-arm (circuit_in a.m.now) a.stage.b a.stage.share a.stage.first a.stage.k p.within p.bound l.i c.before.before.before.before.before.before.before.loop-test.true
-    l.invariant.3 c.before.before.before.before.before.before.order-of.result c.before.before.before.before.before.before.order-of.ensures f.new.1.1.1.1.1.0 f.result f.ensures c.enum_told.given.1
+    let a = c.args in
+    let p = c.requires.1.0 in
+    never-arm (circuit_in a.m.now) a.stage.b a.stage.share a.stage.first a.stage.k p.within p.bound c.loop-i.i c.loop-i-test.true
+    c.loop-i.invariant.3 c.order_of.result c.order_of.ensures c.attempt.new.work c.attempt.result c.attempt.ensures c.in-Never.is
 
-same-length-3 : tie.Need-same-length-3 invariant-loop decreases-loop
-same-length-3 c = c.before.before.before.before.attempt.auto.1.1.1.1.1.0 ∙ c.before.before.before.before.before.before.before.before.loop.invariant.0
+same-length-3 : tie.Need-shape_of-work-in-Clear invariant-loop decreases-loop
+same-length-3 c = c.attempt.auto.work ∙ c.loop-i.invariant.0
 
-returns-3 : tie.Need-returns-3 invariant-loop decreases-loop
+returns-3 : tie.Need-returns-in-Clear invariant-loop decreases-loop
 returns-3 c =
-    let s = c.before.before.before.before.before.before.before.before.before.before.before.before in
-    let a = s.args in
-    let p = s.requires.1.0 in
-    let l = c.before.before.before.before.before.before.before.before.loop in
-    let f = c.before.before.before.before.attempt in
-    clear-arm (circuit_in a.m.now) a.stage.b a.stage.share a.stage.first a.stage.k p.within p.bound l.i c.before.before.before.before.before.before.before.loop-test.true
-    l.invariant.3 c.before.before.before.before.before.before.order-of.result c.before.before.before.before.before.before.order-of.ensures f.new.1.1.1.1.1.0 f.result f.ensures c.enum-told2.given.1
+    let a = c.args in
+    let p = c.requires.1.0 in
+    clear-arm (circuit_in a.m.now) a.stage.b a.stage.share a.stage.first a.stage.k p.within p.bound c.loop-i.i c.loop-i-test.true
+    c.loop-i.invariant.3 c.order_of.result c.order_of.ensures c.attempt.new.work c.attempt.result c.attempt.ensures c.in-Clear.is
 
-same-length-4 : tie.Need-same-length-4 invariant-loop decreases-loop
-same-length-4 c = c.before.before.before.before.before.before.attempt.auto.1.1.1.1.1.0 ∙ c.before.before.before.before.before.before.before.before.before.before.loop.invariant.0
+same-length-4 : tie.Need-shape_of-work-then-first-t invariant-loop decreases-loop
+same-length-4 c = c.attempt.auto.work ∙ c.loop-i.invariant.0
 
-returns-4 : tie.Need-returns-4 invariant-loop decreases-loop
+returns-4 : tie.Need-returns-then-first-t invariant-loop decreases-loop
 returns-4 c =
-    let s = c.before.before.before.before.before.before.before.before.before.before.before.before.before.before in
-    let a = s.args in
-    let p = s.requires.1.0 in
-    let l = c.before.before.before.before.before.before.before.before.before.before.loop in
-    let f = c.before.before.before.before.before.before.attempt in
-    gave-up-arm (circuit_in a.m.now) a.stage.b a.stage.share a.stage.first a.stage.k p.within p.bound l.i c.before.before.before.before.before.before.before.before.before.loop-test.true
-    l.invariant.3 c.before.before.before.before.before.before.before.before.order-of.result c.before.before.before.before.before.before.before.before.order-of.ensures f.new.1.1.1.1.1.0 f.result f.ensures c.before.before.t2.given.1 (omega (arith, c.if1.true, l.invariant.2))
+    let a = c.args in
+    let p = c.requires.1.0 in
+    gave-up-arm (circuit_in a.m.now) a.stage.b a.stage.share a.stage.first a.stage.k p.within p.bound c.loop-i.i c.loop-i-test.true
+    c.loop-i.invariant.3 c.order_of.result c.order_of.ensures c.attempt.new.work c.attempt.result c.attempt.ensures c.in-GaveUp.is (omega (arith, c.if-first-t.true, c.loop-i.invariant.2))
 
-add-i : tie.Need-overflow-add-i invariant-loop decreases-loop
-add-i c = omega (arith, c.before.before.before.before.before.before.before.before.before.loop-test.true)
+add-i : tie.Need-overflow_add-i invariant-loop decreases-loop
+add-i c = omega (arith, c.loop-i-test.true)
 
-loop-less : tie.Need-loop-smaller invariant-loop decreases-loop
-loop-less c = omega (arith, c.before.before.before.before.before.before.before.before.before.loop-test.true)
+loop-less : tie.Need-loop-i-smaller invariant-loop decreases-loop
+loop-less c = omega (arith, c.loop-i-test.true)
 
-loop-again : tie.Need-loop-preserved invariant-loop decreases-loop
+loop-again : tie.Need-loop-i-preserved invariant-loop decreases-loop
 loop-again c =
-    let s = c.before.before.before.before.before.before.before.before.before.before.before.before.before.before in
-    let a = s.args in
-    let p = s.requires.1.0 in
-    let l = c.before.before.before.before.before.before.before.before.before.before.loop in
-    let f = c.before.before.before.before.before.before.attempt in (
-      f.auto.1.1.1.1.1.0 ∙ l.invariant.0,
-      omega (arith, c.before.before.before.before.before.before.before.before.before.loop-test.true),
-      l.invariant.2,
-      next-arm (circuit_in a.m.now) a.stage.b a.stage.share a.stage.first a.stage.k p.within p.bound l.i
-          c.before.before.before.before.before.before.before.before.before.loop-test.true l.invariant.3 c.before.before.before.before.before.before.before.before.order-of.result c.before.before.before.before.before.before.before.before.order-of.ensures
-          f.new.1.1.1.1.1.0 f.result f.ensures c.before.before.t2.given.1 (omega (arith, c.if1.false, l.invariant.2)),
+    let a = c.args in
+    let p = c.requires.1.0 in
+    (
+      c.attempt.auto.work ∙ c.loop-i.invariant.0,
+      omega (arith, c.loop-i-test.true),
+      c.loop-i.invariant.2,
+      next-arm (circuit_in a.m.now) a.stage.b a.stage.share a.stage.first a.stage.k p.within p.bound c.loop-i.i
+          c.loop-i-test.true c.loop-i.invariant.3 c.order_of.result c.order_of.ensures
+          c.attempt.new.work c.attempt.result c.attempt.ensures c.in-GaveUp.is (omega (arith, c.if-first-t.false, c.loop-i.invariant.2)),
     )
 
-same-length-5 : tie.Need-same-length-5 invariant-loop decreases-loop
-same-length-5 c = c.before.loop.invariant.0
+same-length-5 : tie.Need-shape_of-work invariant-loop decreases-loop
+same-length-5 c = c.loop-i.invariant.0
 
-returns-5 : tie.Need-returns-5 invariant-loop decreases-loop
+returns-5 : tie.Need-returns invariant-loop decreases-loop
 returns-5 c =
-    let s = c.before.before.before.before.before in
-    let a = s.args in
-    let p = s.requires.1.0 in
-    let l = c.before.loop in
-    let e : l.i ≡ 4 = omega (arith, c.loop-test.false, l.invariant.1) in
-    end-arm (circuit_in a.m.now) a.stage.b a.stage.share a.stage.first a.stage.k p.within p.bound l.invariant.3 e l.invariant.2 l.work
+    let a = c.args in
+    let p = c.requires.1.0 in
+    let e : c.loop-i.i ≡ 4 = omega (arith, c.loop-i-test.false, c.loop-i.invariant.1) in
+    end-arm (circuit_in a.m.now) a.stage.b a.stage.share a.stage.first a.stage.k p.within p.bound c.loop-i.invariant.3 e c.loop-i.invariant.2 c.loop-i.work
 
-pub try-orders-spec : {M : Type 1} → statement M
-try-orders-spec =
+pub try_orders_spec : {M : Type 1} → statement M
+try_orders_spec =
     tie.close
-    (tie.spec
-    invariant-loop decreases-loop loop-holds (λ c κs. search rules) attempt-requires (λ c. search rules) same_length returns (λ c. search rules)
-    same-length-2 returns-2 (λ c. search rules) same-length-3 returns-3 (λ c. search rules) same-length-4 returns-4 add-i loop-less
-    loop-again same-length-5 returns-5)
+    (tie.spec invariant-loop decreases-loop loop-holds (λ c κs. search rules) attempt-requires (λ c. search rules) same_length returns (λ c. search rules) same-length-2 returns-2 (λ c. search rules) same-length-3 returns-3 (λ c. search rules) same-length-4 returns-4 add-i loop-less loop-again same-length-5 returns-5)

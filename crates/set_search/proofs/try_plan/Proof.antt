@@ -1,4 +1,6 @@
 -- `set_search::try_plan` meets its contract. Assumes nothing.
+use Rattle.std.proofs.lemmas.Bool.{not_from_true}
+use Rattle.std.proofs.lemmas.Bool.{not_from_false}
 use mathlib.Core.Path.{◌≡◌, refl, sym, ap, ◌∙◌, subst}
 use mathlib.Core.List.{List, ◌++◌}
 use Prim.Native.Nat.{ℕ, ◌+◌, ◌*◌, ◌≤◌}
@@ -19,464 +21,405 @@ use Rattle.set_search.proofs.Trial.{size_fits, bits-by, width_some, product-few,
 use Rattle.set_search.proofs.try_plan.Statement.{statement}
 use Rattle.set_search.proofs.try_plan.Tie as tie
 
-rows-of-requires : tie.Need-rows-of-requires
+rows-of-requires : tie.Need-rows_of-rows-requires
 rows-of-requires c κs =
-    let s = c.before.before.before.before.before in
-    let a = s.args in
+    let a = c.args in
     let C = circuit_in a.m.now in
-    let r = s.requires.0.1 in
-    let q = s.requires.1.0 in
-    let t = s.requires.1.1 in
+    let r = c.requires.0.1 in
+    let q = c.requires.1.0 in
+    let t = c.requires.1.1 in
     let P = proper r in
     (omega (arith, t.fit.whole), inputs-few C a.stage.b P a.plan.now t.fit)
 
-size-requires : tie.Need-size-requires
+size-requires : tie.Need-size-words-requires
 size-requires c κs =
-    let s = c.before.before.before.before.before.before in
-    let a = s.args in
+    let a = c.args in
     let C = circuit_in a.m.now in
-    let r = s.requires.0.1 in
-    let q = s.requires.1.0 in
-    let t = s.requires.1.1 in
+    let r = c.requires.0.1 in
+    let q = c.requires.1.0 in
+    let t = c.requires.1.1 in
     let P = proper r in
     (limited r.held r.layout_of, omega (arith, q.bound, q.within))
 
-mul_words : tie.Need-overflow-mul-words
+mul_words : tie.Need-overflow_mul-words
 mul_words c =
-    let s = c.before.before.before.before.before.before.before in
-    let a = s.args in
+    let a = c.args in
     let C = circuit_in a.m.now in
-    let r = s.requires.0.1 in
-    let q = s.requires.1.0 in
-    let t = s.requires.1.1 in
+    let r = c.requires.0.1 in
+    let q = c.requires.1.0 in
+    let t = c.requires.1.1 in
     let P = proper r in
     let most : 16 * size C a.stage.k ≤ 1048576 = omega (arith, q.units) in
-    omega (arith, size_fits (counts_of r.held r.layout_of) c.size.ensures a.stage.k 1048576 (omega (arith, q.within)) most)
+    omega (arith, size_fits (counts_of r.held r.layout_of) c.size-words.ensures a.stage.k 1048576 (omega (arith, q.within)) most)
 
-slice-relend-prefix-begin-table : tie.Need-slice-relend-prefix-begin-table
+slice-relend-prefix-begin-table : tie.Need-slice_bounds-begin_table-end
 slice-relend-prefix-begin-table c =
-    let s = c.before.before.before.before.before.before.before in
-    let a = s.args in
+    let a = c.args in
     let C = circuit_in a.m.now in
-    let r = s.requires.0.1 in
-    let q = s.requires.1.0 in
-    let t = s.requires.1.1 in
+    let r = c.requires.0.1 in
+    let q = c.requires.1.0 in
+    let t = c.requires.1.1 in
     let P = proper r in
-    let n = 16 * c.size.result in
+    let n = 16 * c.size-words.result in
     let fits : n ≤ length a.work.now =
-    size_fits (counts_of r.held r.layout_of) c.size.ensures a.stage.k (length a.work.now) (omega (arith, q.within)) q.room in
+    size_fits (counts_of r.held r.layout_of) c.size-words.ensures a.stage.k (length a.work.now) (omega (arith, q.within)) q.room in
     fits
 
-slice-aggregate-begin-table : tie.Need-slice-aggregate-begin-table
+slice-aggregate-begin-table : tie.Need-slice_bounds-begin_table-end-2
 slice-aggregate-begin-table c =
-    let s = c.before.before.before.before.before.before.before.before in
-    let a = s.args in
+    let a = c.args in
     let C = circuit_in a.m.now in
-    let r = s.requires.0.1 in
-    let q = s.requires.1.0 in
-    let t = s.requires.1.1 in
+    let r = c.requires.0.1 in
+    let q = c.requires.1.0 in
+    let t = c.requires.1.1 in
     let P = proper r in
-    let n = 16 * c.before.size.result in
+    let n = 16 * c.size-words.result in
     let fits : n ≤ length a.work.now =
-    size_fits (counts_of r.held r.layout_of) c.before.size.ensures a.stage.k (length a.work.now) (omega (arith, q.within)) q.room in
+    size_fits (counts_of r.held r.layout_of) c.size-words.ensures a.stage.k (length a.work.now) (omega (arith, q.within)) q.room in
     sym (length-take-le n a.work.now fits)
 
-begin-table-requires : tie.Need-begin-table-requires
+begin-table-requires : tie.Need-begin_table-requires
 begin-table-requires c κs =
-    let s = c.before.before.before.before.before.before.before.before.before in
-    let a = s.args in
+    let a = c.args in
     let C = circuit_in a.m.now in
-    let r = s.requires.0.1 in
-    let q = s.requires.1.0 in
-    let t = s.requires.1.1 in
+    let r = c.requires.0.1 in
+    let q = c.requires.1.0 in
+    let t = c.requires.1.1 in
     let P = proper r in
-    (s.requires.0, (table-room C a.stage.b P a.plan.now t.fit, refl))
+    (c.requires.0, (table-room C a.stage.b P a.plan.now t.fit, refl))
 
-returns : tie.Need-returns
+returns : tie.Need-returns-then-not-begin_table
 returns c =
-    let s = c.before.before.before.before.before.before.before.before.before.before.before.before.before.before in
-    let a = s.args in
+    let a = c.args in
     let C = circuit_in a.m.now in
-    let r = s.requires.0.1 in
-    let q = s.requires.1.0 in
-    let t = s.requires.1.1 in
+    let r = c.requires.0.1 in
+    let q = c.requires.1.0 in
+    let t = c.requires.1.1 in
     let P = proper r in
-    let z = c.before.before.before.before.before.before.before.size.ensures ∙ size_is (counts_of r.held r.layout_of) a.stage.first in
-    let n = 16 * c.before.before.before.before.before.before.before.size.result in
+    let z = c.size-words.ensures ∙ size_is (counts_of r.held r.layout_of) a.stage.first in
+    let n = 16 * c.size-words.result in
     let fits : n ≤ length a.work.now =
-    size_fits (counts_of r.held r.layout_of) c.before.before.before.before.before.before.before.size.ensures a.stage.k (length a.work.now) (omega (arith, q.within)) q.room in
-    let g = c.before.before.before.before.begin-table in
+    size_fits (counts_of r.held r.layout_of) c.size-words.ensures a.stage.k (length a.work.now) (omega (arith, q.within)) q.room in
     let long = length-take-le n a.work.now fits in
-    not_made C a.stage.b P a.plan.now t.fit a.stage.share a.stage.first a.stage.k t.large q.none (length (take n a.work.now)) (long ∙ ap (λ (i : ℕ). 16 * i) z) g.new.0
-    g.new.1.1.1.1.1.0 g.result g.ensures (refused g.result c.if1.true)
+    not_made C a.stage.b P a.plan.now t.fit a.stage.share a.stage.first a.stage.k t.large q.none (length (take n a.work.now)) (long ∙ ap (λ (i : ℕ). 16 * i) z) c.begin_table.new.w
+    c.begin_table.new.table c.begin_table.result c.begin_table.ensures (refused c.begin_table.result (not_from_false _ c.if-not-begin_table.true))
 
-put-starts-requires : tie.Need-put-starts-requires
+put-starts-requires : tie.Need-put_starts-n-requires
 put-starts-requires c κs =
-    let s = c.before.before.before.before.before.before.before.before.before.before.before.before.before.before.before.before.before in
-    let a = s.args in
+    let a = c.args in
     let C = circuit_in a.m.now in
-    let r = s.requires.0.1 in
-    let q = s.requires.1.0 in
-    let t = s.requires.1.1 in
+    let r = c.requires.0.1 in
+    let q = c.requires.1.0 in
+    let t = c.requires.1.1 in
     let P = proper r in
     let part = latches-part a.plan.now (length a.base.now) t.base-room in
     let count = ap length part ∙ latches-counted a.plan.now t.fit.whole in
-    (s.requires.0, (omega arith, omega (arith, count, (table-room C a.stage.b P a.plan.now t.fit).vars), t.base-room ∙ sym count))
+    (c.requires.0, (omega arith, omega (arith, count, (table-room C a.stage.b P a.plan.now t.fit).vars), t.base-room ∙ sym count))
 
-slice-relend-prefix-run-frames : tie.Need-slice-relend-prefix-run-frames
+slice-relend-prefix-run-frames : tie.Need-slice_bounds-run_frames-end
 slice-relend-prefix-run-frames c =
-    let s = c.before.before.before.before.before.before.before.before.before.before.before.before.before.before.before.before.before.before.before.before.before in
-    let a = s.args in
+    let a = c.args in
     let C = circuit_in a.m.now in
-    let r = s.requires.0.1 in
-    let q = s.requires.1.0 in
-    let t = s.requires.1.1 in
+    let r = c.requires.0.1 in
+    let q = c.requires.1.0 in
+    let t = c.requires.1.1 in
     let P = proper r in
-    let n = 16 * c.before.before.before.before.before.before.before.before.before.before.before.before.before.before.size.result in
+    let n = 16 * c.size-words.result in
     let fits : n ≤ length a.work.now =
-    size_fits (counts_of r.held r.layout_of) c.before.before.before.before.before.before.before.before.before.before.before.before.before.before.size.ensures a.stage.k (length a.work.now) (omega (arith, q.within)) q.room in
-    let g = c.before.before.before.before.before.before.before.before.before.before.before.begin-table in
+    size_fits (counts_of r.held r.layout_of) c.size-words.ensures a.stage.k (length a.work.now) (omega (arith, q.within)) q.room in
     let long = length-take-le n a.work.now fits in
-    front-room n g.new.0 a.work.now (g.auto.0 ∙ long)
+    front-room n c.begin_table.new.w a.work.now (c.begin_table.auto.w ∙ long)
 
-slice-aggregate-run-frames : tie.Need-slice-aggregate-run-frames
+slice-aggregate-run-frames : tie.Need-slice_bounds-run_frames-end-2
 slice-aggregate-run-frames c =
-    let s = c.before.before.before.before.before.before.before.before.before.before.before.before.before.before.before.before.before.before.before.before.before.before in
-    let a = s.args in
+    let a = c.args in
     let C = circuit_in a.m.now in
-    let r = s.requires.0.1 in
-    let q = s.requires.1.0 in
-    let t = s.requires.1.1 in
+    let r = c.requires.0.1 in
+    let q = c.requires.1.0 in
+    let t = c.requires.1.1 in
     let P = proper r in
-    let n = 16 * c.before.before.before.before.before.before.before.before.before.before.before.before.before.before.before.size.result in
+    let n = 16 * c.size-words.result in
     let fits : n ≤ length a.work.now =
-    size_fits (counts_of r.held r.layout_of) c.before.before.before.before.before.before.before.before.before.before.before.before.before.before.before.size.ensures a.stage.k (length a.work.now) (omega (arith, q.within)) q.room in
-    let g = c.before.before.before.before.before.before.before.before.before.before.before.before.begin-table in
+    size_fits (counts_of r.held r.layout_of) c.size-words.ensures a.stage.k (length a.work.now) (omega (arith, q.within)) q.room in
     let long = length-take-le n a.work.now fits in
-    sym (ap length (take_at g.new.0 (drop n a.work.now) n (g.auto.0 ∙ long)) ∙ g.auto.0 ∙ long)
+    sym (ap length (take_at c.begin_table.new.w (drop n a.work.now) n (c.begin_table.auto.w ∙ long)) ∙ c.begin_table.auto.w ∙ long)
 
-array-share-prefix-frees : tie.Need-array-share-prefix-frees
-array-share-prefix-frees c = omega (arith, c.before.before.before.before.before.put-starts.ensures.most, c.before.before.before.before.before.put-starts.auto.1.1.1.0)
+array-share-prefix-frees : tie.Need-slice_bounds-frees-end
+array-share-prefix-frees c = omega (arith, c.put_starts-n.ensures.most, c.put_starts-n.auto.frees)
 
-slice-aggregate-run-frames-3 : tie.Need-slice-aggregate-run-frames-3
-slice-aggregate-run-frames-3 c = let u = c.before.before.before.before.before.before.put-starts in sym (length-take-le u.result u.new.1.1.1.0 (omega (arith, u.ensures.most, u.auto.1.1.1.0)))
+slice-aggregate-run-frames-3 : tie.Need-slice_bounds-run_frames-end-4
+slice-aggregate-run-frames-3 c = sym (length-take-le c.put_starts-n.result c.put_starts-n.new.frees (omega (arith, c.put_starts-n.ensures.most, c.put_starts-n.auto.frees)))
 
-run-frames-requires : tie.Need-run-frames-requires
+run-frames-requires : tie.Need-run_frames-requires
 run-frames-requires c κs =
-    let s = c.before.before.before.before.before.before.before.before.before.before.before.before.before.before.before.before.before.before.before.before.before.before.before.before.before.before in
-    let a = s.args in
+    let a = c.args in
     let C = circuit_in a.m.now in
-    let r = s.requires.0.1 in
-    let q = s.requires.1.0 in
-    let t = s.requires.1.1 in
+    let r = c.requires.0.1 in
+    let q = c.requires.1.0 in
+    let t = c.requires.1.1 in
     let P = proper r in
-    let z = c.before.before.before.before.before.before.before.before.before.before.before.before.before.before.before.before.before.before.before.size.ensures ∙ size_is (counts_of r.held r.layout_of) a.stage.first in
-    let n = 16 * c.before.before.before.before.before.before.before.before.before.before.before.before.before.before.before.before.before.before.before.size.result in
+    let z = c.size-words.ensures ∙ size_is (counts_of r.held r.layout_of) a.stage.first in
+    let n = 16 * c.size-words.result in
     let fits : n ≤ length a.work.now =
-    size_fits (counts_of r.held r.layout_of) c.before.before.before.before.before.before.before.before.before.before.before.before.before.before.before.before.before.before.before.size.ensures a.stage.k (length a.work.now) (omega (arith, q.within)) q.room in
-    let g = c.before.before.before.before.before.before.before.before.before.before.before.before.before.before.before.before.begin-table in
+    size_fits (counts_of r.held r.layout_of) c.size-words.ensures a.stage.k (length a.work.now) (omega (arith, q.within)) q.room in
     let long = length-take-le n a.work.now fits in
-    let u = c.before.before.before.before.before.before.before.before.put-starts in
-    let free = take u.result u.new.1.1.1.0 in
+    let free = take c.put_starts-n.result c.put_starts-n.new.frees in
     let part = latches-part a.plan.now (length a.base.now) t.base-room in
-    let shape : Shape = record { vars = length a.base.now; rows = c.before.before.before.before.before.before.before.before.before.before.before.before.before.before.before.before.before.before.before.before.rows-of.result } in
+    let shape : Shape = record { vars = length a.base.now; rows = c.rows_of-rows.result } in
     let old = drop n a.work.now in (
-      begins C a.stage.b P a.plan.now t.fit a.stage.share a.stage.first a.stage.k t.large q.none (length (take n a.work.now)) (long ∙ ap (λ (i : ℕ). 16 * i) z) g.new.0
-          g.new.1.1.1.1.1.0 g.result g.ensures
-          (granted g.result c.before.before.before.before.before.before.before.before.before.before.before.before.if1.false) shape t.base-room c.before.before.before.before.before.before.before.before.before.before.before.before.before.before.before.before.before.before.before.before.rows-of.ensures.0 free u.new.1.1.1.1.0 (take n (g.new.0 ++ old))
-          (u.ensures.free ∙ ap (frees_of C) part) (u.ensures.start ∙ ap (base_of C) part) (take_at g.new.0 old n (g.auto.0 ∙ long)),
+      begins C a.stage.b P a.plan.now t.fit a.stage.share a.stage.first a.stage.k t.large q.none (length (take n a.work.now)) (long ∙ ap (λ (i : ℕ). 16 * i) z) c.begin_table.new.w
+          c.begin_table.new.table c.begin_table.result c.begin_table.ensures
+          (granted c.begin_table.result (not_from_true _ c.if-not-begin_table.false)) shape t.base-room c.rows_of-rows.ensures.0 free c.put_starts-n.new.base (take n (c.begin_table.new.w ++ old))
+          (c.put_starts-n.ensures.free ∙ ap (frees_of C) part) (c.put_starts-n.ensures.start ∙ ap (base_of C) part) (take_at c.begin_table.new.w old n (c.begin_table.auto.w ∙ long)),
       (
-        shape-fits C a.stage.b P a.plan.now t.fit shape (length g.new.1.1.1.1.1.0) t.base-room c.before.before.before.before.before.before.before.before.before.before.before.before.before.before.before.before.before.before.before.before.rows-of.ensures.0 g.auto.1.1.1.1.1.0,
-        (u.auto.1.1.1.1.0, t.bits-room ∙ sym t.base-room, q.bound),
+        shape-fits C a.stage.b P a.plan.now t.fit shape (length c.begin_table.new.table) t.base-room c.rows_of-rows.ensures.0 c.begin_table.auto.table,
+        (c.put_starts-n.auto.base, t.bits-room ∙ sym t.base-room, q.bound),
       ),
     )
 
-add-count : tie.Need-overflow-add-count
+add-count : tie.Need-overflow_add-count
 add-count c =
-    let s = c.before.before.before.before.before.before.before.before.before.before.before.before.before.before.before.before.before.before.before.before.before.before.before.before.before.before.before.before.before.before.before.before.before.before.before in
-    let a = s.args in
+    let a = c.args in
     let C = circuit_in a.m.now in
-    let r = s.requires.0.1 in
-    let q = s.requires.1.0 in
-    let t = s.requires.1.1 in
+    let r = c.requires.0.1 in
+    let q = c.requires.1.0 in
+    let t = c.requires.1.1 in
     let P = proper r in
-    let z = c.before.before.before.before.before.before.before.before.before.before.before.before.before.before.before.before.before.before.before.before.before.before.before.before.before.before.before.before.size.ensures ∙ size_is (counts_of r.held r.layout_of) a.stage.first in
-    let n = 16 * c.before.before.before.before.before.before.before.before.before.before.before.before.before.before.before.before.before.before.before.before.before.before.before.before.before.before.before.before.size.result in
+    let z = c.size-words.ensures ∙ size_is (counts_of r.held r.layout_of) a.stage.first in
+    let n = 16 * c.size-words.result in
     let fits : n ≤ length a.work.now =
-    size_fits (counts_of r.held r.layout_of) c.before.before.before.before.before.before.before.before.before.before.before.before.before.before.before.before.before.before.before.before.before.before.before.before.before.before.before.before.size.ensures a.stage.k (length a.work.now) (omega (arith, q.within)) q.room in
-    let g = c.before.before.before.before.before.before.before.before.before.before.before.before.before.before.before.before.before.before.before.before.before.before.before.before.before.begin-table in
+    size_fits (counts_of r.held r.layout_of) c.size-words.ensures a.stage.k (length a.work.now) (omega (arith, q.within)) q.room in
     let long = length-take-le n a.work.now fits in
-    let u = c.before.before.before.before.before.before.before.before.before.before.before.before.before.before.before.before.before.put-starts in
-    let free = take u.result u.new.1.1.1.0 in
+    let free = take c.put_starts-n.result c.put_starts-n.new.frees in
     let part = latches-part a.plan.now (length a.base.now) t.base-room in
-    let shape : Shape = record { vars = length a.base.now; rows = c.before.before.before.before.before.before.before.before.before.before.before.before.before.before.before.before.before.before.before.before.before.before.before.before.before.before.before.before.before.rows-of.result } in
+    let shape : Shape = record { vars = length a.base.now; rows = c.rows_of-rows.result } in
     let old = drop n a.work.now in
-    let f = c.before.before.before.before.before.before.before.before.run-frames in
-    let within = hit-within C a.stage.b P a.plan.now t.fit a.stage.share a.stage.first a.stage.k t.large q.none (length (take n a.work.now)) (long ∙ ap (λ (i : ℕ). 16 * i) z) g.new.0
-    g.new.1.1.1.1.1.0 g.result g.ensures
-    (granted g.result c.before.before.before.before.before.before.before.before.before.before.before.before.before.before.before.before.before.before.before.before.before.if1.false) shape t.base-room c.before.before.before.before.before.before.before.before.before.before.before.before.before.before.before.before.before.before.before.before.before.before.before.before.before.before.before.before.before.rows-of.ensures.0 free u.new.1.1.1.1.0 (take n (g.new.0 ++ old))
-    (u.ensures.free ∙ ap (frees_of C) part) (u.ensures.start ∙ ap (base_of C) part) (take_at g.new.0 old n (g.auto.0 ∙ long))
-    f.new.0 f.new.1.0 f.new.1.1.1.1.1.1.0 f.result f.ensures c.before.t.given.1 in
+    let within = hit-within C a.stage.b P a.plan.now t.fit a.stage.share a.stage.first a.stage.k t.large q.none (length (take n a.work.now)) (long ∙ ap (λ (i : ℕ). 16 * i) z) c.begin_table.new.w
+    c.begin_table.new.table c.begin_table.result c.begin_table.ensures
+    (granted c.begin_table.result (not_from_true _ c.if-not-begin_table.false)) shape t.base-room c.rows_of-rows.ensures.0 free c.put_starts-n.new.base (take n (c.begin_table.new.w ++ old))
+    (c.put_starts-n.ensures.free ∙ ap (frees_of C) part) (c.put_starts-n.ensures.start ∙ ap (base_of C) part) (take_at c.begin_table.new.w old n (c.begin_table.auto.w ∙ long))
+    c.run_frames.new.w c.run_frames.new.table c.run_frames.new.bits c.run_frames.result c.run_frames.ensures c.in-Hit.is in
     omega (arith, within, q.bound)
 
-mul-count : tie.Need-overflow-mul-count
+mul-count : tie.Need-overflow_mul-count
 mul-count c =
-    let s = c.before.before.before.before.before.before.before.before.before.before.before.before.before.before.before.before.before.before.before.before.before.before.before.before.before.before.before.before.before.before.before.before.before.before.before.before in
-    let a = s.args in
+    let a = c.args in
     let C = circuit_in a.m.now in
-    let r = s.requires.0.1 in
-    let q = s.requires.1.0 in
-    let t = s.requires.1.1 in
+    let r = c.requires.0.1 in
+    let q = c.requires.1.0 in
+    let t = c.requires.1.1 in
     let P = proper r in
-    let z = c.before.before.before.before.before.before.before.before.before.before.before.before.before.before.before.before.before.before.before.before.before.before.before.before.before.before.before.before.before.size.ensures ∙ size_is (counts_of r.held r.layout_of) a.stage.first in
-    let n = 16 * c.before.before.before.before.before.before.before.before.before.before.before.before.before.before.before.before.before.before.before.before.before.before.before.before.before.before.before.before.before.size.result in
+    let z = c.size-words.ensures ∙ size_is (counts_of r.held r.layout_of) a.stage.first in
+    let n = 16 * c.size-words.result in
     let fits : n ≤ length a.work.now =
-    size_fits (counts_of r.held r.layout_of) c.before.before.before.before.before.before.before.before.before.before.before.before.before.before.before.before.before.before.before.before.before.before.before.before.before.before.before.before.before.size.ensures a.stage.k (length a.work.now) (omega (arith, q.within)) q.room in
-    let g = c.before.before.before.before.before.before.before.before.before.before.before.before.before.before.before.before.before.before.before.before.before.before.before.before.before.before.begin-table in
+    size_fits (counts_of r.held r.layout_of) c.size-words.ensures a.stage.k (length a.work.now) (omega (arith, q.within)) q.room in
     let long = length-take-le n a.work.now fits in
-    let u = c.before.before.before.before.before.before.before.before.before.before.before.before.before.before.before.before.before.before.put-starts in
-    let free = take u.result u.new.1.1.1.0 in
+    let free = take c.put_starts-n.result c.put_starts-n.new.frees in
     let part = latches-part a.plan.now (length a.base.now) t.base-room in
-    let shape : Shape = record { vars = length a.base.now; rows = c.before.before.before.before.before.before.before.before.before.before.before.before.before.before.before.before.before.before.before.before.before.before.before.before.before.before.before.before.before.before.rows-of.result } in
+    let shape : Shape = record { vars = length a.base.now; rows = c.rows_of-rows.result } in
     let old = drop n a.work.now in
-    let f = c.before.before.before.before.before.before.before.before.before.run-frames in
-    let within = hit-within C a.stage.b P a.plan.now t.fit a.stage.share a.stage.first a.stage.k t.large q.none (length (take n a.work.now)) (long ∙ ap (λ (i : ℕ). 16 * i) z) g.new.0
-    g.new.1.1.1.1.1.0 g.result g.ensures
-    (granted g.result c.before.before.before.before.before.before.before.before.before.before.before.before.before.before.before.before.before.before.before.before.before.before.if1.false) shape t.base-room c.before.before.before.before.before.before.before.before.before.before.before.before.before.before.before.before.before.before.before.before.before.before.before.before.before.before.before.before.before.before.rows-of.ensures.0 free u.new.1.1.1.1.0 (take n (g.new.0 ++ old))
-    (u.ensures.free ∙ ap (frees_of C) part) (u.ensures.start ∙ ap (base_of C) part) (take_at g.new.0 old n (g.auto.0 ∙ long))
-    f.new.0 f.new.1.0 f.new.1.1.1.1.1.1.0 f.result f.ensures c.before.before.t.given.1 in
-    omega (arith, product-few a.layout.i c.before.before.t.given.0.0 (limited r.held r.layout_of).inputs (omega (arith, within, q.bound)))
+    let within = hit-within C a.stage.b P a.plan.now t.fit a.stage.share a.stage.first a.stage.k t.large q.none (length (take n a.work.now)) (long ∙ ap (λ (i : ℕ). 16 * i) z) c.begin_table.new.w
+    c.begin_table.new.table c.begin_table.result c.begin_table.ensures
+    (granted c.begin_table.result (not_from_true _ c.if-not-begin_table.false)) shape t.base-room c.rows_of-rows.ensures.0 free c.put_starts-n.new.base (take n (c.begin_table.new.w ++ old))
+    (c.put_starts-n.ensures.free ∙ ap (frees_of C) part) (c.put_starts-n.ensures.start ∙ ap (base_of C) part) (take_at c.begin_table.new.w old n (c.begin_table.auto.w ∙ long))
+    c.run_frames.new.w c.run_frames.new.table c.run_frames.new.bits c.run_frames.result c.run_frames.ensures c.in-Hit.is in
+    omega (arith, product-few a.layout.i c.in-Hit.t (limited r.held r.layout_of).inputs (omega (arith, within, q.bound)))
 
-add-count-2 : tie.Need-overflow-add-count-2
+add-count-2 : tie.Need-overflow_add-count-in-Hit
 add-count-2 c =
-    let s = c.before.before.before.before.before.before.before.before.before.before.before.before.before.before.before.before.before.before.before.before.before.before.before.before.before.before.before.before.before.before.before.before.before.before.before.before.before in
-    let a = s.args in
+    let a = c.args in
     let C = circuit_in a.m.now in
-    let r = s.requires.0.1 in
-    let q = s.requires.1.0 in
-    let t = s.requires.1.1 in
+    let r = c.requires.0.1 in
+    let q = c.requires.1.0 in
+    let t = c.requires.1.1 in
     let P = proper r in
-    let z = c.before.before.before.before.before.before.before.before.before.before.before.before.before.before.before.before.before.before.before.before.before.before.before.before.before.before.before.before.before.before.size.ensures ∙ size_is (counts_of r.held r.layout_of) a.stage.first in
-    let n = 16 * c.before.before.before.before.before.before.before.before.before.before.before.before.before.before.before.before.before.before.before.before.before.before.before.before.before.before.before.before.before.before.size.result in
+    let z = c.size-words.ensures ∙ size_is (counts_of r.held r.layout_of) a.stage.first in
+    let n = 16 * c.size-words.result in
     let fits : n ≤ length a.work.now =
-    size_fits (counts_of r.held r.layout_of) c.before.before.before.before.before.before.before.before.before.before.before.before.before.before.before.before.before.before.before.before.before.before.before.before.before.before.before.before.before.before.size.ensures a.stage.k (length a.work.now) (omega (arith, q.within)) q.room in
-    let g = c.before.before.before.before.before.before.before.before.before.before.before.before.before.before.before.before.before.before.before.before.before.before.before.before.before.before.before.begin-table in
+    size_fits (counts_of r.held r.layout_of) c.size-words.ensures a.stage.k (length a.work.now) (omega (arith, q.within)) q.room in
     let long = length-take-le n a.work.now fits in
-    let u = c.before.before.before.before.before.before.before.before.before.before.before.before.before.before.before.before.before.before.before.put-starts in
-    let free = take u.result u.new.1.1.1.0 in
+    let free = take c.put_starts-n.result c.put_starts-n.new.frees in
     let part = latches-part a.plan.now (length a.base.now) t.base-room in
-    let shape : Shape = record { vars = length a.base.now; rows = c.before.before.before.before.before.before.before.before.before.before.before.before.before.before.before.before.before.before.before.before.before.before.before.before.before.before.before.before.before.before.before.rows-of.result } in
+    let shape : Shape = record { vars = length a.base.now; rows = c.rows_of-rows.result } in
     let old = drop n a.work.now in
-    let f = c.before.before.before.before.before.before.before.before.before.before.run-frames in
-    let within = hit-within C a.stage.b P a.plan.now t.fit a.stage.share a.stage.first a.stage.k t.large q.none (length (take n a.work.now)) (long ∙ ap (λ (i : ℕ). 16 * i) z) g.new.0
-    g.new.1.1.1.1.1.0 g.result g.ensures
-    (granted g.result c.before.before.before.before.before.before.before.before.before.before.before.before.before.before.before.before.before.before.before.before.before.before.before.if1.false) shape t.base-room c.before.before.before.before.before.before.before.before.before.before.before.before.before.before.before.before.before.before.before.before.before.before.before.before.before.before.before.before.before.before.before.rows-of.ensures.0 free u.new.1.1.1.1.0 (take n (g.new.0 ++ old))
-    (u.ensures.free ∙ ap (frees_of C) part) (u.ensures.start ∙ ap (base_of C) part) (take_at g.new.0 old n (g.auto.0 ∙ long))
-    f.new.0 f.new.1.0 f.new.1.1.1.1.1.1.0 f.result f.ensures c.before.before.before.t.given.1 in
-    omega (arith, (limited r.held r.layout_of).starts, (limited r.held r.layout_of).latches, product-few a.layout.i c.before.before.before.t.given.0.0 (limited r.held r.layout_of).inputs (omega (arith, within, q.bound)))
+    let within = hit-within C a.stage.b P a.plan.now t.fit a.stage.share a.stage.first a.stage.k t.large q.none (length (take n a.work.now)) (long ∙ ap (λ (i : ℕ). 16 * i) z) c.begin_table.new.w
+    c.begin_table.new.table c.begin_table.result c.begin_table.ensures
+    (granted c.begin_table.result (not_from_true _ c.if-not-begin_table.false)) shape t.base-room c.rows_of-rows.ensures.0 free c.put_starts-n.new.base (take n (c.begin_table.new.w ++ old))
+    (c.put_starts-n.ensures.free ∙ ap (frees_of C) part) (c.put_starts-n.ensures.start ∙ ap (base_of C) part) (take_at c.begin_table.new.w old n (c.begin_table.auto.w ∙ long))
+    c.run_frames.new.w c.run_frames.new.table c.run_frames.new.bits c.run_frames.result c.run_frames.ensures c.in-Hit.is in
+    omega (arith, (limited r.held r.layout_of).starts, (limited r.held r.layout_of).latches, product-few a.layout.i c.in-Hit.t (limited r.held r.layout_of).inputs (omega (arith, within, q.bound)))
 
-array-share-prefix-frees-2 : tie.Need-array-share-prefix-frees-2
-array-share-prefix-frees-2 c = omega (arith, c.before.before.before.before.before.before.before.before.before.before.before.before.before.before.before.before.before.before.before.before.put-starts.ensures.most, c.before.before.before.before.before.before.before.before.before.before.before.before.before.before.before.before.before.before.before.before.put-starts.auto.1.1.1.0)
+array-share-prefix-frees-2 : tie.Need-slice_bounds-frees-end-in-Hit
+array-share-prefix-frees-2 c = omega (arith, c.put_starts-n.ensures.most, c.put_starts-n.auto.frees)
 
-slice-aggregate-put-hit-2 : tie.Need-slice-aggregate-put-hit-2
-slice-aggregate-put-hit-2 c = let u = c.before.before.before.before.before.before.before.before.before.before.before.before.before.before.before.before.before.before.before.before.before.put-starts in sym (length-take-le u.result u.new.1.1.1.0 (omega (arith, u.ensures.most, u.auto.1.1.1.0)))
+slice-aggregate-put-hit-2 : tie.Need-slice_bounds-put_hit-end-in-Hit
+slice-aggregate-put-hit-2 c = sym (length-take-le c.put_starts-n.result c.put_starts-n.new.frees (omega (arith, c.put_starts-n.ensures.most, c.put_starts-n.auto.frees)))
 
-put-hit-requires : tie.Need-put-hit-requires
+put-hit-requires : tie.Need-put_hit-requires
 put-hit-requires c κs =
-    let s = c.before.before.before.before.before.before.before.before.before.before.before.before.before.before.before.before.before.before.before.before.before.before.before.before.before.before.before.before.before.before.before.before.before.before.before.before.before.before.before.before.before.before in
-    let a = s.args in
+    let a = c.args in
     let C = circuit_in a.m.now in
-    let r = s.requires.0.1 in
-    let q = s.requires.1.0 in
-    let t = s.requires.1.1 in
+    let r = c.requires.0.1 in
+    let q = c.requires.1.0 in
+    let t = c.requires.1.1 in
     let P = proper r in
-    let z = c.before.before.before.before.before.before.before.before.before.before.before.before.before.before.before.before.before.before.before.before.before.before.before.before.before.before.before.before.before.before.before.before.before.before.before.size.ensures ∙ size_is (counts_of r.held r.layout_of) a.stage.first in
-    let n = 16 * c.before.before.before.before.before.before.before.before.before.before.before.before.before.before.before.before.before.before.before.before.before.before.before.before.before.before.before.before.before.before.before.before.before.before.before.size.result in
+    let z = c.size-words.ensures ∙ size_is (counts_of r.held r.layout_of) a.stage.first in
+    let n = 16 * c.size-words.result in
     let fits : n ≤ length a.work.now =
-    size_fits (counts_of r.held r.layout_of) c.before.before.before.before.before.before.before.before.before.before.before.before.before.before.before.before.before.before.before.before.before.before.before.before.before.before.before.before.before.before.before.before.before.before.before.size.ensures a.stage.k (length a.work.now) (omega (arith, q.within)) q.room in
-    let g = c.before.before.before.before.before.before.before.before.before.before.before.before.before.before.before.before.before.before.before.before.before.before.before.before.before.before.before.before.before.before.before.before.begin-table in
+    size_fits (counts_of r.held r.layout_of) c.size-words.ensures a.stage.k (length a.work.now) (omega (arith, q.within)) q.room in
     let long = length-take-le n a.work.now fits in
-    let u = c.before.before.before.before.before.before.before.before.before.before.before.before.before.before.before.before.before.before.before.before.before.before.before.before.put-starts in
-    let free = take u.result u.new.1.1.1.0 in
+    let free = take c.put_starts-n.result c.put_starts-n.new.frees in
     let part = latches-part a.plan.now (length a.base.now) t.base-room in
-    let shape : Shape = record { vars = length a.base.now; rows = c.before.before.before.before.before.before.before.before.before.before.before.before.before.before.before.before.before.before.before.before.before.before.before.before.before.before.before.before.before.before.before.before.before.before.before.before.rows-of.result } in
+    let shape : Shape = record { vars = length a.base.now; rows = c.rows_of-rows.result } in
     let old = drop n a.work.now in
-    let f = c.before.before.before.before.before.before.before.before.before.before.before.before.before.before.before.run-frames in
-    let within = hit-within C a.stage.b P a.plan.now t.fit a.stage.share a.stage.first a.stage.k t.large q.none (length (take n a.work.now)) (long ∙ ap (λ (i : ℕ). 16 * i) z) g.new.0
-    g.new.1.1.1.1.1.0 g.result g.ensures
-    (granted g.result c.before.before.before.before.before.before.before.before.before.before.before.before.before.before.before.before.before.before.before.before.before.before.before.before.before.before.before.before.if1.false) shape t.base-room c.before.before.before.before.before.before.before.before.before.before.before.before.before.before.before.before.before.before.before.before.before.before.before.before.before.before.before.before.before.before.before.before.before.before.before.before.rows-of.ensures.0 free u.new.1.1.1.1.0 (take n (g.new.0 ++ old))
-    (u.ensures.free ∙ ap (frees_of C) part) (u.ensures.start ∙ ap (base_of C) part) (take_at g.new.0 old n (g.auto.0 ∙ long))
-    f.new.0 f.new.1.0 f.new.1.1.1.1.1.1.0 f.result f.ensures c.before.before.before.before.before.before.before.before.t.given.1 in
-    let x = c.before.before.before.before.before.before.before.before.t.given.0.0 in
-    let one = g.new.0 ++ old in
-    let late = f.auto.0 ∙ ap length (take_at g.new.0 old n (g.auto.0 ∙ long)) ∙ g.auto.0 ∙ long in
-    let two = front_length n f.new.0 one late (front-room n g.new.0 a.work.now (g.auto.0 ∙ long)) ∙ front_length n g.new.0 a.work.now (g.auto.0 ∙ long) fits in
+    let within = hit-within C a.stage.b P a.plan.now t.fit a.stage.share a.stage.first a.stage.k t.large q.none (length (take n a.work.now)) (long ∙ ap (λ (i : ℕ). 16 * i) z) c.begin_table.new.w
+    c.begin_table.new.table c.begin_table.result c.begin_table.ensures
+    (granted c.begin_table.result (not_from_true _ c.if-not-begin_table.false)) shape t.base-room c.rows_of-rows.ensures.0 free c.put_starts-n.new.base (take n (c.begin_table.new.w ++ old))
+    (c.put_starts-n.ensures.free ∙ ap (frees_of C) part) (c.put_starts-n.ensures.start ∙ ap (base_of C) part) (take_at c.begin_table.new.w old n (c.begin_table.auto.w ∙ long))
+    c.run_frames.new.w c.run_frames.new.table c.run_frames.new.bits c.run_frames.result c.run_frames.ensures c.in-Hit.is in
+    let x = c.in-Hit.t in
+    let one = c.begin_table.new.w ++ old in
+    let late = c.run_frames.auto.w ∙ ap length (take_at c.begin_table.new.w old n (c.begin_table.auto.w ∙ long)) ∙ c.begin_table.auto.w ∙ long in
+    let two = front_length n c.run_frames.new.w one late (front-room n c.begin_table.new.w a.work.now (c.begin_table.auto.w ∙ long)) ∙ front_length n c.begin_table.new.w a.work.now (c.begin_table.auto.w ∙ long) fits in
     record {
-      legible = hit-legible C a.stage.b P a.plan.now t.fit a.stage.share a.stage.first a.stage.k t.large q.none (length (take n a.work.now)) (long ∙ ap (λ (i : ℕ). 16 * i) z) g.new.0
-          g.new.1.1.1.1.1.0 g.result g.ensures
-          (granted g.result c.before.before.before.before.before.before.before.before.before.before.before.before.before.before.before.before.before.before.before.before.before.before.before.before.before.before.before.before.if1.false) shape t.base-room c.before.before.before.before.before.before.before.before.before.before.before.before.before.before.before.before.before.before.before.before.before.before.before.before.before.before.before.before.before.before.before.before.before.before.before.before.rows-of.ensures.0 free u.new.1.1.1.1.0 (take n (g.new.0 ++ old))
-          (u.ensures.free ∙ ap (frees_of C) part) (u.ensures.start ∙ ap (base_of C) part) (take_at g.new.0 old n (g.auto.0 ∙ long))
-          f.new.0 f.new.1.0 f.new.1.1.1.1.1.1.0 f.result f.ensures c.before.before.before.before.before.before.before.before.t.given.1 (take n (f.new.0 ++ drop n one)) (take_at f.new.0 (drop n one) n late);
-      fits = shape-fits C a.stage.b P a.plan.now t.fit shape (length f.new.1.0) t.base-room c.before.before.before.before.before.before.before.before.before.before.before.before.before.before.before.before.before.before.before.before.before.before.before.before.before.before.before.before.before.before.before.before.before.before.before.before.rows-of.ensures.0 (f.auto.1.0 ∙ g.auto.1.1.1.1.1.0);
+      legible = hit-legible C a.stage.b P a.plan.now t.fit a.stage.share a.stage.first a.stage.k t.large q.none (length (take n a.work.now)) (long ∙ ap (λ (i : ℕ). 16 * i) z) c.begin_table.new.w
+          c.begin_table.new.table c.begin_table.result c.begin_table.ensures
+          (granted c.begin_table.result (not_from_true _ c.if-not-begin_table.false)) shape t.base-room c.rows_of-rows.ensures.0 free c.put_starts-n.new.base (take n (c.begin_table.new.w ++ old))
+          (c.put_starts-n.ensures.free ∙ ap (frees_of C) part) (c.put_starts-n.ensures.start ∙ ap (base_of C) part) (take_at c.begin_table.new.w old n (c.begin_table.auto.w ∙ long))
+          c.run_frames.new.w c.run_frames.new.table c.run_frames.new.bits c.run_frames.result c.run_frames.ensures c.in-Hit.is (take n (c.run_frames.new.w ++ drop n one)) (take_at c.run_frames.new.w (drop n one) n late);
+      fits = shape-fits C a.stage.b P a.plan.now t.fit shape (length c.run_frames.new.table) t.base-room c.rows_of-rows.ensures.0 (c.run_frames.auto.table ∙ c.begin_table.auto.table);
       few = omega (arith, t.base-room, vars-few C a.stage.b P a.plan.now t.fit);
       whole = t.fit.whole;
       inputs = inputs-few C a.stage.b P a.plan.now t.fit;
-      base-room = omega (arith, u.auto.1.1.1.1.0, f.auto.1.1.1.1.1.1.0, t.bits-room, t.base-room);
-      bits-room = omega (arith, u.auto.1.1.1.1.0, f.auto.1.1.1.1.1.1.0, t.bits-room, t.base-room);
+      base-room = omega (arith, c.put_starts-n.auto.base, c.run_frames.auto.bits, t.bits-room, t.base-room);
+      bits-room = omega (arith, c.put_starts-n.auto.base, c.run_frames.auto.bits, t.bits-room, t.base-room);
       frame = omega (arith, within, q.bound);
       words = omega (arith, two, fits);
       width = omega (arith, (limited r.held r.layout_of).inputs);
-      some = λ l. width_some a.layout.u a.layout.i x (omega (arith, l, ap length (u.ensures.free ∙ ap (frees_of C) part), frees-count C a.stage.b P.right P.no-cycle a.plan.now t.fit, (counts_of r.held r.layout_of).starts));
+      some = λ l. width_some a.layout.u a.layout.i x (omega (arith, l, ap length (c.put_starts-n.ensures.free ∙ ap (frees_of C) part), frees-count C a.stage.b P.right P.no-cycle a.plan.now t.fit, (counts_of r.held r.layout_of).starts));
       room = omega (arith, two, bits-by (counts_of r.held r.layout_of) x, bits-within C x a.stage.k within, q.room);
     }
 
-same-length-2 : tie.Need-same-length-2
-same-length-2 c = c.before.before.before.before.put-hit.auto.1.1.1.1.1.0 ∙ c.before.before.before.before.before.before.before.before.before.before.before.before.before.before.before.before.before.before.before.before.before.before.before.before.before.before.before.before.before.put-starts.auto.1.1.1.1.0
+same-length-2 : tie.Need-shape_of-base-in-Hit
+same-length-2 c = c.put_hit.auto.base ∙ c.put_starts-n.auto.base
 
-same-length-4 : tie.Need-same-length-4
+same-length-4 : tie.Need-shape_of-work-in-Hit
 same-length-4 c =
-    let s = c.before.before.before.before.before.before.before.before.before.before.before.before.before.before.before.before.before.before.before.before.before.before.before.before.before.before.before.before.before.before.before.before.before.before.before.before.before.before.before.before.before.before.before.before.before.before.before in
-    let a = s.args in
+    let a = c.args in
     let C = circuit_in a.m.now in
-    let r = s.requires.0.1 in
-    let q = s.requires.1.0 in
-    let t = s.requires.1.1 in
+    let r = c.requires.0.1 in
+    let q = c.requires.1.0 in
+    let t = c.requires.1.1 in
     let P = proper r in
-    let n = 16 * c.before.before.before.before.before.before.before.before.before.before.before.before.before.before.before.before.before.before.before.before.before.before.before.before.before.before.before.before.before.before.before.before.before.before.before.before.before.before.before.before.size.result in
+    let n = 16 * c.size-words.result in
     let fits : n ≤ length a.work.now =
-    size_fits (counts_of r.held r.layout_of) c.before.before.before.before.before.before.before.before.before.before.before.before.before.before.before.before.before.before.before.before.before.before.before.before.before.before.before.before.before.before.before.before.before.before.before.before.before.before.before.before.size.ensures a.stage.k (length a.work.now) (omega (arith, q.within)) q.room in
-    let g = c.before.before.before.before.before.before.before.before.before.before.before.before.before.before.before.before.before.before.before.before.before.before.before.before.before.before.before.before.before.before.before.before.before.before.before.before.before.begin-table in
+    size_fits (counts_of r.held r.layout_of) c.size-words.ensures a.stage.k (length a.work.now) (omega (arith, q.within)) q.room in
     let long = length-take-le n a.work.now fits in
-    let f = c.before.before.before.before.before.before.before.before.before.before.before.before.before.before.before.before.before.before.before.before.run-frames in
     let old = drop n a.work.now in
-    let late = f.auto.0 ∙ ap length (take_at g.new.0 old n (g.auto.0 ∙ long)) ∙ g.auto.0 ∙ long in
-    c.before.before.before.before.put-hit.auto.1.1.1.1.1.1.0
-    ∙ front_length n f.new.0 (g.new.0 ++ old) late (front-room n g.new.0 a.work.now (g.auto.0 ∙ long))
-    ∙ front_length n g.new.0 a.work.now (g.auto.0 ∙ long) fits
+    let late = c.run_frames.auto.w ∙ ap length (take_at c.begin_table.new.w old n (c.begin_table.auto.w ∙ long)) ∙ c.begin_table.auto.w ∙ long in
+    c.put_hit.auto.work
+    ∙ front_length n c.run_frames.new.w (c.begin_table.new.w ++ old) late (front-room n c.begin_table.new.w a.work.now (c.begin_table.auto.w ∙ long))
+    ∙ front_length n c.begin_table.new.w a.work.now (c.begin_table.auto.w ∙ long) fits
 
-returns-2 : tie.Need-returns-2
+returns-2 : tie.Need-returns-in-Hit
 returns-2 c =
-    let s = c.before.before.before.before.before.before.before.before.before.before.before.before.before.before.before.before.before.before.before.before.before.before.before.before.before.before.before.before.before.before.before.before.before.before.before.before.before.before.before.before.before.before.before.before.before.before.before in
-    let a = s.args in
+    let a = c.args in
     let C = circuit_in a.m.now in
-    let r = s.requires.0.1 in
-    let q = s.requires.1.0 in
-    let t = s.requires.1.1 in
+    let r = c.requires.0.1 in
+    let q = c.requires.1.0 in
+    let t = c.requires.1.1 in
     let P = proper r in
-    let z = c.before.before.before.before.before.before.before.before.before.before.before.before.before.before.before.before.before.before.before.before.before.before.before.before.before.before.before.before.before.before.before.before.before.before.before.before.before.before.before.before.size.ensures ∙ size_is (counts_of r.held r.layout_of) a.stage.first in
-    let n = 16 * c.before.before.before.before.before.before.before.before.before.before.before.before.before.before.before.before.before.before.before.before.before.before.before.before.before.before.before.before.before.before.before.before.before.before.before.before.before.before.before.before.size.result in
+    let z = c.size-words.ensures ∙ size_is (counts_of r.held r.layout_of) a.stage.first in
+    let n = 16 * c.size-words.result in
     let fits : n ≤ length a.work.now =
-    size_fits (counts_of r.held r.layout_of) c.before.before.before.before.before.before.before.before.before.before.before.before.before.before.before.before.before.before.before.before.before.before.before.before.before.before.before.before.before.before.before.before.before.before.before.before.before.before.before.before.size.ensures a.stage.k (length a.work.now) (omega (arith, q.within)) q.room in
-    let g = c.before.before.before.before.before.before.before.before.before.before.before.before.before.before.before.before.before.before.before.before.before.before.before.before.before.before.before.before.before.before.before.before.before.before.before.before.before.begin-table in
+    size_fits (counts_of r.held r.layout_of) c.size-words.ensures a.stage.k (length a.work.now) (omega (arith, q.within)) q.room in
     let long = length-take-le n a.work.now fits in
-    let u = c.before.before.before.before.before.before.before.before.before.before.before.before.before.before.before.before.before.before.before.before.before.before.before.before.before.before.before.before.before.put-starts in
-    let free = take u.result u.new.1.1.1.0 in
+    let free = take c.put_starts-n.result c.put_starts-n.new.frees in
     let part = latches-part a.plan.now (length a.base.now) t.base-room in
-    let shape : Shape = record { vars = length a.base.now; rows = c.before.before.before.before.before.before.before.before.before.before.before.before.before.before.before.before.before.before.before.before.before.before.before.before.before.before.before.before.before.before.before.before.before.before.before.before.before.before.before.before.before.rows-of.result } in
+    let shape : Shape = record { vars = length a.base.now; rows = c.rows_of-rows.result } in
     let old = drop n a.work.now in
-    let f = c.before.before.before.before.before.before.before.before.before.before.before.before.before.before.before.before.before.before.before.before.run-frames in
-    let x = c.before.before.before.before.before.before.before.before.before.before.before.before.before.t.given.0.0 in
-    let one = g.new.0 ++ old in
-    let late = f.auto.0 ∙ ap length (take_at g.new.0 old n (g.auto.0 ∙ long)) ∙ g.auto.0 ∙ long in
+    let x = c.in-Hit.t in
+    let one = c.begin_table.new.w ++ old in
+    let late = c.run_frames.auto.w ∙ ap length (take_at c.begin_table.new.w old n (c.begin_table.auto.w ∙ long)) ∙ c.begin_table.auto.w ∙ long in
     let e = counts_of r.held r.layout_of in
     let place : Place = record { s = shape; t = x; words = n; width = a.layout.i; count = a.layout.u + a.layout.i * (x + 1) } in
-    hit-put-so C a.stage.b P a.plan.now t.fit a.stage.share a.stage.first a.stage.k t.large q.none (length (take n a.work.now)) (long ∙ ap (λ (i : ℕ). 16 * i) z) g.new.0
-    g.new.1.1.1.1.1.0 g.result g.ensures
-    (granted g.result c.before.before.before.before.before.before.before.before.before.before.before.before.before.before.before.before.before.before.before.before.before.before.before.before.before.before.before.before.before.before.before.before.before.if1.false) shape t.base-room c.before.before.before.before.before.before.before.before.before.before.before.before.before.before.before.before.before.before.before.before.before.before.before.before.before.before.before.before.before.before.before.before.before.before.before.before.before.before.before.before.before.rows-of.ensures.0 free u.new.1.1.1.1.0 (take n (g.new.0 ++ old))
-    (u.ensures.free ∙ ap (frees_of C) part) (u.ensures.start ∙ ap (base_of C) part) (take_at g.new.0 old n (g.auto.0 ∙ long))
-    f.new.0 f.new.1.0 f.new.1.1.1.1.1.1.0 f.result f.ensures c.before.before.before.before.before.before.before.before.before.before.before.before.before.t.given.1 place (f.new.0 ++ drop n one) c.before.before.before.before.put-hit.new.1.1.1.1.1.1.0 refl refl e.inputs (bits-by e x)
-    (take_at f.new.0 (drop n one) n late) c.before.before.before.before.put-hit.ensures
+    hit-put-so C a.stage.b P a.plan.now t.fit a.stage.share a.stage.first a.stage.k t.large q.none (length (take n a.work.now)) (long ∙ ap (λ (i : ℕ). 16 * i) z) c.begin_table.new.w
+    c.begin_table.new.table c.begin_table.result c.begin_table.ensures
+    (granted c.begin_table.result (not_from_true _ c.if-not-begin_table.false)) shape t.base-room c.rows_of-rows.ensures.0 free c.put_starts-n.new.base (take n (c.begin_table.new.w ++ old))
+    (c.put_starts-n.ensures.free ∙ ap (frees_of C) part) (c.put_starts-n.ensures.start ∙ ap (base_of C) part) (take_at c.begin_table.new.w old n (c.begin_table.auto.w ∙ long))
+    c.run_frames.new.w c.run_frames.new.table c.run_frames.new.bits c.run_frames.result c.run_frames.ensures c.in-Hit.is place (c.run_frames.new.w ++ drop n one) c.put_hit.new.work refl refl e.inputs (bits-by e x)
+    (take_at c.run_frames.new.w (drop n one) n late) c.put_hit.ensures
 
-returns-3 : tie.Need-returns-3
+returns-3 : tie.Need-returns-in-Never
 returns-3 c =
-    let s = c.before.before.before.before.before.before.before.before.before.before.before.before.before.before.before.before.before.before.before.before.before.before.before.before.before.before.before.before.before.before.before.before.before.before.before in
-    let a = s.args in
+    let a = c.args in
     let C = circuit_in a.m.now in
-    let r = s.requires.0.1 in
-    let q = s.requires.1.0 in
-    let t = s.requires.1.1 in
+    let r = c.requires.0.1 in
+    let q = c.requires.1.0 in
+    let t = c.requires.1.1 in
     let P = proper r in
-    let z = c.before.before.before.before.before.before.before.before.before.before.before.before.before.before.before.before.before.before.before.before.before.before.before.before.before.before.before.before.size.ensures ∙ size_is (counts_of r.held r.layout_of) a.stage.first in
-    let n = 16 * c.before.before.before.before.before.before.before.before.before.before.before.before.before.before.before.before.before.before.before.before.before.before.before.before.before.before.before.before.size.result in
+    let z = c.size-words.ensures ∙ size_is (counts_of r.held r.layout_of) a.stage.first in
+    let n = 16 * c.size-words.result in
     let fits : n ≤ length a.work.now =
-    size_fits (counts_of r.held r.layout_of) c.before.before.before.before.before.before.before.before.before.before.before.before.before.before.before.before.before.before.before.before.before.before.before.before.before.before.before.before.size.ensures a.stage.k (length a.work.now) (omega (arith, q.within)) q.room in
-    let g = c.before.before.before.before.before.before.before.before.before.before.before.before.before.before.before.before.before.before.before.before.before.before.before.before.before.begin-table in
+    size_fits (counts_of r.held r.layout_of) c.size-words.ensures a.stage.k (length a.work.now) (omega (arith, q.within)) q.room in
     let long = length-take-le n a.work.now fits in
-    let u = c.before.before.before.before.before.before.before.before.before.before.before.before.before.before.before.before.before.put-starts in
-    let free = take u.result u.new.1.1.1.0 in
+    let free = take c.put_starts-n.result c.put_starts-n.new.frees in
     let part = latches-part a.plan.now (length a.base.now) t.base-room in
-    let shape : Shape = record { vars = length a.base.now; rows = c.before.before.before.before.before.before.before.before.before.before.before.before.before.before.before.before.before.before.before.before.before.before.before.before.before.before.before.before.before.rows-of.result } in
+    let shape : Shape = record { vars = length a.base.now; rows = c.rows_of-rows.result } in
     let old = drop n a.work.now in
-    let f = c.before.before.before.before.before.before.before.before.run-frames in
-    ends_as C a.stage.b P a.plan.now t.fit a.stage.share a.stage.first a.stage.k t.large q.none (length (take n a.work.now)) (long ∙ ap (λ (i : ℕ). 16 * i) z) g.new.0
-    g.new.1.1.1.1.1.0 g.result g.ensures
-    (granted g.result c.before.before.before.before.before.before.before.before.before.before.before.before.before.before.before.before.before.before.before.before.before.if1.false) shape t.base-room c.before.before.before.before.before.before.before.before.before.before.before.before.before.before.before.before.before.before.before.before.before.before.before.before.before.before.before.before.before.rows-of.ensures.0 free u.new.1.1.1.1.0 (take n (g.new.0 ++ old))
-    (u.ensures.free ∙ ap (frees_of C) part) (u.ensures.start ∙ ap (base_of C) part) (take_at g.new.0 old n (g.auto.0 ∙ long))
-    f.new.0 f.new.1.0 f.new.1.1.1.1.1.1.0 f.result f.ensures c.before.t2.given.1
+    ends_as C a.stage.b P a.plan.now t.fit a.stage.share a.stage.first a.stage.k t.large q.none (length (take n a.work.now)) (long ∙ ap (λ (i : ℕ). 16 * i) z) c.begin_table.new.w
+    c.begin_table.new.table c.begin_table.result c.begin_table.ensures
+    (granted c.begin_table.result (not_from_true _ c.if-not-begin_table.false)) shape t.base-room c.rows_of-rows.ensures.0 free c.put_starts-n.new.base (take n (c.begin_table.new.w ++ old))
+    (c.put_starts-n.ensures.free ∙ ap (frees_of C) part) (c.put_starts-n.ensures.start ∙ ap (base_of C) part) (take_at c.begin_table.new.w old n (c.begin_table.auto.w ∙ long))
+    c.run_frames.new.w c.run_frames.new.table c.run_frames.new.bits c.run_frames.result c.run_frames.ensures c.in-Never.is
 
-returns-4 : tie.Need-returns-4
+returns-4 : tie.Need-returns-in-Clear
 returns-4 c =
-    let s = c.before.before.before.before.before.before.before.before.before.before.before.before.before.before.before.before.before.before.before.before.before.before.before.before.before.before.before.before.before.before.before.before.before.before in
-    let a = s.args in
+    let a = c.args in
     let C = circuit_in a.m.now in
-    let r = s.requires.0.1 in
-    let q = s.requires.1.0 in
-    let t = s.requires.1.1 in
+    let r = c.requires.0.1 in
+    let q = c.requires.1.0 in
+    let t = c.requires.1.1 in
     let P = proper r in
-    let z = c.before.before.before.before.before.before.before.before.before.before.before.before.before.before.before.before.before.before.before.before.before.before.before.before.before.before.before.size.ensures ∙ size_is (counts_of r.held r.layout_of) a.stage.first in
-    let n = 16 * c.before.before.before.before.before.before.before.before.before.before.before.before.before.before.before.before.before.before.before.before.before.before.before.before.before.before.before.size.result in
+    let z = c.size-words.ensures ∙ size_is (counts_of r.held r.layout_of) a.stage.first in
+    let n = 16 * c.size-words.result in
     let fits : n ≤ length a.work.now =
-    size_fits (counts_of r.held r.layout_of) c.before.before.before.before.before.before.before.before.before.before.before.before.before.before.before.before.before.before.before.before.before.before.before.before.before.before.before.size.ensures a.stage.k (length a.work.now) (omega (arith, q.within)) q.room in
-    let g = c.before.before.before.before.before.before.before.before.before.before.before.before.before.before.before.before.before.before.before.before.before.before.before.before.begin-table in
+    size_fits (counts_of r.held r.layout_of) c.size-words.ensures a.stage.k (length a.work.now) (omega (arith, q.within)) q.room in
     let long = length-take-le n a.work.now fits in
-    let u = c.before.before.before.before.before.before.before.before.before.before.before.before.before.before.before.before.put-starts in
-    let free = take u.result u.new.1.1.1.0 in
+    let free = take c.put_starts-n.result c.put_starts-n.new.frees in
     let part = latches-part a.plan.now (length a.base.now) t.base-room in
-    let shape : Shape = record { vars = length a.base.now; rows = c.before.before.before.before.before.before.before.before.before.before.before.before.before.before.before.before.before.before.before.before.before.before.before.before.before.before.before.before.rows-of.result } in
+    let shape : Shape = record { vars = length a.base.now; rows = c.rows_of-rows.result } in
     let old = drop n a.work.now in
-    let f = c.before.before.before.before.before.before.before.run-frames in
-    ends_as C a.stage.b P a.plan.now t.fit a.stage.share a.stage.first a.stage.k t.large q.none (length (take n a.work.now)) (long ∙ ap (λ (i : ℕ). 16 * i) z) g.new.0
-    g.new.1.1.1.1.1.0 g.result g.ensures
-    (granted g.result c.before.before.before.before.before.before.before.before.before.before.before.before.before.before.before.before.before.before.before.before.if1.false) shape t.base-room c.before.before.before.before.before.before.before.before.before.before.before.before.before.before.before.before.before.before.before.before.before.before.before.before.before.before.before.before.rows-of.ensures.0 free u.new.1.1.1.1.0 (take n (g.new.0 ++ old))
-    (u.ensures.free ∙ ap (frees_of C) part) (u.ensures.start ∙ ap (base_of C) part) (take_at g.new.0 old n (g.auto.0 ∙ long))
-    f.new.0 f.new.1.0 f.new.1.1.1.1.1.1.0 f.result f.ensures c.enum_told.given.1
+    ends_as C a.stage.b P a.plan.now t.fit a.stage.share a.stage.first a.stage.k t.large q.none (length (take n a.work.now)) (long ∙ ap (λ (i : ℕ). 16 * i) z) c.begin_table.new.w
+    c.begin_table.new.table c.begin_table.result c.begin_table.ensures
+    (granted c.begin_table.result (not_from_true _ c.if-not-begin_table.false)) shape t.base-room c.rows_of-rows.ensures.0 free c.put_starts-n.new.base (take n (c.begin_table.new.w ++ old))
+    (c.put_starts-n.ensures.free ∙ ap (frees_of C) part) (c.put_starts-n.ensures.start ∙ ap (base_of C) part) (take_at c.begin_table.new.w old n (c.begin_table.auto.w ∙ long))
+    c.run_frames.new.w c.run_frames.new.table c.run_frames.new.bits c.run_frames.result c.run_frames.ensures c.in-Clear.is
 
-returns-5 : tie.Need-returns-5
+returns-5 : tie.Need-returns-in-GaveUp
 returns-5 c =
-    let s = c.before.before.before.before.before.before.before.before.before.before.before.before.before.before.before.before.before.before.before.before.before.before.before.before.before.before.before.before.before.before.before.before.before.before.before in
-    let a = s.args in
+    let a = c.args in
     let C = circuit_in a.m.now in
-    let r = s.requires.0.1 in
-    let q = s.requires.1.0 in
-    let t = s.requires.1.1 in
+    let r = c.requires.0.1 in
+    let q = c.requires.1.0 in
+    let t = c.requires.1.1 in
     let P = proper r in
-    let z = c.before.before.before.before.before.before.before.before.before.before.before.before.before.before.before.before.before.before.before.before.before.before.before.before.before.before.before.before.size.ensures ∙ size_is (counts_of r.held r.layout_of) a.stage.first in
-    let n = 16 * c.before.before.before.before.before.before.before.before.before.before.before.before.before.before.before.before.before.before.before.before.before.before.before.before.before.before.before.before.size.result in
+    let z = c.size-words.ensures ∙ size_is (counts_of r.held r.layout_of) a.stage.first in
+    let n = 16 * c.size-words.result in
     let fits : n ≤ length a.work.now =
-    size_fits (counts_of r.held r.layout_of) c.before.before.before.before.before.before.before.before.before.before.before.before.before.before.before.before.before.before.before.before.before.before.before.before.before.before.before.before.size.ensures a.stage.k (length a.work.now) (omega (arith, q.within)) q.room in
-    let g = c.before.before.before.before.before.before.before.before.before.before.before.before.before.before.before.before.before.before.before.before.before.before.before.before.before.begin-table in
+    size_fits (counts_of r.held r.layout_of) c.size-words.ensures a.stage.k (length a.work.now) (omega (arith, q.within)) q.room in
     let long = length-take-le n a.work.now fits in
-    let u = c.before.before.before.before.before.before.before.before.before.before.before.before.before.before.before.before.before.put-starts in
-    let free = take u.result u.new.1.1.1.0 in
+    let free = take c.put_starts-n.result c.put_starts-n.new.frees in
     let part = latches-part a.plan.now (length a.base.now) t.base-room in
-    let shape : Shape = record { vars = length a.base.now; rows = c.before.before.before.before.before.before.before.before.before.before.before.before.before.before.before.before.before.before.before.before.before.before.before.before.before.before.before.before.before.rows-of.result } in
+    let shape : Shape = record { vars = length a.base.now; rows = c.rows_of-rows.result } in
     let old = drop n a.work.now in
-    let f = c.before.before.before.before.before.before.before.before.run-frames in
-    ends_as C a.stage.b P a.plan.now t.fit a.stage.share a.stage.first a.stage.k t.large q.none (length (take n a.work.now)) (long ∙ ap (λ (i : ℕ). 16 * i) z) g.new.0
-    g.new.1.1.1.1.1.0 g.result g.ensures
-    (granted g.result c.before.before.before.before.before.before.before.before.before.before.before.before.before.before.before.before.before.before.before.before.before.if1.false) shape t.base-room c.before.before.before.before.before.before.before.before.before.before.before.before.before.before.before.before.before.before.before.before.before.before.before.before.before.before.before.before.before.rows-of.ensures.0 free u.new.1.1.1.1.0 (take n (g.new.0 ++ old))
-    (u.ensures.free ∙ ap (frees_of C) part) (u.ensures.start ∙ ap (base_of C) part) (take_at g.new.0 old n (g.auto.0 ∙ long))
-    f.new.0 f.new.1.0 f.new.1.1.1.1.1.1.0 f.result f.ensures c.before.t3.given.1
+    ends_as C a.stage.b P a.plan.now t.fit a.stage.share a.stage.first a.stage.k t.large q.none (length (take n a.work.now)) (long ∙ ap (λ (i : ℕ). 16 * i) z) c.begin_table.new.w
+    c.begin_table.new.table c.begin_table.result c.begin_table.ensures
+    (granted c.begin_table.result (not_from_true _ c.if-not-begin_table.false)) shape t.base-room c.rows_of-rows.ensures.0 free c.put_starts-n.new.base (take n (c.begin_table.new.w ++ old))
+    (c.put_starts-n.ensures.free ∙ ap (frees_of C) part) (c.put_starts-n.ensures.start ∙ ap (base_of C) part) (take_at c.begin_table.new.w old n (c.begin_table.auto.w ∙ long))
+    c.run_frames.new.w c.run_frames.new.table c.run_frames.new.bits c.run_frames.result c.run_frames.ensures c.in-GaveUp.is
 
-pub try-plan-spec : {M : Type 1} → statement M
-try-plan-spec =
+pub try_plan_spec : {M : Type 1} → statement M
+try_plan_spec =
     tie.close
-    (tie.spec
-    (λ c. search rules) rows-of-requires size-requires mul_words slice-relend-prefix-begin-table slice-aggregate-begin-table
-    (λ c. search rules) begin-table-requires (λ c. search rules) returns (λ c. search rules) (λ c. search rules)
-    (λ c. search rules) (λ c. search rules) put-starts-requires slice-relend-prefix-run-frames slice-aggregate-run-frames
-    (λ c. search rules) array-share-prefix-frees slice-aggregate-run-frames-3 run-frames-requires (λ c. search rules) add-count
-    mul-count add-count-2 (λ c. search rules) array-share-prefix-frees-2 slice-aggregate-put-hit-2 put-hit-requires
-    (λ c. search rules) (λ c. search rules) (λ c. search rules) same-length-2 (λ c. search rules) same-length-4 returns-2
-    (λ c. search rules) (λ c. search rules) (λ c. search rules) returns-3 (λ c. search rules) (λ c. search rules)
-    (λ c. search rules) returns-4 (λ c. search rules) (λ c. search rules) (λ c. search rules) returns-5)
+    (tie.spec (λ c. search rules) rows-of-requires size-requires mul_words slice-relend-prefix-begin-table slice-aggregate-begin-table (λ c. search rules) begin-table-requires (λ c. search rules) returns (λ c. search rules) (λ c. search rules) (λ c. search rules) (λ c. search rules) put-starts-requires slice-relend-prefix-run-frames slice-aggregate-run-frames (λ c. search rules) array-share-prefix-frees slice-aggregate-run-frames-3 run-frames-requires (λ c. search rules) add-count mul-count add-count-2 (λ c. search rules) array-share-prefix-frees-2 slice-aggregate-put-hit-2 put-hit-requires (λ c. search rules) (λ c. search rules) (λ c. search rules) same-length-2 (λ c. search rules) same-length-4 returns-2 (λ c. search rules) (λ c. search rules) (λ c. search rules) returns-3 (λ c. search rules) (λ c. search rules) (λ c. search rules) returns-4 (λ c. search rules) (λ c. search rules) (λ c. search rules) returns-5)

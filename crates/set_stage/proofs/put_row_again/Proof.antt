@@ -14,62 +14,54 @@ use Rattle.set_stage.specs.Table.{row_put}
 use Rattle.set_stage.proofs.put_row_again.Statement.{statement}
 use Rattle.set_stage.proofs.put_row_again.Tie as tie
 
-put-row-requires : tie.Need-put-row-requires
-put-row-requires c κs = c.before.before.before.before.before.before.requires
+put-row-requires : tie.Need-put_row-requires
+put-row-requires c κs = c.requires
 
-same_length : tie.Need-same-length
-same_length c = c.before.before.before.before.before.put-row.auto.0
+same_length : tie.Need-shape_of-w-then-put_row
+same_length c = c.put_row.auto.w
 
-same-length-2 : tie.Need-same-length-2
-same-length-2 c = c.before.before.before.before.before.put-row.auto.1.1.1.1.1.1.0
+same-length-2 : tie.Need-shape_of-table-then-put_row
+same-length-2 c = c.put_row.auto.table
 
-returns : tie.Need-returns
+returns : tie.Need-returns-then-put_row
 returns c =
-    let a = c.before.before.before.before.before.before.before.before.before.before.before.before.args in
-    let m = c.before.before.before.before.before.put-row in
-    again-done (row_put (circuit_in a.m.now) a.b a.plan.now a.r) (sets_of a.w.now a.table.now) (sets_of m.new.0 m.new.1.1.1.1.1.1.0)
-    (ap (left m.new.0 m.new.1.1.1.1.1.1.0) (sym c.if1.true) ∙ m.ensures)
+    let a = c.args in
+    again-done (row_put (circuit_in a.m.now) a.b a.plan.now a.r) (sets_of a.w.now a.table.now) (sets_of c.put_row.new.w c.put_row.new.table)
+    (ap (left c.put_row.new.w c.put_row.new.table) (sym c.if-put_row.true) ∙ c.put_row.ensures)
 
-put-row-requires-2 : tie.Need-put-row-requires-2
+put-row-requires-2 : tie.Need-put_row-requires-in-Kept
 put-row-requires-2 c κs =
-    let a = c.before.before.before.before.before.before.before.before.before.before.before.before.before.before.before.before.before.before.before.before.before.before.before in
-    let e : length c.before.before.before.before.before.before.before.before.collect.new.1.0 ≡ length a.args.table.now = c.before.before.before.before.before.before.before.before.collect.auto.1.0 ∙ c.before.before.before.before.before.before.before.before.before.before.before.before.before.before.before.before.put-row.auto.1.1.1.1.1.1.0 in
-    (a.requires.0, rw e a.requires.1)
+    let e : length c.collect.new.roots ≡ length c.args.table.now = c.collect.auto.roots ∙ c.put_row.auto.table in
+    (c.requires.0, rw e c.requires.1)
 
-same-length-3 : tie.Need-same-length-3
-same-length-3 c = c.before.before.before.before.before.before.collect.auto.0 ∙ c.before.before.before.before.before.before.before.before.before.before.before.before.before.before.put-row.auto.0
+same-length-3 : tie.Need-shape_of-w-in-Full
+same-length-3 c = c.collect.auto.w ∙ c.put_row.auto.w
 
-same-length-4 : tie.Need-same-length-4
-same-length-4 c = c.before.before.before.before.before.before.collect.auto.1.0 ∙ c.before.before.before.before.before.before.before.before.before.before.before.before.before.before.put-row.auto.1.1.1.1.1.1.0
+same-length-4 : tie.Need-shape_of-table-in-Full
+same-length-4 c = c.collect.auto.roots ∙ c.put_row.auto.table
 
-returns-2 : tie.Need-returns-2
+returns-2 : tie.Need-returns-in-Full
 returns-2 c =
-    let a = c.before.before.before.before.before.before.before.before.before.before.before.before.before.before.before.before.before.before.before.before.before.args in
-    let m = c.before.before.before.before.before.before.before.before.before.before.before.before.before.before.put-row in
-    let q = c.before.before.before.before.before.before.collect in
-    again-out (row_put (circuit_in a.m.now) a.b a.plan.now a.r) (sets_of a.w.now a.table.now) (sets_of m.new.0 m.new.1.1.1.1.1.1.0)
-    (state_of q.new.0) q.new.1.0 (ap (left m.new.0 m.new.1.1.1.1.1.1.0) (sym c.before.before.before.before.before.before.before.before.before.if1.false) ∙ m.ensures)
-    (ap (λ (r : Collected). C.collection (state_of q.new.0) q.new.1.0 (C.is_kept r)) (sym c.enum_told.given.1) ∙ q.ensures)
+    let a = c.args in
+    again-out (row_put (circuit_in a.m.now) a.b a.plan.now a.r) (sets_of a.w.now a.table.now) (sets_of c.put_row.new.w c.put_row.new.table)
+    (state_of c.collect.new.w) c.collect.new.roots (ap (left c.put_row.new.w c.put_row.new.table) (sym c.if-put_row.false) ∙ c.put_row.ensures)
+    (ap (λ (r : Collected). C.collection (state_of c.collect.new.w) c.collect.new.roots (C.is_kept r)) (sym c.in-Full.is) ∙ c.collect.ensures)
 
-same-length-5 : tie.Need-same-length-5
-same-length-5 c = c.before.before.before.before.put-row2.auto.0 ∙ c.before.before.before.before.before.before.before.before.before.before.before.before.before.collect.auto.0 ∙ c.before.before.before.before.before.before.before.before.before.before.before.before.before.before.before.before.before.before.before.before.before.put-row.auto.0
+same-length-5 : tie.Need-shape_of-w-in-Kept
+same-length-5 c = c.put_row-in-Kept.auto.w ∙ c.collect.auto.w ∙ c.put_row.auto.w
 
-same-length-6 : tie.Need-same-length-6
-same-length-6 c = c.before.before.before.before.put-row2.auto.1.1.1.1.1.1.0 ∙ c.before.before.before.before.before.before.before.before.before.before.before.before.before.collect.auto.1.0 ∙ c.before.before.before.before.before.before.before.before.before.before.before.before.before.before.before.before.before.before.before.before.before.put-row.auto.1.1.1.1.1.1.0
+same-length-6 : tie.Need-shape_of-table-in-Kept
+same-length-6 c = c.put_row-in-Kept.auto.table ∙ c.collect.auto.roots ∙ c.put_row.auto.table
 
-returns-3 : tie.Need-returns-3
+returns-3 : tie.Need-returns-in-Kept
 returns-3 c =
-    let a = c.before.before.before.before.before.before.before.before.before.before.before.before.before.before.before.before.before.before.before.before.before.before.before.before.before.before.before.before.args in
-    let m = c.before.before.before.before.before.before.before.before.before.before.before.before.before.before.before.before.before.before.before.before.before.put-row in
-    let q = c.before.before.before.before.before.before.before.before.before.before.before.before.before.collect in
-    again-more (row_put (circuit_in a.m.now) a.b a.plan.now a.r) (sets_of a.w.now a.table.now) (sets_of m.new.0 m.new.1.1.1.1.1.1.0)
-    (state_of q.new.0) q.new.1.0 _ (ap (left m.new.0 m.new.1.1.1.1.1.1.0) (sym c.before.before.before.before.before.before.before.before.before.before.before.before.before.before.before.before.if1.false) ∙ m.ensures)
-    (ap (λ (r : Collected). C.collection (state_of q.new.0) q.new.1.0 (C.is_kept r)) (sym c.before.before.before.before.before.before.before.enum-told2.given.1) ∙ q.ensures)
-    c.before.before.before.before.put-row2.ensures
+    let a = c.args in
+    again-more (row_put (circuit_in a.m.now) a.b a.plan.now a.r) (sets_of a.w.now a.table.now) (sets_of c.put_row.new.w c.put_row.new.table)
+    (state_of c.collect.new.w) c.collect.new.roots _ (ap (left c.put_row.new.w c.put_row.new.table) (sym c.if-put_row.false) ∙ c.put_row.ensures)
+    (ap (λ (r : Collected). C.collection (state_of c.collect.new.w) c.collect.new.roots (C.is_kept r)) (sym c.in-Kept.is) ∙ c.collect.ensures)
+    c.put_row-in-Kept.ensures
 
-pub put-row-again-spec : {M : Type 1} → statement M
-put-row-again-spec =
+pub put_row_again_spec : {M : Type 1} → statement M
+put_row_again_spec =
     tie.close
-    (tie.spec
-    put-row-requires same_length same-length-2 returns (λ c κs. search rules) (λ c. search rules) (λ c. search rules)
-    put-row-requires-2 same-length-3 same-length-4 returns-2 same-length-5 same-length-6 returns-3)
+    (tie.spec put-row-requires same_length same-length-2 returns (λ c κs. search rules) (λ c. search rules) (λ c. search rules) put-row-requires-2 same-length-3 same-length-4 returns-2 same-length-5 same-length-6 returns-3)

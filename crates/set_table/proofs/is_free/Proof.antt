@@ -7,20 +7,17 @@ use Rattle.set_table.proofs.Resets.{free-test}
 use Rattle.set_table.proofs.is_free.Statement.{statement}
 use Rattle.set_table.proofs.is_free.Tie as tie
 
-triple-at-requires : tie.Need-triple-at-requires
-triple-at-requires c κs = (latches-fit c.before.requires, omega arith)
+triple-at-requires : tie.Need-triple_at-lit-requires
+triple-at-requires c κs = (latches-fit c.requires, omega arith)
 
-triple-at-requires-2 : tie.Need-triple-at-requires-2
-triple-at-requires-2 c κs = (latches-fit c.before.before.requires, omega arith)
+triple-at-requires-2 : tie.Need-triple_at-reset-requires
+triple-at-requires-2 c κs = (latches-fit c.requires, omega arith)
 
 returns : tie.Need-returns
 returns c =
-    let lit = c.before.before.triple-at in
-    let reset = c.before.triple-at2 in
-    c.equals.ensures ∙ free-test c.before.before.before.before.requires c.before.before.before.before.args.j reset.result reset.ensures lit.result lit.ensures
+    c.equals.ensures ∙ free-test c.requires c.args.j c.triple_at-reset.result c.triple_at-reset.ensures c.triple_at-lit.result c.triple_at-lit.ensures
 
-pub is-free-spec : {M : Type 1} → statement M
-is-free-spec =
+pub is_free_spec : {M : Type 1} → statement M
+is_free_spec =
     tie.close
-    (tie.spec
-    triple-at-requires triple-at-requires-2 (λ c κs. search rules) returns)
+    (tie.spec triple-at-requires triple-at-requires-2 (λ c κs. search rules) returns)

@@ -13,68 +13,58 @@ use Rattle.set_attempt.specs.Attempt.{start_put}
 use Rattle.set_table.proofs.put_start_again.Statement.{statement}
 use Rattle.set_table.proofs.put_start_again.Tie as tie
 
-put-start-requires : tie.Need-put-start-requires
-put-start-requires c κs = c.before.before.before.before.before.before.requires
+put-start-requires : tie.Need-put_start-requires
+put-start-requires c κs = c.requires
 
-same_length : tie.Need-same-length
-same_length c = c.before.before.before.before.before.put-start.auto.0
+same_length : tie.Need-shape_of-w-then-put_start
+same_length c = c.put_start.auto.w
 
-same-length-2 : tie.Need-same-length-2
-same-length-2 c = c.before.before.before.before.before.put-start.auto.1.1.1.1.1.0
+same-length-2 : tie.Need-shape_of-table-then-put_start
+same-length-2 c = c.put_start.auto.table
 
-returns : tie.Need-returns
+returns : tie.Need-returns-then-put_start
 returns c =
-    let a = c.before.before.before.before.before.before.before.before.before.before.before.before.args in
-    let m = c.before.before.before.before.before.put-start in
+    let a = c.args in
     again-done (start_put (circuit_in a.m.now) a.latches.now a.rows) (sets_of a.w.now a.table.now)
-    (sets_of m.new.0 m.new.1.1.1.1.1.0) (ap (left m.new.0 m.new.1.1.1.1.1.0) (sym c.if1.true) ∙ m.ensures)
+    (sets_of c.put_start.new.w c.put_start.new.table) (ap (left c.put_start.new.w c.put_start.new.table) (sym c.if-put_start.true) ∙ c.put_start.ensures)
 
-put-start-requires-2 : tie.Need-put-start-requires-2
+put-start-requires-2 : tie.Need-put_start-requires-in-Kept
 put-start-requires-2 c κs =
-    let s = c.before.before.before.before.before.before.before.before.before.before.before.before.before.before.before.before.before.before.before.before.before.before.before in
-    let m = c.before.before.before.before.before.before.before.before.before.before.before.before.before.before.before.before.put-start in
-    let q = c.before.before.before.before.before.before.before.before.collect in
-    let e : length q.new.1.0 ≡ length s.args.table.now = q.auto.1.0 ∙ m.auto.1.1.1.1.1.0 in
-    (s.requires.0, (s.requires.1.0, s.requires.1.1, omega (arith, s.requires.1.2)))
+    let e : length c.collect.new.roots ≡ length c.args.table.now = c.collect.auto.roots ∙ c.put_start.auto.table in
+    (c.requires.0, (c.requires.1.0, c.requires.1.1, omega (arith, c.requires.1.2)))
 
-same-length-3 : tie.Need-same-length-3
-same-length-3 c = c.before.before.before.before.before.before.collect.auto.0 ∙ c.before.before.before.before.before.before.before.before.before.before.before.before.before.before.put-start.auto.0
+same-length-3 : tie.Need-shape_of-w-in-Full
+same-length-3 c = c.collect.auto.w ∙ c.put_start.auto.w
 
-same-length-4 : tie.Need-same-length-4
-same-length-4 c = c.before.before.before.before.before.before.collect.auto.1.0 ∙ c.before.before.before.before.before.before.before.before.before.before.before.before.before.before.put-start.auto.1.1.1.1.1.0
+same-length-4 : tie.Need-shape_of-table-in-Full
+same-length-4 c = c.collect.auto.roots ∙ c.put_start.auto.table
 
-returns-2 : tie.Need-returns-2
+returns-2 : tie.Need-returns-in-Full
 returns-2 c =
-    let a = c.before.before.before.before.before.before.before.before.before.before.before.before.before.before.before.before.before.before.before.before.before.args in
-    let m = c.before.before.before.before.before.before.before.before.before.before.before.before.before.before.put-start in
-    let q = c.before.before.before.before.before.before.collect in
+    let a = c.args in
     again-out (start_put (circuit_in a.m.now) a.latches.now a.rows) (sets_of a.w.now a.table.now)
-    (sets_of m.new.0 m.new.1.1.1.1.1.0) (state_of q.new.0) q.new.1.0
-    (ap (left m.new.0 m.new.1.1.1.1.1.0) (sym c.before.before.before.before.before.before.before.before.before.if1.false) ∙ m.ensures)
-    (ap (λ (r : Collected). C.collection (state_of q.new.0) q.new.1.0 (C.is_kept r)) (sym c.enum_told.given.1) ∙ q.ensures)
+    (sets_of c.put_start.new.w c.put_start.new.table) (state_of c.collect.new.w) c.collect.new.roots
+    (ap (left c.put_start.new.w c.put_start.new.table) (sym c.if-put_start.false) ∙ c.put_start.ensures)
+    (ap (λ (r : Collected). C.collection (state_of c.collect.new.w) c.collect.new.roots (C.is_kept r)) (sym c.in-Full.is) ∙ c.collect.ensures)
 
-same-length-5 : tie.Need-same-length-5
-same-length-5 c = c.before.before.before.before.put-start2.auto.0 ∙ c.before.before.before.before.before.before.before.before.before.before.before.before.before.collect.auto.0 ∙ c.before.before.before.before.before.before.before.before.before.before.before.before.before.before.before.before.before.before.before.before.before.put-start.auto.0
+same-length-5 : tie.Need-shape_of-w-in-Kept
+same-length-5 c = c.put_start-in-Kept.auto.w ∙ c.collect.auto.w ∙ c.put_start.auto.w
 
-same-length-6 : tie.Need-same-length-6
+same-length-6 : tie.Need-shape_of-table-in-Kept
 same-length-6 c =
-    c.before.before.before.before.put-start2.auto.1.1.1.1.1.0 ∙ c.before.before.before.before.before.before.before.before.before.before.before.before.before.collect.auto.1.0
-    ∙ c.before.before.before.before.before.before.before.before.before.before.before.before.before.before.before.before.before.before.before.before.before.put-start.auto.1.1.1.1.1.0
+    c.put_start-in-Kept.auto.table ∙ c.collect.auto.roots
+    ∙ c.put_start.auto.table
 
-returns-3 : tie.Need-returns-3
+returns-3 : tie.Need-returns-in-Kept
 returns-3 c =
-    let a = c.before.before.before.before.before.before.before.before.before.before.before.before.before.before.before.before.before.before.before.before.before.before.before.before.before.before.before.before.args in
-    let m = c.before.before.before.before.before.before.before.before.before.before.before.before.before.before.before.before.before.before.before.before.before.put-start in
-    let q = c.before.before.before.before.before.before.before.before.before.before.before.before.before.collect in
+    let a = c.args in
     again-more (start_put (circuit_in a.m.now) a.latches.now a.rows) (sets_of a.w.now a.table.now)
-    (sets_of m.new.0 m.new.1.1.1.1.1.0) (state_of q.new.0) q.new.1.0 _
-    (ap (left m.new.0 m.new.1.1.1.1.1.0) (sym c.before.before.before.before.before.before.before.before.before.before.before.before.before.before.before.before.if1.false) ∙ m.ensures)
-    (ap (λ (r : Collected). C.collection (state_of q.new.0) q.new.1.0 (C.is_kept r)) (sym c.before.before.before.before.before.before.before.enum-told2.given.1) ∙ q.ensures)
-    c.before.before.before.before.put-start2.ensures
+    (sets_of c.put_start.new.w c.put_start.new.table) (state_of c.collect.new.w) c.collect.new.roots _
+    (ap (left c.put_start.new.w c.put_start.new.table) (sym c.if-put_start.false) ∙ c.put_start.ensures)
+    (ap (λ (r : Collected). C.collection (state_of c.collect.new.w) c.collect.new.roots (C.is_kept r)) (sym c.in-Kept.is) ∙ c.collect.ensures)
+    c.put_start-in-Kept.ensures
 
-pub put-start-again-spec : {M : Type 1} → statement M
-put-start-again-spec =
+pub put_start_again_spec : {M : Type 1} → statement M
+put_start_again_spec =
     tie.close
-    (tie.spec
-    put-start-requires same_length same-length-2 returns (λ c κs. search rules) (λ c. search rules) (λ c. search rules)
-    put-start-requires-2 same-length-3 same-length-4 returns-2 same-length-5 same-length-6 returns-3)
+    (tie.spec put-start-requires same_length same-length-2 returns (λ c κs. search rules) (λ c. search rules) (λ c. search rules) put-start-requires-2 same-length-3 same-length-4 returns-2 same-length-5 same-length-6 returns-3)

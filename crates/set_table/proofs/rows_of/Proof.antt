@@ -8,12 +8,11 @@ use Rattle.set_table.proofs.rows_of.Tie as tie
 
 returns : tie.Need-returns
 returns c =
-    let a = c.before.args in
-    let h = pow_mono {i = word a.plan.now 1} {j = 4} c.before.requires.1 in
+    let a = c.args in
+    let h = pow_mono {i = word a.plan.now 1} {j = 4} c.requires.1 in
     (omega arith, omega arith)
 
-pub rows-of-spec : {M : Type 1} → statement M
-rows-of-spec =
+pub rows_of_spec : {M : Type 1} → statement M
+rows_of_spec =
     tie.close
-    (tie.spec
-    (λ c. search rules) (λ c. search rules) (λ c. search rules) returns)
+    (tie.spec (λ c. search rules) (λ c. search rules) (λ c. search rules) returns)

@@ -11,62 +11,54 @@ use Rattle.set_table.proofs.Resets.{resets-done, resets-full, resets_more}
 use Rattle.set_table.proofs.with_resets.Statement.{statement}
 use Rattle.set_table.proofs.with_resets.Tie as tie
 
-abbrev invariant-loop : tie.invariant-loop
+abbrev invariant-loop : tie.invariant-loop-v
 invariant-loop w₀ m layout latches e₀ v₀ w e v =
     (v ≤ length latches) × (length w ≡ length w₀)
     × (with_resets (circuit_in m) v (drop v latches) (state_of w) e ≡ with_resets (circuit_in m) 0 latches (state_of w₀) 1)
 
-abbrev decreases-loop : tie.decreases-loop
+abbrev decreases-loop : tie.decreases-loop-v
 decreases-loop w₀ m layout latches e₀ v₀ w e v = length latches - v
 
-loop-holds : tie.Need-loop-init invariant-loop decreases-loop
+loop-holds : tie.Need-loop-v-init invariant-loop decreases-loop
 loop-holds c = (omega arith, refl, refl)
 
-cast-with-reset : tie.Need-overflow-cast-with-reset invariant-loop decreases-loop
-cast-with-reset c = omega (arith, c.before.before.before.before.before.before.requires.1, c.before.loop-test.true)
+cast-with-reset : tie.Need-overflow_cast-v invariant-loop decreases-loop
+cast-with-reset c = omega (arith, c.requires.1, c.loop-v-test.true)
 
-cast-with-reset-2 : tie.Need-overflow-cast-with-reset-2 invariant-loop decreases-loop
-cast-with-reset-2 c = omega (arith, c.shared-slice-known3.given c.before.before.before.loop.v)
+cast-with-reset-2 : tie.Need-overflow_cast-latches invariant-loop decreases-loop
+cast-with-reset-2 c = omega (arith, c.shared_slice_known-in-loop-v-1.given c.loop-v.v)
 
-with-reset-requires : tie.Need-with-reset-requires invariant-loop decreases-loop
-with-reset-requires c κs = c.before.before.before.before.before.before.before.requires.0
+with-reset-requires : tie.Need-with_reset-made-requires invariant-loop decreases-loop
+with-reset-requires c κs = c.requires.0
 
-same_length : tie.Need-same-length invariant-loop decreases-loop
-same_length c = c.before.before.before.before.with-reset.auto.0 ∙ c.before.before.before.before.before.before.before.before.loop.invariant.1
+same_length : tie.Need-shape_of-w-in_default invariant-loop decreases-loop
+same_length c = c.with_reset-made.auto.w ∙ c.loop-v.invariant.1
 
-returns : tie.Need-returns invariant-loop decreases-loop
+returns : tie.Need-returns-in_default invariant-loop decreases-loop
 returns c =
-    let a = c.before.before.before.before.before.before.before.before.before.before.before.before.args in
-    let l = c.before.before.before.before.before.before.before.before.loop in
-    let p = c.before.before.before.before.with-reset in
-    resets-full (circuit_in a.m.now) a.latches.now l.v (state_of l.w) l.e c.before.before.before.before.before.before.before.loop-test.true (state_of p.new.0)
-    (ap (left p.new.0) (sym c.enum_told.given.1) ∙ p.ensures) ∙ l.invariant.2
+    let a = c.args in
+    resets-full (circuit_in a.m.now) a.latches.now c.loop-v.v (state_of c.loop-v.w) c.loop-v.e c.loop-v-test.true (state_of c.with_reset-made.new.w)
+    (ap (left c.with_reset-made.new.w) (sym c.in_default.is) ∙ c.with_reset-made.ensures) ∙ c.loop-v.invariant.2
 
-loop-again : tie.Need-loop-preserved invariant-loop decreases-loop
+loop-again : tie.Need-loop-v-preserved invariant-loop decreases-loop
 loop-again c =
-    let a = c.before.before.before.before.before.before.before.before.before.before.before.before.before.args in
-    let l = c.before.before.before.before.before.before.before.before.before.loop in
-    let p = c.before.before.before.before.before.with-reset in
-    let k = c.before.made.given in (
-      omega (arith, c.before.before.before.before.before.before.before.before.loop-test.true),
-      p.auto.0 ∙ l.invariant.1,
-      resets_more (circuit_in a.m.now) a.latches.now l.v (state_of l.w) l.e c.before.before.before.before.before.before.before.before.loop-test.true (state_of p.new.0)
-          k.0.0 (ap (left p.new.0) (sym k.1) ∙ p.ensures) ∙ l.invariant.2,
+    let a = c.args in
+    (
+      omega (arith, c.loop-v-test.true),
+      c.with_reset-made.auto.w ∙ c.loop-v.invariant.1,
+      resets_more (circuit_in a.m.now) a.latches.now c.loop-v.v (state_of c.loop-v.w) c.loop-v.e c.loop-v-test.true (state_of c.with_reset-made.new.w)
+          c.in-Edge.x (ap (left c.with_reset-made.new.w) (sym c.in-Edge.is) ∙ c.with_reset-made.ensures) ∙ c.loop-v.invariant.2,
     )
 
-same-length-2 : tie.Need-same-length-2 invariant-loop decreases-loop
-same-length-2 c = c.before.loop.invariant.1
+same-length-2 : tie.Need-shape_of-w invariant-loop decreases-loop
+same-length-2 c = c.loop-v.invariant.1
 
-returns-2 : tie.Need-returns-2 invariant-loop decreases-loop
+returns-2 : tie.Need-returns invariant-loop decreases-loop
 returns-2 c =
-    let a = c.before.before.before.before.before.args in
-    let l = c.before.loop in
-    resets-done (circuit_in a.m.now) a.latches.now l.v (state_of l.w) l.e (omega arith) ∙ l.invariant.2
+    let a = c.args in
+    resets-done (circuit_in a.m.now) a.latches.now c.loop-v.v (state_of c.loop-v.w) c.loop-v.e (omega arith) ∙ c.loop-v.invariant.2
 
-pub with-resets-spec : {M : Type 1} → statement M
-with-resets-spec =
+pub with_resets_spec : {M : Type 1} → statement M
+with_resets_spec =
     tie.close
-    (tie.spec
-    invariant-loop decreases-loop loop-holds cast-with-reset (λ c. search rules) (λ c. search rules) cast-with-reset-2 with-reset-requires
-    (λ c. search rules) (λ c. search rules) same_length returns (λ c. search rules) (λ c. search rules) loop-again same-length-2
-    returns-2)
+    (tie.spec invariant-loop decreases-loop loop-holds cast-with-reset (λ c. search rules) (λ c. search rules) cast-with-reset-2 with-reset-requires (λ c. search rules) (λ c. search rules) same_length returns (λ c. search rules) (λ c. search rules) loop-again same-length-2 returns-2)

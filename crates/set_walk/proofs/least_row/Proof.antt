@@ -8,59 +8,54 @@ use Rattle.set_walk.proofs.Evaluation.{NoneTo, none_more, least-here, least-none
 use Rattle.set_walk.proofs.least_row.Statement.{statement}
 use Rattle.set_walk.proofs.least_row.Tie as tie
 
-abbrev invariant-loop : tie.invariant-loop
+abbrev invariant-loop : tie.invariant-loop-r
 invariant-loop w table s next bits after₀ rows r₀ after r =
     (length after ≡ length after₀) × (r ≤ rows) × (rows ≡ s.rows) × NoneTo w table s.vars s.rows next bits r
 
-abbrev decreases-loop : tie.decreases-loop
+abbrev decreases-loop : tie.decreases-loop-r
 decreases-loop w table s next bits after₀ rows r₀ after r = rows - r
 
-loop-holds : tie.Need-loop-init invariant-loop decreases-loop
+loop-holds : tie.Need-loop-r-init invariant-loop decreases-loop
 loop-holds c = (refl, omega arith, refl, λ k l. absurd (omega arith))
 
 leads-requires : tie.Need-leads-requires invariant-loop decreases-loop
-leads-requires c κs = let s = c.before.before.before.before.before.before.before in let l = c.before.before.loop in (s.requires.0, (s.requires.1.0, (omega (arith, l.invariant.2), l.invariant.0 ∙ s.requires.1.1.0, s.requires.1.1.1)))
+leads-requires c κs = (c.requires.0, (c.requires.1.0, (omega (arith, c.loop-r.invariant.2), c.loop-r.invariant.0 ∙ c.requires.1.1.0, c.requires.1.1.1)))
 
-same_length : tie.Need-same-length invariant-loop decreases-loop
-same_length c = c.before.before.before.leads.auto.1.1.1.1.1.1.0 ∙ c.before.before.before.before.before.before.loop.invariant.0
+same_length : tie.Need-shape_of-after-then-leads invariant-loop decreases-loop
+same_length c = c.leads.auto.after ∙ c.loop-r.invariant.0
 
-returns : tie.Need-returns invariant-loop decreases-loop
+returns : tie.Need-returns-then-leads invariant-loop decreases-loop
 returns c =
-    let a = c.before.before.before.before.before.before.before.before.before.before.before.args in
-    let l = c.before.before.before.before.before.before.loop in
-    let m = c.before.before.before.leads in
-    least-here a.w.now a.table.now a.s.vars a.s.rows a.next a.bits.now l.r m.new.1.1.1.1.1.1.0 m.result (omega (arith, l.invariant.2))
-    l.invariant.3 m.ensures c.if1.true
+    let a = c.args in
+    least-here a.w.now a.table.now a.s.vars a.s.rows a.next a.bits.now c.loop-r.r c.leads.new.after c.leads.result (omega (arith, c.loop-r.invariant.2))
+    c.loop-r.invariant.3 c.leads.ensures c.if-leads.true
 
-add_r : tie.Need-overflow-add-r invariant-loop decreases-loop
-add_r c = omega (arith, c.before.before.before.before.before.before.before.before.before.before.before.requires.1.0.rows, c.before.before.before.before.before.before.loop.invariant.2)
+add_r : tie.Need-overflow_add-r invariant-loop decreases-loop
+add_r c = omega (arith, c.requires.1.0.rows, c.loop-r.invariant.2)
 
-loop-less : tie.Need-loop-smaller invariant-loop decreases-loop
+loop-less : tie.Need-loop-r-smaller invariant-loop decreases-loop
 loop-less c = omega arith
 
-loop-again : tie.Need-loop-preserved invariant-loop decreases-loop
+loop-again : tie.Need-loop-r-preserved invariant-loop decreases-loop
 loop-again c =
-    let a = c.before.before.before.before.before.before.before.before.before.before.before.args in
-    let l = c.before.before.before.before.before.before.loop in
-    let m = c.before.before.before.leads in (
-      m.auto.1.1.1.1.1.1.0 ∙ l.invariant.0,
+    let a = c.args in
+    (
+      c.leads.auto.after ∙ c.loop-r.invariant.0,
       omega arith,
-      l.invariant.2,
-      none_more a.w.now a.table.now a.s.vars a.s.rows a.next a.bits.now l.r m.new.1.1.1.1.1.1.0 m.result l.invariant.3 m.ensures
-          c.if1.false,
+      c.loop-r.invariant.2,
+      none_more a.w.now a.table.now a.s.vars a.s.rows a.next a.bits.now c.loop-r.r c.leads.new.after c.leads.result c.loop-r.invariant.3 c.leads.ensures
+          c.if-leads.false,
     )
 
-same-length-2 : tie.Need-same-length-2 invariant-loop decreases-loop
-same-length-2 c = c.before.loop.invariant.0
+same-length-2 : tie.Need-shape_of-after invariant-loop decreases-loop
+same-length-2 c = c.loop-r.invariant.0
 
-returns-2 : tie.Need-returns-2 invariant-loop decreases-loop
+returns-2 : tie.Need-returns invariant-loop decreases-loop
 returns-2 c =
-    let a = c.before.before.before.before.before.before.args in
-    let l = c.before.loop in
-    least-none a.w.now a.table.now a.s.vars a.s.rows a.next a.bits.now l.r l.after (omega (arith, l.invariant.1, l.invariant.2)) l.invariant.3
+    let a = c.args in
+    least-none a.w.now a.table.now a.s.vars a.s.rows a.next a.bits.now c.loop-r.r c.loop-r.after (omega (arith, c.loop-r.invariant.1, c.loop-r.invariant.2)) c.loop-r.invariant.3
 
-pub least-row-spec : {M : Type 1} → statement M
-least-row-spec =
+pub least_row_spec : {M : Type 1} → statement M
+least_row_spec =
     tie.close
-    (tie.spec
-    invariant-loop decreases-loop loop-holds leads-requires same_length returns add_r loop-less loop-again same-length-2 returns-2)
+    (tie.spec invariant-loop decreases-loop loop-holds leads-requires same_length returns add_r loop-less loop-again same-length-2 returns-2)

@@ -7,8 +7,7 @@ use Rattle.signatures.proofs.append_signature.Tie as tie
 
 returns : tie.Need-returns
 returns c =
-    let t = c.before.before.before.before.before in
-    signed-last t.args.work.now c.before.before.link.new.0 t.args.g t.args.s (omega arith) t.requires.1 c.before.before.link.ensures
+    signed-last c.args.work.now c.link.new.work c.args.g c.args.s (omega arith) c.requires.1 c.link.ensures
 
-pub append-signature-spec : {M : Type 1} → statement M
-append-signature-spec = tie.close (tie.spec (λ c. search rules) (λ c κs. search rules) (λ c. search rules) returns)
+pub append_signature_spec : {M : Type 1} → statement M
+append_signature_spec = tie.close (tie.spec (λ c. search rules) (λ c κs. search rules) (λ c. search rules) returns)

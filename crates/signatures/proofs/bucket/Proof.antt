@@ -11,8 +11,8 @@ use Rattle.signatures.proofs.bucket.Tie as tie
 returns : tie.Need-returns
 unfolding bucket_of
 returns c =
-    let a = c.before.before.args in
-    (ap (λ (h : ℕ). h % a.room) (c.scramble.ensures ∙ ap scrambled c.before.normal.ensures), mod-lt c.scramble.result (omega arith))
+    let a = c.args in
+    (ap (λ (h : ℕ). h % a.room) (c.scramble.ensures ∙ ap scrambled c.normal.ensures), mod-lt c.scramble.result (omega arith))
 
-pub bucket-spec : {M : Type 1} → statement M
-bucket-spec = tie.close (tie.spec (λ c κs. search rules) (λ c κs. search rules) (λ c. search rules) returns)
+pub bucket_spec : {M : Type 1} → statement M
+bucket_spec = tie.close (tie.spec (λ c κs. search rules) (λ c κs. search rules) (λ c. search rules) returns)

@@ -8,27 +8,21 @@ use Rattle.signatures.proofs.Twins.{candidate-even, candidate-odd, candidate-non
 use Rattle.signatures.proofs.candidate.Statement.{statement}
 use Rattle.signatures.proofs.candidate.Tie as tie
 
-returns : tie.Need-returns
+returns : tie.Need-returns-then-first_difference-eq64
 returns c =
-    let d = c.before in
-    let t = c.before.before in
-    let k = t.args.k.0 in
+    let k = c.args.k.0 in
     let z : 2 * k + 1 ≡ 2 * k + 0 + 1 = omega arith in
-    subst (λ (r : ℕ). Candidate k t.args.t t.args.s r) z
-    (candidate-even k t.args.t t.args.s t.ranges.t.fits t.ranges.s.fits (d.first-difference.ensures.equal c.if1.true))
+    subst (λ (r : ℕ). Candidate k c.args.t c.args.s r) z
+    (candidate-even k c.args.t c.args.s c.ranges.t.fits c.ranges.s.fits (c.first_difference.ensures.equal c.if-first_difference-eq64.true))
 
-returns-2 : tie.Need-returns-2
+returns-2 : tie.Need-returns-then-first_difference-eq64-2
 returns-2 c =
-    let d = c.before in
-    let t = c.before.before.before.before in
-    candidate-odd t.args.k.0 t.args.t t.args.s t.ranges.t.fits t.ranges.s.fits (d.first-difference2.ensures.equal c.if2.true)
+    candidate-odd c.args.k.0 c.args.t c.args.s c.ranges.t.fits c.ranges.s.fits (c.first_difference-2.ensures.equal c.if-first_difference-eq64-2.true)
 
-returns-3 : tie.Need-returns-3
+returns-3 : tie.Need-returns
 returns-3 c =
-    let d = c.before.before.before in
-    let t = c.before.before.before.before in
-    candidate-none t.args.k.0 t.args.t t.args.s t.ranges.t.fits t.ranges.s.fits
-    (λ q. c.before.before.if1.false (d.first-difference.ensures.none q)) (λ q. c.if2.false (c.before.first-difference2.ensures.none q))
+    candidate-none c.args.k.0 c.args.t c.args.s c.ranges.t.fits c.ranges.s.fits
+    (λ q. c.if-first_difference-eq64.false (c.first_difference.ensures.none q)) (λ q. c.if-first_difference-eq64-2.false (c.first_difference-2.ensures.none q))
 
-pub candidate-spec : {M : Type 1} → statement M
-candidate-spec = tie.close (tie.spec (λ c κs. search rules) returns (λ c κs. search rules) returns-2 returns-3)
+pub candidate_spec : {M : Type 1} → statement M
+candidate_spec = tie.close (tie.spec (λ c κs. search rules) returns (λ c κs. search rules) returns-2 returns-3)

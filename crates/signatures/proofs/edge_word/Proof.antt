@@ -11,16 +11,16 @@ use borrow.Author.Rules.{rules}
 use Rattle.signatures.proofs.edge_word.Statement.{statement}
 use Rattle.signatures.proofs.edge_word.Tie as tie
 
-word-at-requires : tie.Need-word-at-requires
-word-at-requires c κs = omega (arith, word-node c.before.before.args.edge)
+word-at-requires : tie.Need-word_at-requires
+word-at-requires c κs = omega (arith, word-node c.args.edge)
 
 returns : tie.Need-returns
 returns c =
     λ p l.
-    let a = c.before.before.before.before.before.args in
-    c.literal-word.ensures p l
-    ∙ ap₂ (λ (s : Bool) (x : ℕ). xor s (bit x p)) c.before.is-complement.ensures c.before.before.word-at.ensures
+    let a = c.args in
+    c.literal_word.ensures p l
+    ∙ ap₂ (λ (s : Bool) (x : ℕ). xor s (bit x p)) c.is_complement.ensures c.word_at.ensures
     ∙ edge-sign (λ k. bit (word_at a.work.now k a.f) p) a.edge
 
-pub edge-word-spec : {M : Type 1} → statement M
-edge-word-spec = tie.close (tie.spec (λ c. search rules) word-at-requires (λ c κs. search rules) (λ c κs. search rules) returns)
+pub edge_word_spec : {M : Type 1} → statement M
+edge_word_spec = tie.close (tie.spec (λ c. search rules) word-at-requires (λ c κs. search rules) (λ c κs. search rules) returns)

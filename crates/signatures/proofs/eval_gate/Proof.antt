@@ -25,36 +25,31 @@ left-read m k q = ap edge_word q ∙ edge-word (get_or m (16 * k) 0) ∙ field-f
 right-read : (m : List ℕ) (k : ℕ) {e : Edge} → e ≡ word_edge (get_or m (16 * k + 1) 0) → edge_word e ≡ field m k 1
 right-read m k q = ap edge_word q ∙ edge-word (get_or m (16 * k + 1) 0)
 
-edge-word-requires : tie.Need-edge-word-requires
+edge-word-requires : tie.Need-edge_word-requires
 edge-word-requires c κs =
-    let a = c.before.before.before.before.before.before.args in
-    omega (arith, left-read a.work.now a.k c.before.before.before.from-word.ensures)
+    let a = c.args in
+    omega (arith, left-read a.work.now a.k c.from_word-left.ensures)
 
-edge-word-requires-2 : tie.Need-edge-word-requires-2
+edge-word-requires-2 : tie.Need-edge_word-requires-2
 edge-word-requires-2 c κs =
-    let a = c.before.before.before.before.before.before.before.before.args in
-    omega (arith, right-read a.work.now a.k c.before.before.before.from-word2.ensures)
+    let a = c.args in
+    omega (arith, right-read a.work.now a.k c.from_word-right.ensures)
 
 returns : tie.Need-returns
 returns c =
-    let a = c.before.before.before.before.before.before.before.before.before.before.before.before.before.args in
+    let a = c.args in
     let m = a.work.now in
-    let x = c.before.before.before.before.before.before.edge-word in
-    let y = c.before.before.before.before.edge-word2 in
-    let l = left-read m a.k c.before.before.before.before.before.before.before.before.before.before.from-word.ensures in
-    let r = right-read m a.k c.before.before.before.before.before.before.before.before.from-word2.ensures in
-    let s = c.before.before.put_word.ensures in
+    let l = left-read m a.k c.from_word-left.ensures in
+    let r = right-read m a.k c.from_word-right.ensures in
+    let s = c.put_word.ensures in
     record {
       right = λ p h.
-          ap (λ (w : ℕ). bit w p) s.stored ∙ bit-and x.result y.result p
-          ∙ ap₂ ◌&&◌ (x.ensures p h ∙ ap (edge_by (λ j. bit (word_at m j 8) p)) l) (y.ensures p h ∙ ap (edge_by (λ j. bit (word_at m j 8) p)) r);
+          ap (λ (w : ℕ). bit w p) s.stored ∙ bit-and c.edge_word.result c.edge_word-2.result p
+          ∙ ap₂ ◌&&◌ (c.edge_word.ensures p h ∙ ap (edge_by (λ j. bit (word_at m j 8) p)) l) (c.edge_word-2.ensures p h ∙ ap (edge_by (λ j. bit (word_at m j 8) p)) r);
       others = s.others;
     }
 
-pub eval-gate-spec : {M : Type 1} → statement M
-eval-gate-spec =
+pub eval_gate_spec : {M : Type 1} → statement M
+eval_gate_spec =
     tie.close
-    (tie.spec
-    (λ c. search rules) (λ c. search rules) (λ c. search rules) (λ c κs. search rules) (λ c. search rules) (λ c. search rules)
-    (λ c. search rules) (λ c. search rules) (λ c κs. search rules) edge-word-requires edge-word-requires-2 (λ c κs. search rules)
-    (λ c. search rules) returns)
+    (tie.spec (λ c. search rules) (λ c. search rules) (λ c. search rules) (λ c κs. search rules) (λ c. search rules) (λ c. search rules) (λ c. search rules) (λ c. search rules) (λ c κs. search rules) edge-word-requires edge-word-requires-2 (λ c κs. search rules) (λ c. search rules) returns)

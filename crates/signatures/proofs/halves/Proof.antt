@@ -10,5 +10,5 @@ returns : tie.Need-returns
 unfolding halves
 returns c = (refl, omega arith)
 
-pub halves-spec : {M : Type 1} → statement M
-halves-spec = tie.close (tie.spec (λ c. search rules) (λ c. search rules) (λ c. search rules) returns)
+pub halves_spec : {M : Type 1} → statement M
+halves_spec = tie.close (tie.spec (λ c. search rules) (λ c. search rules) (λ c. search rules) returns)

@@ -9,24 +9,21 @@ use borrow.Author.Rules.{rules}
 use Rattle.signatures.proofs.push.Statement.{statement}
 use Rattle.signatures.proofs.push.Tie as tie
 
-cast-work : tie.Need-overflow-cast-work
-cast-work c = omega (arith, c.before.before.before.before.before.requires.1, ap place_of c.before.before.e.given.1, c.word.ensures)
+cast-work : tie.Need-overflow_cast-work
+cast-work c = omega (arith, c.requires.1, ap place_of c.in-Edge.is, c.word.ensures)
 
-returns : tie.Need-returns
-returns c = pushed_none (λ d q. let z : ◌≡◌ {A = ℕ} 0 (d + 1) = sym (ap place_of c.enum_told.given.1) ∙ q in omega arith)
+returns : tie.Need-returns-in-Nothing
+returns c = pushed_none (λ d q. let z : ◌≡◌ {A = ℕ} 0 (d + 1) = sym (ap place_of c.in-Nothing.is) ∙ q in omega arith)
 
-returns-2 : tie.Need-returns-2
+returns-2 : tie.Need-returns-in-Edge
 returns-2 c =
-    let s = c.before.before.before.before.before in
-    let a = s.args in
-    let w = c.before.before.e.given.0.0 in
-    let z : place_of a.e ≡ edge_word w + 1 = ap place_of c.before.before.e.given.1 in
+    let a = c.args in
+    let w = c.in-Edge.w in
+    let z : place_of a.e ≡ edge_word w + 1 = ap place_of c.in-Edge.is in
     let y : c.word.result ≡ edge_word w = c.word.ensures in
-    pushed-one a.work.now a.count c.word.result s.requires.0 (λ d q. omega arith) (λ d q. omega arith)
+    pushed-one a.work.now a.count c.word.result c.requires.0 (λ d q. omega arith) (λ d q. omega arith)
 
 pub push_spec : {M : Type 1} → statement M
 push_spec =
     tie.close
-    (tie.spec
-    (λ c. search rules) (λ c. search rules) (λ c κs. search rules) cast-work (λ c. search rules) (λ c. search rules)
-    (λ c. search rules) (λ c. search rules) (λ c. search rules) returns (λ c. search rules) returns-2)
+    (tie.spec (λ c. search rules) (λ c. search rules) (λ c κs. search rules) cast-work (λ c. search rules) (λ c. search rules) (λ c. search rules) (λ c. search rules) (λ c. search rules) returns (λ c. search rules) returns-2)

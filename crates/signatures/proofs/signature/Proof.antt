@@ -10,8 +10,8 @@ use Rattle.signatures.proofs.signature.Tie as tie
 returns : tie.Need-returns
 returns c =
     λ g s h.
-    let a = c.before.before.args in
-    record { fits = omega arith; bits = λ p l. c.edge-word.ensures p l ∙ store-edge a.work.now g s (edge_word a.edge) h p l }
+    let a = c.args in
+    record { fits = omega arith; bits = λ p l. c.edge_word.ensures p l ∙ store-edge a.work.now g s (edge_word a.edge) h p l }
 
-pub signature-spec : {M : Type 1} → statement M
-signature-spec = tie.close (tie.spec (λ c κs. search rules) returns)
+pub signature_spec : {M : Type 1} → statement M
+signature_spec = tie.close (tie.spec (λ c κs. search rules) returns)

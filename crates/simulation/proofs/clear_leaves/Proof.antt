@@ -12,49 +12,41 @@ use Rattle.simulation.proofs.clear_leaves.Reads as reads
 use Rattle.simulation.proofs.clear_leaves.Lts as lts
 use Rattle.simulation.proofs.put_word.Reads as put-word-reads
 
-abbrev invariant-loop : tie.invariant-loop
+abbrev invariant-loop : tie.invariant-loop-v
 invariant-loop work₀ free v₀ work v = (v ≤ free + 1) × (length work ≡ length work₀) × LeavesCleared work₀ work v
 
-abbrev decreases-loop : tie.decreases-loop
+abbrev decreases-loop : tie.decreases-loop-v
 decreases-loop work₀ free v₀ work v = free + 1 - v
 
-loop-holds : tie.Need-loop-init invariant-loop decreases-loop
-loop-holds c = (omega arith, refl, cleared-none c.before.args.work.now)
+loop-holds : tie.Need-loop-v-init invariant-loop decreases-loop
+loop-holds c = (omega arith, refl, cleared-none c.args.work.now)
 
-add-loop : tie.Need-overflow-add-loop invariant-loop decreases-loop
-add-loop c = let s = c.before.before in omega (arith, s.requires.2.sized)
+add-loop : tie.Need-overflow_add-free invariant-loop decreases-loop
+add-loop c = omega (arith, c.requires.2.sized)
 
-put-word-requires : tie.Need-put-word-requires invariant-loop decreases-loop
+put-word-requires : tie.Need-put_word-requires invariant-loop decreases-loop
 put-word-requires c κs =
-    let s = c.before.before.before.before in
-    let l = c.before.before.loop in
-    net-held (net-kept s.requires.2 l.work l.invariant.2.kept l.invariant.1) l.v (omega (arith, s.requires.2.sized))
+    net-held (net-kept c.requires.2 c.loop-v.work c.loop-v.invariant.2.kept c.loop-v.invariant.1) c.loop-v.v (omega (arith, c.requires.2.sized))
 
-add-v : tie.Need-overflow-add-v invariant-loop decreases-loop
+add-v : tie.Need-overflow_add-v invariant-loop decreases-loop
 add-v c = omega arith
 
-loop-less : tie.Need-loop-smaller invariant-loop decreases-loop
+loop-less : tie.Need-loop-v-smaller invariant-loop decreases-loop
 loop-less c = omega arith
 
-loop-again : tie.Need-loop-preserved invariant-loop decreases-loop
+loop-again : tie.Need-loop-v-preserved invariant-loop decreases-loop
 loop-again c =
-    let s = c.before.before.before.before.before.before.before in
-    let l = c.before.before.before.before.before.loop in
-    let e = c.before.before.put_word in
-    (omega arith, e.auto.0 ∙ l.invariant.1, cleared_more s.args.work.now l.work e.new.0 l.v l.invariant.2 e.ensures)
+    (omega arith, c.put_word.auto.work ∙ c.loop-v.invariant.1, cleared_more c.args.work.now c.loop-v.work c.put_word.new.work c.loop-v.v c.loop-v.invariant.2 c.put_word.ensures)
 
-same_length : tie.Need-same-length invariant-loop decreases-loop
-same_length c = c.before.loop.invariant.1
+same_length : tie.Need-shape_of-work invariant-loop decreases-loop
+same_length c = c.loop-v.invariant.1
 
 returns : tie.Need-returns invariant-loop decreases-loop
 returns c =
-    let s = c.before.before.before in
-    let l = c.before.loop in
-    let z : l.v ≡ s.args.g.free + 1 = omega (arith, l.invariant.0) in
-    subst (λ (x : ℕ). LeavesCleared s.args.work.now l.work x) z l.invariant.2
+    let z : c.loop-v.v ≡ c.args.g.free + 1 = omega (arith, c.loop-v.invariant.0) in
+    subst (λ (x : ℕ). LeavesCleared c.args.work.now c.loop-v.work x) z c.loop-v.invariant.2
 
-pub clear-leaves-spec : {M : Type 1} → statement M
-clear-leaves-spec =
+pub clear_leaves_spec : {M : Type 1} → statement M
+clear_leaves_spec =
     tie.close
-    (tie.spec
-    invariant-loop decreases-loop loop-holds add-loop put-word-requires add-v loop-less loop-again same_length returns)
+    (tie.spec invariant-loop decreases-loop loop-holds add-loop put-word-requires add-v loop-less loop-again same_length returns)

@@ -10,12 +10,10 @@ use Rattle.simulation.proofs.edge_half.Lts as lts
 
 returns : tie.Need-returns
 returns c = λ q l.
-    let a = c.before.args in
+    let a = c.args in
     sign-half (get_or a.work.now (16 * (a.e / 2) + (2 + a.h)) 0) (a.e % 2) q (omega arith) l
 
-pub edge-half-spec : {M : Type 1} → statement M
-edge-half-spec =
+pub edge_half_spec : {M : Type 1} → statement M
+edge_half_spec =
     tie.close
-    (tie.spec
-    (λ c. search rules) (λ c. search rules) (λ c. search rules) (λ c. search rules) (λ c. search rules) (λ c. search rules)
-    (λ c. search rules) returns)
+    (tie.spec (λ c. search rules) (λ c. search rules) (λ c. search rules) (λ c. search rules) (λ c. search rules) (λ c. search rules) (λ c. search rules) returns)

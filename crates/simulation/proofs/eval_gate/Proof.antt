@@ -7,26 +7,20 @@ use Rattle.simulation.proofs.eval_gate.Reads as reads
 use Rattle.simulation.proofs.eval_gate.Lts as lts
 use Rattle.simulation.proofs.eval_half.Reads as eval-half-reads
 
-returns : tie.Need-returns
-returns c = let a = c.before.before.before.args in evaluated-none a.work.now a.k (omega arith)
+returns : tie.Need-returns-then-work-k-eq0
+returns c = let a = c.args in evaluated-none a.work.now a.k (omega arith)
 
-eval-half-requires-2 : tie.Need-eval-half-requires-2
+eval-half-requires-2 : tie.Need-eval_half-requires-2
 eval-half-requires-2 c κs =
-    let s = c.before.before.before.before.before.before.before.before in
-    let e = c.before.before.before.eval-half in
-    (evaluable-half s.args.work.now e.new.0 s.args.k s.requires e.auto.0 e.ensures, omega arith)
+    (evaluable-half c.args.work.now c.eval_half.new.work c.args.k c.requires c.eval_half.auto.work c.eval_half.ensures, omega arith)
 
-returns-2 : tie.Need-returns-2
+returns-2 : tie.Need-returns
 returns-2 c =
-    let s = c.before.before.before.before.before.before.before.before.before.before.before in
-    let w = s.args.work.now in
-    let k = s.args.k in
-    let e = c.before.before.before.before.before.before.eval-half in
-    evaluated-both w e.new.0 c.before.before.eval-half2.new.0 k s.requires.left s.requires.right e.ensures c.before.before.eval-half2.ensures
+    let w = c.args.work.now in
+    let k = c.args.k in
+    evaluated-both w c.eval_half.new.work c.eval_half-2.new.work k c.requires.left c.requires.right c.eval_half.ensures c.eval_half-2.ensures
 
-pub eval-gate-spec : {M : Type 1} → statement M
-eval-gate-spec =
+pub eval_gate_spec : {M : Type 1} → statement M
+eval_gate_spec =
     tie.close
-    (tie.spec
-    (λ c. search rules) (λ c. search rules) (λ c. search rules) (λ c. search rules) returns (λ c κs. search rules) eval-half-requires-2
-    (λ c. search rules) returns-2)
+    (tie.spec (λ c. search rules) (λ c. search rules) (λ c. search rules) (λ c. search rules) returns (λ c κs. search rules) eval-half-requires-2 (λ c. search rules) returns-2)

@@ -15,57 +15,50 @@ use Rattle.simulation.proofs.eval_gates.Reads as reads
 use Rattle.simulation.proofs.eval_gates.Lts as lts
 use Rattle.simulation.proofs.eval_gate.Reads as eval-gate-reads
 
-abbrev invariant-loop : tie.invariant-loop
+abbrev invariant-loop : tie.invariant-loop-k
 invariant-loop work₀ first nodes k₀ work k =
     (first ≤ k) × (length work ≡ length work₀) × Kept work₀ work
     × ((g : Graph) (gs : List Pair) (root : ℕ) → Net gs root work₀ g → nodes ≡ g.nodes → g.free < first → (f : ℕ → ℕ → ℕ → Bool)
     → Simulated g.free gs root f work₀ first → Simulated g.free gs root f work k)
 
-abbrev decreases-loop : tie.decreases-loop
+abbrev decreases-loop : tie.decreases-loop-k
 decreases-loop work₀ first nodes k₀ work k = nodes - k
 
-loop-holds : tie.Need-loop-init invariant-loop decreases-loop
-loop-holds c = (omega arith, refl, kept-none c.before.args.work.now, λ g gs root net z h f s. s)
+loop-holds : tie.Need-loop-k-init invariant-loop decreases-loop
+loop-holds c = (omega arith, refl, kept-none c.args.work.now, λ g gs root net z h f s. s)
 
-eval-gate-requires : tie.Need-eval-gate-requires invariant-loop decreases-loop
+eval-gate-requires : tie.Need-eval_gate-requires invariant-loop decreases-loop
 eval-gate-requires c κs =
-    let s = c.before.before.before.before in
-    let l = c.before.before.loop in
-    net-evaluable (net-kept s.requires.0.2 l.work l.invariant.2 l.invariant.1) l.k (omega (arith, s.requires.1, l.invariant.0)) (omega arith)
+    net-evaluable (net-kept c.requires.0.2 c.loop-k.work c.loop-k.invariant.2 c.loop-k.invariant.1) c.loop-k.k (omega (arith, c.requires.1, c.loop-k.invariant.0)) (omega arith)
 
-add-k : tie.Need-overflow-add-k invariant-loop decreases-loop
+add-k : tie.Need-overflow_add-k invariant-loop decreases-loop
 add-k c = omega arith
 
-loop-less : tie.Need-loop-smaller invariant-loop decreases-loop
+loop-less : tie.Need-loop-k-smaller invariant-loop decreases-loop
 loop-less c = omega arith
 
-loop-again : tie.Need-loop-preserved invariant-loop decreases-loop
+loop-again : tie.Need-loop-k-preserved invariant-loop decreases-loop
 loop-again c =
-    let s = c.before.before.before.before.before.before.before in
-    let l = c.before.before.before.before.before.loop in
-    let e = c.before.before.eval-gate in (
-      omega (arith, l.invariant.0),
-      e.auto.0 ∙ l.invariant.1,
-      kept_trans s.args.work.now l.work e.new.0 l.invariant.2 (kept-gate l.work e.new.0 l.k e.ensures),
+    (
+      omega (arith, c.loop-k.invariant.0),
+      c.eval_gate.auto.work ∙ c.loop-k.invariant.1,
+      kept_trans c.args.work.now c.loop-k.work c.eval_gate.new.work c.loop-k.invariant.2 (kept-gate c.loop-k.work c.eval_gate.new.work c.loop-k.k c.eval_gate.ensures),
       λ g gs root net z h f sim.
-          simulated-more (net-kept net l.work l.invariant.2 l.invariant.1) f e.new.0 l.k (omega (arith, l.invariant.0)) (omega arith) e.ensures
-          (l.invariant.3 g gs root net z h f sim),
+          simulated-more (net-kept net c.loop-k.work c.loop-k.invariant.2 c.loop-k.invariant.1) f c.eval_gate.new.work c.loop-k.k (omega (arith, c.loop-k.invariant.0)) (omega arith) c.eval_gate.ensures
+          (c.loop-k.invariant.3 g gs root net z h f sim),
     )
 
-same_length : tie.Need-same-length invariant-loop decreases-loop
-same_length c = c.before.loop.invariant.1
+same_length : tie.Need-shape_of-work invariant-loop decreases-loop
+same_length c = c.loop-k.invariant.1
 
 returns : tie.Need-returns invariant-loop decreases-loop
 returns c =
-    let s = c.before.before.before in
-    let l = c.before.loop in
     record {
-      kept = l.invariant.2;
-      values = λ gs root net f sim v h. l.invariant.3 s.args.g gs root net refl (omega (arith, s.requires.1)) f sim v (omega arith);
+      kept = c.loop-k.invariant.2;
+      values = λ gs root net f sim v h. c.loop-k.invariant.3 c.args.g gs root net refl (omega (arith, c.requires.1)) f sim v (omega arith);
     }
 
-pub eval-gates-spec : {M : Type 1} → statement M
-eval-gates-spec =
+pub eval_gates_spec : {M : Type 1} → statement M
+eval_gates_spec =
     tie.close
-    (tie.spec
-    invariant-loop decreases-loop loop-holds eval-gate-requires add-k loop-less loop-again same_length returns)
+    (tie.spec invariant-loop decreases-loop loop-holds eval-gate-requires add-k loop-less loop-again same_length returns)

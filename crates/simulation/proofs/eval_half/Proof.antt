@@ -10,23 +10,18 @@ use Rattle.simulation.proofs.eval_half.Reads as reads
 use Rattle.simulation.proofs.eval_half.Lts as lts
 use Rattle.simulation.proofs.edge_half.Reads as edge-half-reads
 
-edge-half-requires : tie.Need-edge-half-requires
+edge-half-requires : tie.Need-edge_half-x-requires
 edge-half-requires c κs =
-    let s = c.before.before.before.before in
-    (omega (arith, s.requires.0.left, s.requires.0.held, first_word s.args.work.now s.args.k), s.requires.1)
+    (omega (arith, c.requires.0.left, c.requires.0.held, first_word c.args.work.now c.args.k), c.requires.1)
 
 returns : tie.Need-returns
 returns c =
-    let s = c.before.before.before.before.before.before.before in
-    let a = s.args in
+    let a = c.args in
     let w = a.work.now in
-    half-evaluated w a.k a.h c.before.before.edge-half.result c.edge-half2.result (get_or w (16 * a.k) 0) (get_or w (16 * a.k + 1) 0)
-    s.requires.0.held s.requires.1 (first_word w a.k) refl c.before.before.edge-half.ensures c.edge-half2.ensures
+    half-evaluated w a.k a.h c.edge_half-x.result c.edge_half-y.result (get_or w (16 * a.k) 0) (get_or w (16 * a.k + 1) 0)
+    c.requires.0.held c.requires.1 (first_word w a.k) refl c.edge_half-x.ensures c.edge_half-y.ensures
 
-pub eval-half-spec : {M : Type 1} → statement M
-eval-half-spec =
+pub eval_half_spec : {M : Type 1} → statement M
+eval_half_spec =
     tie.close
-    (tie.spec
-    (λ c. search rules) (λ c. search rules) (λ c. search rules) (λ c. search rules) (λ c. search rules) (λ c. search rules)
-    (λ c. search rules) edge-half-requires (λ c κs. search rules) (λ c. search rules) (λ c. search rules) (λ c. search rules)
-    (λ c. search rules) (λ c. search rules) (λ c. search rules) returns)
+    (tie.spec (λ c. search rules) (λ c. search rules) (λ c. search rules) (λ c. search rules) (λ c. search rules) (λ c. search rules) (λ c. search rules) edge-half-requires (λ c κs. search rules) (λ c. search rules) (λ c. search rules) (λ c. search rules) (λ c. search rules) (λ c. search rules) (λ c. search rules) returns)

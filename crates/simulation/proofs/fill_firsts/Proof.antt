@@ -11,69 +11,60 @@ use Rattle.simulation.proofs.fill_firsts.Reads as reads
 use Rattle.simulation.proofs.fill_firsts.Lts as lts
 use Rattle.simulation.proofs.first_use.Reads as first-use-reads
 
-abbrev invariant-loop : tie.invariant-loop
+abbrev invariant-loop : tie.invariant-loop-k
 invariant-loop work g slots count firsts₀ end₀ k₀ firsts end k = (k ≤ count) × (g.free + 1 ≤ end) × (end ≤ g.nodes) × (length firsts ≡ length firsts₀) × Firsts work g slots k firsts
 
-abbrev decreases-loop : tie.decreases-loop
+abbrev decreases-loop : tie.decreases-loop-k
 decreases-loop work g slots count firsts₀ end₀ k₀ firsts end k = count - k
 
-loop-holds : tie.Need-loop-init invariant-loop decreases-loop
+loop-holds : tie.Need-loop-k-init invariant-loop decreases-loop
 loop-holds c =
-    let s = c.before.before.before in
-    (omega arith, s.requires.0.2.sized.leaves, omega arith, refl, λ k h. absurd (omega arith))
+    (omega arith, c.requires.0.2.sized.leaves, omega arith, refl, λ k h. absurd (omega arith))
 
-mul-first-use : tie.Need-overflow-mul-first-use invariant-loop decreases-loop
-mul-first-use c = omega (arith, c.before.before.before.before.before.requires.1)
+mul-first-use : tie.Need-offset_bounds-slots-k invariant-loop decreases-loop
+mul-first-use c = omega (arith, c.requires.1)
 
-shared-slice-read-first-use : tie.Need-shared-slice-read-first-use invariant-loop decreases-loop
-shared-slice-read-first-use c = omega (arith, c.before.before.before.before.before.before.requires.1)
+shared-slice-read-first-use : tie.Need-bounds-slots-k invariant-loop decreases-loop
+shared-slice-read-first-use c = omega (arith, c.requires.1)
 
-first-use-requires : tie.Need-first-use-requires invariant-loop decreases-loop
+first-use-requires : tie.Need-first_use-end-requires invariant-loop decreases-loop
 first-use-requires c κs =
-    let s = c.before.before.before.before.before.before in
-    let l = c.before.before.loop in
-    (s.requires.0, (l.invariant.1, l.invariant.2))
+    (c.requires.0, (c.loop-k.invariant.1, c.loop-k.invariant.2))
 
-cast-firsts : tie.Need-overflow-cast-firsts invariant-loop decreases-loop
+cast-firsts : tie.Need-overflow_cast-firsts invariant-loop decreases-loop
 cast-firsts c =
-    let s = c.before.before.before.before.before.before.before in
-    omega (arith, c.first-use.ensures.0, c.before.before.before.loop.invariant.2, s.requires.0.2.sized)
+    omega (arith, c.first_use-end.ensures.0, c.loop-k.invariant.2, c.requires.0.2.sized)
 
-mul-firsts : tie.Need-overflow-mul-firsts invariant-loop decreases-loop
-mul-firsts c = omega (arith, c.before.before.before.before.before.before.before.requires.1)
+mul-firsts : tie.Need-offset_bounds-firsts-k invariant-loop decreases-loop
+mul-firsts c = omega (arith, c.requires.1)
 
-slice-write-firsts : tie.Need-slice-write-firsts invariant-loop decreases-loop
+slice-write-firsts : tie.Need-bounds-firsts-k invariant-loop decreases-loop
 slice-write-firsts c =
-    let s = c.before.before.before.before.before.before.before in
-    omega (arith, s.requires.1, c.before.before.before.loop.invariant.3)
+    omega (arith, c.requires.1, c.loop-k.invariant.3)
 
-add-k : tie.Need-overflow-add-k invariant-loop decreases-loop
+add-k : tie.Need-overflow_add-k invariant-loop decreases-loop
 add-k c = omega arith
 
-loop-less : tie.Need-loop-smaller invariant-loop decreases-loop
+loop-less : tie.Need-loop-k-smaller invariant-loop decreases-loop
 loop-less c = omega arith
 
-loop-again : tie.Need-loop-preserved invariant-loop decreases-loop
+loop-again : tie.Need-loop-k-preserved invariant-loop decreases-loop
 loop-again c =
-    let s = c.before.before.before.before.before.before.before in
-    let l = c.before.before.before.loop in
-    let e = c.first-use.ensures in (
+    let e = c.first_use-end.ensures in (
       omega arith,
       e.1.gates,
       e.1.most,
-      length-set l.firsts l.k c.first-use.result ∙ l.invariant.3,
-      firsts_more s.args.work.now s.args.g s.args.slots.now l.firsts l.k c.first-use.result (omega (arith, s.requires.1, l.invariant.3)) l.invariant.4 e.1,
+      length-set c.loop-k.firsts c.loop-k.k c.first_use-end.result ∙ c.loop-k.invariant.3,
+      firsts_more c.args.work.now c.args.g c.args.slots.now c.loop-k.firsts c.loop-k.k c.first_use-end.result (omega (arith, c.requires.1, c.loop-k.invariant.3)) c.loop-k.invariant.4 e.1,
     )
 
-same_length : tie.Need-same-length invariant-loop decreases-loop
-same_length c = c.before.loop.invariant.3
+same_length : tie.Need-shape_of-firsts invariant-loop decreases-loop
+same_length c = c.loop-k.invariant.3
 
 returns : tie.Need-returns invariant-loop decreases-loop
-returns c = λ k h. c.before.loop.invariant.4 k (omega arith)
+returns c = λ k h. c.loop-k.invariant.4 k (omega arith)
 
-pub fill-firsts-spec : {M : Type 1} → statement M
-fill-firsts-spec =
+pub fill_firsts_spec : {M : Type 1} → statement M
+fill_firsts_spec =
     tie.close
-    (tie.spec
-    invariant-loop decreases-loop loop-holds mul-first-use shared-slice-read-first-use first-use-requires cast-firsts mul-firsts slice-write-firsts
-    add-k loop-less loop-again same_length returns)
+    (tie.spec invariant-loop decreases-loop loop-holds mul-first-use shared-slice-read-first-use first-use-requires cast-firsts mul-firsts slice-write-firsts add-k loop-less loop-again same_length returns)

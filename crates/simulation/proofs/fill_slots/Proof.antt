@@ -18,88 +18,78 @@ use Rattle.simulation.proofs.fill_slots.Reads as reads
 use Rattle.simulation.proofs.fill_slots.Lts as lts
 use Rattle.simulation.proofs.take_slot.Reads as take-slot-reads
 
-abbrev invariant-loop : tie.invariant-loop
+abbrev invariant-loop : tie.invariant-loop-i
 invariant-loop work slots₀ from to r free next₀ i₀ slots next i =
     (from ≤ i) × (i ≤ to) × (next ≤ i) × (length slots ≡ 32)
     × ((g : Graph) (gs : List Pair) (root : ℕ) → g.free ≡ free → Net gs root work g → r ≡ rank (support g.free gs root) from → next ≡ rank (support g.free gs root) i)
     × ((g : Graph) → g.free ≡ free → ((gs : List Pair) (root : ℕ) → Net gs root work g → r ≡ rank (support g.free gs root) from) → SlotsTo work g slots₀ from
     → SlotsTo work g slots i)
 
-abbrev decreases-loop : tie.decreases-loop
+abbrev decreases-loop : tie.decreases-loop-i
 decreases-loop work slots₀ from to r free next₀ i₀ slots next i = to - i
 
-loop-holds : tie.Need-loop-init invariant-loop decreases-loop
+loop-holds : tie.Need-loop-i-init invariant-loop decreases-loop
 loop-holds c =
-    let s = c.before.before in
-    (omega arith, s.requires.1.0, s.requires.1.2, s.requires.1.3, λ g gs root z net h. h, λ g z h a. a)
+    (omega arith, c.requires.1.0, c.requires.1.2, c.requires.1.3, λ g gs root z net h. h, λ g z h a. a)
 
-sub-v : tie.Need-overflow-sub-v invariant-loop decreases-loop
-sub-v c = omega (arith, c.before.before.before.before.requires.1)
+sub-v : tie.Need-overflow_sub-v invariant-loop decreases-loop
+sub-v c = omega (arith, c.requires.1)
 
-mul-mark : tie.Need-overflow-mul-mark invariant-loop decreases-loop
-mul-mark c = omega (arith, c.before.before.before.before.requires.0.2.sized)
+mul-mark : tie.Need-overflow_mul-mark invariant-loop decreases-loop
+mul-mark c = omega (arith, c.requires.0.2.sized)
 
-add-mark : tie.Need-overflow-add-mark invariant-loop decreases-loop
-add-mark c = omega (arith, c.before.before.before.before.requires.0.2.sized)
+add-mark : tie.Need-overflow_add-mark invariant-loop decreases-loop
+add-mark c = omega (arith, c.requires.0.2.sized)
 
-mul-mark-2 : tie.Need-overflow-mul-mark-2 invariant-loop decreases-loop
-mul-mark-2 c = omega (arith, c.before.before.before.before.requires.0.2.sized)
+mul-mark-2 : tie.Need-offset_bounds-work-v invariant-loop decreases-loop
+mul-mark-2 c = omega (arith, c.requires.0.2.sized)
 
-shared-slice-read-mark : tie.Need-shared-slice-read-mark invariant-loop decreases-loop
+shared-slice-read-mark : tie.Need-bounds-work-v invariant-loop decreases-loop
 shared-slice-read-mark c =
-    let s = c.before.before.before.before.before in
-    omega (arith, net-held s.requires.0.2 (s.args.g.free - c.before.before.loop.i) (omega (arith, s.requires.0.2.sized)))
+    omega (arith, net-held c.requires.0.2 (c.args.g.free - c.loop-i.i) (omega (arith, c.requires.0.2.sized)))
 
-cast-take-slot : tie.Need-overflow-cast-take-slot invariant-loop decreases-loop
-cast-take-slot c = omega (arith, c.before.before.before.before.before.before.requires.0.2.sized)
+cast-take-slot : tie.Need-overflow_cast-v invariant-loop decreases-loop
+cast-take-slot c = omega (arith, c.requires.0.2.sized)
 
-take-slot-requires : tie.Need-take-slot-requires invariant-loop decreases-loop
+take-slot-requires : tie.Need-take_slot-next-requires invariant-loop decreases-loop
 take-slot-requires c κs =
-    let s = c.before.before.before.before.before.before in
-    let l = c.before.before.before.loop in
-    (omega (arith, s.requires.0.2.sized, s.requires.1, l.invariant.1, l.invariant.2), l.invariant.3)
+    (omega (arith, c.requires.0.2.sized, c.requires.1, c.loop-i.invariant.1, c.loop-i.invariant.2), c.loop-i.invariant.3)
 
-add-i : tie.Need-overflow-add-i invariant-loop decreases-loop
-add-i c = omega (arith, c.before.before.before.before.before.before.loop.invariant.1)
+add-i : tie.Need-overflow_add-i invariant-loop decreases-loop
+add-i c = omega (arith, c.loop-i.invariant.1)
 
-loop-less : tie.Need-loop-smaller invariant-loop decreases-loop
+loop-less : tie.Need-loop-i-smaller invariant-loop decreases-loop
 loop-less c = omega arith
 
-loop-again : tie.Need-loop-preserved invariant-loop decreases-loop
+loop-again : tie.Need-loop-i-preserved invariant-loop decreases-loop
 loop-again c =
-    let s = c.before.before.before.before.before.before.before.before.before in
-    let l = c.before.before.before.before.before.before.loop in
-    let e = c.before.before.take-slot in (
-      omega (arith, l.invariant.0),
+    (
+      omega (arith, c.loop-i.invariant.0),
       omega arith,
-      omega (arith, l.invariant.2, taken-bound e.ensures),
-      e.auto.0 ∙ l.invariant.3,
+      omega (arith, c.loop-i.invariant.2, taken-bound c.take_slot-next.ensures),
+      c.take_slot-next.auto.slots ∙ c.loop-i.invariant.3,
       λ g gs root z net h.
-          next_more {g = g} (omega (arith, s.requires.1)) (as-taken l.i g s.args.work.now s.args.g.free z e.ensures) net (l.invariant.4 g gs root z net h),
+          next_more {g = g} (omega (arith, c.requires.1)) (as-taken c.loop-i.i g c.args.work.now c.args.g.free z c.take_slot-next.ensures) net (c.loop-i.invariant.4 g gs root z net h),
       λ g z h a.
-          slots-more {g = g} (omega (arith, s.requires.1)) (as-taken l.i g s.args.work.now s.args.g.free z e.ensures)
-          (λ gs root net. l.invariant.4 g gs root z net (h gs root net)) (l.invariant.5 g z h a),
+          slots-more {g = g} (omega (arith, c.requires.1)) (as-taken c.loop-i.i g c.args.work.now c.args.g.free z c.take_slot-next.ensures)
+          (λ gs root net. c.loop-i.invariant.4 g gs root z net (h gs root net)) (c.loop-i.invariant.5 g z h a),
     )
 
-same_length : tie.Need-same-length invariant-loop decreases-loop
-same_length c = c.before.loop.invariant.3 ∙ sym c.before.before.before.before.requires.1.3
+same_length : tie.Need-shape_of-slots invariant-loop decreases-loop
+same_length c = c.loop-i.invariant.3 ∙ sym c.requires.1.3
 
 returns : tie.Need-returns invariant-loop decreases-loop
 returns c =
-    let s = c.before.before.before.before in
-    let l = c.before.loop in
-    let g = s.args.g in
-    let w = s.args.work.now in
-    let z : l.i ≡ s.args.to = omega (arith, l.invariant.1) in
+    let g = c.args.g in
+    let w = c.args.work.now in
+    let z : c.loop-i.i ≡ c.args.to = omega (arith, c.loop-i.invariant.1) in
     record {
-      most = omega (arith, l.invariant.2, l.invariant.1);
-      next-is = λ gs root net h. l.invariant.4 g gs root refl net h ∙ ap (rank (support g.free gs root)) z;
-      slots-are = λ h a. subst (λ (x : ℕ). SlotsTo w g l.slots x) z (l.invariant.5 g refl h a);
+      most = omega (arith, c.loop-i.invariant.2, c.loop-i.invariant.1);
+      next-is = λ gs root net h. c.loop-i.invariant.4 g gs root refl net h ∙ ap (rank (support g.free gs root)) z;
+      slots-are = λ h a. subst (λ (x : ℕ). SlotsTo w g c.loop-i.slots x) z (c.loop-i.invariant.5 g refl h a);
     }
 
-pub fill-slots-spec : {M : Type 1} → statement M
-fill-slots-spec =
+pub fill_slots_spec : {M : Type 1} → statement M
+fill_slots_spec =
     tie.close
-    (tie.spec
-    invariant-loop decreases-loop loop-holds sub-v mul-mark add-mark mul-mark-2 shared-slice-read-mark cast-take-slot take-slot-requires add-i
-    loop-less loop-again same_length returns)
+    (tie.spec invariant-loop decreases-loop loop-holds sub-v mul-mark add-mark mul-mark-2 shared-slice-read-mark cast-take-slot take-slot-requires add-i loop-less loop-again same_length returns)

@@ -11,12 +11,10 @@ use Rattle.simulation.proofs.edge_half.Reads as edge-half-reads
 
 returns : tie.Need-returns
 returns c =
-    let a = c.before.before.before.args in
-    both_halves c.before.edge-half.result c.edge-half2.result (λ h q. value (half a.work.now h q) a.root) (omega arith) c.before.edge-half.ensures c.edge-half2.ensures
+    let a = c.args in
+    both_halves c.edge_half-low.result c.edge_half-high.result (λ h q. value (half a.work.now h q) a.root) (omega arith) c.edge_half-low.ensures c.edge_half-high.ensures
 
-pub hit-word-spec : {M : Type 1} → statement M
-hit-word-spec =
+pub hit_word_spec : {M : Type 1} → statement M
+hit_word_spec =
     tie.close
-    (tie.spec
-    (λ c κs. search rules) (λ c. search rules) (λ c κs. search rules) (λ c. search rules) (λ c. search rules) (λ c. search rules)
-    returns)
+    (tie.spec (λ c κs. search rules) (λ c. search rules) (λ c κs. search rules) (λ c. search rules) (λ c. search rules) (λ c. search rules) returns)

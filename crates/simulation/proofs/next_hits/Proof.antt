@@ -13,57 +13,42 @@ use Rattle.simulation.proofs.eval_gates.Reads as eval-gates-reads
 use Rattle.simulation.proofs.hit_word.Reads as hit-word-reads
 use Rattle.simulation.proofs.put_slots.Reads as put-slots-reads
 
-add-top : tie.Need-overflow-add-top
+add-top : tie.Need-overflow_add-top
 add-top c =
-    let s = c.before.before.before.before in
-    omega (arith, carry-few s.args.block c.carry.result s.requires.0.0 c.carry.ensures s.requires.0.2, s.requires.0.1.slots-of.count-is)
+    omega (arith, carry-few c.args.block c.carry-top.result c.requires.0.0 c.carry-top.ensures c.requires.0.2, c.requires.0.1.slots-of.count-is)
 
-mul-first : tie.Need-overflow-mul-first
+mul-first : tie.Need-offset_bounds-firsts-top
 mul-first c =
-    let s = c.before.before.before.before in
-    omega (arith, carry-few s.args.block c.carry.result s.requires.0.0 c.carry.ensures s.requires.0.2, s.requires.0.1.slots-of.count-is)
+    omega (arith, carry-few c.args.block c.carry-top.result c.requires.0.0 c.carry-top.ensures c.requires.0.2, c.requires.0.1.slots-of.count-is)
 
-shared-slice-read-first : tie.Need-shared-slice-read-first
+shared-slice-read-first : tie.Need-bounds-firsts-top
 shared-slice-read-first c =
-    let s = c.before.before.before.before.before in
-    omega (arith, carry-few s.args.block c.before.carry.result s.requires.0.0 c.before.carry.ensures s.requires.0.2, s.requires.0.1.slots-of.count-is, s.requires.0.1.held)
+    omega (arith, carry-few c.args.block c.carry-top.result c.requires.0.0 c.carry-top.ensures c.requires.0.2, c.requires.0.1.slots-of.count-is, c.requires.0.1.held)
 
-cast-first : tie.Need-overflow-cast-first
+cast-first : tie.Need-overflow_cast-first
 cast-first c =
-    let s = c.before.before.before.before.before in
-    let f = carry-few s.args.block c.before.carry.result s.requires.0.0 c.before.carry.ensures s.requires.0.2 in
-    omega (arith, (s.requires.0.1.firsts-of (6 + c.before.carry.result) f).most, s.requires.0.1.net.sized)
+    let f = carry-few c.args.block c.carry-top.result c.requires.0.0 c.carry-top.ensures c.requires.0.2 in
+    omega (arith, (c.requires.0.1.firsts-of (6 + c.carry-top.result) f).most, c.requires.0.1.net.sized)
 
-add-put-slots : tie.Need-overflow-add-put-slots
+add-put-slots : tie.Need-overflow_add-top-2
 add-put-slots c =
-    let s = c.before.before.before.before.before.before in
-    omega (arith, carry-few s.args.block c.before.before.carry.result s.requires.0.0 c.before.before.carry.ensures s.requires.0.2, s.requires.0.1.slots-of.count-is)
+    omega (arith, carry-few c.args.block c.carry-top.result c.requires.0.0 c.carry-top.ensures c.requires.0.2, c.requires.0.1.slots-of.count-is)
 
-put-slots-requires : tie.Need-put-slots-requires
+put-slots-requires : tie.Need-put_slots-requires
 put-slots-requires c κs =
-    let s = c.before.before.before.before.before.before in
-    let f = carry-few s.args.block c.before.before.carry.result s.requires.0.0 c.before.before.carry.ensures s.requires.0.2 in
-    (slotted s.requires.0.1.net s.requires.0.1.slots-of (6 + c.before.before.carry.result + 1) (omega arith), omega arith)
+    let f = carry-few c.args.block c.carry-top.result c.requires.0.0 c.carry-top.ensures c.requires.0.2 in
+    (slotted c.requires.0.1.net c.requires.0.1.slots-of (6 + c.carry-top.result + 1) (omega arith), omega arith)
 
-eval-gates-requires : tie.Need-eval-gates-requires
+eval-gates-requires : tie.Need-eval_gates-requires
 eval-gates-requires c κs =
-    let s = c.before.before.before.before.before.before.before.before.before.before in
-    let r = c.before.before.before.before.before.before.carry in
-    let b = c.before.before.before.put-slots in
-    let f = carry-few s.args.block r.result s.requires.0.0 r.ensures s.requires.0.2 in
-    ((pairs_of s.args.work.now s.args.g, s.args.root, net-kept s.requires.0.1.net b.new.0 b.ensures.kept b.auto.0), (s.requires.0.1.firsts-of (6 + r.result) f).gates)
+    let f = carry-few c.args.block c.carry-top.result c.requires.0.0 c.carry-top.ensures c.requires.0.2 in
+    ((pairs_of c.args.work.now c.args.g, c.args.root, net-kept c.requires.0.1.net c.put_slots.new.work c.put_slots.ensures.kept c.put_slots.auto.work), (c.requires.0.1.firsts-of (6 + c.carry-top.result) f).gates)
 
 returns : tie.Need-returns
 returns c =
-    let s = c.before.before.before.before.before.before.before.before.before.before.before.before.before.before.before in
-    let r = c.before.before.before.before.before.before.before.before.before.before.before.carry in
-    let b = c.before.before.before.before.before.before.before.before.put-slots in
-    let e = c.before.before.before.before.eval-gates in
-    advanced b.new.0 e.new.0 s.args.block r.result c.hit-word.result s.requires.0.1 r.ensures s.requires.0.2 b.auto.0 e.auto.0 b.ensures e.ensures c.hit-word.ensures
+    advanced c.put_slots.new.work c.eval_gates.new.work c.args.block c.carry-top.result c.hit_word.result c.requires.0.1 c.carry-top.ensures c.requires.0.2 c.put_slots.auto.work c.eval_gates.auto.work c.put_slots.ensures c.eval_gates.ensures c.hit_word.ensures
 
-pub next-hits-spec : {M : Type 1} → statement M
-next-hits-spec =
+pub next_hits_spec : {M : Type 1} → statement M
+next_hits_spec =
     tie.close
-    (tie.spec
-    (λ c κs. search rules) add-top mul-first shared-slice-read-first cast-first add-put-slots (λ c. search rules) put-slots-requires
-    eval-gates-requires (λ c κs. search rules) (λ c. search rules) returns)
+    (tie.spec (λ c κs. search rules) add-top mul-first shared-slice-read-first cast-first add-put-slots (λ c. search rules) put-slots-requires eval-gates-requires (λ c κs. search rules) (λ c. search rules) returns)

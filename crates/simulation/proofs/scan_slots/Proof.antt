@@ -28,36 +28,33 @@ use borrow.Author.Rules.{rules}
 use Rattle.simulation.proofs.scan_slots.Statement.{statement}
 use Rattle.simulation.proofs.scan_slots.Tie as tie
 
-tries-requires : tie.Need-tries-requires
-tries-requires c κs = c.before.before.requires.1.1
+tries-requires : tie.Need-tries-total-requires
+tries-requires c κs = c.requires.1.1
 
-slice-aggregate-fill-firsts : tie.Need-slice-aggregate-fill-firsts
+slice-aggregate-fill-firsts : tie.Need-slice_bounds-fill_firsts-end
 slice-aggregate-fill-firsts c = refl
 
-fill-firsts-requires : tie.Need-fill-firsts-requires
+fill-firsts-requires : tie.Need-fill_firsts-requires
 fill-firsts-requires c κs =
-    let s = c.before.before.before.before.before.before.before in
-    let n = c.before.before.before.slot-count in (
-      (pairs_of s.args.work.now s.args.g, s.args.root, s.requires.0),
-      (omega (arith, s.requires.1.0.held, n.ensures), omega (arith, n.ensures)),
+    (
+      (pairs_of c.args.work.now c.args.g, c.args.root, c.requires.0),
+      (omega (arith, c.requires.1.0.held, c.slot_count-count.ensures), omega (arith, c.slot_count-count.ensures)),
     )
 
-start-hits-requires : tie.Need-start-hits-requires
+start-hits-requires : tie.Need-start_hits-hits-requires
 start-hits-requires c κs =
-    let s = c.before.before.before.before.before.before.before.before.before.before in
-    let n = c.before.before.before.before.before.before.slot-count in
-    let b = c.before.before.before.before.before.whole-blocks in (
-      s.requires.0,
-      (slots-of n.result s.requires.1.0 n.ensures, omega (arith, b.ensures.1)),
+    (
+      c.requires.0,
+      (slots-of c.slot_count-count.result c.requires.1.0 c.slot_count-count.ensures, omega (arith, c.whole_blocks-start.ensures.1)),
     )
 
-slice-aggregate-scan : tie.Need-slice-aggregate-scan
-slice-aggregate-scan c = sym c.before.before.before.before.before.before.before.fill-firsts.auto.1.1.1.1.0
+slice-aggregate-scan : tie.Need-slice_bounds-scan-end
+slice-aggregate-scan c = sym c.fill_firsts.auto.firsts
 
 -- after the first block: the entry, the slots, the number of places that are tried, and what a scan asks
-module _ (b : tie.After-start-hits) where
+module _ (b : tie.After-start_hits-hits) where
   abbrev S : tie.Start
-  S = b.before.before.before.before.before.before.before.before.before.before.before
+  S = b.before.before.before.before.before.before.before.before.before.before
 
   abbrev work : List ℕ
   work = S.args.work.now
@@ -66,150 +63,136 @@ module _ (b : tie.After-start-hits) where
   slots = S.args.slots.now
 
   abbrev count : ℕ
-  count = b.before.before.before.before.before.before.before.slot-count.result
+  count = b.slot_count-count.result
 
   abbrev total : ℕ
-  total = b.before.before.before.before.before.before.before.before.tries.result
+  total = b.tries-total.result
 
   abbrev first_block : ℕ
-  first_block = b.before.before.before.before.before.before.whole-blocks.result
+  first_block = b.whole_blocks-start.result
 
   slots-are : SlotsOf (pairs_of work S.args.g) S.args.root S.args.g slots count
-  slots-are = slots-of count S.pre.1.0 b.before.before.before.before.before.before.before.slot-count.ensures
+  slots-are = slots-of count S.requires.1.0 b.slot_count-count.ensures
 
-  ready : Scannable work S.args.g S.args.root slots b.before.before.before.fill-firsts.last.1.1.1.1.0 count
+  ready : Scannable work S.args.g S.args.root slots b.fill_firsts.new.firsts count
   ready =
-      let f = b.before.before.before.fill-firsts in
-      record { net = S.pre.0; slots-of = slots-are; held = f.kept.1.1.1.1.0; firsts-of = f.ensures }
+      record { net = S.requires.0; slots-of = slots-are; held = b.fill_firsts.auto.firsts; firsts-of = b.fill_firsts.ensures }
 
   small : total ≤ 4294967296
-  small = omega (arith, b.before.before.before.before.before.before.before.before.tries.ensures, S.pre.1.1)
+  small = omega (arith, b.tries-total.ensures, S.requires.1.1)
 
   size : (let g = S.args.g in
       total ≡ min (2 ^ rank (support g.free (pairs_of work g) S.args.root) g.free) S.args.d)
   size =
-      b.before.before.before.before.before.before.before.before.tries.ensures
-      ∙ ap (λ (x : ℕ). min (2 ^ x) S.args.d) S.pre.1.0.count
+      b.tries-total.ensures
+      ∙ ap (λ (x : ℕ). min (2 ^ x) S.args.d) S.requires.1.0.count
 
-scan-requires : tie.Need-scan-requires
+scan-requires : tie.Need-scan-y-requires
 scan-requires c κs =
-    let k = c.before.before.before.before in
-    let b = k.start-hits in
-    let blocks = c.before.before.before.before.before.before.before.before.before.before.whole-blocks in
-    let s = S k in (
+    let s = S c.before.before.before.before in (
       (
-        count k,
-        started-ready (ready k) b.new.0 (first_block k) b.result b.auto.0 b.ensures,
-        total-small s.args.r s.args.d (count k) (total k)
-            c.before.before.before.before.before.before.before.before.before.before.before.slot-count.ensures s.pre.1.1
-            c.before.before.before.before.before.before.before.before.before.before.before.before.tries.ensures,
+        count c.before.before.before.before,
+        started-ready (ready c.before.before.before.before) c.start_hits-hits.new.work (first_block c.before.before.before.before) c.start_hits-hits.result c.start_hits-hits.auto.work c.start_hits-hits.ensures,
+        total-small s.args.r s.args.d (count c.before.before.before.before) (total c.before.before.before.before)
+            c.slot_count-count.ensures s.requires.1.1
+            c.tries-total.ensures,
       ),
       (
-        (omega (arith, blocks.ensures.1), small k),
+        (omega (arith, c.whole_blocks-start.ensures.1), small c.before.before.before.before),
         (
-          started-values (ready k) b.new.0 (first_block k) b.result b.auto.0 b.ensures,
+          started-values (ready c.before.before.before.before) c.start_hits-hits.new.work (first_block c.before.before.before.before) c.start_hits-hits.result c.start_hits-hits.auto.work c.start_hits-hits.ensures,
           (
-            started-hits (ready k) b.new.0 (first_block k) b.result b.auto.0 b.ensures,
-            started_none (ready k) b.new.0 (first_block k) b.result b.auto.0 b.ensures
-                (λ y l. s.pre.1.0.none y (omega (arith, blocks.ensures.0))),
+            started-hits (ready c.before.before.before.before) c.start_hits-hits.new.work (first_block c.before.before.before.before) c.start_hits-hits.result c.start_hits-hits.auto.work c.start_hits-hits.ensures,
+            started_none (ready c.before.before.before.before) c.start_hits-hits.new.work (first_block c.before.before.before.before) c.start_hits-hits.result c.start_hits-hits.auto.work c.start_hits-hits.ensures
+                (λ y l. s.requires.1.0.none y (omega (arith, c.whole_blocks-start.ensures.0))),
           ),
         ),
       ),
     )
 
 -- after the scan: the words are as many as before, and its answer is the first place that hits
-module _ (y : tie.After-scan) where
-  abbrev B : tie.After-start-hits
+module _ (y : tie.After-scan-y) where
+  abbrev B : tie.After-start_hits-hits
   B = y.before.before.before.before.before
 
-  kept : length y.scan.last.0 ≡ length (work B)
-  kept = y.scan.kept.0 ∙ B.start-hits.kept.0
+  kept : length y.scan-y.new.work ≡ length (work B)
+  kept = y.scan-y.auto.work ∙ B.start_hits-hits.auto.work
 
   first : (let s = S B in
-      First (hit_at s.args.g.free (pairs_of (work B) s.args.g) s.args.root) (total B) y.scan.result)
+      First (hit_at s.args.g.free (pairs_of (work B) s.args.g) s.args.root) (total B) y.scan-y.result)
   first =
-      let b = B.start-hits in
-      scanned-first (ready B) b.last.0 (first_block B) b.result b.kept.0 b.ensures (total B) y.scan.result
-      y.scan.ensures
+      let b = B.start_hits-hits in
+      scanned-first (ready B) b.new.work (first_block B) b.result b.auto.work b.ensures (total B) y.scan-y.result
+      y.scan-y.ensures
 
-clear-front-requires : tie.Need-clear-front-requires
-clear-front-requires c κs = let y = c.before.before.before.before in omega (arith, (S (B y)).pre.0.sized, kept y)
+clear-front-requires : tie.Need-clear_front-requires
+clear-front-requires c κs = omega (arith, (S (B c.before.before.before.before)).requires.0.sized, kept c.before.before.before.before)
 
-put-bits-requires : tie.Need-put-bits-requires
+put-bits-requires : tie.Need-put_bits-requires
 put-bits-requires c κs =
-    let y = c.before.before.before.before.before.before.before.before in
-    let k = B y in
-    let net = (S k).pre.0 in (
-      subst (λ (x : ℕ). Slotted x (slots k) (count k)) (sym (c.before.before.before.clear-front.auto.0 ∙ kept y))
+    let k = B c.before.before.before.before.before.before.before.before in
+    let net = (S k).requires.0 in (
+      subst (λ (x : ℕ). Slotted x (slots k) (count k)) (sym (c.clear_front.auto.work ∙ kept c.before.before.before.before.before.before.before.before))
           (slotted net (slots-are k) (count k) (omega arith)),
       λ j h. (slot-leaf net (slots-are k) j h).0,
     )
 
-same_length : tie.Need-same-length
+same_length : tie.Need-shape_of-work-then-y-total
 same_length c =
-    let a = c.before.before.before.before.before.before in
-    c.before.before.put-bits.auto.0 ∙ a.clear-front.auto.0 ∙ kept a.before.before.before.before.before
+    c.put_bits.auto.work ∙ c.clear_front.auto.work ∙ kept c.before.before.before.before.before.before.before.before.before.before.before
 
-returns : tie.Need-returns
+returns : tie.Need-returns-then-y-total
 returns c =
-    let y = c.before.before.before.before.before.before.before.before.before.before.before in
-    let k = B y in
+    let k = B c.before.before.before.before.before.before.before.before.before.before.before in
     let s = S k in
     let g = s.args.g in
     let gs = pairs_of (work k) g in
-    let e = c.before.before.put-bits in
-    let a = c.before.before.before.before.before.before.clear-front in
-    let net = s.pre.0 in
-    let l : y.scan.result < total k = c.before.before.before.before.before.before.before.before.if1.true in (
-      spread (support g.free gs s.args.root) g.free y.scan.result,
-      found-hit g.free gs s.args.root s.args.d net.built (net-nodes net) (size k) (first y) e.new.0 l
-          (place-bits net (slots-are k) a.new.0 e.new.0 y.scan.result (omega (arith, small k)) a.ensures e.ensures),
+    let net = s.requires.0 in
+    let l : c.scan-y.result < total k = c.if-y-total.true in (
+      spread (support g.free gs s.args.root) g.free c.scan-y.result,
+      found-hit g.free gs s.args.root s.args.d net.built (net-nodes net) (size k) (first c.before.before.before.before.before.before.before.before.before.before.before) c.put_bits.new.work l
+          (place-bits net (slots-are k) c.clear_front.new.work c.put_bits.new.work c.scan-y.result (omega (arith, small k)) c.clear_front.ensures c.put_bits.ensures),
     )
 
 covers-requires : tie.Need-covers-requires
-covers-requires c κs = c.before.before.before.before.before.before.before.before.before.before.before.before.before.before.before.before.before.before.before.requires.1.1
+covers-requires c κs = c.requires.1.1
 
 -- no place that is tried hits: whether these are all
 module _ (v : tie.After-covers) where
-  abbrev Y : tie.After-scan
+  abbrev Y : tie.After-scan-y
   Y = v.before.before.before.before
 
-  past : total (B Y) ≤ Y.scan.result
-  past = omega (arith, v.before.if1.left)
+  past : total (B Y) ≤ Y.scan-y.result
+  past = omega (arith, v.if-y-total.false)
 
   covered : (let s = S (B Y) in
       let g = s.args.g in
       leb (2 ^ rank (support g.free (pairs_of (work (B Y)) g) s.args.root) g.free) s.args.d ≡ v.covers.result)
-  covered = let s = S (B Y) in ap (λ (x : ℕ). leb (2 ^ x) s.args.d) (sym s.pre.1.0.count) ∙ sym v.covers.ensures
+  covered = let s = S (B Y) in ap (λ (x : ℕ). leb (2 ^ x) s.args.d) (sym s.requires.1.0.count) ∙ sym v.covers.ensures
 
-same-length-2 : tie.Need-same-length-2
+same-length-2 : tie.Need-shape_of-work-then-covers
 same-length-2 c = kept c.before.before.before.before.before
 
-returns-2 : tie.Need-returns-2
+returns-2 : tie.Need-returns-then-covers
 returns-2 c =
-    let v = c.before in
-    let k = B (Y v) in
+    let k = B (Y c.before) in
     let s = S k in
-    let net = s.pre.0 in
+    let net = s.requires.0 in
     found-clear s.args.g.free (pairs_of (work k) s.args.g) s.args.root s.args.d net.built (net-nodes net) (size k)
-    (first (Y v)) (past v) (covered v ∙ c.if2.true)
+    (first (Y c.before)) (past c.before) (covered c.before ∙ c.if-covers.true)
 
-same-length-3 : tie.Need-same-length-3
+same-length-3 : tie.Need-shape_of-work-else-covers
 same-length-3 c = kept c.before.before.before.before.before
 
-returns-3 : tie.Need-returns-3
+returns-3 : tie.Need-returns-else-covers
 returns-3 c =
-    let v = c.before in
-    let k = B (Y v) in
+    let k = B (Y c.before) in
     let s = S k in
-    let net = s.pre.0 in
+    let net = s.requires.0 in
     found-spent s.args.g.free (pairs_of (work k) s.args.g) s.args.root s.args.d net.built (net-nodes net) (size k)
-    (first (Y v)) (past v) (covered v ∙ c.if2.false)
+    (first (Y c.before)) (past c.before) (covered c.before ∙ c.if-covers.false)
 
-pub scan-slots-spec : {M : Type 1} → statement M
-scan-slots-spec =
+pub scan_slots_spec : {M : Type 1} → statement M
+scan_slots_spec =
     tie.close
-    (tie.spec
-    tries-requires (λ c κs. tt) (λ c κs. tt) slice-aggregate-fill-firsts fill-firsts-requires start-hits-requires
-    slice-aggregate-scan scan-requires clear-front-requires put-bits-requires same_length returns covers-requires same-length-2
-    returns-2 same-length-3 returns-3)
+    (tie.spec tries-requires (λ c κs. tt) (λ c κs. tt) slice-aggregate-fill-firsts fill-firsts-requires start-hits-requires slice-aggregate-scan scan-requires clear-front-requires put-bits-requires same_length returns covers-requires same-length-2 returns-2 same-length-3 returns-3)

@@ -13,32 +13,21 @@ use Rattle.simulation.proofs.eval_gates.Reads as eval-gates-reads
 use Rattle.simulation.proofs.hit_word.Reads as hit-word-reads
 use Rattle.simulation.proofs.put_slots.Reads as put-slots-reads
 
-put-slots-requires : tie.Need-put-slots-requires
+put-slots-requires : tie.Need-put_slots-requires
 put-slots-requires c κs =
-    let s = c.before.before.before.before.before.before.before in
-    let e = c.before.before.before.clear-leaves in
-    let so = s.requires.1.0 in
-    (slotted (net-kept s.requires.0 e.new.0 e.ensures.kept e.auto.0) so s.args.count (omega arith), omega arith)
+    let so = c.requires.1.0 in
+    (slotted (net-kept c.requires.0 c.clear_leaves.new.work c.clear_leaves.ensures.kept c.clear_leaves.auto.work) so c.args.count (omega arith), omega arith)
 
-eval-gates-requires : tie.Need-eval-gates-requires
+eval-gates-requires : tie.Need-eval_gates-requires
 eval-gates-requires c κs =
-    let s = c.before.before.before.before.before.before.before.before.before.before.before in
-    let a = c.before.before.before.before.before.before.before.clear-leaves in
-    let b = c.before.before.before.put-slots in
-    let w = s.args.work.now in
-    ((pairs_of w s.args.g, s.args.root, net-kept s.requires.0 b.new.0 (kept_trans w a.new.0 b.new.0 a.ensures.kept b.ensures.kept) (b.auto.0 ∙ a.auto.0)), omega arith)
+    let w = c.args.work.now in
+    ((pairs_of w c.args.g, c.args.root, net-kept c.requires.0 c.put_slots.new.work (kept_trans w c.clear_leaves.new.work c.put_slots.new.work c.clear_leaves.ensures.kept c.put_slots.ensures.kept) (c.put_slots.auto.work ∙ c.clear_leaves.auto.work)), omega arith)
 
 returns : tie.Need-returns
 returns c =
-    let s = c.before.before.before.before.before.before.before.before.before.before.before.before.before.before.before.before in
-    let a = c.before.before.before.before.before.before.before.before.before.before.before.before.clear-leaves in
-    let b = c.before.before.before.before.before.before.before.before.put-slots in
-    let e = c.before.before.before.before.eval-gates in
-    started a.new.0 b.new.0 e.new.0 s.args.block c.hit-word.result s.requires.0 s.requires.1.0 s.requires.1.1 a.auto.0 b.auto.0 e.auto.0 a.ensures b.ensures e.ensures c.hit-word.ensures
+    started c.clear_leaves.new.work c.put_slots.new.work c.eval_gates.new.work c.args.block c.hit_word.result c.requires.0 c.requires.1.0 c.requires.1.1 c.clear_leaves.auto.work c.put_slots.auto.work c.eval_gates.auto.work c.clear_leaves.ensures c.put_slots.ensures c.eval_gates.ensures c.hit_word.ensures
 
-pub start-hits-spec : {M : Type 1} → statement M
-start-hits-spec =
+pub start_hits_spec : {M : Type 1} → statement M
+start_hits_spec =
     tie.close
-    (tie.spec
-    (λ c κs. search rules) put-slots-requires (λ c. search rules) eval-gates-requires (λ c κs. search rules) (λ c. search rules)
-    returns)
+    (tie.spec (λ c κs. search rules) put-slots-requires (λ c. search rules) eval-gates-requires (λ c κs. search rules) (λ c. search rules) returns)

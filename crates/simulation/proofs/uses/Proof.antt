@@ -13,29 +13,25 @@ use Rattle.simulation.proofs.uses.Reads as reads
 use Rattle.simulation.proofs.uses.Lts as lts
 use Rattle.simulation.proofs.is_free_from.Reads as is-free-from-reads
 
-returns : tie.Need-returns
+returns : tie.Need-returns-then-work-k-eq0
 returns c = λ e.
-    let a = c.before.before.before.args in
+    let a = c.args in
     let z : get_or a.work.now (16 * a.k + 10) 0 ≡ 0 = omega arith in
     record { left = λ t. absurd (subst T (ap nonzero z) t); right = λ t. absurd (subst T (ap nonzero z) t) }
 
-returns-2 : tie.Need-returns-2
+returns-2 : tie.Need-returns-then-is_free_from
 returns-2 c = λ e. let z : ◌≡◌ {A = Bool} true false = e in absurd (true-false z)
 
-returns-3 : tie.Need-returns-3
+returns-3 : tie.Need-returns
 returns-3 c = λ e.
-    let s = c.before.before.before.before.before.before.before.before in
-    let w = s.args.work.now in
-    let k = s.args.k in
+    let w = c.args.work.now in
+    let k = c.args.k in
     record {
-      left = λ t l. omega (arith, c.before.before.before.is-free-from.ensures c.before.before.if2.false (omega (arith, first_word w k)), first_word w k);
-      right = λ t l. c.is-free-from2.ensures e l;
+      left = λ t l. omega (arith, c.is_free_from.ensures c.if-is_free_from.false (omega (arith, first_word w k)), first_word w k);
+      right = λ t l. c.is_free_from-2.ensures e l;
     }
 
-pub uses-spec : {M : Type 1} → statement M
-uses-spec =
+pub uses_spec : {M : Type 1} → statement M
+uses_spec =
     tie.close
-    (tie.spec
-    (λ c. search rules) (λ c. search rules) (λ c. search rules) (λ c. search rules) returns (λ c. search rules) (λ c. search rules)
-    (λ c. search rules) (λ c κs. search rules) returns-2 (λ c. search rules) (λ c. search rules) (λ c. search rules)
-    (λ c. search rules) (λ c κs. search rules) returns-3)
+    (tie.spec (λ c. search rules) (λ c. search rules) (λ c. search rules) (λ c. search rules) returns (λ c. search rules) (λ c. search rules) (λ c. search rules) (λ c κs. search rules) returns-2 (λ c. search rules) (λ c. search rules) (λ c. search rules) (λ c. search rules) (λ c κs. search rules) returns-3)

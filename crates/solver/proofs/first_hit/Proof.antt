@@ -11,21 +11,15 @@ use Rattle.conflicts.proofs.run.Reads as run-reads
 use Rattle.netlist.proofs.build.Reads as build-reads
 use Rattle.solver.proofs.put_bits.Reads as put-bits-reads
 
-put-bits-requires : tie.Need-put-bits-requires
+put-bits-requires : tie.Need-put_bits-requires
 put-bits-requires c κs =
-    let s = c.before.before.before.before.before.before.before.before.before.before in
-    let a = s.args in
-    let b = c.before.before.before.before.before.before.before.build in
-    let u = c.before.before.before.run in
-    free-few a.work.now b.new.0 u.new.0 a.g (edge_word a.root) a.effort s.requires b.result u.result b.ensures u.ensures
+    let a = c.args in
+    free-few a.work.now c.build-net.new.work c.run-said.new.work a.g (edge_word a.root) a.effort c.requires c.build-net.result c.run-said.result c.build-net.ensures c.run-said.ensures
 
 returns : tie.Need-returns
 returns c =
-    let s = c.before.before.before.before.before.before.before.before.before.before.before.before.before in
-    let a = s.args in
-    let b = c.before.before.before.before.before.before.before.before.before.before.build in
-    let u = c.before.before.before.before.before.before.run in
-    solved-is a.work.now b.new.0 u.new.0 a.g (edge_word a.root) a.effort s.requires b.result u.result b.ensures u.ensures _ u.result refl (u.auto.0 ∙ b.auto.0) c.before.before.put-bits.ensures
+    let a = c.args in
+    solved-is a.work.now c.build-net.new.work c.run-said.new.work a.g (edge_word a.root) a.effort c.requires c.build-net.result c.run-said.result c.build-net.ensures c.run-said.ensures _ c.run-said.result refl (c.run-said.auto.work ∙ c.build-net.auto.work) c.put_bits.ensures
 
-pub first-hit-spec : {M : Type 1} → statement M
-first-hit-spec = tie.close (tie.spec (λ c κs. search rules) (λ c κs. search rules) put-bits-requires (λ c. search rules) returns)
+pub first_hit_spec : {M : Type 1} → statement M
+first_hit_spec = tie.close (tie.spec (λ c κs. search rules) (λ c κs. search rules) put-bits-requires (λ c. search rules) returns)

@@ -8,13 +8,13 @@ use Rattle.solver.proofs.floor_bit.Reads as reads
 use Rattle.solver.proofs.floor_bit.Lts as lts
 use Rattle.memory.proofs.field.Reads as field-reads
 
-returns : tie.Need-returns
+returns : tie.Need-returns-then-field-eq1
 unfolding bit_of
-returns c = rw (← c.before.field.ensures, eq-eqb _ _ c.if1.true)
+returns c = rw (← c.field.ensures, eq-eqb _ _ c.if-field-eq1.true)
 
-returns-2 : tie.Need-returns-2
+returns-2 : tie.Need-returns-else-field-eq1
 unfolding bit_of
-returns-2 c = rw (← c.before.field.ensures, ne_eqb _ _ c.if1.false)
+returns-2 c = rw (← c.field.ensures, ne_eqb _ _ c.if-field-eq1.false)
 
-pub floor-bit-spec : {M : Type 1} → statement M
-floor-bit-spec = tie.close (tie.spec (λ c κs. search rules) returns returns-2)
+pub floor_bit_spec : {M : Type 1} → statement M
+floor_bit_spec = tie.close (tie.spec (λ c κs. search rules) returns returns-2)

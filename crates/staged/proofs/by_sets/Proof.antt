@@ -14,23 +14,22 @@ use Rattle.staged.proofs.Turns.{far-is, Turn, turn-first, turn_last, turn-hit, t
 use Rattle.staged.proofs.by_sets.Statement.{statement}
 use Rattle.staged.proofs.by_sets.Tie as tie
 
-abbrev invariant-loop : tie.invariant-loop
+abbrev invariant-loop : tie.invariant-loop-left
 invariant-loop m layout order start q share work₀ first₀ left₀ work first left =
     (length work ≡ length work₀) × Turn (circuit_in m) q.b q.k share start first left
 
-abbrev decreases-loop : tie.decreases-loop
+abbrev decreases-loop : tie.decreases-loop-left
 decreases-loop m layout order start q share work₀ first₀ left₀ work first left = left
 
-loop-holds : tie.Need-loop-init invariant-loop decreases-loop
+loop-holds : tie.Need-loop-left-init invariant-loop decreases-loop
 loop-holds c =
-    let s = c.before.before.before in
-    let a = s.args in
-    (refl, turn-first (circuit_in a.m.now) a.q.b a.q.k a.share a.start a.q.d s.requires.0.bound s.requires.1.0 s.requires.1.1)
+    let a = c.args in
+    (refl, turn-first (circuit_in a.m.now) a.q.b a.q.k a.share a.start a.q.d c.requires.0.bound c.requires.1.0 c.requires.1.1)
 
-try-sets-requires : tie.Need-try-sets-requires invariant-loop decreases-loop
+try-sets-requires : tie.Need-try_sets-requires invariant-loop decreases-loop
 try-sets-requires c κs =
-    let p = c.before.before.before.before.before.before.requires.0 in
-    let l = c.before.before.loop.invariant in (
+    let p = c.requires.0 in
+    let l = c.loop-left.invariant in (
       record {
         ready = p.ready;
         bad = p.bad;
@@ -43,140 +42,110 @@ try-sets-requires c κs =
       (l.1.within, l.1.none),
     )
 
-same_length : tie.Need-same-length invariant-loop decreases-loop
-same_length c = c.before.before.before.before.before.try-sets.auto.1.1.1.1.1.1.0 ∙ c.before.before.before.before.before.before.before.before.loop.invariant.0
+same_length : tie.Need-shape_of-work-in-Hit invariant-loop decreases-loop
+same_length c = c.try_sets.auto.work ∙ c.loop-left.invariant.0
 
-returns : tie.Need-returns invariant-loop decreases-loop
+returns : tie.Need-returns-in-Hit invariant-loop decreases-loop
 returns c =
-    let s = c.before.before.before.before.before.before.before.before.before.before.before.before in
-    let a = s.args in
-    let l = c.before.before.before.before.before.before.before.before.loop in
-    let f = c.before.before.before.before.before.try-sets in
+    let a = c.args in
     let C = circuit_in a.m.now in
-    turn-hit C a.q.b a.q.k a.share a.start a.q.d s.requires.0.bound l.invariant.1 c.before.before.before.before.before.before.before.loop-test.true f.new.1.1.1.1.1.1.0 f.ensures c.before.t.given.1
+    turn-hit C a.q.b a.q.k a.share a.start a.q.d c.requires.0.bound c.loop-left.invariant.1 c.loop-left-test.true c.try_sets.new.work c.try_sets.ensures c.in-Hit.is
 
-same-length-2 : tie.Need-same-length-2 invariant-loop decreases-loop
-same-length-2 c = c.before.before.before.before.try-sets.auto.1.1.1.1.1.1.0 ∙ c.before.before.before.before.before.before.before.loop.invariant.0
+same-length-2 : tie.Need-shape_of-work-in-Nothing invariant-loop decreases-loop
+same-length-2 c = c.try_sets.auto.work ∙ c.loop-left.invariant.0
 
-returns-2 : tie.Need-returns-2 invariant-loop decreases-loop
+returns-2 : tie.Need-returns-in-Nothing invariant-loop decreases-loop
 returns-2 c =
-    let s = c.before.before.before.before.before.before.before.before.before.before.before in
-    let a = s.args in
-    let l = c.before.before.before.before.before.before.before.loop in
-    let f = c.before.before.before.before.try-sets in
+    let a = c.args in
     let C = circuit_in a.m.now in
-    turn-nothing C a.q.b a.q.k a.share a.start a.q.d s.requires.0.bound l.invariant.1 c.before.before.before.before.before.before.loop-test.true f.new.1.1.1.1.1.1.0 f.ensures c.enum_told.given.1
+    turn-nothing C a.q.b a.q.k a.share a.start a.q.d c.requires.0.bound c.loop-left.invariant.1 c.loop-left-test.true c.try_sets.new.work c.try_sets.ensures c.in-Nothing.is
 
-same-length-3 : tie.Need-same-length-3 invariant-loop decreases-loop
-same-length-3 c = c.before.before.before.before.try-sets.auto.1.1.1.1.1.1.0 ∙ c.before.before.before.before.before.before.before.loop.invariant.0
+same-length-3 : tie.Need-shape_of-work-in-Never invariant-loop decreases-loop
+same-length-3 c = c.try_sets.auto.work ∙ c.loop-left.invariant.0
 
-returns-3 : tie.Need-returns-3 invariant-loop decreases-loop
+returns-3 : tie.Need-returns-in-Never invariant-loop decreases-loop
 returns-3 c =
-    let s = c.before.before.before.before.before.before.before.before.before.before.before in
-    let a = s.args in
-    let l = c.before.before.before.before.before.before.before.loop in
-    let f = c.before.before.before.before.try-sets in
+    let a = c.args in
     let C = circuit_in a.m.now in
-    turn-never C a.q.b a.q.k a.share a.start a.q.d s.requires.0.bound l.invariant.1 c.before.before.before.before.before.before.loop-test.true f.new.1.1.1.1.1.1.0 f.ensures c.enum-told2.given.1
+    turn-never C a.q.b a.q.k a.share a.start a.q.d c.requires.0.bound c.loop-left.invariant.1 c.loop-left-test.true c.try_sets.new.work c.try_sets.ensures c.in-Never.is
 
-same-length-4 : tie.Need-same-length-4 invariant-loop decreases-loop
-same-length-4 c = c.before.before.before.before.before.try-sets.auto.1.1.1.1.1.1.0 ∙ c.before.before.before.before.before.before.before.before.loop.invariant.0
+same-length-4 : tie.Need-shape_of-work-in-CutOff invariant-loop decreases-loop
+same-length-4 c = c.try_sets.auto.work ∙ c.loop-left.invariant.0
 
-returns-4 : tie.Need-returns-4 invariant-loop decreases-loop
+returns-4 : tie.Need-returns-in-CutOff invariant-loop decreases-loop
 returns-4 c =
-    let s = c.before.before.before.before.before.before.before.before.before.before.before.before in
-    let a = s.args in
-    let l = c.before.before.before.before.before.before.before.before.loop in
-    let f = c.before.before.before.before.before.try-sets in
+    let a = c.args in
     let C = circuit_in a.m.now in
-    turn-cut-off C a.q.b a.q.k a.share a.start a.q.d s.requires.0.bound l.invariant.1 c.before.before.before.before.before.before.before.loop-test.true f.new.1.1.1.1.1.1.0 f.ensures c.before.t2.given.1
+    turn-cut-off C a.q.b a.q.k a.share a.start a.q.d c.requires.0.bound c.loop-left.invariant.1 c.loop-left-test.true c.try_sets.new.work c.try_sets.ensures c.in-CutOff.is
 
 size-requires : tie.Need-size-requires invariant-loop decreases-loop
 size-requires c κs =
-    let s = c.before.before.before.before.before.before.before.before.before.before.before.before in
-    (limited s.requires.0.ready.held s.requires.0.ready.layout_of, omega (arith, s.requires.0.bound, c.before.before.before.before.before.before.before.before.loop.invariant.1.within))
+    (limited c.requires.0.ready.held c.requires.0.ready.layout_of, omega (arith, c.requires.0.bound, c.loop-left.invariant.1.within))
 
-size-requires-2 : tie.Need-size-requires-2 invariant-loop decreases-loop
+size-requires-2 : tie.Need-size-requires-in-GaveUp invariant-loop decreases-loop
 size-requires-2 c κs =
-    let s = c.before.before.before.before.before.before.before.before.before.before.before.before.before in
-    let a = s.args in
-    let l = c.before.before.before.before.before.before.before.before.before.loop in
-    let f = c.before.before.before.before.before.before.try-sets in
+    let a = c.args in
     let C = circuit_in a.m.now in
-    let e = counts_of s.requires.0.ready.held s.requires.0.ready.layout_of in
-    let t = c.before.before.t3.given.0.0 in
-    let within : t ≤ a.q.k = turn-within C a.q.b a.q.k a.share a.start a.q.d s.requires.0.bound l.invariant.1 c.before.before.before.before.before.before.before.before.loop-test.true f.new.1.1.1.1.1.1.0 f.ensures c.before.before.t3.given.1 in
-    (limited s.requires.0.ready.held s.requires.0.ready.layout_of, omega (arith, s.requires.0.bound, within))
+    let e = counts_of c.requires.0.ready.held c.requires.0.ready.layout_of in
+    let t = c.in-GaveUp.t in
+    let within : t ≤ a.q.k = turn-within C a.q.b a.q.k a.share a.start a.q.d c.requires.0.bound c.loop-left.invariant.1 c.loop-left-test.true c.try_sets.new.work c.try_sets.ensures c.in-GaveUp.is in
+    (limited c.requires.0.ready.held c.requires.0.ready.layout_of, omega (arith, c.requires.0.bound, within))
 
-is-far-requires : tie.Need-is-far-requires invariant-loop decreases-loop
+is-far-requires : tie.Need-is_far-requires invariant-loop decreases-loop
 is-far-requires c κs =
-    let s = c.before.before.before.before.before.before.before.before.before.before.before.before.before.before in
-    let a = s.args in
-    let l = c.before.before.before.before.before.before.before.before.before.before.loop in
-    let f = c.before.before.before.before.before.before.before.try-sets in
+    let a = c.args in
     let C = circuit_in a.m.now in
-    let e = counts_of s.requires.0.ready.held s.requires.0.ready.layout_of in
-    let t = c.before.before.before.t3.given.0.0 in
-    let within : t ≤ a.q.k = turn-within C a.q.b a.q.k a.share a.start a.q.d s.requires.0.bound l.invariant.1 c.before.before.before.before.before.before.before.before.before.loop-test.true f.new.1.1.1.1.1.1.0 f.ensures c.before.before.before.t3.given.1 in
-    let begun : c.before.size.result ≡ size C l.first = c.before.size.ensures ∙ size_is e l.first in
-    let reached : c.size2.result ≡ size C t = c.size2.ensures ∙ size_is e t in (
-      omega (arith, begun, size-grows C l.first a.q.k l.invariant.1.within, s.requires.0.units),
-      omega (arith, reached, size-grows C t a.q.k within, s.requires.0.units),
+    let e = counts_of c.requires.0.ready.held c.requires.0.ready.layout_of in
+    let t = c.in-GaveUp.t in
+    let within : t ≤ a.q.k = turn-within C a.q.b a.q.k a.share a.start a.q.d c.requires.0.bound c.loop-left.invariant.1 c.loop-left-test.true c.try_sets.new.work c.try_sets.ensures c.in-GaveUp.is in
+    let begun : c.size.result ≡ size C c.loop-left.first = c.size.ensures ∙ size_is e c.loop-left.first in
+    let reached : c.size-in-GaveUp.result ≡ size C t = c.size-in-GaveUp.ensures ∙ size_is e t in (
+      omega (arith, begun, size-grows C c.loop-left.first a.q.k c.loop-left.invariant.1.within, c.requires.0.units),
+      omega (arith, reached, size-grows C t a.q.k within, c.requires.0.units),
     )
 
-same-length-5 : tie.Need-same-length-5 invariant-loop decreases-loop
-same-length-5 c = c.before.before.before.before.before.before.before.before.before.try-sets.auto.1.1.1.1.1.1.0 ∙ c.before.before.before.before.before.before.before.before.before.before.before.before.loop.invariant.0
+same-length-5 : tie.Need-shape_of-work-then-not-is_far invariant-loop decreases-loop
+same-length-5 c = c.try_sets.auto.work ∙ c.loop-left.invariant.0
 
-returns-5 : tie.Need-returns-5 invariant-loop decreases-loop
+returns-5 : tie.Need-returns-then-not-is_far invariant-loop decreases-loop
 returns-5 c =
-    let s = c.before.before.before.before.before.before.before.before.before.before.before.before.before.before.before.before in
-    let a = s.args in
-    let l = c.before.before.before.before.before.before.before.before.before.before.before.before.loop in
-    let f = c.before.before.before.before.before.before.before.before.before.try-sets in
+    let a = c.args in
     let C = circuit_in a.m.now in
-    let e = counts_of s.requires.0.ready.held s.requires.0.ready.layout_of in
-    let t = c.before.before.before.before.before.t3.given.0.0 in
-    let within : t ≤ a.q.k = turn-within C a.q.b a.q.k a.share a.start a.q.d s.requires.0.bound l.invariant.1 c.before.before.before.before.before.before.before.before.before.before.before.loop-test.true f.new.1.1.1.1.1.1.0 f.ensures c.before.before.before.before.before.t3.given.1 in
-    let begun : c.before.before.before.size.result ≡ size C l.first = c.before.before.before.size.ensures ∙ size_is e l.first in
-    let reached : c.before.before.size2.result ≡ size C t = c.before.before.size2.ensures ∙ size_is e t in
-    let far = far-is C l.first t begun reached c.before.is-far.ensures in
-    turn-stop C a.q.b a.q.k a.share a.start a.q.d s.requires.0.bound l.invariant.1 c.before.before.before.before.before.before.before.before.before.before.before.loop-test.true f.new.1.1.1.1.1.1.0 f.ensures c.before.before.before.before.before.t3.given.1 (far ∙ refused c.before.is-far.result c.if1.true)
+    let e = counts_of c.requires.0.ready.held c.requires.0.ready.layout_of in
+    let t = c.in-GaveUp.t in
+    let within : t ≤ a.q.k = turn-within C a.q.b a.q.k a.share a.start a.q.d c.requires.0.bound c.loop-left.invariant.1 c.loop-left-test.true c.try_sets.new.work c.try_sets.ensures c.in-GaveUp.is in
+    let begun : c.size.result ≡ size C c.loop-left.first = c.size.ensures ∙ size_is e c.loop-left.first in
+    let reached : c.size-in-GaveUp.result ≡ size C t = c.size-in-GaveUp.ensures ∙ size_is e t in
+    let far = far-is C c.loop-left.first t begun reached c.is_far.ensures in
+    turn-stop C a.q.b a.q.k a.share a.start a.q.d c.requires.0.bound c.loop-left.invariant.1 c.loop-left-test.true c.try_sets.new.work c.try_sets.ensures c.in-GaveUp.is (far ∙ refused c.is_far.result c.if-not-is_far.true)
 
-sub-left : tie.Need-overflow-sub-left invariant-loop decreases-loop
-sub-left c = omega (arith, c.before.before.before.before.before.before.before.before.before.before.before.loop-test.true)
+sub-left : tie.Need-overflow_sub-left invariant-loop decreases-loop
+sub-left c = omega (arith, c.loop-left-test.true)
 
-loop-less : tie.Need-loop-smaller invariant-loop decreases-loop
-loop-less c = omega (arith, c.before.before.before.before.before.before.before.before.before.before.before.loop-test.true)
+loop-less : tie.Need-loop-left-smaller invariant-loop decreases-loop
+loop-less c = omega (arith, c.loop-left-test.true)
 
-loop-again : tie.Need-loop-preserved invariant-loop decreases-loop
+loop-again : tie.Need-loop-left-preserved invariant-loop decreases-loop
 loop-again c =
-    let s = c.before.before.before.before.before.before.before.before.before.before.before.before.before.before.before.before in
-    let a = s.args in
-    let l = c.before.before.before.before.before.before.before.before.before.before.before.before.loop in
-    let f = c.before.before.before.before.before.before.before.before.before.try-sets in
+    let a = c.args in
     let C = circuit_in a.m.now in
-    let e = counts_of s.requires.0.ready.held s.requires.0.ready.layout_of in
-    let t = c.before.before.before.before.before.t3.given.0.0 in
-    let within : t ≤ a.q.k = turn-within C a.q.b a.q.k a.share a.start a.q.d s.requires.0.bound l.invariant.1 c.before.before.before.before.before.before.before.before.before.before.before.loop-test.true f.new.1.1.1.1.1.1.0 f.ensures c.before.before.before.before.before.t3.given.1 in
-    let begun : c.before.before.before.size.result ≡ size C l.first = c.before.before.before.size.ensures ∙ size_is e l.first in
-    let reached : c.before.before.size2.result ≡ size C t = c.before.before.size2.ensures ∙ size_is e t in
-    let far = far-is C l.first t begun reached c.before.is-far.ensures in
-    (f.auto.1.1.1.1.1.1.0 ∙ l.invariant.0, turn_more C a.q.b a.q.k a.share a.start a.q.d s.requires.0.bound l.invariant.1 c.before.before.before.before.before.before.before.before.before.before.before.loop-test.true f.new.1.1.1.1.1.1.0 f.ensures c.before.before.before.before.before.t3.given.1 (far ∙ granted c.before.is-far.result c.if1.false))
+    let e = counts_of c.requires.0.ready.held c.requires.0.ready.layout_of in
+    let t = c.in-GaveUp.t in
+    let within : t ≤ a.q.k = turn-within C a.q.b a.q.k a.share a.start a.q.d c.requires.0.bound c.loop-left.invariant.1 c.loop-left-test.true c.try_sets.new.work c.try_sets.ensures c.in-GaveUp.is in
+    let begun : c.size.result ≡ size C c.loop-left.first = c.size.ensures ∙ size_is e c.loop-left.first in
+    let reached : c.size-in-GaveUp.result ≡ size C t = c.size-in-GaveUp.ensures ∙ size_is e t in
+    let far = far-is C c.loop-left.first t begun reached c.is_far.ensures in
+    (c.try_sets.auto.work ∙ c.loop-left.invariant.0, turn_more C a.q.b a.q.k a.share a.start a.q.d c.requires.0.bound c.loop-left.invariant.1 c.loop-left-test.true c.try_sets.new.work c.try_sets.ensures c.in-GaveUp.is (far ∙ granted c.is_far.result c.if-not-is_far.false))
 
-same-length-6 : tie.Need-same-length-6 invariant-loop decreases-loop
-same-length-6 c = c.before.loop.invariant.0
+same-length-6 : tie.Need-shape_of-work invariant-loop decreases-loop
+same-length-6 c = c.loop-left.invariant.0
 
-returns-6 : tie.Need-returns-6 invariant-loop decreases-loop
+returns-6 : tie.Need-returns invariant-loop decreases-loop
 returns-6 c =
-    let s = c.before.before.before.before.before in
-    let a = s.args in
-    let l = c.before.loop in
-    turn_last (circuit_in a.m.now) a.q.b a.q.k a.share a.start a.q.d s.requires.0.bound l.invariant.1 (omega (arith, c.loop-test.false)) l.work
+    let a = c.args in
+    turn_last (circuit_in a.m.now) a.q.b a.q.k a.share a.start a.q.d c.requires.0.bound c.loop-left.invariant.1 (omega (arith, c.loop-left-test.false)) c.loop-left.work
 
-pub by-sets-spec : {M : Type 1} → statement M
-by-sets-spec =
+pub by_sets_spec : {M : Type 1} → statement M
+by_sets_spec =
     tie.close
-    (tie.spec
-    invariant-loop decreases-loop loop-holds try-sets-requires (λ c. search rules) same_length returns (λ c. search rules) same-length-2
-    returns-2 (λ c. search rules) same-length-3 returns-3 (λ c. search rules) same-length-4 returns-4 (λ c. search rules)
-    size-requires size-requires-2 is-far-requires same-length-5 returns-5 sub-left loop-less loop-again same-length-6 returns-6)
+    (tie.spec invariant-loop decreases-loop loop-holds try-sets-requires (λ c. search rules) same_length returns (λ c. search rules) same-length-2 returns-2 (λ c. search rules) same-length-3 returns-3 (λ c. search rules) same-length-4 returns-4 (λ c. search rules) size-requires size-requires-2 is-far-requires same-length-5 returns-5 sub-left loop-less loop-again same-length-6 returns-6)

@@ -9,39 +9,34 @@ use Rattle.state_sets.proofs.Follow.{added_none, added-edge}
 use Rattle.state_sets.proofs.add_row.Statement.{statement}
 use Rattle.state_sets.proofs.add_row.Tie as tie
 
-with-row-requires : tie.Need-with-row-requires
-with-row-requires c κs = (c.before.before.before.before.requires.0, c.before.before.before.before.requires.1)
+with-row-requires : tie.Need-with_row-requires
+with-row-requires c κs = (c.requires.0, c.requires.1)
 
-slice-write-table : tie.Need-slice-write-table
-slice-write-table c = omega (arith, c.before.before.before.before.before.before.before.before.before.before.requires.0.room)
+slice-write-table : tie.Need-bounds-table-257
+slice-write-table c = omega (arith, c.requires.0.room)
 
-same_length : tie.Need-same-length
-same_length c = c.before.before.before.before.with_row.auto.0
+same_length : tie.Need-shape_of-w-in-Full
+same_length c = c.with_row.auto.w
 
-same-length-2 : tie.Need-same-length-2
+same-length-2 : tie.Need-shape_of-table-in-Full
 same-length-2 c = refl
 
-returns : tie.Need-returns
+returns : tie.Need-returns-in-Full
 returns c =
-    let a = c.before.before.before.before.before.before.before.before.before.args in
-    let m = c.before.before.before.before.with_row in
-    added_none a.s.vars a.next a.r a.table.now (state_of a.w.now) (state_of m.new.0)
-    (ap (left m.new.0) (sym c.enum_told.given.1) ∙ m.ensures)
+    let a = c.args in
+    added_none a.s.vars a.next a.r a.table.now (state_of a.w.now) (state_of c.with_row.new.w)
+    (ap (left c.with_row.new.w) (sym c.in-Full.is) ∙ c.with_row.ensures)
 
-same-length-3 : tie.Need-same-length-3
-same-length-3 c = c.before.before.before.before.before.with_row.auto.0
+same-length-3 : tie.Need-shape_of-w-in-Edge
+same-length-3 c = c.with_row.auto.w
 
-returns-2 : tie.Need-returns-2
+returns-2 : tie.Need-returns-in-Edge
 returns-2 c =
-    let a = c.before.before.before.before.before.before.before.before.before.before.args in
-    let m = c.before.before.before.before.before.with_row in
-    let k = c.before.e.given in
-    added-edge a.s.vars a.next a.r a.table.now (state_of a.w.now) (state_of m.new.0) k.0.0
-    (ap (left m.new.0) (sym k.1) ∙ m.ensures)
+    let a = c.args in
+    added-edge a.s.vars a.next a.r a.table.now (state_of a.w.now) (state_of c.with_row.new.w) c.in-Edge.e
+    (ap (left c.with_row.new.w) (sym c.in-Edge.is) ∙ c.with_row.ensures)
 
-pub add-row-spec : {M : Type 1} → statement M
-add-row-spec =
+pub add_row_spec : {M : Type 1} → statement M
+add_row_spec =
     tie.close
-    (tie.spec
-    with-row-requires (λ c. search rules) (λ c. search rules) slice-write-table same_length same-length-2 returns same-length-3
-    (λ c. search rules) returns-2)
+    (tie.spec with-row-requires (λ c. search rules) (λ c. search rules) slice-write-table same_length same-length-2 returns same-length-3 (λ c. search rules) returns-2)

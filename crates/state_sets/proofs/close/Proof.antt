@@ -10,33 +10,28 @@ use Rattle.state_sets.proofs.Follow.{closed_none, closed-edge}
 use Rattle.state_sets.proofs.close.Statement.{statement}
 use Rattle.state_sets.proofs.close.Tie as tie
 
-slice-write-table-3 : tie.Need-slice-write-table-3
-slice-write-table-3 c = simp length-set (omega (arith, c.before.before.before.before.before.before.before.before.before.before.before.requires))
+slice-write-table-3 : tie.Need-bounds-table-next
+slice-write-table-3 c = simp length-set (omega (arith, c.requires))
 
-same_length : tie.Need-same-length
-same_length c = c.before.before.before.before.either.auto.0
+same_length : tie.Need-shape_of-w-in-Full
+same_length c = c.either.auto.w
 
-returns : tie.Need-returns
+returns : tie.Need-returns-in-Full
 returns c =
-    let a = c.before.before.before.before.before.before.before.before.before.before.args in
-    let m = c.before.before.before.before.either in
-    closed_none a.next a.table.now (state_of a.w.now) (state_of m.new.0)
-    (ap (left m.new.0) (sym c.enum_told.given.1) ∙ m.ensures)
+    let a = c.args in
+    closed_none a.next a.table.now (state_of a.w.now) (state_of c.either.new.w)
+    (ap (left c.either.new.w) (sym c.in-Full.is) ∙ c.either.ensures)
 
-same-length-2 : tie.Need-same-length-2
-same-length-2 c = c.before.before.before.before.before.either.auto.0
+same-length-2 : tie.Need-shape_of-w-in-Edge
+same-length-2 c = c.either.auto.w
 
-returns-2 : tie.Need-returns-2
+returns-2 : tie.Need-returns-in-Edge
 returns-2 c =
-    let a = c.before.before.before.before.before.before.before.before.before.before.before.args in
-    let m = c.before.before.before.before.before.either in
-    let k = c.before.e.given in
-    closed-edge a.next a.table.now (state_of a.w.now) (state_of m.new.0) k.0.0
-    (ap (left m.new.0) (sym k.1) ∙ m.ensures)
+    let a = c.args in
+    closed-edge a.next a.table.now (state_of a.w.now) (state_of c.either.new.w) c.in-Edge.e
+    (ap (left c.either.new.w) (sym c.in-Edge.is) ∙ c.either.ensures)
 
 pub close_spec : {M : Type 1} → statement M
 close_spec =
     tie.close
-    (tie.spec
-    (λ c. search rules) (λ c. search rules) (λ c κs. search rules) (λ c. search rules) (λ c. search rules) (λ c. search rules)
-    (λ c. search rules) (λ c. search rules) slice-write-table-3 same_length returns same-length-2 (λ c. search rules) returns-2)
+    (tie.spec (λ c. search rules) (λ c. search rules) (λ c κs. search rules) (λ c. search rules) (λ c. search rules) (λ c. search rules) (λ c. search rules) (λ c. search rules) slice-write-table-3 same_length returns same-length-2 (λ c. search rules) returns-2)

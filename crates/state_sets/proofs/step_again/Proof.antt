@@ -15,60 +15,52 @@ use Rattle.state_sets.proofs.step_again.Statement.{statement}
 use Rattle.state_sets.proofs.step_again.Tie as tie
 
 step-requires : tie.Need-step-requires
-step-requires c κs = c.before.before.before.before.requires
+step-requires c κs = c.requires
 
-same_length : tie.Need-same-length
-same_length c = c.before.before.before.before.before.step.auto.0
+same_length : tie.Need-shape_of-w-then-step
+same_length c = c.step.auto.w
 
-same-length-2 : tie.Need-same-length-2
-same-length-2 c = c.before.before.before.before.before.step.auto.1.0
+same-length-2 : tie.Need-shape_of-table-then-step
+same-length-2 c = c.step.auto.table
 
-returns : tie.Need-returns
+returns : tie.Need-returns-then-step
 returns c =
-    let a = c.before.before.before.before.before.before.before.before.before.before.args in
-    let m = c.before.before.before.before.before.step in
-    again-done (step_of a.s.vars a.s.rows a.next a.r) (sets_of a.w.now a.table.now) (sets_of m.new.0 m.new.1.0)
-    (ap (left m.new.0 m.new.1.0) (sym c.if1.true) ∙ m.ensures)
+    let a = c.args in
+    again-done (step_of a.s.vars a.s.rows a.next a.r) (sets_of a.w.now a.table.now) (sets_of c.step.new.w c.step.new.table)
+    (ap (left c.step.new.w c.step.new.table) (sym c.if-step.true) ∙ c.step.ensures)
 
-step-requires-2 : tie.Need-step-requires-2
+step-requires-2 : tie.Need-step-requires-in-Kept
 step-requires-2 c κs =
-    let a = c.before.before.before.before.before.before.before.before.before.before.before.before.before.before.before.before.before.before.before.before.before in
-    let e : length c.before.before.before.before.before.before.before.before.collect.new.1.0 ≡ length a.args.table.now = c.before.before.before.before.before.before.before.before.collect.auto.1.0 ∙ c.before.before.before.before.before.before.before.before.before.before.before.before.before.before.before.before.step.auto.1.0 in
-    (rw e a.requires.0, a.requires.1)
+    let e : length c.collect.new.roots ≡ length c.args.table.now = c.collect.auto.roots ∙ c.step.auto.table in
+    (rw e c.requires.0, c.requires.1)
 
-same-length-3 : tie.Need-same-length-3
-same-length-3 c = c.before.before.before.before.before.before.collect.auto.0 ∙ c.before.before.before.before.before.before.before.before.before.before.before.before.before.before.step.auto.0
+same-length-3 : tie.Need-shape_of-w-in-Full
+same-length-3 c = c.collect.auto.w ∙ c.step.auto.w
 
-same-length-4 : tie.Need-same-length-4
-same-length-4 c = c.before.before.before.before.before.before.collect.auto.1.0 ∙ c.before.before.before.before.before.before.before.before.before.before.before.before.before.before.step.auto.1.0
+same-length-4 : tie.Need-shape_of-table-in-Full
+same-length-4 c = c.collect.auto.roots ∙ c.step.auto.table
 
-returns-2 : tie.Need-returns-2
+returns-2 : tie.Need-returns-in-Full
 returns-2 c =
-    let a = c.before.before.before.before.before.before.before.before.before.before.before.before.before.before.before.before.before.before.before.args in
-    let m = c.before.before.before.before.before.before.before.before.before.before.before.before.before.before.step in
-    let q = c.before.before.before.before.before.before.collect in
-    again-out (step_of a.s.vars a.s.rows a.next a.r) (sets_of a.w.now a.table.now) (sets_of m.new.0 m.new.1.0)
-    (state_of q.new.0) q.new.1.0 (ap (left m.new.0 m.new.1.0) (sym c.before.before.before.before.before.before.before.before.before.if1.false) ∙ m.ensures)
-    (ap (λ (r : Collected). C.collection (state_of q.new.0) q.new.1.0 (C.is_kept r)) (sym c.enum_told.given.1) ∙ q.ensures)
+    let a = c.args in
+    again-out (step_of a.s.vars a.s.rows a.next a.r) (sets_of a.w.now a.table.now) (sets_of c.step.new.w c.step.new.table)
+    (state_of c.collect.new.w) c.collect.new.roots (ap (left c.step.new.w c.step.new.table) (sym c.if-step.false) ∙ c.step.ensures)
+    (ap (λ (r : Collected). C.collection (state_of c.collect.new.w) c.collect.new.roots (C.is_kept r)) (sym c.in-Full.is) ∙ c.collect.ensures)
 
-same-length-5 : tie.Need-same-length-5
-same-length-5 c = c.before.before.before.before.step2.auto.0 ∙ c.before.before.before.before.before.before.before.before.before.before.before.before.before.collect.auto.0 ∙ c.before.before.before.before.before.before.before.before.before.before.before.before.before.before.before.before.before.before.before.before.before.step.auto.0
+same-length-5 : tie.Need-shape_of-w-in-Kept
+same-length-5 c = c.step-in-Kept.auto.w ∙ c.collect.auto.w ∙ c.step.auto.w
 
-same-length-6 : tie.Need-same-length-6
-same-length-6 c = c.before.before.before.before.step2.auto.1.0 ∙ c.before.before.before.before.before.before.before.before.before.before.before.before.before.collect.auto.1.0 ∙ c.before.before.before.before.before.before.before.before.before.before.before.before.before.before.before.before.before.before.before.before.before.step.auto.1.0
+same-length-6 : tie.Need-shape_of-table-in-Kept
+same-length-6 c = c.step-in-Kept.auto.table ∙ c.collect.auto.roots ∙ c.step.auto.table
 
-returns-3 : tie.Need-returns-3
+returns-3 : tie.Need-returns-in-Kept
 returns-3 c =
-    let a = c.before.before.before.before.before.before.before.before.before.before.before.before.before.before.before.before.before.before.before.before.before.before.before.before.before.before.args in
-    let m = c.before.before.before.before.before.before.before.before.before.before.before.before.before.before.before.before.before.before.before.before.before.step in
-    let q = c.before.before.before.before.before.before.before.before.before.before.before.before.before.collect in
-    again-more (step_of a.s.vars a.s.rows a.next a.r) (sets_of a.w.now a.table.now) (sets_of m.new.0 m.new.1.0)
-    (state_of q.new.0) q.new.1.0 _ (ap (left m.new.0 m.new.1.0) (sym c.before.before.before.before.before.before.before.before.before.before.before.before.before.before.before.before.if1.false) ∙ m.ensures)
-    (ap (λ (r : Collected). C.collection (state_of q.new.0) q.new.1.0 (C.is_kept r)) (sym c.before.before.before.before.before.before.before.enum-told2.given.1) ∙ q.ensures) c.before.before.before.before.step2.ensures
+    let a = c.args in
+    again-more (step_of a.s.vars a.s.rows a.next a.r) (sets_of a.w.now a.table.now) (sets_of c.step.new.w c.step.new.table)
+    (state_of c.collect.new.w) c.collect.new.roots _ (ap (left c.step.new.w c.step.new.table) (sym c.if-step.false) ∙ c.step.ensures)
+    (ap (λ (r : Collected). C.collection (state_of c.collect.new.w) c.collect.new.roots (C.is_kept r)) (sym c.in-Kept.is) ∙ c.collect.ensures) c.step-in-Kept.ensures
 
-pub step-again-spec : {M : Type 1} → statement M
-step-again-spec =
+pub step_again_spec : {M : Type 1} → statement M
+step_again_spec =
     tie.close
-    (tie.spec
-    step-requires same_length same-length-2 returns (λ c κs. search rules) (λ c. search rules) (λ c. search rules) step-requires-2
-    same-length-3 same-length-4 returns-2 same-length-5 same-length-6 returns-3)
+    (tie.spec step-requires same_length same-length-2 returns (λ c κs. search rules) (λ c. search rules) (λ c. search rules) step-requires-2 same-length-3 same-length-4 returns-2 same-length-5 same-length-6 returns-3)

@@ -9,28 +9,27 @@ use Rattle.states.proofs.fill.Statement.{statement}
 use Rattle.states.proofs.fill.Tie as tie
 
 clear-requires : tie.Need-clear-requires
-clear-requires c κs = c.before.before.requires.0
+clear-requires c κs = c.requires.0
 
-link-all-requires : tie.Need-link-all-requires
+link-all-requires : tie.Need-link_all-requires
 link-all-requires c κs = (
-  buckets-kept c.before.before.before.clear.auto.0 c.before.before.before.before.before.before.requires.0,
+  buckets-kept c.clear.auto.records c.requires.0,
   (
-    omega (arith, c.before.before.before.clear.auto.0, c.before.before.before.before.before.before.requires.1.0),
-    c.before.before.before.before.before.before.requires.1.1,
+    omega (arith, c.clear.auto.records, c.requires.1.0),
+    c.requires.1.1,
   ),
 )
 
-same_length : tie.Need-same-length
-same_length c = c.before.before.link-all.auto.0 ∙ c.before.before.before.before.before.before.clear.auto.0
+same_length : tie.Need-shape_of-records
+same_length c = c.link_all.auto.records ∙ c.clear.auto.records
 
 returns : tie.Need-returns
 returns c =
-    let a = c.before.before.before.before.before.before.before.before.before.args in
-    filled-both a.table a.count a.records.now c.before.before.before.before.before.before.clear.new.0 c.before.before.link-all.new.0 c.before.before.before.before.before.before.clear.auto.0 c.before.before.before.before.before.before.clear.ensures
-    c.before.before.link-all.ensures.0 c.before.before.link-all.ensures.1
+    let a = c.args in
+    filled-both a.table a.count a.records.now c.clear.new.records c.link_all.new.records c.clear.auto.records c.clear.ensures
+    c.link_all.ensures.0 c.link_all.ensures.1
 
 pub fill_spec : {M : Type 1} → statement M
 fill_spec =
     tie.close
-    (tie.spec
-    clear-requires link-all-requires same_length returns)
+    (tie.spec clear-requires link-all-requires same_length returns)

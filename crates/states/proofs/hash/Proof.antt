@@ -9,37 +9,34 @@ use borrow.Author.Rules.{rules}
 use Rattle.states.proofs.hash.Statement.{statement}
 use Rattle.states.proofs.hash.Tie as tie
 
-abbrev invariant-loop : tie.invariant-loop
+abbrev invariant-loop : tie.invariant-loop-i
 invariant-loop s h₀ i₀ h i = (i ≤ length s) × (h ≡ hashed (length s - i) (number_at s i (length s - i)))
 
-abbrev decreases-loop : tie.decreases-loop
+abbrev decreases-loop : tie.decreases-loop-i
 decreases-loop s h₀ i₀ h i = i
 
-loop-holds : tie.Need-loop-init invariant-loop decreases-loop
-loop-holds c = (omega arith, hash-none c.before.args.s.now (length c.before.args.s.now))
+loop-holds : tie.Need-loop-i-init invariant-loop decreases-loop
+loop-holds c = (omega arith, hash-none c.args.s.now (length c.args.s.now))
 
-loop-again : tie.Need-loop-preserved invariant-loop decreases-loop
+loop-again : tie.Need-loop-i-preserved invariant-loop decreases-loop
 loop-again c =
-    let s = c.before.before.before.before.before.args.s.now in
-    let L = c.before.before.before.loop in (
-      omega (arith, L.invariant.0),
-      hash-more s (length s) L.i L.h c.mix.result (omega arith) L.invariant.0 (omega (
+    let s = c.args.s.now in
+    (
+      omega (arith, c.loop-i.invariant.0),
+      hash-more s (length s) c.loop-i.i c.loop-i.h c.mix-h.result (omega arith) c.loop-i.invariant.0 (omega (
         arith,
-        c.before.shared-slice-known2.given (L.i - 1),
-      )) L.invariant.1 c.mix.ensures,
+        c.shared_slice_known-in-loop-i-1.given (c.loop-i.i - 1),
+      )) c.loop-i.invariant.1 c.mix-h.ensures,
     )
 
 returns : tie.Need-returns invariant-loop decreases-loop
 returns c =
-    let s = c.before.before.before.args.s.now in
-    let L = c.before.loop in
-    let e : L.i ≡ 0 = omega arith in
+    let s = c.args.s.now in
+    let e : c.loop-i.i ≡ 0 = omega arith in
     let z : length s - 0 ≡ length s = omega arith in
-    L.invariant.1 ∙ ap (λ (x : ℕ). hashed (length s - x) (number_at s x (length s - x))) e ∙ ap (λ (x : ℕ). hashed x (number_at s 0 x)) z
+    c.loop-i.invariant.1 ∙ ap (λ (x : ℕ). hashed (length s - x) (number_at s x (length s - x))) e ∙ ap (λ (x : ℕ). hashed x (number_at s 0 x)) z
 
-pub hash-spec : {M : Type 1} → statement M
-hash-spec =
+pub hash_spec : {M : Type 1} → statement M
+hash_spec =
     tie.close
-    (tie.spec
-    invariant-loop decreases-loop loop-holds (λ c. search rules) (λ c. search rules) (λ c. search rules) (λ c κs. search rules)
-    (λ c. search rules) loop-again returns)
+    (tie.spec invariant-loop decreases-loop loop-holds (λ c. search rules) (λ c. search rules) (λ c. search rules) (λ c κs. search rules) (λ c. search rules) loop-again returns)

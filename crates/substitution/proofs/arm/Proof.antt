@@ -5,26 +5,21 @@ use Rattle.substitution.specs.Substitution.{arm}
 use Rattle.substitution.proofs.arm.Statement.{statement}
 use Rattle.substitution.proofs.arm.Tie as tie
 
-returns : tie.Need-returns
+returns : tie.Need-returns-then-g-f
 unfolding arm
-returns c = rw (eq-eqb _ _ c.if1.true)
+returns c = rw (eq-eqb _ _ c.if-g-f.true)
 
-returns-2 : tie.Need-returns-2
+returns-2 : tie.Need-returns-then-g-flip
 unfolding arm
 returns-2 c =
-    let at-flip = c.before in
-    let at-if1 = at-flip.before in
-    rw (ne_eqb _ _ at-if1.if1.false, ← at-flip.flip.ensures, eq-eqb _ _ c.if2.true)
+    rw (ne_eqb _ _ c.if-g-f.false, ← c.flip.ensures, eq-eqb _ _ c.if-g-flip.true)
 
-returns-3 : tie.Need-returns-3
+returns-3 : tie.Need-returns
 unfolding arm
 returns-3 c =
-    let at-flip = c.before in
-    let at-if1 = at-flip.before in
-    rw (ne_eqb _ _ at-if1.if1.false, ← at-flip.flip.ensures, ne_eqb _ _ c.if2.false)
+    rw (ne_eqb _ _ c.if-g-f.false, ← c.flip.ensures, ne_eqb _ _ c.if-g-flip.false)
 
-pub arm-spec : {M : Type 1} → statement M
-arm-spec =
+pub arm_spec : {M : Type 1} → statement M
+arm_spec =
     tie.close
-    (tie.spec
-    returns (λ c κs. search rules) returns-2 returns-3)
+    (tie.spec returns (λ c κs. search rules) returns-2 returns-3)

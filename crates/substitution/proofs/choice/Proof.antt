@@ -5,47 +5,36 @@ use Rattle.substitution.specs.Substitution.{choice}
 use Rattle.substitution.proofs.choice.Statement.{statement}
 use Rattle.substitution.proofs.choice.Tie as tie
 
-returns : tie.Need-returns
+returns : tie.Need-returns-then-g-h
 unfolding choice
-returns c = rw (eq-eqb _ _ c.if1.true)
+returns c = rw (eq-eqb _ _ c.if-g-h.true)
 
-returns-2 : tie.Need-returns-2
+returns-2 : tie.Need-returns-then-f-eq1
 unfolding choice
-returns-2 c = rw (ne_eqb _ _ c.before.if1.false, eq-eqb _ _ c.if2.true)
+returns-2 c = rw (ne_eqb _ _ c.if-g-h.false, eq-eqb _ _ c.if-f-eq1.true)
 
-returns-3 : tie.Need-returns-3
+returns-3 : tie.Need-returns-then-f-eq0
 unfolding choice
 returns-3 c =
-    let at-if2 = c.before in
-    let at-if1 = at-if2.before in
-    rw (ne_eqb _ _ at-if1.if1.false, ne_eqb _ _ at-if2.if2.false, eq-eqb _ _ c.if3.true)
+    rw (ne_eqb _ _ c.if-g-h.false, ne_eqb _ _ c.if-f-eq1.false, eq-eqb _ _ c.if-f-eq0.true)
 
-same_length : tie.Need-same-length
-same_length c = c.before.before.of-arms.auto.0
+same_length : tie.Need-shape_of-w
+same_length c = c.of_arms.auto.w
 
-returns-4 : tie.Need-returns-4
+returns-4 : tie.Need-returns
 unfolding choice
 returns-4 c =
-    let at-of-arms = c.before.before in
-    let at-arm2 = at-of-arms.before in
-    let at-flip = at-arm2.before in
-    let at-arm = at-flip.before in
-    let at-if3 = at-arm.before.before in
-    let at-if2 = at-if3.before in
-    let at-if1 = at-if2.before in
     rw (
-      ne_eqb _ _ at-if1.if1.false,
-      ne_eqb _ _ at-if2.if2.false,
-      ne_eqb _ _ at-if3.if3.false,
-      ← at-flip.flip.ensures,
-      ← at-arm.arm.ensures,
-      ← at-arm2.arm2.ensures,
+      ne_eqb _ _ c.if-g-h.false,
+      ne_eqb _ _ c.if-f-eq1.false,
+      ne_eqb _ _ c.if-f-eq0.false,
+      ← c.flip.ensures,
+      ← c.arm.ensures,
+      ← c.arm-2.ensures,
     )
-    at-of-arms.of-arms.ensures
+    c.of_arms.ensures
 
-pub choice-spec : {M : Type 1} → statement M
-choice-spec =
+pub choice_spec : {M : Type 1} → statement M
+choice_spec =
     tie.close
-    (tie.spec
-    returns returns-2 returns-3 (λ c κs. search rules) (λ c κs. search rules) (λ c κs. search rules) (λ c κs. search rules)
-    same_length returns-4)
+    (tie.spec returns returns-2 returns-3 (λ c κs. search rules) (λ c κs. search rules) (λ c κs. search rules) (λ c κs. search rules) same_length returns-4)

@@ -5,11 +5,10 @@ use lib.ListN.{get_or-eq_default}
 use Rattle.substitution.proofs.edge_at.Statement.{statement}
 use Rattle.substitution.proofs.edge_at.Tie as tie
 
-returns-2 : tie.Need-returns-2
-returns-2 c = sym (get_or-eq_default c.before.args.by.now 0 c.if1.false)
+returns-2 : tie.Need-returns-else-i-by
+returns-2 c = sym (get_or-eq_default c.args.by.now 0 c.if-i-by.false)
 
-pub edge-at-spec : {M : Type 1} → statement M
-edge-at-spec =
+pub edge_at_spec : {M : Type 1} → statement M
+edge_at_spec =
     tie.close
-    (tie.spec
-    (λ c. search rules) (λ c. search rules) (λ c. search rules) returns-2)
+    (tie.spec (λ c. search rules) (λ c. search rules) (λ c. search rules) returns-2)

@@ -6,43 +6,27 @@ use Rattle.substitution.proofs.Follow.{choice-full, choice-kept}
 use Rattle.substitution.proofs.finish_choice.Statement.{statement}
 use Rattle.substitution.proofs.finish_choice.Tie as tie
 
-same_length : tie.Need-same-length
-same_length c = c.before.before.before.before.choice.auto.0
+same_length : tie.Need-shape_of-w-in-Full
+same_length c = c.choice.auto.w
 
-returns : tie.Need-returns
+returns : tie.Need-returns-in-Full
 returns c =
-    let at-choice = c.before.before.before.before in
-    let at-start = at-choice.before.before.before in
-    let a = at-start.args in
-    let m = at-choice.choice in
-    choice-full (state_of a.w.now) a.x a.hi a.lo a.e a.tag (state_of m.new.0)
-    (ap (left m.new.0) (sym c.enum_told.given.1) ∙ m.ensures)
+    let a = c.args in
+    choice-full (state_of a.w.now) a.x a.hi a.lo a.e a.tag (state_of c.choice.new.w)
+    (ap (left c.choice.new.w) (sym c.in-Full.is) ∙ c.choice.ensures)
 
-same-length-2 : tie.Need-same-length-2
+same-length-2 : tie.Need-shape_of-w-in-Edge
 same-length-2 c =
-    let at-keep = c.before.before.before in
-    let at-choice = at-keep.before.before.before.before.before.before.before.before.before in
-    at-keep.keep.auto.0 ∙ at-choice.choice.auto.0
+    c.keep.auto.w ∙ c.choice.auto.w
 
-returns-2 : tie.Need-returns-2
+returns-2 : tie.Need-returns-in-Edge
 returns-2 c =
-    let at-keep = c.before.before.before in
-    let at_mark = at-keep.before in
-    let at-flip = at_mark.before in
-    let at-r = at-flip.before.before.before in
-    let at-choice = at-r.before.before.before.before in
-    let at-start = at-choice.before.before.before in
-    let a = at-start.args in
-    let m = at-choice.choice in
-    let k = at-keep.keep in
-    let g = at-r.r.given in
-    choice-kept (state_of a.w.now) a.x a.hi a.lo a.e a.tag (state_of m.new.0) (state_of k.new.0) g.0.0
-    at-flip.flip.result at_mark.mark.result c.flip2.result
-    (ap (left m.new.0) (sym g.1) ∙ m.ensures) at-flip.flip.ensures at_mark.mark.ensures k.ensures c.flip2.ensures
+    let a = c.args in
+    choice-kept (state_of a.w.now) a.x a.hi a.lo a.e a.tag (state_of c.choice.new.w) (state_of c.keep.new.w) c.in-Edge.r
+    c.flip.result c.mark.result c.flip-in-Edge.result
+    (ap (left c.choice.new.w) (sym c.in-Edge.is) ∙ c.choice.ensures) c.flip.ensures c.mark.ensures c.keep.ensures c.flip-in-Edge.ensures
 
-pub finish-choice-spec : {M : Type 1} → statement M
-finish-choice-spec =
+pub finish_choice_spec : {M : Type 1} → statement M
+finish_choice_spec =
     tie.close
-    (tie.spec
-    (λ c κs. search rules) (λ c. search rules) (λ c. search rules) (λ c κs. search rules) (λ c κs. search rules)
-    (λ c κs. search rules) (λ c κs. search rules) same_length returns same-length-2 returns-2)
+    (tie.spec (λ c κs. search rules) (λ c. search rules) (λ c. search rules) (λ c κs. search rules) (λ c κs. search rules) (λ c κs. search rules) (λ c κs. search rules) same_length returns same-length-2 returns-2)

@@ -5,12 +5,11 @@ use Rattle.ternary.proofs.conjunction.Tie as tie
 
 returns : tie.Need-returns
 returns c =
-    let one = c.before.both.ensures in
+    let one = c.both.ensures in
     let none = c.one_of.ensures in
     λ i. record { high = one i; low = none i }
 
-pub conjunction-spec : {M : Type 1} → statement M
-conjunction-spec =
+pub conjunction_spec : {M : Type 1} → statement M
+conjunction_spec =
     tie.close
-    (tie.spec
-    (λ c κs. search rules) (λ c κs. search rules) returns)
+    (tie.spec (λ c κs. search rules) (λ c κs. search rules) returns)

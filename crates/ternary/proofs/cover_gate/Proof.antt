@@ -11,79 +11,61 @@ use borrow.Author.Rules.{rules}
 use Rattle.ternary.proofs.cover_gate.Statement.{statement}
 use Rattle.ternary.proofs.cover_gate.Tie as tie
 
-add-from-word : tie.Need-overflow-add-from-word
-add-from-word c = let s = c.before.before.before in omega (arith, s.requires.inside)
+add-from-word : tie.Need-overflow_add-at
+add-from-word c = omega (arith, c.requires.inside)
 
-mul-from-word : tie.Need-overflow-mul-from-word
-mul-from-word c = let s = c.before.before.before in omega (arith, s.requires.inside)
+mul-from-word : tie.Need-offset_bounds-m-at
+mul-from-word c = omega (arith, c.requires.inside)
 
-shared-slice-read-from-word : tie.Need-shared-slice-read-from-word
-shared-slice-read-from-word c = let s = c.before.before.before.before in omega (arith, s.requires.inside)
+shared-slice-read-from-word : tie.Need-bounds-m-at
+shared-slice-read-from-word c = omega (arith, c.requires.inside)
 
-read-requires : tie.Need-read-requires
+read-requires : tie.Need-read-x-requires
 read-requires c κs =
-    let s = c.before.before.before.before.before in
-    omega (arith, ap (λ (l : Lit). l.0.0) c.from-word.ensures, s.requires.left)
+    omega (arith, ap (λ (l : Lit). l.0.0) c.from_word.ensures, c.requires.left)
 
-add-from-word-2 : tie.Need-overflow-add-from-word-2
-add-from-word-2 c = let s = c.before.before.before.before.before.before.before in omega (arith, s.requires.inside)
+add-from-word-2 : tie.Need-overflow_add-at-2
+add-from-word-2 c = omega (arith, c.requires.inside)
 
-mul-from-word-2 : tie.Need-overflow-mul-from-word-2
-mul-from-word-2 c = let s = c.before.before.before.before.before.before.before in omega (arith, s.requires.inside)
+mul-from-word-2 : tie.Need-offset_bounds-m-at-2
+mul-from-word-2 c = omega (arith, c.requires.inside)
 
-shared-slice-read-from-word-2 : tie.Need-shared-slice-read-from-word-2
+shared-slice-read-from-word-2 : tie.Need-bounds-m-at-2
 shared-slice-read-from-word-2 c =
-    let s = c.before.before.before.before.before.before.before.before in
-    omega (arith, s.requires.inside)
+    omega (arith, c.requires.inside)
 
-read-requires-2 : tie.Need-read-requires-2
+read-requires-2 : tie.Need-read-y-requires
 read-requires-2 c κs =
-    let s = c.before.before.before.before.before.before.before.before.before in
-    omega (arith, ap (λ (l : Lit). l.0.0) c.from-word2.ensures, s.requires.right)
+    omega (arith, ap (λ (l : Lit). l.0.0) c.from_word-2.ensures, c.requires.right)
 
-mul-from-word-3 : tie.Need-overflow-mul-from-word-3
+mul-from-word-3 : tie.Need-offset_bounds-m-at-3
 mul-from-word-3 c =
-    let s = c.before.before.before.before.before.before.before.before.before.before.before in
-    omega (arith, s.requires.inside)
+    omega (arith, c.requires.inside)
 
-shared-slice-read-from-word-3 : tie.Need-shared-slice-read-from-word-3
+shared-slice-read-from-word-3 : tie.Need-bounds-m-at-3
 shared-slice-read-from-word-3 c =
-    let s = c.before.before.before.before.before.before.before.before.before.before.before.before in
-    omega (arith, s.requires.inside)
+    omega (arith, c.requires.inside)
 
 put-requires : tie.Need-put-requires
 put-requires c κs =
-    let s = c.before.before.before.before.before.before.before.before.before.before.before.before.before.before.before in
-    let v = ap (λ (v : Var). v.0) c.before.var.ensures ∙ ap (λ (l : Lit). l.0.0) c.before.before.from-word3.ensures in
-    omega (arith, v, s.requires.lit)
+    let v = ap (λ (v : Var). v.0) c.var.ensures ∙ ap (λ (l : Lit). l.0.0) c.from_word-3.ensures in
+    omega (arith, v, c.requires.lit)
 
-same_length : tie.Need-same-length
-same_length c = c.before.before.put.auto.0
+same_length : tie.Need-shape_of-can
+same_length c = c.put.auto.can
 
 returns : tie.Need-returns
 returns c =
-    let at-put = c.before.before in
-    let at-conjunction = at-put.before in
-    let at-var = at-conjunction.before in
-    let at-from-word3 = at-var.before in
-    let at-read2 = at-from-word3.before.before.before in
-    let at-from-word2 = at-read2.before in
-    let at_read = at-from-word2.before.before.before in
-    let at-from-word = at_read.before in
-    let at-start = at-from-word.before.before.before.before.before in
-    let a = at-start.args in
+    let a = c.args in
     let m = a.m.now in
     let can = a.can.now in
-    let x = read_word can (word m (a.at + 1)) at-from-word.from-word.ensures at_read.read.ensures in
-    let y = read_word can (word m (a.at + 2)) at-from-word2.from-word2.ensures at-read2.read2.ensures in
-    let both = at-conjunction.conjunction.ensures in
-    put_word can (word m a.at) at-from-word3.from-word3.ensures at-var.var.ensures (both ∙ (λ i. conjunction (x i) (y i)))
-    at-put.put.ensures
+    let x = read_word can (word m (a.at + 1)) c.from_word.ensures c.read-x.ensures in
+    let y = read_word can (word m (a.at + 2)) c.from_word-2.ensures c.read-y.ensures in
+    let both = c.conjunction.ensures in
+    put_word can (word m a.at) c.from_word-3.ensures c.var.ensures (both ∙ (λ i. conjunction (x i) (y i)))
+    c.put.ensures
 
-pub cover-gate-spec : {M : Type 1} → statement M
-cover-gate-spec =
+pub cover_gate_spec : {M : Type 1} → statement M
+cover_gate_spec =
     tie.close
-    (tie.spec
-    add-from-word mul-from-word shared-slice-read-from-word (λ c κs. search rules) read-requires add-from-word-2 mul-from-word-2
-    shared-slice-read-from-word-2 (λ c κs. search rules) read-requires-2 mul-from-word-3 shared-slice-read-from-word-3
-    (λ c κs. search rules) (λ c κs. search rules) (λ c κs. search rules) put-requires same_length returns)
+    (tie.spec add-from-word mul-from-word shared-slice-read-from-word (λ c κs. search rules) read-requires add-from-word-2 mul-from-word-2 shared-slice-read-from-word-2 (λ c κs. search rules) read-requires-2 mul-from-word-3 shared-slice-read-from-word-3 (λ c κs. search rules) (λ c κs. search rules) (λ c κs. search rules) put-requires same_length returns)

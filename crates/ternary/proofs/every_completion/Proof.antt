@@ -13,25 +13,21 @@ use Rattle.ternary.proofs.every_completion.Tie as tie
 
 simulate-requires : tie.Need-simulate-requires
 simulate-requires c κs =
-    let S = c.before.before.before.before.before in
-    (S.requires.0, S.requires.1, search rules, search rules, S.requires.2)
+    (c.requires.0, c.requires.1, search rules, search rules, c.requires.2)
 
 returns : tie.Need-returns
 returns c =
-    let at-simulate = c.before.before in
-    let S = at-simulate.before.before.before.before.before.before in
-    let a = S.args in
+    let a = c.args in
     let e =
-    at-simulate.simulate.ensures
+    c.simulate.ensures
     ∙ ap (λ (n : ℕ). sees_hit n (circuit_in a.m.now) a.order.now a.q.bad a.q.frames a.body.now)
     (length-replicate {A = ℕ} 8194 1) in (
       e,
-      λ t. sees-sound S.requires.0 8194 a.q.bad a.q.frames a.q.eithers a.body.now (omega arith) S.requires.1 S.requires.2
+      λ t. sees-sound c.requires.0 8194 a.q.bad a.q.frames a.q.eithers a.body.now (omega arith) c.requires.1 c.requires.2
           (sym e ∙ t),
     )
 
-pub every-completion-spec : {M : Type 1} → statement M
-every-completion-spec =
+pub every_completion_spec : {M : Type 1} → statement M
+every_completion_spec =
     tie.close
-    (tie.spec
-    (λ c. search rules) (λ c. search rules) simulate-requires returns)
+    (tie.spec (λ c. search rules) (λ c. search rules) simulate-requires returns)

@@ -5,12 +5,11 @@ use Rattle.ternary.proofs.from_byte.Tie as tie
 
 returns : tie.Need-returns
 returns c =
-    let one = c.before.unless.ensures in
-    let none = c.unless2.ensures in
+    let one = c.unless.ensures in
+    let none = c.unless-2.ensures in
     λ i. record { high = one i; low = none i }
 
-pub from-byte-spec : {M : Type 1} → statement M
-from-byte-spec =
+pub from_byte_spec : {M : Type 1} → statement M
+from_byte_spec =
     tie.close
-    (tie.spec
-    (λ c κs. search rules) (λ c κs. search rules) returns)
+    (tie.spec (λ c κs. search rules) (λ c κs. search rules) returns)

@@ -10,11 +10,10 @@ use Rattle.ternary.proofs.is_sure.Tie as tie
 
 returns : tie.Need-returns
 returns c =
-    let a = c.before.before.before.args in
-    ap (λ (x : May). eqb x.low 0) (c.before.read.ensures ∙ ap (may_of a.can.now) (sym (literal-word a.l)))
+    let a = c.args in
+    ap (λ (x : May). eqb x.low 0) (c.read.ensures ∙ ap (may_of a.can.now) (sym (literal-word a.l)))
 
-pub is-sure-spec : {M : Type 1} → statement M
-is-sure-spec =
+pub is_sure_spec : {M : Type 1} → statement M
+is_sure_spec =
     tie.close
-    (tie.spec
-    (λ c κs. search rules) returns)
+    (tie.spec (λ c κs. search rules) returns)

@@ -7,24 +7,15 @@ use Rattle.ternary.proofs.next_frame.Tie as tie
 
 returns : tie.Need-returns
 returns c =
-    let at-put-frame = c.before.before in
-    let at-put-state = at-put-frame.before.before.before.before in
-    let at_fill_lem = at-put-state.before.before.before.before.before in
-    let at-save-state = at_fill_lem.before.before.before.before in
-    let S = at-save-state.before.before.before.before.before.before.before.before in
-    let a = S.args in
-    let saved = at-save-state.save-state in
-    let all = at_fill_lem.fill in
-    let latches = at-put-state.put-state in (
-      next-is S.requires.0 (length a.can.now) a.body.now a.at a.can.now a.state.now saved.new.1.1.1.1.0
-          all.new.0 latches.new.1.1.1.1.0 S.requires.2 saved.ensures all.ensures latches.ensures
-          at-put-frame.put-frame.ensures,
-      saved.ensures,
+    let a = c.args in
+    (
+      next-is c.requires.0 (length a.can.now) a.body.now a.at a.can.now a.state.now c.save_state.new.state
+          c.fill.new.can c.put_state.new.can c.requires.2 c.save_state.ensures c.fill.ensures c.put_state.ensures
+          c.put_frame.ensures,
+      c.save_state.ensures,
     )
 
-pub next-frame-spec : {M : Type 1} → statement M
-next-frame-spec =
+pub next_frame_spec : {M : Type 1} → statement M
+next_frame_spec =
     tie.close
-    (tie.spec
-    (λ c κs. search rules) (λ c κs. search rules) (λ c κs. search rules) (λ c κs. search rules) (λ c. search rules)
-    (λ c. search rules) returns)
+    (tie.spec (λ c κs. search rules) (λ c κs. search rules) (λ c κs. search rules) (λ c κs. search rules) (λ c. search rules) (λ c. search rules) returns)

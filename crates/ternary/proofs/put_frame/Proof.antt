@@ -11,40 +11,32 @@ use borrow.Author.Rules.{rules}
 use Rattle.ternary.proofs.put_frame.Statement.{statement}
 use Rattle.ternary.proofs.put_frame.Tie as tie
 
-put-line-requires : tie.Need-put-line-requires
+put-line-requires : tie.Need-put_line-requires
 put-line-requires c κs =
-    let S = c.before.before.before.before.before in
-    let R = S.requires.0 in
-    let m : List ℕ = S.args.m.now in
+    let R = c.requires.0 in
+    let m : List ℕ = c.args.m.now in
     record {
       words = λ i h. omega (arith, inputs-inside R.held R.layout_of);
       small = λ i h.
           let e : word m (7 + 1 * i) ≡ word m (7 + i) = ap (word m) (omega arith) in
-          omega (arith, e, input-small R.held R.layout_of i h, R.room, S.requires.1, length-set S.args.can.now 0 0);
-      inside = S.requires.2;
+          omega (arith, e, input-small R.held R.layout_of i h, R.room, c.requires.1, length-set c.args.can.now 0 0);
+      inside = c.requires.2;
     }
 
-cover-gates-requires : tie.Need-cover-gates-requires
+cover-gates-requires : tie.Need-cover_gates-requires
 cover-gates-requires c κs =
-    let S = c.before.before.before.before.before.before.before.before.before in
-    (S.requires.0, omega (arith, c.before.before.before.put-line.auto.1.1.1.1.0, length-set S.args.can.now 0 0, S.requires.1))
+    (c.requires.0, omega (arith, c.put_line.auto.can, length-set c.args.can.now 0 0, c.requires.1))
 
-same_length : tie.Need-same-length
+same_length : tie.Need-shape_of-can
 same_length c =
-    let at-cover-gates = c.before.before in
-    let at-put-line = at-cover-gates.before.before.before.before in
-    let at-start = at-put-line.before.before.before.before.before.before in
-    at-cover-gates.cover-gates.auto.1.1.1.0 ∙ at-put-line.put-line.auto.1.1.1.1.0 ∙ length-set at-start.args.can.now 0 0
+    c.cover_gates.auto.can ∙ c.put_line.auto.can ∙ length-set c.args.can.now 0 0
 
 returns : tie.Need-returns
 returns c =
-    let S = c.before.before.before.before.before.before.before.before.before.before.before.before in
-    let line = c.before.before.before.before.before.before.put-line in
-    frame_is S.requires.0 S.args.body.now S.args.at S.args.can.now line.new.1.1.1.1.0 line.ensures
-    c.before.before.cover-gates.ensures
+    frame_is c.requires.0 c.args.body.now c.args.at c.args.can.now c.put_line.new.can c.put_line.ensures
+    c.cover_gates.ensures
 
-pub put-frame-spec : {M : Type 1} → statement M
-put-frame-spec =
+pub put_frame_spec : {M : Type 1} → statement M
+put_frame_spec =
     tie.close
-    (tie.spec
-    (λ c. search rules) put-line-requires cover-gates-requires same_length returns)
+    (tie.spec (λ c. search rules) put-line-requires cover-gates-requires same_length returns)

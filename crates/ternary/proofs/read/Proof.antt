@@ -9,27 +9,24 @@ use borrow.Author.Rules.{rules}
 use Rattle.ternary.proofs.read.Statement.{statement}
 use Rattle.ternary.proofs.read.Tie as tie
 
-shared-slice-read-t6 : tie.Need-shared-slice-read-t6
+shared-slice-read-t6 : tie.Need-bounds-can-own
 shared-slice-read-t6 c =
-    let s = c.before.before.before in
-    omega (arith, c.before.word.ensures, (literal-inside s.args.l (length s.args.can.now) s.requires).0)
+    omega (arith, c.word-own.ensures, (literal-inside c.args.l (length c.args.can.now) c.requires).0)
 
-shared-slice-read-t9 : tie.Need-shared-slice-read-t9
+shared-slice-read-t9 : tie.Need-bounds-can-own-2
 shared-slice-read-t9 c =
-    let s = c.before.before.before.before in
-    let other = ap (λ (w : ℕ). bit_xor w 1) c.before.before.word.ensures ∙ complement-word s.args.l in
-    omega (arith, other, (literal-inside s.args.l (length s.args.can.now) s.requires).1)
+    let other = ap (λ (w : ℕ). bit_xor w 1) c.word-own.ensures ∙ complement-word c.args.l in
+    omega (arith, other, (literal-inside c.args.l (length c.args.can.now) c.requires).1)
 
 returns : tie.Need-returns
 returns c =
-    let a = c.before.before.before.before.args in
+    let a = c.args in
     let can = a.can.now in
-    let own = c.before.before.word.ensures in
+    let own = c.word-own.ensures in
     let other = ap (λ (w : ℕ). bit_xor w 1) own ∙ complement-word a.l in
     λ i. record { high = get_or can (own i) 0; low = get_or can (other i) 0 }
 
 pub read_spec : {M : Type 1} → statement M
 read_spec =
     tie.close
-    (tie.spec
-    (λ c κs. search rules) shared-slice-read-t6 shared-slice-read-t9 returns)
+    (tie.spec (λ c κs. search rules) shared-slice-read-t6 shared-slice-read-t9 returns)

@@ -11,30 +11,27 @@ use borrow.Author.Rules.{rules}
 use Rattle.ternary.proofs.surely_bad.Statement.{statement}
 use Rattle.ternary.proofs.surely_bad.Tie as tie
 
-add-from-word : tie.Need-overflow-add-from-word
-add-from-word c = let s = c.before.before.before in omega (arith, bad-inside s.requires.0 s.args.b s.requires.1)
+add-from-word : tie.Need-overflow_add-bads
+add-from-word c = omega (arith, bad-inside c.requires.0 c.args.b c.requires.1)
 
-mul-from-word : tie.Need-overflow-mul-from-word
-mul-from-word c = let s = c.before.before.before in omega (arith, bad-inside s.requires.0 s.args.b s.requires.1)
+mul-from-word : tie.Need-offset_bounds-m-bads
+mul-from-word c = omega (arith, bad-inside c.requires.0 c.args.b c.requires.1)
 
-shared-slice-read-from-word : tie.Need-shared-slice-read-from-word
-shared-slice-read-from-word c = let s = c.before.before.before.before in bad-inside s.requires.0 s.args.b s.requires.1
+shared-slice-read-from-word : tie.Need-bounds-m-bads
+shared-slice-read-from-word c = bad-inside c.requires.0 c.args.b c.requires.1
 
-is-sure-requires : tie.Need-is-sure-requires
+is-sure-requires : tie.Need-is_sure-requires
 is-sure-requires c κs =
-    let s = c.before.before.before.before.before in
-    let v = ap (λ (l : Lit). l.0.0) c.from-word.ensures in
-    omega (arith, v, bad-below s.requires.0 s.args.b s.requires.1, s.requires.2)
+    let v = ap (λ (l : Lit). l.0.0) c.from_word.ensures in
+    omega (arith, v, bad-below c.requires.0 c.args.b c.requires.1, c.requires.2)
 
 returns : tie.Need-returns
 returns c =
-    let s = c.before.before.before.before.before.before in
-    let a = s.args in
-    let own = word_read (word a.m.now (a.layout.bads + a.b)) c.before.from-word.ensures in
-    c.is-sure.ensures ∙ ap (sure a.can.now) (own ∙ sym (bad-place s.requires.0 a.b s.requires.1))
+    let a = c.args in
+    let own = word_read (word a.m.now (a.layout.bads + a.b)) c.from_word.ensures in
+    c.is_sure.ensures ∙ ap (sure a.can.now) (own ∙ sym (bad-place c.requires.0 a.b c.requires.1))
 
-pub surely-bad-spec : {M : Type 1} → statement M
-surely-bad-spec =
+pub surely_bad_spec : {M : Type 1} → statement M
+surely_bad_spec =
     tie.close
-    (tie.spec
-    add-from-word mul-from-word shared-slice-read-from-word (λ c κs. search rules) is-sure-requires returns)
+    (tie.spec add-from-word mul-from-word shared-slice-read-from-word (λ c κs. search rules) is-sure-requires returns)

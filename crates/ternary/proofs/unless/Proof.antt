@@ -4,14 +4,13 @@ use borrow.Author.Rules.{rules}
 use Rattle.ternary.proofs.unless.Statement.{statement}
 use Rattle.ternary.proofs.unless.Tie as tie
 
-returns : tie.Need-returns
-returns c = let a = c.before.args in cond-is a.byte a.no 0 1 c.if1.true
+returns : tie.Need-returns-then-byte-no
+returns c = let a = c.args in cond-is a.byte a.no 0 1 c.if-byte-no.true
 
-returns-2 : tie.Need-returns-2
-returns-2 c = let a = c.before.args in cond-not a.byte a.no 0 1 c.if1.false
+returns-2 : tie.Need-returns-else-byte-no
+returns-2 c = let a = c.args in cond-not a.byte a.no 0 1 c.if-byte-no.false
 
-pub unless-spec : {M : Type 1} → statement M
-unless-spec =
+pub unless_spec : {M : Type 1} → statement M
+unless_spec =
     tie.close
-    (tie.spec
-    returns returns-2)
+    (tie.spec returns returns-2)

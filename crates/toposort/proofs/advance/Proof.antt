@@ -9,75 +9,60 @@ use borrow.Author.Rules.{rules}
 use Rattle.toposort.proofs.advance.Statement.{statement}
 use Rattle.toposort.proofs.advance.Tie as tie
 
-cast-g : tie.Need-overflow-cast-g
+cast-g : tie.Need-overflow_cast-g
 cast-g c =
-    let S = c.before.before.before.before.before.before in
-    omega (arith, top-gate _ _ _ _ _ _ _ S.requires.1.0 S.requires.1.1, S.requires.0.small)
+    omega (arith, top-gate _ _ _ _ _ _ _ c.requires.1.0 c.requires.1.1, c.requires.0.small)
 
 operand-requires : tie.Need-operand-requires
 operand-requires c κs =
-    let S = c.before.before.before.before.before.before.before in
-    (S.requires.0, (S.requires.1.0.pos-room, top-gate _ _ _ _ _ _ _ S.requires.1.0 S.requires.1.1))
+    (c.requires.0, (c.requires.1.0.pos-room, top-gate _ _ _ _ _ _ _ c.requires.1.0 c.requires.1.1))
 
 push-requires : tie.Need-push-requires
 push-requires c κs =
-    let K = c.before.before.before.before.before in
-    let S = c.before.before.before.before.before.before.before.before.before.before.before.before.before in
-    let n = rw c.before.before.before.h.given.1 at K.operand.ensures in (
-      omega (arith, S.requires.0.small),
+    let n = rw c.in-Fresh.is at c.operand.ensures in (
+      omega (arith, c.requires.0.small),
       n.0.0.0,
-      omega (arith, search-room _ _ _ _ _ _ _ S.requires.1.0 _ n.0.0.0 n.0.1),
-      S.requires.1.0.pos-room,
-      S.requires.1.0.stack-room,
+      omega (arith, search-room _ _ _ _ _ _ _ c.requires.1.0 _ n.0.0.0 n.0.1),
+      c.requires.1.0.pos-room,
+      c.requires.1.0.stack-room,
     )
 
 place-requires : tie.Need-place-requires
 place-requires c κs =
-    let S = c.before.before.before.before.before.before.before.before.before.before.before.before in (
-      omega (arith, S.requires.0.small),
-      top-gate _ _ _ _ _ _ _ S.requires.1.0 S.requires.1.1,
-      omega (arith, counts _ _ _ _ _ _ _ S.requires.1.0, S.requires.1.1),
-      S.requires.1.0.pos-room,
-      S.requires.1.0.order-room,
+    (
+      omega (arith, c.requires.0.small),
+      top-gate _ _ _ _ _ _ _ c.requires.1.0 c.requires.1.1,
+      omega (arith, counts _ _ _ _ _ _ _ c.requires.1.0, c.requires.1.1),
+      c.requires.1.0.pos-room,
+      c.requires.1.0.order-room,
     )
 
-returns : tie.Need-returns
+returns : tie.Need-returns-in-Fresh
 returns c =
-    let A = c.before.before.before.before in
-    let K = c.before.before.before.before.before.before.before.before.before.before in
-    let S = c.before.before.before.before.before.before.before.before.before.before.before.before.before.before.before.before.before.before in
-    let n = rw c.before.before.before.before.before.before.before.before.h.given.1 at K.operand.ensures in (
-      search-push _ _ _ _ _ _ _ S.requires.1.0 _ n.0.0.0 n.0.1 _ _ A.push.ensures.0 A.push.ensures.1
-          (top-edge _ _ _ _ _ _ _ S.requires.1.0 S.requires.1.1 _ n.0.0),
+    let n = rw c.in-Fresh.is at c.operand.ensures in (
+      search-push _ _ _ _ _ _ _ c.requires.1.0 _ n.0.0.0 n.0.1 _ _ c.push.ensures.0 c.push.ensures.1
+          (top-edge _ _ _ _ _ _ _ c.requires.1.0 c.requires.1.1 _ n.0.0),
       λ left right o.
-          search-deeper left right _ _ _ _ _ _ _ S.requires.1.0 S.requires.1.1 _ n.0.0.0 n.0.1 _ A.push.ensures.1
+          search-deeper left right _ _ _ _ _ _ _ c.requires.1.0 c.requires.1.1 _ n.0.0.0 n.0.1 _ c.push.ensures.1
           (n.1 left right o),
       refl,
     )
 
-returns-2 : tie.Need-returns-2
+returns-2 : tie.Need-returns-in-Open
 returns-2 c =
-    let K = c.before.before in
-    let S = c.before.before.before.before.before.before.before.before.before.before in
-    let n = rw c.enum_told.given.1 at K.operand.ensures in
-    (search-cycle _ _ _ _ _ _ _ S.requires.1.0 S.requires.1.1 n.0.0 n.0.1 n.0.2, λ left right o. tt, refl)
+    let n = rw c.in-Open.is at c.operand.ensures in
+    (search-cycle _ _ _ _ _ _ _ c.requires.1.0 c.requires.1.1 n.0.0 n.0.1 n.0.2, λ left right o. tt, refl)
 
-returns-3 : tie.Need-returns-3
+returns-3 : tie.Need-returns-in-Done
 returns-3 c =
-    let A = c.before.before.before.before in
-    let K = c.before.before.before.before.before.before.before.before.before in
-    let S = c.before.before.before.before.before.before.before.before.before.before.before.before.before.before.before.before.before in
-    let n = rw c.before.before.before.before.before.before.before.enum-told2.given.1 at K.operand.ensures in (
-      search-place _ _ _ _ _ _ _ S.requires.1.0 S.requires.1.1 _ _ A.place.ensures.0 A.place.ensures.1 n.0,
-      λ left right o. search-placed left right _ _ _ _ _ _ _ S.requires.1.0 S.requires.1.1 _ A.place.ensures.1 (n.1 left right o),
-      rw A.place.ensures.1 (drop-set-lt S.args.gates.m S.args.order.now S.args.at.done _
-          (omega (arith, counts _ _ _ _ _ _ _ S.requires.1.0, S.requires.1.1))),
+    let n = rw c.in-Done.is at c.operand.ensures in (
+      search-place _ _ _ _ _ _ _ c.requires.1.0 c.requires.1.1 _ _ c.place.ensures.0 c.place.ensures.1 n.0,
+      λ left right o. search-placed left right _ _ _ _ _ _ _ c.requires.1.0 c.requires.1.1 _ c.place.ensures.1 (n.1 left right o),
+      rw c.place.ensures.1 (drop-set-lt c.args.gates.m c.args.order.now c.args.at.done _
+          (omega (arith, counts _ _ _ _ _ _ _ c.requires.1.0, c.requires.1.1))),
     )
 
-pub advance-spec : {M : Type 1} → statement M
-advance-spec =
+pub advance_spec : {M : Type 1} → statement M
+advance_spec =
     tie.close
-    (tie.spec
-    (λ c. search rules) (λ c. search rules) (λ c. search rules) cast-g operand-requires (λ c. search rules) push-requires
-    (λ c. search rules) (λ c. search rules) place-requires (λ c. search rules) (λ c. search rules) returns (λ c. search rules)
-    returns-2 (λ c. search rules) (λ c. search rules) returns-3)
+    (tie.spec (λ c. search rules) (λ c. search rules) (λ c. search rules) cast-g operand-requires (λ c. search rules) push-requires (λ c. search rules) (λ c. search rules) place-requires (λ c. search rules) (λ c. search rules) returns (λ c. search rules) returns-2 (λ c. search rules) (λ c. search rules) returns-3)

@@ -7,20 +7,17 @@ use borrow.Author.Rules.{rules}
 use Rattle.toposort.proofs.ordered.Statement.{statement}
 use Rattle.toposort.proofs.ordered.Tie as tie
 
-returns : tie.Need-returns
-returns c = rw c.if1.true at c.before.before.before.test-order.ensures
+returns : tie.Need-returns-then-test_order
+returns c = rw c.if-test_order.true at c.test_order.ensures
 
-returns-2 : tie.Need-returns-2
+returns-2 : tie.Need-returns
 returns-2 c =
-    let D = c.before.before in
-    let E = D.before.before in
-    let A = E.before.before.before in (
-      rw E.if1.false at A.test-order.ensures,
-      D.clear.ensures ∙ ap {B = List ℕ} (λ (n : ℕ). replicate n 0) A.test-order.auto.1.1.0,
+    (
+      rw c.if-test_order.false at c.test_order.ensures,
+      c.clear.ensures ∙ ap {B = List ℕ} (λ (n : ℕ). replicate n 0) c.test_order.auto.order,
     )
 
-pub ordered-spec : {M : Type 1} → statement M
-ordered-spec =
+pub ordered_spec : {M : Type 1} → statement M
+ordered_spec =
     tie.close
-    (tie.spec
-    (λ c κs. search rules) (λ c. search rules) returns (λ c κs. search rules) (λ c. search rules) returns-2)
+    (tie.spec (λ c κs. search rules) (λ c. search rules) returns (λ c κs. search rules) (λ c. search rules) returns-2)

@@ -23,51 +23,49 @@ some-row free width j k n l = go width l
 row_below : (free width j k : ℕ) → free ≤ j → j < free + width * k → (j - free) / width < k
 row_below free width j k n l = quotient-below (j - free) k width (omega (arith, mul_comm width k))
 
-shared-slice-read-result : tie.Need-shared-slice-read-result
-shared-slice-read-result c = omega (arith, c.before.before.requires.0)
+shared-slice-read-result : tie.Need-bounds-trace-0
+shared-slice-read-result c = omega (arith, c.requires.0)
 
-returns : tie.Need-returns
+returns : tie.Need-returns-then-j-free
 unfolding bit
-returns c = λ t x d l. start-free c.before.before.args.width c.before.before.args.trace.now c.before.before.args.free t x c.before.before.args.j d c.before.if1.true
+returns c = λ t x d l. start-free c.args.width c.args.trace.now c.args.free t x c.args.j d c.if-j-free.true
 
-div-u : tie.Need-nonzero-div-u
-div-u c = omega (arith, some-row c.before.args.free c.before.args.width c.before.args.j 256 c.if1.false c.before.requires.3)
+div-u : tie.Need-nonzero_div-u
+div-u c = omega (arith, some-row c.args.free c.args.width c.args.j 256 c.if-j-free.false c.requires.3)
 
-rem-i : tie.Need-nonzero-rem-i
-rem-i c = omega (arith, some-row c.before.args.free c.before.args.width c.before.args.j 256 c.if1.false c.before.requires.3)
+rem-i : tie.Need-nonzero_rem-i
+rem-i c = omega (arith, some-row c.args.free c.args.width c.args.j 256 c.if-j-free.false c.requires.3)
 
-add-result : tie.Need-overflow-add-result
-add-result c = omega (arith, row_below c.before.args.free c.before.args.width c.before.args.j 256 c.if1.false c.before.requires.3)
+add-result : tie.Need-overflow_add-result
+add-result c = omega (arith, row_below c.args.free c.args.width c.args.j 256 c.if-j-free.false c.requires.3)
 
-mul-result : tie.Need-overflow-mul-result
-mul-result c = omega (arith, row_below c.before.args.free c.before.args.width c.before.args.j 256 c.if1.false c.before.requires.3)
+mul-result : tie.Need-offset_bounds-trace-u
+mul-result c = omega (arith, row_below c.args.free c.args.width c.args.j 256 c.if-j-free.false c.requires.3)
 
-shared-slice-read-result-2 : tie.Need-shared-slice-read-result-2
-shared-slice-read-result-2 c = omega (arith, c.before.before.requires.0, row_below c.before.before.args.free c.before.before.args.width c.before.before.args.j 256 c.before.if1.false c.before.before.requires.3)
+shared-slice-read-result-2 : tie.Need-bounds-trace-u
+shared-slice-read-result-2 c = omega (arith, c.requires.0, row_below c.args.free c.args.width c.args.j 256 c.if-j-free.false c.requires.3)
 
-sub-result-3 : tie.Need-overflow-sub-result-3
-sub-result-3 c = omega (arith, some-row c.before.before.args.free c.before.before.args.width c.before.before.args.j 256 c.before.if1.false c.before.before.requires.3)
+sub-result-3 : tie.Need-overflow_sub-result-2
+sub-result-3 c = omega (arith, some-row c.args.free c.args.width c.args.j 256 c.if-j-free.false c.requires.3)
 
-sub-result-4 : tie.Need-overflow-sub-result-4
-sub-result-4 c = omega (arith, mod-lt (c.before.before.args.j - c.before.before.args.free) (some-row c.before.before.args.free c.before.before.args.width c.before.before.args.j 256 c.before.if1.false c.before.before.requires.3))
+sub-result-4 : tie.Need-overflow_sub-result-3
+sub-result-4 c = omega (arith, mod-lt (c.args.j - c.args.free) (some-row c.args.free c.args.width c.args.j 256 c.if-j-free.false c.requires.3))
 
-cast-result-2 : tie.Need-overflow-cast-result-2
-cast-result-2 c = omega (arith, c.before.before.requires.2)
+cast-result-2 : tie.Need-overflow_cast-result-2
+cast-result-2 c = omega (arith, c.requires.2)
 
-shr-result-2 : tie.Need-overflow-shr-result-2
-shr-result-2 c = omega (arith, c.before.before.requires.2)
+shr-result-2 : tie.Need-overflow_shr-result-2
+shr-result-2 c = omega (arith, c.requires.2)
 
-returns-2 : tie.Need-returns-2
+returns-2 : tie.Need-returns
 unfolding bit
 returns-2 c =
     λ t x d l.
-    let a = c.before.before.args in
-    let w = some-row a.free a.width a.j 256 c.before.if1.false c.before.before.requires.3 in
-    row-free a.width a.trace.now a.free t x ((a.j - a.free) / a.width) ((a.j - a.free) % a.width) a.j d (omega (arith, div-add-mod' (a.j - a.free) a.width, c.before.if1.false)) (mod-lt (a.j - a.free) w) l
+    let a = c.args in
+    let w = some-row a.free a.width a.j 256 c.if-j-free.false c.requires.3 in
+    row-free a.width a.trace.now a.free t x ((a.j - a.free) / a.width) ((a.j - a.free) % a.width) a.j d (omega (arith, div-add-mod' (a.j - a.free) a.width, c.if-j-free.false)) (mod-lt (a.j - a.free) w) l
 
-pub free-bit-spec : {M : Type 1} → statement M
-free-bit-spec =
+pub free_bit_spec : {M : Type 1} → statement M
+free_bit_spec =
     tie.close
-    (tie.spec
-    shared-slice-read-result (λ c. search rules) (λ c. search rules) (λ c. search rules) (λ c. search rules) returns div-u rem-i
-    add-result mul-result shared-slice-read-result-2 sub-result-3 sub-result-4 cast-result-2 shr-result-2 returns-2)
+    (tie.spec shared-slice-read-result (λ c. search rules) (λ c. search rules) (λ c. search rules) (λ c. search rules) returns div-u rem-i add-result mul-result shared-slice-read-result-2 sub-result-3 sub-result-4 cast-result-2 shr-result-2 returns-2)

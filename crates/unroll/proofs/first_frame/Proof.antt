@@ -7,82 +7,61 @@ use Rattle.unroll.proofs.Frames.{first-edges, first-mapped, framed-first}
 use Rattle.unroll.proofs.first_frame.Statement.{statement}
 use Rattle.unroll.proofs.first_frame.Tie as tie
 
-put-starts-requires : tie.Need-put-starts-requires
-put-starts-requires c κs = let S = c.before.before.before.before.before in (S.args.order.now, S.requires.0)
+put-starts-requires : tie.Need-put_starts-requires
+put-starts-requires c κs = (c.args.order.now, c.requires.0)
 
-put-inputs-requires : tie.Need-put-inputs-requires
+put-inputs-requires : tie.Need-put_inputs-requires
 put-inputs-requires c κs =
-    let p = c.before.before.before in
-    let S = p.before.before.before.before.before.before in
-    let z = S.requires.1.extensible.stored.sized in (
-      (S.args.order.now, ready_with S.requires.0 p.put-starts.auto.1.1.0),
-      omega (arith, S.requires.1.bits, z.leaves, z.nodes, z.room),
+    let z = c.requires.1.extensible.stored.sized in (
+      (c.args.order.now, ready_with c.requires.0 c.put_starts.auto.map),
+      omega (arith, c.requires.1.bits, z.leaves, z.nodes, z.room),
     )
 
-put-gates-requires : tie.Need-put-gates-requires
+put-gates-requires : tie.Need-put_gates-graph-requires
 put-gates-requires c κs =
-    let q = c.before.before.before.before in
-    let p = q.before.before.before.before in
-    let S = p.before.before.before.before.before.before in
-    let F = S.requires.1 in
-    let P = p.put-starts in
-    let Q = q.put-inputs in (
-      ready_with S.requires.0 (Q.auto.1.1.1.0 ∙ P.auto.1.1.0),
+    let F = c.requires.1 in
+    (
+      ready_with c.requires.0 (c.put_inputs.auto.map ∙ c.put_starts.auto.map),
       record {
         stored = F.extensible.stored;
         room = omega (arith, F.extensible.room);
         edges =
-            first-edges S.requires.0 F.blank P.ensures S.args.layout.u Q.ensures S.args.g
-            F.extensible.stored.sized.leaves S.requires.0.layout_of.u-is F.bits;
+            first-edges c.requires.0 F.blank c.put_starts.ensures c.args.layout.u c.put_inputs.ensures c.args.g
+            F.extensible.stored.sized.leaves c.requires.0.layout_of.u-is F.bits;
       },
     )
 
 constrain-requires : tie.Need-constrain-requires
 constrain-requires c κs =
-    let g = c.before.before.before.before.before.before in
-    let q = g.before.before.before.before.before in
-    let p = q.before.before.before.before in
-    let S = p.before.before.before.before.before.before in
-    let u = g.put-gates.ensures in
-    let k = g.put-gates.auto.1.1.1.1.1.0 ∙ q.put-inputs.auto.1.1.1.0 ∙ p.put-starts.auto.1.1.0 in (
-      (S.args.order.now, ready_with S.requires.0 k),
+    let u = c.put_gates-graph.ensures in
+    let k = c.put_gates-graph.auto.map ∙ c.put_inputs.auto.map ∙ c.put_starts.auto.map in (
+      (c.args.order.now, ready_with c.requires.0 k),
       (
         record {
           stored = u.grown.stored;
-          room = omega (arith, u.grown.most, u.grown.room, S.requires.1.extensible.room, gates-are S.requires.0);
+          room = omega (arith, u.grown.most, u.grown.room, c.requires.1.extensible.room, gates-are c.requires.0);
           edges = u.edges;
         },
         omega (arith, u.grown.stored.sized.leaves),
       ),
     )
 
-same_length : tie.Need-same-length
+same_length : tie.Need-shape_of-work
 same_length c =
-    let k = c.before.before in
-    let g = k.before.before.before.before.before.before.before in
-    k.constrain.auto.0 ∙ g.put-gates.auto.0
+    c.constrain.auto.work ∙ c.put_gates-graph.auto.work
 
-same-length-2 : tie.Need-same-length-2
+same-length-2 : tie.Need-shape_of-map
 same-length-2 c =
-    let g = c.before.before.before.before.before.before.before.before.before in
-    let q = g.before.before.before.before.before in
-    let p = q.before.before.before.before in
-    g.put-gates.auto.1.1.1.1.1.0 ∙ q.put-inputs.auto.1.1.1.0 ∙ p.put-starts.auto.1.1.0
+    c.put_gates-graph.auto.map ∙ c.put_inputs.auto.map ∙ c.put_starts.auto.map
 
 returns : tie.Need-returns
 returns c = λ none alone b t.
-    let k = c.before.before in
-    let g = k.before.before.before.before.before.before.before in
-    let q = g.before.before.before.before.before in
-    let p = q.before.before.before.before in
-    let S = p.before.before.before.before.before.before in
-    framed-first S.requires.0 S.requires.1.extensible.stored none
-    (first-mapped S.requires.0 S.requires.1.blank p.put-starts.ensures S.args.layout.u q.put-inputs.ensures
-    S.requires.0.layout_of.u-is g.put-gates.ensures)
-    k.constrain.ensures alone b t
+    framed-first c.requires.0 c.requires.1.extensible.stored none
+    (first-mapped c.requires.0 c.requires.1.blank c.put_starts.ensures c.args.layout.u c.put_inputs.ensures
+    c.requires.0.layout_of.u-is c.put_gates-graph.ensures)
+    c.constrain.ensures alone b t
 
-pub first-frame-spec : {M : Type 1} → statement M
-first-frame-spec =
+pub first_frame_spec : {M : Type 1} → statement M
+first_frame_spec =
     tie.close
-    (tie.spec
-    put-starts-requires put-inputs-requires put-gates-requires constrain-requires same_length same-length-2 returns)
+    (tie.spec put-starts-requires put-inputs-requires put-gates-requires constrain-requires same_length same-length-2 returns)

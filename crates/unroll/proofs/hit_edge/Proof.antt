@@ -10,38 +10,34 @@ use borrow.Author.Rules.{rules}
 use Rattle.unroll.proofs.hit_edge.Statement.{statement}
 use Rattle.unroll.proofs.hit_edge.Tie as tie
 
-add-from-word : tie.Need-overflow-add-from-word
-add-from-word c = let S = c.before.before.before in omega (arith, bad-inside S.requires.0.1 S.args.b S.requires.1.1.1)
+add-from-word : tie.Need-overflow_add-bads
+add-from-word c = omega (arith, bad-inside c.requires.0.1 c.args.b c.requires.1.1.1)
 
-mul-from-word : tie.Need-overflow-mul-from-word
-mul-from-word c = let S = c.before.before.before in omega (arith, bad-inside S.requires.0.1 S.args.b S.requires.1.1.1)
+mul-from-word : tie.Need-offset_bounds-m-bads
+mul-from-word c = omega (arith, bad-inside c.requires.0.1 c.args.b c.requires.1.1.1)
 
-shared-slice-read-from-word : tie.Need-shared-slice-read-from-word
-shared-slice-read-from-word c = let S = c.before.before.before.before in omega (arith, bad-inside S.requires.0.1 S.args.b S.requires.1.1.1)
+shared-slice-read-from-word : tie.Need-bounds-m-bads
+shared-slice-read-from-word c = omega (arith, bad-inside c.requires.0.1 c.args.b c.requires.1.1.1)
 
-line-edge-requires : tie.Need-line-edge-requires
+line-edge-requires : tie.Need-line_edge-requires
 line-edge-requires c κs =
-    let S = c.before.before.before.before.before.before in
-    let a = S.args in
-    let e = c.before.from-word.ensures in (
-      ((word a.m.now (a.layout.bads + a.b), e), omega (arith, ap (λ (l : Lit). l.0.0) e, bad-below S.requires.0.1 a.b S.requires.1.1.1)),
-      (S.requires.1.0, S.requires.1.1.0),
+    let a = c.args in
+    let e = c.from_word-l.ensures in (
+      ((word a.m.now (a.layout.bads + a.b), e), omega (arith, ap (λ (l : Lit). l.0.0) e, bad-below c.requires.0.1 a.b c.requires.1.1.1)),
+      (c.requires.1.0, c.requires.1.1.0),
     )
 
-same_length : tie.Need-same-length
-same_length c = c.before.before.line-edge.auto.0
+same_length : tie.Need-shape_of-work
+same_length c = c.line_edge.auto.work
 
 returns : tie.Need-returns
 returns c =
-    let S = c.before.before.before.before.before.before.before.before.before in
-    let a = S.args in
-    let L = c.before.before.line-edge in
-    subst (λ (l : ℕ). LineMapped l a.frames.graph.free a.work.now a.frames a.map.now L.new.0 L.result)
-    (sym (bad-place S.requires.0.1 a.b S.requires.1.1.1))
-    (L.ensures (word a.m.now (a.layout.bads + a.b)) c.before.before.before.before.from-word.ensures)
+    let a = c.args in
+    subst (λ (l : ℕ). LineMapped l a.frames.graph.free a.work.now a.frames a.map.now c.line_edge.new.work c.line_edge.result)
+    (sym (bad-place c.requires.0.1 a.b c.requires.1.1.1))
+    (c.line_edge.ensures (word a.m.now (a.layout.bads + a.b)) c.from_word-l.ensures)
 
-pub hit-edge-spec : {M : Type 1} → statement M
-hit-edge-spec =
+pub hit_edge_spec : {M : Type 1} → statement M
+hit_edge_spec =
     tie.close
-    (tie.spec
-    add-from-word mul-from-word shared-slice-read-from-word (λ c κs. search rules) line-edge-requires same_length returns)
+    (tie.spec add-from-word mul-from-word shared-slice-read-from-word (λ c κs. search rules) line-edge-requires same_length returns)

@@ -6,30 +6,26 @@ use borrow.Author.Rules.{rules}
 use Rattle.unroll.proofs.line_edge.Statement.{statement}
 use Rattle.unroll.proofs.line_edge.Tie as tie
 
-edge-of-requires : tie.Need-edge-of-requires
-edge-of-requires c κs = c.before.before.requires.0.1
+edge-of-requires : tie.Need-edge_of-e-requires
+edge-of-requires c κs = c.requires.0.1
 
 make-requires : tie.Need-make-requires
 make-requires c κs =
-    let S = c.before.before.before.before in
-    let a = S.args in
-    literal-operands S.requires.0.0.0 a.work.now a.frames a.map.now S.requires.1.0 S.requires.1.1 c.before.edge_of.result
-    (c.before.edge_of.ensures.0 ∙ ap (literal_edge a.map.now) S.requires.0.0.1)
+    let a = c.args in
+    literal-operands c.requires.0.0.0 a.work.now a.frames a.map.now c.requires.1.0 c.requires.1.1 c.edge_of-e.result
+    (c.edge_of-e.ensures.0 ∙ ap (literal_edge a.map.now) c.requires.0.0.1)
 
-same_length : tie.Need-same-length
-same_length c = c.before.before.make.auto.0
+same_length : tie.Need-shape_of-work
+same_length c = c.make.auto.work
 
 returns : tie.Need-returns
 returns c =
     λ w e.
-    let S = c.before.before.before.before.before.before.before in
-    let a = S.args in
-    let M = c.before.before.make in
-    literal-done w a.work.now a.frames a.map.now S.requires.1.0 S.requires.1.1 c.before.before.before.before.edge_of.result
-    (c.before.before.before.before.edge_of.ensures.0 ∙ ap (literal_edge a.map.now) e) M.new.0 M.result M.ensures
+    let a = c.args in
+    literal-done w a.work.now a.frames a.map.now c.requires.1.0 c.requires.1.1 c.edge_of-e.result
+    (c.edge_of-e.ensures.0 ∙ ap (literal_edge a.map.now) e) c.make.new.work c.make.result c.make.ensures
 
-pub line-edge-spec : {M : Type 1} → statement M
-line-edge-spec =
+pub line_edge_spec : {M : Type 1} → statement M
+line_edge_spec =
     tie.close
-    (tie.spec
-    edge-of-requires make-requires same_length returns)
+    (tie.spec edge-of-requires make-requires same_length returns)

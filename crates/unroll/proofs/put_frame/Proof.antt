@@ -6,42 +6,36 @@ use Rattle.unroll.proofs.Facts.{ready_with}
 use Rattle.unroll.proofs.put_frame.Statement.{statement}
 use Rattle.unroll.proofs.put_frame.Tie as tie
 
-put-gates-requires : tie.Need-put-gates-requires
+put-gates-requires : tie.Need-put_gates-graph-requires
 put-gates-requires c κs =
-    let S = c.before.before.before.before.before.before in
-    let x = S.requires.1.0 in
-    (S.requires.0, record { stored = x.stored; room = omega (arith, x.room); edges = x.edges })
+    let x = c.requires.1.0 in
+    (c.requires.0, record { stored = x.stored; room = omega (arith, x.room); edges = x.edges })
 
 constrain-requires : tie.Need-constrain-requires
 constrain-requires c κs =
-    let g = c.before.before.before.before.before.before in
-    let S = g.before.before.before.before.before.before.before in
-    let P = g.put-gates in
-    let u = P.ensures in
-    let x = S.requires.1.0 in (
-      (S.args.order.now, ready_with S.requires.0 P.auto.1.1.1.1.1.0),
+    let u = c.put_gates-graph.ensures in
+    let x = c.requires.1.0 in (
+      (c.args.order.now, ready_with c.requires.0 c.put_gates-graph.auto.map),
       (
         record {
           stored = u.grown.stored;
-          room = omega (arith, u.grown.most, u.grown.room, x.room, gates-are S.requires.0);
+          room = omega (arith, u.grown.most, u.grown.room, x.room, gates-are c.requires.0);
           edges = u.edges;
         },
-        omega (arith, S.requires.1.1, u.grown.least),
+        omega (arith, c.requires.1.1, u.grown.least),
       ),
     )
 
-same_length : tie.Need-same-length
+same_length : tie.Need-shape_of-work
 same_length c =
-    let k = c.before.before in
-    k.constrain.auto.0 ∙ k.before.before.before.before.before.before.before.put-gates.auto.0
+    c.constrain.auto.work ∙ c.put_gates-graph.auto.work
 
-same-length-2 : tie.Need-same-length-2
-same-length-2 c = c.before.before.before.before.before.before.before.before.before.put-gates.auto.1.1.1.1.1.0
+same-length-2 : tie.Need-shape_of-map
+same-length-2 c = c.put_gates-graph.auto.map
 
 returns : tie.Need-returns
 returns c =
-    let P = c.before.before.before.before.before.before.before.before.before.put-gates in
-    record { mid = P.new.0; graph = P.result; gates = P.ensures; constraints = c.before.before.constrain.ensures }
+    record { mid = c.put_gates-graph.new.work; graph = c.put_gates-graph.result; gates = c.put_gates-graph.ensures; constraints = c.constrain.ensures }
 
-pub put-frame-spec : {M : Type 1} → statement M
-put-frame-spec = tie.close (tie.spec put-gates-requires constrain-requires same_length same-length-2 returns)
+pub put_frame_spec : {M : Type 1} → statement M
+put_frame_spec = tie.close (tie.spec put-gates-requires constrain-requires same_length same-length-2 returns)

@@ -17,65 +17,58 @@ use borrow.Author.Rules.{rules}
 use Rattle.unroll.proofs.put_inputs.Statement.{statement}
 use Rattle.unroll.proofs.put_inputs.Tie as tie
 
-abbrev invariant-loop : tie.invariant-loop
+abbrev invariant-loop : tie.invariant-loop-i
 invariant-loop m first map₀ count i₀ map i = (i ≤ count) × (length map ≡ length map₀) × Written (input_var m) (input_word first) i map₀ map
 
-abbrev decreases-loop : tie.decreases-loop
+abbrev decreases-loop : tie.decreases-loop-i
 decreases-loop m first map₀ count i₀ map i = count - i
 
-loop-holds : tie.Need-loop-init invariant-loop decreases-loop
+loop-holds : tie.Need-loop-i-init invariant-loop decreases-loop
 loop-holds c = (omega arith, refl, stored-start _ _ _)
 
-add-from-word : tie.Need-overflow-add-from-word invariant-loop decreases-loop
-add-from-word c = let r = c.before.before.before.before.requires.0.1 in omega (arith, inputs-inside r.held r.layout_of)
+add-from-word : tie.Need-overflow_add-i invariant-loop decreases-loop
+add-from-word c = let r = c.requires.0.1 in omega (arith, inputs-inside r.held r.layout_of)
 
-mul-from-word : tie.Need-overflow-mul-from-word invariant-loop decreases-loop
-mul-from-word c = let r = c.before.before.before.before.requires.0.1 in omega (arith, inputs-inside r.held r.layout_of)
+mul-from-word : tie.Need-offset_bounds-m-i invariant-loop decreases-loop
+mul-from-word c = let r = c.requires.0.1 in omega (arith, inputs-inside r.held r.layout_of)
 
-shared-slice-read-from-word : tie.Need-shared-slice-read-from-word invariant-loop decreases-loop
-shared-slice-read-from-word c = let r = c.before.before.before.before.before.requires.0.1 in omega (arith, inputs-inside r.held r.layout_of)
+shared-slice-read-from-word : tie.Need-bounds-m-i invariant-loop decreases-loop
+shared-slice-read-from-word c = let r = c.requires.0.1 in omega (arith, inputs-inside r.held r.layout_of)
 
-add-free-edge : tie.Need-overflow-add-free-edge invariant-loop decreases-loop
+add-free-edge : tie.Need-overflow_add-first invariant-loop decreases-loop
 add-free-edge c = omega arith
 
-put-edge-requires : tie.Need-put-edge-requires invariant-loop decreases-loop
+put-edge-requires : tie.Need-put_edge-requires invariant-loop decreases-loop
 put-edge-requires c κs =
-    let S = c.before.before.before.before.before.before.before.before.before in
-    let L = c.before.before.before.before.before.before.loop in (
-      omega (arith, ap (λ (v : Var). v.0) c.before.var.ensures, ap (λ (l : Lit). l.0.0) c.before.before.before.from-word.ensures, (inputs_apart S.requires.0.1).below L.i (omega arith), L.invariant.1),
-      omega (arith, ap (λ (e : Edge). edge_word e) c.free-edge.ensures, free-node (S.args.first + L.i)),
+    (
+      omega (arith, ap (λ (v : Var). v.0) c.var.ensures, ap (λ (l : Lit). l.0.0) c.from_word-l.ensures, (inputs_apart c.requires.0.1).below c.loop-i.i (omega arith), c.loop-i.invariant.1),
+      omega (arith, ap (λ (e : Edge). edge_word e) c.free_edge.ensures, free-node (c.args.first + c.loop-i.i)),
     )
 
-add-i : tie.Need-overflow-add-i invariant-loop decreases-loop
-add-i c = let r = c.before.before.before.before.before.before.before.before.before.before.before.before.requires.0.1 in omega (arith, inputs-inside r.held r.layout_of)
+add-i : tie.Need-overflow_add-i-in-loop-i invariant-loop decreases-loop
+add-i c = let r = c.requires.0.1 in omega (arith, inputs-inside r.held r.layout_of)
 
-loop-less : tie.Need-loop-smaller invariant-loop decreases-loop
+loop-less : tie.Need-loop-i-smaller invariant-loop decreases-loop
 loop-less c = omega arith
 
-loop-again : tie.Need-loop-preserved invariant-loop decreases-loop
+loop-again : tie.Need-loop-i-preserved invariant-loop decreases-loop
 loop-again c =
-    let S = c.before.before.before.before.before.before.before.before.before.before.before.before in
-    let L = c.before.before.before.before.before.before.before.before.before.loop in
-    let P = c.before.before.put-edge in (
+    (
       omega arith,
-      P.auto.0 ∙ L.invariant.1,
-      put-more (input_var S.args.m.now) (input_word S.args.first) L.i S.args.map.now L.map P.new.0 (inputs_apart S.requires.0.1) L.invariant.1 (omega arith) L.invariant.2
-          (ap (λ (v : Var). v.0) c.before.before.before.before.var.ensures ∙ ap (λ (l : Lit). l.0.0) c.before.before.before.before.before.before.from-word.ensures) (ap (λ (e : Edge). edge_word e) c.before.before.before.free-edge.ensures) P.ensures,
+      c.put_edge.auto.map ∙ c.loop-i.invariant.1,
+      put-more (input_var c.args.m.now) (input_word c.args.first) c.loop-i.i c.args.map.now c.loop-i.map c.put_edge.new.map (inputs_apart c.requires.0.1) c.loop-i.invariant.1 (omega arith) c.loop-i.invariant.2
+          (ap (λ (v : Var). v.0) c.var.ensures ∙ ap (λ (l : Lit). l.0.0) c.from_word-l.ensures) (ap (λ (e : Edge). edge_word e) c.free_edge.ensures) c.put_edge.ensures,
     )
 
-same_length : tie.Need-same-length invariant-loop decreases-loop
-same_length c = c.before.loop.invariant.1
+same_length : tie.Need-shape_of-map invariant-loop decreases-loop
+same_length c = c.loop-i.invariant.1
 
 returns : tie.Need-returns invariant-loop decreases-loop
 returns c =
-    let L = c.before.loop in
-    let S = c.before.before.before.before in
-    let e : L.i ≡ S.args.layout.i = omega arith in
-    subst (λ (n : ℕ). Written (input_var S.args.m.now) (input_word S.args.first) n S.args.map.now L.map) e L.invariant.2
+    let e : c.loop-i.i ≡ c.args.layout.i = omega arith in
+    subst (λ (n : ℕ). Written (input_var c.args.m.now) (input_word c.args.first) n c.args.map.now c.loop-i.map) e c.loop-i.invariant.2
 
-pub put-inputs-spec : {M : Type 1} → statement M
-put-inputs-spec =
+pub put_inputs_spec : {M : Type 1} → statement M
+put_inputs_spec =
     tie.close
-    (tie.spec
-    invariant-loop decreases-loop loop-holds add-from-word mul-from-word shared-slice-read-from-word (λ c κs. search rules) (λ c κs. search rules)
-    add-free-edge (λ c κs. search rules) put-edge-requires add-i loop-less loop-again same_length returns)
+    (tie.spec invariant-loop decreases-loop loop-holds add-from-word mul-from-word shared-slice-read-from-word (λ c κs. search rules) (λ c κs. search rules) add-free-edge (λ c κs. search rules) put-edge-requires add-i loop-less loop-again same_length returns)

@@ -7,17 +7,16 @@ use Rattle.unroll.proofs.start_edge.Tie as tie
 equals-requires : tie.Need-equals-requires
 equals-requires c κs = tt
 
-returns : tie.Need-returns
-returns c = rw (sym c.before.before.equals.ensures ∙ c.before.if1.true) c.free-edge.ensures
+returns : tie.Need-returns-then-equals
+returns c = rw (sym c.equals.ensures ∙ c.if-equals.true) c.free_edge.ensures
 
-is-true-requires : tie.Need-is-true-requires
+is-true-requires : tie.Need-is_true-requires
 is-true-requires c κs = tt
 
-returns-2 : tie.Need-returns-2
-returns-2 c = rw (sym c.before.before.equals.ensures ∙ c.before.if1.false, c.is_true.ensures)
+returns-2 : tie.Need-returns
+returns-2 c = rw (sym c.equals.ensures ∙ c.if-equals.false, c.is_true.ensures)
 
-pub start-edge-spec : {M : Type 1} → statement M
-start-edge-spec =
+pub start_edge_spec : {M : Type 1} → statement M
+start_edge_spec =
     tie.close
-    (tie.spec
-    equals-requires (λ c κs. search rules) returns is-true-requires returns-2)
+    (tie.spec equals-requires (λ c κs. search rules) returns is-true-requires returns-2)

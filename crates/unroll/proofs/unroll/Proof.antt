@@ -3,17 +3,16 @@ use borrow.Author.Rules.{rules}
 use Rattle.unroll.proofs.unroll.Statement.{statement}
 use Rattle.unroll.proofs.unroll.Tie as tie
 
-unroll-aim-requires : tie.Need-unroll-aim-requires
-unroll-aim-requires c κs = c.before.before.before.before.requires
+unroll-aim-requires : tie.Need-unroll_aim-requires
+unroll-aim-requires c κs = c.requires
 
-same_length : tie.Need-same-length
-same_length c = c.before.before.unroll-aim.auto.0
+same_length : tie.Need-shape_of-work
+same_length c = c.unroll_aim.auto.work
 
 returns : tie.Need-returns
-returns c = c.before.before.unroll-aim.ensures
+returns c = c.unroll_aim.ensures
 
-pub unroll-spec : {M : Type 1} → statement M
-unroll-spec =
+pub unroll_spec : {M : Type 1} → statement M
+unroll_spec =
     tie.close
-    (tie.spec
-    unroll-aim-requires same_length returns)
+    (tie.spec unroll-aim-requires same_length returns)

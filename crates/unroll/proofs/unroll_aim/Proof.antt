@@ -7,59 +7,45 @@ use borrow.Author.Rules.{rules}
 use Rattle.unroll.proofs.unroll_aim.Statement.{statement}
 use Rattle.unroll.proofs.unroll_aim.Tie as tie
 
-add_free : tie.Need-overflow-add-free
-add_free c = let S = c.before.before.before.before in omega (arith, S.requires.last)
+add_free : tie.Need-overflow_add-free
+add_free c = omega (arith, c.requires.last)
 
-mul-free : tie.Need-overflow-mul-free
-mul-free c = let S = c.before.before.before.before.before in omega (arith, room-enough S.requires, S.requires.most)
+mul-free : tie.Need-overflow_mul-free
+mul-free c = omega (arith, room-enough c.requires, c.requires.most)
 
-add-free-2 : tie.Need-overflow-add-free-2
-add-free-2 c = let S = c.before.before.before.before.before.before in omega (arith, room-enough S.requires, S.requires.most)
+add-free-2 : tie.Need-overflow_add-free-2
+add-free-2 c = omega (arith, room-enough c.requires, c.requires.most)
 
-start-requires : tie.Need-start-requires
-start-requires c κs = start-enough c.before.before.before.before.before.before.before.requires
+start-requires : tie.Need-start-empty-requires
+start-requires c κs = start-enough c.requires
 
-first-frame-requires : tie.Need-first-frame-requires
+first-frame-requires : tie.Need-first_frame-first-requires
 first-frame-requires c κs =
-    let S = c.before.before.before.before.before.before.before.before.before.before.before.before in
-    let E = c.before.before.before.before.start in
-    (S.requires.ready, first_fits S.requires E.ensures.0 E.ensures.1 _ (blank-zeros 4097))
+    (c.requires.ready, first_fits c.requires c.start-empty.ensures.0 c.start-empty.ensures.1 _ (blank-zeros 4097))
 
-put-frames-requires : tie.Need-put-frames-requires
+put-frames-requires : tie.Need-put_frames-frames-requires
 put-frames-requires c κs =
-    let S = c.before.before.before.before.before.before.before.before.before.before.before.before.before.before.before.before.before.before in
-    let E = c.before.before.before.before.before.before.before.before.before.before.start in
-    let F = c.before.before.before.before.before.first_frame in
-    (ready_with S.requires.ready F.auto.1.1.1.1.1.0, frames-fit S.requires E.ensures.0 E.ensures.1 F.ensures S.args.aim.alone)
+    (ready_with c.requires.ready c.first_frame-first.auto.map, frames-fit c.requires c.start-empty.ensures.0 c.start-empty.ensures.1 c.first_frame-first.ensures c.args.aim.alone)
 
-hit-edge-requires : tie.Need-hit-edge-requires
+hit-edge-requires : tie.Need-hit_edge-requires
 hit-edge-requires c κs =
-    let S = c.before.before.before.before.before.before.before.before.before.before.before.before.before.before.before.before.before.before.before.before.before.before.before.before in
-    let E = c.before.before.before.before.before.before.before.before.before.before.before.before.before.before.before.before.start in
-    let F = c.before.before.before.before.before.before.before.before.before.before.before.first_frame in
-    let G = c.before.before.before.before.before.put-frames in
-    let alone = S.args.aim.alone in (
-      (S.args.order.now, ready_with S.requires.ready (G.auto.1.1.1.1.1.1.0 ∙ F.auto.1.1.1.1.1.0)),
+    let alone = c.args.aim.alone in (
+      (c.args.order.now, ready_with c.requires.ready (c.put_frames-frames.auto.map ∙ c.first_frame-first.auto.map)),
       (
-        hit-fits S.requires E.ensures.0 E.ensures.1 F.ensures alone G.ensures,
-        (hit-node S.requires E.ensures.0 E.ensures.1 F.ensures alone G.ensures, S.requires.bad),
+        hit-fits c.requires c.start-empty.ensures.0 c.start-empty.ensures.1 c.first_frame-first.ensures alone c.put_frames-frames.ensures,
+        (hit-node c.requires c.start-empty.ensures.0 c.start-empty.ensures.1 c.first_frame-first.ensures alone c.put_frames-frames.ensures, c.requires.bad),
       ),
     )
 
-same_length : tie.Need-same-length
-same_length c = c.before.before.hit-edge.auto.0 ∙ c.before.before.before.before.before.before.before.before.put-frames.auto.0 ∙ c.before.before.before.before.before.before.before.before.before.before.before.before.before.before.first_frame.auto.0 ∙ c.before.before.before.before.before.before.before.before.before.before.before.before.before.before.before.before.before.before.before.start.auto.0
+same_length : tie.Need-shape_of-work
+same_length c = c.hit_edge.auto.work ∙ c.put_frames-frames.auto.work ∙ c.first_frame-first.auto.work ∙ c.start-empty.auto.work
 
 returns : tie.Need-returns
 returns c =
-    let S = c.before.before.before.before.before.before.before.before.before.before.before.before.before.before.before.before.before.before.before.before.before.before.before.before.before.before.before in
-    let E = c.before.before.before.before.before.before.before.before.before.before.before.before.before.before.before.before.before.before.before.start in
-    let H = c.before.before.hit-edge in
-    unrolled S.requires E.ensures.0 E.ensures.1 c.before.before.before.before.before.before.before.before.before.before.before.before.before.before.first_frame.ensures S.args.aim.alone c.before.before.before.before.before.before.before.before.put-frames.ensures
-    H.new.0 H.result H.ensures
+    unrolled c.requires c.start-empty.ensures.0 c.start-empty.ensures.1 c.first_frame-first.ensures c.args.aim.alone c.put_frames-frames.ensures
+    c.hit_edge.new.work c.hit_edge.result c.hit_edge.ensures
 
-pub unroll-aim-spec : {M : Type 1} → statement M
-unroll-aim-spec =
+pub unroll_aim_spec : {M : Type 1} → statement M
+unroll_aim_spec =
     tie.close
-    (tie.spec
-    add_free mul-free add-free-2 start-requires (λ c. search rules) first-frame-requires (λ c. search rules) put-frames-requires
-    (λ c. search rules) hit-edge-requires same_length returns)
+    (tie.spec add_free mul-free add-free-2 start-requires (λ c. search rules) first-frame-requires (λ c. search rules) put-frames-requires (λ c. search rules) hit-edge-requires same_length returns)

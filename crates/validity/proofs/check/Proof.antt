@@ -16,82 +16,57 @@ use Rattle.validity.proofs.check.Statement.{statement}
 use Rattle.validity.proofs.check.Tie as tie
 
 -- where cause 6 did not refuse
-six : (n : tie.Else1)
-    → Tested n.before.before.before.before.before.before.args.w.now n.before.before.literals-right.new.1.0 true
+six : (n : tie.Else-not-literals_right)
+    → Tested n.args.w.now n.literals_right.new.table true
 six n =
-    let A = n.before.before in
-    rw (not-false A.literals-right.result n.if1.false) at A.literals-right.ensures
+    rw n.if-not-literals_right.false at n.literals_right.ensures
 
 -- where cause 7 did not refuse
-seven : (n : tie.Else2)
-    → T (used_defined (circuit_in n.before.before.before.before.before.before.before.before.before.args.w.now))
+seven : (n : tie.Else-not-used_defined)
+    → T (used_defined (circuit_in n.args.w.now))
 seven n =
-    let B = n.before in
-    let N = B.before.before in
-    let A = N.before.before in
-    uses-in _ A.literals-right.new.1.0 (six N).1
-    (rw (not-false B.used-defined.result n.if2.false) at B.used-defined.ensures)
+    uses-in _ n.literals_right.new.table (six n.before.before.before).1
+    (rw n.if-not-used_defined.false at n.used_defined.ensures)
 
-literals-right-requires : tie.Need-literals-right-requires
+literals-right-requires : tie.Need-literals_right-requires
 literals-right-requires c κs =
-    let S = c.before.before.before in
-    (S.requires.0, (omega (arith, S.requires.0.max_var), λ v. get_d-zeros 4097 v))
+    (c.requires.0, (omega (arith, c.requires.0.max_var), λ v. get_d-zeros 4097 v))
 
-returns : tie.Need-returns
+returns : tie.Need-returns-then-not-literals_right
 returns c =
-    let D = c.before.before in
-    let T1 = D.before.before in
-    let A = T1.before.before in (
-      judged-six _ (rw (not-true A.literals-right.result T1.if1.true) at A.literals-right.ensures).0,
-      D.clear.ensures,
+    (
+      judged-six _ (rw c.if-not-literals_right.true at c.literals_right.ensures).0,
+      c.clear.ensures,
     )
 
-used-defined-requires : tie.Need-used-defined-requires
+used-defined-requires : tie.Need-used_defined-requires
 used-defined-requires c κs =
-    let N = c.before in
-    let A = N.before.before in
-    let S = A.before.before.before.before in
-    (S.requires.0, used-room S.args.w.now A.literals-right.new.1.0 (six N).1 (six N).0)
+    (c.requires.0, used-room c.args.w.now c.literals_right.new.table (six c.before).1 (six c.before).0)
 
-returns-2 : tie.Need-returns-2
+returns-2 : tie.Need-returns-then-not-used_defined
 returns-2 c =
-    let D = c.before.before in
-    let T2 = D.before.before in
-    let B = T2.before in
-    let N = B.before.before in
-    let A = N.before.before in (
-      judged-seven _ (six N).0
-          (λ t. (rw (not-true B.used-defined.result T2.if2.true) at B.used-defined.ensures)
-          (uses-out _ A.literals-right.new.1.0 (six N).1 t)),
-      D.clear2.ensures,
+    (
+      judged-seven _ (six c.before.before.before.before.before.before.before).0
+          (λ t. (rw c.if-not-used_defined.true at c.used_defined.ensures)
+          (uses-out _ c.literals_right.new.table (six c.before.before.before.before.before.before.before).1 t)),
+      c.clear-then-not-used_defined.ensures,
     )
 
 ordered-requires : tie.Need-ordered-requires
 ordered-requires c κs =
-    let N = c.before.before.before.before.before in
-    let S = N.before.before.before.before.before.before in
-    (S.requires.0, ((six N).0, ((six N).1, S.requires.1)))
+    (c.requires.0, ((six c.before.before.before.before.before).0, ((six c.before.before.before.before.before).1, c.requires.1)))
 
-returns-3 : tie.Need-returns-3
+returns-3 : tie.Need-returns-then-not-ordered
 returns-3 c =
-    let D = c.before.before.before in
-    let M = D.before.before.before in
-    let N = M.before.before.before in
-    let eight = rw (not-true D.ordered.result c.if3.true) at D.ordered.ensures in
-    (judged-eight _ (six N).0 (seven M) eight.0, eight.1)
+    let eight = rw c.if-not-ordered.true at c.ordered.ensures in
+    (judged-eight _ (six c.before.before.before.before.before.before.before.before.before).0 (seven c.before.before.before.before.before.before) eight.0, eight.1)
 
-returns-4 : tie.Need-returns-4
+returns-4 : tie.Need-returns
 returns-4 c =
-    let D = c.before.before.before in
-    let M = D.before.before.before in
-    let N = M.before.before.before in
-    let eight = rw (not-false D.ordered.result c.if3.false) at D.ordered.ensures in
-    ((judged-right _ (six N).0 (seven M) eight.0, eight.1), eight.2)
+    let eight = rw c.if-not-ordered.false at c.ordered.ensures in
+    ((judged-right _ (six c.before.before.before.before.before.before.before.before.before).0 (seven c.before.before.before.before.before.before) eight.0, eight.1), eight.2)
 
-pub check-spec : {M : Type 1} → statement M
-check-spec =
+pub check_spec : {M : Type 1} → statement M
+check_spec =
     tie.close
-    (tie.spec
-    (λ c. search rules) literals-right-requires (λ c κs. search rules) (λ c. search rules) returns (λ c. search rules)
-    used-defined-requires (λ c κs. search rules) (λ c. search rules) returns-2 (λ c. search rules) ordered-requires (λ c. search rules)
-    returns-3 (λ c. search rules) returns-4)
+    (tie.spec (λ c. search rules) literals-right-requires (λ c κs. search rules) (λ c. search rules) returns (λ c. search rules) used-defined-requires (λ c κs. search rules) (λ c. search rules) returns-2 (λ c. search rules) ordered-requires (λ c. search rules) returns-3 (λ c. search rules) returns-4)

@@ -1,5 +1,7 @@
 -- `define_all` meets its contract: the three columns are the definitions in file order.
 -- Assumes nothing.
+use Rattle.std.proofs.lemmas.Bool.{not_from_true}
+use Rattle.std.proofs.lemmas.Bool.{not_from_false}
 use Rattle.variables.proofs.Wholes.{inputs-next, latches-next, gates-next}
 use borrow.Author.Tests.{not-true, not-false}
 use borrow.Author.Rules.{rules}
@@ -8,49 +10,41 @@ use Rattle.variables.proofs.define_all.Tie as tie
 
 define-requires : tie.Need-define-requires
 define-requires c κs =
-    let S = c.before.before.before.before.before in
-    rw c.column-of.ensures (inputs-next S.args.w.now S.requires.0 S.args.table.now S.requires.1.0 S.requires.1.1)
+    rw c.column_of.ensures (inputs-next c.args.w.now c.requires.0 c.args.table.now c.requires.1.0 c.requires.1.1)
 
-returns : tie.Need-returns
-returns c = let A = c.before.before.before in rw (not-true A.define.result c.if1.true) at A.define.ensures
+returns : tie.Need-returns-then-not-define
+returns c = rw (not-true c.define.result (not_from_false _ c.if-not-define.true)) at c.define.ensures
 
 define-requires-2 : tie.Need-define-requires-2
 define-requires-2 c κs =
-    let A = c.before.before.before.before.before.before in
-    let S = c.before.before.before.before.before.before.before.before.before.before.before.before in
-    rw c.column-of2.ensures
-    (latches-next S.args.w.now S.requires.0 A.define.new.1.0
+    rw c.column_of-2.ensures
+    (latches-next c.args.w.now c.requires.0 c.define.new.table
     (rw (
-      not-false A.define.result
-          c.before.before.before.if1.false,
-      c.before.before.before.before.before.before.before.column-of.ensures,
+      not-false c.define.result
+          (not_from_true _ c.if-not-define.false),
+      c.column_of.ensures,
     ) at
-    A.define.ensures))
+    c.define.ensures))
 
-returns-2 : tie.Need-returns-2
+returns-2 : tie.Need-returns-then-not-define-2
 returns-2 c =
-    let A = c.before.before.before in rw (not-true A.define2.result c.if2.true) at A.define2.ensures
+    rw (not-true c.define-2.result (not_from_false _ c.if-not-define-2.true)) at c.define-2.ensures
 
 define-requires-3 : tie.Need-define-requires-3
 define-requires-3 c κs =
-    let A = c.before.before.before.before.before.before in
-    let S = c.before.before.before.before.before.before.before.before.before.before.before.before.before.before.before.before.before.before.before in
-    rw c.before.column-of3.ensures
-    (gates-next S.args.w.now S.requires.0 A.define2.new.1.0
+    rw c.column_of-3.ensures
+    (gates-next c.args.w.now c.requires.0 c.define-2.new.table
     (rw (
-      not-false A.define2.result
-          c.before.before.before.if2.false,
-      c.before.before.before.before.before.before.before.column-of2.ensures,
+      not-false c.define-2.result
+          (not_from_true _ c.if-not-define-2.false),
+      c.column_of-2.ensures,
     ) at
-    A.define2.ensures))
+    c.define-2.ensures))
 
-returns-3 : tie.Need-returns-3
-returns-3 c = let A = c.before.before in rw c.before.before.before.before.column-of3.ensures at A.define3.ensures
+returns-3 : tie.Need-returns
+returns-3 c = rw c.column_of-3.ensures at c.define-3.ensures
 
-pub define-all-spec : {M : Type 1} → statement M
-define-all-spec =
+pub define_all_spec : {M : Type 1} → statement M
+define_all_spec =
     tie.close
-    (tie.spec
-    (λ c. search rules) (λ c κs. search rules) define-requires (λ c. search rules) returns (λ c. search rules) (λ c κs. search rules)
-    define-requires-2 (λ c. search rules) returns-2 (λ c κs. search rules) (λ c. search rules) (λ c. search rules) define-requires-3
-    (λ c. search rules) returns-3)
+    (tie.spec (λ c. search rules) (λ c κs. search rules) define-requires (λ c. search rules) returns (λ c. search rules) (λ c κs. search rules) define-requires-2 (λ c. search rules) returns-2 (λ c κs. search rules) (λ c. search rules) (λ c. search rules) define-requires-3 (λ c. search rules) returns-3)

@@ -4,10 +4,9 @@ use Rattle.variables.proofs.is_reset.Statement.{statement}
 use Rattle.variables.proofs.is_reset.Tie as tie
 
 returns : tie.Need-returns
-returns c = rw (c.before.is-constant.ensures, c.equals.ensures)
+returns c = rw (c.is_constant.ensures, c.equals.ensures)
 
-pub is-reset-spec : {M : Type 1} → statement M
-is-reset-spec =
+pub is_reset_spec : {M : Type 1} → statement M
+is_reset_spec =
     tie.close
-    (tie.spec
-    (λ c κs. search rules) (λ c κs. search rules) returns)
+    (tie.spec (λ c κs. search rules) (λ c κs. search rules) returns)

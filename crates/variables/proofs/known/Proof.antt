@@ -8,35 +8,33 @@ use borrow.Author.Rules.{rules}
 use Rattle.variables.proofs.known.Statement.{statement}
 use Rattle.variables.proofs.known.Tie as tie
 
-returns : tie.Need-returns
-returns c = known_constant c.before.before.before.args.table.now c.before.before.before.args.l
-    (sym c.before.is-constant.ensures ∙ c.if1.true)
+returns : tie.Need-returns-then-is_constant
+returns c = known_constant c.args.table.now c.args.l
+    (sym c.is_constant.ensures ∙ c.if-is_constant.true)
 
-shared-slice-read-if2 : tie.Need-shared-slice-read-if2
+shared-slice-read-if2 : tie.Need-bounds-table-at
 shared-slice-read-if2 c = omega (
   arith,
   ap (λ (v : Var). v.0)
-      c.before.before.var.ensures,
-  c.before.before.before.before.before.before.requires,
+      c.var-at.ensures,
+  c.requires,
 )
 
-returns-2 : tie.Need-returns-2
+returns-2 : tie.Need-returns-then-table-at-eq0
 returns-2 c =
-    known-not c.before.before.before.before.before.before.before.args.table.now
-    c.before.before.before.before.before.before.before.args.l c.before.before.before.var.result.0
-    (ap (λ (v : Var). v.0) c.before.before.before.var.ensures)
-    (sym c.before.before.before.before.before.is-constant.ensures ∙ c.before.before.before.before.if1.false) c.if2.true
+    known-not c.args.table.now
+    c.args.l c.var-at.result.0
+    (ap (λ (v : Var). v.0) c.var-at.ensures)
+    (sym c.is_constant.ensures ∙ c.if-is_constant.false) c.if-table-at-eq0.true
 
-returns-3 : tie.Need-returns-3
+returns-3 : tie.Need-returns
 returns-3 c =
-    known-there c.before.before.before.before.before.before.before.args.table.now
-    c.before.before.before.before.before.before.before.args.l c.before.before.before.var.result.0
-    (ap (λ (v : Var). v.0) c.before.before.before.var.ensures)
-    c.if2.false
+    known-there c.args.table.now
+    c.args.l c.var-at.result.0
+    (ap (λ (v : Var). v.0) c.var-at.ensures)
+    c.if-table-at-eq0.false
 
-pub known-spec : {M : Type 1} → statement M
-known-spec =
+pub known_spec : {M : Type 1} → statement M
+known_spec =
     tie.close
-    (tie.spec
-    (λ c κs. search rules) returns (λ c κs. search rules) (λ c. search rules) (λ c. search rules) shared-slice-read-if2 returns-2
-    returns-3)
+    (tie.spec (λ c κs. search rules) returns (λ c κs. search rules) (λ c. search rules) (λ c. search rules) shared-slice-read-if2 returns-2 returns-3)

@@ -4,21 +4,17 @@ use Rattle.variables.proofs.Entries.{cleared-same}
 use Rattle.variables.proofs.literals_right.Statement.{statement}
 use Rattle.variables.proofs.literals_right.Tie as tie
 
-returns : tie.Need-returns
-returns c = rw c.if1.true at c.before.before.before.test-literals.ensures
+returns : tie.Need-returns-then-test_literals
+returns c = rw c.if-test_literals.true at c.test_literals.ensures
 
-returns-2 : tie.Need-returns-2
+returns-2 : tie.Need-returns
 returns-2 c =
-    let D = c.before.before in
-    let E = D.before.before in
-    let A = E.before.before.before in
-    let S = A.before.before.before.before in (
-      rw E.if1.false at A.test-literals.ensures,
-      cleared-same S.args.table.now S.requires.1.1 A.test-literals.auto.1.0 D.clear.ensures,
+    (
+      rw c.if-test_literals.false at c.test_literals.ensures,
+      cleared-same c.args.table.now c.requires.1.1 c.test_literals.auto.table c.clear.ensures,
     )
 
-pub literals-right-spec : {M : Type 1} → statement M
-literals-right-spec =
+pub literals_right_spec : {M : Type 1} → statement M
+literals_right_spec =
     tie.close
-    (tie.spec
-    (λ c κs. search rules) (λ c. search rules) returns (λ c κs. search rules) (λ c. search rules) returns-2)
+    (tie.spec (λ c κs. search rules) (λ c. search rules) returns (λ c κs. search rules) (λ c. search rules) returns-2)

@@ -12,38 +12,35 @@ use Rattle.vcd.proofs.dump_length.Lts as lts
 use Rattle.vcd.proofs.declarations_length.Reads as declarations-length-reads
 use Rattle.vcd.proofs.samples_length.Reads as samples-length-reads
 
-add-result : tie.Need-overflow-add-result
+add-result : tie.Need-overflow_add-result
 add-result c =
-    let S = c.before in
-    omega (arith, c.declarations-length.ensures, declarations-most (name_in S.args.layout) 0 S.args.n, S.requires.0.there, S.requires.0.few)
+    omega (arith, c.declarations_length.ensures, declarations-most (name_in c.args.layout) 0 c.args.n, c.requires.0.there, c.requires.0.few)
 
-add-result-2 : tie.Need-overflow-add-result-2
+add-result-2 : tie.Need-overflow_add-result-2
 add-result-2 c =
-    let S = c.before.before in
-    let n = S.args.n in
-    let h = S.requires.0 in
+    let n = c.args.n in
+    let h = c.requires.0 in
     let flat : ℕ → ℕ → Level = λ t k. Level.low in
     omega (
       arith,
-      c.before.declarations-length.ensures,
-      declarations-most (name_in S.args.layout) 0 n,
-      c.samples-length.ensures flat,
-      samples-most flat n (omega (arith, h.there, h.few)) 0 S.args.frames,
+      c.declarations_length.ensures,
+      declarations-most (name_in c.args.layout) 0 n,
+      c.samples_length.ensures flat,
+      samples-most flat n (omega (arith, h.there, h.few)) 0 c.args.frames,
       h.there,
       h.few,
-      S.requires.1,
+      c.requires.1,
     )
 
 returns : tie.Need-returns
 returns c =
-    let S = c.before.before in
     λ level.
     omega (
       arith,
-      c.before.declarations-length.ensures,
-      c.samples-length.ensures level,
-      dump-length (name_in S.args.layout) S.args.n level S.args.frames,
+      c.declarations_length.ensures,
+      c.samples_length.ensures level,
+      dump-length (name_in c.args.layout) c.args.n level c.args.frames,
     )
 
-pub dump-length-spec : {M : Type 1} → statement M
-dump-length-spec = tie.close (tie.spec (λ c κs. search rules) add-result (λ c κs. search rules) add-result-2 returns)
+pub dump_length_spec : {M : Type 1} → statement M
+dump_length_spec = tie.close (tie.spec (λ c κs. search rules) add-result (λ c κs. search rules) add-result-2 returns)

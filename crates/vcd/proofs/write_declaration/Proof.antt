@@ -53,45 +53,38 @@ module _ (out : List ℕ) (at k : ℕ) (name : Name) (h : Room out at (declarati
       numbered : {e₃ : ℕ} {out₃ : List ℕ} → Placed out₂ e₂ (number name) e₃ out₃ → Rest out at (declaration k name) out₃ e₃ end
       numbered r = rest_more (number name) end h labelled r
 
-put-requires : tie.Need-put-requires
+put-requires : tie.Need-put-identifier-requires
 put-requires c κs =
-    let start = c.before.before.before in
-    let a = start.args in
-    word_room a.out.now a.at a.k a.name start.requires.1
+    let a = c.args in
+    word_room a.out.now a.at a.k a.name c.requires.1
 
-put-requires-2 : tie.Need-put-requires-2
+put-requires-2 : tie.Need-put-number-requires
 put-requires-2 c κs =
-    let start = c.before.before.before.before.before.before.before.before in
-    let a = start.args in
-    label-room a.out.now a.at a.k a.name start.requires.1 c.before.before.before.before.put.ensures
+    let a = c.args in
+    label-room a.out.now a.at a.k a.name c.requires.1 c.put-identifier.ensures
 
-put-ended-requires : tie.Need-put-ended-requires
+put-ended-requires : tie.Need-put_ended-end-requires
 put-ended-requires c κs =
-    let start = c.before.before.before.before.before.before.before.before.before.before.before.before in
-    let a = start.args in
-    number-room a.out.now a.at a.k a.name start.requires.1
-    c.before.before.before.before.before.before.before.before.put.ensures c.before.before.before.put2.ensures
+    let a = c.args in
+    number-room a.out.now a.at a.k a.name c.requires.1
+    c.put-identifier.ensures c.put-number.ensures
 
-put-requires-3 : tie.Need-put-requires-3
+put-requires-3 : tie.Need-put-requires
 put-requires-3 c κs =
-    let start = c.before.before.before.before.before.before.before.before.before.before.before.before.before.before.before.before.before in
-    let a = start.args in
-    last-room end start.pre.1 (numbered a.out.now a.at a.k a.name start.pre.1
-    c.before.before.before.before.before.before.before.before.before.before.before.before.before.put.ensures
-    c.before.before.before.before.before.before.before.before.put2.ensures
-    c.before.before.before.before.put_ended.ensures)
+    let a = c.args in
+    last-room end c.requires.1 (numbered a.out.now a.at a.k a.name c.requires.1
+    c.put-identifier.ensures
+    c.put-number.ensures
+    c.put_ended-end.ensures)
 
 returns : tie.Need-returns
 returns c =
-    let start = c.before.before.before.before.before.before.before.before.before.before.before.before.before.before.before.before.before.before.before.before in
-    let a = start.args in
-    last-placed end start.pre.1 (numbered a.out.now a.at a.k a.name start.pre.1
-    c.before.before.before.before.before.before.before.before.before.before.before.before.before.before.before.before.put.ensures c.before.before.before.before.before.before.before.before.before.before.before.put2.ensures
-    c.before.before.before.before.before.before.before.put_ended.ensures) c.before.before.put3.ensures
+    let a = c.args in
+    last-placed end c.requires.1 (numbered a.out.now a.at a.k a.name c.requires.1
+    c.put-identifier.ensures c.put-number.ensures
+    c.put_ended-end.ensures) c.put.ensures
 
-pub write-declaration-spec : {M : Type 1} → statement M
-write-declaration-spec =
+pub write_declaration_spec : {M : Type 1} → statement M
+write_declaration_spec =
     tie.close
-    (tie.spec
-    (λ c. search rules) (λ c. search rules) (λ c. search rules) (λ c. search rules) (λ c. search rules) put-requires (λ c. search rules)
-    put-requires-2 put-ended-requires (λ c. search rules) put-requires-3 (λ c. search rules) returns)
+    (tie.spec (λ c. search rules) (λ c. search rules) (λ c. search rules) (λ c. search rules) put-requires (λ c. search rules) put-requires-2 put-ended-requires put-requires-3 (λ c. search rules) returns)

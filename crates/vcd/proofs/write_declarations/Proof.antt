@@ -15,64 +15,54 @@ use Rattle.vcd.proofs.write_declarations.Lts as lts
 use Rattle.vcd.proofs.name_at.Reads as name-at-reads
 use Rattle.vcd.proofs.write_declaration.Reads as write-declaration-reads
 
-abbrev invariant-loop : tie.invariant-loop
+abbrev invariant-loop : tie.invariant-loop-left
 invariant-loop layout n out₀ at end₀ k₀ left₀ out end k left =
     (k + left ≡ n) × Rest out₀ at (declarations (name_in layout) 0 n) out end (declarations (name_in layout) k left)
 
-abbrev decreases-loop : tie.decreases-loop
+abbrev decreases-loop : tie.decreases-loop-left
 decreases-loop layout n out₀ at end₀ k₀ left₀ out end k left =
     left
 
-loop-holds : tie.Need-loop-init invariant-loop decreases-loop
+loop-holds : tie.Need-loop-left-init invariant-loop decreases-loop
 loop-holds c =
-    (omega arith, rest-start c.before.args.out.now c.before.args.at _)
+    (omega arith, rest-start c.args.out.now c.args.at _)
 
-name-at-requires : tie.Need-name-at-requires invariant-loop decreases-loop
+name-at-requires : tie.Need-name_at-name-requires invariant-loop decreases-loop
 name-at-requires c κs =
-    let start = c.before.before.before in
-    (omega (arith, start.requires.0.there), omega (arith, start.requires.0.few))
+    (omega (arith, c.requires.0.there), omega (arith, c.requires.0.few))
 
-write-declaration-requires : tie.Need-write-declaration-requires invariant-loop decreases-loop
+write-declaration-requires : tie.Need-write_declaration-end-requires invariant-loop decreases-loop
 write-declaration-requires c κs =
-    let S = c.before.before.before.before.before in
-    let L = c.before.before.before.loop in
-    let name = name_in S.args.layout in
-    let t = c.before.before.loop-test.true in (
-      omega (arith, S.requires.0.there, S.requires.0.few),
-      rw c.before.name-at.ensures.0
-          (rest-room (declaration L.k (name L.k)) (declarations name (L.k + 1) (L.left - 1)) S.requires.1
-          (rw (declarations-more name L.k L.left t) at L.invariant.1)),
+    let name = name_in c.args.layout in
+    let t = c.loop-left-test.true in (
+      omega (arith, c.requires.0.there, c.requires.0.few),
+      rw c.name_at-name.ensures.0
+          (rest-room (declaration c.loop-left.k (name c.loop-left.k)) (declarations name (c.loop-left.k + 1) (c.loop-left.left - 1)) c.requires.1
+          (rw (declarations-more name c.loop-left.k c.loop-left.left t) at c.loop-left.invariant.1)),
     )
 
-add-k : tie.Need-overflow-add-k invariant-loop decreases-loop
+add-k : tie.Need-overflow_add-k invariant-loop decreases-loop
 add-k c =
-    let start = c.before.before.before.before.before.before.before.before in
-    omega (arith, start.requires.0.there, start.requires.0.few)
+    omega (arith, c.requires.0.there, c.requires.0.few)
 
-loop-again : tie.Need-loop-preserved invariant-loop decreases-loop
+loop-again : tie.Need-loop-left-preserved invariant-loop decreases-loop
 loop-again c =
-    let S = c.before.before.before.before.before.before.before.before in
-    let L = c.before.before.before.before.before.before.loop in
-    let name = name_in S.args.layout in
-    let t = c.before.before.before.before.before.loop-test.true in (
+    let name = name_in c.args.layout in
+    let t = c.loop-left-test.true in (
       omega arith,
-      rest_more (declaration L.k (name L.k)) (declarations name (L.k + 1) (L.left - 1)) S.requires.1
-          (rw (declarations-more name L.k L.left t) at L.invariant.1) (rw c.before.before.before.before.name-at.ensures.0 at c.before.before.write-declaration.ensures),
+      rest_more (declaration c.loop-left.k (name c.loop-left.k)) (declarations name (c.loop-left.k + 1) (c.loop-left.left - 1)) c.requires.1
+          (rw (declarations-more name c.loop-left.k c.loop-left.left t) at c.loop-left.invariant.1) (rw c.name_at-name.ensures.0 at c.write_declaration-end.ensures),
     )
 
-same_length : tie.Need-same-length invariant-loop decreases-loop
+same_length : tie.Need-shape_of-out invariant-loop decreases-loop
 same_length c =
-    c.before.loop.invariant.1.kept
+    c.loop-left.invariant.1.kept
 
 returns : tie.Need-returns invariant-loop decreases-loop
 returns c =
-    let S = c.before.before.before in
-    let L = c.before.loop in
-    rest_end (rw (declarations-none (name_in S.args.layout) L.k L.left c.loop-test.false) at L.invariant.1)
+    rest_end (rw (declarations-none (name_in c.args.layout) c.loop-left.k c.loop-left.left c.loop-left-test.false) at c.loop-left.invariant.1)
 
-pub write-declarations-spec : {M : Type 1} → statement M
-write-declarations-spec =
+pub write_declarations_spec : {M : Type 1} → statement M
+write_declarations_spec =
     tie.close
-    (tie.spec
-    invariant-loop decreases-loop loop-holds name-at-requires write-declaration-requires add-k (λ c. omega arith) (λ c. omega arith) loop-again
-    same_length returns)
+    (tie.spec invariant-loop decreases-loop loop-holds name-at-requires write-declaration-requires add-k (λ c. omega arith) (λ c. omega arith) loop-again same_length returns)

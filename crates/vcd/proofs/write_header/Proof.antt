@@ -32,34 +32,29 @@ module _ (out : List ℕ) (at : ℕ) (name : ℕ → Name) (n : ℕ) (h : Room o
     declared : {e₂ : ℕ} {out₂ : List ℕ} → Placed out₁ e₁ (declarations name 0 n) e₂ out₂ → Rest out at (header name n) out₂ e₂ closing
     declared q = rest_more (declarations name 0 n) closing h opened q
 
-put-requires : tie.Need-put-requires
+put-requires : tie.Need-put-wires-requires
 put-requires c κs =
-    let start = c.before.before.before in
-    let a = start.args in
-    opening-room a.out.now a.at (name_in a.layout) a.n start.requires.1
+    let a = c.args in
+    opening-room a.out.now a.at (name_in a.layout) a.n c.requires.1
 
-write-declarations-requires : tie.Need-write-declarations-requires
+write-declarations-requires : tie.Need-write_declarations-end-requires
 write-declarations-requires c κs =
-    let S = c.before.before.before.before.before.before.before in
-    let a = S.args in
-    (S.requires.0, declarations-room a.out.now a.at (name_in a.layout) a.n S.requires.1 c.before.before.before.put.ensures)
+    let a = c.args in
+    (c.requires.0, declarations-room a.out.now a.at (name_in a.layout) a.n c.requires.1 c.put-wires.ensures)
 
-put-requires-2 : tie.Need-put-requires-2
+put-requires-2 : tie.Need-put-requires
 put-requires-2 c κs =
-    let S = c.before.before.before.before.before.before.before.before.before.before.before.before in
-    let a = S.args in
-    last-room closing S.requires.1
-    (declared a.out.now a.at (name_in a.layout) a.n S.requires.1 c.before.before.before.before.before.before.before.before.put.ensures c.before.before.before.before.write-declarations.ensures)
+    let a = c.args in
+    last-room closing c.requires.1
+    (declared a.out.now a.at (name_in a.layout) a.n c.requires.1 c.put-wires.ensures c.write_declarations-end.ensures)
 
 returns : tie.Need-returns
 returns c =
-    let S = c.before.before.before.before.before.before.before.before.before.before.before.before.before.before.before in
-    let a = S.args in
-    last-placed closing S.requires.1
-    (declared a.out.now a.at (name_in a.layout) a.n S.requires.1 c.before.before.before.before.before.before.before.before.before.before.before.put.ensures c.before.before.before.before.before.before.before.write-declarations.ensures) c.before.before.put2.ensures
+    let a = c.args in
+    last-placed closing c.requires.1
+    (declared a.out.now a.at (name_in a.layout) a.n c.requires.1 c.put-wires.ensures c.write_declarations-end.ensures) c.put.ensures
 
-pub write-header-spec : {M : Type 1} → statement M
-write-header-spec =
+pub write_header_spec : {M : Type 1} → statement M
+write_header_spec =
     tie.close
-    (tie.spec
-    (λ c. search rules) put-requires write-declarations-requires (λ c. search rules) put-requires-2 (λ c. search rules) returns)
+    (tie.spec put-requires write-declarations-requires put-requires-2 (λ c. search rules) returns)

@@ -22,25 +22,22 @@ module _ (out : List ℕ) (at t : ℕ) (h : Room out at (time_mark t)) where
   unfolding time_mark
   marked p = rest_more (35 ∷ []) (number_text t 0) h (rest-start out at (time_mark t)) p
 
-put-requires : tie.Need-put-requires
+put-requires : tie.Need-put-number-requires
 put-requires c κs =
-    let start = c.before.before.before in
-    let a = start.args in
-    mark-room a.out.now a.at a.t start.requires
+    let a = c.args in
+    mark-room a.out.now a.at a.t c.requires
 
-put-ended-requires : tie.Need-put-ended-requires
+put-ended-requires : tie.Need-put_ended-requires
 put-ended-requires c κs =
-    let start = c.before.before.before.before.before.before.before in
-    let a = start.args in
-    last-room (number_text a.t 0) start.requires (marked a.out.now a.at a.t start.requires
-    c.before.before.before.put.ensures)
+    let a = c.args in
+    last-room (number_text a.t 0) c.requires (marked a.out.now a.at a.t c.requires
+    c.put-number.ensures)
 
 returns : tie.Need-returns
 returns c =
-    let start = c.before.before.before.before.before.before.before.before.before.before in
-    let a = start.args in
-    last-placed (number_text a.t 0) start.requires (marked a.out.now a.at a.t start.requires
-    c.before.before.before.before.before.before.put.ensures) c.before.before.put_ended.ensures
+    let a = c.args in
+    last-placed (number_text a.t 0) c.requires (marked a.out.now a.at a.t c.requires
+    c.put-number.ensures) c.put_ended.ensures
 
-pub write-time-spec : {M : Type 1} → statement M
-write-time-spec = tie.close (tie.spec (λ c. search rules) put-requires put-ended-requires (λ c. search rules) returns)
+pub write_time_spec : {M : Type 1} → statement M
+write_time_spec = tie.close (tie.spec put-requires put-ended-requires (λ c. search rules) returns)

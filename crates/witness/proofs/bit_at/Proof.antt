@@ -6,7 +6,7 @@ use Rattle.witness.proofs.bit_at.Statement.{statement}
 use Rattle.witness.proofs.bit_at.Tie as tie
 
 returns : tie.Need-returns
-returns c = let a = c.before.args in nonzero-test (get_or a.words.now a.i 0)
+returns c = let a = c.args in nonzero-test (get_or a.words.now a.i 0)
 
-pub bit-at-spec : {M : Type 1} → statement M
-bit-at-spec = tie.close (tie.spec (λ c. search rules) (λ c. search rules) returns)
+pub bit_at_spec : {M : Type 1} → statement M
+bit_at_spec = tie.close (tie.spec (λ c. search rules) (λ c. search rules) returns)

@@ -18,27 +18,21 @@ use Rattle.witness.proofs.write_heading.Tie as tie
 room : (s : tie.Start) → Room s.args.out.now 0 (bytes "1\nb" ++ number_text s.args.b 0)
 room s = omega (arith, s.requires, heading-length s.args.b, length-append (digits s.args.b) (bytes "\n"))
 
-put-requires : tie.Need-put-requires
+put-requires : tie.Need-put-number-requires
 put-requires c κs =
-    let s = c.before.before.before in
-    room-first s.args.out.now 0 (bytes "1\nb") (number_text s.args.b 0) (room s)
+    room-first c.args.out.now 0 (bytes "1\nb") (number_text c.args.b 0) (room c.before.before.before.before)
 
-put-ended-requires : tie.Need-put-ended-requires
+put-ended-requires : tie.Need-put_ended-requires
 put-ended-requires c κs =
-    let w = c.before.before.before in
-    let s = w.before.before.before.before in
-    room-second s.args.out.now 0 (bytes "1\nb") (number_text s.args.b 0) (room s) w.put.ensures
+    room-second c.args.out.now 0 (bytes "1\nb") (number_text c.args.b 0) (room c.before.before.before.before.before.before.before.before) c.put-number.ensures
 
 returns : tie.Need-returns
 unfolding heading_text
 returns c =
-    let e = c.before.before in
-    let w = e.before.before.before.before in
-    let s = w.before.before.before.before in
-    let o = s.args.out.now in
-    let n = number_text s.args.b 0 in
-    let p = placed-two o 0 (bytes "1\nb") n (room s) w.put.ensures e.put_ended.ensures in
+    let o = c.args.out.now in
+    let n = number_text c.args.b 0 in
+    let p = placed-two o 0 (bytes "1\nb") n (room c.before.before.before.before.before.before.before.before.before.before.before) c.put-number.ensures c.put_ended.ensures in
     (p.past ∙ zero-add _, p.contents ∙ put_front o (bytes "1\nb" ++ n))
 
-pub write-heading-spec : {M : Type 1} → statement M
-write-heading-spec = tie.close (tie.spec (λ c. search rules) put-requires put-ended-requires (λ c. search rules) returns)
+pub write_heading_spec : {M : Type 1} → statement M
+write_heading_spec = tie.close (tie.spec put-requires put-ended-requires (λ c. search rules) returns)

@@ -9,73 +9,65 @@ use Rattle.output.proofs.Output.{Rest, rest-start, rest-room, rest_more, rest_en
 use Rattle.write.proofs.write_rows.Statement.{statement}
 use Rattle.write.proofs.write_rows.Tie as tie
 
-abbrev invariant-loop : tie.invariant-loop
+abbrev invariant-loop : tie.invariant-loop-left
 invariant-loop m first n least most out₀ at end₀ p₀ left₀ out end p left = RowsIn m p left most × Rest out₀ at (rows_text least most m first n) out end (rows_text least most m p left)
 
-abbrev decreases-loop : tie.decreases-loop
+abbrev decreases-loop : tie.decreases-loop-left
 decreases-loop m first n least most out₀ at end₀ p₀ left₀ out end p left = left
 
-loop-holds : tie.Need-loop-init invariant-loop decreases-loop
-loop-holds c = (c.before.before.requires.0, rest-start c.before.before.args.out.now c.before.before.args.at _)
+loop-holds : tie.Need-loop-left-init invariant-loop decreases-loop
+loop-holds c = (c.requires.0, rest-start c.args.out.now c.args.at _)
 
-row-count-requires : tie.Need-row-count-requires invariant-loop decreases-loop
+row-count-requires : tie.Need-row_count-count-requires invariant-loop decreases-loop
 row-count-requires c κs =
-    let i = c.before.loop.invariant.0 in
-    (i.some_word, first-in c.before.before.before.before.args.m.now c.loop-test.true i)
+    let i = c.loop-left.invariant.0 in
+    (i.some_word, first-in c.args.m.now c.loop-left-test.true i)
 
-put-row-requires : tie.Need-put-row-requires invariant-loop decreases-loop
+put-row-requires : tie.Need-put_row-end-requires invariant-loop decreases-loop
 put-row-requires c κs =
-    let l = c.before.before.before in
-    let s = l.before.before.before in
-    let a = s.args in
+    let a = c.args in
     let m = a.m.now in
-    let p = l.loop.p in
-    let n = l.loop.left in
-    let i = l.loop.invariant.0 in
-    let t = c.before.before.loop-test.true in
-    let e = c.before.row_count.ensures in (
-      omega (arith, e, count_most m a.least a.most p s.requires.1, first-in m t i),
-      rw e (rest-room (row_text m p (row_count a.least a.most m p)) (rows_text a.least a.most m (p + a.most) (n - 1)) s.requires.2
-          (rw (rows_more m a.least a.most p n t) at l.loop.invariant.1)),
+    let p = c.loop-left.p in
+    let n = c.loop-left.left in
+    let i = c.loop-left.invariant.0 in
+    let t = c.loop-left-test.true in
+    let e = c.row_count-count.ensures in (
+      omega (arith, e, count_most m a.least a.most p c.requires.1, first-in m t i),
+      rw e (rest-room (row_text m p (row_count a.least a.most m p)) (rows_text a.least a.most m (p + a.most) (n - 1)) c.requires.2
+          (rw (rows_more m a.least a.most p n t) at c.loop-left.invariant.1)),
     )
 
-add-p : tie.Need-overflow-add-p invariant-loop decreases-loop
+add-p : tie.Need-overflow_add-p invariant-loop decreases-loop
 add-p c =
-    let l = c.before.before.before.before.before.before in
-    omega (arith, first-in l.before.before.before.args.m.now c.before.before.before.before.before.loop-test.true l.loop.invariant.0)
+    omega (arith, first-in c.args.m.now c.loop-left-test.true c.loop-left.invariant.0)
 
-sub-left : tie.Need-overflow-sub-left invariant-loop decreases-loop
+sub-left : tie.Need-overflow_sub-left invariant-loop decreases-loop
 sub-left c = omega arith
 
-loop-less : tie.Need-loop-smaller invariant-loop decreases-loop
+loop-less : tie.Need-loop-left-smaller invariant-loop decreases-loop
 loop-less c = omega arith
 
-loop-again : tie.Need-loop-preserved invariant-loop decreases-loop
+loop-again : tie.Need-loop-left-preserved invariant-loop decreases-loop
 loop-again c =
-    let w = c.before.before in
-    let l = w.before.before.before.before in
-    let s = l.before.before.before in
-    let a = s.args in
+    let a = c.args in
     let m = a.m.now in
-    let p = l.loop.p in
-    let n = l.loop.left in
-    let t = w.before.before.before.loop-test.true in (
-      others-in m t l.loop.invariant.0,
-      rest_more (row_text m p (row_count a.least a.most m p)) (rows_text a.least a.most m (p + a.most) (n - 1)) s.requires.2
-          (rw (rows_more m a.least a.most p n t) at l.loop.invariant.1) (rw w.before.before.row_count.ensures at w.put-row.ensures),
+    let p = c.loop-left.p in
+    let n = c.loop-left.left in
+    let t = c.loop-left-test.true in (
+      others-in m t c.loop-left.invariant.0,
+      rest_more (row_text m p (row_count a.least a.most m p)) (rows_text a.least a.most m (p + a.most) (n - 1)) c.requires.2
+          (rw (rows_more m a.least a.most p n t) at c.loop-left.invariant.1) (rw c.row_count-count.ensures at c.put_row-end.ensures),
     )
 
-same_length : tie.Need-same-length invariant-loop decreases-loop
-same_length c = c.before.loop.invariant.1.kept
+same_length : tie.Need-shape_of-out invariant-loop decreases-loop
+same_length c = c.loop-left.invariant.1.kept
 
 returns : tie.Need-returns invariant-loop decreases-loop
 returns c =
-    let l = c.before in
-    let a = l.before.before.before.args in
-    rest_end (rw (rows_none a.m.now a.least a.most l.loop.p l.loop.left c.loop-test.false) at l.loop.invariant.1)
+    let a = c.args in
+    rest_end (rw (rows_none a.m.now a.least a.most c.loop-left.p c.loop-left.left c.loop-left-test.false) at c.loop-left.invariant.1)
 
-pub write-rows-spec : {M : Type 1} → statement M
-write-rows-spec =
+pub write_rows_spec : {M : Type 1} → statement M
+write_rows_spec =
     tie.close
-    (tie.spec
-    invariant-loop decreases-loop loop-holds row-count-requires put-row-requires add-p sub-left loop-less loop-again same_length returns)
+    (tie.spec invariant-loop decreases-loop loop-holds row-count-requires put-row-requires add-p sub-left loop-less loop-again same_length returns)

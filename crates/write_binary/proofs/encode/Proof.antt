@@ -8,29 +8,25 @@ use Rattle.meaning.proofs.Lists.{get_d-zeros}
 use Rattle.write_binary.proofs.encode.Statement.{statement}
 use Rattle.write_binary.proofs.encode.Tie as tie
 
-number-circuit-requires : tie.Need-number-circuit-requires
+number-circuit-requires : tie.Need-number_circuit-requires
 number-circuit-requires c κs =
-    let s = c.before.before.before.before in
-    (s.requires.0, (s.requires.1, (length-replicate {A = ℕ} 4097 0, get_d-zeros 4097, omega (arith, length-replicate {A = ℕ} 3072 0))))
+    (c.requires.0, (c.requires.1, (length-replicate {A = ℕ} 4097 0, get_d-zeros 4097, omega (arith, length-replicate {A = ℕ} 3072 0))))
 
-write-text-requires : tie.Need-write-text-requires
+write-text-requires : tie.Need-write_text-requires
 write-text-requires c κs =
-    let s = c.before.before.before.before.before.before.before.before.before.before in
-    let n = c.before.before.before.before.before.number-circuit in (
+    (
       record {
-        held = s.requires.0;
-        layout_of = s.requires.1;
-        size = n.auto.1.1.0 ∙ length-replicate {A = ℕ} 4097 0;
+        held = c.requires.0;
+        layout_of = c.requires.1;
+        size = c.number_circuit.auto.names ∙ length-replicate {A = ℕ} 4097 0;
         before = replicate 3072 0;
         room = omega (arith, length-replicate {A = ℕ} 3072 0);
-        numbered = n.ensures;
+        numbered = c.number_circuit.ensures;
       },
-      s.requires.2,
+      c.requires.2,
     )
 
-pub encode-spec : {M : Type 1} → statement M
-encode-spec =
+pub encode_spec : {M : Type 1} → statement M
+encode_spec =
     tie.close
-    (tie.spec
-    (λ c. search rules) (λ c. search rules) number-circuit-requires (λ c. search rules) (λ c. search rules) write-text-requires
-    (λ c. search rules) (λ c. search rules))
+    (tie.spec (λ c. search rules) (λ c. search rules) number-circuit-requires (λ c. search rules) (λ c. search rules) write-text-requires (λ c. search rules) (λ c. search rules))

@@ -15,44 +15,39 @@ use Rattle.write_binary.proofs.Parts.{
 use Rattle.write_binary.proofs.write_text.Statement.{statement}
 use Rattle.write_binary.proofs.write_text.Tie as tie
 
-write-head-requires : tie.Need-write-head-requires
-write-head-requires c κs = let s = c.before.before.before.before.before in (small s.requires.0, head-room s.requires.0 s.args.out.now s.requires.1)
+write-head-requires : tie.Need-write_head-head-requires
+write-head-requires c κs = (small c.requires.0, head-room c.requires.0 c.args.out.now c.requires.1)
 
-write-latches-requires : tie.Need-write-latches-requires
+write-latches-requires : tie.Need-write_latches-latches-requires
 write-latches-requires c κs =
-    let s = c.before.before.before.before.before.before.before.before.before in
-    let w = latches-within s.requires.0 in
-    (w.0, w.1, latches-room s.requires.0 s.args.out.now s.requires.1 c.before.before.before.write-head.ensures)
+    let w = latches-within c.requires.0 in
+    (w.0, w.1, latches-room c.requires.0 c.args.out.now c.requires.1 c.write_head-head.ensures)
 
-add-write-literals : tie.Need-overflow-add-write-literals
-add-write-literals c = let s = c.before.before.before.before.before.before.before.before.before.before.before.before.before in omega (arith, small s.requires.0)
+add-write-literals : tie.Need-overflow_add-p
+add-write-literals c = omega (arith, small c.requires.0)
 
-add-write-literals-2 : tie.Need-overflow-add-write-literals-2
-add-write-literals-2 c = let s = c.before.before.before.before.before.before.before.before.before.before.before.before.before.before in omega (arith, small s.requires.0)
+add-write-literals-2 : tie.Need-overflow_add-p-2
+add-write-literals-2 c = omega (arith, small c.requires.0)
 
-write-literals-requires : tie.Need-write-literals-requires
+write-literals-requires : tie.Need-write_literals-lines-requires
 write-literals-requires c κs =
-    let s = c.before.before.before.before.before.before.before.before.before.before.before.before.before.before.before in
-    let w = lines-within s.requires.0 in
-    (w.0, w.1, lines-room s.requires.0 s.args.out.now s.requires.1 c.before.before.before.before.before.before.before.before.before.write-head.ensures c.before.before.before.before.before.write-latches.ensures)
+    let w = lines-within c.requires.0 in
+    (w.0, w.1, lines-room c.requires.0 c.args.out.now c.requires.1 c.write_head-head.ensures c.write_latches-latches.ensures)
 
-write-gates-requires : tie.Need-write-gates-requires
+write-gates-requires : tie.Need-write_gates-requires
 write-gates-requires c κs =
-    let s = c.before.before.before.before.before.before.before.before.before.before.before.before.before.before.before.before.before.before.before in (
-      listed s.requires.0,
-      gates-room s.requires.0 s.args.out.now s.requires.1 c.before.before.before.before.before.before.before.before.before.before.before.before.before.write-head.ensures c.before.before.before.before.before.before.before.before.before.write-latches.ensures
-          c.before.before.before.write-literals.ensures,
+    (
+      listed c.requires.0,
+      gates-room c.requires.0 c.args.out.now c.requires.1 c.write_head-head.ensures c.write_latches-latches.ensures
+          c.write_literals-lines.ensures,
     )
 
 returns : tie.Need-returns
 returns c =
-    let s = c.before.before.before.before.before.before.before.before.before.before.before.before.before.before.before.before.before.before.before.before.before.before in
-    all-written s.requires.0 s.args.out.now s.requires.1 c.before.before.before.before.before.before.before.before.before.before.before.before.before.before.before.before.write-head.ensures c.before.before.before.before.before.before.before.before.before.before.before.before.write-latches.ensures
-    c.before.before.before.before.before.before.write-literals.ensures c.before.before.write-gates.ensures
+    all-written c.requires.0 c.args.out.now c.requires.1 c.write_head-head.ensures c.write_latches-latches.ensures
+    c.write_literals-lines.ensures c.write_gates.ensures
 
-pub write-text-spec : {M : Type 1} → statement M
-write-text-spec =
+pub write_text_spec : {M : Type 1} → statement M
+write_text_spec =
     tie.close
-    (tie.spec
-    write-head-requires write-latches-requires add-write-literals add-write-literals-2 write-literals-requires write-gates-requires
-    (λ c. search rules) returns)
+    (tie.spec write-head-requires write-latches-requires add-write-literals add-write-literals-2 write-literals-requires write-gates-requires (λ c. search rules) returns)

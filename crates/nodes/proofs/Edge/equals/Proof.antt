@@ -6,7 +6,7 @@ use Rattle.nodes.proofs.Edge.equals.Statement.{statement}
 use Rattle.nodes.proofs.Edge.equals.Tie as tie
 
 returns : tie.Need-returns
-returns c = ap₂ eqb c.before.word.ensures c.word2.ensures
+returns c = ap₂ eqb c.word.ensures c.word-2.ensures
 
-pub equals-spec : {M : Type 1} → statement M
-equals-spec = tie.close (tie.spec (λ c κs. search rules) (λ c κs. search rules) returns)
+pub equals_spec : {M : Type 1} → statement M
+equals_spec = tie.close (tie.spec (λ c κs. search rules) (λ c κs. search rules) returns)

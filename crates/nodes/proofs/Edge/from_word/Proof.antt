@@ -9,5 +9,5 @@ use Rattle.nodes.proofs.Edge.from_word.Tie as tie
 returns : tie.Need-returns
 returns c = ap (edge_of (node_of c.args.w)) (odd-test c.args.w)
 
-pub from-word-spec : {M : Type 1} → statement M
-from-word-spec = tie.close (tie.spec returns)
+pub from_word_spec : {M : Type 1} → statement M
+from_word_spec = tie.close (tie.spec returns)
