@@ -150,7 +150,7 @@ module _ (chosen : Circuit → ℕ → ℕ → ℕ → ℕ → Placed) (c : Circ
   answer-for e g a r h =
       subst (λ (l : ℕ). T (answers (reaches c l e.frame) (2 ^ free_bits c e.frame) e.place g a)) r.line h.permitted
 
-  own_turn : {s u : Bench} {d : Circuit} {n g : ℕ} {a : Placed} → s.next < 16 → Step chosen s (Event.turn d n g a) u → n ≡ i → d ≡ c
+  own_turn : {s : Bench} {d : Circuit} {n g : ℕ} {a : Placed} {u : Bench} → s.next < 16 → Step chosen s (Event.turn d n g a) u → n ≡ i → d ≡ c
       → Progress (question c b) b k (s.entry i) → Progress (question c b) b k (u.entry i)
   own_turn {s} {d = d} {n = n} {g = g} {a = a} l (Step.turns x y z) e f r =
       let one : (s.entry i).stage ≡ 1 = subst (λ (j : ℕ). (s.entry j).stage ≡ 1) e (waiting-stage (s.entry n) (turn-first s l n x).passes) in
@@ -207,11 +207,15 @@ module _ (chosen : Circuit → ℕ → ℕ → ℕ → ℕ → Placed) (c : Circ
       answer-same (question c b) k D' D' o (Outcome.none k) d tt g
       (none_in (question c b) k D' k (record { bound = refl; quiet = queued-progress.clear three }))
 
-  -- Clause 12.17: the hit that finishes the search is the first of its frame, and its witness the one that a plain search shows
-  pub finished-witness : {v : Bench} {g x : ℕ} → Step chosen u (Event.turn c n g (Placed.hit x)) v
+  finishing : {g x : ℕ} {v : Bench} → Step chosen u (Event.turn c n g (Placed.hit x)) v
       → first_witness c b (u.entry n).frame ≡ witness b (run c (u.entry n).frame x)
-  finished-witness {g = g} {x = x} (Step.turns y z a) =
+  finishing {g = g} {x = x} (Step.turns y z a) =
       let r = queued-progress in
       let one = waiting-stage (u.entry n) (turn-first u (nexts-below chosen h m) n y).passes in
       first-witness c b (u.entry n).frame x
       (hit-first (question c b) b k (u.entry n) r one g x (answer-for chosen c b k n (u.entry n) g (Placed.hit x) r a))
+
+  -- Clause 12.17: the hit that finishes the search is the first of its frame, and its witness the one that a plain search shows
+  pub finished-witness : {v : Bench} {g x : ℕ} → Step chosen u (Event.turn c n g (Placed.hit x)) v
+      → first_witness c b (u.entry n).frame ≡ witness b (run c (u.entry n).frame x)
+  finished-witness p = finishing p

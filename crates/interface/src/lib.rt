@@ -275,12 +275,7 @@ pub fn yunverok_join(
 }
 
 // Tells what user 0's load of a file would answer for this circuit memory, and how many words the circuit needs.
-pub fn yunverok_preview(
-    user: u64,
-    circuit: &[u32],
-    file: &[u8],
-    answer: &mut [u64],
-) -> u64
+pub fn yunverok_preview(user: u64, circuit: &[u32], file: &[u8], answer: &mut [u64]) -> u64
     ensures { Called (lent [] circuit.now []) (Call.preview user file.now) (lent [] circuit.now []) []
         answer.old result
         answer.new }

@@ -1,12 +1,13 @@
 // The resident program: requests of two users, each a line of standard input, on one circuit memory, working memory and pin memory.
 #![tactic(auto)]
 
-ghost use Rattle.std.specs.Prelude.{◌≡◌, List, ℕ, length};
+ghost use Rattle.std.specs.Prelude.{◌≡◌, List, ℕ, length, IfOk};
 ghost use Rattle.panel_session.specs.Session.{SessionOf, start};
 ghost use Rattle.panel_serving.specs.Serving.{Over, state_of, totals_of};
 
 use files::say;
 use panel_serving::Turned;
+use std::alloc::AllocError;
 
 fn say_help(rt: HostRuntime) {
     say(rt, b"panel\n\n");
@@ -92,20 +93,22 @@ fn session_with(rt: HostRuntime, work: &mut [u32], out: &mut [u8]) -> Turned
 }
 
 // Lends the working memory and the output of the greatest size, 65,536. No text is longer than this output: fold asks for 1,572,928
-// bytes at most, waveform for 1,456,223. What the working memory holds at the end is out of sight here.
-fn session_of_both(rt: HostRuntime) -> Turned
-    ensures by_index { (work : List ℕ) × SessionOf 1572928 start (totals_of result.after.tally) (state_of result.after work) }
-    ensures over { Over result }
+// bytes at most, waveform for 1,456,223. Both stand on the heap, so that the stack is left to a turn. What the working memory holds at the
+// end is out of sight here.
+fn session_of_both(rt: HostRuntime) -> Result<Turned, AllocError>
+    ensures by_index { IfOk result (λ t. (work : List ℕ) × SessionOf 1572928 start (totals_of t.after.tally) (state_of t.after work)) }
+    ensures over { IfOk result Over }
 {
-    let mut work = [0u32; 1048576];
-    let mut out = [0u8; 1572928];
-    session_with(rt, &mut work, &mut out)
+    let mut work = Vec::from_elem(rt.alloc(), 0u32, 1048576)?;
+    let mut out = Vec::from_elem(rt.alloc(), 0u8, 1572928)?;
+    Ok(session_with(rt, &mut work, &mut out))
 }
 
-fn main(rt: HostRuntime) {
+fn main(rt: HostRuntime) -> Result<(), AllocError> {
     if files::argument_count(rt) != 1 {
         say_help(rt);
-        return;
+        return Ok(());
     }
-    session_of_both(rt);
+    session_of_both(rt)?;
+    Ok(())
 }

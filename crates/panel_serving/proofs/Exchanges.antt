@@ -9,7 +9,7 @@ use Rattle.panel_input.specs.Line.{Received}
 use Rattle.panel_input.specs.declared.gathering.RequestLine.{RequestLine}
 use Rattle.panel_session.proofs.Start.{session-none, one_more_lem}
 use Rattle.panel_serving.specs.Serving.{Sized, Serves, Turns, state_of, totals_of, tallied}
-use Rattle.io.specs.Counts.{IsPrefixLen}
+use Rattle.input.specs.Reading.{IsPrefixLen}
 use Rattle.input.specs.Contents.{Within, Whole, text_of}
 use Rattle.input.specs.declared.content.Content.{Content}
 use Rattle.files.specs.declared.NamedFile.{NamedFile}

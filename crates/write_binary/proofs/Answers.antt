@@ -26,6 +26,13 @@ copied {text} {w} {text'} {n} out p =
     let same : take (length w) w ≡ w = ap (take (length w)) (sym (append-nil w)) ∙ take_at w [] (length w) refl in
     rw e (ap (λ (x : List ℕ). x ++ drop (length w) out) same)
 
+-- the same, where the front of the others is written by a slice's copy
+pub copied_front : {text w text' : List ℕ} {n : ℕ} (out : List ℕ) → Placed text 0 w n text' → take n text' ++ drop n out ≡ front w out
+copied_front {text} {w} {text'} {n} out p =
+    let size : length w ≡ n = omega (arith, p.past) in
+    let e : take n text' ≡ w = ap (take n) (p.contents ∙ put_front text w) ∙ take_at w (drop (length w) text) n size in
+    rw e (ap (λ (k : ℕ). w ++ drop k out) (sym size))
+
 module _ {m : List ℕ} (h : Holds m (circuit_in m)) where
   -- the text of a held circuit is short
   pub text-short : length (write_binary (circuit_in m)) ≤ 24576

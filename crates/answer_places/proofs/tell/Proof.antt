@@ -4,17 +4,16 @@ use borrow.Author.Rules.{rules}
 use Rattle.answer_places.proofs.tell.Statement.{statement}
 use Rattle.answer_places.proofs.tell.Tie as tie
 
-slice-aggregate-put : tie.Need-slice-aggregate-put
+slice-aggregate-put : tie.Need-slice_bounds-put-end
 slice-aggregate-put c = refl
 
-same_length : tie.Need-same-length
-same_length c = c.before.before.put.auto.1.0
+same_length : tie.Need-shape_of-answer
+same_length c = c.put.auto.answer
 
 returns : tie.Need-returns
-returns c = c.before.before.put.ensures
+returns c = c.put.ensures
 
-pub tell-spec : {M : Type 1} → statement M
-tell-spec =
+pub tell_spec : {M : Type 1} → statement M
+tell_spec =
     tie.close
-    (tie.spec
-    slice-aggregate-put (λ c κs. search rules) same_length returns)
+    (tie.spec slice-aggregate-put (λ c κs. search rules) same_length returns)

@@ -4,18 +4,16 @@ use borrow.Author.Rules.{rules}
 use Rattle.answer_places.proofs.tell_circuit.Statement.{statement}
 use Rattle.answer_places.proofs.tell_circuit.Tie as tie
 
-slice-aggregate-put : tie.Need-slice-aggregate-put
+slice-aggregate-put : tie.Need-slice_bounds-put-end
 slice-aggregate-put c = refl
 
-same_length : tie.Need-same-length
-same_length c = c.before.before.put.auto.1.0
+same_length : tie.Need-shape_of-answer
+same_length c = c.put.auto.answer
 
 returns : tie.Need-returns
-returns c = c.before.before.put.ensures
+returns c = c.put.ensures
 
-pub tell-circuit-spec : {M : Type 1} → statement M
-tell-circuit-spec =
+pub tell_circuit_spec : {M : Type 1} → statement M
+tell_circuit_spec =
     tie.close
-    (tie.spec
-    (λ c. search rules) (λ c. search rules) (λ c. search rules) (λ c. search rules) (λ c. search rules) (λ c. search rules)
-    (λ c. search rules) slice-aggregate-put (λ c κs. search rules) same_length returns)
+    (tie.spec (λ c. search rules) (λ c. search rules) (λ c. search rules) (λ c. search rules) (λ c. search rules) (λ c. search rules) (λ c. search rules) slice-aggregate-put (λ c κs. search rules) same_length returns)

@@ -5,12 +5,9 @@ use Rattle.bench_record.proofs.entry_at.Statement.{statement}
 use Rattle.bench_record.proofs.entry_at.Tie as tie
 
 returns : tie.Need-returns
-returns c = entry-is c.before.before.before.before.before.before.before.before.args.bytes.now c.before.before.before.before.before.before.before.before.args.p c.before.before.before.before.before.before.number_at.result c.before.before.before.before.before.number-at2.result c.before.before.before.before.number-at3.result c.before.before.before.number-at4.result c.before.before.number-at5.result c.before.number-at6.result c.meant.result c.meant.ensures c.before.before.before.before.before.before.number_at.ensures c.before.before.before.before.before.number-at2.ensures c.before.before.before.before.number-at3.ensures c.before.before.before.number-at4.ensures c.before.before.number-at5.ensures c.before.number-at6.ensures
+returns c = entry-is c.args.bytes.now c.args.p c.number_at-stage.result c.number_at-b.result c.number_at-k.result c.number_at-budget.result c.number_at-frame.result c.number_at-place.result c.meant.result c.meant.ensures c.number_at-stage.ensures c.number_at-b.ensures c.number_at-k.ensures c.number_at-budget.ensures c.number_at-frame.ensures c.number_at-place.ensures
 
-pub entry-at-spec : {M : Type 1} → statement M
-entry-at-spec =
+pub entry_at_spec : {M : Type 1} → statement M
+entry_at_spec =
     tie.close
-    (tie.spec
-    (λ c κs. search rules) (λ c. search rules) (λ c κs. search rules) (λ c. search rules) (λ c κs. search rules)
-    (λ c. search rules) (λ c κs. search rules) (λ c. search rules) (λ c κs. search rules) (λ c. search rules)
-    (λ c κs. search rules) (λ c κs. search rules) returns)
+    (tie.spec (λ c κs. search rules) (λ c. search rules) (λ c κs. search rules) (λ c. search rules) (λ c κs. search rules) (λ c. search rules) (λ c κs. search rules) (λ c. search rules) (λ c κs. search rules) (λ c. search rules) (λ c κs. search rules) (λ c κs. search rules) returns)

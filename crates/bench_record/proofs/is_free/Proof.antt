@@ -7,17 +7,16 @@ use borrow.Author.Tests.{not-true, not-false}
 use Rattle.bench_record.proofs.is_free.Statement.{statement}
 use Rattle.bench_record.proofs.is_free.Tie as tie
 
-returns : tie.Need-returns
-returns c = free-beyond c.before.before.args.shared.now c.before.before.args.user c.before.before.args.n c.if1.true
+returns : tie.Need-returns-then-n-gt15
+returns c = free-beyond c.args.shared.now c.args.user c.args.n c.if-n-gt15.true
 
-returns-2 : tie.Need-returns-2
-returns-2 c = free-absent c.before.before.before.before.args.shared.now c.before.before.before.before.args.user c.before.before.before.before.args.n (omega arith) (sym c.before.is-there.ensures ∙ not-true _ c.if2.true)
+returns-2 : tie.Need-returns-then-not-is_there
+returns-2 c = free-absent c.args.shared.now c.args.user c.args.n (omega arith) (sym c.is_there.ensures ∙ c.if-not-is_there.true)
 
-returns-3 : tie.Need-returns-3
-returns-3 c = free_in c.before.before.before.before.before.before.args.shared.now c.before.before.before.before.before.before.args.user c.before.before.before.before.before.before.args.n c.before.entry_of.result (omega arith) (sym c.before.before.before.is-there.ensures ∙ not-false _ c.before.before.if2.false) c.before.entry_of.ensures
+returns-3 : tie.Need-returns
+returns-3 c = free_in c.args.shared.now c.args.user c.args.n c.entry_of-e.result (omega arith) (sym c.is_there.ensures ∙ c.if-not-is_there.false) c.entry_of-e.ensures
 
-pub is-free-spec : {M : Type 1} → statement M
-is-free-spec =
+pub is_free_spec : {M : Type 1} → statement M
+is_free_spec =
     tie.close
-    (tie.spec
-    returns (λ c κs. search rules) returns-2 (λ c κs. search rules) returns-3)
+    (tie.spec returns (λ c κs. search rules) returns-2 (λ c κs. search rules) returns-3)

@@ -4,14 +4,13 @@ use borrow.Author.Rules.{rules}
 use Rattle.bench_record.proofs.meant.Statement.{statement}
 use Rattle.bench_record.proofs.meant.Tie as tie
 
-returns : tie.Need-returns
-returns c = rw (sym c.before.is-entry.ensures ∙ c.if1.true)
+returns : tie.Need-returns-then-is_entry
+returns c = rw (sym c.is_entry.ensures ∙ c.if-is_entry.true)
 
-returns-2 : tie.Need-returns-2
-returns-2 c = rw (sym c.before.is-entry.ensures ∙ c.if1.false)
+returns-2 : tie.Need-returns-else-is_entry
+returns-2 c = rw (sym c.is_entry.ensures ∙ c.if-is_entry.false)
 
-pub meant-spec : {M : Type 1} → statement M
-meant-spec =
+pub meant_spec : {M : Type 1} → statement M
+meant_spec =
     tie.close
-    (tie.spec
-    (λ c κs. search rules) returns returns-2)
+    (tie.spec (λ c κs. search rules) returns returns-2)

@@ -5,11 +5,10 @@ use borrow.Author.Rules.{rules}
 use Rattle.bench_record.proofs.put.Statement.{statement}
 use Rattle.bench_record.proofs.put.Tie as tie
 
-returns-2 : tie.Need-returns-2
-returns-2 c = sym (set_out c.before.args.bytes.now c.before.args.i c.before.args.x c.if1.false)
+returns-2 : tie.Need-returns-else-i-bytes
+returns-2 c = sym (set_out c.args.bytes.now c.args.i c.args.x c.if-i-bytes.false)
 
 pub put_spec : {M : Type 1} → statement M
 put_spec =
     tie.close
-    (tie.spec
-    (λ c. search rules) (λ c. search rules) (λ c. search rules) returns-2)
+    (tie.spec (λ c. search rules) (λ c. search rules) (λ c. search rules) returns-2)

@@ -6,12 +6,9 @@ use Rattle.bench_record.proofs.put_entry.Tie as tie
 
 returns : tie.Need-returns
 unfolding Bytes.put_entry
-returns c = rw (← c.before.before.before.before.before.before.before.before.before.before.before.before.before.before.before.before.before.before.before.before.before.before.put-number.ensures, ← c.before.before.before.before.before.before.before.before.before.before.before.before.before.before.before.before.before.before.put-number2.ensures, ← c.before.before.before.before.before.before.before.before.before.before.before.before.before.before.put-number3.ensures, ← c.before.before.before.before.before.before.before.before.before.before.put-number4.ensures, ← c.before.before.before.before.before.before.put-number5.ensures) c.before.before.put-number6.ensures
+returns c = rw (← c.put_number.ensures, ← c.put_number-2.ensures, ← c.put_number-3.ensures, ← c.put_number-4.ensures, ← c.put_number-5.ensures) c.put_number-6.ensures
 
-pub put-entry-spec : {M : Type 1} → statement M
-put-entry-spec =
+pub put_entry_spec : {M : Type 1} → statement M
+put_entry_spec =
     tie.close
-    (tie.spec
-    (λ c κs. search rules) (λ c. search rules) (λ c κs. search rules) (λ c. search rules) (λ c κs. search rules)
-    (λ c. search rules) (λ c κs. search rules) (λ c. search rules) (λ c κs. search rules) (λ c. search rules)
-    (λ c κs. search rules) (λ c. search rules) returns)
+    (tie.spec (λ c κs. search rules) (λ c. search rules) (λ c κs. search rules) (λ c. search rules) (λ c κs. search rules) (λ c. search rules) (λ c κs. search rules) (λ c. search rules) (λ c κs. search rules) (λ c. search rules) (λ c κs. search rules) (λ c. search rules) returns)

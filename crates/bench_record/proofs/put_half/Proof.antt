@@ -6,12 +6,9 @@ use Rattle.bench_record.proofs.put_half.Tie as tie
 
 returns : tie.Need-returns
 unfolding Bytes.put_half
-returns c = rw (← c.before.before.before.before.before.before.before.before.before.before.before.before.before.before.before.before.before.before.digit.ensures, ← c.before.before.before.before.before.before.before.before.before.before.before.before.before.before.before.before.before.put.ensures, ← c.before.before.before.before.before.before.before.before.before.before.before.before.before.digit2.ensures, ← c.before.before.before.before.before.before.before.before.before.before.before.before.put2.ensures, ← c.before.before.before.before.before.before.before.before.digit3.ensures, ← c.before.before.before.before.before.before.before.put3.ensures, ← c.before.before.before.digit4.ensures) c.before.before.put4.ensures
+returns c = rw (← c.digit.ensures, ← c.put.ensures, ← c.digit-2.ensures, ← c.put-2.ensures, ← c.digit-3.ensures, ← c.put-3.ensures, ← c.digit-4.ensures) c.put-4.ensures
 
-pub put-half-spec : {M : Type 1} → statement M
-put-half-spec =
+pub put_half_spec : {M : Type 1} → statement M
+put_half_spec =
     tie.close
-    (tie.spec
-    (λ c κs. search rules) (λ c κs. search rules) (λ c. search rules) (λ c κs. search rules) (λ c κs. search rules)
-    (λ c. search rules) (λ c κs. search rules) (λ c κs. search rules) (λ c. search rules) (λ c κs. search rules)
-    (λ c κs. search rules) (λ c. search rules) returns)
+    (tie.spec (λ c κs. search rules) (λ c κs. search rules) (λ c. search rules) (λ c κs. search rules) (λ c κs. search rules) (λ c. search rules) (λ c κs. search rules) (λ c κs. search rules) (λ c. search rules) (λ c κs. search rules) (λ c κs. search rules) (λ c. search rules) returns)

@@ -6,10 +6,9 @@ use Rattle.bench_record.proofs.put_number.Tie as tie
 
 returns : tie.Need-returns
 unfolding Bytes.put_number
-returns c = rw (← c.before.before.before.before.before.before.put-half.ensures) c.before.before.put-half2.ensures
+returns c = rw (← c.put_half.ensures) c.put_half-2.ensures
 
-pub put-number-spec : {M : Type 1} → statement M
-put-number-spec =
+pub put_number_spec : {M : Type 1} → statement M
+put_number_spec =
     tie.close
-    (tie.spec
-    (λ c κs. search rules) (λ c. search rules) (λ c κs. search rules) (λ c. search rules) returns)
+    (tie.spec (λ c κs. search rules) (λ c. search rules) (λ c κs. search rules) (λ c. search rules) returns)

@@ -4,10 +4,9 @@ use Rattle.bench_record.proofs.put_queued.Statement.{statement}
 use Rattle.bench_record.proofs.put_queued.Tie as tie
 
 returns : tie.Need-returns
-returns c = rw (← c.before.before.before.before.entry_IsPlace.ensures.0) c.before.before.put-entry.ensures
+returns c = rw (← c.entry_place-p.ensures.0) c.put_entry.ensures
 
-pub put-queued-spec : {M : Type 1} → statement M
-put-queued-spec =
+pub put_queued_spec : {M : Type 1} → statement M
+put_queued_spec =
     tie.close
-    (tie.spec
-    (λ c κs. search rules) (λ c κs. search rules) (λ c. search rules) returns)
+    (tie.spec (λ c κs. search rules) (λ c κs. search rules) (λ c. search rules) returns)

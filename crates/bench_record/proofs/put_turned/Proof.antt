@@ -4,11 +4,9 @@ use Rattle.bench_record.proofs.put_turned.Statement.{statement}
 use Rattle.bench_record.proofs.put_turned.Tie as tie
 
 returns : tie.Need-returns
-returns c = rw (← c.before.before.before.before.before.before.before.before.before.before.put-queued.ensures, ← c.before.before.before.before.before.before.put-allowed.ensures) c.before.before.put-number.ensures
+returns c = rw (← c.put_queued.ensures, ← c.put_allowed.ensures) c.put_number.ensures
 
-pub put-turned-spec : {M : Type 1} → statement M
-put-turned-spec =
+pub put_turned_spec : {M : Type 1} → statement M
+put_turned_spec =
     tie.close
-    (tie.spec
-    (λ c κs. search rules) (λ c κs. search rules) (λ c. search rules) (λ c. search rules) (λ c. search rules) (λ c. search rules)
-    (λ c κs. search rules) (λ c. search rules) returns)
+    (tie.spec (λ c κs. search rules) (λ c κs. search rules) (λ c. search rules) (λ c. search rules) (λ c. search rules) (λ c. search rules) (λ c κs. search rules) (λ c. search rules) returns)

@@ -6,24 +6,22 @@ use borrow.Author.Rules.{rules}
 use Rattle.bench_record.proofs.settle_spent.Statement.{statement}
 use Rattle.bench_record.proofs.settle_spent.Tie as tie
 
-entry-of-requires : tie.Need-entry-of-requires
-entry-of-requires c κs = (c.before.before.requires.0, turn_below c.before.before.args.shared.now c.before.before.args.user c.before.before.args.n c.before.before.requires.1)
+entry-of-requires : tie.Need-entry_of-e-requires
+entry-of-requires c κs = (c.requires.0, turn_below c.args.shared.now c.args.user c.args.n c.requires.1)
 
-sub-put-turned : tie.Need-overflow-sub-put-turned
-sub-put-turned c = omega (arith, c.before.grant-of.ensures)
+sub-put-turned : tie.Need-overflow_sub-allowance
+sub-put-turned c = omega (arith, c.grant_of-grant.ensures)
 
-after-spent-requires : tie.Need-after-spent-requires
-after-spent-requires c κs = omega (arith, c.before.grant-of.ensures)
+after-spent-requires : tie.Need-after_spent-requires
+after-spent-requires c κs = omega (arith, c.grant_of-grant.ensures)
 
-put-turned-requires : tie.Need-put-turned-requires
-put-turned-requires c κs = (c.before.before.before.before.before.before.before.before.requires.0, turn_below c.before.before.before.before.before.before.before.before.args.shared.now c.before.before.before.before.before.before.before.before.args.user c.before.before.before.before.before.before.before.before.args.n c.before.before.before.before.before.before.before.before.requires.1)
+put-turned-requires : tie.Need-put_turned-requires
+put-turned-requires c κs = (c.requires.0, turn_below c.args.shared.now c.args.user c.args.n c.requires.1)
 
 returns : tie.Need-returns
-returns c = settled c.before.before.before.before.before.before.before.before.before.before.before.args.shared.now c.before.before.before.before.before.before.before.before.before.before.before.args.user c.before.before.before.before.before.before.before.before.before.before.before.args.n c.before.before.before.before.before.before.before.before.before.before.before.requires.1 c.before.before.before.before.before.before.before.before.entry_of.result c.before.before.before.after-spent.result c.before.before.before.before.before.before.allowance-of.result c.before.before.before.before.before.grant-of.result (Placed.spent c.before.before.before.before.before.before.before.before.before.before.before.args.reached) _ c.before.before.before.before.before.before.before.before.entry_of.ensures c.before.before.before.before.before.before.allowance-of.ensures c.before.before.before.before.before.grant-of.ensures c.before.before.before.after-spent.ensures c.before.before.put-turned.ensures
+returns c = settled c.args.shared.now c.args.user c.args.n c.requires.1 c.entry_of-e.result c.after_spent.result c.allowance_of-allowance.result c.grant_of-grant.result (Placed.spent c.args.reached) _ c.entry_of-e.ensures c.allowance_of-allowance.ensures c.grant_of-grant.ensures c.after_spent.ensures c.put_turned.ensures
 
-pub settle-spent-spec : {M : Type 1} → statement M
-settle-spent-spec =
+pub settle_spent_spec : {M : Type 1} → statement M
+settle_spent_spec =
     tie.close
-    (tie.spec
-    entry-of-requires (λ c κs. search rules) (λ c κs. search rules) sub-put-turned after-spent-requires put-turned-requires
-    (λ c. search rules) returns)
+    (tie.spec entry-of-requires (λ c κs. search rules) (λ c κs. search rules) sub-put-turned after-spent-requires put-turned-requires (λ c. search rules) returns)

@@ -4,10 +4,9 @@ use Rattle.bench_record.proofs.waits.Statement.{statement}
 use Rattle.bench_record.proofs.waits.Tie as tie
 
 returns : tie.Need-returns
-returns c = rw (← c.before.entry_of.ensures) c.is-waiting.ensures
+returns c = rw (← c.entry_of.ensures) c.is_waiting.ensures
 
-pub waits-spec : {M : Type 1} → statement M
-waits-spec =
+pub waits_spec : {M : Type 1} → statement M
+waits_spec =
     tie.close
-    (tie.spec
-    (λ c κs. search rules) (λ c κs. search rules) returns)
+    (tie.spec (λ c κs. search rules) (λ c κs. search rules) returns)

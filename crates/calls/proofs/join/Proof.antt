@@ -7,16 +7,15 @@ use Rattle.call_forms.proofs.Tests.{known, stranger}
 use Rattle.calls.proofs.join.Statement.{statement}
 use Rattle.calls.proofs.join.Tie as tie
 
-returns : tie.Need-returns
-returns c = stranger join_row c.before.before.before.before.before.before.args.user (sym c.before.may.ensures ∙ not-true c.before.may.result c.if1.true)
+returns : tie.Need-returns-then-not-may
+returns c = stranger join_row c.args.user (sym c.may.ensures ∙ c.if-not-may.true)
 
-returns-2 : tie.Need-returns-2
+returns-2 : tie.Need-returns
 returns-2 c =
-    known join_row c.before.before.before.before.before.before.before.before.before.before.before.before.before.before.args.user (sym c.before.before.before.before.before.before.before.before.before.may.ensures ∙ not-false c.before.before.before.before.before.before.before.before.before.may.result c.before.before.before.before.before.before.before.before.if1.false)
-    (c.before.before.before.before.before.before.join.ensures, c.before.before.free-where-accepted.ensures)
+    known join_row c.args.user (sym c.may.ensures ∙ c.if-not-may.false)
+    (c.join-answer.ensures, c.free_where_accepted.ensures)
 
-pub join-spec : {M : Type 1} → statement M
-join-spec =
+pub join_spec : {M : Type 1} → statement M
+join_spec =
     tie.close
-    (tie.spec
-    (λ c κs. search rules) returns (λ c κs. search rules) (λ c κs. search rules) (λ c. search rules) (λ c. search rules) returns-2)
+    (tie.spec (λ c κs. search rules) returns (λ c κs. search rules) (λ c κs. search rules) (λ c. search rules) (λ c. search rules) returns-2)

@@ -8,19 +8,18 @@ use borrow.Author.Tests.{leb-true}
 use Rattle.calls.proofs.search.Statement.{statement}
 use Rattle.calls.proofs.search.Tie as tie
 
-returns : tie.Need-returns
-returns c = stranger search_row c.before.before.before.before.before.before.args.user (sym c.before.may.ensures ∙ not-true c.before.may.result c.if1.true)
+returns : tie.Need-returns-then-not-may
+returns c = stranger search_row c.args.user (sym c.may.ensures ∙ c.if-not-may.true)
 
 search-requires : tie.Need-search-requires
-search-requires c κs = leb-true c.before.before.before.before.before.before.before.before.args.user 1 (sym c.before.before.before.may.ensures ∙ not-false c.before.before.before.may.result c.before.before.if1.false)
+search-requires c κs = leb-true c.args.user 1 (sym c.may.ensures ∙ c.if-not-may.false)
 
-returns-2 : tie.Need-returns-2
+returns-2 : tie.Need-returns
 returns-2 c =
-    known search_row c.before.before.before.before.before.before.before.before.before.before.before.before.before.args.user (sym c.before.before.before.before.before.before.before.before.may.ensures ∙ not-false c.before.before.before.before.before.before.before.before.may.result c.before.before.before.before.before.before.before.if1.false)
-    c.before.before.before.before.search.ensures
+    known search_row c.args.user (sym c.may.ensures ∙ c.if-not-may.false)
+    c.search.ensures
 
-pub search-spec : {M : Type 1} → statement M
-search-spec =
+pub search_spec : {M : Type 1} → statement M
+search_spec =
     tie.close
-    (tie.spec
-    (λ c κs. search rules) returns search-requires (λ c. search rules) (λ c. search rules) returns-2)
+    (tie.spec (λ c κs. search rules) returns search-requires (λ c. search rules) (λ c. search rules) returns-2)

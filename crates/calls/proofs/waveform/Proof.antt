@@ -7,16 +7,15 @@ use Rattle.call_forms.proofs.Tests.{known, stranger}
 use Rattle.calls.proofs.waveform.Statement.{statement}
 use Rattle.calls.proofs.waveform.Tie as tie
 
-returns : tie.Need-returns
-returns c = stranger waveform_row c.before.before.before.before.before.args.user (sym c.before.may.ensures ∙ not-true c.before.may.result c.if1.true)
+returns : tie.Need-returns-then-not-may
+returns c = stranger waveform_row c.args.user (sym c.may.ensures ∙ c.if-not-may.true)
 
-returns-2 : tie.Need-returns-2
+returns-2 : tie.Need-returns
 returns-2 c =
-    known waveform_row c.before.before.before.before.before.before.before.before.before.args.user (sym c.before.before.before.before.before.may.ensures ∙ not-false c.before.before.before.before.before.may.result c.before.before.before.before.if1.false)
-    c.before.before.waveform.ensures
+    known waveform_row c.args.user (sym c.may.ensures ∙ c.if-not-may.false)
+    c.waveform.ensures
 
-pub waveform-spec : {M : Type 1} → statement M
-waveform-spec =
+pub waveform_spec : {M : Type 1} → statement M
+waveform_spec =
     tie.close
-    (tie.spec
-    (λ c κs. search rules) returns (λ c κs. search rules) (λ c. search rules) returns-2)
+    (tie.spec (λ c κs. search rules) returns (λ c κs. search rules) (λ c. search rules) returns-2)

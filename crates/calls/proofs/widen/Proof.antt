@@ -15,35 +15,33 @@ use Rattle.widen.specs.Answer.{answered}
 use Rattle.calls.proofs.widen.Statement.{statement}
 use Rattle.calls.proofs.widen.Tie as tie
 
-returns : tie.Need-returns
-returns c = stranger widen_row c.before.before.before.before.before.before.args.user (sym c.before.may.ensures ∙ not-true c.before.may.result c.if1.true)
+returns : tie.Need-returns-then-not-may
+returns c = stranger widen_row c.args.user (sym c.may.ensures ∙ c.if-not-may.true)
 
-cast-own-bytes : tie.Need-overflow-cast-own-bytes
-cast-own-bytes c = omega (arith, leb-true c.before.before.before.before.before.before.args.user 1 (sym c.before.may.ensures ∙ not-false c.before.may.result c.if1.false))
+cast-own-bytes : tie.Need-overflow_cast-user
+cast-own-bytes c = omega (arith, leb-true c.args.user 1 (sym c.may.ensures ∙ c.if-not-may.false))
 
-own-bytes-requires : tie.Need-own-bytes-requires
-own-bytes-requires c κs = leb-true c.before.before.before.before.before.before.args.user 1 (sym c.before.may.ensures ∙ not-false c.before.may.result c.if1.false)
+own-bytes-requires : tie.Need-own_bytes-own-requires
+own-bytes-requires c κs = leb-true c.args.user 1 (sym c.may.ensures ∙ c.if-not-may.false)
 
-sub-widen-under : tie.Need-overflow-sub-widen-under
-sub-widen-under c = (own_at (length c.before.before.before.before.before.before.before.args.shared.now) c.before.before.before.before.before.before.before.args.user c.own-bytes.ensures).ordered
+sub-widen-under : tie.Need-slice_bounds-widen_under-count
+sub-widen-under c = (own_at (length c.args.shared.now) c.args.user c.own_bytes-own.ensures).ordered
 
-part-widen-under-start : tie.Need-slice-bounds-widen-under-start
-part-widen-under-start c = (own_at (length c.before.before.before.before.before.before.before.args.shared.now) c.before.before.before.before.before.before.before.args.user c.own-bytes.ensures).ordered
+part-widen-under-start : tie.Need-slice_bounds-widen_under-start
+part-widen-under-start c = (own_at (length c.args.shared.now) c.args.user c.own_bytes-own.ensures).ordered
 
-part-widen-under-end : tie.Need-slice-bounds-widen-under-end
-part-widen-under-end c = (own_at (length c.before.before.before.before.before.before.before.args.shared.now) c.before.before.before.before.before.before.before.args.user c.own-bytes.ensures).inside
+part-widen-under-end : tie.Need-slice_bounds-widen_under-end
+part-widen-under-end c = (own_at (length c.args.shared.now) c.args.user c.own_bytes-own.ensures).inside
 
-returns-2 : tie.Need-returns-2
+returns-2 : tie.Need-returns
 returns-2 c =
-    let a = c.before.before.before.before.before.before.before.before.before.before.before.before.args in
-    known widen_row a.user (sym c.before.before.before.before.before.before.before.may.ensures ∙ not-false c.before.before.before.before.before.before.before.may.result c.before.before.before.before.before.before.if1.false)
-    (subst (λ (q : ℕ → ℕ). PinnedWidened a.m.now q a.text.now a.out.now (answered c.before.before.widen-under.result) c.before.before.widen-under.new.1.1.1.0)
-    (own-are a.shared.now _ a.user c.before.before.before.before.before.own-bytes.result refl
-    (own_at (length c.before.before.before.before.before.before.before.before.before.before.before.before.args.shared.now) c.before.before.before.before.before.before.before.before.before.before.before.before.args.user c.before.before.before.before.before.own-bytes.ensures)) c.before.before.widen-under.ensures)
+    let a = c.args in
+    known widen_row a.user (sym c.may.ensures ∙ c.if-not-may.false)
+    (subst (λ (q : ℕ → ℕ). PinnedWidened a.m.now q a.text.now a.out.now (answered c.widen_under.result) c.widen_under.new.out)
+    (own-are a.shared.now _ a.user c.own_bytes-own.result refl
+    (own_at (length c.args.shared.now) c.args.user c.own_bytes-own.ensures)) c.widen_under.ensures)
 
 pub widen_spec : {M : Type 1} → statement M
 widen_spec =
     tie.close
-    (tie.spec
-    (λ c κs. search rules) returns cast-own-bytes own-bytes-requires sub-widen-under part-widen-under-start part-widen-under-end
-    (λ c κs. search rules) (λ c. search rules) returns-2)
+    (tie.spec (λ c κs. search rules) returns cast-own-bytes own-bytes-requires sub-widen-under part-widen-under-start part-widen-under-end (λ c κs. search rules) (λ c. search rules) returns-2)

@@ -20,18 +20,17 @@ number-triples-requires c κs =
     (omega (arith, sizes c.requires.0 c.requires.1.0))
 
 number-listed-requires : tie.Need-number_listed-requires
-number-listed-requires c κs =
+number-listed-requires c κs = (
+  c.requires.0,
+  (
+    c.requires.1.0,
     (
-      c.requires.0,
-      (
-        c.requires.1.0,
-        (
-          names-given c.requires.0 c.args.p c.requires.1.0 c.args.names.now c.number_inputs.new.names c.number_triples.new.names c.requires.1.1.0 c.requires.1.1.1
-              c.number_inputs.auto.names c.number_triples.auto.names c.number_inputs.ensures c.number_triples.ensures,
-          c.requires.1.1.2,
-        ),
-      ),
-    )
+      names-given c.requires.0 c.args.p c.requires.1.0 c.args.names.now c.number_inputs.new.names c.number_triples.new.names c.requires.1.1.0 c.requires.1.1.1
+          c.number_inputs.auto.names c.number_triples.auto.names c.number_inputs.ensures c.number_triples.ensures,
+      c.requires.1.1.2,
+    ),
+  ),
+)
 
 pub number_circuit_spec : {M : Type 1} → statement M
 number_circuit_spec =

@@ -35,8 +35,7 @@ link-requires c κs =
 loop-again : tie.Need-loop-i-preserved invariant-loop decreases-loop
 loop-again c =
     let s = state_of c.args.w.now in
-    let roots = c.args.roots.now in
-    (
+    let roots = c.args.roots.now in (
       c.link.auto.w ∙ c.loop-i.invariant.0,
       c.link.ensures ∙ again s (state_of c.loop-i.w) (λ ns. linked_in ns (get_or roots c.loop-i.i 0 / 2) 1)
           (rooted_in roots c.loop-i.i s.nodes) c.loop-i.invariant.1

@@ -31,8 +31,7 @@ add-pack-one c = omega (arith, c.loop-j-test.true, c.requires.1)
 
 pack-one-requires : tie.Need-pack_one-k-requires invariant-loop decreases-loop
 pack-one-requires c κs =
-    let s = state_of c.args.w.now in
-    (
+    let s = state_of c.args.w.now in (
       inside-by s (state_of c.loop-j.w) (packed_in c.loop-j.j s.nodes).nodes c.loop-j.invariant.1 (length-packed c.loop-j.j s.nodes)
           c.requires.0,
       omega (arith, c.loop-j.invariant.2, (packed-count c.loop-j.j s.nodes).0, c.loop-j-test.true, c.requires.1),

@@ -30,8 +30,7 @@ hash-requires c κs =
 
 loop-again : tie.Need-loop-j-preserved invariant-loop decreases-loop
 loop-again c =
-    let s = state_of c.args.w.now in
-    (
+    let s = state_of c.args.w.now in (
       c.hash.auto.w ∙ c.loop-j.invariant.0,
       c.hash.ensures ∙ ap (λ (t : State). hashed t (c.loop-j.j + 1)) c.loop-j.invariant.1 ∙ rehashed-more c.loop-j.j s,
       omega (arith, c.loop-j-test.true),

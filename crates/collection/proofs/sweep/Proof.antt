@@ -34,8 +34,7 @@ mark-edges-requires c κs =
 loop-again : tie.Need-loop-j-preserved invariant-loop decreases-loop
 loop-again c =
     let s = state_of c.args.w.now in
-    let last = c.args.last in
-    (
+    let last = c.args.last in (
       c.mark_edges.auto.w ∙ c.loop-j.invariant.0,
       c.mark_edges.ensures ∙ again s (state_of c.loop-j.w) (λ ns. edges_marked ns (last - c.loop-j.j))
           (swept_in last c.loop-j.j s.nodes) c.loop-j.invariant.1

@@ -36,8 +36,7 @@ link-requires c κs =
 
 loop-again : tie.Need-loop-i-preserved invariant-loop decreases-loop
 loop-again c =
-    let s = state_of c.args.w.now in
-    (
+    let s = state_of c.args.w.now in (
       c.link.auto.w ∙ c.loop-i.invariant.0,
       c.link.ensures ∙ again s (state_of c.loop-i.w) (λ ns. linked_in ns c.loop-i.i 0) (unmarked_in c.loop-i.i s.nodes) c.loop-i.invariant.1
           ∙ ap (with_nodes s) (unmarked-more c.loop-i.i s.nodes),

@@ -8,36 +8,26 @@ use borrow.Author.Rules.{rules}
 use Rattle.commands.proofs.replay.Statement.{statement}
 use Rattle.commands.proofs.replay.Tie as tie
 
-replay-loaded-requires : tie.Need-replay-loaded-requires
+replay-loaded-requires : tie.Need-replay_loaded-requires
 replay-loaded-requires c κs =
-    let e = c.before.before in
-    let l = e.before.before.before.before in
-    let h = stored l.load.ensures (ap answered e.enum_told.given.1) in
-    (stored-in h, l.before.before.before.before.before.before.requires.1)
+    let h = stored c.load.ensures (ap answered c.in-Loaded.is) in
+    (stored-in h, c.requires.1)
 
-returns : tie.Need-returns
+returns : tie.Need-returns-in-Refused
 returns c =
-    let f = c.before.before.write-refusal.ensures in
-    let n = c.before.before.before.before.before in
-    let l = n.before.before.before.before in
-    let s = l.before.before.before.before.before.before in
-    let a = s.args in
-    let e = not-loaded l.load.ensures (ap answered n.n.given.1) in
-    (rw (replay-refusal a.m.now a.file.now s.requires.0 a.witness.now e) at f, loaded-words l.load.ensures)
+    let f = c.write_refusal.ensures in
+    let a = c.args in
+    let e = not-loaded c.load.ensures (ap answered c.in-Refused.is) in
+    (rw (replay-refusal a.m.now a.file.now c.requires.0 a.witness.now e) at f, loaded-words c.load.ensures)
 
-returns-2 : tie.Need-returns-2
+returns-2 : tie.Need-returns-in-Loaded
 returns-2 c =
-    let f = c.before.before.replay-loaded.ensures in
-    let n = c.before.before.before.before.before in
-    let l = n.before.before.before.before in
-    let s = l.before.before.before.before.before.before in
-    let a = s.args in
-    let e = stored l.load.ensures (ap answered n.enum_told.given.1) in
-    (rw (replay-text a.m.now a.file.now s.requires.0 e a.witness.now) at f, loaded-words l.load.ensures)
+    let f = c.replay_loaded.ensures in
+    let a = c.args in
+    let e = stored c.load.ensures (ap answered c.in-Loaded.is) in
+    (rw (replay-text a.m.now a.file.now c.requires.0 e a.witness.now) at f, loaded-words c.load.ensures)
 
-pub replay-spec : {M : Type 1} → statement M
-replay-spec =
+pub replay_spec : {M : Type 1} → statement M
+replay_spec =
     tie.close
-    (tie.spec
-    (λ c κs. search rules) (λ c. search rules) (λ c κs. search rules) (λ c. search rules) replay-loaded-requires (λ c. search rules)
-    (λ c. search rules) returns (λ c. search rules) (λ c. search rules) returns-2)
+    (tie.spec (λ c κs. search rules) (λ c. search rules) (λ c κs. search rules) (λ c. search rules) replay-loaded-requires (λ c. search rules) (λ c. search rules) returns (λ c. search rules) (λ c. search rules) returns-2)

@@ -7,46 +7,27 @@ use borrow.Author.Rules.{rules}
 use Rattle.commands.proofs.replay_loaded.Statement.{statement}
 use Rattle.commands.proofs.replay_loaded.Tie as tie
 
-returns : tie.Need-returns
+returns : tie.Need-returns-in-All
 returns c =
-    let p = c.before.before in
-    let e = p.before.before.before in
-    let r = e.before.before in
-    let s = r.before.before.before.before in
-    let q = ap answered e.enum_told.given.1 in
-    replay-shown s.requires.0 r.replay.ensures q (placed-fronts p.put.ensures)
+    let q = ap answered c.in-All.is in
+    replay-shown c.requires.0 c.replay.ensures q (placed-fronts c.put.ensures)
 
-returns-2 : tie.Need-returns-2
+returns-2 : tie.Need-returns-in-No
 returns-2 c =
-    let p = c.before.before in
-    let e = p.before.before.before in
-    let r = e.before.before in
-    let s = r.before.before.before.before in
-    let q = ap answered e.enum-told2.given.1 in
-    replay-shown s.requires.0 r.replay.ensures q (placed-fronts p.put2.ensures)
+    let q = ap answered c.in-No.is in
+    replay-shown c.requires.0 c.replay.ensures q (placed-fronts c.put-in-No.ensures)
 
-returns-3 : tie.Need-returns-3
+returns-3 : tie.Need-returns-in-Mixed
 returns-3 c =
-    let p = c.before.before in
-    let e = p.before.before.before in
-    let r = e.before.before in
-    let s = r.before.before.before.before in
-    let q = ap answered e.enum-told3.given.1 in
-    replay-shown s.requires.0 r.replay.ensures q (placed-fronts p.put3.ensures)
+    let q = ap answered c.in-Mixed.is in
+    replay-shown c.requires.0 c.replay.ensures q (placed-fronts c.put-in-Mixed.ensures)
 
-returns-4 : tie.Need-returns-4
+returns-4 : tie.Need-returns-in-Refused
 returns-4 c =
-    let p = c.before.before in
-    let e = p.before.before.before in
-    let r = e.before.before in
-    let s = r.before.before.before.before in
-    let q = ap answered e.n.given.1 in
-    replay-shown s.requires.0 r.replay.ensures q p.write-refusal.ensures
+    let q = ap answered c.in-Refused.is in
+    replay-shown c.requires.0 c.replay.ensures q c.write_refusal.ensures
 
-pub replay-loaded-spec : {M : Type 1} → statement M
-replay-loaded-spec =
+pub replay_loaded_spec : {M : Type 1} → statement M
+replay_loaded_spec =
     tie.close
-    (tie.spec
-    (λ c κs. search rules) (λ c. search rules) (λ c. search rules) (λ c κs. search rules) (λ c. search rules) (λ c. search rules)
-    (λ c κs. search rules) (λ c. search rules) (λ c. search rules) (λ c κs. search rules) (λ c. search rules) (λ c κs. search rules)
-    (λ c. search rules) returns (λ c. search rules) returns-2 (λ c. search rules) returns-3 (λ c. search rules) returns-4)
+    (tie.spec (λ c κs. search rules) (λ c. search rules) (λ c κs. search rules) (λ c. search rules) (λ c κs. search rules) (λ c. search rules) (λ c κs. search rules) (λ c. search rules) (λ c κs. search rules) (λ c. search rules) returns (λ c. search rules) returns-2 (λ c. search rules) returns-3 (λ c. search rules) returns-4)

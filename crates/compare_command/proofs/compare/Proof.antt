@@ -9,18 +9,12 @@ use Rattle.compare_command.proofs.compare.Tie as tie
 
 returns : tie.Need-returns
 returns c =
-    let w = c.before.before.before in
-    let l = c.before.before.before.before.before in
-    let n = c.before.before.before.before.before.before.before.before.before.before in
-    let s = c.before.before.before.before.before.before.before.before.before.before.before.before.before.before.before.before.before in
-    let a = s.args in
-    left (circuit_in a.m.now) a.j a.q.k a.q.d (length a.work.now) a.out.now a.line.now w.write-said.result
-    l.shown-length.result c.is-refused.result (judged s.requires.0 n.search.ensures) w.write-said.ensures l.shown-length.ensures
-    c.is-refused.ensures
+    let a = c.args in
+    left (circuit_in a.m.now) a.j a.q.k a.q.d (length a.work.now) a.out.now a.line.now c.write_said-length.result
+    c.shown_length-witness.result c.is_refused-refused.result (judged c.requires.0 c.search-answer.ensures) c.write_said-length.ensures c.shown_length-witness.ensures
+    c.is_refused-refused.ensures
 
-pub compare-spec : {M : Type 1} → statement M
-compare-spec =
+pub compare_spec : {M : Type 1} → statement M
+compare_spec =
     tie.close
-    (tie.spec
-    (λ c κs. search rules) (λ c κs. search rules) (λ c κs. search rules) (λ c κs. search rules) (λ c. search rules) (λ c. search rules)
-    (λ c. search rules) returns)
+    (tie.spec (λ c κs. search rules) (λ c κs. search rules) (λ c κs. search rules) (λ c κs. search rules) (λ c. search rules) (λ c. search rules) (λ c. search rules) returns)

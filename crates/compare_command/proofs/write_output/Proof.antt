@@ -11,71 +11,65 @@ use Rattle.compare_command.proofs.write_output.Statement.{statement}
 use Rattle.compare_command.proofs.write_output.Tie as tie
 
 -- where each part was put
-abbrev start : tie.After-put → tie.Start
-start w = w.before.before.before.before.before
+abbrev start : tie.After-put-number → tie.Start
+start w = w.before.before.before.before.before.before
 
-abbrev one : tie.After-put-number → tie.After-put
+abbrev one : tie.After-put_number-words → tie.After-put-number
 one w = w.before.before.before.before
 
-abbrev two : tie.After-put2 → tie.After-put-number
+abbrev two : tie.After-put-at → tie.After-put_number-words
 two w = w.before.before.before.before
 
-abbrev three : tie.After-put-number2 → tie.After-put2
+abbrev three : tie.After-put_number-end → tie.After-put-at
 three w = w.before.before.before.before
 
 -- the line so far, after each part but the last
-output : (w : tie.After-put) → let a = (start w).args in
-    (128 ≤ length a.line.now) × Fronted a.line.now 7 (bytes "output ") w.put.result w.put.new.0
-output w = let h = (start w).requires.0 in (h, front-first (omega arith) w.put.ensures)
+output : (w : tie.After-put-number) → let a = (start w).args in
+    (128 ≤ length a.line.now) × Fronted a.line.now 7 (bytes "output ") w.put-number.result w.put-number.new.out
+output w = let h = (start w).requires.0 in (h, front-first (omega arith) w.put-number.ensures)
 
-number : (w : tie.After-put-number) → let a = (start (one w)).args in
-    (128 ≤ length a.line.now) × Fronted a.line.now 17 (bytes "output " ++ digits a.j) w.put-number.result w.put-number.new.0
+number : (w : tie.After-put_number-words) → let a = (start (one w)).args in
+    (128 ≤ length a.line.now) × Fronted a.line.now 17 (bytes "output " ++ digits a.j) w.put_number-words.result w.put_number-words.new.out
 number w =
     let p = output (one w) in
-    (p.0, front-more p.1 10 (omega arith) (digits-most 9 (start (one w)).args.j) w.put-number.ensures)
+    (p.0, front-more p.1 10 (omega arith) (digits-most 9 (start (one w)).args.j) w.put_number-words.ensures)
 
-words : (w : tie.After-put2) → let a = (start (one (two w))).args in
-    (128 ≤ length a.line.now) × Fronted a.line.now 37 (bytes "output " ++ digits a.j ++ a.word.now) w.put2.result w.put2.new.0
+words : (w : tie.After-put-at) → let a = (start (one (two w))).args in
+    (128 ≤ length a.line.now) × Fronted a.line.now 37 (bytes "output " ++ digits a.j ++ a.word.now) w.put-at.result w.put-at.new.out
 words w =
     let p = number (two w) in
-    (p.0, front-more p.1 20 (omega arith) (start (one (two w))).requires.1 w.put2.ensures)
+    (p.0, front-more p.1 20 (omega arith) (start (one (two w))).requires.1 w.put-at.ensures)
 
-second : (w : tie.After-put-number2) → let a = (start (one (two (three w)))).args in
+second : (w : tie.After-put_number-end) → let a = (start (one (two (three w)))).args in
     (128 ≤ length a.line.now)
-    × Fronted a.line.now 47 (bytes "output " ++ digits a.j ++ a.word.now ++ digits a.n) w.put-number2.result w.put-number2.new.0
+    × Fronted a.line.now 47 (bytes "output " ++ digits a.j ++ a.word.now ++ digits a.n) w.put_number-end.result w.put_number-end.new.out
 second w =
     let p = words (three w) in
-    (p.0, front-more p.1 10 (omega arith) (digits-most 9 (start (one (two (three w)))).args.n) w.put-number2.ensures)
+    (p.0, front-more p.1 10 (omega arith) (digits-most 9 (start (one (two (three w)))).args.n) w.put_number-end.ensures)
 
-put-number-requires : tie.Need-put-number-requires
+put-number-requires : tie.Need-put_number-words-requires
 put-number-requires c κs =
-    let w = c.before.before.before in
-    let p = output w in
-    omega (arith, digits-most 9 (start w).args.j, front-room p.1 10 (omega arith))
+    let p = output c.before.before.before in
+    omega (arith, digits-most 9 (start c.before.before.before).args.j, front-room p.1 10 (omega arith))
 
-put-requires-2 : tie.Need-put-requires-2
+put-requires-2 : tie.Need-put-at-requires
 put-requires-2 c κs =
-    let w = c.before.before.before in
-    let p = number w in
-    omega (arith, (start (one w)).requires.1, front-room p.1 20 (omega arith))
+    let p = number c.before.before.before in
+    omega (arith, (start (one c.before.before.before)).requires.1, front-room p.1 20 (omega arith))
 
-put-number-requires-2 : tie.Need-put-number-requires-2
+put-number-requires-2 : tie.Need-put_number-end-requires
 put-number-requires-2 c κs =
-    let w = c.before.before.before in
-    let p = words w in
-    omega (arith, digits-most 9 (start (one (two w))).args.n, front-room p.1 10 (omega arith))
+    let p = words c.before.before.before in
+    omega (arith, digits-most 9 (start (one (two c.before.before.before))).args.n, front-room p.1 10 (omega arith))
 
-put-requires-3 : tie.Need-put-requires-3
-put-requires-3 c κs = let p = second c.before.before.before.before in front-room p.1 1 (omega arith)
+put-requires-3 : tie.Need-put-requires
+put-requires-3 c κs = let p = second c.before.before.before.before.before in front-room p.1 1 (omega arith)
 
 returns : tie.Need-returns
 returns c =
-    let w = c.before.before in
-    let p = second w.before.before.before.before.before in front-fronts (front-more p.1 1 (omega arith) (omega arith) w.put3.ensures)
+    let p = second c.before.before.before.before.before.before.before.before in front-fronts (front-more p.1 1 (omega arith) (omega arith) c.put.ensures)
 
-pub write-output-spec : {M : Type 1} → statement M
-write-output-spec =
+pub write_output_spec : {M : Type 1} → statement M
+write_output_spec =
     tie.close
-    (tie.spec
-    (λ c. search rules) (λ c κs. search rules) put-number-requires put-requires-2 put-number-requires-2 (λ c. search rules)
-    put-requires-3 (λ c. search rules) returns)
+    (tie.spec (λ c κs. search rules) put-number-requires put-requires-2 put-number-requires-2 put-requires-3 (λ c. search rules) returns)

@@ -42,8 +42,7 @@ loop-less c = omega arith
 
 loop-again : tie.Need-loop-k-preserved invariant-loop decreases-loop
 loop-again c =
-    let g = c.args.g in
-    (
+    let g = c.args.g in (
       omega arith,
       omega arith,
       c.mark_gate.auto.work ∙ c.loop-k.invariant.2,

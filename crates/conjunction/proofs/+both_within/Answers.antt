@@ -137,4 +137,4 @@ returns-in-Edge-both_within-2 t c =
     (ap (left c.both_within-in-Edge-both_within.new.w) (sym c.in-Edge-both_within-2.is) ∙ c.both_within-in-Edge-both_within.ensures)
     c.finish.ensures
 
--- LEFT 
+-- LEFT

@@ -36,8 +36,7 @@ single-at-requires c κs = inputs-fit c.requires
 loop-again : tie.Need-loop-k-preserved invariant-loop decreases-loop
 loop-again c =
     let a = c.args in
-    let v = c.var-v.ensures in
-    (
+    let v = c.var-v.ensures in (
       omega arith,
       c.put.auto.work ∙ c.loop-k.invariant.1,
       left-more a.r (length a.inputs.now) c.loop-k.k c.loop-k.left (omega arith) c.loop-k.invariant.0 c.loop-k.invariant.2,

@@ -45,8 +45,7 @@ returns c =
 
 loop-again : tie.Need-loop-k-preserved invariant-loop decreases-loop
 loop-again c =
-    let a = c.args in
-    (
+    let a = c.args in (
       omega arith,
       c.put_gate_at.auto.w ∙ c.loop-k.invariant.1,
       c.put_gate_at.auto.edges ∙ c.loop-k.invariant.2,

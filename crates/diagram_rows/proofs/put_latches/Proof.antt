@@ -51,8 +51,7 @@ returns c =
 
 loop-again : tie.Need-loop-v-preserved invariant-loop decreases-loop
 loop-again c =
-    let a = c.args in
-    (
+    let a = c.args in (
       omega (arith, c.loop-v-test.true),
       c.put_latch.auto.w ∙ c.loop-v.invariant.1,
       c.put_latch.auto.edges ∙ c.loop-v.invariant.2,

@@ -42,13 +42,12 @@ loop-less : tie.Need-loop-j-smaller invariant-loop decreases-loop
 loop-less c = omega arith
 
 loop-again : tie.Need-loop-j-preserved invariant-loop decreases-loop
-loop-again c =
-    (
-      omega arith,
-      length-set c.loop-j.free _ _ ∙ c.loop-j.invariant.1,
-      next_more (λ i w. nonzero w ≡ free_bit c.args.n c.args.x i) c.loop-j.free c.loop-j.j c.bit_of.result (omega arith)
-          c.loop-j.invariant.2 (digit-is c.bit_of.result _ c.bit_of.ensures),
-    )
+loop-again c = (
+  omega arith,
+  length-set c.loop-j.free _ _ ∙ c.loop-j.invariant.1,
+  next_more (λ i w. nonzero w ≡ free_bit c.args.n c.args.x i) c.loop-j.free c.loop-j.j c.bit_of.result (omega arith)
+      c.loop-j.invariant.2 (digit-is c.bit_of.result _ c.bit_of.ensures),
+)
 
 same_length : tie.Need-shape_of-free invariant-loop decreases-loop
 same_length c = c.loop-j.invariant.1

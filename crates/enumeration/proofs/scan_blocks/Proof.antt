@@ -80,13 +80,12 @@ loop-less : tie.Need-loop-block-smaller invariant-loop decreases-loop
 loop-less c = omega (arith, c.loop-block-test.true)
 
 loop-again : tie.Need-loop-block-preserved invariant-loop decreases-loop
-loop-again c =
-    (
-      omega (arith, c.loop-block-test.true),
-      c.block_hits-hits.auto.values ∙ c.loop-block.invariant.1,
-      c.block_hits-hits.auto.state ∙ c.loop-block.invariant.2,
-      λ y l. block-before (reaches (circuit_in c.args.m.now) c.args.q.b c.args.q.t) c.loop-block.block c.block_hits-hits.result c.first_difference-p.result c.loop-block.invariant.3 c.block_hits-hits.ensures c.first_difference-p.ensures y (omega (arith, c.if-p-lt64.false)),
-    )
+loop-again c = (
+  omega (arith, c.loop-block-test.true),
+  c.block_hits-hits.auto.values ∙ c.loop-block.invariant.1,
+  c.block_hits-hits.auto.state ∙ c.loop-block.invariant.2,
+  λ y l. block-before (reaches (circuit_in c.args.m.now) c.args.q.b c.args.q.t) c.loop-block.block c.block_hits-hits.result c.first_difference-p.result c.loop-block.invariant.3 c.block_hits-hits.ensures c.first_difference-p.ensures y (omega (arith, c.if-p-lt64.false)),
+)
 
 same-length-5 : tie.Need-shape_of-values invariant-loop decreases-loop
 same-length-5 c = c.loop-block.invariant.1

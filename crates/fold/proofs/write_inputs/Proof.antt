@@ -45,12 +45,11 @@ loop-less : tie.Need-loop-j-smaller invariant-loop decreases-loop
 loop-less c = omega arith
 
 loop-again : tie.Need-loop-j-preserved invariant-loop decreases-loop
-loop-again c =
-    (
-      omega arith,
-      part-more inputs_text line inputs-more c.args.out.now c.args.at c.args.free c.requires.1 c.loop-j.j c.loop-j-test.true
-          c.loop-j.invariant.1 c.put_ended-end.ensures,
-    )
+loop-again c = (
+  omega arith,
+  part-more inputs_text line inputs-more c.args.out.now c.args.at c.args.free c.requires.1 c.loop-j.j c.loop-j-test.true
+      c.loop-j.invariant.1 c.put_ended-end.ensures,
+)
 
 same_length : tie.Need-shape_of-out invariant-loop decreases-loop
 same_length c =

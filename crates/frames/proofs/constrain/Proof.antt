@@ -46,12 +46,11 @@ loop-less : tie.Need-loop-k-smaller invariant-loop decreases-loop
 loop-less c = omega arith
 
 loop-again : tie.Need-loop-k-preserved invariant-loop decreases-loop
-loop-again c =
-    (
-      omega arith,
-      λ p l. constrained-more c.loop-k.left c.literal_value-left.result p c.loop-k.k _ _ (c.loop-k.invariant.1 p l)
-          (c.literal_value-left.ensures p l ∙ ap (value (lane c.args.values.now p)) (word_read (word c.args.m.now (c.args.layout.constraints + c.loop-k.k)) c.from_word.ensures)),
-    )
+loop-again c = (
+  omega arith,
+  λ p l. constrained-more c.loop-k.left c.literal_value-left.result p c.loop-k.k _ _ (c.loop-k.invariant.1 p l)
+      (c.literal_value-left.ensures p l ∙ ap (value (lane c.args.values.now p)) (word_read (word c.args.m.now (c.args.layout.constraints + c.loop-k.k)) c.from_word.ensures)),
+)
 
 returns : tie.Need-returns invariant-loop decreases-loop
 returns c =

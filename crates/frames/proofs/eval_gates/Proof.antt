@@ -69,12 +69,11 @@ part-table-start : tie.Need-slice_bounds-table-start invariant-loop decreases-lo
 part-table-start c = omega (arith, gates-inside c.requires)
 
 loop-holds : tie.Need-loop-k-init invariant-loop decreases-loop
-loop-holds c =
-    (
-      omega arith,
-      upto-start (circuit_in c.args.m.now) c.args.order.now c.args.values.now,
-      take_rest c.args.m.now c.args.layout.gates,
-    )
+loop-holds c = (
+  omega arith,
+  upto-start (circuit_in c.args.m.now) c.args.order.now c.args.values.now,
+  take_rest c.args.m.now c.args.layout.gates,
+)
 
 add-loop : tie.Need-overflow_add-k invariant-loop decreases-loop
 add-loop c = omega (arith, gates-few (first c).requires, c.loop-k.invariant.0)

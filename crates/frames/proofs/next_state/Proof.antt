@@ -57,15 +57,14 @@ loop-less : tie.Need-loop-j-smaller invariant-loop decreases-loop
 loop-less c = omega arith
 
 loop-again : tie.Need-loop-j-preserved invariant-loop decreases-loop
-loop-again c =
-    (
-      omega arith,
-      length-set c.loop-j.state _ _ ∙ c.loop-j.invariant.1,
-      next_more
-          (λ i x. (p : ℕ) → p < 64 → bit x p ≡ value (lane c.args.values.now p) (word c.args.m.now (c.args.layout.latches + 3 * i + 1)))
-          c.loop-j.state c.loop-j.j c.literal_value.result (omega (arith, c.loop-j.invariant.1)) c.loop-j.invariant.2
-          (λ p h. c.literal_value.ensures p h ∙ ap (value (lane c.args.values.now p)) (word_read (word c.args.m.now (c.args.layout.latches + 3 * c.loop-j.j + 1)) c.from_word.ensures)),
-    )
+loop-again c = (
+  omega arith,
+  length-set c.loop-j.state _ _ ∙ c.loop-j.invariant.1,
+  next_more
+      (λ i x. (p : ℕ) → p < 64 → bit x p ≡ value (lane c.args.values.now p) (word c.args.m.now (c.args.layout.latches + 3 * i + 1)))
+      c.loop-j.state c.loop-j.j c.literal_value.result (omega (arith, c.loop-j.invariant.1)) c.loop-j.invariant.2
+      (λ p h. c.literal_value.ensures p h ∙ ap (value (lane c.args.values.now p)) (word_read (word c.args.m.now (c.args.layout.latches + 3 * c.loop-j.j + 1)) c.from_word.ensures)),
+)
 
 same_length : tie.Need-shape_of-state invariant-loop decreases-loop
 same_length c = c.loop-j.invariant.1

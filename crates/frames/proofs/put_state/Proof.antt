@@ -62,13 +62,12 @@ loop-less : tie.Need-loop-j-smaller invariant-loop decreases-loop
 loop-less c = omega arith
 
 loop-again : tie.Need-loop-j-preserved invariant-loop decreases-loop
-loop-again c =
-    (
-      omega arith,
-      length-set c.loop-j.values _ _ ∙ c.loop-j.invariant.1,
-      rw (read c.before.before) (stored_more (λ i. var (word c.args.m.now (c.args.layout.latches + 3 * i))) (λ i. get_or c.args.state.now i 0) c.loop-j.j
-          c.args.values.now c.loop-j.values c.requires.1 c.loop-j.invariant.1 (omega arith) c.loop-j.invariant.2),
-    )
+loop-again c = (
+  omega arith,
+  length-set c.loop-j.values _ _ ∙ c.loop-j.invariant.1,
+  rw (read c.before.before) (stored_more (λ i. var (word c.args.m.now (c.args.layout.latches + 3 * i))) (λ i. get_or c.args.state.now i 0) c.loop-j.j
+      c.args.values.now c.loop-j.values c.requires.1 c.loop-j.invariant.1 (omega arith) c.loop-j.invariant.2),
+)
 
 same_length : tie.Need-shape_of-values invariant-loop decreases-loop
 same_length c = c.loop-j.invariant.1

@@ -5,20 +5,19 @@ use borrow.Author.Rules.{rules}
 use Rattle.freeing.proofs.free_circuit.Statement.{statement}
 use Rattle.freeing.proofs.free_circuit.Tie as tie
 
-copy-words-requires : tie.Need-copy-words-requires
-copy-words-requires c κs = copy-fits c.before.before.before.requires
+copy-words-requires : tie.Need-copy_words-requires
+copy-words-requires c κs = copy-fits c.requires
 
-free-resets-requires : tie.Need-free-resets-requires
-free-resets-requires c κs = reset-fits c.before.before.before.before.before.before.before.requires c.before.before.before.copy-words.new.1.1.0 c.before.before.before.copy-words.auto.1.1.0
+free-resets-requires : tie.Need-free_resets-requires
+free-resets-requires c κs = reset-fits c.requires c.copy_words.new.words c.copy_words.auto.words
 
-same_length : tie.Need-same-length
-same_length c = c.before.before.free-resets.auto.0 ∙ c.before.before.before.before.before.before.copy-words.auto.1.1.0
+same_length : tie.Need-shape_of-words
+same_length c = c.free_resets.auto.words ∙ c.copy_words.auto.words
 
 returns : tie.Need-returns
-returns c = steps-freed c.before.before.before.before.before.before.before.before.before.before.requires c.before.before.before.before.before.before.copy-words.ensures c.before.before.free-resets.ensures
+returns c = steps-freed c.requires c.copy_words.ensures c.free_resets.ensures
 
-pub free-circuit-spec : {M : Type 1} → statement M
-free-circuit-spec =
+pub free_circuit_spec : {M : Type 1} → statement M
+free_circuit_spec =
     tie.close
-    (tie.spec
-    copy-words-requires free-resets-requires same_length returns)
+    (tie.spec copy-words-requires free-resets-requires same_length returns)

@@ -9,64 +9,58 @@ use borrow.Author.Rules.{rules}
 use Rattle.freeing.proofs.free_resets.Statement.{statement}
 use Rattle.freeing.proofs.free_resets.Tie as tie
 
-abbrev invariant-loop : tie.invariant-loop
+abbrev invariant-loop : tie.invariant-loop-j
 invariant-loop words₀ at count j₀ words j = (j ≤ count) × (length words ≡ length words₀) × Reset at j words₀ words
 
-abbrev decreases-loop : tie.decreases-loop
+abbrev decreases-loop : tie.decreases-loop-j
 decreases-loop words₀ at count j₀ words j = count - j
 
-loop-holds : tie.Need-loop-init invariant-loop decreases-loop
+loop-holds : tie.Need-loop-j-init invariant-loop decreases-loop
 loop-holds c = (omega arith, refl, reset-none _ _)
 
-mul-place : tie.Need-overflow-mul-place invariant-loop decreases-loop
+mul-place : tie.Need-overflow_mul-place invariant-loop decreases-loop
 mul-place c = omega arith
 
-add-place : tie.Need-overflow-add-place invariant-loop decreases-loop
+add-place : tie.Need-overflow_add-place invariant-loop decreases-loop
 add-place c = omega arith
 
-mul_words : tie.Need-overflow-mul-words invariant-loop decreases-loop
+mul_words : tie.Need-offset_bounds-words-place invariant-loop decreases-loop
 mul_words c = omega arith
 
-slice-read-words : tie.Need-slice-read-words invariant-loop decreases-loop
+slice-read-words : tie.Need-bounds-words-place invariant-loop decreases-loop
 slice-read-words c = omega arith
 
-add_words : tie.Need-overflow-add-words invariant-loop decreases-loop
+add_words : tie.Need-overflow_add-words invariant-loop decreases-loop
 add_words c = omega arith
 
-mul-words-2 : tie.Need-overflow-mul-words-2 invariant-loop decreases-loop
+mul-words-2 : tie.Need-offset_bounds-words-place-in-loop-j invariant-loop decreases-loop
 mul-words-2 c = omega arith
 
-slice-write-words : tie.Need-slice-write-words invariant-loop decreases-loop
+slice-write-words : tie.Need-bounds-words-place-in-loop-j invariant-loop decreases-loop
 slice-write-words c = omega arith
 
-add-j : tie.Need-overflow-add-j invariant-loop decreases-loop
+add-j : tie.Need-overflow_add-j invariant-loop decreases-loop
 add-j c = omega arith
 
-loop-less : tie.Need-loop-smaller invariant-loop decreases-loop
+loop-less : tie.Need-loop-j-smaller invariant-loop decreases-loop
 loop-less c = omega arith
 
-loop-again : tie.Need-loop-preserved invariant-loop decreases-loop
-loop-again c =
-    let S = c.before.before.before in
-    let L = c.before.before.loop in (
-      omega arith,
-      length-set L.words _ _ ∙ L.invariant.1,
-      reset-more S.args.at L.j L.words _ L.invariant.2 (omega arith) refl,
-    )
+loop-again : tie.Need-loop-j-preserved invariant-loop decreases-loop
+loop-again c = (
+  omega arith,
+  length-set c.loop-j.words _ _ ∙ c.loop-j.invariant.1,
+  reset-more c.args.at c.loop-j.j c.loop-j.words _ c.loop-j.invariant.2 (omega arith) refl,
+)
 
-same_length : tie.Need-same-length invariant-loop decreases-loop
-same_length c = c.before.loop.invariant.1
+same_length : tie.Need-shape_of-words invariant-loop decreases-loop
+same_length c = c.loop-j.invariant.1
 
 returns : tie.Need-returns invariant-loop decreases-loop
 returns c =
-    let S = c.before.before in
-    let L = c.before.loop in
-    let e : L.j ≡ S.args.count = omega arith in
-    subst (λ (k : ℕ). Reset S.args.at k S.args.words.now L.words) e L.invariant.2
+    let e : c.loop-j.j ≡ c.args.count = omega arith in
+    subst (λ (k : ℕ). Reset c.args.at k c.args.words.now c.loop-j.words) e c.loop-j.invariant.2
 
-pub free-resets-spec : {M : Type 1} → statement M
-free-resets-spec =
+pub free_resets_spec : {M : Type 1} → statement M
+free_resets_spec =
     tie.close
-    (tie.spec
-    invariant-loop decreases-loop loop-holds mul-place add-place mul_words slice-read-words add_words mul-words-2 slice-write-words add-j
-    loop-less loop-again same_length returns)
+    (tie.spec invariant-loop decreases-loop loop-holds mul-place add-place mul_words slice-read-words add_words mul-words-2 slice-write-words add-j loop-less loop-again same_length returns)

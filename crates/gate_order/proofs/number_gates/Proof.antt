@@ -14,14 +14,13 @@ link-users-requires c κs =
     ((λ j h. low (g.used j h) c.requires.0.2, c.requires.1.1.0.0, c.requires.1.1.0.1), omega (arith, g.pairs, g.few))
 
 take-gates-requires : tie.Need-take_gates-requires
-take-gates-requires c κs =
-    (
-      (c.requires.0.0, c.link_users.ensures, c.requires.0.1),
-      (
-        (c.requires.0.2, omega (arith, c.requires.1.1.0.0, c.link_users.auto.links), c.requires.1.0.0),
-        (c.requires.1.0.1, c.requires.1.0.2, c.requires.1.1.1),
-      ),
-    )
+take-gates-requires c κs = (
+  (c.requires.0.0, c.link_users.ensures, c.requires.0.1),
+  (
+    (c.requires.0.2, omega (arith, c.requires.1.1.0.0, c.link_users.auto.links), c.requires.1.0.0),
+    (c.requires.1.0.1, c.requires.1.0.2, c.requires.1.1.1),
+  ),
+)
 
 pub number_gates_spec : {M : Type 1} → statement M
 number_gates_spec =

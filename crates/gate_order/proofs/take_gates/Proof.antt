@@ -50,12 +50,11 @@ start-waiting-requires c κs = let p = c.requires in
     ((p.0.0, p.1.1.2), omega (arith, p.0.0.few))
 
 loop-holds : tie.Need-loop-n-init invariant-loop decreases-loop
-loop-holds c =
-    (
-      start _ _ _ _ _ _ _ c.requires.0.0 c.start_waiting.ensures,
-      refl,
-      c.start_waiting.auto.marks,
-    )
+loop-holds c = (
+  start _ _ _ _ _ _ _ c.requires.0.0 c.start_waiting.ensures,
+  refl,
+  c.start_waiting.auto.marks,
+)
 
 slice-aggregate-first-ready : tie.Need-slice_bounds-first_ready-end invariant-loop decreases-loop
 slice-aggregate-first-ready c = sym c.loop-n.invariant.2
@@ -162,8 +161,7 @@ loop-less c = omega (
 
 loop-again : tie.Need-loop-n-preserved invariant-loop decreases-loop
 loop-again c =
-    let l = L c.before.before.before.before.before.before.before.before.before.before.before.before in
-    (
+    let l = L c.before.before.before.before.before.before.before.before.before.before.before.before in (
       more l.loop-n.invariant.0 _ c.loop-n-test.true (gate c.before.before.before.before.before.before.before.before.before.before.before.before) (omega (arith, c.loop-n-test.true, (S l).requires.1.0.2))
           (found-next l.loop-n.invariant.0.state (F c.before.before.before.before.before.before.before.before.before.before.before.before).first_ready-i.ensures.0 (gate c.before.before.before.before.before.before.before.before.before.before.before.before)) c.refresh_users.ensures,
       length-set l.loop-n.order l.loop-n.n (F c.before.before.before.before.before.before.before.before.before.before.before.before).first_ready-i.result ∙ l.loop-n.invariant.1,

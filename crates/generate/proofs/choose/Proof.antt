@@ -10,16 +10,14 @@ use Rattle.generate.specs.declared.Choice.{Choice}
 use Rattle.generate.proofs.choose.Statement.{statement}
 use Rattle.generate.proofs.choose.Tie as tie
 
-cast-literal : tie.Need-overflow-cast-literal
+cast-literal : tie.Need-overflow_cast-literal-2
 cast-literal c =
-    let s = c.before.before in
-    omega (arith, mod-lt (c.before.draw.result.value / 2 ^ 32) s.requires)
+    omega (arith, mod-lt (c.draw-drawn.result.value / 2 ^ 32) c.requires)
 
 returns : tie.Need-returns
-returns c = ap (λ (d : Draw). record { literal = picked c.before.before.before.args.n d.value; generator = d.generator }) c.before.before.draw.ensures
+returns c = ap (λ (d : Draw). record { literal = picked c.args.n d.value; generator = d.generator }) c.draw-drawn.ensures
 
 pub choose_spec : {M : Type 1} → statement M
 choose_spec =
     tie.close
-    (tie.spec
-    (λ c κs. search rules) (λ c. search rules) cast-literal returns)
+    (tie.spec (λ c κs. search rules) (λ c. search rules) cast-literal returns)

@@ -6,12 +6,9 @@ use Rattle.generate.proofs.choose_operands.Tie as tie
 
 returns : tie.Need-returns
 returns c =
-    let x = c.before.before.choose in
-    let y = c.before.choose2 in
-    both-drawn c.before.before.before.args.before x.result y.result c.before.before.before.args.own x.ensures y.ensures
+    both-drawn c.args.before c.choose-one.result c.choose-two.result c.args.own c.choose-one.ensures c.choose-two.ensures
 
-pub choose-operands-spec : {M : Type 1} → statement M
-choose-operands-spec =
+pub choose_operands_spec : {M : Type 1} → statement M
+choose_operands_spec =
     tie.close
-    (tie.spec
-    (λ c κs. search rules) (λ c κs. search rules) returns)
+    (tie.spec (λ c κs. search rules) (λ c κs. search rules) returns)

@@ -10,79 +10,66 @@ use Rattle.generate.proofs.Lines.{gate-longer, gates-most, gates-done}
 use Rattle.generate.proofs.gates_length.Statement.{statement}
 use Rattle.generate.proofs.gates_length.Tie as tie
 
-abbrev invariant-loop : tie.invariant-loop
+abbrev invariant-loop : tie.invariant-loop-left
 invariant-loop first n total₀ state₀ v₀ left₀ total state v left =
     (v + left ≡ first + n)
     × (0 < v)
     × (total + length (gates_text state.state v left) ≡ length (gates_text state₀.state first n))
 
-abbrev decreases-loop : tie.decreases-loop
+abbrev decreases-loop : tie.decreases-loop-left
 decreases-loop first n total₀ state₀ v₀ left₀ total state v left = left
 
-loop-holds : tie.Need-loop-init invariant-loop decreases-loop
+loop-holds : tie.Need-loop-left-init invariant-loop decreases-loop
 loop-holds c = (refl, c.requires.0, omega arith)
 
-mul-own : tie.Need-overflow-mul-own invariant-loop decreases-loop
-mul-own c = omega (arith, c.before.before.requires.1, c.before.loop.invariant.0)
+mul-own : tie.Need-overflow_mul-own invariant-loop decreases-loop
+mul-own c = omega (arith, c.requires.1, c.loop-left.invariant.0)
 
-choose-operands-requires : tie.Need-choose-operands-requires invariant-loop decreases-loop
-choose-operands-requires c κs = omega (arith, c.before.loop.invariant.1)
+choose-operands-requires : tie.Need-choose_operands-of-requires invariant-loop decreases-loop
+choose-operands-requires c κs = omega (arith, c.loop-left.invariant.1)
 
-add_total : tie.Need-overflow-add-total invariant-loop decreases-loop
+add_total : tie.Need-overflow_add-total invariant-loop decreases-loop
 add_total c =
-    let l = c.before.before.before.before.loop in
-    let a = c.before.before.before.before.before.args in
-    let x = c.before.before.choose-operands in
-    omega (arith, l.invariant.2, c.before.digit-count.ensures, c.digit-count2.ensures, gate-longer l.state x.result l.v l.left x.ensures c.before.before.before.loop-test.true, gates-most a.generator.state a.first a.n)
+    let a = c.args in
+    omega (arith, c.loop-left.invariant.2, c.digit_count.ensures, c.digit_count-in-loop-left.ensures, gate-longer c.loop-left.state c.choose_operands-of.result c.loop-left.v c.loop-left.left c.choose_operands-of.ensures c.loop-left-test.true, gates-most a.generator.state a.first a.n)
 
-add-total-2 : tie.Need-overflow-add-total-2 invariant-loop decreases-loop
+add-total-2 : tie.Need-overflow_add-total-in-loop-left invariant-loop decreases-loop
 add-total-2 c =
-    let l = c.before.before.before.before.before.loop in
-    let a = c.before.before.before.before.before.before.args in
-    let x = c.before.before.before.choose-operands in
-    omega (arith, l.invariant.2, c.before.before.digit-count.ensures, c.before.digit-count2.ensures, c.digit-count3.ensures, gate-longer l.state x.result l.v l.left x.ensures c.before.before.before.before.loop-test.true, gates-most a.generator.state a.first a.n)
+    let a = c.args in
+    omega (arith, c.loop-left.invariant.2, c.digit_count.ensures, c.digit_count-in-loop-left.ensures, c.digit_count-in-loop-left-2.ensures, gate-longer c.loop-left.state c.choose_operands-of.result c.loop-left.v c.loop-left.left c.choose_operands-of.ensures c.loop-left-test.true, gates-most a.generator.state a.first a.n)
 
-add-total-3 : tie.Need-overflow-add-total-3 invariant-loop decreases-loop
+add-total-3 : tie.Need-overflow_add-total-in-loop-left-2 invariant-loop decreases-loop
 add-total-3 c =
-    let l = c.before.before.before.before.before.loop in
-    let a = c.before.before.before.before.before.before.args in
-    let x = c.before.before.before.choose-operands in
-    omega (arith, l.invariant.2, c.before.before.digit-count.ensures, c.before.digit-count2.ensures, c.digit-count3.ensures, gate-longer l.state x.result l.v l.left x.ensures c.before.before.before.before.loop-test.true, gates-most a.generator.state a.first a.n)
+    let a = c.args in
+    omega (arith, c.loop-left.invariant.2, c.digit_count.ensures, c.digit_count-in-loop-left.ensures, c.digit_count-in-loop-left-2.ensures, gate-longer c.loop-left.state c.choose_operands-of.result c.loop-left.v c.loop-left.left c.choose_operands-of.ensures c.loop-left-test.true, gates-most a.generator.state a.first a.n)
 
-add-total-4 : tie.Need-overflow-add-total-4 invariant-loop decreases-loop
+add-total-4 : tie.Need-overflow_add-total-in-loop-left-3 invariant-loop decreases-loop
 add-total-4 c =
-    let l = c.before.before.before.before.before.loop in
-    let a = c.before.before.before.before.before.before.args in
-    let x = c.before.before.before.choose-operands in
-    omega (arith, l.invariant.2, c.before.before.digit-count.ensures, c.before.digit-count2.ensures, c.digit-count3.ensures, gate-longer l.state x.result l.v l.left x.ensures c.before.before.before.before.loop-test.true, gates-most a.generator.state a.first a.n)
+    let a = c.args in
+    omega (arith, c.loop-left.invariant.2, c.digit_count.ensures, c.digit_count-in-loop-left.ensures, c.digit_count-in-loop-left-2.ensures, gate-longer c.loop-left.state c.choose_operands-of.result c.loop-left.v c.loop-left.left c.choose_operands-of.ensures c.loop-left-test.true, gates-most a.generator.state a.first a.n)
 
-add-v : tie.Need-overflow-add-v invariant-loop decreases-loop
-add-v c = omega (arith, c.before.before.before.before.before.before.before.requires.1, c.before.before.before.before.before.before.loop.invariant.0)
+add-v : tie.Need-overflow_add-v invariant-loop decreases-loop
+add-v c = omega (arith, c.requires.1, c.loop-left.invariant.0)
 
-sub-left : tie.Need-overflow-sub-left invariant-loop decreases-loop
-sub-left c = omega (arith, c.before.before.before.before.before.loop-test.true)
+sub-left : tie.Need-overflow_sub-left invariant-loop decreases-loop
+sub-left c = omega (arith, c.loop-left-test.true)
 
-loop-less : tie.Need-loop-smaller invariant-loop decreases-loop
-loop-less c = omega (arith, c.before.before.before.before.before.loop-test.true)
+loop-less : tie.Need-loop-left-smaller invariant-loop decreases-loop
+loop-less c = omega (arith, c.loop-left-test.true)
 
-loop-again : tie.Need-loop-preserved invariant-loop decreases-loop
+loop-again : tie.Need-loop-left-preserved invariant-loop decreases-loop
 loop-again c =
-    let l = c.before.before.before.before.before.before.loop in
-    let x = c.before.before.before.before.choose-operands in
-    let t = c.before.before.before.before.before.loop-test.true in (
-      omega (arith, l.invariant.0, t),
-      omega (arith, l.invariant.1),
-      omega (arith, l.invariant.2, c.before.before.before.digit-count.ensures, c.before.before.digit-count2.ensures, c.before.digit-count3.ensures, gate-longer l.state x.result l.v l.left x.ensures t),
+    let t = c.loop-left-test.true in (
+      omega (arith, c.loop-left.invariant.0, t),
+      omega (arith, c.loop-left.invariant.1),
+      omega (arith, c.loop-left.invariant.2, c.digit_count.ensures, c.digit_count-in-loop-left.ensures, c.digit_count-in-loop-left-2.ensures, gate-longer c.loop-left.state c.choose_operands-of.result c.loop-left.v c.loop-left.left c.choose_operands-of.ensures t),
     )
 
 returns : tie.Need-returns invariant-loop decreases-loop
 returns c =
-    let l = c.before.loop in
-    omega (arith, l.invariant.2, ap length (gates-done l.state.state l.v l.left c.loop-test.false))
+    omega (arith, c.loop-left.invariant.2, ap length (gates-done c.loop-left.state.state c.loop-left.v c.loop-left.left c.loop-left-test.false))
 
-pub gates-length-spec : {M : Type 1} → statement M
-gates-length-spec =
+pub gates_length_spec : {M : Type 1} → statement M
+gates_length_spec =
     tie.close
-    (tie.spec
-    invariant-loop decreases-loop loop-holds mul-own choose-operands-requires (λ c κs. search rules) (λ c κs. search rules) add_total
-    (λ c κs. search rules) add-total-2 add-total-3 add-total-4 add-v sub-left loop-less loop-again returns)
+    (tie.spec invariant-loop decreases-loop loop-holds mul-own choose-operands-requires (λ c κs. search rules) (λ c κs. search rules) add_total (λ c κs. search rules) add-total-2 add-total-3 add-total-4 add-v sub-left loop-less loop-again returns)

@@ -10,55 +10,49 @@ use Rattle.generate.proofs.Lines.{inputs-longer, inputs-most, inputs-done}
 use Rattle.generate.proofs.inputs_length.Statement.{statement}
 use Rattle.generate.proofs.inputs_length.Tie as tie
 
-abbrev invariant-loop : tie.invariant-loop
+abbrev invariant-loop : tie.invariant-loop-left
 invariant-loop first n total₀ v₀ left₀ total v left =
     (v + left ≡ first + n) × (total + length (inputs_text v left) ≡ length (inputs_text first n))
 
-abbrev decreases-loop : tie.decreases-loop
+abbrev decreases-loop : tie.decreases-loop-left
 decreases-loop first n total₀ v₀ left₀ total v left = left
 
-loop-holds : tie.Need-loop-init invariant-loop decreases-loop
+loop-holds : tie.Need-loop-left-init invariant-loop decreases-loop
 loop-holds c = (refl, omega arith)
 
-mul-digit-count : tie.Need-overflow-mul-digit-count invariant-loop decreases-loop
-mul-digit-count c = omega (arith, c.before.before.requires)
+mul-digit-count : tie.Need-overflow_mul-v invariant-loop decreases-loop
+mul-digit-count c = omega (arith, c.requires)
 
-add_total : tie.Need-overflow-add-total invariant-loop decreases-loop
+add_total : tie.Need-overflow_add-total invariant-loop decreases-loop
 add_total c =
-    let l = c.before.before.loop in
-    let a = c.before.before.before.args in
-    omega (arith, c.digit-count.ensures, inputs-longer l.v l.left c.before.loop-test.true, inputs-most a.first a.n)
+    let a = c.args in
+    omega (arith, c.digit_count.ensures, inputs-longer c.loop-left.v c.loop-left.left c.loop-left-test.true, inputs-most a.first a.n)
 
-add-total-2 : tie.Need-overflow-add-total-2 invariant-loop decreases-loop
+add-total-2 : tie.Need-overflow_add-total-in-loop-left invariant-loop decreases-loop
 add-total-2 c =
-    let l = c.before.before.loop in
-    let a = c.before.before.before.args in
-    omega (arith, c.digit-count.ensures, inputs-longer l.v l.left c.before.loop-test.true, inputs-most a.first a.n)
+    let a = c.args in
+    omega (arith, c.digit_count.ensures, inputs-longer c.loop-left.v c.loop-left.left c.loop-left-test.true, inputs-most a.first a.n)
 
-add-v : tie.Need-overflow-add-v invariant-loop decreases-loop
-add-v c = omega (arith, c.before.before.before.requires, c.before.before.loop.invariant.0)
+add-v : tie.Need-overflow_add-v invariant-loop decreases-loop
+add-v c = omega (arith, c.requires, c.loop-left.invariant.0)
 
-sub-left : tie.Need-overflow-sub-left invariant-loop decreases-loop
-sub-left c = omega (arith, c.before.loop-test.true)
+sub-left : tie.Need-overflow_sub-left invariant-loop decreases-loop
+sub-left c = omega (arith, c.loop-left-test.true)
 
-loop-less : tie.Need-loop-smaller invariant-loop decreases-loop
-loop-less c = omega (arith, c.before.loop-test.true)
+loop-less : tie.Need-loop-left-smaller invariant-loop decreases-loop
+loop-less c = omega (arith, c.loop-left-test.true)
 
-loop-again : tie.Need-loop-preserved invariant-loop decreases-loop
-loop-again c =
-    let l = c.before.before.loop in (
-      omega (arith, l.invariant.0, c.before.loop-test.true),
-      omega (arith, l.invariant.1, c.digit-count.ensures, inputs-longer l.v l.left c.before.loop-test.true),
-    )
+loop-again : tie.Need-loop-left-preserved invariant-loop decreases-loop
+loop-again c = (
+  omega (arith, c.loop-left.invariant.0, c.loop-left-test.true),
+  omega (arith, c.loop-left.invariant.1, c.digit_count.ensures, inputs-longer c.loop-left.v c.loop-left.left c.loop-left-test.true),
+)
 
 returns : tie.Need-returns invariant-loop decreases-loop
 returns c =
-    let l = c.before.loop in
-    omega (arith, l.invariant.1, ap length (inputs-done l.v l.left c.loop-test.false))
+    omega (arith, c.loop-left.invariant.1, ap length (inputs-done c.loop-left.v c.loop-left.left c.loop-left-test.false))
 
-pub inputs-length-spec : {M : Type 1} → statement M
-inputs-length-spec =
+pub inputs_length_spec : {M : Type 1} → statement M
+inputs_length_spec =
     tie.close
-    (tie.spec
-    invariant-loop decreases-loop loop-holds mul-digit-count (λ c κs. search rules) add_total add-total-2 add-v sub-left loop-less loop-again
-    returns)
+    (tie.spec invariant-loop decreases-loop loop-holds mul-digit-count (λ c κs. search rules) add_total add-total-2 add-v sub-left loop-less loop-again returns)

@@ -11,23 +11,22 @@ use Rattle.generate.proofs.Answers.{few-facts}
 use Rattle.generate.proofs.permits.Statement.{statement}
 use Rattle.generate.proofs.permits.Tie as tie
 
-returns : tie.Need-returns
-returns c = rw (sym c.before.few-enough.ensures ∙ not-true c.before.few-enough.result c.if1.true)
+returns : tie.Need-returns-then-not-few_enough
+returns c = rw (sym c.few_enough.ensures ∙ c.if-not-few_enough.true)
 
-add-result : tie.Need-overflow-add-result
-add-result c = omega (arith, few-facts c.before.before.args.i c.before.before.args.l c.before.before.args.a (sym c.before.few-enough.ensures ∙ not-false c.before.few-enough.result c.if1.false))
+add-result : tie.Need-overflow_add-result
+add-result c = omega (arith, few-facts c.args.i c.args.l c.args.a (sym c.few_enough.ensures ∙ c.if-not-few_enough.false))
 
-add-result-2 : tie.Need-overflow-add-result-2
-add-result-2 c = omega (arith, few-facts c.before.before.args.i c.before.before.args.l c.before.before.args.a (sym c.before.few-enough.ensures ∙ not-false c.before.few-enough.result c.if1.false))
+add-result-2 : tie.Need-overflow_add-result-2
+add-result-2 c = omega (arith, few-facts c.args.i c.args.l c.args.a (sym c.few_enough.ensures ∙ c.if-not-few_enough.false))
 
-add-result-3 : tie.Need-overflow-add-result-3
-add-result-3 c = omega (arith, few-facts c.before.before.args.i c.before.before.args.l c.before.before.args.a (sym c.before.few-enough.ensures ∙ not-false c.before.few-enough.result c.if1.false))
+add-result-3 : tie.Need-overflow_add-result-3
+add-result-3 c = omega (arith, few-facts c.args.i c.args.l c.args.a (sym c.few_enough.ensures ∙ c.if-not-few_enough.false))
 
-returns-2 : tie.Need-returns-2
-returns-2 c = rw (sym c.before.few-enough.ensures ∙ not-false c.before.few-enough.result c.if1.false)
+returns-2 : tie.Need-returns
+returns-2 c = rw (sym c.few_enough.ensures ∙ c.if-not-few_enough.false)
 
-pub permits-spec : {M : Type 1} → statement M
-permits-spec =
+pub permits_spec : {M : Type 1} → statement M
+permits_spec =
     tie.close
-    (tie.spec
-    (λ c κs. search rules) returns add-result add-result-2 add-result-3 returns-2)
+    (tie.spec (λ c κs. search rules) returns add-result add-result-2 add-result-3 returns-2)

@@ -6,26 +6,22 @@ use Rattle.generate.proofs.Whole.{head-word-room, head-row-room, head-placed}
 use Rattle.generate.proofs.put_head.Statement.{statement}
 use Rattle.generate.proofs.put_head.Tie as tie
 
-put-requires : tie.Need-put-requires
+put-requires : tie.Need-put-at-requires
 put-requires c κs =
-    let s = c.before.before.before in
-    let n = s.args.n in
-    head-word-room s.args.out.now n.inputs n.latches n.gates s.requires.1
+    let n = c.args.n in
+    head-word-room c.args.out.now n.inputs n.latches n.gates c.requires.1
 
-put-row-requires : tie.Need-put-row-requires
+put-row-requires : tie.Need-put_row-requires
 put-row-requires c κs =
-    let s = c.before.before.before.before.before.before.before.before in
-    let n = s.args.n in
-    (omega arith, head-row-room s.args.out.now n.inputs n.latches n.gates s.requires.1 s.requires.0 c.before.before.before.before.put.ensures)
+    let n = c.args.n in
+    (omega arith, head-row-room c.args.out.now n.inputs n.latches n.gates c.requires.1 c.requires.0 c.put-at.ensures)
 
 returns : tie.Need-returns
 returns c =
-    let s = c.before.before.before.before.before.before.before.before.before.before.before in
-    let n = s.args.n in
-    head-placed s.args.out.now n.inputs n.latches n.gates s.requires.1 s.requires.0 c.before.before.before.before.before.before.before.put.ensures c.before.before.put-row.ensures
+    let n = c.args.n in
+    head-placed c.args.out.now n.inputs n.latches n.gates c.requires.1 c.requires.0 c.put-at.ensures c.put_row.ensures
 
-pub put-head-spec : {M : Type 1} → statement M
-put-head-spec =
+pub put_head_spec : {M : Type 1} → statement M
+put_head_spec =
     tie.close
-    (tie.spec
-    (λ c. search rules) put-requires (λ c. search rules) put-row-requires (λ c. search rules) returns)
+    (tie.spec put-requires (λ c. search rules) put-row-requires (λ c. search rules) returns)

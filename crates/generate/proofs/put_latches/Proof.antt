@@ -13,71 +13,65 @@ use Rattle.generate.proofs.Lines.{latch-line, latch-after, latches-done, after-d
 use Rattle.generate.proofs.put_latches.Statement.{statement}
 use Rattle.generate.proofs.put_latches.Tie as tie
 
-abbrev invariant-loop : tie.invariant-loop
+abbrev invariant-loop : tie.invariant-loop-left
 invariant-loop out₀ first n literals end₀ state₀ v₀ left₀ out end state v left =
     (v + left ≡ first + n)
     × Rest out₀ end₀ (latches_text literals state₀.state first n) out end (latches_text literals state.state v left)
     × (after left state.state ≡ after n state₀.state)
 
-abbrev decreases-loop : tie.decreases-loop
+abbrev decreases-loop : tie.decreases-loop-left
 decreases-loop out₀ first n literals end₀ state₀ v₀ left₀ out end state v left = left
 
-loop-holds : tie.Need-loop-init invariant-loop decreases-loop
+loop-holds : tie.Need-loop-left-init invariant-loop decreases-loop
 loop-holds c =
-    let a = c.before.before.args in
+    let a = c.args in
     (refl, rest-start a.out.now a.from.at (latches_text a.literals a.from.generator.state a.first a.n), refl)
 
-choose-requires : tie.Need-choose-requires invariant-loop decreases-loop
-choose-requires c κs = c.before.before.before.before.requires.0.some
+choose-requires : tie.Need-choose-next-requires invariant-loop decreases-loop
+choose-requires c κs = c.requires.0.some
 
-mul-put-two : tie.Need-overflow-mul-put-two invariant-loop decreases-loop
-mul-put-two c = omega (arith, c.before.before.before.before.before.before.requires.0, c.before.before.before.loop.invariant.0)
+mul-put-two : tie.Need-overflow_mul-v invariant-loop decreases-loop
+mul-put-two c = omega (arith, c.requires.0, c.loop-left.invariant.0)
 
-put-two-requires : tie.Need-put-two-requires invariant-loop decreases-loop
+put-two-requires : tie.Need-put_two-end-requires invariant-loop decreases-loop
 put-two-requires c κs =
-    let l = c.before.before.before.loop in
-    let n = c.before.before.before.before.before.before.args.literals in
-    let x = c.before.choose in
-    rest-room (line_of (2 * l.v) (x.result.literal ∷ [])) (latches_text n x.result.generator.state (l.v + 1) (l.left - 1))
-    c.before.before.before.before.before.before.requires.1
-    (rw (latch-line l.state x.result n l.v l.left x.ensures c.before.before.loop-test.true) at l.invariant.1)
+    let n = c.args.literals in
+    rest-room (line_of (2 * c.loop-left.v) (c.choose-next.result.literal ∷ [])) (latches_text n c.choose-next.result.generator.state (c.loop-left.v + 1) (c.loop-left.left - 1))
+    c.requires.1
+    (rw (latch-line c.loop-left.state c.choose-next.result n c.loop-left.v c.loop-left.left c.choose-next.ensures c.loop-left-test.true) at c.loop-left.invariant.1)
 
-add-v : tie.Need-overflow-add-v invariant-loop decreases-loop
-add-v c = omega (arith, c.before.before.before.before.before.before.before.before.before.before.requires.0, c.before.before.before.before.before.before.before.loop.invariant.0)
+add-v : tie.Need-overflow_add-v invariant-loop decreases-loop
+add-v c = omega (arith, c.requires.0, c.loop-left.invariant.0)
 
-sub-left : tie.Need-overflow-sub-left invariant-loop decreases-loop
-sub-left c = omega (arith, c.before.before.before.before.before.before.loop-test.true)
+sub-left : tie.Need-overflow_sub-left invariant-loop decreases-loop
+sub-left c = omega (arith, c.loop-left-test.true)
 
-loop-less : tie.Need-loop-smaller invariant-loop decreases-loop
-loop-less c = omega (arith, c.before.before.before.before.before.before.loop-test.true)
+loop-less : tie.Need-loop-left-smaller invariant-loop decreases-loop
+loop-less c = omega (arith, c.loop-left-test.true)
 
-loop-again : tie.Need-loop-preserved invariant-loop decreases-loop
+loop-again : tie.Need-loop-left-preserved invariant-loop decreases-loop
 loop-again c =
-    let l = c.before.before.before.before.before.before.before.loop in
-    let n = c.before.before.before.before.before.before.before.before.before.before.args.literals in
-    let x = c.before.before.before.before.before.choose in
-    let t = c.before.before.before.before.before.before.loop-test.true in (
-      omega (arith, l.invariant.0, t),
-      rest_more (line_of (2 * l.v) (x.result.literal ∷ [])) (latches_text n x.result.generator.state (l.v + 1) (l.left - 1))
-          c.before.before.before.before.before.before.before.before.before.before.requires.1
-          (rw (latch-line l.state x.result n l.v l.left x.ensures t) at l.invariant.1) c.before.before.before.put_two.ensures,
-      sym (latch-after l.state x.result n l.v l.left x.ensures t) ∙ l.invariant.2,
+    let n = c.args.literals in
+    let t = c.loop-left-test.true in (
+      omega (arith, c.loop-left.invariant.0, t),
+      rest_more (line_of (2 * c.loop-left.v) (c.choose-next.result.literal ∷ [])) (latches_text n c.choose-next.result.generator.state (c.loop-left.v + 1) (c.loop-left.left - 1))
+          c.requires.1
+          (rw (latch-line c.loop-left.state c.choose-next.result n c.loop-left.v c.loop-left.left c.choose-next.ensures t) at c.loop-left.invariant.1) c.put_two-end.ensures,
+      sym (latch-after c.loop-left.state c.choose-next.result n c.loop-left.v c.loop-left.left c.choose-next.ensures t) ∙ c.loop-left.invariant.2,
     )
 
-same_length : tie.Need-same-length invariant-loop decreases-loop
-same_length c = c.before.loop.invariant.1.kept
+same_length : tie.Need-shape_of-out invariant-loop decreases-loop
+same_length c = c.loop-left.invariant.1.kept
 
 returns : tie.Need-returns invariant-loop decreases-loop
 returns c =
-    let l = c.before.loop in
-    let t = c.loop-test.false in
+    let t = c.loop-left-test.false in
     record {
-      placed = rest_end (rw (latches-done c.before.before.before.before.args.literals l.state.state l.v l.left t) at l.invariant.1);
-      state = sym (after-done l.left l.state.state t) ∙ l.invariant.2;
+      placed = rest_end (rw (latches-done c.args.literals c.loop-left.state.state c.loop-left.v c.loop-left.left t) at c.loop-left.invariant.1);
+      state = sym (after-done c.loop-left.left c.loop-left.state.state t) ∙ c.loop-left.invariant.2;
     }
 
-pub put-latches-spec : {M : Type 1} → statement M
-put-latches-spec =
+pub put_latches_spec : {M : Type 1} → statement M
+put_latches_spec =
     tie.close
-    (tie.spec
-    invariant-loop decreases-loop loop-holds choose-requires mul-put-two put-two-requires add-v sub-left loop-less loop-again same_length returns)
+    (tie.spec invariant-loop decreases-loop loop-holds choose-requires mul-put-two put-two-requires add-v sub-left loop-less loop-again same_length returns)

@@ -6,18 +6,17 @@ use Rattle.generate.proofs.Lines.{line-three}
 use Rattle.generate.proofs.put_three.Statement.{statement}
 use Rattle.generate.proofs.put_three.Tie as tie
 
-put-row-requires : tie.Need-put-row-requires
+put-row-requires : tie.Need-put_row-requires
 put-row-requires c κs =
-    let a = c.before.before.before.args in
-    (omega arith, rw (line-three a.a a.b a.c) c.before.before.before.requires)
+    let a = c.args in
+    (omega arith, rw (line-three a.a a.b a.c) c.requires)
 
 returns : tie.Need-returns
 returns c =
-    let a = c.before.before.before.before.before.before.args in
-    rw (line-three a.a a.b a.c) at c.before.before.put-row.ensures
+    let a = c.args in
+    rw (line-three a.a a.b a.c) at c.put_row.ensures
 
-pub put-three-spec : {M : Type 1} → statement M
-put-three-spec =
+pub put_three_spec : {M : Type 1} → statement M
+put_three_spec =
     tie.close
-    (tie.spec
-    (λ c. search rules) put-row-requires (λ c. search rules) returns)
+    (tie.spec (λ c. search rules) put-row-requires (λ c. search rules) returns)

@@ -30,8 +30,7 @@ append-pair-requires c κs =
 append-signature-requires : tie.Need-append_signature-requires
 append-signature-requires c κs =
     let a = c.args in
-    let w = c.requires.0.proper in
-    (
+    let w = c.requires.0.proper in (
       larger-size a.work.now c.append_pair-graph.new.work a.g (edge_word a.left) (edge_word a.right) c.requires.0 c.requires.1.0 c.append_pair-graph.auto.work c.append_pair-graph.ensures.1 c.append_pair-graph.result c.append_pair-graph.ensures.0,
       signature-appended a.work.now c.append_pair-graph.new.work a.g (edge_word a.left) (edge_word a.right) c.requires.0 c.requires.1.0 c.append_pair-graph.auto.work c.append_pair-graph.ensures.1 c.signature.result c.signature-2.result
           (c.signature.ensures a.g (w.stored.signatures c.requires.1.0) w.earlier)

@@ -16,23 +16,21 @@ find-pair-requires c κs =
     (record { sized = w.stored.sized; store = w.stored.pairs }, word_bound w)
 
 append-plain-requires : tie.Need-append_plain-requires
-append-plain-requires c κs =
-    (
-      found-new c.args.work.now c.args.g (edge_word c.args.left) (edge_word c.args.right) c.requires (place_of c.find_pair.result) c.find_pair.ensures
-          (ap place_of c.in-Nothing.is),
-      omega (arith, c.if-g-gt12.true),
-    )
+append-plain-requires c κs = (
+  found-new c.args.work.now c.args.g (edge_word c.args.left) (edge_word c.args.right) c.requires (place_of c.find_pair.result) c.find_pair.ensures
+      (ap place_of c.in-Nothing.is),
+  omega (arith, c.if-g-gt12.true),
+)
 
 returns : tie.Need-returns-then-g-gt12
 returns c = c.append_plain.ensures
 
 merge-requires : tie.Need-merge-requires
-merge-requires c κs =
-    (
-      found-new c.args.work.now c.args.g (edge_word c.args.left) (edge_word c.args.right) c.requires (place_of c.find_pair.result) c.find_pair.ensures
-          (ap place_of c.in-Nothing.is),
-      omega (arith, c.if-g-gt12.false),
-    )
+merge-requires c κs = (
+  found-new c.args.work.now c.args.g (edge_word c.args.left) (edge_word c.args.right) c.requires (place_of c.find_pair.result) c.find_pair.ensures
+      (ap place_of c.in-Nothing.is),
+  omega (arith, c.if-g-gt12.false),
+)
 
 returns-2 : tie.Need-returns-in-Gate
 returns-2 c =

@@ -61,8 +61,7 @@ loop-less c = omega arith
 
 loop-again : tie.Need-loop-i-preserved invariant-loop decreases-loop
 loop-again c =
-    let a = c.args in
-    (
+    let a = c.args in (
       omega arith,
       below_more (λ j. marked a.marks.now (word a.m.now (a.at + j))) c.loop-i.i c.loop-i.invariant.1
           (sym (told c.before) ∙ c.if-not-is_marked.false),

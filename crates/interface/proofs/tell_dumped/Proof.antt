@@ -4,17 +4,16 @@ use borrow.Author.Rules.{rules}
 use Rattle.interface.proofs.tell_dumped.Statement.{statement}
 use Rattle.interface.proofs.tell_dumped.Tie as tie
 
-returns : tie.Need-returns
-returns c = record { returns = rw c.before.said.given.1; leaves = rw c.before.said.given.1 }
+returns : tie.Need-returns-in-Refused
+returns c = record { returns = rw c.in-Refused.is; leaves = rw c.in-Refused.is }
 
-same_length : tie.Need-same-length
-same_length c = c.before.before.tell.auto.1.1.1.1.0
+same_length : tie.Need-shape_of-answer
+same_length c = c.tell.auto.answer
 
-returns-2 : tie.Need-returns-2
-returns-2 c = record { returns = rw c.before.before.before.before.before.said2.given.1; leaves = rw c.before.before.before.before.before.said2.given.1 c.before.before.tell.ensures }
+returns-2 : tie.Need-returns-in-Length
+returns-2 c = record { returns = rw c.in-Length.is; leaves = rw c.in-Length.is c.tell.ensures }
 
-pub tell-dumped-spec : {M : Type 1} → statement M
-tell-dumped-spec =
+pub tell_dumped_spec : {M : Type 1} → statement M
+tell_dumped_spec =
     tie.close
-    (tie.spec
-    (λ c. search rules) (λ c. search rules) (λ c. search rules) (λ c κs. search rules) returns same_length returns-2)
+    (tie.spec (λ c. search rules) (λ c. search rules) (λ c. search rules) (λ c κs. search rules) returns same_length returns-2)

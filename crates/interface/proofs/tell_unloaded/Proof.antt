@@ -6,21 +6,20 @@ use native.Mathlib.Omega.{arith}
 use Rattle.interface.proofs.tell_unloaded.Statement.{statement}
 use Rattle.interface.proofs.tell_unloaded.Tie as tie
 
-returns : tie.Need-returns
+returns : tie.Need-returns-then-n-eq18
 returns c =
-    let e = eq-eqb c.before.before.args.n 18 (omega arith) in
+    let e = eq-eqb c.args.n 18 (omega arith) in
     record { returns = rw e (omega arith); leaves = rw e }
 
-same_length : tie.Need-same-length
-same_length c = c.before.before.tell-circuit.auto.1.1.1.0
+same_length : tie.Need-shape_of-answer
+same_length c = c.tell_circuit.auto.answer
 
-returns-2 : tie.Need-returns-2
+returns-2 : tie.Need-returns
 returns-2 c =
-    let e = ne_eqb c.before.before.before.before.before.before.args.n 18 (λ h. omega (arith, h)) in
-    record { returns = rw e; leaves = rw e c.before.before.tell-circuit.ensures }
+    let e = ne_eqb c.args.n 18 (λ h. omega (arith, h)) in
+    record { returns = rw e; leaves = rw e c.tell_circuit.ensures }
 
-pub tell-unloaded-spec : {M : Type 1} → statement M
-tell-unloaded-spec =
+pub tell_unloaded_spec : {M : Type 1} → statement M
+tell_unloaded_spec =
     tie.close
-    (tie.spec
-    returns (λ c κs. search rules) same_length returns-2)
+    (tie.spec returns (λ c κs. search rules) same_length returns-2)

@@ -7,10 +7,9 @@ use Rattle.interface.proofs.yunverok_fold.Statement.{statement}
 use Rattle.interface.proofs.yunverok_fold.Tie as tie
 
 returns : tie.Need-returns
-returns c = record { returned = Returned.folded (answered c.before.before.before.before.before.before.before.before.fold.result) c.before.before.before.before.before.before.before.before.fold.new.1.1.1.1.1.0; step = Step.folds c.before.before.before.before.before.before.before.before.fold.ensures c.before.before.before.before.before.before.before.before.fold.auto.1.1.1.1.0; output = refl; tells = c.before.before.tell-folded.ensures }
+returns c = record { returned = Returned.folded (answered c.fold.result) c.fold.new.out; step = Step.folds c.fold.ensures c.fold.auto.work; output = refl; tells = c.tell_folded.ensures }
 
-pub yunverok-fold-spec : {M : Type 1} → statement M
-yunverok-fold-spec =
+pub yunverok_fold_spec : {M : Type 1} → statement M
+yunverok_fold_spec =
     tie.close
-    (tie.spec
-    (λ c κs. search rules) (λ c κs. search rules) (λ c. search rules) (λ c. search rules) (λ c. search rules) returns)
+    (tie.spec (λ c κs. search rules) (λ c κs. search rules) (λ c. search rules) (λ c. search rules) (λ c. search rules) returns)

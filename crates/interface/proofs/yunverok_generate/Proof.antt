@@ -7,10 +7,9 @@ use Rattle.interface.proofs.yunverok_generate.Statement.{statement}
 use Rattle.interface.proofs.yunverok_generate.Tie as tie
 
 returns : tie.Need-returns
-returns c = record { returned = Returned.written (answered c.before.before.before.before.before.before.generate.result) c.before.before.before.before.before.before.generate.new.1.1.1.1.1.0; step = Step.generates c.before.before.before.before.before.before.generate.ensures; output = refl; tells = c.before.before.tell-generated.ensures }
+returns c = record { returned = Returned.written (answered c.generate.result) c.generate.new.out; step = Step.generates c.generate.ensures; output = refl; tells = c.tell_generated.ensures }
 
-pub yunverok-generate-spec : {M : Type 1} → statement M
-yunverok-generate-spec =
+pub yunverok_generate_spec : {M : Type 1} → statement M
+yunverok_generate_spec =
     tie.close
-    (tie.spec
-    (λ c κs. search rules) (λ c κs. search rules) (λ c. search rules) (λ c. search rules) returns)
+    (tie.spec (λ c κs. search rules) (λ c κs. search rules) (λ c. search rules) (λ c. search rules) returns)

@@ -7,10 +7,9 @@ use Rattle.interface.proofs.yunverok_join.Statement.{statement}
 use Rattle.interface.proofs.yunverok_join.Tie as tie
 
 returns : tie.Need-returns
-returns c = record { returned = Returned.loaded (answered c.before.before.before.before.before.before.before.before.join.result); step = Step.joins c.before.before.before.before.before.before.before.before.join.ensures; output = refl; tells = c.before.before.tell-loaded.ensures }
+returns c = record { returned = Returned.loaded (answered c.join.result); step = Step.joins c.join.ensures; output = refl; tells = c.tell_loaded.ensures }
 
-pub yunverok-join-spec : {M : Type 1} → statement M
-yunverok-join-spec =
+pub yunverok_join_spec : {M : Type 1} → statement M
+yunverok_join_spec =
     tie.close
-    (tie.spec
-    (λ c κs. search rules) (λ c κs. search rules) (λ c. search rules) (λ c. search rules) (λ c. search rules) returns)
+    (tie.spec (λ c κs. search rules) (λ c κs. search rules) (λ c. search rules) (λ c. search rules) (λ c. search rules) returns)

@@ -7,10 +7,9 @@ use Rattle.interface.proofs.yunverok_load.Statement.{statement}
 use Rattle.interface.proofs.yunverok_load.Tie as tie
 
 returns : tie.Need-returns
-returns c = record { returned = Returned.loaded (answered c.before.before.before.before.before.before.before.before.load.result); step = Step.loads c.before.before.before.before.before.before.before.before.load.ensures; output = refl; tells = c.before.before.tell-loaded.ensures }
+returns c = record { returned = Returned.loaded (answered c.load.result); step = Step.loads c.load.ensures; output = refl; tells = c.tell_loaded.ensures }
 
-pub yunverok-load-spec : {M : Type 1} → statement M
-yunverok-load-spec =
+pub yunverok_load_spec : {M : Type 1} → statement M
+yunverok_load_spec =
     tie.close
-    (tie.spec
-    (λ c κs. search rules) (λ c κs. search rules) (λ c. search rules) (λ c. search rules) (λ c. search rules) returns)
+    (tie.spec (λ c κs. search rules) (λ c κs. search rules) (λ c. search rules) (λ c. search rules) (λ c. search rules) returns)

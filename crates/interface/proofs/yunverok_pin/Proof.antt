@@ -7,10 +7,9 @@ use Rattle.interface.proofs.yunverok_pin.Statement.{statement}
 use Rattle.interface.proofs.yunverok_pin.Tie as tie
 
 returns : tie.Need-returns
-returns c = record { returned = Returned.pinned (pin_said c.before.before.before.before.before.before.set-pin.result); step = Step.pins c.before.before.before.before.before.before.set-pin.ensures; output = refl; tells = c.before.before.tell-pinned.ensures }
+returns c = record { returned = Returned.pinned (pin_said c.set_pin.result); step = Step.pins c.set_pin.ensures; output = refl; tells = c.tell_pinned.ensures }
 
-pub yunverok-pin-spec : {M : Type 1} → statement M
-yunverok-pin-spec =
+pub yunverok_pin_spec : {M : Type 1} → statement M
+yunverok_pin_spec =
     tie.close
-    (tie.spec
-    (λ c κs. search rules) (λ c κs. search rules) (λ c. search rules) (λ c. search rules) returns)
+    (tie.spec (λ c κs. search rules) (λ c κs. search rules) (λ c. search rules) (λ c. search rules) returns)

@@ -7,10 +7,9 @@ use Rattle.interface.proofs.yunverok_preview.Statement.{statement}
 use Rattle.interface.proofs.yunverok_preview.Tie as tie
 
 returns : tie.Need-returns
-returns c = record { returned = Returned.previewed (answered c.before.before.before.before.preview.result.answer) c.before.before.before.before.preview.result.needed; step = Step.previews c.before.before.before.before.preview.ensures; output = refl; tells = c.before.before.tell-previewed.ensures }
+returns c = record { returned = Returned.previewed (answered c.preview.result.answer) c.preview.result.needed; step = Step.previews c.preview.ensures; output = refl; tells = c.tell_previewed.ensures }
 
-pub yunverok-preview-spec : {M : Type 1} → statement M
-yunverok-preview-spec =
+pub yunverok_preview_spec : {M : Type 1} → statement M
+yunverok_preview_spec =
     tie.close
-    (tie.spec
-    (λ c κs. search rules) (λ c κs. search rules) (λ c. search rules) returns)
+    (tie.spec (λ c κs. search rules) (λ c κs. search rules) (λ c. search rules) returns)

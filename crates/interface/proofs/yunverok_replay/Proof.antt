@@ -7,10 +7,9 @@ use Rattle.interface.proofs.yunverok_replay.Statement.{statement}
 use Rattle.interface.proofs.yunverok_replay.Tie as tie
 
 returns : tie.Need-returns
-returns c = record { returned = Returned.replayed (answered c.before.before.before.before.replay.result); step = Step.replays c.before.before.before.before.replay.ensures; output = refl; tells = c.before.before.tell-replayed.ensures }
+returns c = record { returned = Returned.replayed (answered c.replay.result); step = Step.replays c.replay.ensures; output = refl; tells = c.tell_replayed.ensures }
 
-pub yunverok-replay-spec : {M : Type 1} → statement M
-yunverok-replay-spec =
+pub yunverok_replay_spec : {M : Type 1} → statement M
+yunverok_replay_spec =
     tie.close
-    (tie.spec
-    (λ c κs. search rules) (λ c κs. search rules) (λ c. search rules) returns)
+    (tie.spec (λ c κs. search rules) (λ c κs. search rules) (λ c. search rules) returns)

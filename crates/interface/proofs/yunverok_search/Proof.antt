@@ -7,10 +7,9 @@ use Rattle.interface.proofs.yunverok_search.Statement.{statement}
 use Rattle.interface.proofs.yunverok_search.Tie as tie
 
 returns : tie.Need-returns
-returns c = record { returned = Returned.searched (said c.before.before.before.before.before.before.before.before.search.result) c.before.before.before.before.before.before.before.before.search.new.1.1.1.1.1.0; step = Step.searches c.before.before.before.before.before.before.before.before.search.ensures c.before.before.before.before.before.before.before.before.search.auto.1.1.1.1.0; output = refl; tells = c.before.before.tell-searched.ensures }
+returns c = record { returned = Returned.searched (said c.search.result) c.search.new.out; step = Step.searches c.search.ensures c.search.auto.work; output = refl; tells = c.tell_searched.ensures }
 
-pub yunverok-search-spec : {M : Type 1} → statement M
-yunverok-search-spec =
+pub yunverok_search_spec : {M : Type 1} → statement M
+yunverok_search_spec =
     tie.close
-    (tie.spec
-    (λ c κs. search rules) (λ c κs. search rules) (λ c. search rules) (λ c. search rules) (λ c. search rules) returns)
+    (tie.spec (λ c κs. search rules) (λ c κs. search rules) (λ c. search rules) (λ c. search rules) (λ c. search rules) returns)

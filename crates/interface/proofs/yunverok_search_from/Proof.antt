@@ -7,10 +7,9 @@ use Rattle.interface.proofs.yunverok_search_from.Statement.{statement}
 use Rattle.interface.proofs.yunverok_search_from.Tie as tie
 
 returns : tie.Need-returns
-returns c = record { returned = Returned.searched (said c.before.before.before.before.before.before.before.before.search-from.result) c.before.before.before.before.before.before.before.before.search-from.new.1.1.1.1.1.0; step = Step.searches_from c.before.before.before.before.before.before.before.before.search-from.ensures c.before.before.before.before.before.before.before.before.search-from.auto.1.1.1.1.0; output = refl; tells = c.before.before.tell-searched.ensures }
+returns c = record { returned = Returned.searched (said c.search_from.result) c.search_from.new.out; step = Step.searches_from c.search_from.ensures c.search_from.auto.work; output = refl; tells = c.tell_searched.ensures }
 
-pub yunverok-search-from-spec : {M : Type 1} → statement M
-yunverok-search-from-spec =
+pub yunverok_search_from_spec : {M : Type 1} → statement M
+yunverok_search_from_spec =
     tie.close
-    (tie.spec
-    (λ c κs. search rules) (λ c κs. search rules) (λ c. search rules) (λ c. search rules) (λ c. search rules) returns)
+    (tie.spec (λ c κs. search rules) (λ c κs. search rules) (λ c. search rules) (λ c. search rules) (λ c. search rules) returns)

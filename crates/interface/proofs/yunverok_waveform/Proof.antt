@@ -7,10 +7,9 @@ use Rattle.interface.proofs.yunverok_waveform.Statement.{statement}
 use Rattle.interface.proofs.yunverok_waveform.Tie as tie
 
 returns : tie.Need-returns
-returns c = record { returned = Returned.written (answered c.before.before.before.before.before.before.waveform.result) c.before.before.before.before.before.before.waveform.new.1.1.1.1.0; step = Step.waveforms c.before.before.before.before.before.before.waveform.ensures; output = refl; tells = c.before.before.tell-dumped.ensures }
+returns c = record { returned = Returned.written (answered c.waveform.result) c.waveform.new.out; step = Step.waveforms c.waveform.ensures; output = refl; tells = c.tell_dumped.ensures }
 
-pub yunverok-waveform-spec : {M : Type 1} → statement M
-yunverok-waveform-spec =
+pub yunverok_waveform_spec : {M : Type 1} → statement M
+yunverok_waveform_spec =
     tie.close
-    (tie.spec
-    (λ c κs. search rules) (λ c κs. search rules) (λ c. search rules) (λ c. search rules) returns)
+    (tie.spec (λ c κs. search rules) (λ c κs. search rules) (λ c. search rules) (λ c. search rules) returns)

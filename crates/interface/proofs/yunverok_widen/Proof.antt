@@ -7,10 +7,9 @@ use Rattle.interface.proofs.yunverok_widen.Statement.{statement}
 use Rattle.interface.proofs.yunverok_widen.Tie as tie
 
 returns : tie.Need-returns
-returns c = record { returned = Returned.written (answered c.before.before.before.before.before.before.widen.result) c.before.before.before.before.before.before.widen.new.1.1.1.1.0; step = Step.widens c.before.before.before.before.before.before.widen.ensures; output = refl; tells = c.before.before.tell-widened.ensures }
+returns c = record { returned = Returned.written (answered c.widen.result) c.widen.new.out; step = Step.widens c.widen.ensures; output = refl; tells = c.tell_widened.ensures }
 
-pub yunverok-widen-spec : {M : Type 1} → statement M
-yunverok-widen-spec =
+pub yunverok_widen_spec : {M : Type 1} → statement M
+yunverok_widen_spec =
     tie.close
-    (tie.spec
-    (λ c κs. search rules) (λ c κs. search rules) (λ c. search rules) (λ c. search rules) returns)
+    (tie.spec (λ c κs. search rules) (λ c κs. search rules) (λ c. search rules) (λ c. search rules) returns)

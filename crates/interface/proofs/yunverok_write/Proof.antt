@@ -7,10 +7,9 @@ use Rattle.interface.proofs.yunverok_write.Statement.{statement}
 use Rattle.interface.proofs.yunverok_write.Tie as tie
 
 returns : tie.Need-returns
-returns c = record { returned = Returned.written (answered c.before.before.before.before.before.before.write.result) c.before.before.before.before.before.before.write.new.1.1.1.0; step = Step.writes c.before.before.before.before.before.before.write.ensures; output = refl; tells = c.before.before.tell-written.ensures }
+returns c = record { returned = Returned.written (answered c.write.result) c.write.new.out; step = Step.writes c.write.ensures; output = refl; tells = c.tell_written.ensures }
 
-pub yunverok-write-spec : {M : Type 1} → statement M
-yunverok-write-spec =
+pub yunverok_write_spec : {M : Type 1} → statement M
+yunverok_write_spec =
     tie.close
-    (tie.spec
-    (λ c κs. search rules) (λ c κs. search rules) (λ c. search rules) (λ c. search rules) returns)
+    (tie.spec (λ c κs. search rules) (λ c κs. search rules) (λ c. search rules) (λ c. search rules) returns)

@@ -18,45 +18,39 @@ use borrow.Author.Rules.{rules}
 use Rattle.job.proofs.read_request.Statement.{statement}
 use Rattle.job.proofs.read_request.Tie as tie
 
-abbrev S : tie.After-read-row → List ℕ
-S n = n.before.before.before.before.before.args.input.now
+abbrev S : tie.After-read_row → List ℕ
+S n = n.args.input.now
 
-abbrev list : tie.After-read-row → List ℕ
-list n = n.read-row.new.1.1.1.0
+abbrev list : tie.After-read_row → List ℕ
+list n = n.read_row.new.buf
 
-named : (n : tie.After-read-row) → same (take 7 (S n)) (bytes "search ") ≡ true
+named : (n : tie.After-read_row) → same (take 7 (S n)) (bytes "search ") ≡ true
 named n =
-    let i = n.before.before.before in
-    sym i.is-search.ensures ∙ not-false i.is-search.result n.before.before.if1.false
+    sym n.is_search.ensures ∙ n.if-not-is_search.false
 
-room : (n : tie.After-read-row) → 3 ≤ length (list n)
-room n = omega (arith, n.read-row.auto.1.1.1.0)
+room : (n : tie.After-read_row) → 3 ≤ length (list n)
+room n = omega (arith, n.read_row.auto.buf)
 
 -- the answer of the call is the variant that the match found
-found : (n : tie.After-read-row) (r : Row) → n.read-row.result ≡ r → RowAt (S n) 7 3 (replicate 3 0) (list n) r
-found n r e = subst (RowAt (S n) 7 3 (replicate 3 0) (list n)) e n.read-row.ensures.0
+found : (n : tie.After-read_row) (r : Row) → n.read_row.result ≡ r → RowAt (S n) 7 3 (replicate 3 0) (list n) r
+found n r e = subst (RowAt (S n) 7 3 (replicate 3 0) (list n)) e n.read_row.ensures.0
 
-returns : tie.Need-returns
-returns c = let i = c.before in not-search i.before.before.args.input.now (sym i.is-search.ensures ∙ not-true i.is-search.result c.if1.true)
+returns : tie.Need-returns-then-not-is_search
+returns c = not-search c.args.input.now (sym c.is_search.ensures ∙ c.if-not-is_search.true)
 
-returns-2 : tie.Need-returns-2
-returns-2 c = let n = c.before.before.before in no_row (S n) (named n) (found n _ c.enum_told.given.1)
+returns-2 : tie.Need-returns-in_default
+returns-2 c = no_row (S c.before.before) (named c.before.before) (found c.before.before _ c.in_default.is)
 
-returns-3 : tie.Need-returns-3
+returns-3 : tie.Need-returns-then-count-lt3
 returns-3 c =
-    let n = c.before.before.before.before.before in
-    few (S n) (named n) (room n) (found n _ c.before.before.count.given.1) (omega arith)
+    few (S c.before.before.before) (named c.before.before.before) (room c.before.before.before) (found c.before.before.before _ c.in-Read.is) (omega arith)
 
-returns-4 : tie.Need-returns-4
+returns-4 : tie.Need-returns
 returns-4 c =
-    let e = c.before.before in
-    let n = e.before.before.before.before.before in
-    subst (λ (q : Query). FirstLineIs (S n) (Search q)) (sym c.query-of.ensures)
-    (whole (S n) (named n) (room n) (found n _ e.before.before.count.given.1) (omega arith))
+    subst (λ (q : Query). FirstLineIs (S c.before.before.before.before.before) (Search q)) (sym c.query_of.ensures)
+    (whole (S c.before.before.before.before.before) (named c.before.before.before.before.before) (room c.before.before.before.before.before) (found c.before.before.before.before.before _ c.in-Read.is) (omega arith))
 
-pub read-request-spec : {M : Type 1} → statement M
-read-request-spec =
+pub read_request_spec : {M : Type 1} → statement M
+read_request_spec =
     tie.close
-    (tie.spec
-    (λ c κs. search rules) returns (λ c. search rules) (λ c κs. search rules) (λ c. search rules) (λ c. search rules) returns-2
-    returns-3 (λ c κs. search rules) returns-4)
+    (tie.spec (λ c κs. search rules) returns (λ c. search rules) (λ c κs. search rules) (λ c. search rules) (λ c. search rules) returns-2 returns-3 (λ c κs. search rules) returns-4)

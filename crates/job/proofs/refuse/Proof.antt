@@ -7,8 +7,8 @@ use Rattle.job.proofs.refuse.Tie as tie
 
 returns : tie.Need-returns
 unfolding refusal_line
-returns c = (c.before.before.write-line.ensures, refl)
+returns c = (c.write_line-length.ensures, refl)
 
-pub refuse-spec : {M : Type 1} → statement M
-refuse-spec =
-    tie.close (tie.spec (λ c. search rules) (λ c κs. search rules) (λ c. search rules) returns)
+pub refuse_spec : {M : Type 1} → statement M
+refuse_spec =
+    tie.close (tie.spec (λ c κs. search rules) (λ c. search rules) returns)

@@ -7,15 +7,9 @@ use Rattle.job.proofs.reply.Tie as tie
 
 returns : tie.Need-returns
 returns c =
-    let w = c.before.before in
-    let l = w.before.before in
-    let n = l.before.before.before.before.before in
-    let s = n.before.before.before.before.before.before.before in
-    search-replied (said n.search.result) s.requires.0 n.search.ensures w.write-answer.ensures l.shown-length.ensures
+    search-replied (said c.search-answer.result) c.requires.0 c.search-answer.ensures c.write_answer-length.ensures c.shown_length-witness.ensures
 
-pub reply-spec : {M : Type 1} → statement M
-reply-spec =
+pub reply_spec : {M : Type 1} → statement M
+reply_spec =
     tie.close
-    (tie.spec
-    (λ c κs. search rules) (λ c κs. search rules) (λ c κs. search rules) (λ c. search rules) (λ c. search rules) (λ c. search rules)
-    returns)
+    (tie.spec (λ c κs. search rules) (λ c κs. search rules) (λ c κs. search rules) (λ c. search rules) (λ c. search rules) (λ c. search rules) returns)

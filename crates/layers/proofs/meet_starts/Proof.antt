@@ -52,8 +52,7 @@ returns c =
 
 start-state-requires : tie.Need-start_state-requires invariant-loop decreases-loop
 start-state-requires c κs =
-    let P = c.requires.1.1 in
-    (
+    let P = c.requires.1.1 in (
       c.requires.0,
       (
         c.requires.1.0,

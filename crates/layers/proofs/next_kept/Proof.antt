@@ -104,8 +104,7 @@ loop-less c = omega arith
 
 loop-again : tie.Need-loop-i-preserved invariant-loop decreases-loop
 loop-again c =
-    let a = c.args in
-    (
+    let a = c.args in (
       omega arith,
       length-set c.loop-i.state _ _ ∙ c.loop-i.invariant.1,
       next_more (Next a.m.now a.values.now a.kept.now a.layout.latches) c.loop-i.state c.loop-i.i c.literal_value.result

@@ -54,8 +54,7 @@ loop-less c = omega arith
 loop-again : tie.Need-loop-i-preserved invariant-loop decreases-loop
 loop-again c =
     let s = c.args.state.now in
-    let p = c.args.p in
-    (
+    let p = c.args.p in (
       omega arith,
       above_more (bits s p) (length s) c.loop-i.i c.loop-i.n _ (omega arith) (omega arith) c.loop-i.invariant.1 (bit-value (get_or s (c.loop-i.i - 1) 0) p),
     )

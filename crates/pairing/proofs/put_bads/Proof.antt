@@ -54,13 +54,12 @@ loop-less : tie.Need-loop-j-smaller invariant-loop decreases-loop
 loop-less c = omega arith
 
 loop-again : tie.Need-loop-j-preserved invariant-loop decreases-loop
-loop-again c =
-    (
-      omega arith,
-      length-set c.loop-j.m _ _ ∙ c.loop-j.invariant.1,
-      put-more c.args.to (λ k. 2 * (c.args.v.0 + 3 * k + 2) + 1) c.args.n c.loop-j.j c.args.m.now c.loop-j.m c.loop-j.invariant.1
-          (omega arith) (omega arith) c.loop-j.invariant.2 _ c.word.ensures,
-    )
+loop-again c = (
+  omega arith,
+  length-set c.loop-j.m _ _ ∙ c.loop-j.invariant.1,
+  put-more c.args.to (λ k. 2 * (c.args.v.0 + 3 * k + 2) + 1) c.args.n c.loop-j.j c.args.m.now c.loop-j.m c.loop-j.invariant.1
+      (omega arith) (omega arith) c.loop-j.invariant.2 _ c.word.ensures,
+)
 
 same_length : tie.Need-shape_of-m invariant-loop decreases-loop
 same_length c = c.loop-j.invariant.1

@@ -48,13 +48,12 @@ loop-less : tie.Need-loop-i-smaller invariant-loop decreases-loop
 loop-less c = omega arith
 
 loop-again : tie.Need-loop-i-preserved invariant-loop decreases-loop
-loop-again c =
-    (
-      omega arith,
-      length-set c.loop-i.m _ _ ∙ c.loop-i.invariant.1,
-      put-more 7 (λ k. 2 * (k + 1)) c.args.n c.loop-i.i c.args.m.now c.loop-i.m c.loop-i.invariant.1 (omega arith) (omega arith) c.loop-i.invariant.2 _
-          (omega (arith, c.word.ensures)),
-    )
+loop-again c = (
+  omega arith,
+  length-set c.loop-i.m _ _ ∙ c.loop-i.invariant.1,
+  put-more 7 (λ k. 2 * (k + 1)) c.args.n c.loop-i.i c.args.m.now c.loop-i.m c.loop-i.invariant.1 (omega arith) (omega arith) c.loop-i.invariant.2 _
+      (omega (arith, c.word.ensures)),
+)
 
 same_length : tie.Need-shape_of-m invariant-loop decreases-loop
 same_length c = c.loop-i.invariant.1

@@ -7,31 +7,28 @@ use Rattle.pairing.proofs.put_pair.Statement.{statement}
 use Rattle.pairing.proofs.put_pair.Tie as tie
 
 put-gate-requires : tie.Need-put_gate-requires
-put-gate-requires c κs =
-    (
-      omega (arith, c.requires.0),
-      omega (arith, c.requires.1),
-      omega (arith, complement-small c.args.q c.complement.ensures c.requires.2),
-      omega (arith, c.requires.3),
-    )
+put-gate-requires c κs = (
+  omega (arith, c.requires.0),
+  omega (arith, c.requires.1),
+  omega (arith, complement-small c.args.q c.complement.ensures c.requires.2),
+  omega (arith, c.requires.3),
+)
 
 put-gate-requires-2 : tie.Need-put_gate-requires-2
-put-gate-requires-2 c κs =
-    (
-      omega (arith, c.requires.0),
-      omega (arith, complement-small c.args.p c.complement-2.ensures c.requires.1),
-      omega (arith, c.requires.2),
-      omega (arith, c.requires.3, c.put_gate.auto.m),
-    )
+put-gate-requires-2 c κs = (
+  omega (arith, c.requires.0),
+  omega (arith, complement-small c.args.p c.complement-2.ensures c.requires.1),
+  omega (arith, c.requires.2),
+  omega (arith, c.requires.3, c.put_gate.auto.m),
+)
 
 put-gate-requires-3 : tie.Need-put_gate-requires-3
-put-gate-requires-3 c κs =
-    (
-      omega (arith, c.requires.0),
-      rw c.complement-3.ensures (omega (arith, c.requires.0)),
-      rw c.complement-4.ensures (omega (arith, c.requires.0)),
-      omega (arith, c.requires.3, c.put_gate.auto.m, c.put_gate-2.auto.m),
-    )
+put-gate-requires-3 c κs = (
+  omega (arith, c.requires.0),
+  rw c.complement-3.ensures (omega (arith, c.requires.0)),
+  rw c.complement-4.ensures (omega (arith, c.requires.0)),
+  omega (arith, c.requires.3, c.put_gate.auto.m, c.put_gate-2.auto.m),
+)
 
 returns : tie.Need-returns
 returns c =

@@ -85,13 +85,12 @@ add-t27 c =
     omega (arith, c.loop-j-test.true, c.requires.0.4, c.requires.1, c.pairs_var-v.ensures)
 
 put-pair-requires : tie.Need-put_pair-requires invariant-loop decreases-loop
-put-pair-requires c κs =
-    (
-      omega (arith, c.requires.0.4, c.requires.1, c.pairs_var-v.ensures),
-      c.rename-x.ensures.1,
-      c.rename-y.ensures.1,
-      omega (arith, c.loop-j-test.true, c.loop-j.invariant.1, c.requires.1, c.pairs_from-to.ensures),
-    )
+put-pair-requires c κs = (
+  omega (arith, c.requires.0.4, c.requires.1, c.pairs_var-v.ensures),
+  c.rename-x.ensures.1,
+  c.rename-y.ensures.1,
+  omega (arith, c.loop-j-test.true, c.loop-j.invariant.1, c.requires.1, c.pairs_from-to.ensures),
+)
 
 add-j : tie.Need-overflow_add-j invariant-loop decreases-loop
 add-j c = omega arith

@@ -33,18 +33,16 @@ add-rename-words : tie.Need-overflow_add-at
 add-rename-words c = omega (arith, c.requires.0.2, c.requires.1.1, c.gates_from-at.ensures)
 
 rename-words-requires-2 : tie.Need-rename_words-requires-2
-rename-words-requires-2 c κs =
-    (
-      (c.requires.0.1.gates-inside, omega (arith, c.requires.1.1, c.gates_from-at.ensures, c.rename_words.auto.m)),
-      c.requires.0.1.gates,
-    )
+rename-words-requires-2 c κs = (
+  (c.requires.0.1.gates-inside, omega (arith, c.requires.1.1, c.gates_from-at.ensures, c.rename_words.auto.m)),
+  c.requires.0.1.gates,
+)
 
 put-pairs-requires : tie.Need-put_pairs-requires
-put-pairs-requires c κs =
-    (
-      c.requires.0,
-      (c.requires.1.0, omega (arith, c.requires.1.1, c.rename_words-2.auto.m, c.rename_words.auto.m)),
-    )
+put-pairs-requires c κs = (
+  c.requires.0,
+  (c.requires.1.0, omega (arith, c.requires.1.1, c.rename_words-2.auto.m, c.rename_words.auto.m)),
+)
 
 same_length : tie.Need-shape_of-m
 same_length c = c.put_pairs.auto.m ∙ c.rename_words-2.auto.m ∙ c.rename_words.auto.m

@@ -28,11 +28,10 @@ add-rename-words : tie.Need-overflow_add-at
 add-rename-words c = omega (arith, c.requires.0.2, c.requires.0.3, c.properties_at-at.ensures)
 
 rename-words-requires : tie.Need-rename_words-requires
-rename-words-requires c κs =
-    (
-      (c.requires.0.0.constraints-inside, omega (arith, c.requires.1.1, c.properties_at-at.ensures, c.put_bads.auto.m)),
-      c.requires.0.0.constraints,
-    )
+rename-words-requires c κs = (
+  (c.requires.0.0.constraints-inside, omega (arith, c.requires.1.1, c.properties_at-at.ensures, c.put_bads.auto.m)),
+  c.requires.0.0.constraints,
+)
 
 add-rename-words-2 : tie.Need-overflow_add-at-2
 add-rename-words-2 c = omega (arith, c.requires.0.2, c.requires.0.3, c.properties_at-at.ensures)
@@ -41,14 +40,13 @@ add-rename-words-3 : tie.Need-overflow_add-at-3
 add-rename-words-3 c = omega (arith, c.requires.0.2, c.requires.0.3, c.properties_at-at.ensures)
 
 rename-words-requires-2 : tie.Need-rename_words-requires-2
-rename-words-requires-2 c κs =
-    (
-      (
-        c.requires.0.1.constraints-inside,
-        omega (arith, c.requires.1.1, c.properties_at-at.ensures, c.put_bads.auto.m, c.rename_words.auto.m),
-      ),
-      c.requires.0.1.constraints,
-    )
+rename-words-requires-2 c κs = (
+  (
+    c.requires.0.1.constraints-inside,
+    omega (arith, c.requires.1.1, c.properties_at-at.ensures, c.put_bads.auto.m, c.rename_words.auto.m),
+  ),
+  c.requires.0.1.constraints,
+)
 
 same_length : tie.Need-shape_of-m
 same_length c = c.rename_words-2.auto.m ∙ c.rename_words.auto.m ∙ c.put_bads.auto.m

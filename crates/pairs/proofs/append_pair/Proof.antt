@@ -33,8 +33,7 @@ slice-write-work-4 c = simp length-set (omega arith)
 returns : tie.Need-returns
 returns c =
     let a = c.args in
-    let r = c.requires.0 in
-    (
+    let r = c.requires.0 in (
       refl,
       appended-as c.word.ensures c.word-2.ensures
           (written-appended a.work.now _ a.g c.word.result c.word-2.result r

@@ -19,11 +19,10 @@ mul-result c =
 
 returns : tie.Need-returns
 unfolding bucket_of
-returns c =
-    (
-      ap₂ (bucket_of c.args.room) c.word.ensures c.word-2.ensures,
-      bucket_of-lt c.args.room c.word.result c.word-2.result c.requires.0.0,
-    )
+returns c = (
+  ap₂ (bucket_of c.args.room) c.word.ensures c.word-2.ensures,
+  bucket_of-lt c.args.room c.word.result c.word-2.result c.requires.0.0,
+)
 
 pub bucket_spec : {M : Type 1} → statement M
 bucket_spec =

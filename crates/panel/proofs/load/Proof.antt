@@ -10,9 +10,9 @@ use Rattle.panel.proofs.load.Tie as tie
 returns : tie.Need-returns
 returns c =
     record {
-      answer = answered c.before.before.before.before.before.before.before.before.load.result;
-      permitted = c.before.before.before.before.before.before.before.before.load.ensures;
-      line-is = rw (← load-words c.before.before.before.before.before.before.before.before.load.result) c.before.before.write-answer.ensures;
+      answer = answered c.load-answer.result;
+      permitted = c.load-answer.ensures;
+      line-is = rw (← load-words c.load-answer.result) c.write_answer-length.ensures;
       out-is = refl;
       inside = omega arith;
     }
@@ -20,5 +20,4 @@ returns c =
 pub load_spec : {M : Type 1} → statement M
 load_spec =
     tie.close
-    (tie.spec
-    (λ c κs. search rules) (λ c κs. search rules) (λ c. search rules) (λ c. search rules) (λ c. search rules) returns)
+    (tie.spec (λ c κs. search rules) (λ c κs. search rules) (λ c. search rules) (λ c. search rules) (λ c. search rules) returns)

@@ -7,29 +7,27 @@ use borrow.Author.Rules.{rules}
 use Rattle.panel.proofs.pin.Statement.{statement}
 use Rattle.panel.proofs.pin.Tie as tie
 
-returns : tie.Need-returns
+returns : tie.Need-returns-in-Refused
 returns c =
     record {
       answer = refused _;
-      permitted = rw c.before.before.before.before.before.n.given.1 at c.before.before.before.before.before.before.before.before.before.set-pin.ensures;
-      line-is = c.before.before.refuse.ensures.0;
-      out-is = c.before.before.refuse.ensures.1;
-      inside = omega (arith, c.before.before.refuse.ensures.1);
+      permitted = rw c.in-Refused.is at c.set_pin.ensures;
+      line-is = c.refuse.ensures.0;
+      out-is = c.refuse.ensures.1;
+      inside = omega (arith, c.refuse.ensures.1);
     }
 
-returns-2 : tie.Need-returns-2
+returns-2 : tie.Need-returns-in-Set
 returns-2 c =
     record {
       answer = gives tt;
-      permitted = rw c.before.before.before.before.before.enum_told.given.1 at c.before.before.before.before.before.before.before.before.before.set-pin.ensures;
-      line-is = placed-fronts c.before.before.put.ensures;
+      permitted = rw c.in-Set.is at c.set_pin.ensures;
+      line-is = placed-fronts c.put-length.ensures;
       out-is = refl;
       inside = omega arith;
     }
 
-pub pin-spec : {M : Type 1} → statement M
-pin-spec =
+pub pin_spec : {M : Type 1} → statement M
+pin_spec =
     tie.close
-    (tie.spec
-    (λ c κs. search rules) (λ c. search rules) (λ c κs. search rules) (λ c. search rules) (λ c. search rules)
-    (λ c κs. search rules) (λ c. search rules) (λ c. search rules) returns (λ c. search rules) (λ c. search rules) returns-2)
+    (tie.spec (λ c κs. search rules) (λ c. search rules) (λ c κs. search rules) (λ c. search rules) (λ c κs. search rules) (λ c. search rules) (λ c. search rules) returns (λ c. search rules) (λ c. search rules) returns-2)

@@ -5,20 +5,16 @@ use borrow.Author.Rules.{rules}
 use Rattle.panel.proofs.preview.Statement.{statement}
 use Rattle.panel.proofs.preview.Tie as tie
 
-write-judgement-requires : tie.Need-write-judgement-requires
+write-judgement-requires : tie.Need-write_judgement-requires
 write-judgement-requires c κs =
-    let s = c.before.before.before.before.before.before.before in
-    (preview-few (length s.args.m.now) s.args.file.now s.args.user c.before.before.preview.ensures, s.requires.1, s.requires.2)
+    (preview-few (length c.args.m.now) c.args.file.now c.args.user c.preview.ensures, c.requires.1, c.requires.2)
 
 returns : tie.Need-returns
 returns c =
-    let s = c.before.before.before.before.before.before.before.before.before.before.before.before in
-    let w = c.before.before.before.before.write-judgement.ensures in
-    let p = c.before.before.before.before.before.before.before.preview in
-    previewed-to s.args.file.now s.args.user p.result s.requires.0 p.ensures w.0 w.1
+    let w = c.write_judgement.ensures in
+    previewed-to c.args.file.now c.args.user c.preview.result c.requires.0 c.preview.ensures w.0 w.1
 
-pub preview-spec : {M : Type 1} → statement M
-preview-spec =
+pub preview_spec : {M : Type 1} → statement M
+preview_spec =
     tie.close
-    (tie.spec
-    (λ c κs. search rules) write-judgement-requires (λ c. search rules) (λ c. search rules) returns)
+    (tie.spec (λ c κs. search rules) write-judgement-requires (λ c. search rules) (λ c. search rules) returns)

@@ -7,21 +7,19 @@ use Rattle.panel.proofs.search_from.Tie as tie
 
 returns : tie.Need-returns
 returns c =
-    let s = c.before.before.before.before.before.before.before.before.search-from in
-    let p = c.before.before.report-search.ensures in
-    let a = c.before.before.before.before.before.before.before.before.before.before.before.before.before.before.before.before.args in
+    let p = c.report_search.ensures in
+    let a = c.args in
     record {
-      answer = said s.result;
-      permitted = s.ensures;
+      answer = said c.search_from-answer.result;
+      permitted = c.search_from-answer.ensures;
       line-is = p.0;
       out-is = p.1;
       inside =
-          from-inside a.m.now a.pins.now a.work.now a.out.now a.user a.q.b a.q.t a.q.place a.q.d s.result s.ensures
-          s.auto.1.1.1.1.1.0 p.1;
+          from-inside a.m.now a.pins.now a.work.now a.out.now a.user a.q.b a.q.t a.q.place a.q.d c.search_from-answer.result c.search_from-answer.ensures
+          c.search_from-answer.auto.out p.1;
     }
 
-pub search-from-spec : {M : Type 1} → statement M
-search-from-spec =
+pub search_from_spec : {M : Type 1} → statement M
+search_from_spec =
     tie.close
-    (tie.spec
-    (λ c κs. search rules) (λ c κs. search rules) (λ c. search rules) (λ c. search rules) (λ c. search rules) returns)
+    (tie.spec (λ c κs. search rules) (λ c κs. search rules) (λ c. search rules) (λ c. search rules) (λ c. search rules) returns)

@@ -8,36 +8,28 @@ use borrow.Author.Rules.{rules}
 use Rattle.panel.proofs.write.Statement.{statement}
 use Rattle.panel.proofs.write.Tie as tie
 
-returns : tie.Need-returns
+returns : tie.Need-returns-in-Length
 returns c =
-    let at_n = c.before in
-    let at-write = at_n.before.before.before.before in
-    let start = at-write.before.before.before.before.before in
-    let e = rw at_n.n.given.1 at at-write.write.ensures in
+    let e = rw c.in-Length.is at c.write.ensures in
     record {
       answer = gives _;
       permitted = e;
       line-is = fronts-none _;
       out-is = refl;
-      inside = write-inside start.args.m.now start.args.out.now start.args.user start.args.form e;
+      inside = write-inside c.args.m.now c.args.out.now c.args.user c.args.form e;
     }
 
-returns-2 : tie.Need-returns-2
+returns-2 : tie.Need-returns-in-Refused
 returns-2 c =
-    let at-refuse = c.before.before in
-    let at-n2 = at-refuse.before.before.before in
-    let at-write = at-n2.before.before.before.before in
     record {
       answer = refused _;
-      permitted = rw at-n2.n2.given.1 at at-write.write.ensures;
-      line-is = at-refuse.refuse.ensures.0;
-      out-is = at-refuse.refuse.ensures.1;
-      inside = omega (arith, at-refuse.refuse.ensures.1);
+      permitted = rw c.in-Refused.is at c.write.ensures;
+      line-is = c.refuse.ensures.0;
+      out-is = c.refuse.ensures.1;
+      inside = omega (arith, c.refuse.ensures.1);
     }
 
 pub write_spec : {M : Type 1} → statement M
 write_spec =
     tie.close
-    (tie.spec
-    (λ c κs. search rules) (λ c. search rules) (λ c. search rules) (λ c κs. search rules) (λ c. search rules) returns
-    (λ c. search rules) (λ c. search rules) returns-2)
+    (tie.spec (λ c κs. search rules) (λ c. search rules) (λ c. search rules) (λ c κs. search rules) (λ c. search rules) returns (λ c. search rules) (λ c. search rules) returns-2)

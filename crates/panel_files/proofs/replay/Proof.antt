@@ -8,15 +8,13 @@ use Rattle.panel_files.proofs.replay.Tie as tie
 
 returns : tie.Need-returns
 returns c =
-    let at-write-verdict = c.before.before in
-    let at-replay = at-write-verdict.before.before in
     record {
-      answer = answered at-replay.replay.result;
-      permitted = at-replay.replay.ensures;
-      line-is = at-write-verdict.write-verdict.ensures;
+      answer = answered c.replay-answer.result;
+      permitted = c.replay-answer.ensures;
+      line-is = c.write_verdict-length.ensures;
       out-is = refl;
       inside = omega arith;
     }
 
-pub replay-spec : {M : Type 1} → statement M
-replay-spec = tie.close (tie.spec (λ c κs. search rules) (λ c κs. search rules) (λ c. search rules) returns)
+pub replay_spec : {M : Type 1} → statement M
+replay_spec = tie.close (tie.spec (λ c κs. search rules) (λ c κs. search rules) (λ c. search rules) returns)

@@ -5,10 +5,10 @@ use borrow.Author.Rules.{rules}
 use Rattle.panel_files.proofs.view.Statement.{statement}
 use Rattle.panel_files.proofs.view.Tie as tie
 
-returns : tie.Need-returns
+returns : tie.Need-returns-in-Replay
 returns c =
-    let p = c.before.before.replay.ensures in
-    rw c.before.before.before.before.enum_told.given.1 (record {
+    let p = c.replay.ensures in
+    rw c.in-Replay.is (record {
       answer = p.answer;
       permitted = (p.permitted, refl);
       line-is = p.line-is;
@@ -16,10 +16,10 @@ returns c =
       inside = omega (arith, p.out-is);
     })
 
-returns-2 : tie.Need-returns-2
+returns-2 : tie.Need-returns-in-Widen
 returns-2 c =
-    let p = c.before.before.before.before.widen.ensures in
-    rw c.before.before.before.before.before.before.before.enum-told2.given.1 (record {
+    let p = c.widen.ensures in
+    rw c.in-Widen.is (record {
       answer = p.answer;
       permitted = p.permitted;
       line-is = p.line-is;
@@ -27,10 +27,10 @@ returns-2 c =
       inside = p.inside;
     })
 
-returns-3 : tie.Need-returns-3
+returns-3 : tie.Need-returns-in-Waveform
 returns-3 c =
-    let p = c.before.before.before.before.waveform.ensures in
-    rw c.before.before.before.before.before.before.before.before.v.given.1 (record {
+    let p = c.waveform.ensures in
+    rw c.in-Waveform.is (record {
       answer = p.answer;
       permitted = p.permitted;
       line-is = p.line-is;
@@ -38,10 +38,7 @@ returns-3 c =
       inside = p.inside;
     })
 
-pub view-spec : {M : Type 1} → statement M
-view-spec =
+pub view_spec : {M : Type 1} → statement M
+view_spec =
     tie.close
-    (tie.spec
-    (λ c. search rules) (λ c κs. search rules) (λ c. search rules) (λ c κs. search rules) (λ c. search rules)
-    (λ c κs. search rules) (λ c. search rules) returns (λ c. search rules) (λ c. search rules) returns-2 (λ c. search rules)
-    (λ c. search rules) returns-3)
+    (tie.spec (λ c. search rules) (λ c κs. search rules) (λ c. search rules) (λ c κs. search rules) (λ c. search rules) (λ c κs. search rules) (λ c. search rules) returns (λ c. search rules) (λ c. search rules) returns-2 (λ c. search rules) (λ c. search rules) returns-3)

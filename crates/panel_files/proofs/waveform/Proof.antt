@@ -8,37 +8,29 @@ use borrow.Author.Rules.{rules}
 use Rattle.panel_files.proofs.waveform.Statement.{statement}
 use Rattle.panel_files.proofs.waveform.Tie as tie
 
-returns : tie.Need-returns
+returns : tie.Need-returns-in-Length
 returns c =
-    let at_n = c.before in
-    let at-waveform = at_n.before.before.before.before in
-    let start = at-waveform.before.before.before.before.before.before in
-    let e = rw at_n.n.given.1 at at-waveform.waveform.ensures in
+    let e = rw c.in-Length.is at c.waveform.ensures in
     record {
       answer = gives _;
       permitted = e;
       line-is = fronts-none _;
       out-is = refl;
-      inside = waveform-inside start.args.m.now start.args.user start.args.only start.args.witness.now
-          start.args.out.now e;
+      inside = waveform-inside c.args.m.now c.args.user c.args.only c.args.witness.now
+          c.args.out.now e;
     }
 
-returns-2 : tie.Need-returns-2
+returns-2 : tie.Need-returns-in-Refused
 returns-2 c =
-    let at-refuse = c.before.before in
-    let at-n2 = at-refuse.before.before.before in
-    let at-waveform = at-n2.before.before.before.before in
     record {
       answer = refused _;
-      permitted = rw at-n2.n2.given.1 at at-waveform.waveform.ensures;
-      line-is = at-refuse.refuse.ensures.0;
-      out-is = at-refuse.refuse.ensures.1;
-      inside = omega (arith, at-refuse.refuse.ensures.1);
+      permitted = rw c.in-Refused.is at c.waveform.ensures;
+      line-is = c.refuse.ensures.0;
+      out-is = c.refuse.ensures.1;
+      inside = omega (arith, c.refuse.ensures.1);
     }
 
-pub waveform-spec : {M : Type 1} → statement M
-waveform-spec =
+pub waveform_spec : {M : Type 1} → statement M
+waveform_spec =
     tie.close
-    (tie.spec
-    (λ c κs. search rules) (λ c. search rules) (λ c. search rules) (λ c κs. search rules) (λ c. search rules) returns
-    (λ c. search rules) (λ c. search rules) returns-2)
+    (tie.spec (λ c κs. search rules) (λ c. search rules) (λ c. search rules) (λ c κs. search rules) (λ c. search rules) returns (λ c. search rules) (λ c. search rules) returns-2)

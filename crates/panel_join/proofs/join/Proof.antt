@@ -11,30 +11,29 @@ use borrow.Author.Rules.{rules}
 use Rattle.panel_join.proofs.join.Statement.{statement}
 use Rattle.panel_join.proofs.join.Tie as tie
 
-slice-aggregate-load : tie.Need-slice-aggregate-load
+slice-aggregate-load : tie.Need-slice_bounds-load-end
 slice-aggregate-load c = refl
 
-slice-aggregate-load-2 : tie.Need-slice-aggregate-load-2
+slice-aggregate-load-2 : tie.Need-slice_bounds-load-end-2
 slice-aggregate-load-2 c = sym (length-replicate {A = ℕ} 33032 0)
 
-slice-aggregate-join-new : tie.Need-slice-aggregate-join-new
-slice-aggregate-join-new c = sym (c.before.before.before.before.before.load.auto.1.1.0 ∙ length-replicate {A = ℕ} 33032 0)
+slice-aggregate-join-new : tie.Need-slice_bounds-join_new-end
+slice-aggregate-join-new c = sym (c.load.auto.m ∙ length-replicate {A = ℕ} 33032 0)
 
-returns : tie.Need-returns
+returns : tie.Need-returns-in-Refused
 returns c =
-    let at-refuse = c.before.before.refuse in
     record {
       answer = refused _;
-      permitted = load_told c.before.before.before.before.before.before.before.before.before.before.before.before.before.before.before.before.before.args.user (length-replicate {A = ℕ} 33032 0) (ap answered c.before.before.before.before.before.n.given.1) c.before.before.before.before.before.before.before.before.before.load.ensures;
-      line-is = at-refuse.ensures.0;
-      out-is = at-refuse.ensures.1;
-      inside = omega (arith, at-refuse.ensures.1);
+      permitted = load_told c.args.user (length-replicate {A = ℕ} 33032 0) (ap answered c.in-Refused.is) c.load.ensures;
+      line-is = c.refuse.ensures.0;
+      out-is = c.refuse.ensures.1;
+      inside = omega (arith, c.refuse.ensures.1);
     }
 
-returns-2 : tie.Need-returns-2
+returns-2 : tie.Need-returns-in-Loaded
 returns-2 c =
-    let p = c.before.before.before.before.before.before.join-new.ensures in
-    let a = load-joins c.before.before.before.before.before.before.before.before.before.before.before.before.before.before.before.before.before.before.before.before.before.before.before.args.user (length-replicate {A = ℕ} 33032 0) (ap answered c.before.before.before.before.before.before.before.before.before.before.before.enum_told.given.1) c.before.before.before.before.before.before.before.before.before.before.before.before.before.before.before.load.ensures in
+    let p = c.join_new.ensures in
+    let a = load-joins c.args.user (length-replicate {A = ℕ} 33032 0) (ap answered c.in-Loaded.is) c.load.ensures in
     record {
       answer = p.answer;
       permitted = FilesJoined.joins a.0 a.1.loads a.1.holds p.permitted;
@@ -43,10 +42,7 @@ returns-2 c =
       inside = p.inside;
     }
 
-pub join-spec : {M : Type 1} → statement M
-join-spec =
+pub join_spec : {M : Type 1} → statement M
+join_spec =
     tie.close
-    (tie.spec
-    slice-aggregate-load slice-aggregate-load-2 (λ c κs. search rules) (λ c. search rules) (λ c κs. search rules)
-    (λ c. search rules) slice-aggregate-join-new (λ c κs. search rules) (λ c. search rules) returns (λ c. search rules)
-    (λ c. search rules) (λ c. search rules) returns-2)
+    (tie.spec slice-aggregate-load slice-aggregate-load-2 (λ c κs. search rules) (λ c. search rules) (λ c κs. search rules) (λ c. search rules) slice-aggregate-join-new (λ c κs. search rules) (λ c. search rules) returns (λ c. search rules) (λ c. search rules) (λ c. search rules) returns-2)

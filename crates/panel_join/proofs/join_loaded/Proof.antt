@@ -9,18 +9,15 @@ use Rattle.panel_join.proofs.join_loaded.Tie as tie
 
 returns : tie.Need-returns
 returns c =
-    let at-write-answer = c.before.before in
-    let at_join = at-write-answer.before.before.before.before.before.before in
     record {
-      answer = answered at_join.join.result;
-      permitted = at_join.join.ensures;
-      line-is = rw (← load-words at_join.join.result) at-write-answer.write-answer.ensures;
+      answer = answered c.join-answer.result;
+      permitted = c.join-answer.ensures;
+      line-is = rw (← load-words c.join-answer.result) c.write_answer-length.ensures;
       out-is = refl;
       inside = omega arith;
     }
 
-pub join-loaded-spec : {M : Type 1} → statement M
-join-loaded-spec =
+pub join_loaded_spec : {M : Type 1} → statement M
+join_loaded_spec =
     tie.close
-    (tie.spec
-    (λ c κs. search rules) (λ c κs. search rules) (λ c. search rules) (λ c. search rules) (λ c. search rules) returns)
+    (tie.spec (λ c κs. search rules) (λ c κs. search rules) (λ c. search rules) (λ c. search rules) (λ c. search rules) returns)

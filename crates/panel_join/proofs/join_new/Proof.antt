@@ -11,31 +11,25 @@ use borrow.Author.Rules.{rules}
 use Rattle.panel_join.proofs.join_new.Statement.{statement}
 use Rattle.panel_join.proofs.join_new.Tie as tie
 
-slice-aggregate-load : tie.Need-slice-aggregate-load
+slice-aggregate-load : tie.Need-slice_bounds-load-end
 slice-aggregate-load c = sym (length-replicate {A = ℕ} 33032 0)
 
-returns : tie.Need-returns
+returns : tie.Need-returns-in-Refused
 returns c =
-    let at-refuse = c.before.before in
-    let at_n = at-refuse.before.before.before in
-    let at_load = at_n.before.before.before in
     record {
       answer = refused _;
       permitted = NewJoined.refuses
-          (load-refused (length-replicate {A = ℕ} 33032 0) (ap answered at_n.n.given.1) at_load.load.ensures);
-      line-is = at-refuse.refuse.ensures.0;
-      out-is = at-refuse.refuse.ensures.1;
-      inside = omega (arith, at-refuse.refuse.ensures.1);
+          (load-refused (length-replicate {A = ℕ} 33032 0) (ap answered c.in-Refused.is) c.load.ensures);
+      line-is = c.refuse.ensures.0;
+      out-is = c.refuse.ensures.1;
+      inside = omega (arith, c.refuse.ensures.1);
     }
 
-returns-2 : tie.Need-returns-2
+returns-2 : tie.Need-returns-in-Loaded
 returns-2 c =
-    let at-join-loaded = c.before.before.before.before.before.before in
-    let at-enum-told = at-join-loaded.before.before.before.before.before in
-    let at_load = at-enum-told.before.before.before in
-    let p = at-join-loaded.join-loaded.ensures in
-    let a = load-accepted (length-replicate {A = ℕ} 33032 0) (ap answered at-enum-told.enum_told.given.1)
-    at_load.load.ensures in
+    let p = c.join_loaded.ensures in
+    let a = load-accepted (length-replicate {A = ℕ} 33032 0) (ap answered c.in-Loaded.is)
+    c.load.ensures in
     record {
       answer = p.answer;
       permitted = NewJoined.joins a.loads a.holds p.permitted;
@@ -44,9 +38,7 @@ returns-2 c =
       inside = p.inside;
     }
 
-pub join-new-spec : {M : Type 1} → statement M
-join-new-spec =
+pub join_new_spec : {M : Type 1} → statement M
+join_new_spec =
     tie.close
-    (tie.spec
-    slice-aggregate-load (λ c κs. search rules) (λ c. search rules) (λ c κs. search rules) (λ c. search rules) (λ c. search rules)
-    (λ c κs. search rules) (λ c. search rules) returns (λ c. search rules) (λ c. search rules) (λ c. search rules) returns-2)
+    (tie.spec slice-aggregate-load (λ c κs. search rules) (λ c. search rules) (λ c κs. search rules) (λ c. search rules) (λ c. search rules) (λ c κs. search rules) (λ c. search rules) returns (λ c. search rules) (λ c. search rules) (λ c. search rules) returns-2)

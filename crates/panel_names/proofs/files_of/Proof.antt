@@ -12,32 +12,28 @@ returns c =
     (sym (ap named_by (requested c.read_request-asked.ensures c.in-Ask.is refl)), tt)
 
 returns-2 : tie.Need-returns-in-Load
-returns-2 c =
-    (
-      sym (ap named_by (requested c.read_request-asked.ensures c.in-Load.is refl)),
-      subst (PartsInside c.args.request.now) c.in-Load.is c.read_request-asked.ensures.parts,
-    )
+returns-2 c = (
+  sym (ap named_by (requested c.read_request-asked.ensures c.in-Load.is refl)),
+  subst (PartsInside c.args.request.now) c.in-Load.is c.read_request-asked.ensures.parts,
+)
 
 returns-3 : tie.Need-returns-in-Preview
-returns-3 c =
-    (
-      sym (ap named_by (requested c.read_request-asked.ensures c.in-Preview.is refl)),
-      subst (PartsInside c.args.request.now) c.in-Preview.is c.read_request-asked.ensures.parts,
-    )
+returns-3 c = (
+  sym (ap named_by (requested c.read_request-asked.ensures c.in-Preview.is refl)),
+  subst (PartsInside c.args.request.now) c.in-Preview.is c.read_request-asked.ensures.parts,
+)
 
 returns-4 : tie.Need-returns-in-Join
-returns-4 c =
-    (
-      sym (ap named_by (requested c.read_request-asked.ensures c.in-Join.is refl)),
-      subst (PartsInside c.args.request.now) c.in-Join.is c.read_request-asked.ensures.parts,
-    )
+returns-4 c = (
+  sym (ap named_by (requested c.read_request-asked.ensures c.in-Join.is refl)),
+  subst (PartsInside c.args.request.now) c.in-Join.is c.read_request-asked.ensures.parts,
+)
 
 returns-5 : tie.Need-returns-in-Witness
-returns-5 c =
-    (
-      sym (ap named_by (requested c.read_request-asked.ensures c.in-Witness.is refl)),
-      subst (PartsInside c.args.request.now) c.in-Witness.is c.read_request-asked.ensures.parts,
-    )
+returns-5 c = (
+  sym (ap named_by (requested c.read_request-asked.ensures c.in-Witness.is refl)),
+  subst (PartsInside c.args.request.now) c.in-Witness.is c.read_request-asked.ensures.parts,
+)
 
 returns-6 : tie.Need-returns-in-Malformed
 returns-6 c =

@@ -7,8 +7,8 @@ use Rattle.panel_session.proofs.malformed.Statement.{statement}
 use Rattle.panel_session.proofs.malformed.Tie as tie
 
 returns : tie.Need-returns
-returns c = alone-fronts _ (placed-fronts c.before.put.ensures) refl refl refl
+returns c = alone-fronts _ (placed-fronts c.put-count.ensures) refl refl refl
 
-pub malformed-spec : {M : Type 1} → statement M
-malformed-spec =
-    tie.close (tie.spec (λ c. search rules) (λ c. search rules) (λ c κs. search rules) returns)
+pub malformed_spec : {M : Type 1} → statement M
+malformed_spec =
+    tie.close (tie.spec (λ c. search rules) (λ c κs. search rules) returns)

@@ -6,18 +6,15 @@ use borrow.Author.Rules.{rules}
 use Rattle.panel_session.proofs.missing.Statement.{statement}
 use Rattle.panel_session.proofs.missing.Tie as tie
 
-returns : tie.Need-returns
-returns c = rw c.before.before.before.before.if1.true (alone-fronts _ (placed-fronts c.before.put.ensures) refl refl refl)
+returns : tie.Need-returns-then-may
+returns c = rw c.if-may.true (alone-fronts _ (placed-fronts c.put-count.ensures) refl refl refl)
 
-returns-2 : tie.Need-returns-2
+returns-2 : tie.Need-returns
 returns-2 c =
-    let at-refuse = c.before.before in
-    rw at-refuse.before.before.if1.false (alone-fronts c.response-of.result at-refuse.refuse.ensures.0 c.response-of.ensures.0 c.response-of.ensures.1
-    (c.response-of.ensures.2 ∙ at-refuse.refuse.ensures.1))
+    rw c.if-may.false (alone-fronts c.response_of.result c.refuse-r.ensures.0 c.response_of.ensures.0 c.response_of.ensures.1
+    (c.response_of.ensures.2 ∙ c.refuse-r.ensures.1))
 
-pub missing-spec : {M : Type 1} → statement M
-missing-spec =
+pub missing_spec : {M : Type 1} → statement M
+missing_spec =
     tie.close
-    (tie.spec
-    (λ c. search rules) (λ c. search rules) (λ c κs. search rules) returns (λ c. search rules) (λ c κs. search rules)
-    (λ c κs. search rules) returns-2)
+    (tie.spec (λ c. search rules) (λ c κs. search rules) returns (λ c. search rules) (λ c κs. search rules) (λ c κs. search rules) returns-2)

@@ -17,73 +17,43 @@ use borrow.Author.Rules.{rules}
 use Rattle.panel_session.proofs.respond.Statement.{statement}
 use Rattle.panel_session.proofs.respond.Tie as tie
 
-returns : tie.Need-returns
+returns : tie.Need-returns-in-Ask
 returns c =
-    let at-query = c.before.before.before.before.before.before.before.before in
-    let at-task = c.before.before.before.before.before.before.before.before.before.before.before.before.before.before.before in
-    let at_read = c.before.before.before.before.before.before.before.before.before.before.before.before.before.before.before.before.before in
-    let start = c.before.before.before.before.before.before.before.before.before.before.before.before.before.before.before.before.before.before.before.before.before.before.before.before.before in
-    let t = query-taken at_read.read-request.result.user at-task.task.given.0.0 at-query.query.ensures in
-    answers (requested at_read.read-request.ensures at-task.task.given.1 refl) t c.response-of.result c.response-of.ensures.0
-    c.response-of.ensures.1 c.response-of.ensures.2
+    let t = query-taken c.read_request-asked.result.user c.in-Ask.q c.query-r.ensures in
+    answers (requested c.read_request-asked.ensures c.in-Ask.is refl) t c.response_of.result c.response_of.ensures.0
+    c.response_of.ensures.1 c.response_of.ensures.2
 
-returns-2 : tie.Need-returns-2
+returns-2 : tie.Need-returns-in-Load
 returns-2 c =
-    let at_load = c.before.before.before.before.before.before in
-    let at_told = c.before.before.before.before.before.before.before.before.before.before in
-    let at_read = c.before.before.before.before.before.before.before.before.before.before.before.before in
-    let start = c.before.before.before.before.before.before.before.before.before.before.before.before.before.before.before.before.before.before.before.before in
-    let t = load-taken at_read.read-request.result.user start.args.first.now at_load.load.ensures refl in
-    answers (requested at_read.read-request.ensures at_told.enum_told.given.1 refl) t c.response-of2.result c.response-of2.ensures.0
-    c.response-of2.ensures.1 c.response-of2.ensures.2
+    let t = load-taken c.read_request-asked.result.user c.args.first.now c.load-r.ensures refl in
+    answers (requested c.read_request-asked.ensures c.in-Load.is refl) t c.response_of-in-Load.result c.response_of-in-Load.ensures.0
+    c.response_of-in-Load.ensures.1 c.response_of-in-Load.ensures.2
 
-returns-3 : tie.Need-returns-3
+returns-3 : tie.Need-returns-in-Preview
 returns-3 c =
-    let at-preview = c.before.before.before.before in
-    let at_told = c.before.before.before.before.before.before.before.before in
-    let at_read = c.before.before.before.before.before.before.before.before.before.before in
-    let start = c.before.before.before.before.before.before.before.before.before.before.before.before.before.before.before.before.before.before in
-    let t = preview-taken at_read.read-request.result.user start.args.first.now start.requires.0 at-preview.preview.ensures in
-    answers (requested at_read.read-request.ensures at_told.enum-told2.given.1 refl) t c.response-of3.result c.response-of3.ensures.0
-    c.response-of3.ensures.1 c.response-of3.ensures.2
+    let t = preview-taken c.read_request-asked.result.user c.args.first.now c.requires.0 c.preview-r.ensures in
+    answers (requested c.read_request-asked.ensures c.in-Preview.is refl) t c.response_of-in-Preview.result c.response_of-in-Preview.ensures.0
+    c.response_of-in-Preview.ensures.1 c.response_of-in-Preview.ensures.2
 
-returns-4 : tie.Need-returns-4
+returns-4 : tie.Need-returns-in-Join
 returns-4 c =
-    let at_join = c.before.before.before.before.before.before in
-    let at_told = c.before.before.before.before.before.before.before.before.before.before in
-    let at_read = c.before.before.before.before.before.before.before.before.before.before.before.before in
-    let start = c.before.before.before.before.before.before.before.before.before.before.before.before.before.before.before.before.before.before.before.before in
-    let t = join-taken at_read.read-request.result.user [] [] start.args.first.now start.args.second.now at_join.join.ensures refl in
-    answers (requested at_read.read-request.ensures at_told.enum-told3.given.1 refl) t c.response-of4.result c.response-of4.ensures.0
-    c.response-of4.ensures.1 c.response-of4.ensures.2
+    let t = join-taken c.read_request-asked.result.user [] [] c.args.first.now c.args.second.now c.join-r.ensures refl in
+    answers (requested c.read_request-asked.ensures c.in-Join.is refl) t c.response_of-in-Join.result c.response_of-in-Join.ensures.0
+    c.response_of-in-Join.ensures.1 c.response_of-in-Join.ensures.2
 
-returns-5 : tie.Need-returns-5
+returns-5 : tie.Need-returns-in-Witness
 returns-5 c =
-    let at-view = c.before.before.before.before in
-    let at-task = c.before.before.before.before.before.before.before.before.before.before in
-    let at_read = c.before.before.before.before.before.before.before.before.before.before.before.before in
-    let start = c.before.before.before.before.before.before.before.before.before.before.before.before.before.before.before.before.before.before.before.before in
-    let t = view-taken at_read.read-request.result.user at-task.task2.given.0.0 start.args.first.now at-view.view.ensures in
-    answers (requested at_read.read-request.ensures at-task.task2.given.1 refl) t c.response-of5.result c.response-of5.ensures.0
-    c.response-of5.ensures.1 c.response-of5.ensures.2
+    let t = view-taken c.read_request-asked.result.user c.in-Witness.v c.args.first.now c.view-r.ensures in
+    answers (requested c.read_request-asked.ensures c.in-Witness.is refl) t c.response_of-in-Witness.result c.response_of-in-Witness.ensures.0
+    c.response_of-in-Witness.ensures.1 c.response_of-in-Witness.ensures.2
 
-returns-6 : tie.Need-returns-6
+returns-6 : tie.Need-returns-in-Malformed
 returns-6 c =
-    let at_told = c.before in
-    let at_read = c.before.before.before in
-    let start = c.before.before.before.before.before.before.before.before.before.before.before in
-    answered-alone start.args.out.now
-    (ap (request_action (length start.args.out.now) (Files.read start.args.first.now start.args.second.now)) (unrequested at_read.read-request.ensures at_told.enum-told4.given.1))
+    answered-alone c.args.out.now
+    (ap (request_action (length c.args.out.now) (Files.read c.args.first.now c.args.second.now)) (unrequested c.read_request-asked.ensures c.in-Malformed.is))
     c.malformed.ensures
 
-pub respond-spec : {M : Type 1} → statement M
-respond-spec =
+pub respond_spec : {M : Type 1} → statement M
+respond_spec =
     tie.close
-    (tie.spec
-    (λ c κs. search rules) (λ c. search rules) (λ c. search rules) (λ c κs. search rules) (λ c κs. search rules) (λ c. search rules)
-    (λ c. search rules) (λ c κs. search rules) (λ c κs. search rules) (λ c. search rules) (λ c. search rules) (λ c κs. search rules)
-    (λ c κs. search rules) (λ c. search rules) (λ c. search rules) (λ c κs. search rules) (λ c κs. search rules) (λ c. search rules)
-    (λ c. search rules) (λ c κs. search rules) (λ c κs. search rules) (λ c. search rules) (λ c κs. search rules) (λ c. search rules)
-    (λ c. search rules) (λ c. search rules) (λ c. search rules) returns (λ c. search rules) (λ c. search rules) returns-2
-    (λ c. search rules) (λ c. search rules) returns-3 (λ c. search rules) (λ c. search rules) returns-4 (λ c. search rules)
-    (λ c. search rules) (λ c. search rules) returns-5 returns-6)
+    (tie.spec (λ c κs. search rules) (λ c. search rules) (λ c. search rules) (λ c κs. search rules) (λ c κs. search rules) (λ c. search rules) (λ c. search rules) (λ c κs. search rules) (λ c κs. search rules) (λ c. search rules) (λ c. search rules) (λ c κs. search rules) (λ c κs. search rules) (λ c. search rules) (λ c. search rules) (λ c κs. search rules) (λ c κs. search rules) (λ c. search rules) (λ c. search rules) (λ c κs. search rules) (λ c κs. search rules) (λ c. search rules) (λ c κs. search rules) (λ c. search rules) (λ c. search rules) (λ c. search rules) (λ c. search rules) returns (λ c. search rules) (λ c. search rules) returns-2 (λ c. search rules) (λ c. search rules) returns-3 (λ c. search rules) (λ c. search rules) returns-4 (λ c. search rules) (λ c. search rules) (λ c. search rules) returns-5 returns-6)

@@ -8,5 +8,5 @@ use Rattle.panel_session.proofs.unread.Tie as tie
 returns : tie.Need-returns
 returns c = λ request s out. answered-alone out refl c.missing.ensures
 
-pub unread-spec : {M : Type 1} → statement M
-unread-spec = tie.close (tie.spec (λ c κs. search rules) returns)
+pub unread_spec : {M : Type 1} → statement M
+unread_spec = tie.close (tie.spec (λ c κs. search rules) returns)

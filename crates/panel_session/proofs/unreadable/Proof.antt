@@ -9,49 +9,33 @@ use borrow.Author.Rules.{rules}
 use Rattle.panel_session.proofs.unreadable.Statement.{statement}
 use Rattle.panel_session.proofs.unreadable.Tie as tie
 
-returns : tie.Need-returns
+returns : tie.Need-returns-in-Ask
 returns c =
-    let at_told = c.before in
-    let at_read = at_told.before.before in
-    let start = at_read.before.before in
-    λ s out. absurd (unnamed _ at_read.read-request.ensures at_told.enum_told.given.1 refl start.requires)
+    λ s out. absurd (unnamed _ c.read_request-asked.ensures c.in-Ask.is refl c.requires)
 
-returns-2 : tie.Need-returns-2
+returns-2 : tie.Need-returns-in-Load
 returns-2 c =
-    let at_told = c.before in
-    let at_read = at_told.before.before in
-    lacks _ at_read.read-request.ensures at_told.enum-told2.given.1 refl refl c.missing.ensures
+    lacks _ c.read_request-asked.ensures c.in-Load.is refl refl c.missing.ensures
 
-returns-3 : tie.Need-returns-3
+returns-3 : tie.Need-returns-in-Preview
 returns-3 c =
-    let at_told = c.before in
-    let at_read = at_told.before.before in
-    lacks _ at_read.read-request.ensures at_told.enum-told3.given.1 refl refl c.missing2.ensures
+    lacks _ c.read_request-asked.ensures c.in-Preview.is refl refl c.missing-in-Preview.ensures
 
-returns-4 : tie.Need-returns-4
+returns-4 : tie.Need-returns-in-Join
 returns-4 c =
-    let at_told = c.before in
-    let at_read = at_told.before.before in
-    lacks _ at_read.read-request.ensures at_told.enum-told4.given.1 refl refl c.missing3.ensures
+    lacks _ c.read_request-asked.ensures c.in-Join.is refl refl c.missing-in-Join.ensures
 
-returns-5 : tie.Need-returns-5
+returns-5 : tie.Need-returns-in-Witness
 returns-5 c =
-    let at_told = c.before in
-    let at_read = at_told.before.before in
-    lacks _ at_read.read-request.ensures at_told.enum-told5.given.1 refl refl c.missing4.ensures
+    lacks _ c.read_request-asked.ensures c.in-Witness.is refl refl c.missing-in-Witness.ensures
 
-returns-6 : tie.Need-returns-6
+returns-6 : tie.Need-returns-in-Malformed
 returns-6 c =
-    let at_told = c.before in
-    let at_read = at_told.before.before in
     λ s out.
-    answered-alone out (ap (request_action (length out) Files.missing) (unrequested at_read.read-request.ensures at_told.enum-told6.given.1))
-    c.malformed2.ensures
+    answered-alone out (ap (request_action (length out) Files.missing) (unrequested c.read_request-asked.ensures c.in-Malformed.is))
+    c.malformed-in-Malformed.ensures
 
-pub unreadable-spec : {M : Type 1} → statement M
-unreadable-spec =
+pub unreadable_spec : {M : Type 1} → statement M
+unreadable_spec =
     tie.close
-    (tie.spec
-    (λ c κs. search rules) (λ c. search rules) (λ c κs. search rules) (λ c. search rules) (λ c κs. search rules) (λ c. search rules)
-    (λ c κs. search rules) (λ c. search rules) (λ c κs. search rules) (λ c. search rules) (λ c κs. search rules) (λ c. search rules)
-    (λ c κs. search rules) returns returns-2 returns-3 returns-4 returns-5 returns-6)
+    (tie.spec (λ c κs. search rules) (λ c. search rules) (λ c κs. search rules) (λ c. search rules) (λ c κs. search rules) (λ c. search rules) (λ c κs. search rules) (λ c. search rules) (λ c κs. search rules) (λ c. search rules) (λ c κs. search rules) (λ c. search rules) (λ c κs. search rules) returns returns-2 returns-3 returns-4 returns-5 returns-6)

@@ -15,62 +15,47 @@ use Rattle.pinned_fold.proofs.fold_held.Statement.{statement}
 use Rattle.pinned_fold.proofs.fold_held.Tie as tie
 
 -- the circuit that the memory holds
-held : (c : tie.After-layout)
-    → (let m = c.before.before.before.before.before.before.before.args.m.now in
-    LayoutOf m c.layout.given.0.0 × Holds m (circuit_in m))
-held c = rw c.layout.given.1 at c.before.before.test.ensures
+held : (c : tie.In-Circuit)
+    → (let m = c.args.m.now in
+    LayoutOf m c.in-Circuit.layout × Holds m (circuit_in m))
+held c = rw c.in-Circuit.is at c.test.ensures
 
 -- what its tests 10 to 13 say
-tested : (c : tie.After-check-fold)
-    → (let s = c.before.before.before.before.before.before.before.before.before in
-    judge (fold_tests (circuit_in s.args.m.now) s.args.q.b s.args.q.t
-    (length s.args.work.now) (length s.args.out.now))
-    ≡ told c.check-fold.result)
-tested c = let h = held c.before.before in c.check-fold.ensures _ (counts_of h.1 h.0)
+tested : (c : tie.After-check_fold)
+    → (judge (fold_tests (circuit_in c.args.m.now) c.args.q.b c.args.q.t
+    (length c.args.work.now) (length c.args.out.now))
+    ≡ told c.check_fold.result)
+tested c = let h = held c.before in c.check_fold.ensures _ (counts_of h.1 h.0)
 
 test-requires : tie.Need-test-requires
 test-requires c κs = tt
 
-returns : tie.Need-returns
-returns c = Operated.no_circuit (rw c.enum_told.given.1 at c.before.before.test.ensures)
+returns : tie.Need-returns-in_default
+returns c = Operated.no_circuit (rw c.in_default.is at c.test.ensures)
 
-check-fold-requires : tie.Need-check-fold-requires
-check-fold-requires c κs = let h = held c.before in limited h.1 h.0
+check-fold-requires : tie.Need-check_fold-requires
+check-fold-requires c κs = let h = held c in limited h.1 h.0
 
-returns-2 : tie.Need-returns-2
+returns-2 : tie.Need-returns-in-Refused
 returns-2 c =
-    let n = c.before in
-    let r = n.before.before in
-    let l = r.before.before in
-    let s = l.before.before.before.before.before.before.before in
-    refused-with (pins_of s.args.pins.now s.args.user) (held l).1 (rw n.n.given.1 at (tested r))
+    refused-with (pins_of c.args.pins.now c.args.user) (held c.before.before).1 (rw c.in-Refused.is at (tested c.before))
 
-fold-known-requires : tie.Need-fold-known-requires
+fold-known-requires : tie.Need-fold_known-requires
 fold-known-requires c κs =
-    let t = c.before.before in
-    let r = t.before.before in
-    let l = r.before.before in
-    let h = held l in
-    record { held = h.1; layout_of = h.0; user-of = l.before.before.before.before.before.before.before.requires; tests = rw t.enum-told2.given.1 at (tested r) }
+    let h = held c.before.before.before.before in
+    record { held = h.1; layout_of = h.0; user-of = c.requires; tests = rw c.in_default-check_fold.is at (tested c.before.before.before) }
 
-same_length : tie.Need-same-length
-same_length c = c.before.before.before.before.fold-known.auto.1.1.1.1.1.0
+same_length : tie.Need-shape_of-work
+same_length c = c.fold_known.auto.work
 
-same-length-2 : tie.Need-same-length-2
-same-length-2 c = c.before.before.before.before.fold-known.auto.1.1.1.1.1.1.0
+same-length-2 : tie.Need-shape_of-out
+same-length-2 c = c.fold_known.auto.out
 
-returns-3 : tie.Need-returns-3
+returns-3 : tie.Need-returns
 returns-3 c =
-    let k = c.before.before.before.before in
-    let t = k.before.before.before in
-    let r = t.before.before in
-    let l = r.before.before in
-    let s = l.before.before.before.before.before.before.before in
-    answered-with (pins_of s.args.pins.now s.args.user) (held l).1 (rw t.enum-told2.given.1 at (tested r)) k.fold-known.ensures
+    answered-with (pins_of c.args.pins.now c.args.user) (held c.before.before.before.before.before.before.before.before.before).1 (rw c.in_default-check_fold.is at (tested c.before.before.before.before.before.before.before.before)) c.fold_known.ensures
 
-pub fold-held-spec : {M : Type 1} → statement M
-fold-held-spec =
+pub fold_held_spec : {M : Type 1} → statement M
+fold_held_spec =
     tie.close
-    (tie.spec
-    test-requires (λ c. search rules) (λ c. search rules) returns check-fold-requires (λ c. search rules) returns-2
-    (λ c. search rules) fold-known-requires same_length same-length-2 returns-3)
+    (tie.spec test-requires (λ c. search rules) (λ c. search rules) returns check-fold-requires (λ c. search rules) returns-2 (λ c. search rules) fold-known-requires same_length same-length-2 returns-3)

@@ -10,21 +10,21 @@ use Rattle.pinned_search.proofs.rows_at.Reads as reads
 use Rattle.pinned_search.proofs.rows_at.Lts as lts
 use Rattle.numbers.proofs.digit_count.Reads as digit-count-reads
 
-digit-count-requires : tie.Need-digit-count-requires
+digit-count-requires : tie.Need-digit_count-requires
 digit-count-requires c κs = tt
 
-add-result : tie.Need-overflow-add-result
-add-result c = omega (arith, c.digit-count.ensures, digits-most 9 c.before.args.b)
+add-result : tie.Need-overflow_add-result
+add-result c = omega (arith, c.digit_count.ensures, digits-most 9 c.args.b)
 
-add-result-2 : tie.Need-overflow-add-result-2
+add-result-2 : tie.Need-overflow_add-result-2
 add-result-2 c = omega arith
 
-add-result-3 : tie.Need-overflow-add-result-3
-add-result-3 c = omega (arith, c.digit-count.ensures, digits-most 9 c.before.args.b)
+add-result-3 : tie.Need-overflow_add-result-3
+add-result-3 c = omega (arith, c.digit_count.ensures, digits-most 9 c.args.b)
 
 returns : tie.Need-returns
-returns c = ap (λ (n : ℕ). 4 + n + (c.before.args.latches + 1)) c.digit-count.ensures
+returns c = ap (λ (n : ℕ). 4 + n + (c.args.latches + 1)) c.digit_count.ensures
 
-pub rows-at-spec : {M : Type 1} → statement M
-rows-at-spec =
+pub rows_at_spec : {M : Type 1} → statement M
+rows_at_spec =
     tie.close (tie.spec digit-count-requires add-result add-result-2 add-result-3 returns)

@@ -10,34 +10,28 @@ use Rattle.pinned_search.proofs.Answers.{fits-bad, fits-full, full_is}
 use Rattle.pinned_search.proofs.search_known.Statement.{statement}
 use Rattle.pinned_search.proofs.search_known.Tie as tie
 
-cast-b : tie.Need-overflow-cast-b
+cast-b : tie.Need-overflow_cast-b
 cast-b c =
-    let s = c.before.before.before.before.before in
-    omega (arith, fits-bad s.requires, (counts-fit (circuit_in s.args.m.now) (held-valid s.requires.held).fit).bads)
+    omega (arith, fits-bad c.requires, (counts-fit (circuit_in c.args.m.now) (held-valid c.requires.held).fit).bads)
 
-search-text-requires : tie.Need-search-text-requires
-search-text-requires c κs = c.before.before.before.before.before.before.before.requires
+search-text-requires : tie.Need-search_text-answer-requires
+search-text-requires c κs = c.requires
 
-in-full-requires : tie.Need-in-full-requires
+in-full-requires : tie.Need-in_full-requires
 in-full-requires c κs =
-    let s = c.before.before.before.before.before.before.before.before.before.before.before.before.before in
-    let x = c.before.before.before.before.before.search-text in
-    fits-full s.requires (pins_of s.args.pins.now s.args.user) x.result x.auto.1.1.1.1.1.1.0 x.ensures
+    fits-full c.requires (pins_of c.args.pins.now c.args.user) c.search_text-answer.result c.search_text-answer.auto.text c.search_text-answer.ensures
 
-same_length : tie.Need-same-length
-same_length c = c.before.before.before.before.before.before.before.before.search-text.auto.1.1.1.1.1.0
+same_length : tie.Need-shape_of-work
+same_length c = c.search_text-answer.auto.work
 
-same-length-2 : tie.Need-same-length-2
-same-length-2 c = c.before.before.in-full.auto.1.1.1.1.1.0 ∙ c.before.before.before.before.before.before.before.before.search-text.auto.1.1.1.1.1.1.0
+same-length-2 : tie.Need-shape_of-out
+same-length-2 c = c.in_full.auto.out ∙ c.search_text-answer.auto.text
 
 returns : tie.Need-returns
 returns c =
-    let s = c.before.before.before.before.before.before.before.before.before.before.before.before.before.before.before.before in
-    let x = c.before.before.before.before.before.before.before.before.search-text in
-    full_is s.requires (pins_of s.args.pins.now s.args.user) x.result x.auto.1.1.1.1.1.1.0 x.ensures c.before.before.in-full.ensures
+    full_is c.requires (pins_of c.args.pins.now c.args.user) c.search_text-answer.result c.search_text-answer.auto.text c.search_text-answer.ensures c.in_full.ensures
 
-pub search-known-spec : {M : Type 1} → statement M
-search-known-spec =
+pub search_known_spec : {M : Type 1} → statement M
+search_known_spec =
     tie.close
-    (tie.spec
-    cast-b search-text-requires in-full-requires same_length same-length-2 returns)
+    (tie.spec cast-b search-text-requires in-full-requires same_length same-length-2 returns)

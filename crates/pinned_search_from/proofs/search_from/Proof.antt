@@ -9,54 +9,52 @@ use Rattle.pinned_search_from.proofs.Answers.{searched-for}
 use Rattle.pinned_search_from.proofs.search_from.Statement.{statement}
 use Rattle.pinned_search_from.proofs.search_from.Tie as tie
 
-none-held-requires : tie.Need-none-held-requires
+none-held-requires : tie.Need-none_held-requires
 none-held-requires c κs = omega arith
 
-search-from-requires : tie.Need-search-from-requires
+search-from-requires : tie.Need-search_from-requires
 search-from-requires c κs = tt
 
-same_length : tie.Need-same-length
-same_length c = c.before.before.before.before.search-from.auto.1.1.0
+same_length : tie.Need-shape_of-work-then-none_held
+same_length c = c.search_from.auto.work
 
-same-length-2 : tie.Need-same-length-2
-same-length-2 c = c.before.before.before.before.search-from.auto.1.1.1.0
+same-length-2 : tie.Need-shape_of-out-then-none_held
+same-length-2 c = c.search_from.auto.out
 
-returns : tie.Need-returns
+returns : tie.Need-returns-then-none_held
 returns c =
-    let a = c.before.before.before.before.before.before.before.before.before.before.before.before.before.args in
+    let a = c.args in
     let q = pins_of a.pins.now a.user in
-    plain-from q (held-free q (sym c.before.before.before.before.before.before.before.before.none-held.ensures ∙ c.before.before.before.before.before.before.before.if1.true)) c.before.before.before.before.search-from.ensures
+    plain-from q (held-free q (sym c.none_held.ensures ∙ c.if-none_held.true)) c.search_from.ensures
 
-search-held-requires : tie.Need-search-held-requires
+search-held-requires : tie.Need-search_held-requires
 search-held-requires c κs = omega arith
 
-same-length-3 : tie.Need-same-length-3
-same-length-3 c = c.before.before.before.before.search-held.auto.1.1.1.1.0
+same-length-3 : tie.Need-shape_of-work-then-user-eq0
+same-length-3 c = c.search_held.auto.work
 
-same-length-4 : tie.Need-same-length-4
-same-length-4 c = c.before.before.before.before.search-held.auto.1.1.1.1.1.0
+same-length-4 : tie.Need-shape_of-out-then-user-eq0
+same-length-4 c = c.search_held.auto.out
 
-returns-2 : tie.Need-returns-2
-returns-2 c = searched-for c.before.before.before.before.before.before.before.before.before.before.before.before.before.before.args.pins.now c.before.before.before.before.before.before.before.if2.true c.before.before.before.before.search-held.ensures
+returns-2 : tie.Need-returns-then-user-eq0
+returns-2 c = searched-for c.args.pins.now c.if-user-eq0.true c.search_held.ensures
 
-search-held-requires-2 : tie.Need-search-held-requires-2
+search-held-requires-2 : tie.Need-search_held-requires-2
 search-held-requires-2 c κs = omega arith
 
-same-length-5 : tie.Need-same-length-5
-same-length-5 c = c.before.before.before.before.search-held2.auto.1.1.1.1.0
+same-length-5 : tie.Need-shape_of-work
+same-length-5 c = c.search_held-2.auto.work
 
-same-length-6 : tie.Need-same-length-6
-same-length-6 c = c.before.before.before.before.search-held2.auto.1.1.1.1.1.0
+same-length-6 : tie.Need-shape_of-out
+same-length-6 c = c.search_held-2.auto.out
 
-returns-3 : tie.Need-returns-3
+returns-3 : tie.Need-returns
 returns-3 c =
-    let a = c.before.before.before.before.before.before.before.before.before.before.before.before.before.before.args in
-    let u : a.user ≡ 1 = omega (arith, c.before.before.before.before.before.before.before.before.before.before.before.before.before.before.requires, c.before.before.before.before.before.before.before.if2.false) in
-    searched-for a.pins.now u c.before.before.before.before.search-held2.ensures
+    let a = c.args in
+    let u : a.user ≡ 1 = omega (arith, c.requires, c.if-user-eq0.false) in
+    searched-for a.pins.now u c.search_held-2.ensures
 
-pub search-from-spec : {M : Type 1} → statement M
-search-from-spec =
+pub search_from_spec : {M : Type 1} → statement M
+search_from_spec =
     tie.close
-    (tie.spec
-    none-held-requires search-from-requires same_length same-length-2 returns search-held-requires same-length-3 same-length-4
-    returns-2 search-held-requires-2 same-length-5 same-length-6 returns-3)
+    (tie.spec none-held-requires search-from-requires same_length same-length-2 returns search-held-requires same-length-3 same-length-4 returns-2 search-held-requires-2 same-length-5 same-length-6 returns-3)

@@ -26,62 +26,60 @@ inputs-free {m} q h a e = free-inputs (circuit_in m) q ∙ ap (free_inputs q) (s
 test-requires : tie.Need-test-requires
 test-requires c κs = tt
 
-returns : tie.Need-returns
-returns c = Operated.no_circuit (rw c.enum_told.given.1 at c.before.before.test.ensures)
+returns : tie.Need-returns-in_default
+returns c = Operated.no_circuit (rw c.in_default.is at c.test.ensures)
 
-free-inputs-requires : tie.Need-free-inputs-requires
+free-inputs-requires : tie.Need-free_inputs-inputs-requires
 free-inputs-requires c κs =
-    let h = rw c.before.layout.given.1 at c.before.before.before.test.ensures in
-    (c.before.before.before.before.before.before.before.before.requires, (limited h.1 h.0).inputs)
+    let h = rw c.in-Circuit.is at c.test.ensures in
+    (c.requires, (limited h.1 h.0).inputs)
 
-check-from-requires : tie.Need-check-from-requires
+check-from-requires : tie.Need-check_from-requires
 check-from-requires c κs =
-    let h = rw c.before.before.layout.given.1 at c.before.before.before.before.test.ensures in
-    let s = c.before.before.before.before.before.before.before.before.before.args in
-    (limited h.1 h.0, omega (arith, c.free-inputs.ensures, free-most (pins_of s.pins.now s.user) c.before.before.layout.given.0.0.i))
+    let h = rw c.in-Circuit.is at c.test.ensures in
+    let s = c.args in
+    (limited h.1 h.0, omega (arith, c.free_inputs-inputs.ensures, free-most (pins_of s.pins.now s.user) c.in-Circuit.layout.i))
 
-returns-2 : tie.Need-returns-2
+returns-2 : tie.Need-returns-in-Refused
 returns-2 c =
-    let h = rw c.before.before.before.before.before.before.layout.given.1 at c.before.before.before.before.before.before.before.before.test.ensures in
-    let s = c.before.before.before.before.before.before.before.before.before.before.before.before.before.args in
+    let h = rw c.in-Circuit.is at c.test.ensures in
+    let s = c.args in
     let q = pins_of s.pins.now s.user in
     refused-with q h.1
-    (rw c.before.n.given.1 at
-    (c.before.before.before.check-from.ensures (pinned (circuit_in s.m.now) q) (circuit_in s.m.now) (counts_of h.1 h.0) (inputs-free q h.1 h.0 c.before.before.before.before.free-inputs.ensures) (free-starts (circuit_in s.m.now) q)))
+    (rw c.in-Refused.is at
+    (c.check_from.ensures (pinned (circuit_in s.m.now) q) (circuit_in s.m.now) (counts_of h.1 h.0) (inputs-free q h.1 h.0 c.free_inputs-inputs.ensures) (free-starts (circuit_in s.m.now) q)))
 
-search-known-requires : tie.Need-search-known-requires
+search-known-requires : tie.Need-search_known-requires
 search-known-requires c κs =
-    let h = rw c.before.before.before.before.before.before.before.layout.given.1 at c.before.before.before.before.before.before.before.before.before.test.ensures in
-    let s = c.before.before.before.before.before.before.before.before.before.before.before.before.before.before.args in
+    let h = rw c.in-Circuit.is at c.test.ensures in
+    let s = c.args in
     let q = pins_of s.pins.now s.user in
     record {
       held = h.1;
       layout_of = h.0;
-      user-of = c.before.before.before.before.before.before.before.before.before.before.before.before.before.before.requires;
+      user-of = c.requires;
       tests =
-          rw c.before.before.enum-told2.given.1 at
-          (c.before.before.before.before.check-from.ensures (pinned (circuit_in s.m.now) q) (circuit_in s.m.now) (counts_of h.1 h.0) (inputs-free q h.1 h.0 c.before.before.before.before.before.free-inputs.ensures) (free-starts (circuit_in s.m.now) q));
+          rw c.in_default-check_from.is at
+          (c.check_from.ensures (pinned (circuit_in s.m.now) q) (circuit_in s.m.now) (counts_of h.1 h.0) (inputs-free q h.1 h.0 c.free_inputs-inputs.ensures) (free-starts (circuit_in s.m.now) q));
     }
 
-same_length : tie.Need-same-length
-same_length c = c.before.before.before.before.search-known.auto.1.1.1.1.1.0
+same_length : tie.Need-shape_of-work
+same_length c = c.search_known.auto.work
 
-same-length-2 : tie.Need-same-length-2
-same-length-2 c = c.before.before.before.before.search-known.auto.1.1.1.1.1.1.0
+same-length-2 : tie.Need-shape_of-out
+same-length-2 c = c.search_known.auto.out
 
-returns-3 : tie.Need-returns-3
+returns-3 : tie.Need-returns
 returns-3 c =
-    let h = rw c.before.before.before.before.before.before.before.before.before.before.before.before.layout.given.1 at c.before.before.before.before.before.before.before.before.before.before.before.before.before.before.test.ensures in
-    let s = c.before.before.before.before.before.before.before.before.before.before.before.before.before.before.before.before.before.before.before.args in
+    let h = rw c.in-Circuit.is at c.test.ensures in
+    let s = c.args in
     let q = pins_of s.pins.now s.user in
     answered q h.1
-    (rw c.before.before.before.before.before.before.before.enum-told2.given.1 at
-    (c.before.before.before.before.before.before.before.before.before.check-from.ensures (pinned (circuit_in s.m.now) q) (circuit_in s.m.now) (counts_of h.1 h.0) (inputs-free q h.1 h.0 c.before.before.before.before.before.before.before.before.before.before.free-inputs.ensures) (free-starts (circuit_in s.m.now) q)))
-    c.before.before.before.before.search-known.ensures
+    (rw c.in_default-check_from.is at
+    (c.check_from.ensures (pinned (circuit_in s.m.now) q) (circuit_in s.m.now) (counts_of h.1 h.0) (inputs-free q h.1 h.0 c.free_inputs-inputs.ensures) (free-starts (circuit_in s.m.now) q)))
+    c.search_known.ensures
 
-pub search-held-spec : {M : Type 1} → statement M
-search-held-spec =
+pub search_held_spec : {M : Type 1} → statement M
+search_held_spec =
     tie.close
-    (tie.spec
-    test-requires (λ c. search rules) (λ c. search rules) returns free-inputs-requires check-from-requires (λ c. search rules)
-    returns-2 (λ c. search rules) search-known-requires same_length same-length-2 returns-3)
+    (tie.spec test-requires (λ c. search rules) (λ c. search rules) returns free-inputs-requires check-from-requires (λ c. search rules) returns-2 (λ c. search rules) search-known-requires same_length same-length-2 returns-3)

@@ -9,32 +9,28 @@ use Rattle.pinned_search_from.proofs.Answers.{fits_all, fits-full, full_is}
 use Rattle.pinned_search_from.proofs.search_known.Statement.{statement}
 use Rattle.pinned_search_from.proofs.search_known.Tie as tie
 
-cast-b : tie.Need-overflow-cast-b
+cast-b : tie.Need-overflow_cast-b
 cast-b c =
-    let s = c.before.before.before.before.before in
-    omega (arith, (fits_all s.requires).bad, (counts-fit (circuit_in s.args.m.now) (held-valid s.requires.held).fit).bads)
+    omega (arith, (fits_all c.requires).bad, (counts-fit (circuit_in c.args.m.now) (held-valid c.requires.held).fit).bads)
 
-search-text-requires : tie.Need-search-text-requires
-search-text-requires c κs = c.before.before.before.before.before.before.before.requires
+search-text-requires : tie.Need-search_text-answer-requires
+search-text-requires c κs = c.requires
 
-in-full-requires : tie.Need-in-full-requires
+in-full-requires : tie.Need-in_full-requires
 in-full-requires c κs =
-    let x = c.before.before.before.before.before.search-text in
-    fits-full c.before.before.before.before.before.before.before.before.before.before.before.before.before.requires x.result x.auto.1.1.1.1.1.1.0 x.ensures
+    fits-full c.requires c.search_text-answer.result c.search_text-answer.auto.text c.search_text-answer.ensures
 
-same_length : tie.Need-same-length
-same_length c = c.before.before.before.before.before.before.before.before.search-text.auto.1.1.1.1.1.0
+same_length : tie.Need-shape_of-work
+same_length c = c.search_text-answer.auto.work
 
-same-length-2 : tie.Need-same-length-2
-same-length-2 c = c.before.before.in-full.auto.1.1.1.1.1.0 ∙ c.before.before.before.before.before.before.before.before.search-text.auto.1.1.1.1.1.1.0
+same-length-2 : tie.Need-shape_of-out
+same-length-2 c = c.in_full.auto.out ∙ c.search_text-answer.auto.text
 
 returns : tie.Need-returns
 returns c =
-    let x = c.before.before.before.before.before.before.before.before.search-text in
-    full_is c.before.before.before.before.before.before.before.before.before.before.before.before.before.before.before.before.requires x.result x.auto.1.1.1.1.1.1.0 x.ensures c.before.before.in-full.ensures
+    full_is c.requires c.search_text-answer.result c.search_text-answer.auto.text c.search_text-answer.ensures c.in_full.ensures
 
-pub search-known-spec : {M : Type 1} → statement M
-search-known-spec =
+pub search_known_spec : {M : Type 1} → statement M
+search_known_spec =
     tie.close
-    (tie.spec
-    cast-b search-text-requires in-full-requires same_length same-length-2 returns)
+    (tie.spec cast-b search-text-requires in-full-requires same_length same-length-2 returns)

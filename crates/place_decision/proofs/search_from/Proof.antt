@@ -46,8 +46,7 @@ first-places-requires c κs =
 go-on-requires : tie.Need-go_on-requires
 unfolding greatest
 go-on-requires c κs =
-    let p = c.requires.0.frame in
-    (
+    let p = c.requires.0.frame in (
       record {
         ready = p.ready;
         bad = p.bad;

@@ -50,8 +50,7 @@ loop-less c = omega arith
 
 loop-again : tie.Need-loop-j-preserved invariant-loop decreases-loop
 loop-again c =
-    let s = c.args in
-    (
+    let s = c.args in (
       c.start_bit.auto.work ∙ c.loop-j.invariant.0,
       omega arith,
       sym (started-more c.loop-j.work c.start_bit.new.work s.nodes s.n s.place c.loop-j.j (s.n - c.loop-j.j) (s.n - (c.loop-j.j + 1)) (omega arith)

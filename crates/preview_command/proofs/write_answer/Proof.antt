@@ -3,15 +3,13 @@ use borrow.Author.Rules.{rules}
 use Rattle.preview_command.proofs.write_answer.Statement.{statement}
 use Rattle.preview_command.proofs.write_answer.Tie as tie
 
-returns : tie.Need-returns
-returns c = rw c.before.before.before.before.before.answer.given.1 c.before.before.write-counts.ensures
+returns : tie.Need-returns-in-Loaded
+returns c = rw c.in-Loaded.is c.write_counts.ensures
 
-returns-2 : tie.Need-returns-2
-returns-2 c = rw c.before.before.before.before.before.answer2.given.1 c.before.before.write-refusal.ensures
+returns-2 : tie.Need-returns-in-Refused
+returns-2 c = rw c.in-Refused.is c.write_refusal.ensures
 
-pub write-answer-spec : {M : Type 1} → statement M
-write-answer-spec =
+pub write_answer_spec : {M : Type 1} → statement M
+write_answer_spec =
     tie.close
-    (tie.spec
-    (λ c. search rules) (λ c κs. search rules) (λ c. search rules) (λ c κs. search rules) (λ c. search rules) returns
-    (λ c. search rules) returns-2)
+    (tie.spec (λ c. search rules) (λ c κs. search rules) (λ c. search rules) (λ c κs. search rules) (λ c. search rules) returns (λ c. search rules) returns-2)

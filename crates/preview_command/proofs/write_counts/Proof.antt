@@ -9,26 +9,22 @@ use borrow.Author.Rules.{rules}
 use Rattle.preview_command.proofs.write_counts.Statement.{statement}
 use Rattle.preview_command.proofs.write_counts.Tie as tie
 
-abbrev start : tie.After-put → tie.Start
-start w = w.before.before.before.before
+abbrev start : tie.After-put-at → tie.Start
+start w = w.before.before.before.before.before
 
-word : (w : tie.After-put) → Fronted (start w).args.line.now 6 (bytes "loads ") w.put.result w.put.new.0
-word w = front-first (omega (arith, (start w).requires)) w.put.ensures
+word : (w : tie.After-put-at) → Fronted (start w).args.line.now 6 (bytes "loads ") w.put-at.result w.put-at.new.out
+word w = front-first (omega (arith, (start w).requires)) w.put-at.ensures
 
-put-row-requires : tie.Need-put-row-requires
+put-row-requires : tie.Need-put_row-requires
 put-row-requires c κs =
-    let w = c.before.before.before.before in
-    (omega arith, row_room _ w.put.new.0 w.put.result (front-room (word w) 77 (omega (arith, (start w).requires))))
+    (omega arith, row_room _ c.put-at.new.out c.put-at.result (front-room (word c.before.before.before.before) 77 (omega (arith, (start c.before.before.before.before).requires))))
 
 returns : tie.Need-returns
 returns c =
-    let r = c.before.before in
-    let w = r.before.before.before.before.before in
-    let k = (start w).args.k in
-    counts-row k (front-fronts (front-more (word w) 77 (omega (arith, (start w).requires)) (row-most (numbers k) 0 7) r.put-row.ensures))
+    let k = (start c.before.before.before.before.before.before.before).args.k in
+    counts-row k (front-fronts (front-more (word c.before.before.before.before.before.before.before) 77 (omega (arith, (start c.before.before.before.before.before.before.before).requires)) (row-most (numbers k) 0 7) c.put_row.ensures))
 
-pub write-counts-spec : {M : Type 1} → statement M
-write-counts-spec =
+pub write_counts_spec : {M : Type 1} → statement M
+write_counts_spec =
     tie.close
-    (tie.spec
-    (λ c. search rules) (λ c κs. search rules) (λ c. search rules) put-row-requires (λ c. search rules) returns)
+    (tie.spec (λ c κs. search rules) (λ c. search rules) put-row-requires (λ c. search rules) returns)

@@ -65,8 +65,7 @@ same-length-2 c = c.meet_starts.auto.state
 
 returns : tie.Need-returns
 returns c =
-    let a = c.args in
-    (
+    let a = c.args in (
       λ rows b h.
           subst
           (λ (n : ℕ). Holds rows 0 0 a.table a.quota (count_of a.quota c.meet_starts.result) c.meet_starts.new.records

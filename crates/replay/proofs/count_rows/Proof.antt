@@ -48,8 +48,7 @@ loop-less c = omega arith
 
 loop-again : tie.Need-loop-rows-preserved invariant-loop decreases-loop
 loop-again c =
-    let a = (start c.before.before.before.before.before).args in
-    (
+    let a = (start c.before.before.before.before.before).args in (
       omega arith,
       λ u h.
           let r = on_read (c.read_symbols.ensures u h) c.in-Read.is in

@@ -18,12 +18,11 @@ rows-of-requires : tie.Need-rows_of-rows-requires
 rows-of-requires c κs = rows_fit c.requires.0.ready c.requires.0.fits
 
 copy-settled-requires : tie.Need-copy_settled-requires
-copy-settled-requires c κs =
-    (
-      inputs-few c.requires.0.ready c.requires.0.fits (λ i. get_or c.args.own.now i 2) c.rows_of-rows.result
-          c.rows_of-rows.ensures,
-      c.requires.1,
-    )
+copy-settled-requires c κs = (
+  inputs-few c.requires.0.ready c.requires.0.fits (λ i. get_or c.args.own.now i 2) c.rows_of-rows.result
+      c.rows_of-rows.ensures,
+  c.requires.1,
+)
 
 -- the copy: the body with the pins' bits
 module _ (k : tie.After-copy_settled) where

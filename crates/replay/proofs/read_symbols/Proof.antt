@@ -55,8 +55,7 @@ loop-less c = omega arith
 
 loop-again : tie.Need-loop-i-preserved invariant-loop decreases-loop
 loop-again c =
-    let a = c.args in
-    (
+    let a = c.args in (
       omega arith,
       below_more _ c.loop-i.i c.loop-i.invariant.1
           (symbol-test (get_or a.text.now (a.at + c.loop-i.i) 0) (sym c.is_symbol.ensures ∙ c.if-not-is_symbol.false)),

@@ -39,13 +39,12 @@ loop-less : tie.Need-loop-i-smaller invariant-loop decreases-loop
 loop-less c = omega arith
 
 loop-again : tie.Need-loop-i-preserved invariant-loop decreases-loop
-loop-again c =
-    (
-      omega arith,
-      length-set c.loop-i.to c.loop-i.i (get_or c.args.from.now c.loop-i.i 0) ∙ c.loop-i.invariant.1,
-      copied_more c.args.from.now
-          c.args.to.now c.loop-i.to c.loop-i.i (omega (arith, c.requires, c.loop-i.invariant.1)) c.loop-i.invariant.2,
-    )
+loop-again c = (
+  omega arith,
+  length-set c.loop-i.to c.loop-i.i (get_or c.args.from.now c.loop-i.i 0) ∙ c.loop-i.invariant.1,
+  copied_more c.args.from.now
+      c.args.to.now c.loop-i.to c.loop-i.i (omega (arith, c.requires, c.loop-i.invariant.1)) c.loop-i.invariant.2,
+)
 
 same_length : tie.Need-shape_of-to invariant-loop decreases-loop
 same_length c = c.loop-i.invariant.1

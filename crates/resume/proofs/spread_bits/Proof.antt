@@ -52,13 +52,12 @@ loop-less : tie.Need-loop-left-smaller invariant-loop decreases-loop
 loop-less c = omega arith
 
 loop-again : tie.Need-loop-left-preserved invariant-loop decreases-loop
-loop-again c =
-    (
-      length-set c.loop-left.bits (c.loop-left.left - 1) c.marked_bit.result ∙ c.loop-left.invariant.0,
-      spreading-more c.args.work.now c.args.y c.args.g.free
-          c.args.bits.now c.loop-left.bits c.loop-left.r c.loop-left.left c.marked_bit.result c.next_rank-r.result c.loop-left.invariant.1 (omega arith)
-          (omega (arith, c.requires.1, c.loop-left.invariant.0)) c.marked_bit.ensures c.next_rank-r.ensures,
-    )
+loop-again c = (
+  length-set c.loop-left.bits (c.loop-left.left - 1) c.marked_bit.result ∙ c.loop-left.invariant.0,
+  spreading-more c.args.work.now c.args.y c.args.g.free
+      c.args.bits.now c.loop-left.bits c.loop-left.r c.loop-left.left c.marked_bit.result c.next_rank-r.result c.loop-left.invariant.1 (omega arith)
+      (omega (arith, c.requires.1, c.loop-left.invariant.0)) c.marked_bit.ensures c.next_rank-r.ensures,
+)
 
 same_length : tie.Need-shape_of-bits invariant-loop decreases-loop
 same_length c = c.loop-left.invariant.0

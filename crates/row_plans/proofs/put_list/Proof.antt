@@ -37,8 +37,7 @@ loop-less c = omega (arith, c.loop-k-test.true)
 
 loop-again : tie.Need-loop-k-preserved invariant-loop decreases-loop
 loop-again c =
-    let a = c.args in
-    (
+    let a = c.args in (
       omega (arith, c.loop-k-test.true),
       c.put.auto.work ∙ c.loop-k.invariant.1,
       c.put.ensures ∙ turned_more (odd a.which) a.n c.loop-k.k a.at a.list.now a.plan.now c.loop-k.plan c.turned_at-x.result c.turned_at-x.ensures c.loop-k.invariant.2,

@@ -15,58 +15,47 @@ use Rattle.search.proofs.check_search.Statement.{statement}
 use Rattle.search.proofs.check_search.Tie as tie
 
 -- the tests 10 to 12 of a circuit with these counts
-bounded : (n : tie.After-check-bounds) (x : Circuit)
-    → (let a = n.before.before.args in
-    CountsOf x a.layout → judge (bound_tests x a.b a.k (budget_right a.d) a.room) ≡ told n.check-bounds.result)
+bounded : (n : tie.After-check_bounds) (x : Circuit)
+    → (let a = n.args in
+    CountsOf x a.layout → judge (bound_tests x a.b a.k (budget_right a.d) a.room) ≡ told n.check_bounds.result)
 bounded n x e =
-    let a = n.before.before.args in
-    subst (λ (p : Bool). judge (bound_tests x a.b a.k p a.room) ≡ told n.check-bounds.result) n.before.is-budget.ensures
-    (n.check-bounds.ensures.tests x e)
+    let a = n.args in
+    subst (λ (p : Bool). judge (bound_tests x a.b a.k p a.room) ≡ told n.check_bounds.result) n.is_budget-budget.ensures
+    (n.check_bounds.ensures.tests x e)
 
-returns : tie.Need-returns
+returns : tie.Need-returns-in-Refused
 returns c =
-    let n = c.before.before.before in
-    let a = n.before.before.args in
+    let a = c.args in
     λ x e.
     judge-refused (bound_tests x a.b a.k (budget_right a.d) a.room)
     (need 13 (leb (witness_length x a.b a.k) a.len) ∷ []) _
-    (rw c.before.n.given.1 at (bounded n x e))
+    (rw c.in-Refused.is at (bounded c.before x e))
 
-cast-witness-length : tie.Need-overflow-cast-witness-length
+cast-witness-length : tie.Need-overflow_cast-b
 cast-witness-length c =
-    let n = c.before.before in
-    omega (arith, (n.check-bounds.ensures.within c.enum_told.given.1).bad, n.before.before.requires.bads)
+    omega (arith, (c.check_bounds.ensures.within c.in_default.is).bad, c.requires.bads)
 
-witness-length-requires : tie.Need-witness-length-requires
+witness-length-requires : tie.Need-witness_length-requires
 witness-length-requires c κs =
-    let n = c.before.before in
-    (n.before.before.requires, omega (arith, (n.check-bounds.ensures.within c.enum_told.given.1).bound))
+    (c.requires, omega (arith, (c.check_bounds.ensures.within c.in_default.is).bound))
 
-returns-2 : tie.Need-returns-2
+returns-2 : tie.Need-returns-then-len-witness_length
 returns-2 c =
-    let w = c.before in
-    let t = w.before in
-    let n = t.before.before in
-    let a = n.before.before.args in
+    let a = c.args in
     λ x e.
-    let l = w.witness-length.ensures ∙ length-is e a.b a.k in
-    length-refused (bound_tests x a.b a.k (budget_right a.d) a.room) (rw t.enum_told.given.1 at (bounded n x e))
-    (witness_length x a.b a.k) a.len (omega (arith, c.if1.true))
+    let l = c.witness_length.ensures ∙ length-is e a.b a.k in
+    length-refused (bound_tests x a.b a.k (budget_right a.d) a.room) (rw c.in_default.is at (bounded c.before.before.before x e))
+    (witness_length x a.b a.k) a.len (omega (arith, c.if-len-witness_length.true))
 
-returns-3 : tie.Need-returns-3
+returns-3 : tie.Need-returns
 returns-3 c =
-    let w = c.before in
-    let t = w.before in
-    let n = t.before.before in
-    let a = n.before.before.args in
+    let a = c.args in
     λ x e.
-    let l = w.witness-length.ensures ∙ length-is e a.b a.k in
-    length-passes (bound_tests x a.b a.k (budget_right a.d) a.room) (rw t.enum_told.given.1 at (bounded n x e))
-    (witness_length x a.b a.k) a.len (omega (arith, c.if1.false))
+    let l = c.witness_length.ensures ∙ length-is e a.b a.k in
+    length-passes (bound_tests x a.b a.k (budget_right a.d) a.room) (rw c.in_default.is at (bounded c.before.before.before x e))
+    (witness_length x a.b a.k) a.len (omega (arith, c.if-len-witness_length.false))
 
-pub check-search-spec : {M : Type 1} → statement M
-check-search-spec =
+pub check_search_spec : {M : Type 1} → statement M
+check_search_spec =
     tie.close
-    (tie.spec
-    (λ c κs. search rules) (λ c κs. search rules) (λ c. search rules) returns (λ c. search rules) cast-witness-length
-    witness-length-requires returns-2 returns-3)
+    (tie.spec (λ c κs. search rules) (λ c κs. search rules) (λ c. search rules) returns (λ c. search rules) cast-witness-length witness-length-requires returns-2 returns-3)

@@ -8,44 +8,31 @@ use Rattle.search.proofs.Answers.{refused-with, fits, answered-with}
 use Rattle.search.proofs.search.Statement.{statement}
 use Rattle.search.proofs.search.Tie as tie
 
-returns : tie.Need-returns
-returns c = Operated.no_circuit (rw c.enum_told.given.1 at c.before.before.before.held_in.ensures.0)
+returns : tie.Need-returns-in_default
+returns c = Operated.no_circuit (rw c.in_default.is at c.held_in.ensures.0)
 
-check-search-requires : tie.Need-check-search-requires
+check-search-requires : tie.Need-check_search-requires
 check-search-requires c κs =
-    let l = c.before in
-    let h = rw l.layout.given.1 at l.before.before.before.held_in.ensures.0 in
+    let h = rw c.in-Circuit.is at c.held_in.ensures.0 in
     limited h.1 h.0
 
-returns-2 : tie.Need-returns-2
+returns-2 : tie.Need-returns-in-Refused
 returns-2 c =
-    let r = c.before.before.before in
-    let l = r.before.before in
-    let h = rw l.layout.given.1 at l.before.before.before.held_in.ensures.0 in
-    refused-with h.1 (rw c.before.n.given.1 at (r.check-search.ensures _ (counts_of h.1 h.0)))
+    let h = rw c.in-Circuit.is at c.held_in.ensures.0 in
+    refused-with h.1 (rw c.in-Refused.is at (c.check_search.ensures _ (counts_of h.1 h.0)))
 
-search-frames-requires : tie.Need-search-frames-requires
+search-frames-requires : tie.Need-search_frames-requires
 search-frames-requires c κs =
-    let t = c.before.before.before in
-    let r = t.before.before in
-    let l = r.before.before in
-    let n = l.before.before.before in
-    let h = rw l.layout.given.1 at n.held_in.ensures.0 in
-    fits h.1 h.0 h.2 (omega (arith, n.held_in.auto.1.0))
-    (rw t.enum-told2.given.1 at (r.check-search.ensures _ (counts_of h.1 h.0)))
+    let h = rw c.in-Circuit.is at c.held_in.ensures.0 in
+    fits h.1 h.0 h.2 (omega (arith, c.held_in.auto.order))
+    (rw c.in_default-check_search.is at (c.check_search.ensures _ (counts_of h.1 h.0)))
 
-returns-3 : tie.Need-returns-3
+returns-3 : tie.Need-returns
 returns-3 c =
-    let s = c.before.before.before.before in
-    let t = s.before.before.before.before in
-    let r = t.before.before in
-    let l = r.before.before in
-    let h = rw l.layout.given.1 at l.before.before.before.held_in.ensures.0 in
-    answered-with h.1 (rw t.enum-told2.given.1 at (r.check-search.ensures _ (counts_of h.1 h.0))) s.search-frames.ensures
+    let h = rw c.in-Circuit.is at c.held_in.ensures.0 in
+    answered-with h.1 (rw c.in_default-check_search.is at (c.check_search.ensures _ (counts_of h.1 h.0))) c.search_frames.ensures
 
-pub search-spec : {M : Type 1} → statement M
-search-spec =
+pub search_spec : {M : Type 1} → statement M
+search_spec =
     tie.close
-    (tie.spec
-    (λ c. search rules) (λ c κs. search rules) (λ c. search rules) (λ c. search rules) returns check-search-requires (λ c. search rules)
-    returns-2 (λ c. search rules) (λ c. search rules) search-frames-requires (λ c. search rules) (λ c. search rules) returns-3)
+    (tie.spec (λ c. search rules) (λ c κs. search rules) (λ c. search rules) (λ c. search rules) returns check-search-requires (λ c. search rules) returns-2 (λ c. search rules) (λ c. search rules) search-frames-requires (λ c. search rules) (λ c. search rules) returns-3)

@@ -7,26 +7,25 @@ use borrow.Author.Rules.{rules}
 use Rattle.search.proofs.tell_spent.Statement.{statement}
 use Rattle.search.proofs.tell_spent.Tie as tie
 
-mul-n : tie.Need-overflow-mul-n
-mul-n c = omega (arith, bits-few c.before.before.args.layout.i c.before.before.args.t c.before.before.requires.0.inputs c.before.before.requires.1)
+mul-n : tie.Need-overflow_mul-n
+mul-n c = omega (arith, bits-few c.args.layout.i c.args.t c.requires.0.inputs c.requires.1)
 
-add-n-2 : tie.Need-overflow-add-n-2
-add-n-2 c = omega (arith, bits-few c.before.before.before.args.layout.i c.before.before.before.args.t c.before.before.before.requires.0.inputs c.before.before.before.requires.1, c.before.before.before.requires.0.starts, c.before.before.before.requires.0.latches)
+add-n-2 : tie.Need-overflow_add-n-2
+add-n-2 c = omega (arith, bits-few c.args.layout.i c.args.t c.requires.0.inputs c.requires.1, c.requires.0.starts, c.requires.0.latches)
 
-cast-t8 : tie.Need-overflow-cast-t8
-cast-t8 c = omega (arith, c.before.before.before.requires.1)
+cast-t8 : tie.Need-overflow_cast-result
+cast-t8 c = omega (arith, c.requires.1)
 
-reached-number-requires : tie.Need-reached-number-requires
-reached-number-requires c κs = (c.before.before.before.requires.2, c.before.before.before.requires.3)
+reached-number-requires : tie.Need-reached_number-requires
+reached-number-requires c κs = (c.requires.2, c.requires.3)
 
 returns : tie.Need-returns
 returns c =
     λ C b e s.
-    spent-told C b c.before.before.before.before.args.t c.before.before.before.before.args.d c.reached-number.result
-    (c.reached-number.ensures C b c.before.before.before.before.args.t (bits_are C c.before.before.before.before.args.t e.starts e.inputs) s)
+    spent-told C b c.args.t c.args.d c.reached_number.result
+    (c.reached_number.ensures C b c.args.t (bits_are C c.args.t e.starts e.inputs) s)
 
-pub tell-spent-spec : {M : Type 1} → statement M
-tell-spent-spec =
+pub tell_spent_spec : {M : Type 1} → statement M
+tell_spent_spec =
     tie.close
-    (tie.spec
-    (λ c. search rules) mul-n add-n-2 cast-t8 reached-number-requires returns)
+    (tie.spec (λ c. search rules) mul-n add-n-2 cast-t8 reached-number-requires returns)

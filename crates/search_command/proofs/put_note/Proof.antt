@@ -5,14 +5,13 @@ use Rattle.replies.proofs.Putting.{placed-fronts, fronts-none}
 use Rattle.search_command.proofs.put_note.Statement.{statement}
 use Rattle.search_command.proofs.put_note.Tie as tie
 
-returns : tie.Need-returns
-returns c = rw (not-true c.before.before.args.never c.if1.true) (fronts-none c.before.before.args.note.now)
+returns : tie.Need-returns-then-not-never
+returns c = rw c.if-not-never.true (fronts-none c.args.note.now)
 
-returns-2 : tie.Need-returns-2
-returns-2 c = rw (not-false c.before.before.before.before.before.before.before.args.never c.before.before.before.before.before.if1.false) (placed-fronts c.before.before.put.ensures)
+returns-2 : tie.Need-returns
+returns-2 c = rw c.if-not-never.false (placed-fronts c.put.ensures)
 
-pub put-note-spec : {M : Type 1} → statement M
-put-note-spec =
+pub put_note_spec : {M : Type 1} → statement M
+put_note_spec =
     tie.close
-    (tie.spec
-    returns (λ c. search rules) (λ c κs. search rules) (λ c. search rules) returns-2)
+    (tie.spec returns (λ c κs. search rules) (λ c. search rules) returns-2)

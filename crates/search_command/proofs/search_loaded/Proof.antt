@@ -9,18 +9,11 @@ use Rattle.search_command.proofs.search_loaded.Tie as tie
 
 returns : tie.Need-returns
 returns c =
-    let s = c.before.before.before.before.before.before.before.before.before.before.before.before.before.before.before.before.before.before.before.before.before in
-    let a = s.args in
-    let n = c.before.before.before.before.before.before.before.before.before.before.before.before.before.search in
-    let l = c.before.before.before.before.before.before.before.before.shown-length in
-    let w = c.before.before.before.before.before.before.write-answer in
-    let t = c.before.before.write-note in
-    left (circuit_in a.m.now) a.q.b a.q.k a.q.d (length a.work.now) a.out.now a.line.now a.note.now w.result
-    l.result t.result (judged s.requires.0 n.ensures) w.ensures l.ensures t.ensures
+    let a = c.args in
+    left (circuit_in a.m.now) a.q.b a.q.k a.q.d (length a.work.now) a.out.now a.line.now a.note.now c.write_answer-length.result
+    c.shown_length-witness.result c.write_note-told.result (judged c.requires.0 c.search-answer.ensures) c.write_answer-length.ensures c.shown_length-witness.ensures c.write_note-told.ensures
 
-pub search-loaded-spec : {M : Type 1} → statement M
-search-loaded-spec =
+pub search_loaded_spec : {M : Type 1} → statement M
+search_loaded_spec =
     tie.close
-    (tie.spec
-    (λ c κs. search rules) (λ c κs. search rules) (λ c κs. search rules) (λ c κs. search rules) (λ c. search rules)
-    (λ c. search rules) (λ c. search rules) (λ c. search rules) returns)
+    (tie.spec (λ c κs. search rules) (λ c κs. search rules) (λ c κs. search rules) (λ c κs. search rules) (λ c. search rules) (λ c. search rules) (λ c. search rules) (λ c. search rules) returns)

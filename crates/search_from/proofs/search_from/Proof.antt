@@ -9,37 +9,34 @@ use Rattle.search_from.proofs.Answers.{refused-with, fits, answered-with}
 use Rattle.search_from.proofs.search_from.Statement.{statement}
 use Rattle.search_from.proofs.search_from.Tie as tie
 
-returns : tie.Need-returns
-returns c = Operated.no_circuit (rw c.enum_told.given.1 at c.before.before.before.held_in.ensures.0)
+returns : tie.Need-returns-in_default
+returns c = Operated.no_circuit (rw c.in_default.is at c.held_in.ensures.0)
 
-check-from-requires : tie.Need-check-from-requires
+check-from-requires : tie.Need-check_from-requires
 check-from-requires c κs =
-    let h = rw c.before.layout.given.1 at c.before.before.before.before.held_in.ensures.0 in
+    let h = rw c.in-Circuit.is at c.held_in.ensures.0 in
     (limited h.1 h.0, omega arith)
 
-returns-2 : tie.Need-returns-2
+returns-2 : tie.Need-returns-in-Refused
 returns-2 c =
-    let h = rw c.before.before.before.before.before.layout.given.1 at c.before.before.before.before.before.before.before.before.held_in.ensures.0 in
+    let h = rw c.in-Circuit.is at c.held_in.ensures.0 in
     let n = counts_of h.1 h.0 in
-    refused-with h.1 (rw c.before.n.given.1 at (c.before.before.before.check-from.ensures _ _ n (sym n.inputs) refl))
+    refused-with h.1 (rw c.in-Refused.is at (c.check_from.ensures _ _ n (sym n.inputs) refl))
 
-search-ready-requires : tie.Need-search-ready-requires
+search-ready-requires : tie.Need-search_ready-requires
 search-ready-requires c κs =
-    let h = rw c.before.before.before.before.before.before.before.layout.given.1 at c.before.before.before.before.before.before.before.before.before.before.held_in.ensures.0 in
+    let h = rw c.in-Circuit.is at c.held_in.ensures.0 in
     let n = counts_of h.1 h.0 in
-    fits h.1 h.0 h.2 (omega (arith, c.before.before.before.before.before.before.before.before.before.before.held_in.auto.1.0))
-    (rw c.before.before.before.enum-told2.given.1 at (c.before.before.before.before.before.check-from.ensures _ _ n (sym n.inputs) refl))
+    fits h.1 h.0 h.2 (omega (arith, c.held_in.auto.order))
+    (rw c.in_default-check_from.is at (c.check_from.ensures _ _ n (sym n.inputs) refl))
 
-returns-3 : tie.Need-returns-3
+returns-3 : tie.Need-returns
 returns-3 c =
-    let h = rw c.before.before.before.before.before.before.before.before.before.before.before.before.layout.given.1 at c.before.before.before.before.before.before.before.before.before.before.before.before.before.before.before.held_in.ensures.0 in
+    let h = rw c.in-Circuit.is at c.held_in.ensures.0 in
     let n = counts_of h.1 h.0 in
-    answered-with h.1 (rw c.before.before.before.before.before.before.before.before.enum-told2.given.1 at (c.before.before.before.before.before.before.before.before.before.before.check-from.ensures _ _ n (sym n.inputs) refl)) c.before.before.before.before.search-ready.ensures
+    answered-with h.1 (rw c.in_default-check_from.is at (c.check_from.ensures _ _ n (sym n.inputs) refl)) c.search_ready.ensures
 
-pub search-from-spec : {M : Type 1} → statement M
-search-from-spec =
+pub search_from_spec : {M : Type 1} → statement M
+search_from_spec =
     tie.close
-    (tie.spec
-    (λ c. search rules) (λ c κs. search rules) (λ c. search rules) (λ c. search rules) returns check-from-requires
-    (λ c. search rules) returns-2 (λ c. search rules) (λ c. search rules) search-ready-requires (λ c. search rules)
-    (λ c. search rules) returns-3)
+    (tie.spec (λ c. search rules) (λ c κs. search rules) (λ c. search rules) (λ c. search rules) returns check-from-requires (λ c. search rules) returns-2 (λ c. search rules) (λ c. search rules) search-ready-requires (λ c. search rules) (λ c. search rules) returns-3)

@@ -7,16 +7,10 @@ use Rattle.search_from_command.proofs.search_loaded.Tie as tie
 
 returns : tie.Need-returns
 returns c =
-    let s = c.before.before.before.before.before.before.before.before.before.before.before.before.before.before.before.before in
-    let a = s.args in
-    let n = c.before.before.before.before.before.before.before.before.before.search-from in
-    let l = c.before.before.before.before.shown-length in
-    let w = c.before.before.write-answer in
-    left a.q.b a.q.t a.q.place a.q.d (said n.result) s.requires.0 n.ensures a.line.now w.result l.result w.ensures l.ensures
+    let a = c.args in
+    left a.q.b a.q.t a.q.place a.q.d (said c.search_from-answer.result) c.requires.0 c.search_from-answer.ensures a.line.now c.write_answer-length.result c.shown_length-witness.result c.write_answer-length.ensures c.shown_length-witness.ensures
 
-pub search-loaded-spec : {M : Type 1} → statement M
-search-loaded-spec =
+pub search_loaded_spec : {M : Type 1} → statement M
+search_loaded_spec =
     tie.close
-    (tie.spec
-    (λ c κs. search rules) (λ c κs. search rules) (λ c κs. search rules) (λ c. search rules) (λ c. search rules)
-    (λ c. search rules) returns)
+    (tie.spec (λ c κs. search rules) (λ c κs. search rules) (λ c κs. search rules) (λ c. search rules) (λ c. search rules) (λ c. search rules) returns)

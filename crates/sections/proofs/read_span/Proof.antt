@@ -49,12 +49,11 @@ loop-less : tie.Need-loop-k-smaller invariant-loop decreases-loop
 loop-less c = omega (arith, c.loop-k-test.true)
 
 loop-again : tie.Need-loop-k-preserved invariant-loop decreases-loop
-loop-again c =
-    (
-      omega (arith, c.loop-k-test.true),
-      reached-more c.loop-k.invariant.1 c.loop-k-test.true c.requires.1.0.1 (found c.before.before.before _ c.in-Read.is)
-          c.read_section.auto.words,
-    )
+loop-again c = (
+  omega (arith, c.loop-k-test.true),
+  reached-more c.loop-k.invariant.1 c.loop-k-test.true c.requires.1.0.1 (found c.before.before.before _ c.in-Read.is)
+      c.read_section.auto.words,
+)
 
 same_length : tie.Need-shape_of-words-in-Malformed invariant-loop decreases-loop
 same_length c =

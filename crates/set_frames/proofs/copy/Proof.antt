@@ -29,8 +29,7 @@ loop-less c = omega (arith, c.loop-i.invariant.0)
 
 loop-again : tie.Need-loop-i-preserved invariant-loop decreases-loop
 loop-again c =
-    let a = c.args in
-    (
+    let a = c.args in (
       length-set c.loop-i.to c.loop-i.i (get_or a.from.now c.loop-i.i 0) ∙ c.loop-i.invariant.0,
       omega (arith, c.loop-i.invariant.0),
       copied_more a.from.now c.loop-i.to c.loop-i.i (omega arith) c.loop-i.invariant.2,

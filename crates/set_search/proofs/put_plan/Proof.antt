@@ -31,19 +31,18 @@ slice-aggregate-make-plan c =
     (omega (arith, c.kept_latches-count.auto.kept, c.kept_latches-count.ensures.0, latches-few c.requires.0.held c.requires.0.layout_of)))
 
 make-plan-requires : tie.Need-make_plan-requires
-make-plan-requires c κs =
-    (
-      c.requires.0,
-      (
-        c.requires.1,
-        omega (
-          arith,
-          c.if-count-gt112.false,
-          length-take-le c.kept_latches-count.result c.kept_latches-count.new.kept
-              (omega (arith, c.kept_latches-count.auto.kept, c.kept_latches-count.ensures.0, latches-few c.requires.0.held c.requires.0.layout_of)),
-        ),
-      ),
-    )
+make-plan-requires c κs = (
+  c.requires.0,
+  (
+    c.requires.1,
+    omega (
+      arith,
+      c.if-count-gt112.false,
+      length-take-le c.kept_latches-count.result c.kept_latches-count.new.kept
+          (omega (arith, c.kept_latches-count.auto.kept, c.kept_latches-count.ensures.0, latches-few c.requires.0.held c.requires.0.layout_of)),
+    ),
+  ),
+)
 
 returns-2 : tie.Need-returns
 returns-2 c =

@@ -90,8 +90,7 @@ loop-less c = omega (arith, c.loop-i-test.true)
 loop-again : tie.Need-loop-i-preserved invariant-loop decreases-loop
 loop-again c =
     let a = c.args in
-    let p = c.requires.1.0 in
-    (
+    let p = c.requires.1.0 in (
       c.attempt.auto.work ∙ c.loop-i.invariant.0,
       omega (arith, c.loop-i-test.true),
       c.loop-i.invariant.2,

@@ -54,8 +54,7 @@ loop-less c = omega (arith, c.loop-r-test.true)
 
 loop-again : tie.Need-loop-r-preserved invariant-loop decreases-loop
 loop-again c =
-    let a = c.args in
-    (
+    let a = c.args in (
       c.put_row_again.auto.w ∙ c.loop-r.invariant.0,
       c.put_row_again.auto.table ∙ c.loop-r.invariant.1,
       omega (arith, c.loop-r-test.true),

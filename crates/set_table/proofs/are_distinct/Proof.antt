@@ -21,12 +21,11 @@ returns c =
     new-not c.args.xs.now c.loop-v.v c.loop-v-test.true c.rank_of.result c.rank_of.ensures c.if-rank_of-v.true
 
 loop-again : tie.Need-loop-v-preserved invariant-loop decreases-loop
-loop-again c =
-    (
-      omega arith,
-      new-more c.args.xs.now c.loop-v.v c.loop-v-test.true c.rank_of.result c.rank_of.ensures
-          c.if-rank_of-v.false c.loop-v.invariant.1,
-    )
+loop-again c = (
+  omega arith,
+  new-more c.args.xs.now c.loop-v.v c.loop-v-test.true c.rank_of.result c.rank_of.ensures
+      c.if-rank_of-v.false c.loop-v.invariant.1,
+)
 
 returns-2 : tie.Need-returns invariant-loop decreases-loop
 returns-2 c =

@@ -57,8 +57,7 @@ loop-less c = omega arith
 
 loop-again : tie.Need-loop-j-preserved invariant-loop decreases-loop
 loop-again c =
-    let a = c.args in
-    (
+    let a = c.args in (
       omega arith,
       ranked-more (rank_in a.latches.now) (λ i. is_free (latch_at (circuit_in a.m.now) i)) c.loop-j.j c.loop-j.n a.frees.now c.loop-j.frees
           c.if-is_free.frees c.if-is_free.n c.is_free.result c.is_free.ensures

@@ -58,8 +58,7 @@ returns c =
 
 put-rows-requires : tie.Need-put_rows-requires
 put-rows-requires c κs =
-    let a = c.args in
-    (
+    let a = c.args in (
       c.requires.0,
       rw c.put_start_again.auto.table
           (rows-room a.plan.now (length a.table.now) c.requires.1 c.rows_of-rows.result c.rows_of-rows.ensures.0 c.rows_of-rows.ensures.1),

@@ -34,8 +34,7 @@ slice-write-base c = omega (arith, c.loop-v.invariant.1, c.requires.1)
 
 loop-again : tie.Need-loop-v-preserved invariant-loop decreases-loop
 loop-again c =
-    let a = c.args in
-    (
+    let a = c.args in (
       omega arith,
       length-set c.loop-v.base c.loop-v.v c.reset_word.result ∙ c.loop-v.invariant.1,
       begun_more (reset_word (circuit_in a.m.now)) a.latches.now c.loop-v.v c.loop-v.base c.reset_word.result (omega (arith, c.loop-v.invariant.1, c.requires.1))

@@ -19,8 +19,7 @@ triple-at-requires c κs = (latches-fit c.requires, omega arith)
 
 returns-2 : tie.Need-returns-then-is_true
 returns-2 c =
-    let a = c.args in
-    (
+    let a = c.args in (
       reset-given (circuit_in a.m.now) a.j (sym c.is_free.ensures ∙ c.if-is_free.false) true
           (sym (one-test c.requires a.j c.triple_at-reset.result c.triple_at-reset.ensures) ∙ sym c.is_true.ensures ∙ c.if-is_true.true),
       omega arith,
@@ -28,8 +27,7 @@ returns-2 c =
 
 returns-3 : tie.Need-returns-else-is_true
 returns-3 c =
-    let a = c.args in
-    (
+    let a = c.args in (
       reset-given (circuit_in a.m.now) a.j (sym c.is_free.ensures ∙ c.if-is_free.false) false
           (sym (one-test c.requires a.j c.triple_at-reset.result c.triple_at-reset.ensures) ∙ sym c.is_true.ensures ∙ c.if-is_true.false),
       omega arith,

@@ -42,8 +42,7 @@ returns c =
 
 loop-again : tie.Need-loop-v-preserved invariant-loop decreases-loop
 loop-again c =
-    let a = c.args in
-    (
+    let a = c.args in (
       omega (arith, c.loop-v-test.true),
       c.with_reset-made.auto.w ∙ c.loop-v.invariant.1,
       resets_more (circuit_in a.m.now) a.latches.now c.loop-v.v (state_of c.loop-v.w) c.loop-v.e c.loop-v-test.true (state_of c.with_reset-made.new.w)

@@ -38,8 +38,7 @@ loop-less c = omega arith
 
 loop-again : tie.Need-loop-r-preserved invariant-loop decreases-loop
 loop-again c =
-    let a = c.args in
-    (
+    let a = c.args in (
       c.leads.auto.after ∙ c.loop-r.invariant.0,
       omega arith,
       c.loop-r.invariant.2,

@@ -49,8 +49,7 @@ loop-less c = omega arith
 
 loop-again : tie.Need-loop-v-preserved invariant-loop decreases-loop
 loop-again c =
-    let a = c.args in
-    (
+    let a = c.args in (
       length-set c.loop-v.after c.loop-v.v c.word.result ∙ c.loop-v.invariant.0,
       omega arith,
       next_more a.w.now a.table.now a.s.vars a.r a.bits.now c.row_at-from.result c.loop-v.v c.word.result c.loop-v.after

@@ -41,8 +41,7 @@ loop-less c = omega arith
 
 loop-again : tie.Need-loop-u-preserved invariant-loop decreases-loop
 loop-again c =
-    let a = c.args in
-    (
+    let a = c.args in (
       c.pick.auto.w ∙ c.loop-u.invariant.0,
       c.pick.auto.bits ∙ c.loop-u.invariant.1,
       omega arith,

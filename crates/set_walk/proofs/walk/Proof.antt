@@ -63,8 +63,7 @@ loop-less c = omega arith
 
 loop-again : tie.Need-loop-f-preserved invariant-loop decreases-loop
 loop-again c =
-    let a = c.args in
-    (
+    let a = c.args in (
       c.copy.auto.to ∙ c.loop-f.invariant.0,
       c.least_row-r.auto.after ∙ c.loop-f.invariant.1,
       length-set c.loop-f.trace c.loop-f.f c.least_row-r.result ∙ c.loop-f.invariant.2,

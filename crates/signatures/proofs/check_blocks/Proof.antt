@@ -69,8 +69,7 @@ loop-less c = omega arith
 
 loop-again : tie.Need-loop-q-preserved invariant-loop decreases-loop
 loop-again c =
-    let a = c.args in
-    (
+    let a = c.args in (
       omega arith,
       c.check_block-left.auto.work ∙ c.loop-q.invariant.1,
       blocks-next a.g (edge_word a.a) (edge_word a.b) c.loop-q.q c.loop-q.invariant.2 c.check_block-left.ensures,

@@ -37,8 +37,7 @@ loop-less c = omega arith
 
 loop-again : tie.Need-loop-k-preserved invariant-loop decreases-loop
 loop-again c =
-    let i = c.loop-k.invariant in
-    (
+    let i = c.loop-k.invariant in (
       omega arith,
       omega arith,
       c.eval_gate.auto.work ∙ i.2,

@@ -55,12 +55,11 @@ loop-less : tie.Need-loop-i-smaller invariant-loop decreases-loop
 loop-less c = omega arith
 
 loop-again : tie.Need-loop-i-preserved invariant-loop decreases-loop
-loop-again c =
-    (
-      omega arith,
-      c.keep-left.auto.work ∙ c.loop-i.invariant.1,
-      upto-more c.loop-i.invariant.2 (same-as c.args.w (read c.loop-i.work c.loop-i.i c.from_word-e.ensures) c.keep-left.ensures),
-    )
+loop-again c = (
+  omega arith,
+  c.keep-left.auto.work ∙ c.loop-i.invariant.1,
+  upto-more c.loop-i.invariant.2 (same-as c.args.w (read c.loop-i.work c.loop-i.i c.from_word-e.ensures) c.keep-left.ensures),
+)
 
 same_length : tie.Need-shape_of-work invariant-loop decreases-loop
 same_length c = c.loop-i.invariant.1

@@ -29,8 +29,7 @@ module _ (c : tie.After-signature-2) where
 
 check-blocks-requires : tie.Need-check_blocks-left-requires
 check-blocks-requires c κs =
-    let a = c.args in
-    (
+    let a = c.args in (
       (
         simulable-kept a.work.now c.gather-count.new.work a.g c.gather-count.auto.work c.gather-count.ensures.kept
             (record { sized = c.requires.sized; ordered = c.requires.ordered }),

@@ -86,8 +86,7 @@ loop-less c =
 
 loop-again : tie.Need-loop-next-preserved invariant-loop decreases-loop
 loop-again c =
-    let a = c.args in
-    (
+    let a = c.args in (
       c.push-count.auto.work ∙ c.loop-next.invariant.0,
       λ g y w.
           walk_more a.s y (c.loop-next.invariant.1 g y w) (omega arith)

@@ -41,14 +41,13 @@ loop-less : tie.Need-loop-j-smaller invariant-loop decreases-loop
 loop-less c = omega arith
 
 loop-again : tie.Need-loop-j-preserved invariant-loop decreases-loop
-loop-again c =
-    (
-      omega arith,
-      c.put_word-in-loop-j.auto.work ∙ c.loop-j.invariant.1,
-      λ m u.
-          leaves-more m c.loop-j.work c.put_word-in-loop-j.new.work c.args.free c.args.q (c.loop-j.j + 1) c.counting_word-w.result (c.loop-j.invariant.2 m u) c.put_word-in-loop-j.ensures
-          (free-bits c.args.free c.args.q c.loop-j.j c.counting_word-w.result (omega arith) c.counting_word-w.ensures),
-    )
+loop-again c = (
+  omega arith,
+  c.put_word-in-loop-j.auto.work ∙ c.loop-j.invariant.1,
+  λ m u.
+      leaves-more m c.loop-j.work c.put_word-in-loop-j.new.work c.args.free c.args.q (c.loop-j.j + 1) c.counting_word-w.result (c.loop-j.invariant.2 m u) c.put_word-in-loop-j.ensures
+      (free-bits c.args.free c.args.q c.loop-j.j c.counting_word-w.result (omega arith) c.counting_word-w.ensures),
+)
 
 same_length : tie.Need-shape_of-work invariant-loop decreases-loop
 same_length c = c.loop-j.invariant.1 ∙ c.put_word.auto.work

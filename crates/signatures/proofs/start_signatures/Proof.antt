@@ -42,8 +42,7 @@ loop-less c = omega arith
 
 loop-again : tie.Need-loop-j-preserved invariant-loop decreases-loop
 loop-again c =
-    let g = c.args.g in
-    (
+    let g = c.args.g in (
       omega arith,
       c.link-in-loop-j.auto.work ∙ c.loop-j.invariant.1,
       λ m u.

@@ -38,15 +38,14 @@ loop-less : tie.Need-loop-k-smaller invariant-loop decreases-loop
 loop-less c = omega arith
 
 loop-again : tie.Need-loop-k-preserved invariant-loop decreases-loop
-loop-again c =
-    (
-      omega (arith, c.loop-k.invariant.0),
-      c.eval_gate.auto.work ∙ c.loop-k.invariant.1,
-      kept_trans c.args.work.now c.loop-k.work c.eval_gate.new.work c.loop-k.invariant.2 (kept-gate c.loop-k.work c.eval_gate.new.work c.loop-k.k c.eval_gate.ensures),
-      λ g gs root net z h f sim.
-          simulated-more (net-kept net c.loop-k.work c.loop-k.invariant.2 c.loop-k.invariant.1) f c.eval_gate.new.work c.loop-k.k (omega (arith, c.loop-k.invariant.0)) (omega arith) c.eval_gate.ensures
-          (c.loop-k.invariant.3 g gs root net z h f sim),
-    )
+loop-again c = (
+  omega (arith, c.loop-k.invariant.0),
+  c.eval_gate.auto.work ∙ c.loop-k.invariant.1,
+  kept_trans c.args.work.now c.loop-k.work c.eval_gate.new.work c.loop-k.invariant.2 (kept-gate c.loop-k.work c.eval_gate.new.work c.loop-k.k c.eval_gate.ensures),
+  λ g gs root net z h f sim.
+      simulated-more (net-kept net c.loop-k.work c.loop-k.invariant.2 c.loop-k.invariant.1) f c.eval_gate.new.work c.loop-k.k (omega (arith, c.loop-k.invariant.0)) (omega arith) c.eval_gate.ensures
+      (c.loop-k.invariant.3 g gs root net z h f sim),
+)
 
 same_length : tie.Need-shape_of-work invariant-loop decreases-loop
 same_length c = c.loop-k.invariant.1

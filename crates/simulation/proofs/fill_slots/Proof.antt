@@ -62,18 +62,17 @@ loop-less : tie.Need-loop-i-smaller invariant-loop decreases-loop
 loop-less c = omega arith
 
 loop-again : tie.Need-loop-i-preserved invariant-loop decreases-loop
-loop-again c =
-    (
-      omega (arith, c.loop-i.invariant.0),
-      omega arith,
-      omega (arith, c.loop-i.invariant.2, taken-bound c.take_slot-next.ensures),
-      c.take_slot-next.auto.slots ∙ c.loop-i.invariant.3,
-      λ g gs root z net h.
-          next_more {g = g} (omega (arith, c.requires.1)) (as-taken c.loop-i.i g c.args.work.now c.args.g.free z c.take_slot-next.ensures) net (c.loop-i.invariant.4 g gs root z net h),
-      λ g z h a.
-          slots-more {g = g} (omega (arith, c.requires.1)) (as-taken c.loop-i.i g c.args.work.now c.args.g.free z c.take_slot-next.ensures)
-          (λ gs root net. c.loop-i.invariant.4 g gs root z net (h gs root net)) (c.loop-i.invariant.5 g z h a),
-    )
+loop-again c = (
+  omega (arith, c.loop-i.invariant.0),
+  omega arith,
+  omega (arith, c.loop-i.invariant.2, taken-bound c.take_slot-next.ensures),
+  c.take_slot-next.auto.slots ∙ c.loop-i.invariant.3,
+  λ g gs root z net h.
+      next_more {g = g} (omega (arith, c.requires.1)) (as-taken c.loop-i.i g c.args.work.now c.args.g.free z c.take_slot-next.ensures) net (c.loop-i.invariant.4 g gs root z net h),
+  λ g z h a.
+      slots-more {g = g} (omega (arith, c.requires.1)) (as-taken c.loop-i.i g c.args.work.now c.args.g.free z c.take_slot-next.ensures)
+      (λ gs root net. c.loop-i.invariant.4 g gs root z net (h gs root net)) (c.loop-i.invariant.5 g z h a),
+)
 
 same_length : tie.Need-shape_of-slots invariant-loop decreases-loop
 same_length c = c.loop-i.invariant.3 ∙ sym c.requires.1.3

@@ -45,14 +45,13 @@ loop-less : tie.Need-loop-k-smaller invariant-loop decreases-loop
 loop-less c = omega arith
 
 loop-again : tie.Need-loop-k-preserved invariant-loop decreases-loop
-loop-again c =
-    (
-      omega (arith, c.loop-k.invariant.0),
-      omega arith,
-      c.put_word.auto.work ∙ c.loop-k.invariant.2,
-      put-more c.args.work.now c.loop-k.work c.put_word.new.work c.args.slots.now c.args.from c.loop-k.k c.args.block c.counting_word.result c.loop-k.invariant.0
-          (λ i j h u. c.requires.0.differ i j h (omega arith)) c.loop-k.invariant.3 c.counting_word.ensures c.put_word.ensures,
-    )
+loop-again c = (
+  omega (arith, c.loop-k.invariant.0),
+  omega arith,
+  c.put_word.auto.work ∙ c.loop-k.invariant.2,
+  put-more c.args.work.now c.loop-k.work c.put_word.new.work c.args.slots.now c.args.from c.loop-k.k c.args.block c.counting_word.result c.loop-k.invariant.0
+      (λ i j h u. c.requires.0.differ i j h (omega arith)) c.loop-k.invariant.3 c.counting_word.ensures c.put_word.ensures,
+)
 
 same_length : tie.Need-shape_of-work invariant-loop decreases-loop
 same_length c = c.loop-k.invariant.2

@@ -35,18 +35,16 @@ slice-aggregate-fill-firsts : tie.Need-slice_bounds-fill_firsts-end
 slice-aggregate-fill-firsts c = refl
 
 fill-firsts-requires : tie.Need-fill_firsts-requires
-fill-firsts-requires c κs =
-    (
-      (pairs_of c.args.work.now c.args.g, c.args.root, c.requires.0),
-      (omega (arith, c.requires.1.0.held, c.slot_count-count.ensures), omega (arith, c.slot_count-count.ensures)),
-    )
+fill-firsts-requires c κs = (
+  (pairs_of c.args.work.now c.args.g, c.args.root, c.requires.0),
+  (omega (arith, c.requires.1.0.held, c.slot_count-count.ensures), omega (arith, c.slot_count-count.ensures)),
+)
 
 start-hits-requires : tie.Need-start_hits-hits-requires
-start-hits-requires c κs =
-    (
-      c.requires.0,
-      (slots-of c.slot_count-count.result c.requires.1.0 c.slot_count-count.ensures, omega (arith, c.whole_blocks-start.ensures.1)),
-    )
+start-hits-requires c κs = (
+  c.requires.0,
+  (slots-of c.slot_count-count.result c.requires.1.0 c.slot_count-count.ensures, omega (arith, c.whole_blocks-start.ensures.1)),
+)
 
 slice-aggregate-scan : tie.Need-slice_bounds-scan-end
 slice-aggregate-scan c = sym c.fill_firsts.auto.firsts

@@ -1,5 +1,7 @@
 -- `staged::by_sets` meets its contract. The loop's invariant: from the first frame that is not decided on, the sets show what they show from
 -- the start on. Assumes nothing.
+use Rattle.std.proofs.lemmas.Bool.{not_from_true}
+use Rattle.std.proofs.lemmas.Bool.{not_from_false}
 use mathlib.Core.Path.{◌≡◌, refl, sym, ◌∙◌}
 use Prim.Native.Nat.{ℕ, ◌-◌, ◌≤◌}
 use native.Mathlib.Omega.{arith}
@@ -117,7 +119,7 @@ returns-5 c =
     let begun : c.size.result ≡ size C c.loop-left.first = c.size.ensures ∙ size_is e c.loop-left.first in
     let reached : c.size-in-GaveUp.result ≡ size C t = c.size-in-GaveUp.ensures ∙ size_is e t in
     let far = far-is C c.loop-left.first t begun reached c.is_far.ensures in
-    turn-stop C a.q.b a.q.k a.share a.start a.q.d c.requires.0.bound c.loop-left.invariant.1 c.loop-left-test.true c.try_sets.new.work c.try_sets.ensures c.in-GaveUp.is (far ∙ refused c.is_far.result c.if-not-is_far.true)
+    turn-stop C a.q.b a.q.k a.share a.start a.q.d c.requires.0.bound c.loop-left.invariant.1 c.loop-left-test.true c.try_sets.new.work c.try_sets.ensures c.in-GaveUp.is (far ∙ refused c.is_far.result (not_from_false _ c.if-not-is_far.true))
 
 sub-left : tie.Need-overflow_sub-left invariant-loop decreases-loop
 sub-left c = omega (arith, c.loop-left-test.true)
@@ -135,7 +137,7 @@ loop-again c =
     let begun : c.size.result ≡ size C c.loop-left.first = c.size.ensures ∙ size_is e c.loop-left.first in
     let reached : c.size-in-GaveUp.result ≡ size C t = c.size-in-GaveUp.ensures ∙ size_is e t in
     let far = far-is C c.loop-left.first t begun reached c.is_far.ensures in
-    (c.try_sets.auto.work ∙ c.loop-left.invariant.0, turn_more C a.q.b a.q.k a.share a.start a.q.d c.requires.0.bound c.loop-left.invariant.1 c.loop-left-test.true c.try_sets.new.work c.try_sets.ensures c.in-GaveUp.is (far ∙ granted c.is_far.result c.if-not-is_far.false))
+    (c.try_sets.auto.work ∙ c.loop-left.invariant.0, turn_more C a.q.b a.q.k a.share a.start a.q.d c.requires.0.bound c.loop-left.invariant.1 c.loop-left-test.true c.try_sets.new.work c.try_sets.ensures c.in-GaveUp.is (far ∙ granted c.is_far.result (not_from_true _ c.if-not-is_far.false)))
 
 same-length-6 : tie.Need-shape_of-work invariant-loop decreases-loop
 same-length-6 c = c.loop-left.invariant.0

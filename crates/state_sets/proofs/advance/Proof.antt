@@ -49,8 +49,7 @@ loop-less c = omega (arith, c.loop-r.invariant.3)
 
 loop-again : tie.Need-loop-r-preserved invariant-loop decreases-loop
 loop-again c =
-    let a = c.args in
-    (
+    let a = c.args in (
       c.step_again.auto.w ∙ c.loop-r.invariant.0,
       c.step_again.auto.table ∙ c.loop-r.invariant.1,
       omega (arith, c.loop-r.invariant.3),

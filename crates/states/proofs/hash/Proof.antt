@@ -20,8 +20,7 @@ loop-holds c = (omega arith, hash-none c.args.s.now (length c.args.s.now))
 
 loop-again : tie.Need-loop-i-preserved invariant-loop decreases-loop
 loop-again c =
-    let s = c.args.s.now in
-    (
+    let s = c.args.s.now in (
       omega (arith, c.loop-i.invariant.0),
       hash-more s (length s) c.loop-i.i c.loop-i.h c.mix-h.result (omega arith) c.loop-i.invariant.0 (omega (
         arith,

@@ -61,8 +61,7 @@ add-n c = omega (arith, c.requires.1.1)
 
 loop-again : tie.Need-loop-n-preserved invariant-loop decreases-loop
 loop-again c =
-    let a = c.args in
-    (
+    let a = c.args in (
       omega arith,
       subst (Filling a.table a.count a.records.now (c.loop-n.n + 1)) (sym c.link.ensures)
           (filling-more a.table a.count a.records.now c.loop-n.n c.loop-n.records c.bucket_at-h.result c.loop-n.invariant.1 c.requires.0 (omega arith) c.requires.1.0

@@ -7,8 +7,7 @@ use Rattle.ternary.proofs.next_frame.Tie as tie
 
 returns : tie.Need-returns
 returns c =
-    let a = c.args in
-    (
+    let a = c.args in (
       next-is c.requires.0 (length a.can.now) a.body.now a.at a.can.now a.state.now c.save_state.new.state
           c.fill.new.can c.put_state.new.can c.requires.2 c.save_state.ensures c.fill.ensures c.put_state.ensures
           c.put_frame.ensures,

@@ -80,8 +80,7 @@ loop-less c = omega (arith, c.loop-k-test.true)
 
 loop-again : tie.Need-loop-k-preserved invariant-loop decreases-loop
 loop-again c =
-    let a = c.args in
-    (
+    let a = c.args in (
       omega (arith, c.loop-k-test.true),
       every_more (λ i. sure a.can.now (get_or (circuit_in a.m.now).constraints i 0)) c.loop-k.k c.loop-k.invariant.1
           (sym (told c.before) ∙ c.if-not-is_sure.false),

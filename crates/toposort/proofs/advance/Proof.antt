@@ -28,14 +28,13 @@ push-requires c κs =
     )
 
 place-requires : tie.Need-place-requires
-place-requires c κs =
-    (
-      omega (arith, c.requires.0.small),
-      top-gate _ _ _ _ _ _ _ c.requires.1.0 c.requires.1.1,
-      omega (arith, counts _ _ _ _ _ _ _ c.requires.1.0, c.requires.1.1),
-      c.requires.1.0.pos-room,
-      c.requires.1.0.order-room,
-    )
+place-requires c κs = (
+  omega (arith, c.requires.0.small),
+  top-gate _ _ _ _ _ _ _ c.requires.1.0 c.requires.1.1,
+  omega (arith, counts _ _ _ _ _ _ _ c.requires.1.0, c.requires.1.1),
+  c.requires.1.0.pos-room,
+  c.requires.1.0.order-room,
+)
 
 returns : tie.Need-returns-in-Fresh
 returns c =

@@ -25,13 +25,12 @@ returns-2 : tie.Need-returns-then-p-eq0
 returns-2 c = omega (arith, c.requires.1.1 c.args.v.0)
 
 returns-3 : tie.Need-returns-then-p-m
-returns-3 c =
-    (
-      get_or c.args.table.now c.args.v.0 0 - c.args.base - 1,
-      omega (arith, c.requires.1.1 c.args.v.0),
-      omega (arith, c.requires.1.1 c.args.v.0),
-      c.if-p-m.true,
-    )
+returns-3 c = (
+  get_or c.args.table.now c.args.v.0 0 - c.args.base - 1,
+  omega (arith, c.requires.1.1 c.args.v.0),
+  omega (arith, c.requires.1.1 c.args.v.0),
+  c.if-p-m.true,
+)
 
 returns-4 : tie.Need-returns
 returns-4 c =

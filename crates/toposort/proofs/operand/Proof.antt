@@ -39,12 +39,11 @@ returns c =
     )
 
 returns-2 : tie.Need-returns-in-Open
-returns-2 c =
-    (
-      first-open c.args.lits.now c.args.base _ c.args.table.now c.args.pos.now _ c.requires.0
-          (rw (c.in-Open.is, left-read c.before.before.before.before.before) at c.look.ensures),
-      λ left right o. tt,
-    )
+returns-2 c = (
+  first-open c.args.lits.now c.args.base _ c.args.table.now c.args.pos.now _ c.requires.0
+      (rw (c.in-Open.is, left-read c.before.before.before.before.before) at c.look.ensures),
+  λ left right o. tt,
+)
 
 returns-3 : tie.Need-returns-in-Done
 returns-3 c =

@@ -11,11 +11,10 @@ returns : tie.Need-returns-then-test_order
 returns c = rw c.if-test_order.true at c.test_order.ensures
 
 returns-2 : tie.Need-returns
-returns-2 c =
-    (
-      rw c.if-test_order.false at c.test_order.ensures,
-      c.clear.ensures ∙ ap {B = List ℕ} (λ (n : ℕ). replicate n 0) c.test_order.auto.order,
-    )
+returns-2 c = (
+  rw c.if-test_order.false at c.test_order.ensures,
+  c.clear.ensures ∙ ap {B = List ℕ} (λ (n : ℕ). replicate n 0) c.test_order.auto.order,
+)
 
 pub ordered_spec : {M : Type 1} → statement M
 ordered_spec =

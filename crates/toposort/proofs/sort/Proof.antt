@@ -52,16 +52,15 @@ goes_on c sp done n p d =
 
 -- ---- needs
 loop-holds : tie.Need-loop-s-init invariant-loop decreases-loop
-loop-holds c =
-    (
-      run-start _ _ c.args.pos.now c.args.order.now c.args.stack.now c.requires.1.0.0 c.requires.1.0.1 c.requires.1.0.2
-          c.requires.1.1,
-      refl,
-      refl,
-      refl,
-      planned-start c.args.lits.now c.args.base c.args.m c.args.table.now c.args.order.now c.args.stack.now,
-      refl,
-    )
+loop-holds c = (
+  run-start _ _ c.args.pos.now c.args.order.now c.args.stack.now c.requires.1.0.0 c.requires.1.0.1 c.requires.1.0.2
+      c.requires.1.1,
+  refl,
+  refl,
+  refl,
+  planned-start c.args.lits.now c.args.base c.args.m c.args.table.now c.args.order.now c.args.stack.now,
+  refl,
+)
 
 advance-requires : tie.Need-advance-requires invariant-loop decreases-loop
 advance-requires c κs =
@@ -129,14 +128,13 @@ slice-read-if2 : tie.Need-bounds-pos-s invariant-loop decreases-loop
 slice-read-if2 c = omega (arith, c.loop-s.invariant.0.search.pos-room)
 
 push-requires : tie.Need-push-requires invariant-loop decreases-loop
-push-requires c κs =
-    (
-      omega (arith, c.requires.0.small),
-      c.loop-s-test.true,
-      omega (arith, c.if-sp-gt0.false, c.loop-s-test.true),
-      c.loop-s.invariant.0.search.pos-room,
-      c.loop-s.invariant.0.search.stack-room,
-    )
+push-requires c κs = (
+  omega (arith, c.requires.0.small),
+  c.loop-s-test.true,
+  omega (arith, c.if-sp-gt0.false, c.loop-s-test.true),
+  c.loop-s.invariant.0.search.pos-room,
+  c.loop-s.invariant.0.search.stack-room,
+)
 
 add-sp-2 : tie.Need-overflow_add-sp-then-pos-s-eq0 invariant-loop decreases-loop
 add-sp-2 c = omega (arith, c.if-sp-gt0.false)
@@ -175,16 +173,15 @@ loop-less-4 c =
     omega (arith, counts _ _ _ _ _ _ _ c.loop-s.invariant.0.search, c.loop-s-test.true)
 
 loop-again-4 : tie.Need-loop-s-preserved invariant-loop decreases-loop
-loop-again-4 c =
-    (
-      run-skip _ _ _ _ _ _ _ _ c.loop-s.invariant.0 c.loop-s-test.true c.if-sp-gt0.false c.if-pos-s-eq0.false,
-      c.loop-s.invariant.1,
-      c.loop-s.invariant.2,
-      c.loop-s.invariant.3,
-      planned-skip _ _ _ _ _ _ _ _ c.loop-s.invariant.0 _ _ c.loop-s.invariant.4 c.loop-s-test.true
-          c.if-sp-gt0.false c.if-pos-s-eq0.false,
-      c.loop-s.invariant.5,
-    )
+loop-again-4 c = (
+  run-skip _ _ _ _ _ _ _ _ c.loop-s.invariant.0 c.loop-s-test.true c.if-sp-gt0.false c.if-pos-s-eq0.false,
+  c.loop-s.invariant.1,
+  c.loop-s.invariant.2,
+  c.loop-s.invariant.3,
+  planned-skip _ _ _ _ _ _ _ _ c.loop-s.invariant.0 _ _ c.loop-s.invariant.4 c.loop-s-test.true
+      c.if-sp-gt0.false c.if-pos-s-eq0.false,
+  c.loop-s.invariant.5,
+)
 
 same-length-4 : tie.Need-shape_of-pos invariant-loop decreases-loop
 same-length-4 c = c.loop-s.invariant.1
@@ -196,12 +193,11 @@ same-length-6 : tie.Need-shape_of-stack invariant-loop decreases-loop
 same-length-6 c = c.loop-s.invariant.3
 
 returns-2 : tie.Need-returns invariant-loop decreases-loop
-returns-2 c =
-    (
-      run_end _ _ _ _ _ _ _ _ c.loop-s.invariant.0 c.loop-s-test.false,
-      planned-end _ _ _ _ _ _ _ _ c.loop-s.invariant.0 _ _ c.loop-s.invariant.4 c.loop-s-test.false,
-      c.loop-s.invariant.5,
-    )
+returns-2 c = (
+  run_end _ _ _ _ _ _ _ _ c.loop-s.invariant.0 c.loop-s-test.false,
+  planned-end _ _ _ _ _ _ _ _ c.loop-s.invariant.0 _ _ c.loop-s.invariant.4 c.loop-s-test.false,
+  c.loop-s.invariant.5,
+)
 
 pub sort_spec : {M : Type 1} → statement M
 sort_spec =

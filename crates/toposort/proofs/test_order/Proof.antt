@@ -8,12 +8,11 @@ use Rattle.toposort.proofs.test_order.Statement.{statement}
 use Rattle.toposort.proofs.test_order.Tie as tie
 
 sort-requires : tie.Need-sort-requires
-sort-requires c κs =
-    (
-      linked-part c.args.w.now c.requires.0 c.requires.1.0 c.args.table.now c.requires.1.1.0
-          c.layout_of-p.result c.layout_of-p.ensures.0,
-      ((omega arith, omega arith, omega arith), λ g l. get_d-zeros 3072 g),
-    )
+sort-requires c κs = (
+  linked-part c.args.w.now c.requires.0 c.requires.1.0 c.args.table.now c.requires.1.1.0
+      c.layout_of-p.result c.layout_of-p.ensures.0,
+  ((omega arith, omega arith, omega arith), λ g l. get_d-zeros 3072 g),
+)
 
 returns : tie.Need-returns
 returns c =

@@ -19,8 +19,7 @@ put-inputs-requires c κs =
 
 put-gates-requires : tie.Need-put_gates-graph-requires
 put-gates-requires c κs =
-    let F = c.requires.1 in
-    (
+    let F = c.requires.1 in (
       ready_with c.requires.0 (c.put_inputs.auto.map ∙ c.put_starts.auto.map),
       record {
         stored = F.extensible.stored;

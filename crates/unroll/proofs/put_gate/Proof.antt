@@ -22,11 +22,10 @@ make-requires c κs =
     gate-operands c.args.work.now c.args.g c.args.map.now c.requires.1 c.from_word.result c.from_word-2.result c.edge_of-a.ensures.0 c.edge_of-b.ensures.0
 
 put-edge-requires : tie.Need-put_edge-requires
-put-edge-requires c κs =
-    (
-      omega (arith, ap (λ (v : Var). v.0) c.var.ensures, ap (λ (l : Lit). l.0.0) c.from_word-l.ensures, c.requires.0.lit),
-      omega (arith, word_small c.make-made.result.edge c.make-made.result.graph.nodes c.make-made.ensures.node, c.make-made.ensures.stored.sized.nodes, c.make-made.ensures.stored.sized.room),
-    )
+put-edge-requires c κs = (
+  omega (arith, ap (λ (v : Var). v.0) c.var.ensures, ap (λ (l : Lit). l.0.0) c.from_word-l.ensures, c.requires.0.lit),
+  omega (arith, word_small c.make-made.result.edge c.make-made.result.graph.nodes c.make-made.ensures.node, c.make-made.ensures.stored.sized.nodes, c.make-made.ensures.stored.sized.room),
+)
 
 returns : tie.Need-returns
 returns c =

@@ -62,8 +62,7 @@ put-gate-requires c κs =
 loop-again : tie.Need-loop-k-preserved invariant-loop decreases-loop
 loop-again c =
     let T = S c.before.before.before.before.before.before.before.before in
-    let r = T.requires.0 in
-    (
+    let r = T.requires.0 in (
       omega arith,
       c.put_gate-graph.auto.work ∙ c.loop-k.invariant.1,
       c.put_gate-graph.auto.map ∙ c.loop-k.invariant.2,

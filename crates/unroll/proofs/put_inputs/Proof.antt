@@ -39,11 +39,10 @@ add-free-edge : tie.Need-overflow_add-first invariant-loop decreases-loop
 add-free-edge c = omega arith
 
 put-edge-requires : tie.Need-put_edge-requires invariant-loop decreases-loop
-put-edge-requires c κs =
-    (
-      omega (arith, ap (λ (v : Var). v.0) c.var.ensures, ap (λ (l : Lit). l.0.0) c.from_word-l.ensures, (inputs_apart c.requires.0.1).below c.loop-i.i (omega arith), c.loop-i.invariant.1),
-      omega (arith, ap (λ (e : Edge). edge_word e) c.free_edge.ensures, free-node (c.args.first + c.loop-i.i)),
-    )
+put-edge-requires c κs = (
+  omega (arith, ap (λ (v : Var). v.0) c.var.ensures, ap (λ (l : Lit). l.0.0) c.from_word-l.ensures, (inputs_apart c.requires.0.1).below c.loop-i.i (omega arith), c.loop-i.invariant.1),
+  omega (arith, ap (λ (e : Edge). edge_word e) c.free_edge.ensures, free-node (c.args.first + c.loop-i.i)),
+)
 
 add-i : tie.Need-overflow_add-i-in-loop-i invariant-loop decreases-loop
 add-i c = let r = c.requires.0.1 in omega (arith, inputs-inside r.held r.layout_of)
@@ -52,13 +51,12 @@ loop-less : tie.Need-loop-i-smaller invariant-loop decreases-loop
 loop-less c = omega arith
 
 loop-again : tie.Need-loop-i-preserved invariant-loop decreases-loop
-loop-again c =
-    (
-      omega arith,
-      c.put_edge.auto.map ∙ c.loop-i.invariant.1,
-      put-more (input_var c.args.m.now) (input_word c.args.first) c.loop-i.i c.args.map.now c.loop-i.map c.put_edge.new.map (inputs_apart c.requires.0.1) c.loop-i.invariant.1 (omega arith) c.loop-i.invariant.2
-          (ap (λ (v : Var). v.0) c.var.ensures ∙ ap (λ (l : Lit). l.0.0) c.from_word-l.ensures) (ap (λ (e : Edge). edge_word e) c.free_edge.ensures) c.put_edge.ensures,
-    )
+loop-again c = (
+  omega arith,
+  c.put_edge.auto.map ∙ c.loop-i.invariant.1,
+  put-more (input_var c.args.m.now) (input_word c.args.first) c.loop-i.i c.args.map.now c.loop-i.map c.put_edge.new.map (inputs_apart c.requires.0.1) c.loop-i.invariant.1 (omega arith) c.loop-i.invariant.2
+      (ap (λ (v : Var). v.0) c.var.ensures ∙ ap (λ (l : Lit). l.0.0) c.from_word-l.ensures) (ap (λ (e : Edge). edge_word e) c.free_edge.ensures) c.put_edge.ensures,
+)
 
 same_length : tie.Need-shape_of-map invariant-loop decreases-loop
 same_length c = c.loop-i.invariant.1

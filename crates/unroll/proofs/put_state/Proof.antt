@@ -45,11 +45,10 @@ shared-slice-read-from-word-2 : tie.Need-bounds-state-j invariant-loop decreases
 shared-slice-read-from-word-2 c = omega (arith, latches-few c.requires.0.1, c.requires.1)
 
 put-edge-requires : tie.Need-put_edge-requires invariant-loop decreases-loop
-put-edge-requires c κs =
-    (
-      omega (arith, ap (λ (v : Var). v.0) c.var.ensures, ap (λ (l : Lit). l.0.0) c.from_word-l.ensures, (latches-apart c.requires.0.1).below c.loop-j.j (omega arith), c.loop-j.invariant.1),
-      omega (arith, ap (λ (e : Edge). edge_word e) c.from_word.ensures, edge-word (get_or c.args.state.now c.loop-j.j 0), c.shared_slice_known-in-loop-j-2-1.given c.loop-j.j),
-    )
+put-edge-requires c κs = (
+  omega (arith, ap (λ (v : Var). v.0) c.var.ensures, ap (λ (l : Lit). l.0.0) c.from_word-l.ensures, (latches-apart c.requires.0.1).below c.loop-j.j (omega arith), c.loop-j.invariant.1),
+  omega (arith, ap (λ (e : Edge). edge_word e) c.from_word.ensures, edge-word (get_or c.args.state.now c.loop-j.j 0), c.shared_slice_known-in-loop-j-2-1.given c.loop-j.j),
+)
 
 add-j : tie.Need-overflow_add-j invariant-loop decreases-loop
 add-j c = omega (arith, latches-few c.requires.0.1, c.requires.1)
@@ -58,14 +57,13 @@ loop-less : tie.Need-loop-j-smaller invariant-loop decreases-loop
 loop-less c = omega arith
 
 loop-again : tie.Need-loop-j-preserved invariant-loop decreases-loop
-loop-again c =
-    (
-      omega arith,
-      c.put_edge.auto.map ∙ c.loop-j.invariant.1,
-      put-more (latch_var c.args.m.now c.args.layout.latches) (λ i. get_or c.args.state.now i 0) c.loop-j.j c.args.map.now c.loop-j.map c.put_edge.new.map (latches-apart c.requires.0.1) c.loop-j.invariant.1
-          (omega arith) c.loop-j.invariant.2 (ap (λ (v : Var). v.0) c.var.ensures ∙ ap (λ (l : Lit). l.0.0) c.from_word-l.ensures)
-          (ap (λ (e : Edge). edge_word e) c.from_word.ensures ∙ edge-word (get_or c.args.state.now c.loop-j.j 0)) c.put_edge.ensures,
-    )
+loop-again c = (
+  omega arith,
+  c.put_edge.auto.map ∙ c.loop-j.invariant.1,
+  put-more (latch_var c.args.m.now c.args.layout.latches) (λ i. get_or c.args.state.now i 0) c.loop-j.j c.args.map.now c.loop-j.map c.put_edge.new.map (latches-apart c.requires.0.1) c.loop-j.invariant.1
+      (omega arith) c.loop-j.invariant.2 (ap (λ (v : Var). v.0) c.var.ensures ∙ ap (λ (l : Lit). l.0.0) c.from_word-l.ensures)
+      (ap (λ (e : Edge). edge_word e) c.from_word.ensures ∙ edge-word (get_or c.args.state.now c.loop-j.j 0)) c.put_edge.ensures,
+)
 
 same_length : tie.Need-shape_of-map invariant-loop decreases-loop
 same_length c = c.loop-j.invariant.1

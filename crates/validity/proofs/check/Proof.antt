@@ -33,24 +33,22 @@ literals-right-requires c κs =
     (c.requires.0, (omega (arith, c.requires.0.max_var), λ v. get_d-zeros 4097 v))
 
 returns : tie.Need-returns-then-not-literals_right
-returns c =
-    (
-      judged-six _ (rw c.if-not-literals_right.true at c.literals_right.ensures).0,
-      c.clear.ensures,
-    )
+returns c = (
+  judged-six _ (rw c.if-not-literals_right.true at c.literals_right.ensures).0,
+  c.clear.ensures,
+)
 
 used-defined-requires : tie.Need-used_defined-requires
 used-defined-requires c κs =
     (c.requires.0, used-room c.args.w.now c.literals_right.new.table (six c.before).1 (six c.before).0)
 
 returns-2 : tie.Need-returns-then-not-used_defined
-returns-2 c =
-    (
-      judged-seven _ (six c.before.before.before.before.before.before.before).0
-          (λ t. (rw c.if-not-used_defined.true at c.used_defined.ensures)
-          (uses-out _ c.literals_right.new.table (six c.before.before.before.before.before.before.before).1 t)),
-      c.clear-then-not-used_defined.ensures,
-    )
+returns-2 c = (
+  judged-seven _ (six c.before.before.before.before.before.before.before).0
+      (λ t. (rw c.if-not-used_defined.true at c.used_defined.ensures)
+      (uses-out _ c.literals_right.new.table (six c.before.before.before.before.before.before.before).1 t)),
+  c.clear-then-not-used_defined.ensures,
+)
 
 ordered-requires : tie.Need-ordered-requires
 ordered-requires c κs =

@@ -76,18 +76,17 @@ loop-less : tie.Need-loop-i-smaller invariant-loop decreases-loop
 loop-less c = omega arith
 
 loop-again : tie.Need-loop-i-preserved invariant-loop decreases-loop
-loop-again c =
-    (
-      omega arith,
-      c.enter.auto.table ∙ c.loop-i.invariant.1,
-      define-more _ _ _ _ _ c.requires c.loop-i.i c.loop-i-test.true _
-          c.loop-i.invariant.2 c.enter.new.table
-          (rw (
-            not-false c.enter.result (not_from_true _ c.if-not-enter.false),
-            word_read (at c.args.w.now c.args.c c.loop-i.i)
-                c.from_word-l.ensures,
-          ) at c.enter.ensures),
-    )
+loop-again c = (
+  omega arith,
+  c.enter.auto.table ∙ c.loop-i.invariant.1,
+  define-more _ _ _ _ _ c.requires c.loop-i.i c.loop-i-test.true _
+      c.loop-i.invariant.2 c.enter.new.table
+      (rw (
+        not-false c.enter.result (not_from_true _ c.if-not-enter.false),
+        word_read (at c.args.w.now c.args.c c.loop-i.i)
+            c.from_word-l.ensures,
+      ) at c.enter.ensures),
+)
 
 same-length-2 : tie.Need-shape_of-table invariant-loop decreases-loop
 same-length-2 c = c.loop-i.invariant.1

@@ -8,11 +8,10 @@ returns : tie.Need-returns-then-test_literals
 returns c = rw c.if-test_literals.true at c.test_literals.ensures
 
 returns-2 : tie.Need-returns
-returns-2 c =
-    (
-      rw c.if-test_literals.false at c.test_literals.ensures,
-      cleared-same c.args.table.now c.requires.1.1 c.test_literals.auto.table c.clear.ensures,
-    )
+returns-2 c = (
+  rw c.if-test_literals.false at c.test_literals.ensures,
+  cleared-same c.args.table.now c.requires.1.1 c.test_literals.auto.table c.clear.ensures,
+)
 
 pub literals_right_spec : {M : Type 1} → statement M
 literals_right_spec =

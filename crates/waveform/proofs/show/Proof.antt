@@ -35,10 +35,10 @@ module _ (S : tie.Start) where
   body = S.args.body.now
 
   abbrev R : Ready S.args.m.now S.args.w.layout S.args.order.now 4097
-  R = S.pre.ready
+  R = S.requires.ready
 
   abbrev F : Fits (circuit_in S.args.m.now) S.args.w.q.bad S.args.w.q.frames S.args.w.q.eithers S.args.body.now
-  F = S.pre.fits
+  F = S.requires.fits
 
   abbrev level : ℕ → ℕ → Level
   level = level_at c S.args.w.q.bad body
@@ -50,98 +50,88 @@ module _ (S : tie.Start) where
       omega (arith, f.few, f.shaped.frames, r.run_at.frames-are)
 
 -- the text, by the number of wires and the length that were computed
-module _ (d : tie.After-dump-length) where
-  abbrev w : tie.After-wire-count
+module _ (d : tie.After-dump_length-length) where
+  abbrev w : tie.After-wire_count-n
   w = d.before
 
   abbrev S₀ : tie.Start
   S₀ = w.before.before.before.before.before.before.before
 
   abbrev n : ℕ
-  n = w.wire-count.result
+  n = w.wire_count-n.result
 
   shown : dump (name_in S₀.args.w.layout) n (level S₀) S₀.args.w.q.frames ≡ waveform (c S₀) S₀.args.only
       (S₀.args.w.q.bad, body S₀)
   shown =
-      text-is (R S₀).held (R S₀).layout_of S₀.args.only w.wire-count.ensures S₀.args.w.q.bad (body S₀)
+      text-is (R S₀).held (R S₀).layout_of S₀.args.only w.wire_count-n.ensures S₀.args.w.q.bad (body S₀)
       (frames-are (c S₀) S₀.args.w.q.bad S₀.args.w.q.frames (body S₀) (bodies (F S₀)))
 
-  size : d.dump-length.result ≡ length (waveform (c S₀) S₀.args.only (S₀.args.w.q.bad, body S₀))
-  size = d.dump-length.ensures (level S₀) ∙ ap length shown
+  size : d.dump_length-length.result ≡ length (waveform (c S₀) S₀.args.only (S₀.args.w.q.bad, body S₀))
+  size = d.dump_length-length.ensures (level S₀) ∙ ap length shown
 
-wire-count-requires : tie.Need-wire-count-requires
-wire-count-requires k κs = let S = k.before.before.before.before.before.before in wires-few (R S).held (R S).layout_of
+wire-count-requires : tie.Need-wire_count-n-requires
+wire-count-requires k κs = wires-few (R k.before.before.before.before.before.before).held (R k.before.before.before.before.before.before).layout_of
 
-dump-length-requires : tie.Need-dump-length-requires
+dump-length-requires : tie.Need-dump_length-length-requires
 dump-length-requires k κs =
-    let S = k.before.before.before.before.before.before.before in
-    (few-wires (R S).held (R S).layout_of S.args.only k.wire-count.ensures, few-frames S)
+    (few-wires (R k.before.before.before.before.before.before.before).held (R k.before.before.before.before.before.before.before).layout_of k.args.only k.wire_count-n.ensures, few-frames k.before.before.before.before.before.before.before)
 
-returns : tie.Need-returns
-returns k = let d = k.before in (refl, omega (arith, size d, k.if1.true), refl)
+returns : tie.Need-returns-then-out-length
+returns k = (refl, omega (arith, size k.before, k.if-out-length.true), refl)
 
 -- there is room
-module _ (e : tie.Else1) where
-  abbrev d : tie.After-dump-length
+module _ (e : tie.Else-out-length) where
+  abbrev d : tie.After-dump_length-length
   d = e.before
 
   fits : length (dump (name_in (S₀ d).args.w.layout) (n d) (level (S₀ d)) (S₀ d).args.w.q.frames) ≤ length (S₀ d).args.out.now
-  fits = omega (arith, d.dump-length.ensures (level (S₀ d)), e.if1.left)
+  fits = omega (arith, d.dump_length-length.ensures (level (S₀ d)), e.if-out-length.false)
 
-write-header-requires : tie.Need-write-header-requires
+write-header-requires : tie.Need-write_header-at-requires
 write-header-requires k κs =
-    let e = k.before in
-    let S = S₀ (d e) in (
-      few-wires (R S).held (R S).layout_of S.args.only (w (d e)).wire-count.ensures,
-      header-room S.args.out.now (name_in S.args.w.layout) (n (d e)) (level S) S.args.w.q.frames (fits e),
+    let S = S₀ (d k.before) in (
+      few-wires (R S).held (R S).layout_of S.args.only (w (d k.before)).wire_count-n.ensures,
+      header-room S.args.out.now (name_in S.args.w.layout) (n (d k.before)) (level S) S.args.w.q.frames (fits k.before),
     )
 
-block-count-requires : tie.Need-block-count-requires
+block-count-requires : tie.Need-block_count-requires
 block-count-requires k κs = search rules
 
-show-blocks-requires : tie.Need-show-blocks-requires
+show-blocks-requires : tie.Need-show_blocks-requires
 show-blocks-requires k κs =
-    let h = k.before.before.before.before in
-    let e = h.before.before in
-    let S = S₀ (d e) in (
+    let S = S₀ (d k.before.before.before.before.before.before) in (
       R S,
       record {
-        wires = wires-there (R S).held (R S).layout_of S.args.only (w (d e)).wire-count.ensures;
+        wires = wires-there (R S).held (R S).layout_of S.args.only (w (d k.before.before.before.before.before.before)).wire_count-n.ensures;
         few = few-frames S;
         inside = (F S).inside;
-        room = samples-room S.args.out.now (name_in S.args.w.layout) (n (d e)) (level S) S.args.w.q.frames (fits e)
-            h.write-header.ensures;
+        room = samples-room S.args.out.now (name_in S.args.w.layout) (n (d k.before.before.before.before.before.before)) (level S) S.args.w.q.frames (fits k.before.before.before.before.before.before)
+            k.write_header-at.ensures;
       },
     )
 
-same_length : tie.Need-same-length
+same_length : tie.Need-shape_of-out
 same_length k = search rules
 
-returns-2 : tie.Need-returns-2
+returns-2 : tie.Need-returns
 returns-2 k =
-    let s = k.before.before in
-    let g = s.before.before in
-    let h = g.before.before.before in
-    let e = h.before.before in
-    let S = S₀ (d e) in
+    let S = S₀ (d k.before.before.before.before.before.before.before.before.before) in
     let b = S.args.w.q.bad in
     let frames = S.args.w.q.frames in
-    let blocks = g.block-count.result in
+    let blocks = k.block_count.result in
     let B = bodies (F S) in
     let all : 2 ^ eithers (body S) ≤ blocks * 64 =
-    omega (arith, ap (λ (x : ℕ). 2 ^ x) (F S).eithers-are, blocks-enough S.args.w.q.eithers, g.block-count.ensures) in
-    let same : samples (level_below (c S) b (body S) blocks) (n (d e)) 0 frames ≡ samples (level S) (n (d e)) 0 frames =
-    samples-same (level_below (c S) b (body S) blocks) (level S) (n (d e)) 0 frames
+    omega (arith, ap (λ (x : ℕ). 2 ^ x) (F S).eithers-are, blocks-enough S.args.w.q.eithers, k.block_count.ensures) in
+    let same : samples (level_below (c S) b (body S) blocks) (n (d k.before.before.before.before.before.before.before.before.before)) 0 frames ≡ samples (level S) (n (d k.before.before.before.before.before.before.before.before.before)) 0 frames =
+    samples-same (level_below (c S) b (body S) blocks) (level S) (n (d k.before.before.before.before.before.before.before.before.before)) 0 frames
     (λ t j _. level_all (c S) b frames (body S) B t j blocks all) in
-    let left = s.show-blocks.ensures b B (omega (arith, all, pow_pos (eithers (body S)))) in
+    let left = k.show_blocks.ensures b B (omega (arith, all, pow_pos (eithers (body S)))) in
     let done =
-    all-written S.args.out.now (name_in S.args.w.layout) (n (d e)) (level S) frames (fits e) h.write-header.ensures
-    (left ∙ ap (λ (u : List ℕ). put_text h.write-header.new.1.1.0 h.write-header.result u) same) in
-    (size (d e), omega (arith, e.if1.false), done ∙ ap (λ (u : List ℕ). front u S.args.out.now) (shown (d e)))
+    all-written S.args.out.now (name_in S.args.w.layout) (n (d k.before.before.before.before.before.before.before.before.before)) (level S) frames (fits k.before.before.before.before.before.before.before.before.before) k.write_header-at.ensures
+    (left ∙ ap (λ (u : List ℕ). put_text k.write_header-at.new.out k.write_header-at.result u) same) in
+    (size (d k.before.before.before.before.before.before.before.before.before), omega (arith, k.if-out-length.false), done ∙ ap (λ (u : List ℕ). front u S.args.out.now) (shown (d k.before.before.before.before.before.before.before.before.before)))
 
-pub show-spec : {M : Type 1} → statement M
-show-spec =
+pub show_spec : {M : Type 1} → statement M
+show_spec =
     tie.close
-    (tie.spec
-    wire-count-requires dump-length-requires returns write-header-requires block-count-requires show-blocks-requires same_length
-    returns-2)
+    (tie.spec wire-count-requires dump-length-requires returns write-header-requires block-count-requires show-blocks-requires same_length returns-2)

@@ -13,34 +13,28 @@ use Rattle.load.proofs.load.Reads as load-reads
 use Rattle.replies.proofs.refuse.Reads as refuse-reads
 use Rattle.waveform_command.proofs.waveform_loaded.Reads as waveform-loaded-reads
 
-waveform-loaded-requires : tie.Need-waveform-loaded-requires
+waveform-loaded-requires : tie.Need-waveform_loaded-requires
 waveform-loaded-requires c κs =
-    let h = stored c.before.before.before.before.before.before.before.load.ensures (ap answered c.before.before.before.enum_told.given.1) in
-    (stored-in h, c.before.before.before.before.before.before.before.before.before.before.before.before.before.before.requires.2)
+    let h = stored c.load.ensures (ap answered c.in-Loaded.is) in
+    (stored-in h, c.requires.2)
 
-returns : tie.Need-returns
+returns : tie.Need-returns-in-Refused
 returns c =
-    let f = c.before.before.refuse.ensures in
-    let l = c.before.before.before.before.before.before.before.before.before in
-    let s = c.before.before.before.before.before.before.before.before.before.before.before.before.before.before.before.before in
-    let a = s.args in
-    let e = not-loaded l.load.ensures (ap answered c.before.before.before.before.before.n.given.1) in (
-      waveform-refusal a.m.now a.file.now s.requires.0 a.only a.witness.now a.out.now e f.0 f.1,
-      loaded-words l.load.ensures,
+    let f = c.refuse.ensures in
+    let a = c.args in
+    let e = not-loaded c.load.ensures (ap answered c.in-Refused.is) in (
+      waveform-refusal a.m.now a.file.now c.requires.0 a.only a.witness.now a.out.now e f.0 f.1,
+      loaded-words c.load.ensures,
     )
 
-returns-2 : tie.Need-returns-2
+returns-2 : tie.Need-returns-in-Loaded
 returns-2 c =
-    let l = c.before.before.before.before.before.before.before.before.before.before.before.before in
-    let s = c.before.before.before.before.before.before.before.before.before.before.before.before.before.before.before.before.before.before.before in
-    let a = s.args in
-    let e = stored l.load.ensures (ap answered c.before.before.before.before.before.before.before.before.enum_told.given.1) in
-    let x = waveform-text a.m.now a.file.now s.requires.0 a.only a.witness.now e in
-    (rw x at (rw s.requires.1 at c.before.before.before.before.waveform-loaded.ensures), loaded-words l.load.ensures)
+    let a = c.args in
+    let e = stored c.load.ensures (ap answered c.in-Loaded.is) in
+    let x = waveform-text a.m.now a.file.now c.requires.0 a.only a.witness.now e in
+    (rw x at (rw c.requires.1 at c.waveform_loaded.ensures), loaded-words c.load.ensures)
 
-pub waveform-spec : {M : Type 1} → statement M
-waveform-spec =
+pub waveform_spec : {M : Type 1} → statement M
+waveform_spec =
     tie.close
-    (tie.spec
-    (λ c κs. search rules) (λ c. search rules) (λ c κs. search rules) (λ c. search rules) waveform-loaded-requires (λ c. search rules)
-    (λ c. search rules) returns (λ c. search rules) (λ c. search rules) (λ c. search rules) returns-2)
+    (tie.spec (λ c κs. search rules) (λ c. search rules) (λ c κs. search rules) (λ c. search rules) waveform-loaded-requires (λ c. search rules) (λ c. search rules) returns (λ c. search rules) (λ c. search rules) (λ c. search rules) returns-2)

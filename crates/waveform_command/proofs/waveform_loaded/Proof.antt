@@ -10,20 +10,16 @@ use Rattle.waveform_command.proofs.waveform_loaded.Lts as lts
 use Rattle.replies.proofs.refuse.Reads as refuse-reads
 use Rattle.waveform.proofs.waveform.Reads as waveform-reads
 
-returns : tie.Need-returns
+returns : tie.Need-returns-in-Length
 returns c =
-    let s = c.before.before.before.before.before.before.before.before.before.before.before in
-    waveform-shown s.requires.0 c.before.before.before.before.before.waveform.ensures s.args.line.now (ap answered c.before.n.given.1)
+    waveform-shown c.requires.0 c.waveform.ensures c.args.line.now (ap answered c.in-Length.is)
 
-returns-2 : tie.Need-returns-2
+returns-2 : tie.Need-returns-in-Refused
 returns-2 c =
-    let f = c.before.before.refuse.ensures in
-    let s = c.before.before.before.before.before.before.before.before.before.before.before.before.before.before.before in
-    refusal-left s.requires.0 c.before.before.before.before.before.before.before.before.before.waveform.ensures (ap answered c.before.before.before.before.before.n2.given.1) f.0 f.1
+    let f = c.refuse.ensures in
+    refusal-left c.requires.0 c.waveform.ensures (ap answered c.in-Refused.is) f.0 f.1
 
-pub waveform-loaded-spec : {M : Type 1} → statement M
-waveform-loaded-spec =
+pub waveform_loaded_spec : {M : Type 1} → statement M
+waveform_loaded_spec =
     tie.close
-    (tie.spec
-    (λ c κs. search rules) (λ c. search rules) (λ c. search rules) (λ c κs. search rules) (λ c. search rules) returns
-    (λ c. search rules) (λ c. search rules) returns-2)
+    (tie.spec (λ c κs. search rules) (λ c. search rules) (λ c. search rules) (λ c κs. search rules) (λ c. search rules) returns (λ c. search rules) (λ c. search rules) returns-2)

@@ -9,20 +9,18 @@ use borrow.Author.Rules.{rules}
 use Rattle.widen.proofs.every_hit.Statement.{statement}
 use Rattle.widen.proofs.every_hit.Tie as tie
 
-every-completion-requires : tie.Need-every-completion-requires
+every-completion-requires : tie.Need-every_completion-requires
 every-completion-requires c κs =
-    let S = c.before.before.before.before.before.before.before.before.before in
-    let P = S.requires.0 in
-    (ready_with P.ready (omega (arith, (counts P.ready.held).max_var, top-is S.args.m.now)), P.bad, P.fits)
+    let P = c.requires.0 in
+    (ready_with P.ready (omega (arith, (counts P.ready.held).max_var, top-is c.args.m.now)), P.bad, P.fits)
 
-returns : tie.Need-returns
+returns : tie.Need-returns-then-every_completion
 returns c =
-    let a = c.before.before.before.before.before.before.before.before.before.before.before.args in
+    let a = c.args in
     sym (true-T (all_pass (shows (circuit_in a.m.now) a.w.q.bad) a.body.now)
-    (c.before.every-completion.ensures.1 c.if2.true))
+    (c.every_completion.ensures.1 c.if-every_completion.true))
 
-pub every-hit-spec : {M : Type 1} → statement M
-every-hit-spec =
+pub every_hit_spec : {M : Type 1} → statement M
+every_hit_spec =
     tie.close
-    (tie.spec
-    every-completion-requires returns (λ c κs. search rules) (λ c. search rules) (λ c. search rules) (λ c. search rules))
+    (tie.spec every-completion-requires returns (λ c κs. search rules) (λ c. search rules) (λ c. search rules) (λ c. search rules))

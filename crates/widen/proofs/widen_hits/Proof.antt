@@ -18,11 +18,11 @@ use Rattle.widen.proofs.Pins.{stays-apart, all-agree}
 use Rattle.widen.proofs.widen_hits.Statement.{statement}
 use Rattle.widen.proofs.widen_hits.Tie as tie
 
-rows-of-requires : tie.Need-rows-of-requires
-rows-of-requires c κs = let S = c.before.before.before.before.before.before in rows_fit S.requires.ready S.requires.fits
+rows-of-requires : tie.Need-rows_of-rows-requires
+rows-of-requires c κs = rows_fit c.requires.ready c.requires.fits
 
 -- after the rows: the entry, the pins and the test of completions
-module _ (r : tie.After-rows-of) where
+module _ (r : tie.After-rows_of-rows) where
   abbrev S : tie.Start
   S = r.before.before.before.before.before.before.before
 
@@ -37,77 +37,61 @@ module _ (r : tie.After-rows-of) where
 
 agree-requires : tie.Need-agree-requires
 agree-requires c κs =
-    let r = c.before in
-    inputs-few (S r).requires.ready (S r).requires.fits (q r) r.rows-of.result r.rows-of.ensures
+    inputs-few (S c).requires.ready (S c).requires.fits (q c) c.rows_of-rows.result c.rows_of-rows.ensures
 
-returns : tie.Need-returns
+returns : tie.Need-returns-then-not-agree
 returns c =
-    let a = c.before in
-    let r = a.before.before in
-    stays-apart (S r).requires.ready (S r).requires.fits (q r) r.rows-of.result r.rows-of.ensures a.agree.result a.agree.ensures
-    (not-true a.agree.result c.if1.true)
+    stays-apart (S c.before.before).requires.ready (S c.before.before).requires.fits (q c.before.before) c.rows_of-rows.result c.rows_of-rows.ensures c.agree.result c.agree.ensures
+    c.if-not-agree.true
 
 -- where all bytes agree the plain test is the test under pins
-agreed : (e : tie.Else1) → (let r = e.before.before.before in all_pass (p r) (w r) ≡ all_pass
-    (shows (circuit_in (S r).args.m.now) (S r).args.w.q.bad) (w r))
+agreed : (e : tie.Else-not-agree) → (all_pass (p e.before.before) (w e.before.before) ≡ all_pass
+    (shows (circuit_in (S e.before.before).args.m.now) (S e.before.before).args.w.q.bad) (w e.before.before))
 agreed e =
-    let a = e.before in
-    let r = a.before.before in
-    all-agree (S r).requires.ready (S r).requires.fits (q r) r.rows-of.result r.rows-of.ensures a.agree.result a.agree.ensures
-    (not-false a.agree.result e.if1.false)
+    all-agree (S e.before.before).requires.ready (S e.before.before).requires.fits (q e.before.before) e.rows_of-rows.result e.rows_of-rows.ensures e.agree.result e.agree.ensures
+    e.if-not-agree.false
 
-every-hit-requires : tie.Need-every-hit-requires
+every-hit-requires : tie.Need-every_hit-requires
 every-hit-requires c κs =
-    let S = c.before.before.before.before.before.before.before.before.before.before.before.before.before in
-    (S.requires, search rules)
+    (c.requires, search rules)
 
 -- the words that the first test leaves
-module _ (h : tie.After-every-hit) where
-  values-long : length h.every-hit.new.1.1.1.1.0 ≡ 4097
-  values-long = h.every-hit.auto.1.1.1.1.0 ∙ length-replicate {A = ℕ} 4097 0
+module _ (h : tie.After-every_hit) where
+  values-long : length h.every_hit.new.values ≡ 4097
+  values-long = h.every_hit.auto.values ∙ length-replicate {A = ℕ} 4097 0
 
-  state-long : length h.every-hit.last.1.1.1.1.1.0 ≡ 1024
-  state-long = h.every-hit.kept.1.1.1.1.1.0 ∙ length-replicate {A = ℕ} 1024 0
+  state-long : length h.every_hit.new.state ≡ 1024
+  state-long = h.every_hit.auto.state ∙ length-replicate {A = ℕ} 1024 0
 
-returns-2 : tie.Need-returns-2
+returns-2 : tie.Need-returns-then-not-every_hit
 returns-2 c =
-    let h = c.before.before.before in
-    let r = h.before.before.before.before.before.before.before in
-    sym (widened-not (p r) (w r)
-    (agreed h.before.before.before.before ∙ sym h.every-hit.ensures ∙ not-true h.every-hit.result c.if2.true))
+    sym (widened-not (p c.before.before.before.before.before.before.before.before) (w c.before.before.before.before.before.before.before.before)
+    (agreed c.before.before.before.before.before.before ∙ sym c.every_hit.ensures ∙ c.if-not-every_hit.true))
 
-slice-aggregate-widen-body : tie.Need-slice-aggregate-widen-body
+slice-aggregate-widen-body : tie.Need-slice_bounds-widen_body-end
 slice-aggregate-widen-body c = sym (values-long c.before.before.before.before.before)
 
-slice-aggregate-widen-body-2 : tie.Need-slice-aggregate-widen-body-2
+slice-aggregate-widen-body-2 : tie.Need-slice_bounds-widen_body-end-2
 slice-aggregate-widen-body-2 c = sym (state-long c.before.before.before.before.before.before)
 
 -- where every completion hits, all of them pass
-all_pass : (e : tie.Else2)
-    → (let r = e.before.before.before.before.before.before.before.before.before.before in all_pass (p r) (w r) ≡ true)
-all_pass e =
-    let h = e.before.before.before in
-    agreed h.before.before.before.before ∙ sym h.every-hit.ensures ∙ not-false h.every-hit.result e.if2.false
+all-pass : (e : tie.Else-not-every_hit)
+    → (all_pass (p e.before.before.before.before.before.before.before.before) (w e.before.before.before.before.before.before.before.before) ≡ true)
+all-pass e =
+    agreed e.before.before.before.before.before.before ∙ sym e.every_hit.ensures ∙ e.if-not-every_hit.false
 
-widen-body-requires : tie.Need-widen-body-requires
+widen-body-requires : tie.Need-widen_body-requires
 widen-body-requires c κs =
-    let e = c.before.before.before in
-    let h = e.before.before.before in
-    let P = h.before.before.before.before.before.before.before.before.before.before.before.before.before.before.requires in (
-      record { ready = ready_with P.ready (omega (arith, values-long h, P.ready.room)); bad = P.bad; fits = P.fits },
-      (omega (arith, state-long h), T_true (all_pass e)),
+    let P = c.requires in (
+      record { ready = ready_with P.ready (omega (arith, values-long c.before.before.before.before.before.before, P.ready.room)); bad = P.bad; fits = P.fits },
+      (omega (arith, state-long c.before.before.before.before.before.before), T_true (all-pass c.before.before.before)),
     )
 
-returns-3 : tie.Need-returns-3
+returns-3 : tie.Need-returns
 returns-3 c =
-    let e = c.before.before.before.before.before.before.before.before in
-    let r = e.before.before.before.before.before.before.before.before.before.before in
-    c.before.before.before.before.widen-body.ensures ∙ sym (widened-steps (p r) (w r) (all_pass e))
+    c.widen_body.ensures ∙ sym (widened-steps (p c.before.before.before.before.before.before.before.before.before.before.before.before.before.before.before.before) (w c.before.before.before.before.before.before.before.before.before.before.before.before.before.before.before.before) (all-pass c.before.before.before.before.before.before.before.before))
 
-pub widen-hits-spec : {M : Type 1} → statement M
-widen-hits-spec =
+pub widen_hits_spec : {M : Type 1} → statement M
+widen_hits_spec =
     tie.close
-    (tie.spec
-    rows-of-requires agree-requires (λ c. search rules) returns (λ c. search rules) (λ c. search rules) every-hit-requires
-    (λ c. search rules) returns-2 slice-aggregate-widen-body slice-aggregate-widen-body-2 widen-body-requires (λ c. search rules)
-    returns-3)
+    (tie.spec rows-of-requires agree-requires (λ c. search rules) returns (λ c. search rules) (λ c. search rules) every-hit-requires (λ c. search rules) returns-2 slice-aggregate-widen-body slice-aggregate-widen-body-2 widen-body-requires (λ c. search rules) returns-3)

@@ -21,58 +21,49 @@ abbrev pin : tie.Start → ℕ → ℕ
 pin S i = get_or S.args.own.now i 2
 
 -- a witness that was read: what is asked of its body
-module _ (k : tie.After-start) where
+module _ (k : tie.In-Read) where
   abbrev m : List ℕ
-  m = k.before.before.before.before.before.before.before.before.before.args.m.now
+  m = k.args.m.now
 
   abbrev text : List ℕ
-  text = k.before.before.before.before.before.before.before.before.before.args.text.now
+  text = k.args.text.now
 
   abbrev body : List ℕ
-  body = drop k.start.given.0.0 text
+  body = drop k.in-Read.start text
 
-  read : (let w = k.start.given.0.1.0 in
-      Posed m k.before.before.before.read_held.last.1.1.0 w body 4097 × Placed (circuit_in m) text k.start.given.0.0 w.q)
-  read = posed-read k.before.before.before.read_held.ensures (search rules) k.start.given.1
+  read : (let w = k.in-Read.w in
+      Posed m k.read_held.new.order w body 4097 × Placed (circuit_in m) text k.in-Read.start w.q)
+  read = posed-read k.read_held.ensures (search rules) k.in-Read.is
 
   few : eithers body ≤ 16
   few = omega (arith, read.1.fits.eithers-are, read.1.fits.few)
 
-returns : tie.Need-returns
+returns : tie.Need-returns-then-out-text
 returns c =
-    let k = c.before.before in
-    let S = k.before.before.before.before.before.before.before.before.before in
-    let P = read k in
-    too_short (circuit_in (m k)) P.0.ready.held (pin S) (text k) S.args.out.now k.start.given.0.1.0.q.bad (body k)
-    P.1.reads (few k) (omega (arith, c.if1.true))
+    let P = read c.before in
+    too_short (circuit_in (m c.before)) P.0.ready.held (pin c.before.before.before.before.before.before.before.before.before) (text c.before) c.args.out.now c.in-Read.w.q.bad (body c.before)
+    P.1.reads (few c.before) (omega (arith, c.if-out-text.true))
 
-widen-copy-requires : tie.Need-widen-copy-requires
+widen-copy-requires : tie.Need-widen_copy-requires
 widen-copy-requires c κs =
-    let e = c.before.before in
-    let P = read e.before.before in
-    (P.0, (P.1.inside, omega (arith, e.if1.false)))
+    let P = read c.before.before.before in
+    (P.0, (P.1.inside, omega (arith, c.if-out-text.false)))
 
-returns-2 : tie.Need-returns-2
+returns-2 : tie.Need-returns-in-Refused
 returns-2 c =
-    let S = c.before.before.before.before.before.before.before.before.before.before in
-    let a = S.args in
-    refusal-read c.before.before.before.before.read_held.ensures
-    (λ (n : ℕ). PinnedWidened a.m.now (pin S) a.text.now a.out.now (refused n) a.out.now) Operated.no_circuit
-    (λ n h e. refuses (circuit_in a.m.now) h (pin S) a.text.now a.out.now n e) c.before.n.given.1
+    let a = c.args in
+    refusal-read c.read_held.ensures
+    (λ (n : ℕ). PinnedWidened a.m.now (pin c.before.before.before.before.before.before.before.before) a.text.now a.out.now (refused n) a.out.now) Operated.no_circuit
+    (λ n h e. refuses (circuit_in a.m.now) h (pin c.before.before.before.before.before.before.before.before) a.text.now a.out.now n e) c.in-Refused.is
 
-returns-3 : tie.Need-returns-3
+returns-3 : tie.Need-returns-else-out-text
 returns-3 c =
-    let e = c.before.before.before.before.before in
-    let k = e.before.before in
-    let S = k.before.before.before.before.before.before.before.before.before in
-    let P = read k in
-    widens (circuit_in (m k)) P.0.ready.held (pin S) (text k) S.args.out.now k.start.given.0.1.0.q.bad (body k)
-    P.1.reads (few k) (omega (arith, e.if1.false)) k.start.given.0.0 P.1.inside
-    refl (length (text k)) refl _ c.before.before.widen-copy.ensures
+    let P = read c.before.before.before.before.before.before in
+    widens (circuit_in (m c.before.before.before.before.before.before)) P.0.ready.held (pin c.before.before.before.before.before.before.before.before.before.before.before.before.before.before) (text c.before.before.before.before.before.before) c.args.out.now c.in-Read.w.q.bad (body c.before.before.before.before.before.before)
+    P.1.reads (few c.before.before.before.before.before.before) (omega (arith, c.if-out-text.false)) c.in-Read.start P.1.inside
+    refl (length (text c.before.before.before.before.before.before)) refl _ c.widen_copy.ensures
 
-pub widen-under-spec : {M : Type 1} → statement M
-widen-under-spec =
+pub widen_under_spec : {M : Type 1} → statement M
+widen_under_spec =
     tie.close
-    (tie.spec
-    (λ c. search rules) (λ c κs. search rules) (λ c. search rules) (λ c. search rules) returns (λ c. search rules)
-    widen-copy-requires returns-2 (λ c. search rules) returns-3)
+    (tie.spec (λ c. search rules) (λ c κs. search rules) (λ c. search rules) (λ c. search rules) returns (λ c. search rules) widen-copy-requires returns-2 (λ c. search rules) returns-3)

@@ -6,23 +6,16 @@ use borrow.Author.Rules.{rules}
 use Rattle.widen_command.proofs.widen_loaded.Statement.{statement}
 use Rattle.widen_command.proofs.widen_loaded.Tie as tie
 
-returns : tie.Need-returns
+returns : tie.Need-returns-in-Length
 returns c =
-    let w = c.before.before.before.before.before in
-    let s = w.before.before.before.before.before.before in
-    widen-shown s.requires.0 w.widen.ensures s.args.line.now (ap answered c.before.n.given.1)
+    widen-shown c.requires.0 c.widen.ensures c.args.line.now (ap answered c.in-Length.is)
 
-returns-2 : tie.Need-returns-2
+returns-2 : tie.Need-returns-in-Refused
 returns-2 c =
-    let f = c.before.before.refuse.ensures in
-    let n = c.before.before.before.before.before in
-    let w = n.before.before.before.before in
-    let s = w.before.before.before.before.before.before in
-    widen-refused s.requires.0 w.widen.ensures (ap answered n.n2.given.1) f.0 f.1
+    let f = c.refuse.ensures in
+    widen-refused c.requires.0 c.widen.ensures (ap answered c.in-Refused.is) f.0 f.1
 
-pub widen-loaded-spec : {M : Type 1} → statement M
-widen-loaded-spec =
+pub widen_loaded_spec : {M : Type 1} → statement M
+widen_loaded_spec =
     tie.close
-    (tie.spec
-    (λ c κs. search rules) (λ c. search rules) (λ c. search rules) (λ c κs. search rules) (λ c. search rules) returns
-    (λ c. search rules) (λ c. search rules) returns-2)
+    (tie.spec (λ c κs. search rules) (λ c. search rules) (λ c. search rules) (λ c κs. search rules) (λ c. search rules) returns (λ c. search rules) (λ c. search rules) returns-2)

@@ -13,18 +13,17 @@ number-circuit-requires c κs =
     (c.requires.0, (c.requires.1, (length-replicate {A = ℕ} 4097 0, get_d-zeros 4097, omega (arith, length-replicate {A = ℕ} 3072 0))))
 
 write-text-requires : tie.Need-write_text-requires
-write-text-requires c κs =
-    (
-      record {
-        held = c.requires.0;
-        layout_of = c.requires.1;
-        size = c.number_circuit.auto.names ∙ length-replicate {A = ℕ} 4097 0;
-        before = replicate 3072 0;
-        room = omega (arith, length-replicate {A = ℕ} 3072 0);
-        numbered = c.number_circuit.ensures;
-      },
-      c.requires.2,
-    )
+write-text-requires c κs = (
+  record {
+    held = c.requires.0;
+    layout_of = c.requires.1;
+    size = c.number_circuit.auto.names ∙ length-replicate {A = ℕ} 4097 0;
+    before = replicate 3072 0;
+    room = omega (arith, length-replicate {A = ℕ} 3072 0);
+    numbered = c.number_circuit.ensures;
+  },
+  c.requires.2,
+)
 
 pub encode_spec : {M : Type 1} → statement M
 encode_spec =

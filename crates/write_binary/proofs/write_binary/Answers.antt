@@ -1,12 +1,13 @@
 -- `write_binary::write_binary` meets its contract: each answer by the test of the memory and by the length of the text. Assumes nothing.
-use mathlib.Core.Path.{◌≡◌, sym, ◌∙◌}
+use mathlib.Core.Path.{◌≡◌, sym, ap, ◌∙◌}
 use Prim.Native.Nat.{ℕ}
 use native.Mathlib.Omega.{arith}
 use borrow.Author.Rules.{rules}
-use lib.ListN.{length, length-replicate}
+use lib.ListN.{length, drop, length-replicate}
+use mathlib.Core.List.{List, ◌++◌}
 use lib.Seq.{length-take-le}
 use Rattle.aiger.specs.Operations.{Operated}
-use Rattle.write_binary.proofs.Answers.{copied, text-short, too_long, fitting}
+use Rattle.write_binary.proofs.Answers.{copied_front, text-short, too_long, fitting}
 use Rattle.write_binary.proofs.write_binary.Goals as goal
 
 pub returns-in_default : goal.returns-in_default
@@ -44,4 +45,5 @@ pub returns : goal.returns
 returns c =
     let t = rw c.in-Circuit.is at c.test.ensures in
     let out = c.args.out.now in
-    fitting t.1 (c.encode-length.ensures.past ∙ omega arith) out (omega (arith, c.if-out-length.false)) ?
+    fitting t.1 (c.encode-length.ensures.past ∙ omega arith) out (omega (arith, c.if-out-length.false))
+    (ap (λ (x : List ℕ). x ++ drop c.encode-length.result out) c.copy_from_slice.ensures.after ∙ copied_front out c.encode-length.ensures)

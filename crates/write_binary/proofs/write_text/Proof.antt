@@ -35,12 +35,11 @@ write-literals-requires c κs =
     (w.0, w.1, lines-room c.requires.0 c.args.out.now c.requires.1 c.write_head-head.ensures c.write_latches-latches.ensures)
 
 write-gates-requires : tie.Need-write_gates-requires
-write-gates-requires c κs =
-    (
-      listed c.requires.0,
-      gates-room c.requires.0 c.args.out.now c.requires.1 c.write_head-head.ensures c.write_latches-latches.ensures
-          c.write_literals-lines.ensures,
-    )
+write-gates-requires c κs = (
+  listed c.requires.0,
+  gates-room c.requires.0 c.args.out.now c.requires.1 c.write_head-head.ensures c.write_latches-latches.ensures
+      c.write_literals-lines.ensures,
+)
 
 returns : tie.Need-returns
 returns c =

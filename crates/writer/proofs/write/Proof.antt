@@ -5,17 +5,16 @@ use Rattle.writer.proofs.Forms.{refused-form, text-form, binary-form}
 use Rattle.writer.proofs.write.Statement.{statement}
 use Rattle.writer.proofs.write.Tie as tie
 
-returns : tie.Need-returns
-returns c = refused-form c.before.before.before.args.form c.before.before.before.args.out.now (omega (arith, c.if1.true))
+returns : tie.Need-returns-then-form-gt1
+returns c = refused-form c.args.form c.args.out.now (omega (arith, c.if-form-gt1.true))
 
-returns-2 : tie.Need-returns-2
-returns-2 c = text-form c.before.before.before.before.before.before.before.before.args.form (omega (arith, c.before.before.before.before.if2.true)) c.before.before.write.ensures
+returns-2 : tie.Need-returns-then-form-eq0
+returns-2 c = text-form c.args.form (omega (arith, c.if-form-eq0.true)) c.write.ensures
 
-returns-3 : tie.Need-returns-3
-returns-3 c = binary-form c.before.before.before.before.before.before.before.before.args.form (omega (arith, c.before.before.before.before.before.if1.false, c.before.before.before.before.if2.false)) c.before.before.write-binary.ensures
+returns-3 : tie.Need-returns
+returns-3 c = binary-form c.args.form (omega (arith, c.if-form-gt1.false, c.if-form-eq0.false)) c.write_binary.ensures
 
 pub write_spec : {M : Type 1} → statement M
 write_spec =
     tie.close
-    (tie.spec
-    returns (λ c κs. search rules) (λ c. search rules) returns-2 (λ c κs. search rules) (λ c. search rules) returns-3)
+    (tie.spec returns (λ c κs. search rules) (λ c. search rules) returns-2 (λ c κs. search rules) (λ c. search rules) returns-3)

@@ -4,11 +4,11 @@ use borrow.Author.Tests.{lt-ltb, le-ltb}
 use Rattle.calls.proofs.shared_bytes.free_byte.Statement.{statement}
 use Rattle.calls.proofs.shared_bytes.free_byte.Tie as tie
 
-returns : tie.Need-returns
-returns c = rw (lt-ltb c.before.args.i 512 (omega arith))
+returns : tie.Need-returns-then-i-lt512
+returns c = rw (lt-ltb c.args.i 512 (omega arith))
 
-returns-2 : tie.Need-returns-2
-returns-2 c = rw (le-ltb c.before.args.i 512 (omega arith))
+returns-2 : tie.Need-returns
+returns-2 c = rw (le-ltb c.args.i 512 (omega arith))
 
-pub free-byte-spec : {M : Type 1} → statement M
-free-byte-spec = tie.close (tie.spec returns returns-2)
+pub free_byte_spec : {M : Type 1} → statement M
+free_byte_spec = tie.close (tie.spec returns returns-2)

@@ -5,17 +5,16 @@ use Rattle.std.proofs.Common.{rules}
 use Rattle.panel_serving.proofs.telling.answer.Statement.{statement}
 use Rattle.panel_serving.proofs.telling.answer.Tie as tie
 
-respond-requires : tie.Need-respond-requires
-respond-requires c κs = c.before.before.before.before.before.before.before.before.before.before.before.requires
+respond-requires : tie.Need-respond-response-requires
+respond-requires c κs = c.requires
 
 tell-requires : tie.Need-tell-requires
-tell-requires c κs = answered-inside c.before.before.before.before.before.before.before.before.before.respond.ensures
+tell-requires c κs = answered-inside c.respond-response.ensures
 
 returns : tie.Need-returns
-returns c = answered-as c.tell.ensures c.before.before.before.before.before.before.before.before.before.before.respond.ensures
+returns c = answered-as c.tell.ensures c.respond-response.ensures
 
-pub answer-spec : {M : Type 1} → statement M
-answer-spec =
+pub answer_spec : {M : Type 1} → statement M
+answer_spec =
     tie.close
-    (tie.spec
-    respond-requires tell-requires (λ c. search rules) (λ c. search rules) (λ c. search rules) (λ c. search rules) returns)
+    (tie.spec respond-requires tell-requires (λ c. search rules) (λ c. search rules) (λ c. search rules) (λ c. search rules) returns)

@@ -11,10 +11,9 @@ tell-requires c κs =
     (i.0, omega (arith, i.1))
 
 returns : tie.Need-returns
-returns c = λ request s out. answered-as c.tell.ensures (c.before.unread.ensures request s out)
+returns c = λ request s out. answered-as c.tell.ensures (c.unread.ensures request s out)
 
-pub answer-unread-spec : {M : Type 1} → statement M
-answer-unread-spec =
+pub answer_unread_spec : {M : Type 1} → statement M
+answer_unread_spec =
     tie.close
-    (tie.spec
-    (λ c κs. search rules) tell-requires returns)
+    (tie.spec (λ c κs. search rules) tell-requires returns)

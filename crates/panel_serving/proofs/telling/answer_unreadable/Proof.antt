@@ -6,7 +6,7 @@ use Rattle.panel_serving.proofs.telling.answer_unreadable.Statement.{statement}
 use Rattle.panel_serving.proofs.telling.answer_unreadable.Tie as tie
 
 unreadable-requires : tie.Need-unreadable-requires
-unreadable-requires c κs = c.before.before.requires
+unreadable-requires c κs = c.requires
 
 tell-requires : tie.Need-tell-requires
 tell-requires c κs =
@@ -14,10 +14,9 @@ tell-requires c κs =
     (i.0, omega (arith, i.1))
 
 returns : tie.Need-returns
-returns c = λ s out. answered-as c.tell.ensures (c.before.unreadable.ensures s out)
+returns c = λ s out. answered-as c.tell.ensures (c.unreadable.ensures s out)
 
-pub answer-unreadable-spec : {M : Type 1} → statement M
-answer-unreadable-spec =
+pub answer_unreadable_spec : {M : Type 1} → statement M
+answer_unreadable_spec =
     tie.close
-    (tie.spec
-    unreadable-requires tell-requires returns)
+    (tie.spec unreadable-requires tell-requires returns)

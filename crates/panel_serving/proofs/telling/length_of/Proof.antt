@@ -4,10 +4,9 @@ use Rattle.panel_serving.proofs.telling.length_of.Statement.{statement}
 use Rattle.panel_serving.proofs.telling.length_of.Tie as tie
 
 returns : tie.Need-returns
-returns c = c.wrapping-add-usize.ensures
+returns c = c.wrapping_add_usize.ensures
 
-pub length-of-spec : {M : Type 1} → statement M
-length-of-spec =
+pub length_of_spec : {M : Type 1} → statement M
+length_of_spec =
     tie.close
-    (tie.spec
-    (λ c κs. search rules) returns)
+    (tie.spec (λ c κs. search rules) returns)

@@ -4,21 +4,19 @@ use Rattle.panel_session.specs.declared.Response.{Response}
 use Rattle.panel_serving.proofs.telling.tell.Statement.{statement}
 use Rattle.panel_serving.proofs.telling.tell.Tie as tie
 
-slice-aggregate-print : tie.Need-slice-aggregate-print
-slice-aggregate-print c = let s = c.before.before.before in sym (length-take-le s.args.response.out s.args.out.now s.requires.1)
+slice-aggregate-print : tie.Need-slice_bounds-print-end
+slice-aggregate-print c = sym (length-take-le c.args.response.out c.args.out.now c.requires.1)
 
 print-requires : tie.Need-print-requires
-print-requires c κs = c.before.before.before.requires.0
+print-requires c κs = c.requires.0
 
 returns : tie.Need-returns
 returns c =
-    let s = c.before.before.before.before in
-    let r = s.args.response in
+    let r = c.args.response in
     c.print.ensures
-    ∙ ap (λ (n : ℕ). record { line = r.line; count = r.count; out = n }) (length-take-le r.out s.args.out.now s.requires.1)
+    ∙ ap (λ (n : ℕ). record { line = r.line; count = r.count; out = n }) (length-take-le r.out c.args.out.now c.requires.1)
 
-pub tell-spec : {M : Type 1} → statement M
-tell-spec =
+pub tell_spec : {M : Type 1} → statement M
+tell_spec =
     tie.close
-    (tie.spec
-    slice-aggregate-print print-requires returns)
+    (tie.spec slice-aggregate-print print-requires returns)

@@ -8,8 +8,7 @@ returns : tie.Need-returns
 unfolding start
 returns c = (refl, refl, refl)
 
-pub begun-spec : {M : Type 1} → statement M
-begun-spec =
+pub begun_spec : {M : Type 1} → statement M
+begun_spec =
     tie.close
-    (tie.spec
-    returns)
+    (tie.spec returns)
