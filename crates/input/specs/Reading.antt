@@ -1,5 +1,5 @@
 -- What a read says of the buffer that it was lent. Assumes nothing.
-use Rattle.std.specs.Prelude.{◌≡◌, ◌≤◌, Bool, true, false, List, ℕ, ℤ, pos, negsuc, length, take}
+use Rattle.std.specs.Prelude.{◌≡◌, ◌+◌, ◌≤◌, Bool, true, false, cond, List, ℕ, ℤ, pos, negsuc, ltb, length, take}
 use Rattle.input.specs.declared.reading.Read.{Read}
 
 -- n counts bytes at the front of a list
@@ -15,6 +15,11 @@ count_given (negsuc k) = 0
 abbrev pub is_failure : ℤ → Bool
 is_failure (pos k) = false
 is_failure (negsuc k) = true
+
+-- the number of the error of a read that failed, 0 where it did not fail or the number is 65,536 or more, which no error has
+abbrev pub error_given : ℤ → ℤ
+error_given (pos k) = pos 0
+error_given (negsuc k) = cond (ltb k 65535) (pos (k + 1)) (pos 0)
 
 -- the bytes that were read lie within the buffer
 abbrev pub Gave : List ℕ → Read → Type 0

@@ -1,7 +1,7 @@
 // The bytes of a file, gathered read by read. The fields are this module's own, so that a content grows by what a read gave, and by nothing
 // else.
 ghost use Rattle.std.specs.Prelude.{◌≡◌, ℕ, ◌+◌, ◌≤◌, ◌<◌, length, take};
-ghost use Rattle.input.specs.Reading.{IsPrefixLen, is_failure};
+ghost use Rattle.input.specs.Reading.{IsPrefixLen, error_given, is_failure};
 ghost use Rattle.input.specs.Contents.{nothing, size_of, extended, Within, Grows, GoesOn};
 
 use crate::reading;
@@ -142,6 +142,8 @@ pub fn is_failed(c: Content) -> bool
 }
 
 // The number of the error with which the last read failed, as the system counts them.
-pub fn error_of(c: Content) -> i32 {
+pub fn error_of(c: Content) -> i32
+    ensures { result ≡ error_given c.last.given }
+{
     reading::error_of(c.last)
 }

@@ -1,6 +1,6 @@
 // One read of an open file. The field is this module's own, so that a value of this type is what the system gave.
 ghost use Rattle.std.specs.Prelude.{◌≡◌, true, negsuc};
-ghost use Rattle.input.specs.Reading.{Gave, IsPrefixLen, count_given, is_failure};
+ghost use Rattle.input.specs.Reading.{Gave, IsPrefixLen, count_given, error_given, is_failure};
 
 use std::io;
 use std::io::{Error, ErrorKind};
@@ -78,7 +78,9 @@ pub fn has_failed(r: Read) -> bool
 }
 
 // The number of the error of a read that failed, as the system counts them.
-pub fn error_of(r: Read) -> i32 {
+pub fn error_of(r: Read) -> i32
+    ensures { result ≡ error_given r.given }
+{
     let given = r.given;
     if given < 0 {
         if -65536 < given {

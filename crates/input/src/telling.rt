@@ -1,5 +1,5 @@
 // Writing, and telling on standard error why a call of the system failed.
-ghost use Rattle.std.specs.Prelude.{◌≤◌, length};
+ghost use Rattle.std.specs.Prelude.{◌≡◌, ◌≤◌, length, IsOk};
 
 use std::fmt;
 use std::io::{Error, Print};
@@ -43,7 +43,9 @@ fn number_of(error: Error) -> i32 {
 
 // Writes all of text, or stops at the first write that takes nothing or fails and tells the number of the error, when some of text may have
 // been written. One that a signal interrupts before it moves a byte counts as failed. On an empty text it makes no call.
-pub fn write_all<P: Print>(to: &P, text: &[u8]) -> Result<(), i32> {
+pub fn write_all<P: Print>(to: &P, text: &[u8]) -> Result<(), i32>
+    ensures { length text.now ≡ 0 → IsOk result }
+{
     let mut done: usize = 0;
     while done < text.len() {
         match to.write_some(&text[done..]) {
