@@ -1,4 +1,4 @@
-// One read of an open file. The field is this module's own, so that a value of this type is what the system gave.
+// One read of a reader. The field is this module's own, so that a value of this type is what a read gave.
 ghost use Rattle.std.specs.Prelude.{◌≡◌, true, negsuc};
 ghost use Rattle.input.specs.Reading.{Gave, IsPrefixLen, count_given, error_given, is_failure};
 
