@@ -5,8 +5,7 @@ ghost use Rattle.input.specs.Reading.{IsPrefixLen, error_given, is_failure};
 ghost use Rattle.input.specs.Contents.{nothing, size_of, extended, Within, Grows, GoesOn};
 
 use crate::reading;
-use crate::reading::Read;
-use std::io;
+use crate::reading::{Read, Source};
 
 // What one read gave: its bytes, at the front, and the number that the system gave.
 #[derive(Clone, Copy)]
@@ -45,7 +44,7 @@ pub fn unread() -> Content
 }
 
 // Reads once, at most n bytes.
-fn read_chunk<R: io::Read>(source: &mut R, n: usize) -> Chunk
+fn read_chunk<S: Source>(source: &mut S, n: usize) -> Chunk
     requires { n ≤ 4096 }
     ensures { (size_of result ≤ n) × IsPrefixLen (size_of result) result.bytes }
 {
@@ -87,7 +86,7 @@ fn joined(c: Content, chunk: Chunk) -> Content
 }
 
 // Reads once more.
-pub fn advance<R: io::Read>(c: Content, source: &mut R) -> Extended
+pub fn advance<S: Source>(c: Content, source: &mut S) -> Extended
     requires { Within c × (c.reads < 18446744073709551615) }
     ensures { Grows c result }
 {

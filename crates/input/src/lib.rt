@@ -10,12 +10,12 @@ ghost use Rattle.input.specs.Reading.{is_failure};
 ghost use Rattle.input.specs.Contents.{Within, Whole, Delivered, Ended};
 
 pub use content::{Chunk, Content, bytes_of, error_of, is_failed, size_of, unread};
+use reading::Source;
 pub use reading::{Read, count_of, error_of as read_error_of, has_failed, read_once};
-use std::io;
 pub use telling::{fail, note, write_all};
 
 // Reads an open file until it ends, a read fails, or 66,826 bytes were read.
-pub fn read_content<R: io::Read>(source: &mut R) -> Content
+pub fn read_content<S: Source>(source: &mut S) -> Content
     ensures { Whole result }
 {
     let mut got = content::advance(content::unread(), source);
@@ -50,7 +50,7 @@ pub struct Got {
 }
 
 // Reads an open file into the front of buf, as much as has room.
-pub fn read_all<R: io::Read>(source: &mut R, buf: &mut [u8]) -> Got
+pub fn read_all<S: Source>(source: &mut S, buf: &mut [u8]) -> Got
     ensures { Ended buf.new result }
 {
     let content = read_content(source);

@@ -1,9 +1,17 @@
-// One read of a reader. The field is this module's own, so that a value of this type is what a read gave.
+// One read of standard input or of an open file. The field is this module's own, and no other crate can name `Source`, so that a value of
+// this type is what the system gave.
 ghost use Rattle.std.specs.Prelude.{◌≡◌, true, negsuc};
 ghost use Rattle.input.specs.Reading.{Gave, IsPrefixLen, count_given, error_given, is_failure};
 
-use std::io;
-use std::io::{Error, ErrorKind};
+use std::fs::File;
+use std::io::{Error, ErrorKind, Read as Reader, Stdin};
+
+// What is read from: an open file, or standard input.
+pub trait Source: Reader {}
+
+impl Source for File {}
+
+impl Source for Stdin {}
 
 // What a read gave: the number of bytes at the front of the buffer, 0 at the end of the file, and below 0 where it failed: then it is the
 // number of the error, turned about.
@@ -44,7 +52,7 @@ fn gave(count: usize, buf: &[u8]) -> Read
 }
 
 // Reads once, and again as long as a signal interrupts the read before a byte came.
-pub fn read_once<R: io::Read>(source: &mut R, buf: &mut [u8]) -> Read
+pub fn read_once<S: Source>(source: &mut S, buf: &mut [u8]) -> Read
     ensures { Gave buf.new result }
 {
     for _ in 0..u64::MAX {
