@@ -1,7 +1,7 @@
 // The resident program: requests of two users, each a line of standard input, on one circuit memory, working memory and pin memory.
 #![tactic(auto)]
 
-ghost use Rattle.std.specs.Prelude.{◌≡◌, List, ℕ, length, IfOk};
+ghost use Rattle.std.specs.Prelude.{◌≡◌, List, ℕ, length};
 ghost use Rattle.panel_session.specs.Session.{SessionOf, start};
 ghost use Rattle.panel_serving.specs.Serving.{Over, state_of, totals_of};
 
@@ -92,16 +92,29 @@ fn session_with(rt: HostRuntime, work: &mut [u32], out: &mut [u8]) -> Turned
     panel_serving::session(rt, work, out)
 }
 
-// Lends the working memory and the output of the greatest size, 65,536. No text is longer than this output: fold asks for 1,572,928
-// bytes at most, waveform for 1,456,223. Both stand on the heap, so that the stack is left to a turn. What the working memory holds at the
-// end is out of sight here.
-fn session_of_both(rt: HostRuntime) -> Result<Turned, AllocError>
-    ensures by_index { IfOk result (λ t. (work : List ℕ) × SessionOf 1572928 start (totals_of t.after.tally) (state_of t.after work)) }
-    ensures over { IfOk result Over }
+// The working memory and the output of the greatest size, 65,536, as a session starts. No text is longer than this output: fold asks for
+// 1,572,928 bytes at most, waveform for 1,456,223.
+#[derive(Drop)]
+struct Memories {
+    work: Vec<u32>,
+    out: Vec<u8>,
+    ghost at_start: { (work.items ≡ start.work) × (length out.items ≡ 1572928) },
+}
+
+// Both memories stand on the heap, so that the stack is left to a turn.
+fn lent_memories(rt: HostRuntime) -> Result<Memories, AllocError> {
+    let work = Vec::from_elem(rt.alloc(), 0u32, 1048576)?;
+    let out = Vec::from_elem(rt.alloc(), 0u8, 1572928)?;
+    Ok(Memories { work, out })
+}
+
+// Lends both memories to the loop. What the working memory holds at the end is out of sight here.
+fn session_of_both(rt: HostRuntime, lent: Memories) -> Turned
+    ensures by_index { (work : List ℕ) × SessionOf 1572928 start (totals_of result.after.tally) (state_of result.after work) }
+    ensures over { Over result }
 {
-    let mut work = Vec::from_elem(rt.alloc(), 0u32, 1048576)?;
-    let mut out = Vec::from_elem(rt.alloc(), 0u8, 1572928)?;
-    Ok(session_with(rt, &mut work, &mut out))
+    let Memories { mut work, mut out } = lent;
+    session_with(rt, &mut work, &mut out)
 }
 
 fn main(rt: HostRuntime) -> Result<(), AllocError> {
@@ -109,6 +122,7 @@ fn main(rt: HostRuntime) -> Result<(), AllocError> {
         say_help(rt);
         return Ok(());
     }
-    session_of_both(rt)?;
+    let lent = lent_memories(rt)?;
+    session_of_both(rt, lent);
     Ok(())
 }
