@@ -226,10 +226,9 @@ pub fn argument_text(rt: HostRuntime, i: usize, buf: &mut [u8]) -> usize
     got.count
 }
 
-// How many arguments the program was started with, its own name among them. How many these are, is for the system to say.
-pub fn argument_count(rt: HostRuntime) -> usize
-    ensures { result ≤ usize.MAX }
-{
+// How many arguments the program was started with, its own name among them. That is for the system to say: no clause could say more than
+// the type does, so there is none.
+pub fn argument_count(rt: HostRuntime) -> usize {
     let mut front = [0u8; 1];
     for i in 0..usize::MAX {
         if let Err(FillError::NotPresent) = rt.arg(i, &mut front) {
