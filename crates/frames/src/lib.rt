@@ -45,7 +45,7 @@ fn eval_place(table: &[u32], order: &[u32], k: usize, values: &mut [u64])
 }
 
 // Evaluates all gates, where the constant, the inputs and the latches have their words. A turn of the loop is two gates, so that
-// turns are counted half as often.
+// turns are counted half as often; a `for` over `step_by(2)` with the last gate beside it is no plainer.
 pub fn eval_gates(m: &[u32], layout: Layout, order: &[u32], values: &mut [u64])
     requires { Ready m.now layout order.now (length values.old) }
     ensures { Evaluated (circuit_in m.now) values.old values.new }
@@ -72,10 +72,8 @@ pub fn constrain(m: &[u32], layout: Layout, order: &[u32], from: u64, values: &[
     let count = layout.c;
     let constraints = layout.constraints;
     let mut left = from;
-    let mut k = 0;
-    while k < count {
-        left = left & literal_value(values, Lit::from_word(m[constraints + k]));
-        k += 1;
+    for k in 0..count {
+        left &= literal_value(values, Lit::from_word(m[constraints + k]));
     }
     left
 }
@@ -99,10 +97,8 @@ fn next_state(m: &[u32], layout: Layout, values: &[u64], state: &mut [u64])
 {
     let count = layout.l;
     let latches = layout.latches;
-    let mut j = 0;
-    while j < count {
+    for j in 0..count {
         state[j] = literal_value(values, Lit::from_word(m[latches + 3 * j + 1]));
-        j += 1;
     }
 }
 
@@ -115,12 +111,10 @@ fn put_state(m: &[u32], layout: Layout, state: &[u64], values: &mut [u64])
 {
     let count = layout.l;
     let latches = layout.latches;
-    let mut j = 0;
-    while j < count {
+    for j in 0..count {
         let v = Lit::from_word(m[latches + 3 * j]).var();
         let place = v.0 as usize;
         values[place] = state[j];
-        j += 1;
     }
 }
 

@@ -31,12 +31,13 @@ fn wrapping_mul(a: u64, b: u64) -> u64
     let mut sum: u64 = 0;
     let mut x = a;
     let mut y = b;
+    // A test on y, which is halved until nothing is left of it.
     while y != 0 {
         if y & 1 == 1 {
             sum = std::num::wrapping_add_u64(sum, x);
         }
         x = std::num::wrapping_add_u64(x, x);
-        y = y >> 1;
+        y >>= 1;
     }
     sum
 }

@@ -40,7 +40,8 @@ pub struct Section {
     pub most: usize,
 }
 
-// Section k of the six, in the order of file and memory: inputs, latches, outputs, bad lines, constraints, gates.
+// Section k of the six, in the order of file and memory: inputs, latches, outputs, bad lines, constraints, gates. k is a number and no
+// enum, since callers count through the six.
 pub fn section_at(p: Layout, k: usize) -> Section
     requires { k < 6 }
     ensures { result ≡ section_at p k }
@@ -142,12 +143,10 @@ fn free_starts(m: &[u32], p: Layout) -> usize
     let latches = p.latches;
     let l = p.l;
     let mut free = 0;
-    let mut j = 0;
-    while j < l {
+    for j in 0..l {
         let lit = Lit::from_word(m[latches + 3 * j]);
         let reset = Lit::from_word(m[latches + 3 * j + 2]);
         free += free_start(lit, reset);
-        j += 1;
     }
     free
 }

@@ -6,15 +6,15 @@ ghost use Rattle.std.specs.Prelude.{◌≡◌, eqb, leb};
 ghost use Rattle.literals.specs.Literal.{literal, word_of, complemented};
 
 // A variable number. Variable 0 is the constant.
-#[derive(Clone, Copy)]
+#[derive(Clone, Copy, PartialEq, Eq)]
 pub struct Var(pub u32);
 
 // A node of the graph of a folded frame. The variable that the folded file gives it has another number.
-#[derive(Clone, Copy)]
+#[derive(Clone, Copy, PartialEq, Eq)]
 pub struct Node(pub u32);
 
 // A variable, and whether the literal is its complement.
-#[derive(Clone, Copy)]
+#[derive(Clone, Copy, PartialEq, Eq)]
 pub struct Lit(pub Var, pub bool);
 
 impl Lit {
@@ -28,7 +28,7 @@ impl Lit {
     pub fn word(self) -> u64
         ensures { result ≡ word_of self }
     {
-        let v = self.0.0 as u64;
+        let v = u64::from(self.0.0);
         if self.1 { 2 * v + 1 } else { 2 * v }
     }
 
@@ -56,7 +56,7 @@ impl Lit {
     pub fn equals(self, other: Lit) -> bool
         ensures { result ≡ eqb (word_of self) (word_of other) }
     {
-        self.word() == other.word()
+        self == other
     }
 
     // Whether the literal is constant: 0 or 1.

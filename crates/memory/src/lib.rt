@@ -74,7 +74,7 @@ pub const ACT: u8 = 11;
 
 pub const FAN: u8 = 12;
 
-// Word i, or 0 past the end.
+// Word i, or 0 past the end. `work.get(i).copied().unwrap_or(0)` is no plainer, and two calls more at each read of a search.
 pub fn get(work: &[u32], i: usize) -> u32
     ensures { result ≡ get_or work.now i 0 }
 {

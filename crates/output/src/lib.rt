@@ -32,7 +32,7 @@ pub fn put_number(out: &mut [u8], at: usize, n: u32) -> usize
     requires { Room out.old at (digits n) }
     ensures { Placed out.old at (digits n) result out.new }
 {
-    put_long(out, at, n as u64)
+    put_long(out, at, u64::from(n))
 }
 
 // The byte after a number that `left` more follow in its line.
@@ -72,12 +72,8 @@ pub fn put_row(m: &[u32], first: usize, n: usize, out: &mut [u8], at: usize) -> 
     ensures { Placed out.old at (row_text m.now first n) result out.new }
 {
     let mut end = at;
-    let mut p = first;
-    let mut left = n;
-    while 0 < left {
-        left -= 1;
-        end = put_ended(out, end, m[p], left);
-        p += 1;
+    for k in 0..n {
+        end = put_ended(out, end, m[first + k], n - k - 1);
     }
     end
 }

@@ -58,12 +58,10 @@ pub fn draw(i: u16) -> u64
 {
     let mut value: u64 = 1;
     let mut generator = Generator::seeded(value);
-    let mut k: u16 = 0;
-    while k < i {
+    for _ in 0..i {
         let drawn = generator.draw();
         value = drawn.value;
         generator = drawn.generator;
-        k += 1;
     }
     value
 }
@@ -75,5 +73,5 @@ pub fn pattern_word(j: u16) -> u64
     if 5 < j {
         return draw(j - 5);
     }
-    pattern(j as usize)
+    pattern(usize::from(j))
 }
