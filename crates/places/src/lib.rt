@@ -12,8 +12,7 @@ pub fn tries(n: usize, d: u64) -> u64
     if 32 < n {
         return d;
     }
-    let all = 1u64 << n;
-    if all < d { all } else { d }
+    (1u64 << n).min(d)
 }
 
 // Whether a budget of d covers 2 to the power n places.
