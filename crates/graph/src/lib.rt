@@ -8,9 +8,6 @@ ghost use Rattle.graph.specs.Stored.{Stored, empty_graph, Enough, Operands, Conj
 
 use literals::Node;
 use nodes::{Edge, Graph};
-use pairs::Lookup;
-use rules::{Simple, simplify};
-use signatures::Match;
 
 // An edge as its word.
 #[derive(Clone, Copy)]
@@ -79,8 +76,8 @@ fn merge(work: &mut [u32], g: Graph, left: Edge, right: Edge) -> Made
     ensures { Conjoined work.old work.new g (edge_word left) (edge_word right) result }
 {
     match signatures::find_twin(work, g, left, right) {
-        Match::Edge(e) => Made { graph: g, edge: e },
-        Match::Nothing => append_signed(work, g, left, right),
+        Some(e) => Made { graph: g, edge: e },
+        None => append_signed(work, g, left, right),
     }
 }
 
@@ -90,11 +87,11 @@ fn make_gate(work: &mut [u32], g: Graph, left: Edge, right: Edge) -> Made
     ensures { Conjoined work.old work.new g (edge_word left) (edge_word right) result }
 {
     match pairs::find_pair(work, g, left, right) {
-        Lookup::Gate(k) => Made {
+        Some(k) => Made {
             graph: g,
             edge: Edge(k, false),
         },
-        Lookup::Nothing => {
+        None => {
             if 12 < g.free {
                 return append_plain(work, g, left, right);
             }
@@ -109,9 +106,9 @@ fn make_ordered(work: &mut [u32], g: Graph, left: Edge, right: Edge) -> Made
     requires right_bound { edge_word right ≤ edge_word left }
     ensures { Conjoined work.old work.new g (edge_word left) (edge_word right) result }
 {
-    match simplify(work, g, left, right) {
-        Simple::Known(e) => Made { graph: g, edge: e },
-        Simple::Gate => make_gate(work, g, left, right),
+    match rules::simplify(work, g, left, right) {
+        Some(e) => Made { graph: g, edge: e },
+        None => make_gate(work, g, left, right),
     }
 }
 

@@ -12,13 +12,6 @@ ghost use Rattle.pairs.specs.Store.{has_pair, is_pair, Chained, Empty, Started, 
 use literals::Node;
 use nodes::{Edge, Graph, PAIR_BEFORE, PAIR_LAST, RIGHT};
 
-// The gate with given operands, or that there is none.
-#[derive(Clone, Copy)]
-pub enum Lookup {
-    Gate(Node),
-    Nothing,
-}
-
 // The bucket of a pair of operands.
 fn bucket(room: usize, left: Edge, right: Edge) -> usize
     requires room_nonzero { (0 < room) × (room ≤ 65536) }
@@ -38,6 +31,7 @@ fn word(work: &[u32], k: usize, f: usize) -> usize
 }
 
 // Whether node k has these operands.
+#[tactic(auto, unfolding(crate::specs::Store::has_pair))]
 fn has_pair(work: &[u32], k: usize, left: Edge, right: Edge) -> bool
     requires { 16 * k + 1 < length work.now }
     ensures { result ≡ has_pair work.now (edge_word left) (edge_word right) k }
@@ -50,16 +44,13 @@ pub fn start_pairs(work: &mut [u32], g: Graph)
     requires { Empty work.old g }
     ensures { Started work.old work.new g }
 {
-    let room = g.room;
-    let mut h = 0;
-    while h < room {
+    for h in 0..g.room {
         work[16 * h + PAIR_LAST] = 0;
-        h += 1;
     }
 }
 
-// The gate with these operands.
-pub fn find_pair(work: &[u32], g: Graph, left: Edge, right: Edge) -> Lookup
+// The gate with these operands, if there is one.
+pub fn find_pair(work: &[u32], g: Graph, left: Edge, right: Edge) -> Option<Node>
     requires chained { Chained work.now g }
     requires left_bound { (edge_word left < 2 ^ 32) × (edge_word right < 2 ^ 32) }
     ensures { place_of result ≡ last_before (is_pair work.now g (edge_word left) (edge_word right)) g.nodes }
@@ -69,11 +60,11 @@ pub fn find_pair(work: &[u32], g: Graph, left: Edge, right: Edge) -> Lookup
     let mut next = word(work, h, PAIR_LAST);
     while 0 < next {
         if has_pair(work, next - 1, left, right) {
-            return Lookup::Gate(Node((next - 1) as u32));
+            return Some(Node((next - 1) as u32));
         }
         next = word(work, next - 1, PAIR_BEFORE);
     }
-    Lookup::Nothing
+    None
 }
 
 // Adds a gate with these operands as the last node of the graph and of its bucket.

@@ -20,7 +20,7 @@ use Rattle.nodes.specs.Edges.{edge_word, word_edge}
 use Rattle.nodes.specs.declared.Edge.{Edge}
 use Rattle.nodes.specs.declared.Graph.{Graph}
 use Rattle.nodes.proofs.Laws.{pair_at-pairs_of, pair_eq, word-node, edge-word}
-use Rattle.rules.specs.Rules.{Asked, basic, lowered, or_lowered, simplified}
+use Rattle.rules.specs.Rules.{Asked, basic, lowered, below, or_lowered, simplified}
 
 -- which rule there is for two operands, and what it says
 pub data Ruled (left right : ℕ) : Option ℕ → Type 0 where
@@ -202,6 +202,10 @@ module _ (n : ℕ) (gs : List Pair) (left right : ℕ) where
   unfolding simplified
   simplified-leaf q l = ap (or_lowered n gs left right) q ∙ ap (λ (b : Bool). cond b (lowered lower left right) none) (lt-leb (n + 1) (node_of left) (omega arith))
 
+  -- the rule one gate down, where left is a gate
+  pub below-lower : n + 1 ≤ node_of left → below n gs left right ≡ lowered (pair_at gs (node_of left - (n + 1))) left right
+  below-lower l = ap (λ (b : Bool). cond b (lowered lower left right) none) (le-leb (n + 1) (node_of left) l)
+
   pub simplified-lower : basic left right ≡ none → n + 1 ≤ node_of left → simplified n gs left right ≡ lowered (pair_at gs (node_of left - (n + 1))) left right
   unfolding simplified
   simplified-lower q l = ap (or_lowered n gs left right) q ∙ ap (λ (b : Bool). cond b (lowered lower left right) none) (le-leb (n + 1) (node_of left) l)
@@ -328,12 +332,12 @@ lowered-edge m l r (contradicted o t) = omega arith
 lowered-edge m l r (implied o t) = l
 
 -- the operands of the gate that left is, in the memory
-pub lower_of : (work : List ℕ) (g : Graph) (left : Edge) (right : ℕ) → Asked work g (edge_word left) → basic (edge_word left) right ≡ none
+pub lower_of : (work : List ℕ) (g : Graph) (left : Edge) (right : ℕ) → Asked work g (edge_word left)
     → g.free + 1 ≤ left.0.0 → {first second : Edge} → first ≡ word_edge (get_or work (16 * left.0.0) 0)
     → second ≡ word_edge (get_or work (16 * left.0.0 + 1) 0) → {r : Option ℕ}
     → r ≡ lowered (record { left = edge_word first; right = edge_word second }) (edge_word left) right
-    → r ≡ simplified g.free (pairs_of work g) (edge_word left) right
-lower_of work g left right asked b l {first} {second} u v e =
+    → r ≡ below g.free (pairs_of work g) (edge_word left) right
+lower_of work g left right asked l {first} {second} u v e =
     let n = g.free in
     let k = left.0.0 in
     let i = k - (n + 1) in
@@ -347,4 +351,4 @@ lower_of work g left right asked b l {first} {second} u v e =
     pair_eq x y
     ∙ sym (ap (λ (j : ℕ). pair_at (pairs_of work g) (j - (n + 1))) node ∙ pair_at-pairs_of work g i (omega (arith, asked.inside)) ∙ ap (pair_of work) at) in
     e ∙ ap (λ (q : Pair). lowered q (edge_word left) right) p
-    ∙ sym (simplified-lower n (pairs_of work g) (edge_word left) right b (omega arith))
+    ∙ sym (below-lower n (pairs_of work g) (edge_word left) right (omega arith))

@@ -1,5 +1,6 @@
 -- The rules by which a conjunction is an edge that is there already. Clauses 5.3 and 12.5. Assumes nothing.
-use Rattle.std.specs.Prelude.{not, cond, ◌&&◌, List, ℕ, ◌+◌, ◌-◌, ◌<◌, leb, eqb, length}
+use Rattle.std.specs.Prelude as prelude
+use Rattle.std.specs.Prelude.{Some, None, not, cond, ◌&&◌, List, ℕ, ◌+◌, ◌-◌, ◌<◌, leb, eqb, length}
 use Rattle.std.proofs.Math.Option.{Option, none, some}
 use Rattle.aiger.specs.Bits.{odd}
 use Rattle.aiger.specs.Fold.{complement, among}
@@ -7,13 +8,12 @@ use Rattle.nodes.specs.Graph.{node_of, Pair, pair_at}
 use Rattle.nodes.specs.Edges.{edge_word}
 use Rattle.nodes.specs.Store.{Sized}
 use Rattle.nodes.specs.declared.Graph.{Graph}
-use Rattle.rules.specs.declared.Simple.{Simple}
-use Rattle.rules.specs.declared.Simple.TheVariants.{Known, Gate}
+use Rattle.nodes.specs.declared.Edge.{Edge}
 
 -- the word of the edge that is known; none where a gate is needed
-abbrev pub known : Simple → Option ℕ
-known (Known e) = some (edge_word e)
-known Gate = none
+abbrev pub known : prelude.Option Edge → Option ℕ
+known (Some e) = some (edge_word e)
+known None = none
 
 -- left is the larger operand: a constant operand, equal operands, and opposite operands, of which the conjunction is false
 unfoldable pub basic : ℕ → ℕ → Option ℕ
@@ -28,10 +28,14 @@ lowered p left right =
     cond (among p.left p.right (complement right)) (cond (odd left) (some right) (some 0))
     (cond (not (odd left) && among p.left p.right right) (some left) none)
 
+-- what a rule one gate down says, where left is a gate
+abbrev pub below : ℕ → List Pair → ℕ → ℕ → Option ℕ
+below n gs left right = cond (leb (n + 1) (node_of left)) (lowered (pair_at gs (node_of left - (n + 1))) left right) none
+
 -- the rule that there is, or else what a rule one gate down says
 abbrev pub or_lowered : ℕ → List Pair → ℕ → ℕ → Option ℕ → Option ℕ
 or_lowered n gs left right (some e) = some e
-or_lowered n gs left right none = cond (leb (n + 1) (node_of left)) (lowered (pair_at gs (node_of left - (n + 1))) left right) none
+or_lowered n gs left right none = below n gs left right
 
 -- all rules, in the graph over n free bits whose gates are gs
 unfoldable pub simplified : ℕ → List Pair → ℕ → ℕ → Option ℕ

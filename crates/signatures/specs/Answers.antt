@@ -1,10 +1,9 @@
 -- What the searches for an edge answer. Assumes nothing.
-use Rattle.std.specs.Prelude.{ℕ, ◌+◌}
+use Rattle.std.specs.Prelude.{Option, Some, None, ℕ, ◌+◌}
 use Rattle.nodes.specs.Edges.{edge_word}
-use Rattle.signatures.specs.declared.Match.{Match}
-use Rattle.signatures.specs.declared.Match.TheVariants.{Edge, Nothing}
+use Rattle.nodes.specs.declared.Edge.{Edge}
 
 -- one more than the word of the edge; 0 for none
-abbrev pub place_of : Match → ℕ
-place_of (Edge e) = edge_word e + 1
-place_of Nothing = 0
+abbrev pub place_of : Option Edge → ℕ
+place_of (Some e) = edge_word e + 1
+place_of None = 0

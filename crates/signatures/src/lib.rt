@@ -17,26 +17,12 @@ ghost use Rattle.signatures.specs.Twin as Twin;
 use literals::Node;
 use nodes::{CANDIDATE, Edge, Graph, RIGHT, SIGNATURE, SIGNATURE_BEFORE, SIGNATURE_LAST, VALUES};
 
-// An edge, or that there is none.
-#[derive(Clone, Copy)]
-pub enum Match {
-    Edge(Edge),
-    Nothing,
-}
-
-// The same number, as a 64-bit one.
-fn wide(x: u32) -> u64
-    ensures { result ≡ x }
-{
-    x as u64
-}
-
 // The 64-bit word in words f and f + 1 of record k.
 fn word_at(work: &[u32], k: usize, f: usize) -> u64
     requires { (16 * k + (f + 1) < length work.now) × (f < 16) }
     ensures { result ≡ word_at work.now k f }
 {
-    wide(work[16 * k + f]) + wide(work[16 * k + (f + 1)]) * 4294967296
+    u64::from(work[16 * k + f]) + u64::from(work[16 * k + (f + 1)]) * 4294967296
 }
 
 // Stores w in words f and f + 1 of record k.
@@ -187,30 +173,28 @@ fn eval_gates(work: &mut [u32], g: Graph)
 }
 
 // The edge of node k whose signature is s, where t is that of the node.
-fn candidate(k: Node, t: u64, s: u64) -> Match
+fn candidate(k: Node, t: u64, s: u64) -> Option<Edge>
     ensures { Twin.Candidate k.0 t s (place_of result) }
 {
     if words::first_difference(t, s) == 64 {
-        return Match::Edge(Edge(k, false));
+        return Some(Edge(k, false));
     }
     if words::first_difference(t, !s) == 64 {
-        return Match::Edge(Edge(k, true));
+        return Some(Edge(k, true));
     }
-    Match::Nothing
+    None
 }
 
 // Adds an edge to the candidates, if there is one. Answers how many there are.
-fn push(work: &mut [u32], count: usize, e: Match) -> usize
+fn push(work: &mut [u32], count: usize, e: Option<Edge>) -> usize
     requires { (16 * count + 11 < length work.old) × (place_of e ≤ 2 ^ 32) }
     ensures { Twin.Pushed work.old work.new count (λ d. place_of e ≡ d + 1) result }
 {
-    match e {
-        Match::Nothing => count,
-        Match::Edge(w) => {
-            work[16 * count + CANDIDATE] = w.word() as u32;
-            count + 1
-        }
-    }
+    let Some(w) = e else {
+        return count;
+    };
+    work[16 * count + CANDIDATE] = w.word() as u32;
+    count + 1
 }
 
 // The candidates: the edges whose signature is s. Answers how many there are.
@@ -296,7 +280,7 @@ fn check_blocks(work: &mut [u32], g: Graph, a: Edge, b: Edge, count: usize) -> u
 }
 
 // An edge that is equal in function to the conjunction of a and b.
-pub fn find_twin(work: &mut [u32], g: Graph, a: Edge, b: Edge) -> Match
+pub fn find_twin(work: &mut [u32], g: Graph, a: Edge, b: Edge) -> Option<Edge>
     requires { Twin.Ready work.old g (edge_word a) (edge_word b) }
     ensures { Twin.Searched work.old work.new g (edge_word a) (edge_word b) (place_of result) }
 {
@@ -304,7 +288,7 @@ pub fn find_twin(work: &mut [u32], g: Graph, a: Edge, b: Edge) -> Match
     let count = gather(work, g, s);
     let left = check_blocks(work, g, a, b, count);
     if left == 0 {
-        return Match::Nothing;
+        return None;
     }
-    Match::Edge(Edge::from_word(work[CANDIDATE]))
+    Some(Edge::from_word(work[CANDIDATE]))
 }

@@ -18,7 +18,7 @@ find-pair-requires c κs =
 append-plain-requires : tie.Need-append_plain-requires
 append-plain-requires c κs = (
   found-new c.args.work.now c.args.g (edge_word c.args.left) (edge_word c.args.right) c.requires (place_of c.find_pair.result) c.find_pair.ensures
-      (ap place_of c.in-Nothing.is),
+      (ap place_of c.in-None.is),
   omega (arith, c.if-g-gt12.true),
 )
 
@@ -28,14 +28,14 @@ returns c = c.append_plain.ensures
 merge-requires : tie.Need-merge-requires
 merge-requires c κs = (
   found-new c.args.work.now c.args.g (edge_word c.args.left) (edge_word c.args.right) c.requires (place_of c.find_pair.result) c.find_pair.ensures
-      (ap place_of c.in-Nothing.is),
+      (ap place_of c.in-None.is),
   omega (arith, c.if-g-gt12.false),
 )
 
-returns-2 : tie.Need-returns-in-Gate
+returns-2 : tie.Need-returns-in-Some
 returns-2 c =
     found-made c.args.work.now c.args.g (edge_word c.args.left) (edge_word c.args.right) c.requires (place_of c.find_pair.result) c.find_pair.ensures _
-    (sym (ap place_of c.in-Gate.is))
+    (sym (ap place_of c.in-Some.is))
 
 returns-3 : tie.Need-returns-else-g-gt12
 returns-3 c = c.merge.ensures

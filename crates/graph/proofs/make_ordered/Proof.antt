@@ -15,14 +15,14 @@ simplify-requires c κs =
 make-gate-requires : tie.Need-make_gate-requires
 make-gate-requires c κs =
     gate-proper c.args.work.now c.args.g (edge_word c.args.left) (edge_word c.args.right) c.requires.0 c.requires.1
-    (sym c.simplify.ensures ∙ ap known c.in-Gate.is)
+    (sym c.simplify.ensures ∙ ap known c.in-None.is)
 
-returns : tie.Need-returns-in-Known
+returns : tie.Need-returns-in-Some
 returns c =
     known-made c.args.work.now c.args.g (edge_word c.args.left) (edge_word c.args.right) c.requires.0 c.requires.1 _
-    (sym c.simplify.ensures ∙ ap known c.in-Known.is)
+    (sym c.simplify.ensures ∙ ap known c.in-Some.is)
 
-returns-2 : tie.Need-returns-in-Gate
+returns-2 : tie.Need-returns-in-None
 returns-2 c = c.make_gate.ensures
 
 pub make_ordered_spec : {M : Type 1} → statement M

@@ -23,17 +23,17 @@ append-signed-requires c κs =
       (
         c.requires.1,
         twin-none a.work.now c.find_twin.new.work a.g (edge_word a.left) (edge_word a.right) r c.requires.0 c.find_twin.auto.work c.find_twin.ensures
-            (ap place_of c.in-Nothing.is),
+            (ap place_of c.in-None.is),
       ),
     )
 
-returns : tie.Need-returns-in-Edge
+returns : tie.Need-returns-in-Some
 returns c =
     let a = c.args in
     twin-made a.work.now c.find_twin.new.work a.g (edge_word a.left) (edge_word a.right) (place_of c.find_twin.result) c.requires.0 c.find_twin.auto.work c.find_twin.ensures c.requires.1
-    c.in-Edge.e (ap place_of c.in-Edge.is)
+    c.in-Some.e (ap place_of c.in-Some.is)
 
-returns-2 : tie.Need-returns-in-Nothing
+returns-2 : tie.Need-returns-in-None
 returns-2 c =
     let a = c.args in
     conjoined-same a.work.now c.find_twin.new.work c.append_signed.new.work a.g (edge_word a.left) (edge_word a.right) c.append_signed.result
