@@ -1,32 +1,32 @@
 -- Laws of the conjunction as a function: what it is where a rule applies, where a gate is there, where an edge is equal in function and
 -- where a gate is added. In a built graph no two gates have the same operands and, with twelve free bits or fewer, no two edges are equal
 -- in function. Assumes nothing.
-use mathlib.Core.Path.{◌≡◌, refl, sym, ap, ap₂, ◌∙◌, subst}
-use mathlib.Core.Bool.{Bool, true, false, not, cond, ◌&&◌, beq}
+use mathlib.Core.Path.{◌≡◌, refl, sym, ap, ◌∙◌, subst}
+use mathlib.Core.Bool.{Bool, true, false, not, cond, beq}
 use mathlib.Core.Logic.{◌⊎◌, inl, inr}
 use mathlib.Core.List.{List, [], ◌∷◌, ◌++◌}
-use mathlib.Core.Option.{Option, none, some}
-use Prim.Native.Nat.{ℕ, suc, ◌+◌, ◌-◌, ◌*◌, ◌/◌, ◌^◌, ◌≤◌, ◌<◌, max, min}
+use mathlib.Core.Option.{none, some}
+use Prim.Native.Nat.{ℕ, ◌+◌, ◌-◌, ◌*◌, ◌^◌, ◌≤◌, ◌<◌}
 use native.Mathlib.Nat.{max-eq_left, min-eq_right, max_comm, min_comm}
 use native.Mathlib.Decide.{ℕ_discrete, dec_le, dec_lt}
 use native.Mathlib.Omega.{arith}
-use borrow.Author.Tests.{eq-eqb, ne_eqb, le-leb, lt-leb}
+use borrow.Author.Tests.{le-leb, lt-leb}
 use lib.Dec.{T, leb, eqb, eqb→eq}
 use lib.ListN.{length}
-use lib.Pow.{pow_pos, pow-lt, pow_mono}
+use lib.Pow.{pow_pos, pow-lt}
 use Rattle.aiger.specs.Bits.{bit}
-use Rattle.aiger.specs.Lists.{every_below, last_below}
+use Rattle.aiger.specs.Lists.{last_below}
 use Rattle.aiger.specs.Circuit.{var}
 use Rattle.aiger.specs.Frames.{free_bit}
 use Rattle.aiger.proofs.Tests.{and, and_left, and_right, below_at, below_all}
 use Rattle.words.proofs.Bits.{bit-none, bit-beyond, join-high}
 use Rattle.meaning.proofs.Lists.{eqb_of, equal-of-beq, last-only, last_none}
-use Rattle.nodes.specs.Graph.{Pair, edge_value, nodes, pair_at, InGraph, Equal, Opposite, Built}
+use Rattle.nodes.specs.Graph.{Pair, nodes, pair_at, InGraph, Equal, Opposite, Built}
 use Rattle.nodes.proofs.Laws.{edge-free, edge-false, edge-complement}
 use Rattle.signatures.specs.Twin.{edge_under, both_under, Conjunction}
 use Rattle.rules.specs.Rules.{simplified}
 use Rattle.graph.specs.Stored.{Fresh, Twinless}
-use Rattle.graph.specs.Chosen.{Outcome, has_operands, is_twin, twin_of, or_added, or_merged, or_made, conjoin}
+use Rattle.graph.specs.Chosen.{has_operands, is_twin, twin_of, or_added, or_merged, or_made, conjoin}
 
 -- ---- edges of a built graph differ in function
 

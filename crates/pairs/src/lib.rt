@@ -58,6 +58,7 @@ pub fn find_pair(work: &[u32], g: Graph, left: Edge, right: Edge) -> Option<Node
     let room = g.room;
     let h = bucket(room, left, right);
     let mut next = word(work, h, PAIR_LAST);
+    // A while: the chain says itself where it ends.
     while 0 < next {
         if has_pair(work, next - 1, left, right) {
             return Some(Node((next - 1) as u32));

@@ -18,6 +18,7 @@ use literals::Node;
 use nodes::{CANDIDATE, Edge, Graph, RIGHT, SIGNATURE, SIGNATURE_BEFORE, SIGNATURE_LAST, VALUES};
 
 // The 64-bit word in words f and f + 1 of record k.
+#[tactic(auto, unfolding(crate::specs::Words::word_at))]
 fn word_at(work: &[u32], k: usize, f: usize) -> u64
     requires { (16 * k + (f + 1) < length work.now) × (f < 16) }
     ensures { result ≡ word_at work.now k f }
@@ -88,10 +89,8 @@ fn clear_heads(work: &mut [u32], room: usize)
     ensures { ((h : ℕ) → h < room → field work.new h 7 ≡ 0) × ((i : ℕ) → ((h : ℕ) → h < room → i ≡ 16 * h + 7 → ⊥)
         → get_or work.new i 0 ≡ get_or work.old i 0) }
 {
-    let mut h = 0;
-    while h < room {
+    for h in 0..room {
         work[16 * h + SIGNATURE_LAST] = 0;
-        h += 1;
     }
 }
 
@@ -116,11 +115,9 @@ pub fn start_signatures(work: &mut [u32], g: Graph)
     let room = g.room;
     clear_heads(work, room);
     link(work, room, 0, 0);
-    let mut j = 0;
-    while j < free {
+    for j in 0..free {
         let w = words::pattern_word(j as u16);
         link(work, room, j + 1, w);
-        j += 1;
     }
 }
 
@@ -141,11 +138,9 @@ fn set_leaves(work: &mut [u32], free: usize, q: u64)
     ensures { Twin.LeavesSet work.old work.new free q }
 {
     put_word(work, 0, VALUES, 0);
-    let mut j = 0;
-    while j < free {
+    for j in 0..free {
         let w = words::counting_word(free - (j + 1), q);
         put_word(work, j + 1, VALUES, w);
-        j += 1;
     }
 }
 
@@ -165,10 +160,8 @@ fn eval_gates(work: &mut [u32], g: Graph)
     requires { Twin.Simulable work.old g }
     ensures { Twin.Evaluated work.old work.new g }
 {
-    let mut k = g.free + 1;
-    while k < g.nodes {
+    for k in g.free + 1..g.nodes {
         eval_gate(work, k);
-        k += 1;
     }
 }
 
@@ -190,11 +183,13 @@ fn push(work: &mut [u32], count: usize, e: Option<Edge>) -> usize
     requires { (16 * count + 11 < length work.old) × (place_of e ≤ 2 ^ 32) }
     ensures { Twin.Pushed work.old work.new count (λ d. place_of e ≡ d + 1) result }
 {
-    let Some(w) = e else {
-        return count;
-    };
-    work[16 * count + CANDIDATE] = w.word() as u32;
-    count + 1
+    match e {
+        None => count,
+        Some(w) => {
+            work[16 * count + CANDIDATE] = w.word() as u32;
+            count + 1
+        }
+    }
 }
 
 // The candidates: the edges whose signature is s. Answers how many there are.
@@ -206,6 +201,7 @@ fn gather(work: &mut [u32], g: Graph, s: u64) -> usize
     let h = bucket(s, room);
     let mut count = 0;
     let mut next = work[16 * h + SIGNATURE_LAST];
+    // A while: the chain says itself where it ends.
     while 0 < next {
         let k = next - 1;
         let i = k as usize;
@@ -234,11 +230,9 @@ fn filter(work: &mut [u32], count: usize, w: u64) -> usize
     ensures { Twin.Sifted work.old work.new (Twin.HasWord work.old 8 w) count result }
 {
     let mut left = 0;
-    let mut i = 0;
-    while i < count {
+    for i in 0..count {
         let e = Edge::from_word(work[16 * i + CANDIDATE]);
         left = keep(work, left, e, w);
-        i += 1;
     }
     left
 }
@@ -268,13 +262,11 @@ fn check_blocks(work: &mut [u32], g: Graph, a: Edge, b: Edge, count: usize) -> u
     }
     let blocks = 1u64 << (g.free - 6);
     let mut left = count;
-    let mut q = 0;
-    while q < blocks {
+    for q in 0..blocks {
         if left == 0 {
             return 0;
         }
         left = check_block(work, g, a, b, left, q);
-        q += 1;
     }
     left
 }

@@ -1,6 +1,6 @@
 -- `graph::make_gate` meets its contract: a gate that is found has the operands, and where none is found the pair is new.
 -- Assumes nothing.
-use mathlib.Core.Path.{refl, sym, ap, ◌∙◌}
+use mathlib.Core.Path.{sym, ap}
 use native.Mathlib.Omega.{arith}
 use Rattle.nodes.specs.Edges.{edge_word}
 use Rattle.pairs.specs.Answers.{place_of}

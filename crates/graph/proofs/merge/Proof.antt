@@ -1,6 +1,6 @@
 -- `graph::merge` meets its contract: an edge that is equal in function is the answer, and where there is none the new gate has no twin.
 -- Assumes nothing.
-use mathlib.Core.Path.{sym, ap}
+use mathlib.Core.Path.{ap}
 use Rattle.nodes.specs.Edges.{edge_word}
 use Rattle.signatures.specs.Answers.{place_of}
 use Rattle.graph.proofs.Outcomes.{new-same, conjoined-same}

@@ -10,16 +10,16 @@ use Rattle.signatures.proofs.push.Statement.{statement}
 use Rattle.signatures.proofs.push.Tie as tie
 
 cast-work : tie.Need-overflow_cast-work
-cast-work c = omega (arith, c.requires.1, ap place_of c.in-Edge.is, c.word.ensures)
+cast-work c = omega (arith, c.requires.1, ap place_of c.in-Some.is, c.word.ensures)
 
-returns : tie.Need-returns-in-Nothing
-returns c = pushed_none (λ d q. let z : ◌≡◌ {A = ℕ} 0 (d + 1) = sym (ap place_of c.in-Nothing.is) ∙ q in omega arith)
+returns : tie.Need-returns-in-None
+returns c = pushed_none (λ d q. let z : ◌≡◌ {A = ℕ} 0 (d + 1) = sym (ap place_of c.in-None.is) ∙ q in omega arith)
 
-returns-2 : tie.Need-returns-in-Edge
+returns-2 : tie.Need-returns-in-Some
 returns-2 c =
     let a = c.args in
-    let w = c.in-Edge.w in
-    let z : place_of a.e ≡ edge_word w + 1 = ap place_of c.in-Edge.is in
+    let w = c.in-Some.w in
+    let z : place_of a.e ≡ edge_word w + 1 = ap place_of c.in-Some.is in
     let y : c.word.result ≡ edge_word w = c.word.ensures in
     pushed-one a.work.now a.count c.word.result c.requires.0 (λ d q. omega arith) (λ d q. omega arith)
 
