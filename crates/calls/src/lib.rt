@@ -32,7 +32,6 @@ ghost use Rattle.call_forms.specs.Forms.{
 };
 ghost use Rattle.calls.specs.Answers.{pin_said};
 
-use circuit::Held;
 use fold::{FoldAnswer, Target};
 use generate::GenerateAnswer;
 use load::{Judgement, LoadAnswer};
@@ -111,7 +110,7 @@ pub fn set_pin(user: u64, shared: &mut [u8], m: &[u32], input: u64, value: u64) 
     if 2 < value {
         return PinAnswer::Refused(18);
     }
-    let Held::Circuit(layout) = circuit::test(m) else {
+    let Some(layout) = circuit::test(m) else {
         return PinAnswer::Refused(9);
     };
     if layout.i as u64 <= input {

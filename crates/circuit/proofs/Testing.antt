@@ -8,6 +8,7 @@ use native.Mathlib.Nat.{eq-or-lt_of_le}
 use native.Mathlib.Omega.{arith}
 use lib.Dec.{leb→le}
 use lib.ListN.{length}
+use Rattle.std.specs.Prelude.{Option, Some, None}
 use Rattle.aiger.specs.Circuit.{literals_right, used_defined, acyclic}
 use Rattle.aiger.specs.Circuit as circuit
 use Rattle.aiger.specs.File.{counts_fit, count_tests, header_of}
@@ -24,8 +25,6 @@ use Rattle.layout.specs.Layout.{PlacesOf, Counted}
 use Rattle.roundtrip.proofs.Counts.{counted}
 use Rattle.validity.specs.Validity.{judged}
 use Rattle.circuit.specs.Held.{Says, Zeros, Shaped, counts_in, Tested, HeldIs}
-use Rattle.circuit.specs.declared.Held.{Held}
-use Rattle.circuit.specs.declared.Held.TheVariants.{Circuit, Nothing}
 
 -- the word at i, after those up to it
 pub zeros-more : (m : List ℕ) (a i : ℕ) → Zeros m a i → word m i ≡ 0 → Zeros m a (i + 1)
@@ -122,6 +121,6 @@ pub none-refused : {m : List ℕ} {n : ℕ} → judged (circuit_in m) ≡ refuse
 none-refused e = unsound (λ s. never-gives (sym e ∙ judged-valid s.valid))
 
 -- the test keeps no order
-pub tested : (m order : List ℕ) (r : Held) → HeldIs m order r → Tested m r
-tested m order (Circuit p) h = (h.0, h.1)
-tested m order Nothing h = h
+pub tested : (m order : List ℕ) (r : Option Layout) → HeldIs m order r → Tested m r
+tested m order (Some p) h = (h.0, h.1)
+tested m order None h = h

@@ -1,5 +1,5 @@
 -- Which circuit a memory holds, as code tests it. Assumes nothing.
-use Rattle.std.specs.Prelude.{◌≡◌, Bool, true, false, List, ℕ, ◌≤◌, ◌<◌, length, drop, replicate}
+use Rattle.std.specs.Prelude.{◌≡◌, Option, Some, None, Bool, true, false, List, ℕ, ◌≤◌, ◌<◌, length, drop, replicate}
 use Rattle.aiger.specs.File.{counts_fit, header_of}
 use Rattle.aiger.specs.Load.{needed}
 use Rattle.aiger.specs.Memory.{Holds}
@@ -9,8 +9,6 @@ use Rattle.headers.specs.declared.Counts.{Counts}
 use Rattle.layout.specs.declared.Layout.{Layout}
 use Rattle.layout.specs.Layout.{LayoutOf}
 use Rattle.layout.specs.Order.{Ordered}
-use Rattle.circuit.specs.declared.Held.{Held}
-use Rattle.circuit.specs.declared.Held.TheVariants.{Circuit, Nothing}
 pub use Rattle.variables.specs.Table.{Says}
 
 -- the words from position a up to position b are 0
@@ -28,16 +26,16 @@ abbrev pub counts_in : Layout → Counts
 counts_in p = record { m = p.m; i = p.i; l = p.l; o = p.o; a = p.a; b = p.b; c = p.c; j = 0; f = 0 }
 
 -- the memory holds the circuit that its words encode, laid out so, or none
-abbrev pub Tested : List ℕ → Held → Type 0
-Tested m (Circuit p) = LayoutOf m p × Holds m (circuit_in m)
-Tested m Nothing = HoldsNone m
+abbrev pub Tested : List ℕ → Option Layout → Type 0
+Tested m (Some p) = LayoutOf m p × Holds m (circuit_in m)
+Tested m None = HoldsNone m
 
 -- the same, and an order of evaluation of the circuit's gates
-abbrev pub HeldIs : List ℕ → List ℕ → Held → Type 0
-HeldIs m order (Circuit p) = LayoutOf m p × Holds m (circuit_in m) × Ordered (circuit_in m) order
-HeldIs m order Nothing = HoldsNone m
+abbrev pub HeldIs : List ℕ → List ℕ → Option Layout → Type 0
+HeldIs m order (Some p) = LayoutOf m p × Holds m (circuit_in m) × Ordered (circuit_in m) order
+HeldIs m order None = HoldsNone m
 
 -- the order is after the circuit's gates as it was, where there is a circuit; else it is all 0
-abbrev pub OrderLeft : List ℕ → List ℕ → List ℕ → Held → Type 0
-OrderLeft m old order (Circuit p) = drop (length (circuit_in m).gates) order ≡ drop (length (circuit_in m).gates) old
-OrderLeft m old order Nothing = order ≡ replicate (length old) 0
+abbrev pub OrderLeft : List ℕ → List ℕ → List ℕ → Option Layout → Type 0
+OrderLeft m old order (Some p) = drop (length (circuit_in m).gates) order ≡ drop (length (circuit_in m).gates) old
+OrderLeft m old order None = order ≡ replicate (length old) 0

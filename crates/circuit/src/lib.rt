@@ -9,13 +9,6 @@ use headers::Counts;
 use layout::Layout;
 use validity::Checked;
 
-// What a memory holds: a circuit, which stands as the layout says, or none.
-#[derive(Clone, Copy)]
-pub enum Held {
-    Circuit(Layout),
-    Nothing,
-}
-
 // Whether every word from position from up to position to is 0.
 fn are_zeros(m: &[u32], from: usize, to: usize) -> bool
     requires { to ≤ length m.now }
@@ -63,29 +56,29 @@ fn is_shaped(m: &[u32], p: Layout) -> bool
     are_zeros(m, p.end, needed)
 }
 
-// The circuit that m holds; order then begins with its gates in an order of evaluation, and is after them as it was. Where m holds none,
-// order is all 0.
-pub fn held_in(m: &[u32], order: &mut [u32]) -> Held
+// The layout of the circuit that m holds; order then begins with its gates in an order of evaluation, and is after them as it was. Where m
+// holds none, order is all 0.
+pub fn held_in(m: &[u32], order: &mut [u32]) -> Option<Layout>
     requires { 3072 ≤ length order.old }
     ensures { HeldIs m.now order.new result × OrderLeft m.now order.old order.new result }
 {
     if m.len() < 264 {
         variables::clear(order);
-        return Held::Nothing;
+        return None;
     }
     let p = layout::layout_of(m);
     if !is_shaped(m, p) {
         variables::clear(order);
-        return Held::Nothing;
+        return None;
     }
     match validity::check(m, order) {
-        Checked::Right => Held::Circuit(layout::with_starts(m, p)),
-        Checked::Refused(_) => Held::Nothing,
+        Checked::Right => Some(layout::with_starts(m, p)),
+        Checked::Refused(_) => None,
     }
 }
 
-// The test for number 9: whether m holds a circuit.
-pub fn test(m: &[u32]) -> Held
+// The test for number 9: whether m holds a circuit, and its layout.
+pub fn test(m: &[u32]) -> Option<Layout>
     ensures { Tested m.now result }
 {
     let mut order = [0u32; 3072];

@@ -27,7 +27,6 @@ ghost use Rattle.fold.specs.Text.{
 ghost use Rattle.fold.specs.Chosen.{chosen};
 ghost use Rattle.fold.specs.Answer.{answered, FoldFits, FoldShown};
 
-use circuit::Held;
 use layout::Layout;
 use limits::Ruling;
 use literals::{Lit, Var};
@@ -183,7 +182,7 @@ pub fn fold(m: &[u32], b: u64, t: u64, work: &mut [u32], out: &mut [u8]) -> Fold
     ensures { Folded chosen m.now b t work.old out.old (answered result) work.new out.new }
 {
     let mut order = [0u32; 3072];
-    let Held::Circuit(layout) = circuit::held_in(m, &mut order) else {
+    let Some(layout) = circuit::held_in(m, &mut order) else {
         return FoldAnswer::Refused(9);
     };
     if let Ruling::Refused(n) = check_fold(layout, b, t, work.len(), out.len()) {

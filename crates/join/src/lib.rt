@@ -14,7 +14,6 @@ ghost use Rattle.joined.specs.Joined.{joined, JoinedInto};
 ghost use Rattle.pairing.specs.Words.{Small, variables, Joins};
 ghost use Rattle.join.specs.Answers.{counts_of, RulingIs};
 
-use circuit::Held;
 use layout::Layout;
 use limits::Ruling;
 use load::{Counts, LoadAnswer};
@@ -100,10 +99,10 @@ fn join_held(a: &[u32], p: Layout, b: &[u32], q: Layout, m: &mut [u32])
 pub fn join(first: &[u32], second: &[u32], third: &mut [u32]) -> LoadAnswer
     ensures { JoinedInto first.now second.now third.old (answered result) third.new }
 {
-    let Held::Circuit(p) = circuit::test(first) else {
+    let Some(p) = circuit::test(first) else {
         return LoadAnswer::Refused(9);
     };
-    let Held::Circuit(q) = circuit::test(second) else {
+    let Some(q) = circuit::test(second) else {
         return LoadAnswer::Refused(9);
     };
     if let Ruling::Refused(n) = check_join(p, q, third.len()) {

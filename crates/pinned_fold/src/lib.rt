@@ -9,7 +9,6 @@ ghost use Rattle.fold.specs.Chosen.{chosen};
 ghost use Rattle.fold.specs.Answer.{answered};
 ghost use Rattle.pinned_fold.specs.Steps.{FoldFits, FoldIs};
 
-use circuit::Held;
 use fold::{FoldAnswer, Target};
 use layout::Layout;
 use limits::Ruling;
@@ -48,7 +47,7 @@ fn fold_held(
         (answered result)
         (work.new, out.new) }
 {
-    let Held::Circuit(layout) = circuit::test(m) else {
+    let Some(layout) = circuit::test(m) else {
         return FoldAnswer::Refused(9);
     };
     if let Ruling::Refused(n) = fold::check_fold(layout, q.b, q.t, work.len(), out.len()) {

@@ -9,7 +9,6 @@ ghost use Rattle.pinning.specs.Operations.{PinnedSearched};
 ghost use Rattle.search.specs.Chosen.{chosen, said};
 ghost use Rattle.pinned_search.specs.Steps.{FullFits, InFull, PinnedFits, TextIs, OutputIs};
 
-use circuit::Held;
 use layout::Layout;
 use limits::Ruling;
 use search::{SearchAnswer, Terms};
@@ -102,7 +101,7 @@ fn search_held(
         out.old (said result)
         (work.new, out.new) }
 {
-    let Held::Circuit(layout) = circuit::test(m) else {
+    let Some(layout) = circuit::test(m) else {
         return SearchAnswer::Refused(9);
     };
     if let Ruling::Refused(n) = search::check_search(layout, q.b, q.k, q.d, work.len(), out.len()) {

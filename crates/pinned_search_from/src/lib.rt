@@ -9,7 +9,6 @@ ghost use Rattle.place_decision.specs.Reach.{place_chosen};
 ghost use Rattle.search.specs.Chosen.{said};
 ghost use Rattle.pinned_search_from.specs.Steps.{PinnedFromFits, FromTextIs, FromOutputIs};
 
-use circuit::Held;
 use layout::Layout;
 use limits::Ruling;
 use place_limits::PlaceTerms;
@@ -67,7 +66,7 @@ fn search_held(
     ensures { PinnedSearchedFrom place_chosen m.now (pins_of pins.now user) q.b q.t q.place q.d
         work.old out.old (said result) (work.new, out.new) }
 {
-    let Held::Circuit(layout) = circuit::test(m) else {
+    let Some(layout) = circuit::test(m) else {
         return SearchAnswer::Refused(9);
     };
     let inputs = expansion::free_inputs(pins, user, layout.i);

@@ -9,6 +9,7 @@ use native.Mathlib.Omega.{arith}
 use borrow.Author.Tests.{lt-ltb, le-ltb, le-leb, lt-leb}
 use lib.ListN.{length, take, drop, length-drop}
 use lib.Seq.{take_all}
+use Rattle.std.specs.Prelude as code
 use Rattle.aiger.specs.Circuit.{Circuit}
 use Rattle.aiger.specs.Load.{Answer, refused, gives}
 use Rattle.aiger.specs.Operations.{judge, Operated, HoldsNone}
@@ -30,8 +31,6 @@ use Rattle.witness.specs.Line.{values}
 use Rattle.blocks.specs.Runs.{RunAt, BodyRead, Fits, Posed}
 use Rattle.blocks.specs.declared.Instance.{Instance}
 use Rattle.circuit.specs.Held.{HeldIs}
-use Rattle.circuit.specs.declared.Held.{Held}
-use Rattle.circuit.specs.declared.Held.TheVariants as held
 use Rattle.replay.specs.Texts.{CountsOf, RowsAt, Counted, malformed, well_formed, Framed, Placed, ReadIn, HeldRead}
 use Rattle.replay.specs.declared.Reading.{Reading}
 use Rattle.replay.specs.declared.Reading.TheVariants as reading
@@ -244,18 +243,18 @@ module _ {m text old order : List ℕ} {r : Reading} (z : HeldRead m text old or
       → {n : ℕ} → r ≡ reading.Refused n → P n
   refusal-read P f g {n} e = go z.held z.held-is (subst (ReadIn m text z.held) e z.read)
     where
-      go : (h : Held) → HeldIs m order h → ReadIn m text h (reading.Refused n) → P n
-      go (held.Circuit p) i e = g n i.1 e
-      go held.Nothing i e = subst P (sym (ap cause e)) (f i)
+      go : (h : code.Option Layout) → HeldIs m order h → ReadIn m text h (reading.Refused n) → P n
+      go (code.Some p) i e = g n i.1 e
+      go code.None i e = subst P (sym (ap cause e)) (f i)
 
   -- a witness: what is asked of its body
   pub posed-read : 3072 ≤ length order → {start : ℕ} {w : Instance} → r ≡ reading.Read start w
       → Posed m order w (drop start text) 4097 × Placed (circuit_in m) text start w.q
   posed-read l {start} {w} e = go z.held z.held-is (subst (ReadIn m text z.held) e z.read)
     where
-      go : (h : Held) → HeldIs m order h → ReadIn m text h (reading.Read start w)
+      go : (h : code.Option Layout) → HeldIs m order h → ReadIn m text h (reading.Read start w)
           → Posed m order w (drop start text) 4097 × Placed (circuit_in m) text start w.q
-      go (held.Circuit p) i e = (
+      go (code.Some p) i e = (
         record {
           ready = subst (λ (y : Layout). Ready m y order 4097) (sym e.0) (ready_of i.1 i.0 i.2 l);
           bad = bad-word i.1 i.0 e.1.bad;
@@ -263,4 +262,4 @@ module _ {m text old order : List ℕ} {r : Reading} (z : HeldRead m text old or
         },
         e.1,
       )
-      go held.Nothing i e = absurd (subst Refusal (sym e) tt)
+      go code.None i e = absurd (subst Refusal (sym e) tt)

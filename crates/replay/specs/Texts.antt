@@ -1,5 +1,6 @@
 -- What reading a witness answers, in each text of the same form. Assumes nothing.
 use Rattle.std.specs.Prelude.{◌≡◌, Bool, List, [], ℕ, ◌+◌, ◌*◌, ◌≤◌, ◌<◌, length, get_or, drop}
+use Rattle.std.specs.Prelude as code
 use Rattle.std.proofs.Math.Option.{Option, none, some}
 use Rattle.aiger.specs.Circuit.{Circuit}
 use Rattle.aiger.specs.Load.{refused}
@@ -14,8 +15,6 @@ use Rattle.blocks.specs.Runs.{BodyRead, Fits}
 use Rattle.blocks.specs.declared.Question.{Question}
 use Rattle.blocks.specs.declared.Instance.{Instance}
 use Rattle.circuit.specs.Held.{HeldIs, OrderLeft}
-use Rattle.circuit.specs.declared.Held.{Held}
-use Rattle.circuit.specs.declared.Held.TheVariants as held
 use Rattle.replay.specs.declared.Rows.{Rows}
 use Rattle.replay.specs.declared.Rows.TheVariants.{Read, Malformed}
 use Rattle.replay.specs.declared.Reading.{Reading}
@@ -63,13 +62,13 @@ WitnessRead c layout text (reading.Read start w) = (w.layout ≡ layout) × Plac
 WitnessRead c layout text (reading.Refused n) = judge (either_tests c text) ≡ refused n
 
 -- the same of a circuit that a memory holds; 9 where it holds none
-abbrev pub ReadIn : List ℕ → List ℕ → Held → Reading → Type 0
-ReadIn m text (held.Circuit layout) r = WitnessRead (circuit_in m) layout text r
-ReadIn m text held.Nothing r = r ≡ reading.Refused 9
+abbrev pub ReadIn : List ℕ → List ℕ → code.Option Layout → Reading → Type 0
+ReadIn m text (code.Some layout) r = WitnessRead (circuit_in m) layout text r
+ReadIn m text code.None r = r ≡ reading.Refused 9
 
 -- what the memory holds, the order of evaluation that is left, and what is read
 pub record HeldRead (m text old order : List ℕ) (r : Reading) : Type 0 where
-  pub held : Held
+  pub held : code.Option Layout
   pub held-is : HeldIs m order held
   pub leaves : OrderLeft m old order held
   pub read : ReadIn m text held r

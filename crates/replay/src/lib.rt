@@ -16,7 +16,6 @@ ghost use Rattle.replay.specs.Answer.{answered, recounted, Judged, demoted_answe
 ghost use Rattle.replay.specs.Texts.{CountsOf, Counted, FramesRead, WitnessRead, HeldRead};
 
 use blocks::{Instance, Question};
-use circuit::Held;
 use layout::Layout;
 use witness::{Bits, Heading};
 
@@ -173,7 +172,7 @@ pub fn read_held(m: &[u32], text: &[u8], order: &mut [u32]) -> Reading
     requires { 3072 ≤ length order.old }
     ensures { HeldRead m.now text.now order.old order.new result }
 {
-    let Held::Circuit(layout) = circuit::held_in(m, order) else {
+    let Some(layout) = circuit::held_in(m, order) else {
         return Reading::Refused(9);
     };
     read_witness(layout, text)

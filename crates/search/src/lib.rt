@@ -15,7 +15,6 @@ ghost use Rattle.search.specs.Chosen.{outcome_chosen, never_chosen, chosen, said
 ghost use Rattle.search.specs.Steps.{SearchFits, FoundShown, SpentTold, Answered};
 
 use attempts::Query;
-use circuit::Held;
 use enumeration::Frame;
 use layout::Layout;
 use limits::Ruling;
@@ -146,7 +145,7 @@ pub fn search(m: &[u32], b: u64, k: u64, d: u64, work: &mut [u32], out: &mut [u8
     ensures { Searched chosen m.now b k d work.old out.old (said result) work.new out.new }
 {
     let mut order = [0u32; 3072];
-    let Held::Circuit(layout) = circuit::held_in(m, &mut order) else {
+    let Some(layout) = circuit::held_in(m, &mut order) else {
         return SearchAnswer::Refused(9);
     };
     if let Ruling::Refused(n) = check_search(layout, b, k, d, work.len(), out.len()) {

@@ -8,7 +8,6 @@ ghost use Rattle.place_search.specs.Operation.{PlaceSearched};
 ghost use Rattle.place_decision.specs.Reach.{place_chosen};
 ghost use Rattle.search_from.specs.Steps.{FromFits, AnsweredFrom};
 
-use circuit::Held;
 use layout::Layout;
 use limits::Ruling;
 use place_decision::PlaceFrame;
@@ -45,7 +44,7 @@ pub fn search_from(m: &[u32], q: PlaceTerms, work: &mut [u32], out: &mut [u8]) -
         work.new out.new }
 {
     let mut order = [0u32; 3072];
-    let Held::Circuit(layout) = circuit::held_in(m, &mut order) else {
+    let Some(layout) = circuit::held_in(m, &mut order) else {
         return SearchAnswer::Refused(9);
     };
     let inputs = layout.i;

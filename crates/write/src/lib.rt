@@ -12,7 +12,6 @@ ghost use Rattle.output.specs.Row.{row_text};
 ghost use Rattle.write.specs.Rows.{row_count, rows_text, RowsIn, section_text, SectionIn};
 ghost use Rattle.write.specs.Answer.{answered};
 
-use circuit::Held;
 use layout::{Layout, Section};
 
 // The length of the text, or the number of the refusal.
@@ -147,7 +146,7 @@ fn write_text(m: &[u32], layout: Layout, out: &mut [u8])
 pub fn write(m: &[u32], out: &mut [u8]) -> WriteAnswer
     ensures { Written m.now out.old (answered result) out.new }
 {
-    let Held::Circuit(layout) = circuit::test(m) else {
+    let Some(layout) = circuit::test(m) else {
         return WriteAnswer::Refused(9);
     };
     let length = text_length(m, layout);

@@ -10,7 +10,6 @@ ghost use Rattle.write.specs.Answer.{answered};
 ghost use Rattle.output.specs.Output.{Room, Placed};
 ghost use Rattle.write_binary.specs.Texts.{head_text, Small, Ready};
 
-use circuit::Held;
 use layout::Layout;
 use write::WriteAnswer;
 
@@ -62,7 +61,7 @@ fn encode(m: &[u32], p: Layout, out: &mut [u8]) -> usize
 pub fn write_binary(m: &[u32], out: &mut [u8]) -> WriteAnswer
     ensures { WrittenBinary m.now out.old (answered result) out.new }
 {
-    let Held::Circuit(p) = circuit::test(m) else {
+    let Some(p) = circuit::test(m) else {
         return WriteAnswer::Refused(9);
     };
     let mut text = [0u8; 24576];

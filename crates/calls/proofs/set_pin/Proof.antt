@@ -25,7 +25,7 @@ returns-3 c =
 
 returns-4 : tie.Need-returns-then-layout-input
 returns-4 c =
-    let h = rw c.in-Circuit.is at c.test.ensures in
+    let h = rw c.in-Some.is at c.test.ensures in
     no-input c.args.user c.args.input c.args.value h.1 h.0 (value-known c.args.user c.args.value (sym c.may.ensures ∙ c.if-not-may.false) (omega arith)) (omega arith)
 
 mul_at : tie.Need-overflow_mul-at
@@ -33,17 +33,17 @@ mul_at c = omega (arith, leb-true c.args.user 1 (sym c.may.ensures ∙ c.if-not-
 
 add_at : tie.Need-overflow_add-at
 add_at c =
-    let h = rw c.in-Circuit.is at c.test.ensures in
+    let h = rw c.in-Some.is at c.test.ensures in
     omega (arith, (limited h.1 h.0).inputs, leb-true c.args.user 1 (sym c.may.ensures ∙ c.if-not-may.false))
 
 returns-5 : tie.Need-returns-then-shared-at
 returns-5 c =
-    let h = rw c.in-Circuit.is at c.test.ensures in
+    let h = rw c.in-Some.is at c.test.ensures in
     no_byte c.args.user c.args.input c.args.value h.1 h.0 (value-known c.args.user c.args.value (sym c.may.ensures ∙ c.if-not-may.false) (omega arith)) (omega arith) (omega arith)
 
 returns-6 : tie.Need-returns
 returns-6 c =
-    let h = rw c.in-Circuit.is at c.test.ensures in
+    let h = rw c.in-Some.is at c.test.ensures in
     pin-set c.args.user c.args.input c.args.value h.1 h.0 (value-known c.args.user c.args.value (sym c.may.ensures ∙ c.if-not-may.false) (omega arith)) (omega arith) (omega arith)
 
 pub set_pin_spec : {M : Type 1} → statement M

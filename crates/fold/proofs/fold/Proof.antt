@@ -13,23 +13,23 @@ returns c = Operated.no_circuit (rw c.in_default.is at c.held_in.ensures.0)
 
 check-fold-requires : tie.Need-check_fold-requires
 check-fold-requires c κs =
-    let h = rw c.in-Circuit.is at c.held_in.ensures.0 in
+    let h = rw c.in-Some.is at c.held_in.ensures.0 in
     limited h.1 h.0
 
 returns-2 : tie.Need-returns-in-Refused
 returns-2 c =
-    let h = rw c.in-Circuit.is at c.held_in.ensures.0 in
+    let h = rw c.in-Some.is at c.held_in.ensures.0 in
     refused-with h.1 (rw c.in-Refused.is at (c.check_fold.ensures _ (counts_of h.1 h.0)))
 
 fold-frame-requires : tie.Need-fold_frame-length-requires
 fold-frame-requires c κs =
-    let h = rw c.in-Circuit.is at c.held_in.ensures.0 in
+    let h = rw c.in-Some.is at c.held_in.ensures.0 in
     fits h.1 h.0 h.2 (omega (arith, c.held_in.auto.order))
     (rw c.in_default-check_fold.is at (c.check_fold.ensures _ (counts_of h.1 h.0)))
 
 returns-3 : tie.Need-returns
 returns-3 c =
-    let h = rw c.in-Circuit.is at c.held_in.ensures.0 in
+    let h = rw c.in-Some.is at c.held_in.ensures.0 in
     written-with h.1 (rw c.in_default-check_fold.is at (c.check_fold.ensures _ (counts_of h.1 h.0))) c.fold_frame-length.ensures
 
 pub fold_spec : {M : Type 1} → statement M

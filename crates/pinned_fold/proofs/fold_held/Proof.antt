@@ -15,10 +15,10 @@ use Rattle.pinned_fold.proofs.fold_held.Statement.{statement}
 use Rattle.pinned_fold.proofs.fold_held.Tie as tie
 
 -- the circuit that the memory holds
-held : (c : tie.In-Circuit)
+held : (c : tie.In-Some)
     → (let m = c.args.m.now in
-    LayoutOf m c.in-Circuit.layout × Holds m (circuit_in m))
-held c = rw c.in-Circuit.is at c.test.ensures
+    LayoutOf m c.in-Some.layout × Holds m (circuit_in m))
+held c = rw c.in-Some.is at c.test.ensures
 
 -- what its tests 10 to 13 say
 tested : (c : tie.After-check_fold)

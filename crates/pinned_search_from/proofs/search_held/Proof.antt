@@ -31,18 +31,18 @@ returns c = Operated.no_circuit (rw c.in_default.is at c.test.ensures)
 
 free-inputs-requires : tie.Need-free_inputs-inputs-requires
 free-inputs-requires c κs =
-    let h = rw c.in-Circuit.is at c.test.ensures in
+    let h = rw c.in-Some.is at c.test.ensures in
     (c.requires, (limited h.1 h.0).inputs)
 
 check-from-requires : tie.Need-check_from-requires
 check-from-requires c κs =
-    let h = rw c.in-Circuit.is at c.test.ensures in
+    let h = rw c.in-Some.is at c.test.ensures in
     let s = c.args in
-    (limited h.1 h.0, omega (arith, c.free_inputs-inputs.ensures, free-most (pins_of s.pins.now s.user) c.in-Circuit.layout.i))
+    (limited h.1 h.0, omega (arith, c.free_inputs-inputs.ensures, free-most (pins_of s.pins.now s.user) c.in-Some.layout.i))
 
 returns-2 : tie.Need-returns-in-Refused
 returns-2 c =
-    let h = rw c.in-Circuit.is at c.test.ensures in
+    let h = rw c.in-Some.is at c.test.ensures in
     let s = c.args in
     let q = pins_of s.pins.now s.user in
     refused-with q h.1
@@ -51,7 +51,7 @@ returns-2 c =
 
 search-known-requires : tie.Need-search_known-requires
 search-known-requires c κs =
-    let h = rw c.in-Circuit.is at c.test.ensures in
+    let h = rw c.in-Some.is at c.test.ensures in
     let s = c.args in
     let q = pins_of s.pins.now s.user in
     record {
@@ -71,7 +71,7 @@ same-length-2 c = c.search_known.auto.out
 
 returns-3 : tie.Need-returns
 returns-3 c =
-    let h = rw c.in-Circuit.is at c.test.ensures in
+    let h = rw c.in-Some.is at c.test.ensures in
     let s = c.args in
     let q = pins_of s.pins.now s.user in
     answered q h.1

@@ -14,25 +14,25 @@ returns c = Operated.no_circuit (rw c.in_default.is at c.held_in.ensures.0)
 
 check-from-requires : tie.Need-check_from-requires
 check-from-requires c κs =
-    let h = rw c.in-Circuit.is at c.held_in.ensures.0 in
+    let h = rw c.in-Some.is at c.held_in.ensures.0 in
     (limited h.1 h.0, omega arith)
 
 returns-2 : tie.Need-returns-in-Refused
 returns-2 c =
-    let h = rw c.in-Circuit.is at c.held_in.ensures.0 in
+    let h = rw c.in-Some.is at c.held_in.ensures.0 in
     let n = counts_of h.1 h.0 in
     refused-with h.1 (rw c.in-Refused.is at (c.check_from.ensures _ _ n (sym n.inputs) refl))
 
 search-ready-requires : tie.Need-search_ready-requires
 search-ready-requires c κs =
-    let h = rw c.in-Circuit.is at c.held_in.ensures.0 in
+    let h = rw c.in-Some.is at c.held_in.ensures.0 in
     let n = counts_of h.1 h.0 in
     fits h.1 h.0 h.2 (omega (arith, c.held_in.auto.order))
     (rw c.in_default-check_from.is at (c.check_from.ensures _ _ n (sym n.inputs) refl))
 
 returns-3 : tie.Need-returns
 returns-3 c =
-    let h = rw c.in-Circuit.is at c.held_in.ensures.0 in
+    let h = rw c.in-Some.is at c.held_in.ensures.0 in
     let n = counts_of h.1 h.0 in
     answered-with h.1 (rw c.in_default-check_from.is at (c.check_from.ensures _ _ n (sym n.inputs) refl)) c.search_ready.ensures
 

@@ -11,23 +11,23 @@ returns c = Operated.no_circuit (rw c.in_default.is at c.test.ensures)
 
 text-length-requires : tie.Need-text_length-length-requires
 text-length-requires c κs =
-    let t = rw c.in-Circuit.is at c.test.ensures in
+    let t = rw c.in-Some.is at c.test.ensures in
     (t.1, t.0)
 
 returns-2 : tie.Need-returns-then-out-length
 returns-2 c =
-    let t = rw c.in-Circuit.is at c.test.ensures in
+    let t = rw c.in-Some.is at c.test.ensures in
     let a = c.args in
     too_long t.1 c.text_length-length.ensures a.out.now c.if-out-length.true
 
 write-text-requires : tie.Need-write_text-requires
 write-text-requires c κs =
-    let t = rw c.in-Circuit.is at c.test.ensures in
+    let t = rw c.in-Some.is at c.test.ensures in
     (t.1, t.0, omega (arith, c.text_length-length.ensures, c.if-out-length.false))
 
 returns-3 : tie.Need-returns
 returns-3 c =
-    let t = rw c.in-Circuit.is at c.test.ensures in
+    let t = rw c.in-Some.is at c.test.ensures in
     let a = c.args in
     fitting t.1 c.text_length-length.ensures a.out.now c.if-out-length.false c.write_text.ensures
 
