@@ -7,19 +7,16 @@ ghost use Rattle.circuit.specs.Held.{Zeros, Shaped, Says, Tested, HeldIs, OrderL
 
 use headers::Counts;
 use layout::Layout;
-use validity::Checked;
 
 // Whether every word from position from up to position to is 0.
 fn are_zeros(m: &[u32], from: usize, to: usize) -> bool
     requires { to ≤ length m.now }
     ensures { Says result (Zeros m.now from to) }
 {
-    let mut i = from;
-    while i < to {
+    for i in from..to {
         if m[i] != 0 {
             return false;
         }
-        i += 1;
     }
     true
 }
@@ -72,8 +69,8 @@ pub fn held_in(m: &[u32], order: &mut [u32]) -> Option<Layout>
         return None;
     }
     match validity::check(m, order) {
-        Checked::Right => Some(layout::with_starts(m, p)),
-        Checked::Refused(_) => None,
+        Ok(()) => Some(layout::with_starts(m, p)),
+        Err(_) => None,
     }
 }
 

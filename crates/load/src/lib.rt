@@ -16,7 +16,6 @@ ghost use Rattle.load.specs.Steps.{narrowed, header_meant, CircuitJudged, load_b
 
 use headers::Header;
 use sections::Body;
-use validity::Checked;
 
 // The numbers that an accepted load returns: the largest variable, and how many inputs, latches, outputs, gates, bad lines and
 // constraints there are.
@@ -119,8 +118,8 @@ fn judge_circuit(k: Counts, words: &[u32], order: &mut [u32]) -> LoadAnswer
     ensures { CircuitJudged (circuit_in words.now) k result }
 {
     match validity::check(words, order) {
-        Checked::Refused(n) => LoadAnswer::Refused(n),
-        Checked::Right => LoadAnswer::Loaded(k),
+        Err(e) => LoadAnswer::Refused(e.number()),
+        Ok(()) => LoadAnswer::Loaded(k),
     }
 }
 

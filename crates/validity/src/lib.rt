@@ -6,16 +6,11 @@ ghost use Rattle.layout.specs.Words.{circuit_in};
 ghost use Rattle.layout.specs.Layout.{Counted};
 ghost use Rattle.validity.specs.Validity.{Checks, OrderLeft};
 
-// Refused has the number of the cause.
-#[derive(Clone, Copy)]
-pub enum Checked {
-    Right,
-    Refused(u32),
-}
+use refusals::Refusal;
 
 // The first cause from 6 to 8 that refuses the circuit of w, and order is then all 0; or none, and order begins with the gates in an order
 // of evaluation, and is after them as it was.
-pub fn check(w: &[u32], order: &mut [u32]) -> Checked
+pub fn check(w: &[u32], order: &mut [u32]) -> Result<(), Refusal>
     requires counted { Counted w.now }
     requires in_bounds { 3072 ≤ length order.old }
     ensures { Checks (circuit_in w.now) order.new result
@@ -24,14 +19,14 @@ pub fn check(w: &[u32], order: &mut [u32]) -> Checked
     let mut table = [0u32; 4097];
     if !variables::literals_right(w, &mut table) {
         variables::clear(order);
-        return Checked::Refused(6);
+        return Err(Refusal::Literals);
     }
     if !variables::used_defined(w, &table) {
         variables::clear(order);
-        return Checked::Refused(7);
+        return Err(Refusal::Undefined);
     }
     if !toposort::ordered(w, &table, order) {
-        return Checked::Refused(8);
+        return Err(Refusal::Cycle);
     }
-    Checked::Right
+    Ok(())
 }

@@ -2,10 +2,11 @@
 use mathlib.Core.Path.{◌≡◌, subst}
 use borrow.Author.Rules.{rules}
 use borrow.Author.Tests.{not-true, not-false}
+use Rattle.std.specs.Prelude.{Result}
 use Rattle.layout.specs.Words.{circuit_in}
 use Rattle.roundtrip.proofs.Holding.{sound-holds}
 use Rattle.validity.specs.Validity.{Checks, OrderLeft}
-use Rattle.validity.specs.declared.Checked.{Checked}
+use Rattle.refusals.specs.declared.Refusal.{Refusal}
 use Rattle.circuit.specs.Held.{Says, Shaped}
 use Rattle.circuit.proofs.Testing.{shaped-counted, sound, none-short, none-unshaped, none-refused}
 use Rattle.circuit.proofs.held_in.Statement.{statement}
@@ -18,13 +19,13 @@ well t =
     subst (λ b. Says b (Shaped m)) t.if-not-is_shaped.false t.is_shaped.ensures
 
 -- the answer of the check is the variant that the match found
-found : (n : tie.After-check) (r : Checked) → n.check.result ≡ r
+found : (n : tie.After-check) (r : Result (Unit {0}) Refusal) → n.check.result ≡ r
     → Checks (circuit_in n.args.m.now) n.check.new.order r
 found n r e =
     subst (Checks (circuit_in n.args.m.now) n.check.new.order) e n.check.ensures.0
 
 -- what it left of the order
-left : (n : tie.After-check) (r : Checked) → n.check.result ≡ r
+left : (n : tie.After-check) (r : Result (Unit {0}) Refusal) → n.check.result ≡ r
     → OrderLeft (circuit_in n.args.m.now)
     n.args.order.now n.check.new.order r
 left n r e =
@@ -49,15 +50,15 @@ with-starts-requires : tie.Need-with_starts-requires
 with-starts-requires c κs =
     (c.layout_of-p.ensures.0, shaped-counted (well c.before.before.before.before.before))
 
-returns-3 : tie.Need-returns-in-Right
+returns-3 : tie.Need-returns-in-Ok
 returns-3 c =
-    let r = found c.before.before.before.before _ c.in-Right.is in
+    let r = found c.before.before.before.before _ c.in-Ok.is in
     let w = well c.before.before.before.before.before.before in
-    ((c.with_starts.ensures, sound-holds (sound w r.0), r.1), left c.before.before.before.before _ c.in-Right.is)
+    ((c.with_starts.ensures, sound-holds (sound w r.0), r.1), left c.before.before.before.before _ c.in-Ok.is)
 
-returns-4 : tie.Need-returns-in-Refused
+returns-4 : tie.Need-returns-in-Err
 returns-4 c =
-    (none-refused (found c.before.before.before _ c.in-Refused.is), left c.before.before.before _ c.in-Refused.is)
+    (none-refused (found c.before.before.before _ c.in-Err.is), left c.before.before.before _ c.in-Err.is)
 
 pub held_in_spec : {M : Type 1} → statement M
 held_in_spec =
