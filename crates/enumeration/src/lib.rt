@@ -69,15 +69,13 @@ fn put_starts(m: &[u32], layout: Layout, n: usize, block: u64, values: &mut [u64
     let count = layout.l;
     let latches = layout.latches;
     let mut left = n;
-    let mut j = 0;
-    while j < count {
+    for j in 0..count {
         let lit = Lit::from_word(m[latches + 3 * j]);
         let reset = Lit::from_word(m[latches + 3 * j + 2]);
         left -= layout::free_start(lit, reset);
         let v = lit.var();
         let place = v.0 as usize;
         values[place] = start_word(lit, reset, left, block);
-        j += 1;
     }
 }
 
@@ -90,12 +88,10 @@ pub fn put_inputs(m: &[u32], layout: Layout, top: usize, block: u64, values: &mu
         (length (circuit_in m.now).inputs) values.old values.new }
 {
     let count = layout.i;
-    let mut i = 0;
-    while i < count {
+    for i in 0..count {
         let v = Lit::from_word(m[7 + i]).var();
         let place = v.0 as usize;
         values[place] = words::counting_word(top - (i + 1), block);
-        i += 1;
     }
 }
 
@@ -161,8 +157,7 @@ pub fn block_hits(
     let t = q.t;
     let mut top = q.n - q.free;
     let mut left = first_frame(m, layout, order, q.n, top, block, values);
-    let mut u = 0;
-    while u < t {
+    for _ in 0..t {
         if left == 0 {
             return 0;
         }
@@ -176,7 +171,6 @@ pub fn block_hits(
             values,
             state,
         );
-        u += 1;
     }
     left & frames::bad_word(m, layout, order, q.b, values)
 }
@@ -186,10 +180,8 @@ pub fn put_free(x: u64, n: usize, free: &mut [u32])
     requires { n ≤ length free.old }
     ensures { FreeBits n x free.new }
 {
-    let mut j = 0;
-    while j < n {
+    for j in 0..n {
         free[j] = places::bit_of(x, n - (j + 1));
-        j += 1;
     }
 }
 
@@ -208,18 +200,12 @@ fn scan_blocks(
     requires n_value { (q.n ≡ free_bits (circuit_in m.now) q.t) × (q.free ≡ free_starts (circuit_in m.now)) }
     ensures { First (reaches (circuit_in m.now) q.b q.t) total result }
 {
-    let mut block = 0;
-    while 64 * block < total {
+    for block in 0..total.div_ceil(64) {
         let hits = block_hits(m, layout, order, q, block, values, state);
-        let p = words::first_difference(hits, 0) as u64;
+        let p = u64::from(words::first_difference(hits, 0));
         if p < 64 {
-            let x = 64 * block + p;
-            if x < total {
-                return x;
-            }
-            return total;
+            return total.min(64 * block + p);
         }
-        block += 1;
     }
     total
 }

@@ -1,7 +1,7 @@
 // The first hit of one frame at or after a place: the sequences from there on are tried in counting order, 64 at a time.
 #![tactic(auto)]
 
-ghost use Rattle.std.specs.Prelude.{◌≡◌, ◌^◌, ◌≤◌, ◌<◌, min, leb, length};
+ghost use Rattle.std.specs.Prelude.{◌≡◌, ◌≤◌, ◌<◌, length};
 ghost use Rattle.aiger.specs.Frames.{free_bits, free_starts};
 ghost use Rattle.aiger.specs.Search.{reaches, onward};
 ghost use Rattle.layout.specs.Words.{word, circuit_in};
@@ -26,27 +26,6 @@ pub struct PlaceQuery {
 struct Span {
     from: u64,
     to: u64,
-}
-
-// The smaller of 2 to the power n and x.
-fn end_of(n: usize, x: u64) -> u64
-    ensures { result ≡ min (2 ^ n) x }
-{
-    if 63 < n {
-        return x;
-    }
-    let all = 1u64 << n;
-    if all < x { all } else { x }
-}
-
-// Whether x is not below 2 to the power n.
-fn passes_all(n: usize, x: u64) -> bool
-    ensures { result ≡ leb (2 ^ n) x }
-{
-    if 63 < n {
-        return false;
-    }
-    1u64 << n <= x
 }
 
 // The word of a block of 64 places without the places before lo.
@@ -84,19 +63,13 @@ fn scan_span(
 {
     let from = span.from;
     let total = span.to;
-    let mut block = from / 64;
-    while 64 * block < total {
+    for block in from / 64..total.div_ceil(64) {
         let all = enumeration::block_hits(m, layout, order, q, block, values, state);
         let hits = onward_word(all, block, from);
-        let p = words::first_difference(hits, 0) as u64;
+        let p = u64::from(words::first_difference(hits, 0));
         if p < 64 {
-            let x = 64 * block + p;
-            if x < total {
-                return x;
-            }
-            return total;
+            return total.min(64 * block + p);
         }
-        block += 1;
     }
     total
 }
@@ -130,7 +103,7 @@ pub fn first_hit_from(
     let free = layout.u;
     let n = free + layout.i * (t + 1);
     let end = from + q.d;
-    let to = end_of(n, end);
+    let to = places::end_of(n, end);
     let x = first_in(
         m,
         layout,
@@ -142,7 +115,7 @@ pub fn first_hit_from(
         enumeration::put_free(x, n, work);
         return Frame::Hit;
     }
-    if passes_all(n, end) {
+    if places::passes_all(n, end) {
         Frame::Clear
     } else {
         Frame::Spent
